@@ -1,0 +1,25 @@
+# What the README names. `rt` is the toolchain's command.
+SCRIPT ?= examples/first_record.scp
+
+.PHONY: run test check try bench
+
+# proves and builds what the program stands on, and prints the report of the first script
+run:
+	@scripts/program prove
+	@scripts/program run examples/first_record.scp
+
+# the whole gate, then every script under examples/ against its stored report
+test:
+	@scripts/gate
+
+# what an edit needs: every crate, lowest first, over what earlier checks kept
+check:
+	@rt all check
+
+# runs a script unproved, in seconds
+try:
+	@cd crates/scp_line_cli && rt try -- run < ../../$(SCRIPT)
+
+# counts, growth and memory of each workload
+bench:
+	@scripts/bench

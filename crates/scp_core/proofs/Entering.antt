@@ -1,0 +1,191 @@
+-- One entry more in the journal, and what it decides.
+use Rattle.std.proofs.Common.{◌≡◌, ◌≢◌, ℕ, ◌+◌, ◌<◌, ◌≤◌, Bool, true, false, List, [], ◌∷◌, ◌++◌, inl, inr, length, get_or, refl, sym, ◌∙◌, ap, subst, arith, length-append, append_assoc, nat_eq, nat_lt, eq-eqb, All}
+use Rattle.std.specs.Prelude.{◌||◌, Contains, Option, Some, None, option_to_list}
+use Rattle.std.specs.List.Sorted.{IsPermutation}
+use Rattle.std.proofs.lemmas.Bool.{cases_lt, ne_eqb, lt-ltb}
+use Rattle.std.proofs.lemmas.List.Elements.{All-weaker, All-contains_itself, All-take}
+use Rattle.std.proofs.lemmas.List.Folds.{list_any-append, list_any_none, list_any_at}
+use Rattle.std.proofs.lemmas.List.Quantifiers.{all_pairs_push}
+use Rattle.std.proofs.lemmas.List.Sorted.{list_any-IsPermutation, length_permutation, IsPermutation-append_left, IsPermutation-trans, All-permutation}
+use Rattle.std.proofs.lemmas.List.{take_at}
+use Rattle.scp_types.specs.declared.names.ConnId.{ConnId}
+use Rattle.scp_types.specs.declared.names.Seq.{Seq}
+use Rattle.scp_types.specs.declared.names.Slot.{Slot}
+use Rattle.scp_wire.specs.declared.message.Message.{Message}
+use Rattle.scp_wire.specs.declared.message.Message.TheVariants.{Record}
+use Rattle.scp_core.specs.declared.journal.Cause.{Cause}
+use Rattle.scp_core.specs.declared.journal.Decision.{Decision}
+use Rattle.scp_core.specs.declared.journal.Fate.{Fate}
+use Rattle.scp_core.specs.declared.journal.Fate.TheVariants.{Taken, Closed}
+use Rattle.scp_core.specs.declared.journal.Origin.TheVariants.{Named}
+use Rattle.scp_core.specs.declared.journal.Verdict.{Verdict}
+use Rattle.scp_core.specs.declared.journal.Verdict.TheVariants.{Already, FarSlot, Decided}
+use Rattle.scp_core.specs.Decisions.{AreInOrder, is_at, is_decided, OnePerSlot, IsLowest, verdict_at, HasVerdict, HaveVerdicts, decision_by, decisions_in}
+use Rattle.scp_core.specs.Journal.{slot_of, value_of}
+use Rattle.scp_core.specs.Parts.{ApplierView, IsLedger, IsInOrder, IsRunning, Takes}
+
+or_true : (b : Bool) → (b || true) ≡ true
+or_true true = refl
+or_true false = refl
+
+or_false : (b : Bool) → (b || false) ≡ b
+or_false true = refl
+or_false false = refl
+
+-- ---- slots in order
+
+in_order_has : (start : ℕ) (ds : List Decision) (slot : ℕ) → AreInOrder start ds → start ≤ slot → slot < start + length ds → is_decided slot ds ≡ true
+in_order_has start [] slot h from below = absurd (omega arith)
+in_order_has start (d ∷ ds) slot h from below =
+    elim (cases_lt start slot) [
+      | inl lt ↦ (let rest = in_order_has (start + 1) ds slot h.1 (omega arith) (omega arith) in rw rest (or_true (nat_eq d.slot.0 slot)))
+      | inr le ↦ (let same : nat_eq d.slot.0 slot ≡ true = eq-eqb d.slot.0 slot (omega (arith, h.0)) in rw same refl)
+    ]
+
+in_order_not : (start : ℕ) (ds : List Decision) (slot : ℕ) → AreInOrder start ds → start + length ds ≤ slot → is_decided slot ds ≡ false
+in_order_not start [] slot h above = refl
+in_order_not start (d ∷ ds) slot h above =
+    let other : nat_eq d.slot.0 slot ≡ false = ne_eqb d.slot.0 slot (omega (arith, h.0)) in
+    rw (other, in_order_not (start + 1) ds slot h.1 (omega arith)) refl
+
+-- ---- the lowest undecided slot
+
+decided_by_parts : (decisions : List Decision) (v : ApplierView) (slot : ℕ) → IsRunning decisions v → is_decided slot decisions ≡ (is_decided slot v.applied || is_decided slot v.waiting)
+decided_by_parts decisions v slot h = list_any-IsPermutation (is_at slot) decisions (v.applied ++ v.waiting) h.shared_out ∙ list_any-append (is_at slot) v.applied v.waiting
+
+pub lowest_is : (decisions : List Decision) (v : ApplierView) → IsRunning decisions v → IsLowest decisions (length v.applied + 1)
+lowest_is decisions v h = record {
+  from_one = omega arith;
+  decided = λ slot one below. decided_by_parts decisions v slot h ∙ ap (λ b. b || is_decided slot v.waiting) (in_order_has 1 v.applied slot h.applier.is_applied.in_order one (omega arith));
+  undecided =
+      let next = length v.applied + 1 in
+      decided_by_parts decisions v next h ∙ ap (λ b. b || is_decided next v.waiting) (in_order_not 1 v.applied next h.applier.is_applied.in_order (omega arith))
+      ∙ list_any_none (is_at next) v.waiting (All-weaker (λ (d : Decision). d.slot.0 ≢ next) (λ (d : Decision). is_at next d ≡ false) (λ d ne. ne_eqb d.slot.0 next ne) v.waiting h.applier.next_missing);
+}
+
+-- below the lowest slot the verdict needs no look-up, and from it on only what waits matters
+verdict_below : (lowest slot : ℕ) (a b : Bool) → slot < lowest → verdict_at lowest a slot ≡ verdict_at lowest b slot
+verdict_below lowest slot a b lt = let is : nat_lt slot lowest ≡ true = lt-ltb _ _ lt in rw (is, or_true a, or_true b) refl
+
+pub verdict_is : (decisions : List Decision) (v : ApplierView) (slot : ℕ) → IsRunning decisions v → verdict_at (length v.applied + 1) (is_decided slot v.waiting) slot ≡ verdict_at (length v.applied + 1) (is_decided slot decisions) slot
+verdict_is decisions v slot h =
+    elim (cases_lt slot (length v.applied + 1)) [
+      | inl lt ↦ verdict_below (length v.applied + 1) slot (is_decided slot v.waiting) (is_decided slot decisions) lt
+      | inr le ↦ ap (λ b. verdict_at (length v.applied + 1) b slot) (sym (decided_by_parts decisions v slot h ∙ ap (λ b. b || is_decided slot v.waiting) (in_order_not 1 v.applied slot h.applier.is_applied.in_order (omega arith))))
+    ]
+
+-- ---- one entry more
+
+decisions_in-push : (journal : List Fate) (fate : Fate) → decisions_in (journal ++ fate ∷ []) ≡ decisions_in journal ++ option_to_list (decision_by fate)
+decisions_in-push [] fate = nil_right (option_to_list (decision_by fate))
+  where
+    nil_right : {X : Type 0} (xs : List X) → xs ++ [] ≡ xs
+    nil_right [] = refl
+    nil_right (x ∷ xs) = ap (λ ys. x ∷ ys) (nil_right xs)
+decisions_in-push (f ∷ fs) fate = ap (λ ds. option_to_list (decision_by f) ++ ds) (decisions_in-push fs fate) ∙ sym (append_assoc (option_to_list (decision_by f)) (decisions_in fs) (option_to_list (decision_by fate)))
+
+HaveVerdicts-push : (before : List Decision) (journal : List Fate) (fate : Fate) → HaveVerdicts before journal → HasVerdict (before ++ decisions_in journal) fate → HaveVerdicts before (journal ++ fate ∷ [])
+HaveVerdicts-push before [] fate h v = (subst (λ (ds : List Decision). HasVerdict ds fate) (nil_right before) v, tt)
+  where
+    nil_right : {X : Type 0} (xs : List X) → xs ++ [] ≡ xs
+    nil_right [] = refl
+    nil_right (x ∷ xs) = ap (λ ys. x ∷ ys) (nil_right xs)
+HaveVerdicts-push before (f ∷ fs) fate h v =
+    (h.0, HaveVerdicts-push (before ++ option_to_list (decision_by f)) fs fate h.1 (subst (λ (ds : List Decision). HasVerdict ds fate) (sym (append_assoc before (option_to_list (decision_by f)) (decisions_in fs))) v))
+
+few_decided : (journal : List Fate) → length (decisions_in journal) ≤ length journal
+few_decided [] = omega arith
+few_decided (f ∷ fs) = omega (arith, length-append (option_to_list (decision_by f)) (decisions_in fs), one (decision_by f), few_decided fs)
+  where
+    one : (o : Option Decision) → length (option_to_list o) ≤ 1
+    one None = omega arith
+    one (Some d) = omega arith
+
+pub few_parts : (journal : List Fate) (decisions : List Decision) (v : ApplierView) → IsLedger journal decisions → IsRunning decisions v → length v.applied + length v.waiting ≤ length journal
+few_parts journal decisions v ledger running =
+    omega (arith, length_permutation decisions (v.applied ++ v.waiting) running.shared_out, length-append v.applied v.waiting, ap length ledger.decided, few_decided journal)
+
+IsLedger-push : (journal : List Fate) (decisions : List Decision) (fate : Fate) → IsLedger journal decisions → HasVerdict decisions fate → OnePerSlot (decisions ++ option_to_list (decision_by fate)) → IsLedger (journal ++ fate ∷ []) (decisions ++ option_to_list (decision_by fate))
+IsLedger-push journal decisions fate h v one = record {
+  decided = ap (λ ds. ds ++ option_to_list (decision_by fate)) h.decided ∙ sym (decisions_in-push journal fate);
+  one = one;
+  verdicts = HaveVerdicts-push [] journal fate h.verdicts (subst (λ (ds : List Decision). HasVerdict ds fate) h.decided v);
+}
+
+-- ---- a record's entry
+
+abbrev record_fate : ConnId → Seq → Slot → List ℕ → Verdict → Fate
+record_fate conn seq slot value verdict = Taken conn seq (Record slot value) verdict
+
+decides_none : (conn : ConnId) (seq : Seq) (slot : Slot) (value : List ℕ) (verdict : Verdict) → verdict ≢ Decided → decision_by (record_fate conn seq slot value verdict) ≡ None
+decides_none conn seq slot value Already ne = refl
+decides_none conn seq slot value FarSlot ne = refl
+decides_none conn seq slot value Decided ne = absurd (ne refl)
+
+pub IsLedger-passed : (journal : List Fate) (decisions : List Decision) (v : ApplierView) (conn : ConnId) (seq : Seq) (slot : Slot) (value : List ℕ) (verdict : Verdict) → IsLedger journal decisions → IsRunning decisions v → verdict ≡ verdict_at (length v.applied + 1) (is_decided slot.0 v.waiting) slot.0 → verdict ≢ Decided
+    → IsLedger (journal ++ Taken conn seq (Record slot value) verdict ∷ []) decisions
+IsLedger-passed journal decisions v conn seq slot value verdict h running is ne =
+    let fate = record_fate conn seq slot value verdict in
+    let none : decisions ++ option_to_list (decision_by fate) ≡ decisions = ap (λ (o : Option Decision). decisions ++ option_to_list o) (decides_none conn seq slot value verdict ne) ∙ nil_right decisions in
+    let right : HasVerdict decisions fate = (length v.applied + 1, lowest_is decisions v running, is ∙ verdict_is decisions v slot.0 running) in
+    subst (λ (ds : List Decision). IsLedger (journal ++ fate ∷ []) ds) none (IsLedger-push journal decisions fate h right (subst OnePerSlot (sym none) h.one))
+  where
+    nil_right : {X : Type 0} (xs : List X) → xs ++ [] ≡ xs
+    nil_right [] = refl
+    nil_right (x ∷ xs) = ap (λ ys. x ∷ ys) (nil_right xs)
+
+undecided_from : (lowest slot : ℕ) (b : Bool) → verdict_at lowest b slot ≡ Decided → b ≡ false
+undecided_from lowest slot true e = absurd cc
+undecided_from lowest slot false e = refl
+
+not_there : (slot : ℕ) (decisions : List Decision) (k : ℕ) (d : Decision) → is_decided slot decisions ≡ false → k < length decisions → (get_or decisions k d).slot.0 ≢ slot
+not_there slot decisions k d none lt e = two (list_any_at (is_at slot) decisions k d lt (eq-eqb _ _ e)) none
+  where
+    two : is_decided slot decisions ≡ true → is_decided slot decisions ≡ false → ⊥
+    two p q = let r : true ≡ false = sym p ∙ q in cc
+
+pub IsLedger-decided : (journal : List Fate) (decisions : List Decision) (v : ApplierView) (conn : ConnId) (seq : Seq) (slot : Slot) (value : List ℕ) (verdict : Verdict) (d : Decision) → IsLedger journal decisions → IsRunning decisions v → verdict ≡ verdict_at (length v.applied + 1) (is_decided slot.0 v.waiting) slot.0 → verdict ≡ Decided → d ≡ record { slot = slot; value = value; origin = Named conn seq }
+    → IsLedger (journal ++ Taken conn seq (Record slot value) verdict ∷ []) (decisions ++ d ∷ [])
+IsLedger-decided journal decisions v conn seq slot value verdict d h running is decides made =
+    let fate = record_fate conn seq slot value Decided in
+    let right : Decided ≡ verdict_at (length v.applied + 1) (is_decided slot.0 decisions) slot.0 = sym decides ∙ is ∙ verdict_is decisions v slot.0 running in
+    let none : is_decided slot.0 decisions ≡ false = undecided_from (length v.applied + 1) slot.0 (is_decided slot.0 decisions) (sym right) in
+    let one : OnePerSlot (decisions ++ d ∷ []) = all_pairs_push (λ (a b : Decision). a.slot.0 ≢ b.slot.0) decisions d h.one (λ k x lt. subst (λ (s : Slot). (get_or decisions k x).slot.0 ≢ s.0) (sym (ap (λ (a : Decision). a.slot) made)) (not_there slot.0 decisions k x none lt)) in
+    let pushed : IsLedger (journal ++ fate ∷ []) (decisions ++ option_to_list (decision_by fate)) = IsLedger-push journal decisions fate h (length v.applied + 1, lowest_is decisions v running, right) (subst (λ (a : Decision). OnePerSlot (decisions ++ a ∷ [])) made one) in
+    rw (decides, made) pushed
+
+pub IsRunning-decided : (decisions : List Decision) (old new : ApplierView) (d : Decision) → IsRunning decisions old → Takes old d new → IsRunning (decisions ++ d ∷ []) new
+IsRunning-decided decisions old new d h takes =
+    let joined : IsPermutation (decisions ++ d ∷ []) ((old.applied ++ old.waiting) ++ d ∷ []) = IsPermutation-append_left (d ∷ []) decisions (old.applied ++ old.waiting) h.shared_out in
+    record {
+      applier = takes.known;
+      shared_out = IsPermutation-trans (decisions ++ d ∷ []) (old.applied ++ (old.waiting ++ d ∷ [])) (new.applied ++ new.waiting) (subst (IsPermutation (decisions ++ d ∷ [])) (append_assoc old.applied old.waiting (d ∷ [])) joined) takes.shared_out;
+    }
+
+-- ---- the same of any message
+
+pub passed : (journal : List Fate) (decisions : List Decision) (v : ApplierView) (conn : ConnId) (seq : Seq) (m : Message) (verdict : Verdict) → IsLedger journal decisions → IsRunning decisions v → verdict ≡ verdict_at (length v.applied + 1) (is_decided (slot_of m).0 v.waiting) (slot_of m).0 → verdict ≢ Decided
+    → IsLedger (journal ++ Taken conn seq m verdict ∷ []) decisions
+passed journal decisions v conn seq (Record slot value) verdict h running is ne = IsLedger-passed journal decisions v conn seq slot value verdict h running is ne
+
+pub decided : (journal : List Fate) (decisions : List Decision) (v : ApplierView) (conn : ConnId) (seq : Seq) (m : Message) (verdict : Verdict) (d : Decision) → IsLedger journal decisions → IsRunning decisions v → verdict ≡ verdict_at (length v.applied + 1) (is_decided (slot_of m).0 v.waiting) (slot_of m).0 → verdict ≡ Decided → d ≡ record { slot = slot_of m; value = value_of m; origin = Named conn seq }
+    → IsLedger (journal ++ Taken conn seq m verdict ∷ []) (decisions ++ d ∷ [])
+decided journal decisions v conn seq (Record slot value) verdict d h running is decides made = IsLedger-decided journal decisions v conn seq slot value verdict d h running is decides made
+
+pub closed : (journal : List Fate) (decisions : List Decision) (conn : ConnId) (cause : Cause) → IsLedger journal decisions → IsLedger (journal ++ Closed conn cause ∷ []) decisions
+closed journal decisions conn cause h =
+    let none : decisions ++ [] ≡ decisions = nil_right decisions in
+    subst (λ (ds : List Decision). IsLedger (journal ++ Closed conn cause ∷ []) ds) none (IsLedger-push journal decisions (Closed conn cause) h tt (subst OnePerSlot (sym none) h.one))
+  where
+    nil_right : {X : Type 0} (xs : List X) → xs ++ [] ≡ xs
+    nil_right [] = refl
+    nil_right (x ∷ xs) = ap (λ ys. x ∷ ys) (nil_right xs)
+
+-- the applied decisions are in order, each with its decision
+pub in_order_of : (decisions : List Decision) (v : ApplierView) → IsRunning decisions v → IsInOrder decisions v.applied
+in_order_of decisions v h =
+    let all : All (Contains decisions) (v.applied ++ v.waiting) = All-permutation (Contains decisions) decisions (v.applied ++ v.waiting) h.shared_out (All-contains_itself decisions) in
+    record {
+      in_order = h.applier.is_applied.in_order;
+      decided = subst (λ (ds : List Decision). All (Contains decisions) ds) (take_at v.applied v.waiting (length v.applied) refl) (All-take (Contains decisions) (length v.applied) (v.applied ++ v.waiting) all);
+    }

@@ -1,0 +1,10 @@
+pub mod Link
+pub mod Config
+pub mod Journal
+pub mod Decisions
+pub mod History
+pub mod Node
+pub mod Theorem
+pub mod Parts
+pub mod Applier
+pub mod Inside

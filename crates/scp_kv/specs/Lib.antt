@@ -1,0 +1,3 @@
+pub mod Map
+pub mod Op
+pub mod State

@@ -1,0 +1,8 @@
+-- The map that the operations build: from keys to values, each of them bytes, the keys in the order of bytes.
+use Rattle.std.specs.Prelude.{ℕ, List}
+use Rattle.std.specs.Ordering.{nat_cmp}
+use Rattle.std.specs.Cmp.Lexicographic.{slice_cmp}
+use Rattle.std.specs.FinMap.{FinMap}
+
+abbrev pub KvMap : Type 0
+KvMap = FinMap (slice_cmp nat_cmp) (List ℕ)

@@ -1,0 +1,26 @@
+ghost use Rattle.std.specs.Prelude.{◌≡◌, IfOk, IsOkUnless};
+
+use crate::fault::Fault;
+use crate::value::Value;
+
+/// A ballot of the SCP draft, ordered by its counter and then by its value's bytes.
+#[derive(Debug, Drop, PartialEq, Eq, PartialOrd, Ord)]
+pub struct Ballot {
+    /// Counts the attempts; 0 stands for no ballot.
+    pub counter: u32,
+    /// What this attempt would agree on.
+    pub value: Value,
+}
+
+impl Ballot {
+    /// Another ballot with the same counter and value. The one refusal is `Fault::NoMemory`.
+    pub fn copy(&self) -> Result<Ballot, Fault>
+        ensures same { IfOk result (λ b. b ≡ self.now) }
+        ensures only_memory { IsOkUnless result Fault.NoMemory }
+    {
+        Ok(Ballot {
+            counter: self.counter,
+            value: self.value.copy()?,
+        })
+    }
+}

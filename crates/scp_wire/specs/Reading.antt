@@ -1,0 +1,22 @@
+-- The message that bytes spell.
+use Rattle.std.specs.Prelude.{◌≡◌, ℕ, ◌<◌, ◌↔◌, List, Option, Some, None, Result, Ok, Err, slice_index}
+use Rattle.scp_types.specs.declared.fault.Fault.{Fault}
+use Rattle.scp_xdr.specs.Kind.{Values}
+use Rattle.scp_wire.specs.declared.message.Message.{Message}
+use Rattle.scp_wire.specs.Message.{message_kind, message_value, message_of, message_reading, SpellsMessage}
+
+-- what was read, as a message
+abbrev pub message_in : Result (Values message_kind) Fault → Option Message
+message_in (Ok v) = Some (message_of v)
+message_in (Err f) = None
+
+-- the message that the bytes spell, or none where they have no reading
+unfoldable pub reading_of : List ℕ → Option Message
+reading_of bytes = message_in (message_reading bytes)
+
+abbrev pub AreBytes : List ℕ → Type 0
+AreBytes bytes = (i : ℕ) → slice_index bytes i < 256
+
+-- what has a reading is spelt so, and what is spelt so has that reading
+abbrev pub ReadingIsSpelt : Type 0
+ReadingIsSpelt = (bytes : List ℕ) (m : Message) → AreBytes bytes → (reading_of bytes ≡ Some m) ↔ SpellsMessage bytes (message_value m)

@@ -1,0 +1,16 @@
+ghost use Rattle.scp_wire.specs.Carried.{IsCarried, IsCarried-prop};
+
+use crate::message::Message;
+use scp_types::{ConnId, Seq};
+
+/// A message that is numbered on its connection, as a record is.
+#[derive(Debug, Drop)]
+pub struct Carried {
+    /// The life of the link that it came over.
+    pub conn: ConnId,
+    /// Its number among the carried messages of that life, from 0.
+    pub seq: Seq,
+    /// The message.
+    pub message: Message,
+    pub ghost carried: { IsCarried message } by { IsCarried-prop message },
+}

@@ -1,0 +1,11 @@
+pub mod Zeros
+pub mod Parts
+pub mod Rows
+pub mod Items
+pub mod Laws
+pub mod Passes
+pub mod Lengths
+pub mod Within
+pub mod Loops
+pub mod Spending
+pub mod Each

@@ -1,0 +1,35 @@
+-- How many bytes a value's spelling has, without the spelling.
+use Rattle.std.specs.Prelude.{ℕ, ◌+◌, length, Some, None}
+use Rattle.std.proofs.Common.{inl, inr}
+use Rattle.std.specs.List.{sum_by}
+use Rattle.scp_xdr.specs.Tree.{Trees, no_trees, tree_then, Tree}
+use Rattle.scp_xdr.specs.Kind.{Kind, uint32, uint64, fixed, opaque, optional, array, both, union, tree, Arms, no_arm, arm, Values, ArmValues, padding_len}
+
+-- n bytes and their padding
+unfoldable pub padded_len : ℕ → ℕ
+padded_len n = n + padding_len n
+
+abbrev pub row_size : {X : Type 0} → (X → ℕ) → Trees X → ℕ
+row_size size no_trees = 0
+row_size size (tree_then x inner others) = (size x + (4 + row_size size inner)) + row_size size others
+
+abbrev pub tree_size : {X : Type 0} → (X → ℕ) → Tree X → ℕ
+tree_size size t = size t.head + (4 + row_size size t.inner)
+
+abbrev mutual
+  pub spelled_len : (k : Kind) → Values k → ℕ
+  spelled_len uint32 n = 4
+  spelled_len uint64 n = 8
+  spelled_len (fixed n) bytes = padded_len (length bytes)
+  spelled_len (opaque max) bytes = 4 + padded_len (length bytes)
+  spelled_len (optional k) None = 4
+  spelled_len (optional k) (Some v) = 4 + spelled_len k v
+  spelled_len (array max k) vs = 4 + sum_by (λ v. spelled_len k v) vs
+  spelled_len (both a b) v = spelled_len a v.0 + spelled_len b v.1
+  spelled_len (union arms) v = arm_len arms v
+  spelled_len (tree levels max head) t = tree_size (λ v. spelled_len head v) t
+
+  pub arm_len : (arms : Arms) → ArmValues arms → ℕ
+  arm_len no_arm v = elim v [ ]
+  arm_len (arm tag k others) (inl v) = 4 + spelled_len k v
+  arm_len (arm tag k others) (inr v) = arm_len others v

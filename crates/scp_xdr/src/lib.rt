@@ -1,0 +1,31 @@
+//! XDR (RFC 4506): a reader over a slice, a writer into bytes, and values of any kind in between.
+//!
+//! What it promises, for every kind:
+//! - what is read is spelt by just these bytes, and what is spelt so is read;
+//! - no spelling begins another, a value has one spelling, and bytes spell one value at most;
+//! - of bytes that spell nothing the first fault is answered, with its place: a length or a count over
+//!   its limit before missing bytes, missing bytes before padding that isn't zero;
+//! - a value is refused as too long exactly where it doesn't keep its limits, or its spelling is over
+//!   the limit that the caller gave, before memory is taken;
+//! - a refusal leaves a reader and a writer as they were, and want of memory is answered only for bytes
+//!   that spell a value.
+#![tactic(auto)]
+
+mod padding;
+mod reader;
+mod room;
+mod shared;
+mod writer;
+mod xdr;
+
+pub use reader::Reader;
+pub use room::{spend_fixed, spend_opaque, spend_u32, spend_u64};
+pub use writer::Writer;
+pub use xdr::{
+    Xdr, array_fits, check, decode, encode, encode_within, is_spelling, no_spelling_begins_another,
+    optional_fits, pass_array, pass_optional, read_array, read_optional, spend_array,
+    spend_optional, what_is_written_is_read_back, write_array, write_optional,
+};
+
+#[cfg(test)]
+mod tests;

@@ -1,0 +1,294 @@
+ghost use Rattle.std.specs.Prelude.{◌≡◌, ◌≢◌, ◌↔◌, ◌⊎◌, ◌+◌, ◌<◌, ◌≤◌, ◌^◌, length, map, option_map, All, List, ℕ, ◌++◌, IfOk, IfErr, IsOk, MatchResult, Err, IsErrOf, IsOkUnless, IsTrue, Ok};
+ghost use Rattle.std.specs.List.{flat_map, sum_by};
+ghost use Rattle.scp_xdr.specs.Kind.{Kind, Values, Fits, Spells, spelling, optional, array};
+ghost use Rattle.scp_xdr.specs.Length.{spelled_len};
+ghost use Rattle.scp_xdr.specs.Reading.{reading, reading_whole, read_items};
+ghost use Rattle.scp_xdr.specs.Passing.{passing, passing_whole, pass_items};
+ghost use Rattle.scp_xdr.specs.Words.{GoesPast, PassesWhole, Decodes, Gives, Extends, Leaves};
+
+use crate::reader::Reader;
+use crate::room::spend_u32;
+use crate::writer::Writer;
+use scp_types::Fault;
+use std::alloc::Global;
+
+/// A type whose values have a spelling (RFC 4506): its kind, and the value of the kind that stands for
+/// a value of the type.
+pub trait Xdr: Drop {
+    ghost kind: { Kind };
+
+    ghost value: { Self → Values kind };
+
+    /// Reads a value. A refusal leaves the reader anywhere.
+    fn read(alloc: Global, reader: &mut Reader<'_>) -> Result<Self, Fault>
+        ensures { Decodes value reader.new result (reading kind reader.old) };
+
+    /// Passes over a value without memory. A refusal leaves the reader anywhere.
+    fn pass(reader: &mut Reader<'_>) -> Result<(), Fault>
+        ensures { GoesPast reader.new result (passing kind reader.old) };
+
+    /// Whether the value keeps the limits of its kind.
+    fn fits(&self) -> bool
+        ensures { IsTrue result ↔ Fits kind (value self.now) };
+
+    /// Takes the length of the value's spelling off the room, without memory, whether the value fits
+    /// or not; nothing where the room is less.
+    fn spend(&self, room: usize) -> Option<usize>
+        ensures { Leaves room result (spelled_len kind (value self.now)) };
+
+    /// Writes the value. A refusal leaves a part of it.
+    fn write(&self, writer: &mut Writer) -> Result<(), Fault>
+        requires { Fits kind (value self.now) }
+        ensures { Extends writer.old writer.new result (spelling kind (value self.now)) };
+}
+
+#[tactic(auto, unfolding(crate::specs::Reading::reading_whole))]
+fn read_whole<T: Xdr>(alloc: Global, bytes: &[u8]) -> Result<T, Fault>
+    ensures { Gives T.value result (reading_whole T.kind bytes.now) }
+{
+    let mut reader = Reader::new(bytes);
+    let value = T::read(alloc, &mut reader)?;
+    reader.end()?;
+    Ok(value)
+}
+
+#[tactic(auto, unfolding(crate::specs::Passing::passing_whole))]
+fn pass_whole<T: Xdr>(bytes: &[u8]) -> Result<(), Fault>
+    ensures { MatchResult result (λ _. IsOk (passing_whole T.kind bytes.now)) (λ f. passing_whole T.kind bytes.now ≡ Err f) }
+{
+    let mut reader = Reader::new(bytes);
+    T::pass(&mut reader)?;
+    reader.end()
+}
+
+/// Tests that the bytes spell a value, all of the bytes, or finds their first fault. Takes no memory.
+pub fn check<T: Xdr>(bytes: &[u8]) -> Result<(), Fault>
+    ensures found { IfOk result (λ _. (v : Values T.kind) × Spells T.kind bytes.now v) }
+    ensures exact { PassesWhole result (reading_whole T.kind bytes.now) }
+    ensures no_memory_needed { IfErr result (λ f. f ≢ Fault.NoMemory) }
+{
+    pass_whole::<T>(bytes)
+}
+
+/// Whether the bytes spell a value, all of the bytes. Takes no memory.
+pub fn is_spelling<T: Xdr>(bytes: &[u8]) -> bool
+    ensures { IsTrue result ↔ ((v : Values T.kind) × Spells T.kind bytes.now v) }
+{
+    check::<T>(bytes).is_ok()
+}
+
+/// The value that the bytes spell, all of the bytes. Their first fault is found before memory is
+/// taken.
+pub fn decode<T: Xdr>(alloc: Global, bytes: &[u8]) -> Result<T, Fault>
+    ensures found { IfOk result (λ v. Spells T.kind bytes.now (T.value v)) }
+    ensures only { (v : Values T.kind) → Spells T.kind bytes.now v → Gives T.value result (Ok v) }
+    ensures exact { Gives T.value result (reading_whole T.kind bytes.now) }
+    ensures memory_last { IsErrOf result Fault.NoMemory → (v : Values T.kind) × Spells T.kind bytes.now v }
+{
+    check::<T>(bytes)?;
+    read_whole(alloc, bytes)
+}
+
+/// The spelling of a value that fits, in bytes that are reserved at once.
+fn write_whole<T: Xdr>(alloc: Global, capacity: usize, value: &T) -> Result<Vec<u8>, Fault>
+    requires { Fits T.kind (T.value value.now) }
+    ensures spells { IfOk result (λ bytes. Spells T.kind bytes.items (T.value value.now)) }
+    ensures only_memory { IsOkUnless result Fault.NoMemory }
+{
+    let mut writer = Writer::with_capacity(alloc, capacity)?;
+    value.write(&mut writer)?;
+    Ok(writer.into_vec())
+}
+
+/// The one spelling of the value.
+pub fn encode<T: Xdr>(alloc: Global, value: &T) -> Result<Vec<u8>, Fault>
+    ensures spells { IfOk result (λ bytes. Spells T.kind bytes.items (T.value value.now)) }
+    ensures too_long { IsErrOf result Fault.TooLong ↔ ¬ (Fits T.kind (T.value value.now)) }
+    ensures only { IfErr result (λ f. (f ≡ Fault.NoMemory) ⊎ (f ≡ Fault.TooLong)) }
+{
+    if !value.fits() {
+        return Err(Fault::TooLong);
+    }
+    let capacity = match value.spend(usize::MAX) {
+        Some(left) => usize::MAX - left,
+        None => 0,
+    };
+    write_whole(alloc, capacity, value)
+}
+
+/// The one spelling of the value, where it has at most `limit` bytes. The limit is tested before
+/// memory is taken.
+pub fn encode_within<T: Xdr>(alloc: Global, limit: usize, value: &T) -> Result<Vec<u8>, Fault>
+    ensures spells { IfOk result (λ bytes. Spells T.kind bytes.items (T.value value.now)) }
+    ensures within { IfOk result (λ bytes. length bytes.items ≤ limit) }
+    ensures too_long { IsErrOf result Fault.TooLong ↔ ((¬ (Fits T.kind (T.value value.now))) ⊎ (limit < length (spelling T.kind (T.value value.now)))) }
+    ensures only { IfErr result (λ f. (f ≡ Fault.NoMemory) ⊎ (f ≡ Fault.TooLong)) }
+{
+    if !value.fits() {
+        return Err(Fault::TooLong);
+    }
+    let Some(left) = value.spend(limit) else {
+        return Err(Fault::TooLong);
+    };
+    write_whole(alloc, limit - left, value)
+}
+
+/// That many values, one after the other.
+fn read_times<T: Xdr>(alloc: Global, count: u32, reader: &mut Reader<'_>) -> Result<Vec<T>, Fault>
+    ensures { Decodes (λ xs. map T.value xs.items) reader.new result (read_items (λ c. reading T.kind c) count reader.old) }
+{
+    let mut items = Vec::new(alloc);
+    for _ in 0..count {
+        let item = T::read(alloc, reader)?;
+        items.push(item)?;
+    }
+    Ok(items)
+}
+
+/// At most `max` values behind their count.
+pub fn read_array<T: Xdr>(alloc: Global, max: u32, reader: &mut Reader<'_>) -> Result<Vec<T>, Fault>
+    ensures { Decodes (λ xs. map T.value xs.items) reader.new result (reading (array max T.kind) reader.old) }
+{
+    let count = reader.count(max)?;
+    read_times(alloc, count, reader)
+}
+
+/// A value behind a flag, or none.
+#[tactic(auto, unfolding(crate::specs::Reading::read_optional))]
+pub fn read_optional<T: Xdr>(alloc: Global, reader: &mut Reader<'_>) -> Result<Option<T>, Fault>
+    ensures { Decodes (λ x. option_map T.value x) reader.new result (reading (optional T.kind) reader.old) }
+{
+    if reader.flag()? {
+        Ok(Some(T::read(alloc, reader)?))
+    } else {
+        Ok(None)
+    }
+}
+
+/// Passes over that many values, one after the other.
+fn pass_times<T: Xdr>(count: u32, reader: &mut Reader<'_>) -> Result<(), Fault>
+    ensures { GoesPast reader.new result (pass_items (λ c. passing T.kind c) count reader.old) }
+{
+    for _ in 0..count {
+        T::pass(reader)?;
+    }
+    Ok(())
+}
+
+/// Passes over at most `max` values behind their count, without memory.
+pub fn pass_array<T: Xdr>(max: u32, reader: &mut Reader<'_>) -> Result<(), Fault>
+    ensures { GoesPast reader.new result (passing (array max T.kind) reader.old) }
+{
+    let count = reader.count(max)?;
+    pass_times::<T>(count, reader)
+}
+
+/// Passes over a flag and the value behind it, if there is one, without memory.
+#[tactic(auto, unfolding(crate::specs::Passing::pass_optional))]
+pub fn pass_optional<T: Xdr>(reader: &mut Reader<'_>) -> Result<(), Fault>
+    ensures { GoesPast reader.new result (passing (optional T.kind) reader.old) }
+{
+    if !reader.flag()? {
+        return Ok(());
+    }
+    T::pass(reader)
+}
+
+fn all_fit<T: Xdr>(items: &[T]) -> bool
+    ensures { IsTrue result ↔ All (λ x. Fits T.kind (T.value x)) items.now }
+{
+    items.iter().all(|item| item.fits())
+}
+
+/// Whether the values keep their limits and are at most `max`.
+pub fn array_fits<T: Xdr>(max: u32, items: &[T]) -> bool
+    ensures { IsTrue result ↔ Fits (array max T.kind) (map T.value items.now) }
+{
+    items.len() <= max as usize && all_fit(items)
+}
+
+fn write_times<T: Xdr>(writer: &mut Writer, items: &[T]) -> Result<(), Fault>
+    requires { All (λ x. Fits T.kind (T.value x)) items.now }
+    ensures { Extends writer.old writer.new result (flat_map (λ v. spelling T.kind v) (map T.value items.now)) }
+{
+    for item in items {
+        item.write(writer)?;
+    }
+    Ok(())
+}
+
+/// Writes the values behind their count. A refusal leaves a part of them.
+pub fn write_array<T: Xdr>(writer: &mut Writer, max: u32, items: &[T]) -> Result<(), Fault>
+    requires { Fits (array max T.kind) (map T.value items.now) }
+    ensures { Extends writer.old writer.new result (spelling (array max T.kind) (map T.value items.now)) }
+{
+    writer.count(max, items.len())?;
+    write_times(writer, items)
+}
+
+/// Writes a flag and the value, if there is one. A refusal leaves a part of it.
+pub fn write_optional<T: Xdr>(writer: &mut Writer, item: &Option<T>) -> Result<(), Fault>
+    requires { Fits (optional T.kind) (option_map T.value item.now) }
+    ensures { Extends writer.old writer.new result (spelling (optional T.kind) (option_map T.value item.now)) }
+{
+    match item {
+        Some(item) => {
+            writer.flag(true)?;
+            item.write(writer)?;
+        }
+        None => writer.flag(false)?,
+    }
+    Ok(())
+}
+
+/// Whether the value keeps its limits, if there is one.
+pub fn optional_fits<T: Xdr>(item: &Option<T>) -> bool
+    ensures { IsTrue result ↔ Fits (optional T.kind) (option_map T.value item.now) }
+{
+    match item {
+        Some(item) => item.fits(),
+        None => true,
+    }
+}
+
+fn spend_times<T: Xdr>(items: &[T], room: usize) -> Option<usize>
+    ensures { Leaves room result (sum_by (λ x. spelled_len T.kind (T.value x)) items.now) }
+{
+    let mut left = room;
+    for item in items {
+        left = item.spend(left)?;
+    }
+    Some(left)
+}
+
+/// Takes the length of the values' spelling, behind their count, off the room.
+pub fn spend_array<T: Xdr>(items: &[T], room: usize) -> Option<usize>
+    ensures { Leaves room result (4 + sum_by (λ v. spelled_len T.kind v) (map T.value items.now)) }
+{
+    let left = spend_u32(room)?;
+    spend_times(items, left)
+}
+
+/// Takes the length of a flag and of the value, if there is one, off the room.
+pub fn spend_optional<T: Xdr>(item: &Option<T>, room: usize) -> Option<usize>
+    ensures { Leaves room result (spelled_len (optional T.kind) (option_map T.value item.now)) }
+{
+    let left = spend_u32(room)?;
+    match item {
+        Some(item) => item.spend(left),
+        None => Some(left),
+    }
+}
+
+/// No spelling of a kind begins another, and none spells two values.
+pub fn no_spelling_begins_another()
+    ensures { (k : Kind) (v w : Values k) (x y : List ℕ) → Fits k v → Fits k w → spelling k v ++ x ≡ spelling k w ++ y → (v ≡ w) × (x ≡ y) }
+{}
+
+/// What is written is read back as the value that was written, bytes spell one value at most, and a
+/// value has one spelling at most.
+pub fn what_is_written_is_read_back()
+    ensures read_back { (k : Kind) (v : Values k) → Fits k v → reading_whole k (spelling k v) ≡ Ok v }
+    ensures one_value { (k : Kind) (bytes : List ℕ) (v w : Values k) → Spells k bytes v → Spells k bytes w → v ≡ w }
+    ensures one_spelling { (k : Kind) (x y : List ℕ) (v : Values k) → Spells k x v → Spells k y v → x ≡ y }
+{}
