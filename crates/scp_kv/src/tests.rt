@@ -1,6 +1,3 @@
-ghost use Rattle.std.specs.Prelude.{◌≡◌, IfOk};
-ghost use Rattle.std.specs.FinMap as map;
-
 use super::*;
 use scp_types::{Fault, Value};
 use scp_xdr::{decode, encode};
@@ -68,17 +65,6 @@ fn expect_ops(
     let ops = ops_of(alloc, &list)?;
     assert_eq!(rt; ops.map(|ops| ops.len()), want);
     Ok(())
-}
-
-/// The keys of the lines, in their order.
-fn line_keys(alloc: Global, state: &KvState) -> Result<Vec<Value>, Fault>
-    ensures { IfOk result (λ keys. keys.items ≡ map.keys state.now) }
-{
-    let mut keys = Vec::new(alloc);
-    for (key, _) in state.lines() {
-        keys.push(key.copy()?)?;
-    }
-    Ok(keys)
 }
 
 #[test]
@@ -216,11 +202,10 @@ fn lines_ascend(rt: HostRuntime) -> Result<(), Fail> {
         state.apply(Op::Put(value(alloc, key)?, value(alloc, key)?))?;
     }
     let sorted: [&[u8]; 6] = [b"", b"a", b"aa", b"ab", b"b", &[0xff]];
-    let found = line_keys(alloc, &state)?;
-    assert_eq!(rt; found.len(), 6);
-    for (key, want) in found.iter().zip(sorted.iter()) {
+    assert_eq!(rt; state.lines().count(), 6);
+    for ((key, entry), want) in state.lines().zip(sorted.iter()) {
         assert_eq!(rt; key.as_slice(), *want);
-        assert!(rt; state.get(key) == Some(key));
+        assert!(rt; entry == key);
     }
     Ok(())
 }

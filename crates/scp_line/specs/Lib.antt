@@ -1,0 +1,8 @@
+pub mod Device
+pub mod Script
+pub mod Reading
+pub mod Outcome
+pub mod Report
+pub mod Parts
+pub mod Play
+pub mod Nodes

@@ -1,0 +1,65 @@
+-- How a call that failed is told, and what it may fail for.
+use Rattle.std.specs.Prelude.{ℕ, List, ◌++◌, Result, Ok, Err, codes}
+use Rattle.std.specs.Fmt.{decimal}
+use Rattle.scp_types.specs.declared.fault.Fault.{Fault}
+use Rattle.scp_types.specs.declared.fault.Fault.TheVariants.{NoMemory, Malformed, TooLong, NotOpen, AlreadyOpen, LivesSpent, BadConfig, Failed, BadScript, Refused, Device}
+use Rattle.scp_types.specs.declared.fault.Stage.{Stage}
+use Rattle.scp_types.specs.declared.fault.Stage.TheVariants.{Reader, Pend, Slot, Apply}
+use Rattle.scp_types.specs.Fault.{number_of}
+use Rattle.scp_line.specs.declared.playing.PlayFault.{PlayFault}
+use Rattle.scp_line.specs.Script.{IsBadLine}
+
+abbrev pub stage_word : Stage → List ℕ
+stage_word Reader = codes "reader"
+stage_word Pend = codes "pend"
+stage_word Slot = codes "slot"
+stage_word Apply = codes "apply"
+
+-- the line that tells a fault; the node counts for two of them
+abbrev pub fault_line : ℕ → Fault → List ℕ
+fault_line node (BadScript line) = codes "fault 12 line " ++ decimal line ++ codes "\n"
+fault_line node Failed = codes "fault 10 node " ++ decimal node ++ codes "\n"
+fault_line node (Refused stage) = codes "fault 13 node " ++ decimal node ++ codes " " ++ stage_word stage ++ codes "\n"
+fault_line node fault = codes "fault " ++ decimal (number_of fault) ++ codes "\n"
+
+-- 1 for a script or a message, 3 for a node, memory or the device
+abbrev pub status_of : Fault → ℕ
+status_of (Malformed place) = 1
+status_of TooLong = 1
+status_of (BadScript line) = 1
+status_of fault = 3
+
+-- the exit status of a call
+abbrev pub exit_of : Result (Unit {0}) PlayFault → ℕ
+exit_of (Ok done) = 0
+exit_of (Err e) = status_of e.fault
+
+-- why a text isn't read as a script: want of memory, or its first bad line
+abbrev pub IsScriptFault : List ℕ → Fault → Type 0
+IsScriptFault text NoMemory = Unit {0}
+IsScriptFault text (BadScript line) = IsBadLine text line
+IsScriptFault text fault = ⊥
+
+-- why a script isn't found to be one
+abbrev pub IsCheckFault : Fault → Type 0
+IsCheckFault NoMemory = Unit {0}
+IsCheckFault TooLong = Unit {0}
+IsCheckFault Device = Unit {0}
+IsCheckFault (BadScript line) = Unit {0}
+IsCheckFault fault = ⊥
+
+-- why nodes can't do what the lines of a script say
+abbrev pub IsRunFault : Fault → Type 0
+IsRunFault NoMemory = Unit {0}
+IsRunFault NotOpen = Unit {0}
+IsRunFault AlreadyOpen = Unit {0}
+IsRunFault LivesSpent = Unit {0}
+IsRunFault BadConfig = Unit {0}
+IsRunFault Failed = Unit {0}
+IsRunFault fault = ⊥
+
+-- why bytes have no reading
+abbrev pub IsReadingFault : Fault → Type 0
+IsReadingFault (Malformed place) = Unit {0}
+IsReadingFault TooLong = Unit {0}
+IsReadingFault fault = ⊥

@@ -1,0 +1,78 @@
+-- What is played and shown.
+use Rattle.std.specs.Prelude.{ℕ, ◌≡◌, List, [], ◌++◌, Option, Some, None, Err, flat_map, map, replicate, codes, nat_eq, if◌then◌else◌, unwrap_or}
+use Rattle.std.specs.Fmt.{decimal}
+use Rattle.scp_types.specs.declared.names.NodeId.{NodeId}
+use Rattle.scp_types.specs.declared.fault.Fault.{Fault}
+use Rattle.scp_types.specs.declared.fault.Fault.TheVariants.{Malformed, Failed}
+use Rattle.scp_wire.specs.declared.message.Message.{Message}
+use Rattle.scp_wire.specs.declared.message.Message.TheVariants.{Record}
+use Rattle.scp_wire.specs.Message.{message_reading}
+use Rattle.scp_wire.specs.Reading.{reading_of}
+use Rattle.scp_core.specs.declared.event.Event.{Event}
+use Rattle.scp_core.specs.declared.event.Reply.TheVariants.{Accepted}
+use Rattle.scp_core.specs.History.{Exchange}
+use Rattle.scp_core.specs.Node.{NodeView}
+use Rattle.scp_core.specs.Theorem.{LedgerTheorem}
+use Rattle.scp_line.specs.declared.script.Command.{Command}
+use Rattle.scp_line.specs.Script.{IsNodeNumber, hex_bytes, commands_in, events_at, reports_in}
+use Rattle.scp_line.specs.Report.{report_of, hex_word}
+
+-- the id of a node is 32 bytes of its number
+abbrev pub id_of : ℕ → NodeId
+id_of number = record { 0 = replicate 32 number }
+
+-- each event was accepted
+abbrev pub accepted : List Event → List Exchange
+accepted events = map (λ event. (event, Accepted)) events
+
+-- the node of this number, linked to the other, as the commands left it: the ledger theorem holds of it for the
+-- events that the commands say, each of which it accepted
+pub record IsNode (commands : List Command) (number other : ℕ) (node : NodeView) : Type 0 where
+  pub me : node.me ≡ id_of number
+  pub peer : node.peer ≡ id_of other
+  pub theorem : LedgerTheorem (accepted (events_at number commands)) node
+
+abbrev pub report_of_node : ℕ → NodeView → List ℕ
+report_of_node number node = report_of (record {
+  node = number;
+  journal = node.journal;
+  applied = node.applied;
+  state = unwrap_or node.state [];
+})
+
+abbrev pub report_at : NodeView → NodeView → ℕ → List ℕ
+report_at first second number = if nat_eq number 1 then report_of_node 1 first else report_of_node 2 second
+
+-- the text is the reports that the script asks for, one for each `report` line, in their order
+pub record AreReports (script text : List ℕ) : Type 0 where
+  pub first : NodeView
+  pub second : NodeView
+  pub is_first : IsNode (commands_in script) 1 2 first
+  pub is_second : IsNode (commands_in script) 2 1 second
+  pub reports : text ≡ flat_map (report_at first second) (reports_in (commands_in script))
+
+-- the line of a message
+abbrev pub message_line : Message → List ℕ
+message_line (Record slot value) = codes "6 record " ++ decimal slot.0 ++ codes " " ++ hex_word value ++ codes "\n"
+
+-- the text shows the message that the digits spell
+pub record IsShown (digits text : List ℕ) : Type 0 where
+  pub bytes : List ℕ
+  pub message : Message
+  pub spelt : hex_bytes digits ≡ Some bytes
+  pub read : reading_of bytes ≡ Some message
+  pub line : text ≡ message_line message
+
+-- a word that isn't digits is malformed at 0
+abbrev pub IsUnreadBytes : Option (List ℕ) → Fault → Type 0
+IsUnreadBytes (Some bytes) fault = message_reading bytes ≡ Err fault
+IsUnreadBytes None fault = fault ≡ Malformed 0
+
+-- why digits aren't shown, where there was memory: they are none, or the first fault of the bytes that they say
+abbrev pub IsUnread : List ℕ → Fault → Type 0
+IsUnread digits fault = IsUnreadBytes (hex_bytes digits) fault
+
+-- only a node's failure has a node
+abbrev pub IsNamed : ℕ → Fault → Type 0
+IsNamed node Failed = IsNodeNumber node
+IsNamed node fault = node ≡ 0

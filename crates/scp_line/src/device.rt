@@ -1,0 +1,262 @@
+ghost use Rattle.std.specs.Prelude.{◌≡◌, ◌≤◌, ◌<◌, ◌+◌, ℕ, List, [], Option, Some, None, take, drop, length, OnOk, OnErr, IfOk, IfErr, IfSome, IsErrOf, Ok};
+ghost use Rattle.scp_line.specs.Device.{Loses, HasEnded, Gains, Fails, IsReadFault};
+
+use scp_types::Fault;
+use std::alloc::Global;
+use std::io;
+
+/// A script is at most so long.
+pub const SCRIPT_LIMIT: usize = 1_048_576;
+
+/// Where a script comes from.
+pub trait ScriptIn {
+    /// What is left to be read, where that is known.
+    ghost left: { Self → Option (List ℕ) };
+    /// How often it has failed.
+    ghost failures: { Self → ℕ };
+
+    /// Reads some bytes, at least one, or 0 at the end.
+    fn read(&mut self, buffer: &mut [u8]) -> Result<usize, Fault>
+        requires { 0 < length buffer.old }
+        ensures count { IfOk result (λ n. n ≤ length buffer.old) }
+        ensures bytes { IfOk result (λ n. Loses (left self.old) (take n buffer.new) (left self.new)) }
+        ensures end { result ≡ Ok 0 → HasEnded (left self.old) }
+        ensures cause { IfErr result (λ fault. fault ≡ Fault.Device) }
+        ensures raised { OnErr result (Fails (failures self.old) (failures self.new)) }
+        ensures kept { OnOk result (failures self.new ≡ failures self.old) };
+}
+
+/// Where a text is written.
+pub trait ReportOut {
+    /// What was written so far, where that is known.
+    ghost written: { Self → Option (List ℕ) };
+    /// How often it has failed.
+    ghost failures: { Self → ℕ };
+
+    /// Takes some of the bytes, at least one.
+    fn write(&mut self, bytes: &[u8]) -> Result<usize, Fault>
+        requires { 0 < length bytes.now }
+        ensures some { IfOk result (λ n. 0 < n) }
+        ensures count { IfOk result (λ n. n ≤ length bytes.now) }
+        ensures bytes { IfOk result (λ n. Gains (written self.old) (take n bytes.now) (written self.new)) }
+        ensures cause { IfErr result (λ fault. fault ≡ Fault.Device) }
+        ensures raised { OnErr result (Fails (failures self.old) (failures self.new)) }
+        ensures kept { OnOk result (failures self.new ≡ failures self.old) };
+}
+
+/// A script in memory.
+#[derive(Debug, Drop)]
+pub struct MemoryIn<'a> {
+    left: &'a [u8],
+}
+
+impl<'a> MemoryIn<'a> {
+    pub fn new(text: &'a [u8]) -> Self
+        ensures { result.left.now ≡ text.entry.now }
+    {
+        MemoryIn { left: text }
+    }
+}
+
+impl ScriptIn for MemoryIn<'_> {
+    ghost left = { λ s. Some s.left.now };
+
+    ghost failures = { λ _. 0 };
+
+    fn read(&mut self, buffer: &mut [u8]) -> Result<usize, Fault> {
+        let count = self.left.len().min(buffer.len());
+        let (front, rest) = self.left.split_at(count);
+        buffer[..count].copy_from_slice(front);
+        self.left = rest;
+        Ok(count)
+    }
+}
+
+/// A text in memory. Want of memory is its failure.
+#[derive(Debug, Drop)]
+pub struct MemoryOut {
+    text: Vec<u8>,
+    failures: u64,
+}
+
+impl MemoryOut {
+    pub fn new(text: Vec<u8>) -> Self
+        ensures text { result.text ≡ text }
+        ensures failures { result.failures ≡ 0 }
+    {
+        MemoryOut { text, failures: 0 }
+    }
+
+    pub fn text(&self) -> &[u8]
+        ensures { result.now ≡ self.now.text.items }
+    {
+        self.text.as_slice()
+    }
+}
+
+impl ReportOut for MemoryOut {
+    ghost written = { λ s. Some s.text.items };
+
+    ghost failures = { λ s. s.failures };
+
+    fn write(&mut self, bytes: &[u8]) -> Result<usize, Fault> {
+        if self.text.extend_from_slice(bytes).is_err() {
+            self.failures = self.failures.saturating_add(1);
+            return Err(Fault::Device);
+        }
+        Ok(bytes.len())
+    }
+}
+
+/// The process's input and output.
+#[derive(Drop)]
+pub struct Process<R> {
+    handle: R,
+    failures: u64,
+}
+
+impl<R> Process<R> {
+    pub fn new(handle: R) -> Self
+        ensures { result.failures ≡ 0 }
+    {
+        Process {
+            handle,
+            failures: 0,
+        }
+    }
+
+    fn fail(&mut self) -> Fault
+        ensures fault { result ≡ Fault.Device }
+        ensures raised { Fails self.old.failures self.new.failures }
+    {
+        self.failures = self.failures.saturating_add(1);
+        Fault::Device
+    }
+}
+
+impl<R: io::Read + Drop> ScriptIn for Process<R> {
+    ghost left = { λ _. None };
+
+    ghost failures = { λ s. s.failures };
+
+    fn read(&mut self, buffer: &mut [u8]) -> Result<usize, Fault> {
+        match self.handle.read(buffer) {
+            Ok(count) => Ok(count),
+            Err(_) => Err(self.fail()),
+        }
+    }
+}
+
+impl<R: io::Write + Drop> ReportOut for Process<R> {
+    ghost written = { λ _. None };
+
+    ghost failures = { λ s. s.failures };
+
+    fn write(&mut self, bytes: &[u8]) -> Result<usize, Fault> {
+        match self.handle.write(bytes) {
+            Ok(count) if count > 0 => Ok(count),
+            _ => Err(self.fail()),
+        }
+    }
+}
+
+/// Reads all there is, at most as much as a script may have.
+pub fn read_script<R: ScriptIn>(alloc: Global, reader: &mut R) -> Result<Vec<u8>, Fault>
+    ensures whole { IfOk result (λ text. IfSome (R.left reader.old) (λ all. text.items ≡ all)) }
+    ensures limit { IfOk result (λ text. length text.items ≤ SCRIPT_LIMIT) }
+    ensures too_long { IsErrOf result Fault.TooLong → IfSome (R.left reader.old) (λ all. SCRIPT_LIMIT < length all) }
+    ensures device { IsErrOf result Fault.Device → Fails (R.failures reader.old) (R.failures reader.new) }
+    ensures cause { IfErr result IsReadFault }
+{
+    let mut text = Vec::new(alloc);
+    let mut buffer = [0u8; 4096];
+    loop {
+        let count = reader.read(&mut buffer)?;
+        if count == 0 {
+            return Ok(text);
+        }
+        if count > SCRIPT_LIMIT - text.len() {
+            return Err(Fault::TooLong);
+        }
+        text.extend_from_slice(&buffer[..count])?;
+    }
+}
+
+/// Writes the whole text.
+pub fn write_text<W: ReportOut>(writer: &mut W, text: &str) -> Result<(), Fault>
+    ensures whole { OnOk result (Gains (W.written writer.old) text.now (W.written writer.new)) }
+    ensures cause { IfErr result (λ fault. fault ≡ Fault.Device) }
+    ensures raised { OnErr result (Fails (W.failures writer.old) (W.failures writer.new)) }
+{
+    let mut rest = text.as_bytes();
+    while !rest.is_empty() {
+        let count = writer.write(rest)?;
+        rest = &rest[count..];
+    }
+    Ok(())
+}
+
+/// A reader or a writer that fails at its call of a number.
+#[derive(Drop)]
+pub struct FailsAt<D> {
+    device: D,
+    calls_left: u64,
+    failures: u64,
+}
+
+impl<D> FailsAt<D> {
+    /// It fails at the call after so many, and again at each later one.
+    pub fn new(device: D, calls: u64) -> Self
+        ensures device { result.device ≡ device }
+        ensures failures { result.failures ≡ 0 }
+    {
+        FailsAt {
+            device,
+            calls_left: calls,
+            failures: 0,
+        }
+    }
+
+    /// The device, and how often it failed.
+    pub fn into_parts(self) -> (D, u64)
+        ensures { result ≡ (self.device, self.failures) }
+    {
+        (self.device, self.failures)
+    }
+
+    fn count(&mut self) -> Result<(), Fault>
+        ensures ok { OnOk result (self.new.failures ≡ self.old.failures) }
+        ensures same { self.new.device ≡ self.old.device }
+        ensures raised { OnErr result (Fails self.old.failures self.new.failures) }
+        ensures cause { IfErr result (λ fault. fault ≡ Fault.Device) }
+    {
+        if self.calls_left == 0 {
+            self.failures = self.failures.saturating_add(1);
+            return Err(Fault::Device);
+        }
+        self.calls_left -= 1;
+        Ok(())
+    }
+}
+
+impl ScriptIn for FailsAt<MemoryIn<'_>> {
+    ghost left = { λ s. Some s.device.left.now };
+
+    ghost failures = { λ s. s.failures };
+
+    fn read(&mut self, buffer: &mut [u8]) -> Result<usize, Fault> {
+        self.count()?;
+        self.device.read(buffer)
+    }
+}
+
+impl ReportOut for FailsAt<MemoryOut> {
+    ghost written = { λ s. Some s.device.text.items };
+
+    ghost failures = { λ s. s.failures + s.device.failures };
+
+    fn write(&mut self, bytes: &[u8]) -> Result<usize, Fault> {
+        self.count()?;
+        self.device.write(bytes)
+    }
+}

@@ -1,0 +1,31 @@
+//! Scripts for two linked nodes: reads them, plays them, and writes the reports that they ask for.
+//!
+//! Promised by contracts:
+//! - `parse` gives just the commands that the text says, or its first bad line;
+//! - `play` writes one report for each `report` line, in the order of the lines, of nodes that the ledger theorem holds
+//!   of for the very events that the script says, each accepted; all is made before the first byte is written;
+//! - `check` refuses the scripts that `play` can't read, at the same line, and `show` writes the line of the message that
+//!   the digits spell;
+//! - a failure of the reader or the writer is told as one, and nothing else is;
+//! - the connections of a report ascend, and are just those with entries.
+#![tactic(auto)]
+
+mod asked;
+mod device;
+mod nodes;
+mod outcome;
+mod playing;
+mod report;
+mod script;
+
+pub use device::{
+    FailsAt, MemoryIn, MemoryOut, Process, ReportOut, SCRIPT_LIMIT, ScriptIn, read_script,
+    write_text,
+};
+pub use outcome::{line_of_fault, serve, status};
+pub use playing::{Mode, PlayFault, check, play, show};
+pub use report::{ReportParts, connections_are_those_with_entries, write_report};
+pub use script::{Command, parse};
+
+#[cfg(test)]
+mod tests;

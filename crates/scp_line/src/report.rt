@@ -1,0 +1,251 @@
+ghost use Rattle.std.specs.Prelude.{◌≡◌, ◌++◌, [], List, OnOk, IfOk, string_bytes, flat_map, if◌then◌else◌};
+ghost use Rattle.std.specs.Ordering.{is_eq};
+ghost use Rattle.std.specs.FinMap as map;
+ghost use Rattle.scp_types.specs.declared.names.ConnId.{ConnId};
+ghost use Rattle.scp_core.specs.Journal.{conn_of};
+ghost use Rattle.scp_core.specs.declared.journal.Fate.{Fate};
+ghost use Rattle.scp_line.specs.Report.{verdict_word, cause_word, fate_line, hex_word, node_number, origin_words, applied_line, state_line, conn_cmp, conns_of, conn_line, fate_lines, section_of, report_of, AreConnections};
+ghost use Rattle.scp_line.specs.Parts.{view_of, lines_at};
+
+use scp_core::{Cause, Decision, Fate, Origin, SharedDecision, Verdict};
+use scp_kv::KvState;
+use scp_types::{ConnId, NodeId};
+use std::alloc::{AllocError, Global};
+use std::collections::{BTreeMap, BTreeSet};
+
+fn word_of_verdict(verdict: Verdict) -> &'static str
+    ensures { result.now ≡ verdict_word verdict }
+{
+    match verdict {
+        Verdict::Already => "already",
+        Verdict::FarSlot => "far-slot",
+        Verdict::Decided => "decided",
+    }
+}
+
+fn word_of_cause(cause: Cause) -> &'static str
+    ensures { result.now ≡ cause_word cause }
+{
+    match cause {
+        Cause::Malformed => "malformed",
+        Cause::Link => "link",
+        Cause::Spent => "spent",
+    }
+}
+
+/// Adds an entry's line.
+fn write_fate(text: &mut String, fate: &Fate) -> Result<(), AllocError>
+    ensures { OnOk result (string_bytes text.new ≡ string_bytes text.old ++ fate_line fate.now) }
+{
+    match fate {
+        Fate::Taken { seq, verdict, .. } => {
+            let number = seq.0;
+            let word = word_of_verdict(*verdict);
+            writeln!(text, "{number} taken {word}")
+        }
+        Fate::Closed { cause, .. } => {
+            let word = word_of_cause(*cause);
+            writeln!(text, "closed {word}")
+        }
+    }
+}
+
+/// Adds bytes in digits, or a dash for none.
+pub fn write_hex(text: &mut String, bytes: &[u8]) -> Result<(), AllocError>
+    ensures { OnOk result (string_bytes text.new ≡ string_bytes text.old ++ hex_word bytes.now) }
+{
+    if bytes.is_empty() {
+        text.push_str("-")?;
+        return Ok(());
+    }
+    let digits = hex::encode(*text.allocator(), bytes)?;
+    text.push_str(digits.as_str())?;
+    Ok(())
+}
+
+/// The number of a node whose id is 32 bytes of its number.
+fn number_of(id: &NodeId) -> u8
+    ensures { result ≡ node_number id.now }
+{
+    id.0[0]
+}
+
+/// Adds who says so.
+fn write_origin(text: &mut String, origin: &Origin) -> Result<(), AllocError>
+    ensures { OnOk result (string_bytes text.new ≡ string_bytes text.old ++ origin_words origin.now) }
+{
+    match origin {
+        Origin::Named { conn, seq } => {
+            let sender = number_of(&conn.from);
+            let life = conn.life;
+            let number = seq.0;
+            write!(text, "record {sender} {life} {number}")
+        }
+    }
+}
+
+/// Adds the line of an applied slot.
+fn write_applied(text: &mut String, applied: &Decision) -> Result<(), AllocError>
+    ensures { OnOk result (string_bytes text.new ≡ string_bytes text.old ++ applied_line applied.now) }
+{
+    let slot = applied.slot.0;
+    write!(text, "applied {slot} ")?;
+    write_hex(text, applied.value.as_slice())?;
+    text.push_str(" ")?;
+    write_origin(text, &applied.origin)?;
+    text.push_str("\n")?;
+    Ok(())
+}
+
+/// Adds the lines of the applied slots.
+fn write_applied_list(text: &mut String, applied: &[SharedDecision]) -> Result<(), AllocError>
+    ensures { OnOk result (string_bytes text.new ≡ string_bytes text.old ++ flat_map applied_line applied.now) }
+{
+    for decision in applied {
+        write_applied(text, decision.get())?;
+    }
+    Ok(())
+}
+
+/// Adds the lines of the state, ascending by key.
+fn write_state(text: &mut String, state: &KvState) -> Result<(), AllocError>
+    ensures { OnOk result (string_bytes text.new ≡ string_bytes text.old ++ flat_map state_line (map.entries state.now)) }
+{
+    for (key, value) in state.lines() {
+        text.push_str("state ")?;
+        write_hex(text, key.as_slice())?;
+        text.push_str("=")?;
+        write_hex(text, value.as_slice())?;
+        text.push_str("\n")?;
+    }
+    Ok(())
+}
+
+/// The connections with entries, ascending.
+fn connections(alloc: Global, journal: &[Fate]) -> Result<BTreeSet<ConnId>, AllocError>
+    ensures { IfOk result (λ conns. conns.keys ≡ conns_of journal.now) }
+{
+    let mut conns = BTreeSet::new(alloc);
+    for fate in journal {
+        conns.insert(conn_of_fate(fate))?;
+    }
+    Ok(conns)
+}
+
+/// Takes out the lines of a connection.
+fn take_lines(alloc: Global, sections: &mut BTreeMap<ConnId, String>, conn: ConnId) -> String
+    ensures lines { string_bytes result ≡ lines_at sections.old conn }
+    ensures others { (other : ConnId) → lines_at sections.new other ≡ (if is_eq (conn_cmp conn other) then [] else lines_at sections.old other) }
+{
+    match sections.remove(&conn) {
+        Some(lines) => lines,
+        None => String::new(alloc),
+    }
+}
+
+/// Puts lines in as those of a connection.
+fn put_lines(
+    sections: &mut BTreeMap<ConnId, String>,
+    conn: ConnId,
+    lines: String,
+) -> Result<(), AllocError>
+    ensures { OnOk result ((other : ConnId) → lines_at sections.new other ≡ (if is_eq (conn_cmp conn other) then string_bytes lines else lines_at sections.old other)) }
+{
+    sections.insert(conn, lines)?;
+    Ok(())
+}
+
+/// The connections of a report ascend by sender and life, each once, and are just those with entries.
+pub fn connections_are_those_with_entries()
+    ensures { (journal : List Fate) → AreConnections journal (conns_of journal) }
+{}
+
+/// Adds an entry's line to the lines of its connection.
+fn sort_in(
+    alloc: Global,
+    sections: &mut BTreeMap<ConnId, String>,
+    fate: &Fate,
+) -> Result<(), AllocError>
+    ensures { OnOk result ((conn : ConnId) → lines_at sections.new conn ≡ (if is_eq (conn_cmp (conn_of fate.now) conn) then lines_at sections.old (conn_of fate.now) ++ fate_line fate.now else lines_at sections.old conn)) }
+{
+    let conn = conn_of_fate(fate);
+    let mut lines = take_lines(alloc, sections, conn);
+    write_fate(&mut lines, fate)?;
+    put_lines(sections, conn, lines)?;
+    Ok(())
+}
+
+/// The lines of each connection's entries, in one pass over the journal.
+fn sections(alloc: Global, journal: &[Fate]) -> Result<BTreeMap<ConnId, String>, AllocError>
+    ensures { IfOk result (λ sections. (conn : ConnId) → lines_at sections conn ≡ fate_lines journal.now conn) }
+{
+    let mut sections = BTreeMap::new(alloc);
+    for fate in journal {
+        sort_in(alloc, &mut sections, fate)?;
+    }
+    Ok(sections)
+}
+
+/// Adds a connection's part.
+fn write_section(
+    text: &mut String,
+    sections: &BTreeMap<ConnId, String>,
+    conn: &ConnId,
+) -> Result<(), AllocError>
+    ensures { OnOk result (string_bytes text.new ≡ string_bytes text.old ++ (conn_line conn.now ++ lines_at sections.now conn.now)) }
+{
+    let sender = number_of(&conn.from);
+    let life = conn.life;
+    writeln!(text, "conn {sender} {life}")?;
+    if let Some(lines) = sections.get(conn) {
+        text.push_str(lines.as_str())?;
+    }
+    Ok(())
+}
+
+/// Adds the connections' parts, ascending.
+fn write_sections(text: &mut String, journal: &[Fate]) -> Result<(), AllocError>
+    ensures { OnOk result (string_bytes text.new ≡ string_bytes text.old ++ flat_map (section_of journal.now) (conns_of journal.now)) }
+{
+    let alloc = *text.allocator();
+    let sections = sections(alloc, journal)?;
+    let conns = connections(alloc, journal)?;
+    for conn in &conns {
+        write_section(text, &sections, conn)?;
+    }
+    Ok(())
+}
+
+/// The connection of an entry.
+fn conn_of_fate(fate: &Fate) -> ConnId
+    ensures { result ≡ conn_of fate.now }
+{
+    match fate {
+        Fate::Taken { conn, .. } => *conn,
+        Fate::Closed { conn, .. } => *conn,
+    }
+}
+
+/// What a report tells of a node.
+#[derive(Clone, Copy)]
+pub struct ReportParts<'a> {
+    pub node: u8,
+    pub journal: &'a [Fate],
+    pub applied: &'a [SharedDecision],
+    pub state: Option<&'a KvState>,
+}
+
+/// Adds a node's report. The time grows with the number of entries times the logarithm of the number of connections.
+pub fn write_report(text: &mut String, parts: &ReportParts<'_>) -> Result<(), AllocError>
+    ensures { OnOk result (string_bytes text.new ≡ string_bytes text.old ++ report_of (view_of parts.now)) }
+{
+    let node = parts.node;
+    writeln!(text, "node {node}")?;
+    write_sections(text, parts.journal)?;
+    write_applied_list(text, parts.applied)?;
+    if let Some(state) = parts.state {
+        write_state(text, state)?;
+    }
+    text.push_str("end\n")?;
+    Ok(())
+}
