@@ -1,0 +1,66 @@
+use crate::workload::{SMALL, Workload};
+use clap::error::ErrorKind;
+use clap::{Arg, ArgAction, Command, Error};
+use scp_types::Fault;
+use std::alloc::{AllocError, Global};
+
+/// What the words of a command line ask for.
+#[derive(Clone, Copy, Debug, PartialEq, Eq)]
+pub enum Asked {
+    /// Every workload, small.
+    All,
+    /// One workload of a size.
+    One(Workload, u32),
+    /// None of these.
+    Usage,
+}
+
+static WORKLOADS: [&str; 3] = ["decode", "records", "script"];
+
+fn command<'a>(alloc: Global) -> Result<Command<'a>, AllocError> {
+    let workload = Arg::new(alloc, "workload")
+        .value_parser(WORKLOADS.as_slice())
+        .action(ArgAction::Set);
+    let size = Arg::new(alloc, "size").action(ArgAction::Set);
+    Command::new(alloc, "scp_bench").arg(workload)?.arg(size)
+}
+
+/// A size in digits.
+fn size_in(word: Option<&str>) -> Option<u32> {
+    match word {
+        Some(word) => word.parse::<u32>().ok(),
+        None => Some(SMALL),
+    }
+}
+
+/// A workload by its name, of a size in digits.
+fn one(name: &str, size: Option<&str>) -> Asked {
+    let workload = match name {
+        "decode" => Workload::Decode,
+        "records" => Workload::Records,
+        "script" => Workload::Script,
+        _ => return Asked::Usage,
+    };
+    match size_in(size) {
+        Some(size) => Asked::One(workload, size),
+        None => Asked::Usage,
+    }
+}
+
+fn parsed<'a>(alloc: Global, words: &'a [&'a str]) -> Result<Asked, Error> {
+    let matches = command(alloc)?.try_get_matches_from(words)?;
+    let asked = match matches.get_str("workload") {
+        Some(name) => one(name, matches.get_str("size")),
+        None => Asked::All,
+    };
+    Ok(asked)
+}
+
+/// Reads the words of a command line, the program's own name first.
+pub fn read_words<'a>(alloc: Global, words: &'a [&'a str]) -> Result<Asked, Fault> {
+    match parsed(alloc, words) {
+        Ok(asked) => Ok(asked),
+        Err(error) if error.kind() == ErrorKind::OutOfMemory => Err(Fault::NoMemory),
+        Err(_) => Ok(Asked::Usage),
+    }
+}

@@ -1,0 +1,25 @@
+ghost use Rattle.std.specs.Prelude.{◌+◌, ◌*◌, ◌/◌, ◌<◌, ◌≤◌};
+
+/// The message of a slot's record (RFC 4506): kind 6, the slot, and a value of 24 bytes that puts "1" at a key of 4
+/// bytes, which is the slot's own.
+pub fn record(slot: u64) -> [u8; 40] {
+    let [a, b, c, d, e, f, g, h] = slot.to_be_bytes();
+    [
+        0, 0, 0, 6, a, b, c, d, e, f, g, h, 0, 0, 0, 24, 0, 0, 0, 1, 0, 0, 0, 0, 0, 0, 0, 4, e, f,
+        g, h, 0, 0, 0, 1, b'1', 0, 0, 0,
+    ]
+}
+
+/// The slot of a record by its place in a stream, from 0 on: 1, 2, 3, .. in turn, but every second eight of them in
+/// descending order.
+pub fn slot_at(place: u32) -> u64
+    ensures after { place / 8 * 8 < result }
+    ensures near { result ≤ place / 8 * 8 + 8 }
+{
+    let place = place as u64;
+    if place % 16 < 8 {
+        place + 1
+    } else {
+        place / 8 * 8 + (8 - place % 8)
+    }
+}

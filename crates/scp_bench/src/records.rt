@@ -1,0 +1,84 @@
+use crate::messages::{record, slot_at};
+use scp_core::{Bytes, Config, Event, Node, Peers, Reply};
+use scp_types::{Fault, NodeId};
+use std::alloc::Global;
+
+/// A node hears at most so many records: its journal is then full, and its connection has carried as many messages as
+/// it may.
+const HEARD: u32 = 1_000_000;
+
+/// What the nodes have after their events.
+#[derive(Clone, Copy, Debug)]
+pub struct Ledgers {
+    pub nodes: u64,
+    pub entries: u64,
+    pub decisions: u64,
+    pub applied: u64,
+    pub keys: u64,
+}
+
+/// A node that has heard nothing, with one peer.
+fn new_node(alloc: Global) -> Result<Node, Fault> {
+    let mut peers = Vec::new(alloc);
+    peers.push(NodeId([2; 32]))?;
+    Node::new(
+        alloc,
+        Config {
+            me: NodeId([1; 32]),
+            peers: Peers::new(peers),
+        },
+    )
+}
+
+/// One event of the node.
+fn hear(node: &mut Node, event: Event) -> Result<(), Fault> {
+    match node.step(event) {
+        Reply::Accepted => Ok(()),
+        Reply::NoMemory => Err(Fault::NoMemory),
+        _ => Err(Fault::Failed),
+    }
+}
+
+/// A node that heard so many records on one connection.
+fn ledger(alloc: Global, records: u32) -> Result<Node, Fault> {
+    let mut node = new_node(alloc)?;
+    hear(&mut node, Event::Open(0))?;
+    for place in 0..records {
+        let bytes = Vec::from_slice(alloc, &record(slot_at(place)))?;
+        hear(&mut node, Event::Send(0, Bytes::new(bytes)))?;
+    }
+    Ok(node)
+}
+
+impl Ledgers {
+    /// Counts what a node has.
+    fn count(&mut self, node: &Node) {
+        let keys = match node.state() {
+            Some(state) => state.len(),
+            None => 0,
+        };
+        self.nodes = self.nodes.wrapping_add(1);
+        self.entries = self.entries.wrapping_add(node.journal().len() as u64);
+        self.decisions = self.decisions.wrapping_add(node.decisions().len() as u64);
+        self.applied = self.applied.wrapping_add(node.applied().len() as u64);
+        self.keys = self.keys.wrapping_add(keys as u64);
+    }
+}
+
+/// Brings so many records through nodes, each of which hears as many as it may, one node after the other.
+pub fn hear_records(alloc: Global, size: u32) -> Result<Ledgers, Fault> {
+    let mut ledgers = Ledgers {
+        nodes: 0,
+        entries: 0,
+        decisions: 0,
+        applied: 0,
+        keys: 0,
+    };
+    for _ in 0..size / HEARD {
+        ledgers.count(&ledger(alloc, HEARD)?);
+    }
+    if size % HEARD > 0 {
+        ledgers.count(&ledger(alloc, size % HEARD)?);
+    }
+    Ok(ledgers)
+}

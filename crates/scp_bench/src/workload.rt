@@ -1,0 +1,81 @@
+use crate::decode::{Decoded, decode_records};
+use crate::records::{Ledgers, hear_records};
+use crate::script::{Played, play_scripts};
+use scp_line::{ReportOut, write_text};
+use scp_types::Fault;
+use std::alloc::Global;
+
+/// The size of a workload where none is given.
+pub const SMALL: u32 = 1_000;
+
+/// What may be run.
+#[derive(Clone, Copy, Debug, PartialEq, Eq)]
+pub enum Workload {
+    /// Messages are decoded.
+    Decode,
+    /// Records go through a node.
+    Records,
+    /// Scripts are played.
+    Script,
+}
+
+/// Runs a workload, and tells what was done in one line.
+fn run(alloc: Global, workload: Workload, size: u32) -> Result<String, Fault> {
+    let mut text = String::new(alloc);
+    match workload {
+        Workload::Decode => {
+            let Decoded {
+                messages,
+                slots,
+                bytes,
+            } = decode_records(alloc, size)?;
+            writeln!(
+                &mut text,
+                "decode {size}: messages {messages} slots {slots} bytes {bytes}"
+            )?;
+        }
+        Workload::Records => {
+            let Ledgers {
+                nodes,
+                entries,
+                decisions,
+                applied,
+                keys,
+            } = hear_records(alloc, size)?;
+            writeln!(
+                &mut text,
+                "records {size}: nodes {nodes} entries {entries} decisions {decisions} applied {applied} keys {keys}"
+            )?;
+        }
+        Workload::Script => {
+            let Played {
+                scripts,
+                lines,
+                bytes,
+            } = play_scripts(alloc, size)?;
+            writeln!(
+                &mut text,
+                "script {size}: scripts {scripts} lines {lines} bytes {bytes}"
+            )?;
+        }
+    }
+    Ok(text)
+}
+
+/// Runs a workload of this size, and writes its line.
+pub fn write_one<W: ReportOut>(
+    alloc: Global,
+    workload: Workload,
+    size: u32,
+    writer: &mut W,
+) -> Result<(), Fault> {
+    let line = run(alloc, workload, size)?;
+    write_text(writer, line.as_str())
+}
+
+/// Runs every workload small, and writes a line of each.
+pub fn write_all<W: ReportOut>(alloc: Global, writer: &mut W) -> Result<(), Fault> {
+    write_one(alloc, Workload::Decode, SMALL, writer)?;
+    write_one(alloc, Workload::Records, SMALL, writer)?;
+    write_one(alloc, Workload::Script, SMALL, writer)
+}
