@@ -1,27 +1,38 @@
 //! The program: plays or checks a script from standard input, or shows a message, and answers by its exit status.
 #![tactic(auto)]
 
-use scp_line::{Process, serve};
+use scp_line::{Process, serve, write_text};
+use std::alloc::{AllocError, Global};
 use std::process::ExitCode;
 use std::{env, io};
 
-/// Out of memory, before anything was read.
-const WANT_OF_MEMORY: u8 = 3;
+/// Does what the words of the command line ask for, and answers the exit status.
+fn answer(rt: &HostRuntime, words: &[String]) -> Result<u8, AllocError> {
+    let alloc = rt.alloc();
+    let words: Vec<&str> = words.iter().map(|word| word.as_str()).collect(alloc)?;
+    let mut reader = Process::new(rt.reader());
+    let mut writer = Process::new(io::writer(rt));
+    Ok(serve(alloc, words.as_slice(), &mut reader, &mut writer))
+}
+
+/// Tells want of memory.
+fn short_of_memory(rt: &HostRuntime) -> ExitCode {
+    let mut writer = Process::new(io::writer(rt));
+    let _ = write_text(&mut writer, "fault 1\n");
+    ExitCode::from(3)
+}
+
+fn words_of(rt: &HostRuntime, alloc: Global) -> Option<Vec<String>> {
+    let words = env::args(rt).ok()?;
+    words.collect(alloc).ok()
+}
 
 fn main(rt: HostRuntime) -> ExitCode {
-    let alloc = rt.alloc();
-    let mut reader = Process::new(rt.reader());
-    let mut writer = Process::new(io::writer(&rt));
-    let words: Vec<String> = match env::args(&rt) {
-        Ok(words) => match words.collect(alloc) {
-            Ok(words) => words,
-            Err(_) => return ExitCode::from(WANT_OF_MEMORY),
-        },
-        Err(_) => return ExitCode::from(WANT_OF_MEMORY),
+    let Some(words) = words_of(&rt, rt.alloc()) else {
+        return short_of_memory(&rt);
     };
-    let words: Vec<&str> = match words.iter().map(|word| word.as_str()).collect(alloc) {
-        Ok(words) => words,
-        Err(_) => return ExitCode::from(WANT_OF_MEMORY),
-    };
-    ExitCode::from(serve(alloc, words.as_slice(), &mut reader, &mut writer))
+    match answer(&rt, words.as_slice()) {
+        Ok(status) => ExitCode::from(status),
+        Err(_) => short_of_memory(&rt),
+    }
 }
