@@ -5,7 +5,7 @@ use Rattle.std.specs.List.{remove}
 use Rattle.std.specs.List.{position_or_len}
 use Rattle.std.specs.List.Sorted.{IsPermutation}
 use Rattle.std.proofs.lemmas.Bool.{ltb-false, eqb-false, eqb-true}
-use Rattle.std.proofs.lemmas.List.{map_push}
+use Rattle.std.proofs.lemmas.List.{map_push, append-nil}
 use Rattle.std.proofs.lemmas.List.Elements.{All-from_get_or}
 use Rattle.std.proofs.lemmas.List.Edits.{length-remove}
 use Rattle.std.proofs.lemmas.List.Sorted.{IsPermutation-more, IsPermutation-refl}
@@ -37,11 +37,7 @@ pub record IsAdvancing (start now : ApplierView) : Type 0 where
   pub few : length now.applied + length now.waiting ≤ 1000000
 
 pub begins : (start : ApplierView) → IsApplied start → length start.applied + length start.waiting ≤ 1000000 → IsAdvancing start start
-begins start h few = record { is_applied = h; shared_out = IsPermutation-refl (start.applied ++ start.waiting); more = []; grows = sym (nil_right start.applied); few = few }
-  where
-    nil_right : {X : Type 0} (xs : List X) → xs ++ [] ≡ xs
-    nil_right [] = refl
-    nil_right (x ∷ xs) = ap (λ ys. x ∷ ys) (nil_right xs)
+begins start h few = record { is_applied = h; shared_out = IsPermutation-refl (start.applied ++ start.waiting); more = []; grows = sym (append-nil start.applied); few = few }
 
 slot_of_next : (n : ℕ) (d : Decision) → is_at (n + 1) d ≡ true → d.slot.0 ≡ n + 1
 slot_of_next n d e = eqb-true _ _ e

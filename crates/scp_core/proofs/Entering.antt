@@ -7,7 +7,7 @@ use Rattle.std.proofs.lemmas.List.Elements.{All-weaker, All-contains_itself, All
 use Rattle.std.proofs.lemmas.List.Folds.{list_any-append, list_any_none, list_any_at}
 use Rattle.std.proofs.lemmas.List.Quantifiers.{all_pairs_push}
 use Rattle.std.proofs.lemmas.List.Sorted.{list_any-IsPermutation, length_permutation, IsPermutation-append_left, IsPermutation-trans, All-permutation}
-use Rattle.std.proofs.lemmas.List.{take_at}
+use Rattle.std.proofs.lemmas.List.{take_at, append-nil}
 use Rattle.scp_types.specs.declared.names.ConnId.{ConnId}
 use Rattle.scp_types.specs.declared.names.Seq.{Seq}
 use Rattle.scp_types.specs.declared.names.Slot.{Slot}
@@ -77,19 +77,11 @@ verdict_is decisions v slot h =
 -- ---- one entry more
 
 decisions_in-push : (journal : List Fate) (fate : Fate) → decisions_in (journal ++ fate ∷ []) ≡ decisions_in journal ++ option_to_list (decision_by fate)
-decisions_in-push [] fate = nil_right (option_to_list (decision_by fate))
-  where
-    nil_right : {X : Type 0} (xs : List X) → xs ++ [] ≡ xs
-    nil_right [] = refl
-    nil_right (x ∷ xs) = ap (λ ys. x ∷ ys) (nil_right xs)
+decisions_in-push [] fate = append-nil (option_to_list (decision_by fate))
 decisions_in-push (f ∷ fs) fate = ap (λ ds. option_to_list (decision_by f) ++ ds) (decisions_in-push fs fate) ∙ sym (append_assoc (option_to_list (decision_by f)) (decisions_in fs) (option_to_list (decision_by fate)))
 
 HaveVerdicts-push : (before : List Decision) (journal : List Fate) (fate : Fate) → HaveVerdicts before journal → HasVerdict (before ++ decisions_in journal) fate → HaveVerdicts before (journal ++ fate ∷ [])
-HaveVerdicts-push before [] fate h v = (subst (λ (ds : List Decision). HasVerdict ds fate) (nil_right before) v, tt)
-  where
-    nil_right : {X : Type 0} (xs : List X) → xs ++ [] ≡ xs
-    nil_right [] = refl
-    nil_right (x ∷ xs) = ap (λ ys. x ∷ ys) (nil_right xs)
+HaveVerdicts-push before [] fate h v = (subst (λ (ds : List Decision). HasVerdict ds fate) (append-nil before) v, tt)
 HaveVerdicts-push before (f ∷ fs) fate h v =
     (h.0, HaveVerdicts-push (before ++ option_to_list (decision_by f)) fs fate h.1 (subst (λ (ds : List Decision). HasVerdict ds fate) (sym (append_assoc before (option_to_list (decision_by f)) (decisions_in fs))) v))
 
@@ -126,13 +118,9 @@ pub IsLedger-passed : (journal : List Fate) (decisions : List Decision) (v : App
     → IsLedger (journal ++ Taken conn seq (Record slot value) verdict ∷ []) decisions
 IsLedger-passed journal decisions v conn seq slot value verdict h running is ne =
     let fate = record_fate conn seq slot value verdict in
-    let none : decisions ++ option_to_list (decision_by fate) ≡ decisions = ap (λ (o : Option Decision). decisions ++ option_to_list o) (decides_none conn seq slot value verdict ne) ∙ nil_right decisions in
+    let none : decisions ++ option_to_list (decision_by fate) ≡ decisions = ap (λ (o : Option Decision). decisions ++ option_to_list o) (decides_none conn seq slot value verdict ne) ∙ append-nil decisions in
     let right : HasVerdict decisions fate = (length v.applied + 1, lowest_is decisions v running, is ∙ verdict_is decisions v slot.0 running) in
     subst (λ (ds : List Decision). IsLedger (journal ++ fate ∷ []) ds) none (IsLedger-push journal decisions fate h right (subst OnePerSlot (sym none) h.one))
-  where
-    nil_right : {X : Type 0} (xs : List X) → xs ++ [] ≡ xs
-    nil_right [] = refl
-    nil_right (x ∷ xs) = ap (λ ys. x ∷ ys) (nil_right xs)
 
 undecided_from : (lowest slot : ℕ) (b : Bool) → verdict_at lowest b slot ≡ Decided → b ≡ false
 undecided_from lowest slot true e = absurd cc
@@ -174,12 +162,8 @@ decided journal decisions v conn seq (Record slot value) verdict d h running is 
 
 pub closed : (journal : List Fate) (decisions : List Decision) (conn : ConnId) (cause : Cause) → IsLedger journal decisions → IsLedger (journal ++ Closed conn cause ∷ []) decisions
 closed journal decisions conn cause h =
-    let none : decisions ++ [] ≡ decisions = nil_right decisions in
+    let none : decisions ++ [] ≡ decisions = append-nil decisions in
     subst (λ (ds : List Decision). IsLedger (journal ++ Closed conn cause ∷ []) ds) none (IsLedger-push journal decisions (Closed conn cause) h tt (subst OnePerSlot (sym none) h.one))
-  where
-    nil_right : {X : Type 0} (xs : List X) → xs ++ [] ≡ xs
-    nil_right [] = refl
-    nil_right (x ∷ xs) = ap (λ ys. x ∷ ys) (nil_right xs)
 
 -- the applied decisions are in order, each with its decision
 pub in_order_of : (decisions : List Decision) (v : ApplierView) → IsRunning decisions v → IsInOrder decisions v.applied

@@ -2,6 +2,7 @@
 use Rattle.std.proofs.Common.{◌≡◌, ℕ, ◌+◌, ◌<◌, ◌≤◌, Bool, true, false, cond, List, [], ◌∷◌, ◌++◌, refl, sym, ◌∙◌, ap, arith, length-append, nat_eq, eq-eqb, All}
 use Rattle.std.proofs.lemmas.Cmp.{nat_list_eq_equiv}
 use Rattle.std.proofs.lemmas.List.Elements.{filter-append, All-head, All-tail, All-push, All-weaker}
+use Rattle.std.proofs.lemmas.List.{append-nil}
 use Rattle.std.proofs.lemmas.Bool.Decides.{nat_tests}
 use Rattle.scp_types.specs.declared.names.ConnId.{ConnId}
 use Rattle.scp_types.specs.declared.names.NodeId.{NodeId}
@@ -16,10 +17,6 @@ use Rattle.scp_core.specs.Journal.{same_conn, of_conn, conn_of, messages_in, cau
 use Rattle.scp_core.specs.Node.{any_cause}
 use Rattle.scp_core.specs.Parts.{IsLinkEnd}
 
-pub append_nil : {X : Type 0} (xs : List X) → xs ++ [] ≡ xs
-append_nil [] = refl
-append_nil (x ∷ xs) = ap (λ ys. x ∷ ys) (append_nil xs)
-
 -- ---- connections
 
 pub same_conn-at : (peer me : NodeId) (a b : ℕ) → same_conn (conn_at peer me a) (conn_at peer me b) ≡ nat_eq a b
@@ -31,7 +28,7 @@ of_conn-mine c journal fate same =
 
 pub of_conn-other : (c : ConnId) (journal : List Fate) (fate : Fate) → same_conn (conn_of fate) c ≡ false → of_conn c (journal ++ fate ∷ []) ≡ of_conn c journal
 of_conn-other c journal fate other =
-    filter-append (λ f. same_conn (conn_of f) c) journal (fate ∷ []) ∙ ap (λ b. of_conn c journal ++ cond b (fate ∷ []) []) other ∙ append_nil (of_conn c journal)
+    filter-append (λ f. same_conn (conn_of f) c) journal (fate ∷ []) ∙ ap (λ b. of_conn c journal ++ cond b (fate ∷ []) []) other ∙ append-nil (of_conn c journal)
 
 not_later : (a life later : ℕ) → a ≤ life → life < later → nat_eq a later ≡ false
 not_later a life later le lt = grind (arith, nat_tests)

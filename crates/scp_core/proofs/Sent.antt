@@ -2,7 +2,7 @@
 use Rattle.std.proofs.Common.{◌≡◌, ℕ, ◌+◌, ◌<◌, ◌≤◌, Bool, true, false, List, [], ◌∷◌, ◌++◌, length, take, refl, sym, ◌∙◌, ap, subst, arith, length-append, nat_eq, nat_lt, zero, suc, inl, inr, ◌⊎◌}
 use Rattle.std.specs.Prelude.{Option, Some, None, slice_get, option_to_list, is_some, if◌then◌else◌}
 use Rattle.std.proofs.lemmas.Bool.{ltb-true, ltb-false, lt-ltb, le-ltb, eqb-true, eqb-false}
-use Rattle.std.proofs.lemmas.List.{take-append-le, take_all}
+use Rattle.std.proofs.lemmas.List.{append-nil, take-append-le, take_all}
 use Rattle.scp_types.specs.declared.names.ConnId.{ConnId}
 use Rattle.scp_wire.specs.declared.message.Message.{Message}
 use Rattle.scp_wire.specs.Reading.{reading_of}
@@ -15,7 +15,7 @@ use Rattle.scp_core.specs.Journal.{messages_in, causes_in, Follows}
 use Rattle.scp_core.specs.History.{readable, readable_from, all_readable, carried, end_of}
 use Rattle.scp_core.specs.Node.{any_cause, fate_of}
 use Rattle.scp_core.specs.Theorem.{Accounts}
-use Rattle.scp_core.proofs.Lines.{append_nil, messages_in-append, causes_in-append}
+use Rattle.scp_core.proofs.Lines.{messages_in-append, causes_in-append}
 
 from_nil : (r : Option Message) → readable_from r [] ≡ option_to_list r
 from_nil None = refl
@@ -80,7 +80,7 @@ Accounts-closed sent more closed still c cause line same before after h =
     let none : causes_in line ≡ [] = h.cause ∙ ap (λ e. option_to_list e) before in
     record {
       follows = rw same (Follows-closed 0 (carried sent) c cause line none h.follows);
-      whole = messages_in-append line (Closed c cause ∷ []) ∙ append_nil (messages_in line) ∙ h.whole ∙ sym same;
+      whole = messages_in-append line (Closed c cause ∷ []) ∙ append-nil (messages_in line) ∙ h.whole ∙ sym same;
       cause = rw (causes_in-append line (Closed c cause ∷ []), none, after) refl;
     }
 
@@ -147,17 +147,17 @@ Accounts-read sent bytes c v line true all r fe ae re h =
     let none : fates_of c bytes v line ≡ [] = rw ended refl in
     let full : 1000000 < length (readable sent) = ltb-true 1000000 (length (readable sent)) fe in
     let over : nat_lt 1000000 (length (readable (sent ++ bytes ∷ []))) ≡ true = rw (readable-push sent bytes) (lt-ltb _ _ (omega (arith, full, length-append (readable sent) (if all_readable sent then option_to_list (reading_of bytes) else [])))) in
-    rw (none, append_nil line) (Accounts-same sent (sent ++ bytes ∷ []) false false line (rw (readable-push sent bytes) (same_front (readable sent) _ (omega (arith, full)))) (ends_far (sent ++ bytes ∷ []) false over ∙ sym (ends_far sent false fe)) h)
+    rw (none, append-nil line) (Accounts-same sent (sent ++ bytes ∷ []) false false line (rw (readable-push sent bytes) (same_front (readable sent) _ (omega (arith, full)))) (ends_far (sent ++ bytes ∷ []) false over ∙ sym (ends_far sent false fe)) h)
 Accounts-read sent bytes c v line false false r fe ae re h =
     let ended : causes_in line ≡ Malformed ∷ [] = h.cause ∙ ap (λ e. option_to_list e) (ends_bad sent false fe ae) in
     let none : fates_of c bytes v line ≡ [] = rw ended refl in
-    let more : readable (sent ++ bytes ∷ []) ≡ readable sent = readable-push sent bytes ∙ rw ae (append_nil (readable sent)) in
+    let more : readable (sent ++ bytes ∷ []) ≡ readable sent = readable-push sent bytes ∙ rw ae (append-nil (readable sent)) in
     let bad : all_readable (sent ++ bytes ∷ []) ≡ false = rw (all_readable-push sent bytes, ae) refl in
-    rw (none, append_nil line) (Accounts-same sent (sent ++ bytes ∷ []) false false line (ap (λ ms. take 1000000 ms) more) (ends_bad (sent ++ bytes ∷ []) false (rw more fe) bad ∙ sym (ends_bad sent false fe ae)) h)
+    rw (none, append-nil line) (Accounts-same sent (sent ++ bytes ∷ []) false false line (ap (λ ms. take 1000000 ms) more) (ends_bad (sent ++ bytes ∷ []) false (rw more fe) bad ∙ sym (ends_bad sent false fe ae)) h)
 Accounts-read sent bytes c v line false true None fe ae re h =
     let ended : causes_in line ≡ [] = h.cause ∙ ap (λ e. option_to_list e) (ends_not sent fe ae) in
     let one : fates_of c bytes v line ≡ Closed c Malformed ∷ [] = rw (ended, re) refl in
-    let more : readable (sent ++ bytes ∷ []) ≡ readable sent = readable-push sent bytes ∙ rw (ae, re) (append_nil (readable sent)) in
+    let more : readable (sent ++ bytes ∷ []) ≡ readable sent = readable-push sent bytes ∙ rw (ae, re) (append-nil (readable sent)) in
     let bad : all_readable (sent ++ bytes ∷ []) ≡ false = rw (all_readable-push sent bytes, ae, re) refl in
     rw one (Accounts-closed sent (sent ++ bytes ∷ []) false false c Malformed line (ap (λ ms. take 1000000 ms) more) (ends_not sent fe ae) (ends_bad (sent ++ bytes ∷ []) false (rw more fe) bad) h)
 Accounts-read sent bytes c v line false true (Some m) fe ae re h =
@@ -174,10 +174,10 @@ Accounts-receives sent bytes c v line h = Accounts-read sent bytes c v line _ _ 
 Accounts-shut : (sent : List (List ℕ)) (c : ConnId) (line : List Fate) (far all : Bool) → nat_lt 1000000 (length (readable sent)) ≡ far → all_readable sent ≡ all → Accounts sent false line → Accounts sent true (line ++ (if any_cause (causes_in line) then [] else Closed c Link ∷ []))
 Accounts-shut sent c line true all fe ae h =
     let ended : causes_in line ≡ Spent ∷ [] = h.cause ∙ ap (λ e. option_to_list e) (ends_far sent false fe) in
-    rw (ended, append_nil line) (Accounts-same sent sent false true line refl (ends_far sent true fe ∙ sym (ends_far sent false fe)) h)
+    rw (ended, append-nil line) (Accounts-same sent sent false true line refl (ends_far sent true fe ∙ sym (ends_far sent false fe)) h)
 Accounts-shut sent c line false false fe ae h =
     let ended : causes_in line ≡ Malformed ∷ [] = h.cause ∙ ap (λ e. option_to_list e) (ends_bad sent false fe ae) in
-    rw (ended, append_nil line) (Accounts-same sent sent false true line refl (ends_bad sent true fe ae ∙ sym (ends_bad sent false fe ae)) h)
+    rw (ended, append-nil line) (Accounts-same sent sent false true line refl (ends_bad sent true fe ae ∙ sym (ends_bad sent false fe ae)) h)
 Accounts-shut sent c line false true fe ae h =
     let ended : causes_in line ≡ [] = h.cause ∙ ap (λ e. option_to_list e) (ends_not sent fe ae) in
     let ends : end_of sent true ≡ Some Link = rw (fe, ae) refl in

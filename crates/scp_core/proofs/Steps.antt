@@ -1,7 +1,7 @@
 -- One event and its reply more.
 use Rattle.std.proofs.Common.{◌≡◌, ◌≢◌, ℕ, ◌+◌, ◌<◌, Bool, true, false, List, [], ◌∷◌, ◌++◌, length, take, get_or, refl, sym, ◌∙◌, ap, subst, arith, eq-eqb, nat_eq}
 use Rattle.std.specs.Prelude.{zip, if◌then◌else◌, fold, ◌||◌, Option, Some, None, option_to_list, is_some, IsSome}
-use Rattle.std.proofs.lemmas.List.{take_more, length-take-le}
+use Rattle.std.proofs.lemmas.List.{append-nil, take_more, length-take-le}
 use Rattle.std.proofs.lemmas.Bool.Decides.{nat_tests}
 use Rattle.std.proofs.lemmas.Bool.{eqb-true}
 use Rattle.scp_types.specs.declared.names.ConnId.{ConnId}
@@ -22,7 +22,7 @@ use Rattle.scp_core.specs.History.{Exchange, Heard, nothing_heard, heard, hears,
 use Rattle.scp_core.specs.Node.{NodeView, Step, Keeps, Receives, Closes, Fails, conn_now, line_of, has_ended, any_cause, fate_of}
 use Rattle.scp_core.specs.Theorem.{Accounts, IsLive, IsReply, AreReplies, Knows, Stands, LedgerTheorem}
 use Rattle.scp_core.proofs.Applying.{fold-push}
-use Rattle.scp_core.proofs.Lines.{append_nil, same_conn-at, of_conn-mine, of_conn-other}
+use Rattle.scp_core.proofs.Lines.{same_conn-at, of_conn-mine, of_conn-other}
 use Rattle.scp_core.proofs.Sent.{fates_of, Accounts-receives, Accounts-closes}
 
 fold-keeps : {A B : Type 0} (P : B → Type 0) (f : B → A → B) → ((b : B) (x : A) → P b → P (f b x)) → (a : B) (xs : List A) → P a → P (fold f a xs)
@@ -146,11 +146,11 @@ conn_of-fate_of c n (Some m) v = by_test (nat_eq n 1000000)
     by_test false = refl
 
 of_conn-mine_if : (c : ConnId) (journal : List Fate) (b : Bool) (fate : Fate) → same_conn (conn_of fate) c ≡ true → of_conn c (journal ++ (if b then [] else fate ∷ [])) ≡ of_conn c journal ++ (if b then [] else fate ∷ [])
-of_conn-mine_if c journal true fate same = ap (of_conn c) (append_nil journal) ∙ sym (append_nil (of_conn c journal))
+of_conn-mine_if c journal true fate same = ap (of_conn c) (append-nil journal) ∙ sym (append-nil (of_conn c journal))
 of_conn-mine_if c journal false fate same = of_conn-mine c journal fate same
 
 of_conn-other_if : (c : ConnId) (journal : List Fate) (b : Bool) (fate : Fate) → same_conn (conn_of fate) c ≡ false → of_conn c (journal ++ (if b then [] else fate ∷ [])) ≡ of_conn c journal
-of_conn-other_if c journal true fate other = ap (of_conn c) (append_nil journal)
+of_conn-other_if c journal true fate other = ap (of_conn c) (append-nil journal)
 of_conn-other_if c journal false fate other = of_conn-other c journal fate other
 
 -- what a Close adds to its connection's line
@@ -252,7 +252,7 @@ pub record Grows (old new : NodeView) : Type 0 where
   pub journal : new.journal ≡ old.journal ++ more
 
 grows_not : (old new : NodeView) → Keeps old new → Grows old new
-grows_not old new k = record { me = k.me; peer = k.peer; more = []; journal = k.journal ∙ sym (append_nil old.journal) }
+grows_not old new k = record { me = k.me; peer = k.peer; more = []; journal = k.journal ∙ sym (append-nil old.journal) }
 
 pub Grows-step : (old new : NodeView) (event : Event) (reply : Reply) → Step old event reply new → Grows old new
 Grows-step old new event NoLink s = grows_not old new (step_keeps old new s.2)
@@ -262,7 +262,7 @@ Grows-step old new event NotOpen s = grows_not old new (step_keeps old new s.sam
 Grows-step old new event Failed s = grows_not old new (step_keeps old new s.1)
 Grows-step old new event JournalFull s = grows_not old new s.0.kept
 Grows-step old new event NoMemory s = grows_not old new s.0.kept
-Grows-step old new (Open link) Accepted s = record { me = s.1.me; peer = s.1.peer; more = []; journal = s.1.journal ∙ sym (append_nil old.journal) }
+Grows-step old new (Open link) Accepted s = record { me = s.1.me; peer = s.1.peer; more = []; journal = s.1.journal ∙ sym (append-nil old.journal) }
 Grows-step old new (Send link bytes) Accepted s = record { me = s.1.adds.me; peer = s.1.adds.peer; more = if has_ended old then [] else fate_of (conn_now old) (length (messages_in (line_of old))) (reading_of bytes) s.1.verdict ∷ []; journal = s.1.adds.journal }
 Grows-step old new (Close link) Accepted s = record { me = s.1.me; peer = s.1.peer; more = if has_ended old then [] else Closed (conn_now old) Link ∷ []; journal = s.1.journal }
 

@@ -1,7 +1,12 @@
-//! One node of a ledger pipeline: events in, replies, a journal, decisions, applied ledgers and a state out.
+//! One node of a ledger pipeline: events in; replies, a journal, decisions, applied slots and a state out.
 //!
-//! Promised by contracts: for every list of events the ledger theorem (`LedgerTheorem` in `specs/`) holds of the node that
-//! `run` leaves, and `Node::step` keeps it for one event more.
+//! What it promises, for every list of events (`LedgerTheorem` in `specs/Theorem.antt`, by `run` and `Node::step`):
+//! - each connection's carried messages have one fate each, from the first, in the order sent, none after its close, and
+//!   none is without a fate; each close has its cause;
+//! - at most one decision per slot, each named by a taken record of just that slot and value; every verdict is the first
+//!   that fits;
+//! - slots 1 to n are applied once each, in order, each with its decision, and the state is the fold of their values;
+//! - every reply is that of the table; a failed node keeps its journal, decisions and applied slots.
 #![tactic(auto)]
 
 mod applier;

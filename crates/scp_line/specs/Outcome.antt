@@ -63,3 +63,16 @@ abbrev pub IsReadingFault : Fault → Type 0
 IsReadingFault (Malformed place) = Unit {0}
 IsReadingFault TooLong = Unit {0}
 IsReadingFault fault = ⊥
+
+-- why a script isn't played: it can't be read, a line is bad, or a node can't do what a line says
+abbrev pub IsPlayFault : Fault → Type 0
+IsPlayFault NoMemory = Unit {0}
+IsPlayFault TooLong = Unit {0}
+IsPlayFault Device = Unit {0}
+IsPlayFault (BadScript line) = Unit {0}
+IsPlayFault NotOpen = Unit {0}
+IsPlayFault AlreadyOpen = Unit {0}
+IsPlayFault LivesSpent = Unit {0}
+IsPlayFault BadConfig = Unit {0}
+IsPlayFault Failed = Unit {0}
+IsPlayFault fault = ⊥

@@ -4,7 +4,7 @@ ghost use Rattle.scp_wire.specs.Reading.{reading_of};
 ghost use Rattle.scp_wire.specs.Message.{message_reading};
 ghost use Rattle.scp_line.specs.Device.{Gains, Fails, IsAll};
 ghost use Rattle.scp_line.specs.Script.{IsScript, IsBadLine};
-ghost use Rattle.scp_line.specs.Outcome.{IsCheckFault, IsReadingFault};
+ghost use Rattle.scp_line.specs.Outcome.{IsCheckFault, IsPlayFault, IsReadingFault};
 ghost use Rattle.scp_line.specs.Play.{AreReports, IsShown, IsUnread, IsNamed, message_line};
 
 use crate::device::{ReportOut, SCRIPT_LIMIT, ScriptIn, read_script, write_text};
@@ -45,6 +45,7 @@ fn played(alloc: Global, text: &[u8]) -> Result<String, PlayFault>
     ensures short { IfErr result (λ e. e.fault ≢ Fault.TooLong) }
     ensures line { IfErr result (λ e. (line : ℕ) → e.fault ≡ BadScript line → IsBadLine text.now line) }
     ensures named { IfErr result (λ e. IsNamed e.node e.fault) }
+    ensures cause { IfErr result (λ e. IsPlayFault e.fault) }
 {
     let commands = parse(alloc, text)?;
     let mut nodes = Nodes::new(alloc)?;
@@ -74,6 +75,8 @@ pub fn play<R: ScriptIn, W: ReportOut>(
     ensures too_long { IfErr result (λ e. e.fault ≡ Fault.TooLong → IfSome (R.left reader.old) (λ all. SCRIPT_LIMIT < length all)) }
     // BadScript names the first bad line.
     ensures line { IfErr result (λ e. (line : ℕ) → e.fault ≡ BadScript line → IfSome (R.left reader.old) (λ all. IsBadLine all line)) }
+    // No other refusal is answered.
+    ensures cause { IfErr result (λ e. IsPlayFault e.fault) }
     // A node is named where it failed, and only there.
     ensures named { IfErr result (λ e. IsNamed e.node e.fault) }
     // After any other refusal than Device nothing was written.

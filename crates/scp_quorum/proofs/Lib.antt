@@ -1,0 +1,12 @@
+pub mod Rows
+pub mod Missing
+pub mod Blocking
+pub mod Pass
+pub mod Known
+pub mod Ranges
+pub mod Alone
+pub mod Inner
+pub mod Ascending
+pub mod Whole
+pub mod Decided
+pub mod Levels

@@ -1,0 +1,29 @@
+-- The XDR of a quorum set (RFC 4506; the limits are this project's profile).
+use Rattle.std.specs.Prelude.{ℕ, List, map}
+use Rattle.std.proofs.Common.{inl}
+use Rattle.scp_types.specs.declared.names.NodeId.{NodeId}
+use Rattle.scp_xdr.specs.Tree.{tree_map}
+use Rattle.scp_xdr.specs.Kind.{Kind, uint32, array, both, tree, Values, spelling}
+use Rattle.scp_xdr.specs.Shared.{node_kind}
+use Rattle.scp_quorum.specs.QuorumTree.{Level, QuorumTree}
+
+-- a threshold and at most 1,000 validators
+abbrev pub level_kind : Kind
+level_kind = both uint32 (array 1000 node_kind)
+
+-- at most 1,000 inner sets of each set, and at most 4 levels of them
+abbrev pub set_kind : Kind
+set_kind = tree 4 1000 level_kind
+
+abbrev pub node_value : NodeId → Values node_kind
+node_value v = inl v.0
+
+abbrev pub level_value : Level → Values level_kind
+level_value l = (l.threshold, map node_value l.validators)
+
+abbrev pub set_value : QuorumTree → Values set_kind
+set_value q = tree_map level_value q
+
+-- the one spelling of a quorum set
+abbrev pub set_spelling : QuorumTree → List ℕ
+set_spelling q = spelling set_kind (set_value q)

@@ -1,0 +1,22 @@
+//! Quorum sets: their spelling, their sanity, which nodes satisfy and block them, and quorums.
+//!
+//! What it promises:
+//! - a quorum set is read and written as its XDR says (RFC 4506), at most 4 levels of inner sets deep,
+//!   and is named by the SHA-256 (FIPS 180-4) of its spelling;
+//! - sanity is decided exactly, without memory, and a set that is refused is handed back;
+//! - nodes satisfy a set where they satisfy as many entries as its threshold says, and block it where
+//!   no set of nodes disjoint from them satisfies it;
+//! - the greatest quorum at a node inside given nodes is the union of all quorums there, and none is
+//!   answered exactly where there is none.
+#![tactic(auto)]
+
+mod quorum;
+mod quorum_set;
+mod sane_set;
+
+pub use quorum::greatest_quorum;
+pub use quorum_set::{QuorumSet, blocked, satisfied};
+pub use sane_set::SaneSet;
+
+#[cfg(test)]
+mod tests;

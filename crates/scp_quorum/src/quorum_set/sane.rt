@@ -1,0 +1,116 @@
+//! Which quorum sets are sane.
+ghost use Rattle.std.specs.Prelude.{◌≡◌, ◌↔◌, ◌+◌, ◌≤◌, ◌<◌, ◌++◌, IsTrue, IfSome, IfNone, length, take};
+ghost use Rattle.std.specs.List.{IsDistinct};
+ghost use Rattle.std.specs.Ordering.{eq_by_cmp};
+ghost use Rattle.scp_quorum.specs.NodeSet.{node_cmp};
+ghost use Rattle.std.specs.List.Sorted.{IsStrictlySortedBy};
+ghost use Rattle.scp_quorum.specs.Sane.{IsSane, IsInRange, all_nodes};
+
+use super::QuorumSet;
+use scp_types::NodeId;
+use scp_xdr::Xdr;
+
+/// How many nodes a sane quorum set may have in the whole (this project's profile).
+const MAX_NODES: usize = 1_000;
+
+/// How many bytes the spelling of a sane quorum set may have, so that a message of 65,536 bytes can
+/// hold it behind its discriminant (this project's profile).
+const MAX_BYTES: usize = 65_532;
+
+impl QuorumSet {
+    /// Whether the set is sane (this project's profile): at every level the threshold is from 1 to the
+    /// number of entries, no node stands twice in the whole, there are at most 1,000 nodes in the
+    /// whole, at most 4 levels of inner sets, and at most 65,532 bytes of XDR. Takes no memory beside
+    /// the stack; n nodes cost n log n comparisons.
+    pub fn is_sane(&self) -> bool
+        ensures { IsTrue result ↔ IsSane self.now }
+    {
+        if !self.fits() {
+            return false;
+        }
+        if !self.is_in_range() {
+            return false;
+        }
+        if !self.has_few_distinct_nodes() {
+            return false;
+        }
+        self.spend(MAX_BYTES).is_some()
+    }
+
+    /// Whether each threshold is from 1 to the number of entries.
+    fn is_in_range(&self) -> bool
+        ensures { IsTrue result ↔ IsInRange self.now }
+    {
+        let entries = self.validators.len() + self.inner_sets.len();
+        if self.threshold == 0 || self.threshold as usize > entries {
+            return false;
+        }
+        for inner in &self.inner_sets {
+            if !inner.is_in_range() {
+                return false;
+            }
+        }
+        true
+    }
+
+    fn has_few_distinct_nodes(&self) -> bool
+        ensures { IsTrue result ↔ ((length (all_nodes self.now) ≤ 1000) × IsDistinct (eq_by_cmp node_cmp) (all_nodes self.now)) }
+    {
+        let mut nodes = [NodeId([0; 32]); MAX_NODES];
+        match self.gather(&mut nodes, 0) {
+            Some(len) => are_distinct(&mut nodes[..len]),
+            None => false,
+        }
+    }
+
+    /// Puts all nodes behind the first `len`, where they have room; how many there are then.
+    fn gather(&self, nodes: &mut [NodeId], len: usize) -> Option<usize>
+        requires { len ≤ length nodes.old }
+        ensures count { IfSome result (λ n. n ≡ len + length (all_nodes self.now)) }
+        ensures room { IfSome result (λ n. n ≤ length nodes.new) }
+        ensures front { IfSome result (λ n. take n nodes.new ≡ take len nodes.old ++ all_nodes self.now) }
+        ensures full { IfNone result (length nodes.old < len + length (all_nodes self.now)) }
+    {
+        let mut count = put(nodes, len, &self.validators)?;
+        for inner in &self.inner_sets {
+            count = inner.gather(nodes, count)?;
+        }
+        Some(count)
+    }
+}
+
+/// Puts more nodes behind the first `len`, where they have room; how many there are then.
+fn put(nodes: &mut [NodeId], len: usize, more: &[NodeId]) -> Option<usize>
+    requires { len ≤ length nodes.old }
+    ensures count { IfSome result (λ n. n ≡ len + length more.now) }
+    ensures room { IfSome result (λ n. n ≤ length nodes.new) }
+    ensures front { IfSome result (λ n. take n nodes.new ≡ take len nodes.old ++ more.now) }
+    ensures full { IfNone result (length nodes.old < len + length more.now) }
+{
+    if more.len() > nodes.len() - len {
+        return None;
+    }
+    let end = len + more.len();
+    nodes[len..end].copy_from_slice(more);
+    Some(end)
+}
+
+/// Whether no node stands twice. Sorts the nodes.
+fn are_distinct(nodes: &mut [NodeId]) -> bool
+    ensures { IsTrue result ↔ IsDistinct (eq_by_cmp node_cmp) nodes.old }
+{
+    nodes.sort_unstable();
+    is_ascending(nodes)
+}
+
+/// Whether each node is below the next.
+fn is_ascending(nodes: &[NodeId]) -> bool
+    ensures { IsTrue result ↔ IsStrictlySortedBy node_cmp nodes.now }
+{
+    for i in 1..nodes.len() {
+        if nodes[i - 1].cmp(&nodes[i]).is_ge() {
+            return false;
+        }
+    }
+    true
+}
