@@ -1,7 +1,7 @@
 -- What keeps the limits of the kind has no more levels than it allows.
 use Rattle.std.proofs.Common.{◌≡◌, ℕ, zero, suc, ◌+◌, ◌-◌, ◌≤◌, arith, subst}
 use Rattle.scp_xdr.specs.Tree.{Trees, no_trees, tree_then, row_len, row_map}
-use Rattle.scp_xdr.specs.Kind.{Fits, RowFits, limit_at}
+use Rattle.scp_xdr.specs.Kind.{Fits, RowFits}
 use Rattle.scp_quorum.specs.QuorumTree.{Level, QuorumTree}
 use Rattle.scp_quorum.specs.QuorumKind.{level_kind, set_kind, level_value, set_value}
 use Rattle.scp_quorum.specs.Sane.{levels}

@@ -1,7 +1,12 @@
 pub mod Rows
+pub mod Smaller
 pub mod Missing
 pub mod Blocking
 pub mod Pass
+pub mod Members
+pub mod Groups
+pub mod Joining
+pub mod Same
 pub mod Known
 pub mod Ranges
 pub mod Alone

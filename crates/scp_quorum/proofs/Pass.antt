@@ -35,14 +35,14 @@ is_eq-true Less e = cc
 is_eq-true Equal e = refl
 is_eq-true Greater e = cc
 
-same_at : (v w : NodeId) → is_at (node_cmp v) w ≡ true → v ≡ w
+pub same_at : (v w : NodeId) → is_at (node_cmp v) w ≡ true → v ≡ w
 same_at v w e = same_node v w (is_eq-true (node_cmp v w) e)
 
-decided : (b : Bool) → (b ≡ true) ⊎ (b ≡ false)
+pub decided : (b : Bool) → (b ≡ true) ⊎ (b ≡ false)
 decided true = inl refl
 decided false = inr refl
 
-some_is_there : {A B : Type 0} (f : A → B) (o : Option A) → IsSome (option_map f o) → o ≡ None → ⊥
+pub some_is_there : {A B : Type 0} (f : A → B) (o : Option A) → IsSome (option_map f o) → o ≡ None → ⊥
 some_is_there {B = B} f None h e = let k : IsSome {T = B} None = h in cc
 some_is_there f (Some x) h e = cc
 

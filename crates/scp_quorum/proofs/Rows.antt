@@ -1,5 +1,5 @@
 -- A row of quorum sets as a list.
-use Rattle.std.proofs.Common.{◌≡◌, ℕ, ◌+◌, Bool, List, [], ◌∷◌, ◌++◌, nat_le, count_by, refl, ap}
+use Rattle.std.proofs.Common.{◌≡◌, ◌+◌, Bool, List, [], ◌∷◌, ◌++◌, nat_le, count_by, refl, ap}
 use Rattle.std.specs.List.{flat_map, AllByRecursion}
 use Rattle.std.proofs.lemmas.List.Recursion.{is_count_by}
 use Rattle.scp_types.specs.declared.names.NodeId.{NodeId}

@@ -1,18 +1,17 @@
 -- A quorum set's limits, spelling and length, from those of its parts.
-use Rattle.std.proofs.Common.{◌≡◌, ℕ, zero, suc, ◌+◌, ◌-◌, ◌<◌, ◌≤◌, ◌^◌, List, [], ◌∷◌, ◌++◌, All, length, arith, refl, sym, ◌∙◌, ap, subst, append_assoc}
+use Rattle.std.proofs.Common.{◌≡◌, ℕ, zero, suc, ◌+◌, ◌-◌, ◌<◌, ◌≤◌, ◌^◌, List, [], ◌∷◌, ◌++◌, length, arith, sym, ◌∙◌, ap, subst, append_assoc}
 use Rattle.std.specs.Prelude.{map}
 use Rattle.std.specs.List.{flat_map, sum_by, AllByRecursion}
 use Rattle.std.proofs.lemmas.List.{length-map}
 use Rattle.std.proofs.lemmas.List.Folds.{flat_map-map}
 use Rattle.scp_types.specs.declared.names.NodeId.{NodeId}
-use Rattle.scp_xdr.specs.Tree.{Trees, Tree, row_len, row_map, in_a_row, tree_map, tree_of}
-use Rattle.scp_xdr.specs.Kind.{Kind, array, Values, Fits, TreeFits, RowFits, limit_at, word, spelling, row_spelling, tree_spelling}
+use Rattle.scp_xdr.specs.Tree.{Trees, Tree, row_len, row_map, in_a_row, tree_of}
+use Rattle.scp_xdr.specs.Kind.{array, Values, Fits, TreeFits, RowFits, limit_at, word, spelling, row_spelling, tree_spelling}
 use Rattle.scp_xdr.specs.Length.{spelled_len, row_size, tree_size}
 use Rattle.scp_xdr.specs.Shared.{node_kind}
 use Rattle.scp_xdr.proofs.Rows.{row_len-in_a_row, row_map-in_a_row, row_spelling-in_a_row, row_size-in_a_row, row_fits, fits_row}
-use Rattle.scp_xdr.proofs.Each.{each_fits, fits_each}
 use Rattle.scp_xdr.proofs.Spending.{sum_by-map}
-use Rattle.scp_quorum.specs.QuorumTree.{Level, QuorumTree}
+use Rattle.scp_quorum.specs.QuorumTree.{QuorumTree}
 use Rattle.scp_quorum.specs.QuorumKind.{level_kind, set_kind, node_value, level_value, set_value, set_spelling}
 
 abbrev pub made : ℕ → List NodeId → List QuorumTree → QuorumTree

@@ -4,3 +4,4 @@ pub mod NodeSet
 pub mod Satisfies
 pub mod Sane
 pub mod Quorum
+pub mod Groups

@@ -5,6 +5,7 @@ use Rattle.scp_types.specs.declared.names.NodeId.{NodeId}
 use Rattle.scp_xdr.specs.Tree.{tree_map}
 use Rattle.scp_xdr.specs.Kind.{Kind, uint32, array, both, tree, Values, spelling}
 use Rattle.scp_xdr.specs.Shared.{node_kind}
+use Rattle.sha2.specs.Sha256.{sha256}
 use Rattle.scp_quorum.specs.QuorumTree.{Level, QuorumTree}
 
 -- a threshold and at most 1,000 validators
@@ -27,3 +28,7 @@ set_value q = tree_map level_value q
 -- the one spelling of a quorum set
 abbrev pub set_spelling : QuorumTree → List ℕ
 set_spelling q = spelling set_kind (set_value q)
+
+-- the name of a quorum set: the SHA-256 (FIPS 180-4) of its spelling
+abbrev pub set_hash : QuorumTree → List ℕ
+set_hash q = sha256 (set_spelling q)

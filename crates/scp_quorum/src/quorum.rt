@@ -1,23 +1,32 @@
 //! The greatest quorum inside given nodes.
-ghost use Rattle.std.specs.Prelude.{◌≡◌, ◌↔◌, ◌<◌, IfOk, IfNone, IfSome, IsTrue, IsOkUnless};
+mod counts;
+mod groups;
+pub(crate) mod passes;
+
+ghost use Rattle.std.specs.Prelude.{◌≡◌, ◌↔◌, ◌<◌, ◌≤◌, IfOk, IfNone, IfSome, IsTrue, IsOkUnless, Option};
 ghost use Rattle.std.specs.Bool.{OnFalse, OnTrue};
+ghost use Rattle.std.specs.List.{All};
 ghost use Rattle.std.specs.BTreeMap.{keys};
 ghost use Rattle.std.specs.BTreeSet.{btree_set_len, IsFromIterResult};
 ghost use Rattle.scp_types.specs.declared.names.NodeId.{NodeId};
 ghost use Rattle.scp_quorum.specs.NodeSet.{is_in, node_cmp};
-ghost use Rattle.scp_quorum.specs.Quorum.{set_of, SatisfyThemselves, IsGreatestQuorum, IsInSomeQuorum, HasNoQuorum, AllHaveSets, KeepsQuorums};
+ghost use Rattle.scp_quorum.specs.QuorumTree.{QuorumTree};
+ghost use Rattle.scp_quorum.specs.Quorum.{set_of, IsGreatestQuorum, IsInSomeQuorum, HasNoQuorum, IsWithin, KeepsQuorums};
+ghost use Rattle.scp_quorum.specs.Groups.{HasOneSet, IsSettled};
 
 use crate::quorum_set::satisfied;
 use crate::sane_set::SaneSet;
+use counts::Counts;
+use groups::{Group, group_nodes, has_member, remove_members};
 use scp_types::{Fault, NodeId};
 use std::alloc::{AllocError, Global};
 use std::collections::{BTreeMap, BTreeSet};
 use std::sync::Arc;
 
 /// The union of the quorums at `me` inside the nodes that have a set here, which is one of them (the
-/// SCP draft); None exactly where there is none. Takes memory for a set of these nodes, and the one
-/// refusal is `Fault::NoMemory`. Each pass that removes a node costs a look-up for each node of each
-/// set.
+/// SCP draft); None exactly where there is none. Takes memory for these nodes and for what names them,
+/// and the one refusal is `Fault::NoMemory`. Costs a few look-ups for each node, and for each node of
+/// each distinct set, however many nodes share it and however long the fall of one after another is.
 pub fn greatest_quorum(
     alloc: Global,
     me: NodeId,
@@ -29,7 +38,10 @@ pub fn greatest_quorum(
     ensures only_memory { IsOkUnless result Fault.NoMemory }
 {
     let mut remaining = known_nodes(alloc, sets)?;
-    while remove_unsatisfied(sets, &mut remaining) {}
+    let groups = group_nodes(alloc, sets)?;
+    while remove_unsatisfied(&groups, &mut remaining) {
+        follow_counts(alloc, &groups, &mut remaining)?;
+    }
     if remaining.contains(&me) {
         Ok(Some(remaining))
     } else {
@@ -37,26 +49,76 @@ pub fn greatest_quorum(
     }
 }
 
-/// Goes over the nodes once, and removes each whose set those that remain don't satisfy. Whether any
-/// was removed.
-fn remove_unsatisfied(
-    sets: &BTreeMap<NodeId, Arc<SaneSet>>,
-    remaining: &mut BTreeSet<NodeId>,
-) -> bool
-    requires { AllHaveSets (set_of sets.now) (is_in remaining.old) }
-    ensures have_sets { AllHaveSets (set_of sets.now) (is_in remaining.new) }
-    ensures kept { KeepsQuorums (set_of sets.now) (is_in remaining.old) (is_in remaining.new) }
+/// Goes over the groups once, and removes the members of each whose set those that remain don't
+/// satisfy. Whether any was removed.
+fn remove_unsatisfied(groups: &[Group<'_>], remaining: &mut BTreeSet<NodeId>) -> bool
+    ensures within { IsWithin (is_in remaining.new) (is_in remaining.old) }
+    ensures kept { (sets : NodeId → Option QuorumTree) → All (HasOneSet sets) groups.now → KeepsQuorums sets (is_in remaining.old) (is_in remaining.new) }
     ensures fewer { OnTrue result (btree_set_len remaining.new < btree_set_len remaining.old) }
-    ensures settled { OnFalse result (SatisfyThemselves (set_of sets.now) (is_in remaining.new)) }
+    ensures settled { OnFalse result (All (IsSettled (is_in remaining.new)) groups.now) }
 {
     let mut removed = false;
-    for (node, set) in sets {
-        if remaining.contains(node) && !satisfied(set.set(), remaining) {
-            remaining.remove(node);
+    for group in groups {
+        if remove_if_unsatisfied(group, remaining) {
             removed = true;
         }
     }
     removed
+}
+
+/// Removes the members of a group whose set those that remain don't satisfy. Whether any was removed.
+fn remove_if_unsatisfied(group: &Group<'_>, remaining: &mut BTreeSet<NodeId>) -> bool
+    ensures within { IsWithin (is_in remaining.new) (is_in remaining.old) }
+    ensures kept { (sets : NodeId → Option QuorumTree) → HasOneSet sets group.now → KeepsQuorums sets (is_in remaining.old) (is_in remaining.new) }
+    ensures fewer { OnTrue result (btree_set_len remaining.new < btree_set_len remaining.old) }
+    ensures same { OnFalse result (remaining.new ≡ remaining.old) }
+    ensures settled { OnFalse result (IsSettled (is_in remaining.new) group.now) }
+{
+    if !has_member(group, remaining) || satisfied(group.set.set(), remaining) {
+        return false;
+    }
+    remove_members(group, remaining)
+}
+
+/// Removes one group after another, as the counts say which set isn't satisfied any more.
+fn follow_counts(
+    alloc: Global,
+    groups: &[Group<'_>],
+    remaining: &mut BTreeSet<NodeId>,
+) -> Result<(), AllocError>
+    ensures within { IsWithin (is_in remaining.new) (is_in remaining.old) }
+    ensures kept { (sets : NodeId → Option QuorumTree) → All (HasOneSet sets) groups.now → KeepsQuorums sets (is_in remaining.old) (is_in remaining.new) }
+    ensures no_more { btree_set_len remaining.new ≤ btree_set_len remaining.old }
+{
+    let mut counts = Counts::of(alloc, groups, remaining)?;
+    for _ in 0..groups.len() {
+        let Some(index) = counts.next_fallen() else {
+            break;
+        };
+        follow_one(index, groups, &mut counts, remaining)?;
+    }
+    Ok(())
+}
+
+/// Removes the members of the group at this place, if the nodes that remain don't satisfy its set:
+/// what a count says is tested.
+fn follow_one(
+    index: usize,
+    groups: &[Group<'_>],
+    counts: &mut Counts,
+    remaining: &mut BTreeSet<NodeId>,
+) -> Result<(), AllocError>
+    ensures within { IsWithin (is_in remaining.new) (is_in remaining.old) }
+    ensures kept { (sets : NodeId → Option QuorumTree) → All (HasOneSet sets) groups.now → KeepsQuorums sets (is_in remaining.old) (is_in remaining.new) }
+    ensures no_more { btree_set_len remaining.new ≤ btree_set_len remaining.old }
+{
+    let Some(group) = groups.get(index) else {
+        return Ok(());
+    };
+    if remove_if_unsatisfied(group, remaining) {
+        counts.lower_for_all(&group.members)?;
+    }
+    Ok(())
 }
 
 /// The nodes that have a set.

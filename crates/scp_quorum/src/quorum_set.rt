@@ -1,4 +1,5 @@
 mod codec;
+mod same;
 mod sane;
 mod slices;
 

@@ -1,3 +1,5 @@
+mod random;
+
 use super::*;
 use scp_types::{Fault, Hash, NodeId};
 use std::alloc::Global;

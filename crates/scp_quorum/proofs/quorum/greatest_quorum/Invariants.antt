@@ -5,12 +5,12 @@ use Rattle.scp_quorum.specs.NodeSet.{is_in}
 use Rattle.scp_quorum.specs.Quorum.{set_of, SatisfyThemselves, IsWithin, AllHaveSets}
 use Rattle.scp_quorum.proofs.quorum.greatest_quorum.Given as goal
 
-abbrev pub invariant-loop : goal.invariant-loop
-invariant-loop l =
+abbrev pub invariant-loop-alloc : goal.invariant-loop-alloc
+invariant-loop-alloc l =
     record {
       have_sets : AllHaveSets (set_of l.sets) (is_in l.remaining);
       kept : (others : NodeId → Bool) → SatisfyThemselves (set_of l.sets) others → IsWithin others (is_in l.remaining);
     }
 
-abbrev pub decreases-loop : goal.decreases-loop
-decreases-loop l = btree_set_len l.remaining
+abbrev pub decreases-loop-alloc : goal.decreases-loop-alloc
+decreases-loop-alloc l = btree_set_len l.remaining

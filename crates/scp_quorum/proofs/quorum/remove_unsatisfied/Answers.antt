@@ -1,59 +1,39 @@
-use Rattle.std.proofs.Common.{arith, ◌<◌, ◌≡◌, Some, sym, ◌∙◌, subst, false, true}
-use Rattle.std.specs.BTreeMap as node_map
-use Rattle.std.specs.Map.Iter.{deref_pair}
-use Rattle.std.proofs.lemmas.Map.Views.{All-turn}
-use Rattle.scp_quorum.specs.NodeSet.{is_in, node_cmp}
-use Rattle.scp_quorum.specs.Satisfies.{Satisfies}
-use Rattle.scp_quorum.specs.QuorumTree.{QuorumTree}
-use Rattle.std.specs.BTreeSet.{btree_set_len}
-use Rattle.scp_quorum.specs.Quorum.{set_of}
-use Rattle.scp_quorum.proofs.Pass.{Entries, IsPass, set_of-entry, pass_by, pass_removes}
+use Rattle.std.proofs.Common.{◌≡◌, ◌+◌, Bool, List, take, arith, sym, subst}
+use Rattle.std.specs.List.{All}
+use Rattle.std.proofs.lemmas.Bool.{OnTrue_at, OnTrue_from, OnFalse_at, OnFalse_from}
+use Rattle.std.proofs.lemmas.Grind.{common_steps}
+use Rattle.scp_quorum.specs.declared.quorum.groups.Group.{Group}
+use Rattle.scp_quorum.specs.NodeSet.{is_in}
+use Rattle.scp_quorum.specs.Groups.{IsSettled}
+use Rattle.scp_quorum.proofs.Groups.{IsGroupPass, group_pass_none, group_removed, group_stays}
 use Rattle.scp_quorum.proofs.quorum.remove_unsatisfied.Goals as goal
-use Rattle.scp_quorum.proofs.quorum.remove_unsatisfied.Goals.{else-contains-via-then-contains+else-not-satisfied, else-contains-via-else-contains}
+use Rattle.scp_quorum.proofs.quorum.remove_unsatisfied.Goals.{then-remove_if_unsatisfied, else-remove_if_unsatisfied}
 
-pub loop-node-preserved : goal.loop-node-preserved
-loop-node-preserved c =
-    let sets = set_of c.args.sets.now in
-    let now = is_in c.loop-node.remaining in
-    let item : node_map.get node_cmp c.args.sets.now c.in-Some.node.now ≡ Some c.in-Some.set.now =
-    All-turn deref_pair (λ e. node_map.get node_cmp c.args.sets.now e.0 ≡ Some e.1) _ _ _ _ _ _ _ c.into_iter-node-iterator.ensures.into_iter_gives.6 c.into_iter-node-iterator.ensures.into_iter_gives.0 c.loop-node.yielded_by c.in-Some.is c.next.ensures.steps
-    in
-    let before : Entries → Type 0 = λ rest. IsPass sets (is_in c.args.remaining.now) now c.loop-node.removed rest in
-    let here : now c.in-Some.node.now ≡ true → Satisfies now c.in-Some.set.now.value =
-    elim c.else-contains.branch [
-      | else-contains-via-then-contains+else-not-satisfied w ↦ (λ has. let P : QuorumTree → Type 0 = λ q. Satisfies now q in subst P (w.set.ensures.value ∙ w.deref.ensures) (w.satisfied.ensures.0 w.if-not-satisfied.false))
-      | else-contains-via-else-contains w ↦ (λ has. absurd (apart (sym has ∙ sym c.contains.ensures ∙ w.if-contains.false)))
+pub loop-group-init : goal.loop-group-init
+loop-group-init c = group_pass_none c.args.groups.now c.args.remaining.now
+
+pub loop-group-preserved : goal.loop-group-preserved
+loop-group-preserved c =
+    let groups = c.args.groups.now in
+    let old = c.args.remaining.now in
+    let now = c.loop-group.remaining in
+    let new = c.remove_if_unsatisfied.new.remaining in
+    let i = c.loop-group.group-index in
+    let P : Bool → Type 0 = λ b. IsGroupPass groups old new b (take (i + 1) groups) in
+    elim c.if-remove_if_unsatisfied.branch [
+      | then-remove_if_unsatisfied w ↦
+          subst P (sym w.removed-is) (group_removed groups old now new c.loop-group.removed i c.group-item.result c.loop-group-test.true c.group-item.is c.loop-group.invariant c.remove_if_unsatisfied.ensures.within c.remove_if_unsatisfied.ensures.kept (OnTrue_at w.if-remove_if_unsatisfied.true c.remove_if_unsatisfied.ensures.fewer))
+      | else-remove_if_unsatisfied w ↦
+          subst P (sym w.removed-is) (group_stays groups old now new c.loop-group.removed i c.group-item.result c.loop-group-test.true c.group-item.is c.loop-group.invariant (OnFalse_at w.if-remove_if_unsatisfied.false c.remove_if_unsatisfied.ensures.same) (OnFalse_at w.if-remove_if_unsatisfied.false c.remove_if_unsatisfied.ensures.settled))
     ]
-    in
-    record {
-      pass = pass_by sets (is_in c.args.remaining.now) now (c.in-Some.node.now, c.in-Some.set.now) _ (set_of-entry c.args.sets.now (c.in-Some.node.now, c.in-Some.set.now) item) c.loop-node.removed here (subst before c.in-Some.ensures.steps c.loop-node.invariant.pass);
-      no_more = c.loop-node.invariant.no_more;
-      fewer = c.loop-node.invariant.fewer;
-    }
-  where
-    apart : true ≡ false → ⊥
-    apart e = cc
 
-pub loop-node-preserved-then-not-satisfied : goal.loop-node-preserved-then-not-satisfied
-loop-node-preserved-then-not-satisfied c =
-    let sets = set_of c.args.sets.now in
-    let now = is_in c.loop-node.remaining in
-    let item : node_map.get node_cmp c.args.sets.now c.in-Some.node.now ≡ Some c.in-Some.set.now =
-    All-turn deref_pair (λ e. node_map.get node_cmp c.args.sets.now e.0 ≡ Some e.1) _ _ _ _ _ _ _ c.into_iter-node-iterator.ensures.into_iter_gives.6 c.into_iter-node-iterator.ensures.into_iter_gives.0 c.loop-node.yielded_by c.in-Some.is c.next.ensures.steps
-    in
-    let before : Entries → Type 0 = λ rest. IsPass sets (is_in c.args.remaining.now) now c.loop-node.removed rest in
-    let fails : Satisfies now c.in-Some.set.now.value → ⊥ =
-    λ h. let P : QuorumTree → Type 0 = λ q. Satisfies now q in apart (sym (c.satisfied.ensures.1 (subst P (sym (c.set.ensures.value ∙ c.deref.ensures)) h)) ∙ c.if-not-satisfied.true)
-    in
-    let one_less : btree_set_len c.remove.new.self < btree_set_len c.loop-node.remaining =
-    let was : c.remove.result ≡ true = c.remove.ensures.test ∙ sym c.contains.ensures ∙ c.if-contains.true in
-    omega (arith, rw was at c.remove.ensures.len)
-    in
-    record {
-      pass = pass_removes sets (is_in c.args.remaining.now) now (c.in-Some.node.now, c.in-Some.set.now) _ (set_of-entry c.args.sets.now (c.in-Some.node.now, c.in-Some.set.now) item) (is_in c.remove.new.self) c.loop-node.removed fails c.remove.ensures.updates.0 (subst before c.in-Some.ensures.steps c.loop-node.invariant.pass);
-      no_more = omega (arith, c.loop-node.invariant.no_more, one_less);
-      fewer = λ _. omega (arith, c.loop-node.invariant.no_more, one_less);
-    }
-  where
-    apart : true ≡ false → ⊥
-    apart e = cc
+pub returns-clause-fewer : goal.returns-clause-fewer
+returns-clause-fewer c = OnTrue_from c.loop-group.removed _ c.loop-group.invariant.fewer
+
+pub returns-clause-settled : goal.returns-clause-settled
+returns-clause-settled c =
+    OnFalse_from c.loop-group.removed _
+    (λ e.
+    let P : List Group → Type 0 = λ gs. All (IsSettled (is_in c.loop-group.remaining)) gs in
+    let whole : take c.loop-group.group-index c.args.groups.now ≡ c.args.groups.now = grind (arith, common_steps) in
+    subst P whole (c.loop-group.invariant.settled e))

@@ -1,12 +1,7 @@
-use Rattle.std.proofs.Common.{◌≡◌, ◌+◌, ◌<◌, List, take, ap, arith, ◌∙◌}
-use Rattle.std.specs.Prelude.{map}
+use Rattle.std.proofs.Common.{◌≡◌, ◌+◌, ◌<◌, take, ap, arith}
 use Rattle.std.specs.List.{sum_by}
 use Rattle.std.proofs.lemmas.Grind.{common_steps}
-use Rattle.scp_types.specs.declared.names.NodeId.{NodeId}
-use Rattle.scp_xdr.specs.Length.{spelled_len}
-use Rattle.scp_xdr.specs.Shared.{node_kind}
 use Rattle.scp_xdr.proofs.Spending.{past_room}
-use Rattle.scp_quorum.specs.QuorumKind.{node_value}
 use Rattle.scp_quorum.proofs.Whole.{set_len, made_len, nodes_len}
 use Rattle.scp_quorum.proofs.quorum_set.QuorumSet.+spend_all.Goals as goal
 

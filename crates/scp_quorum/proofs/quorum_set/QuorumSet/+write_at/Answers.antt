@@ -1,4 +1,4 @@
-use Rattle.std.proofs.Common.{◌≡◌, ◌≤◌, ◌-◌, ◌++◌, ℕ, List, take, length, sym, ◌∙◌, subst, ap, arith, append_assoc}
+use Rattle.std.proofs.Common.{◌≡◌, ◌≤◌, ◌-◌, ◌++◌, ℕ, List, take, length, sym, ◌∙◌, subst, ap, arith}
 use Rattle.std.specs.Prelude.{map}
 use Rattle.std.specs.List.{All, flat_map}
 use Rattle.std.proofs.lemmas.Result.{err_from_is_err_and}

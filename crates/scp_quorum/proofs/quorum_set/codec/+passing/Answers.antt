@@ -1,4 +1,4 @@
-use Rattle.std.proofs.Common.{◌≡◌, ◌<◌, ◌-◌, arith, ◌∙◌}
+use Rattle.std.proofs.Common.{◌<◌, ◌-◌, arith, ◌∙◌}
 use Rattle.std.proofs.lemmas.Result.{err_from_is_err_and}
 use Rattle.scp_xdr.specs.Passing.{pass_items}
 use Rattle.scp_xdr.proofs.Loops.{pass_goes_on, pass_ends, pass_is_done}

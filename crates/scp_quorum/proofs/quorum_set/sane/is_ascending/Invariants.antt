@@ -1,4 +1,4 @@
-use Rattle.std.proofs.Common.{◌≡◌, ◌≤◌, ◌<◌}
+use Rattle.std.proofs.Common.{◌≡◌}
 use Rattle.std.specs.List.{AllAdjacentBelow}
 use Rattle.std.specs.declared.cmp.Ordering.TheVariants.{Less}
 use Rattle.scp_quorum.specs.NodeSet.{node_cmp}
