@@ -1,3 +1,4 @@
+use crate::quorum::Shape;
 use crate::workload::{SMALL, Workload};
 use clap::error::ErrorKind;
 use clap::{Arg, ArgAction, Command, Error};
@@ -15,7 +16,15 @@ pub enum Asked {
     Usage,
 }
 
-static WORKLOADS: [&str; 3] = ["decode", "records", "script"];
+static WORKLOADS: [&str; 7] = [
+    "decode",
+    "records",
+    "script",
+    "quorum-shared",
+    "quorum-own",
+    "quorum-chain",
+    "quorum-missing",
+];
 
 fn command<'a>(alloc: Global) -> Result<Command<'a>, AllocError> {
     let workload = Arg::new(alloc, "workload")
@@ -39,6 +48,10 @@ fn one(name: &str, size: Option<&str>) -> Asked {
         "decode" => Workload::Decode,
         "records" => Workload::Records,
         "script" => Workload::Script,
+        "quorum-shared" => Workload::Quorum(Shape::Shared),
+        "quorum-own" => Workload::Quorum(Shape::Own),
+        "quorum-chain" => Workload::Quorum(Shape::Chain),
+        "quorum-missing" => Workload::Quorum(Shape::Missing),
         _ => return Asked::Usage,
     };
     match size_in(size) {

@@ -23,10 +23,11 @@ fn messages(alloc: Global) -> Result<Vec<[u8; 40]>, AllocError> {
 impl Decoded {
     /// Decodes one message.
     fn take(&mut self, alloc: Global, bytes: &[u8]) -> Result<(), Fault> {
-        let Message::Record(slot, value) = decode(alloc, bytes)?;
-        self.messages = self.messages.wrapping_add(1);
-        self.slots = self.slots.wrapping_add(slot.0);
-        self.bytes = self.bytes.wrapping_add(value.as_slice().len() as u64);
+        if let Message::Record(slot, value) = decode(alloc, bytes)? {
+            self.messages = self.messages.wrapping_add(1);
+            self.slots = self.slots.wrapping_add(slot.0);
+            self.bytes = self.bytes.wrapping_add(value.as_slice().len() as u64);
+        }
         Ok(())
     }
 

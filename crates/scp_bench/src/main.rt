@@ -7,6 +7,7 @@
 mod asked;
 mod decode;
 mod messages;
+mod quorum;
 mod records;
 mod script;
 mod workload;
@@ -20,7 +21,8 @@ use std::process::ExitCode;
 use std::{env, io};
 
 /// What is printed where no workload is asked for.
-const USAGE: &str = "usage: scp_bench [decode|records|script [SIZE]]\n";
+const USAGE: &str =
+    "usage: scp_bench [decode|records|script|quorum-shared|quorum-own|quorum-chain|quorum-missing [SIZE]]\n";
 
 /// What is printed where there is no memory for a fault's line.
 const NO_MEMORY: &str = "out of memory\n";

@@ -1,4 +1,5 @@
 use crate::decode::{Decoded, decode_records};
+use crate::quorum::{Quorums, Shape, find_quorums};
 use crate::records::{Ledgers, hear_records};
 use crate::script::{Played, play_scripts};
 use scp_line::{ReportOut, write_text};
@@ -7,6 +8,9 @@ use std::alloc::Global;
 
 /// The size of a workload where none is given.
 pub const SMALL: u32 = 1_000;
+
+/// The nodes of a shape where none are given.
+const FEW: u32 = 30;
 
 /// What may be run.
 #[derive(Clone, Copy, Debug, PartialEq, Eq)]
@@ -17,6 +21,33 @@ pub enum Workload {
     Records,
     /// Scripts are played.
     Script,
+    /// The greatest quorum is asked for, 1,000 times.
+    Quorum(Shape),
+}
+
+/// The name of the workload that has this shape.
+fn name_of(shape: Shape) -> &'static str {
+    match shape {
+        Shape::Shared => "quorum-shared",
+        Shape::Own => "quorum-own",
+        Shape::Chain => "quorum-chain",
+        Shape::Missing => "quorum-missing",
+    }
+}
+
+/// Asks for quorums, and adds what was found.
+fn tell_quorums(alloc: Global, shape: Shape, size: u32, text: &mut String) -> Result<(), Fault> {
+    let name = name_of(shape);
+    let Quorums {
+        calls,
+        found,
+        members,
+    } = find_quorums(alloc, shape, size)?;
+    writeln!(
+        text,
+        "{name} {size}: calls {calls} found {found} members {members}"
+    )?;
+    Ok(())
 }
 
 /// Runs a workload, and tells what was done in one line.
@@ -58,6 +89,7 @@ fn run(alloc: Global, workload: Workload, size: u32) -> Result<String, Fault> {
                 "script {size}: scripts {scripts} lines {lines} bytes {bytes}"
             )?;
         }
+        Workload::Quorum(shape) => tell_quorums(alloc, shape, size, &mut text)?,
     }
     Ok(text)
 }
@@ -77,5 +109,9 @@ pub fn write_one<W: ReportOut>(
 pub fn write_all<W: ReportOut>(alloc: Global, writer: &mut W) -> Result<(), Fault> {
     write_one(alloc, Workload::Decode, SMALL, writer)?;
     write_one(alloc, Workload::Records, SMALL, writer)?;
-    write_one(alloc, Workload::Script, SMALL, writer)
+    write_one(alloc, Workload::Script, SMALL, writer)?;
+    for shape in [Shape::Shared, Shape::Own, Shape::Chain, Shape::Missing] {
+        write_one(alloc, Workload::Quorum(shape), FEW, writer)?;
+    }
+    Ok(())
 }

@@ -11,9 +11,8 @@ use Rattle.std.proofs.lemmas.List.{take_at, append-nil}
 use Rattle.scp_types.specs.declared.names.ConnId.{ConnId}
 use Rattle.scp_types.specs.declared.names.Seq.{Seq}
 use Rattle.scp_types.specs.declared.names.Slot.{Slot}
-use Rattle.scp_wire.specs.declared.message.Message.{Message}
 use Rattle.scp_wire.specs.declared.message.Message.TheVariants.{Record}
-use Rattle.scp_core.specs.declared.journal.Cause.{Cause}
+use Rattle.scp_wire.specs.declared.link.Cause.{Cause}
 use Rattle.scp_core.specs.declared.journal.Decision.{Decision}
 use Rattle.scp_core.specs.declared.journal.Fate.{Fate}
 use Rattle.scp_core.specs.declared.journal.Fate.TheVariants.{Taken, Closed}
@@ -21,7 +20,6 @@ use Rattle.scp_core.specs.declared.journal.Origin.TheVariants.{Named}
 use Rattle.scp_core.specs.declared.journal.Verdict.{Verdict}
 use Rattle.scp_core.specs.declared.journal.Verdict.TheVariants.{Already, FarSlot, Decided}
 use Rattle.scp_core.specs.Decisions.{AreInOrder, is_at, is_decided, OnePerSlot, IsLowest, verdict_at, HasVerdict, HaveVerdicts, decision_by, decisions_in}
-use Rattle.scp_core.specs.Journal.{slot_of, value_of}
 use Rattle.scp_core.specs.Parts.{ApplierView, IsLedger, IsInOrder, IsRunning, Takes}
 
 or_true : (b : Bool) → (b || true) ≡ true
@@ -150,15 +148,7 @@ IsRunning-decided decisions old new d h takes =
       shared_out = IsPermutation-trans (decisions ++ d ∷ []) (old.applied ++ (old.waiting ++ d ∷ [])) (new.applied ++ new.waiting) (subst (IsPermutation (decisions ++ d ∷ [])) (append_assoc old.applied old.waiting (d ∷ [])) joined) takes.shared_out;
     }
 
--- ---- the same of any message
-
-pub passed : (journal : List Fate) (decisions : List Decision) (v : ApplierView) (conn : ConnId) (seq : Seq) (m : Message) (verdict : Verdict) → IsLedger journal decisions → IsRunning decisions v → verdict ≡ verdict_at (length v.applied + 1) (is_decided (slot_of m).0 v.waiting) (slot_of m).0 → verdict ≢ Decided
-    → IsLedger (journal ++ Taken conn seq m verdict ∷ []) decisions
-passed journal decisions v conn seq (Record slot value) verdict h running is ne = IsLedger-passed journal decisions v conn seq slot value verdict h running is ne
-
-pub decided : (journal : List Fate) (decisions : List Decision) (v : ApplierView) (conn : ConnId) (seq : Seq) (m : Message) (verdict : Verdict) (d : Decision) → IsLedger journal decisions → IsRunning decisions v → verdict ≡ verdict_at (length v.applied + 1) (is_decided (slot_of m).0 v.waiting) (slot_of m).0 → verdict ≡ Decided → d ≡ record { slot = slot_of m; value = value_of m; origin = Named conn seq }
-    → IsLedger (journal ++ Taken conn seq m verdict ∷ []) (decisions ++ d ∷ [])
-decided journal decisions v conn seq (Record slot value) verdict d h running is decides made = IsLedger-decided journal decisions v conn seq slot value verdict d h running is decides made
+-- ---- a Closed
 
 pub closed : (journal : List Fate) (decisions : List Decision) (conn : ConnId) (cause : Cause) → IsLedger journal decisions → IsLedger (journal ++ Closed conn cause ∷ []) decisions
 closed journal decisions conn cause h =

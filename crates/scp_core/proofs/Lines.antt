@@ -8,7 +8,7 @@ use Rattle.scp_types.specs.declared.names.ConnId.{ConnId}
 use Rattle.scp_types.specs.declared.names.NodeId.{NodeId}
 use Rattle.scp_types.specs.declared.names.Seq.{Seq}
 use Rattle.scp_wire.specs.declared.message.Message.{Message}
-use Rattle.scp_core.specs.declared.journal.Cause.{Cause}
+use Rattle.scp_wire.specs.declared.link.Cause.{Cause}
 use Rattle.scp_core.specs.declared.journal.Verdict.{Verdict}
 use Rattle.scp_core.specs.declared.journal.Fate.{Fate}
 use Rattle.scp_core.specs.declared.journal.Fate.TheVariants.{Taken, Closed}

@@ -1,18 +1,20 @@
 -- One message more on a connection.
 use Rattle.std.proofs.Common.{◌≡◌, ℕ, ◌+◌, ◌<◌, ◌≤◌, Bool, true, false, List, [], ◌∷◌, ◌++◌, length, take, refl, sym, ◌∙◌, ap, subst, arith, length-append, nat_eq, nat_lt, zero, suc, inl, inr, ◌⊎◌}
-use Rattle.std.specs.Prelude.{Option, Some, None, slice_get, option_to_list, is_some, if◌then◌else◌}
+use Rattle.std.specs.Prelude.{Option, Some, None, ◌||◌, filter, slice_get, option_to_list, is_some, if◌then◌else◌}
 use Rattle.std.proofs.lemmas.Bool.{ltb-true, ltb-false, lt-ltb, le-ltb, eqb-true, eqb-false}
+use Rattle.std.proofs.lemmas.List.Elements.{filter-append}
 use Rattle.std.proofs.lemmas.List.{append-nil, take-append-le, take_all}
 use Rattle.scp_types.specs.declared.names.ConnId.{ConnId}
 use Rattle.scp_wire.specs.declared.message.Message.{Message}
+use Rattle.scp_wire.specs.Carried.{is_carried, is_side}
 use Rattle.scp_wire.specs.Reading.{reading_of}
-use Rattle.scp_core.specs.declared.journal.Cause.{Cause}
-use Rattle.scp_core.specs.declared.journal.Cause.TheVariants.{Malformed, Link, Spent}
+use Rattle.scp_wire.specs.declared.link.Cause.{Cause}
+use Rattle.scp_wire.specs.declared.link.Cause.TheVariants.{Malformed, Link, Spent}
 use Rattle.scp_core.specs.declared.journal.Verdict.{Verdict}
 use Rattle.scp_core.specs.declared.journal.Fate.{Fate}
 use Rattle.scp_core.specs.declared.journal.Fate.TheVariants.{Taken, Closed}
 use Rattle.scp_core.specs.Journal.{messages_in, causes_in, Follows}
-use Rattle.scp_core.specs.History.{readable, readable_from, all_readable, carried, end_of}
+use Rattle.scp_core.specs.History.{readable, readable_from, all_readable, all_carried, carried, end_of}
 use Rattle.scp_core.specs.Node.{any_cause, fate_of}
 use Rattle.scp_core.specs.Theorem.{Accounts}
 use Rattle.scp_core.proofs.Lines.{messages_in-append, causes_in-append}
@@ -41,6 +43,21 @@ all_cons false all one rest e = refl
 all_readable-push : (sent : List (List ℕ)) (bytes : List ℕ) → all_readable (sent ++ bytes ∷ []) ≡ (if all_readable sent then is_some (reading_of bytes) else false)
 all_readable-push [] bytes = all_nil (is_some (reading_of bytes))
 all_readable-push (x ∷ xs) bytes = all_cons (is_some (reading_of x)) (all_readable xs) (is_some (reading_of bytes)) (all_readable (xs ++ bytes ∷ [])) (all_readable-push xs bytes)
+
+-- the carried message that was read, if it is one
+abbrev carried_in : Option Message → List Message
+carried_in None = []
+carried_in (Some m) = if is_carried m then m ∷ [] else []
+
+filter_read : (b : Bool) (r : Option Message) → filter is_carried (if b then option_to_list r else []) ≡ (if b then carried_in r else [])
+filter_read true None = refl
+filter_read true (Some m) = refl
+filter_read false r = refl
+
+all_carried-push : (sent : List (List ℕ)) (bytes : List ℕ) → all_carried (sent ++ bytes ∷ []) ≡ all_carried sent ++ (if all_readable sent then carried_in (reading_of bytes) else [])
+all_carried-push sent bytes =
+    ap (filter is_carried) (readable-push sent bytes) ∙ filter-append is_carried (readable sent) (if all_readable sent then option_to_list (reading_of bytes) else [])
+    ∙ ap (λ ms. all_carried sent ++ ms) (filter_read (all_readable sent) (reading_of bytes))
 
 slice_get-front : {X : Type 0} (xs ys : List X) (n : ℕ) (x : X) → slice_get xs n ≡ Some x → slice_get (xs ++ ys) n ≡ Some x
 slice_get-front [] ys n x e = cc
@@ -95,13 +112,13 @@ Accounts-taken sent more c m v line longer before after h =
     }
 
 -- the end of a connection by the tests that decide it
-ends_far : (sent : List (List ℕ)) (closed : Bool) → nat_lt 1000000 (length (readable sent)) ≡ true → end_of sent closed ≡ Some Spent
+ends_far : (sent : List (List ℕ)) (closed : Bool) → nat_lt 1000000 (length (all_carried sent)) ≡ true → end_of sent closed ≡ Some Spent
 ends_far sent closed far = rw far refl
 
-ends_bad : (sent : List (List ℕ)) (closed : Bool) → nat_lt 1000000 (length (readable sent)) ≡ false → all_readable sent ≡ false → end_of sent closed ≡ Some Malformed
+ends_bad : (sent : List (List ℕ)) (closed : Bool) → nat_lt 1000000 (length (all_carried sent)) ≡ false → all_readable sent ≡ false → end_of sent closed ≡ Some Malformed
 ends_bad sent closed far all = rw (far, all) refl
 
-ends_not : (sent : List (List ℕ)) → nat_lt 1000000 (length (readable sent)) ≡ false → all_readable sent ≡ true → end_of sent false ≡ None
+ends_not : (sent : List (List ℕ)) → nat_lt 1000000 (length (all_carried sent)) ≡ false → all_readable sent ≡ true → end_of sent false ≡ None
 ends_not sent far all = rw (far, all) refl
 
 same_front : (xs ys : List Message) → 1000000 ≤ length xs → take 1000000 (xs ++ ys) ≡ take 1000000 xs
@@ -109,69 +126,87 @@ same_front xs ys h = rw take-append-le refl
 
 -- what bytes on a connection add to its line
 abbrev pub fates_of : ConnId → List ℕ → Verdict → List Fate → List Fate
-fates_of c bytes v line = if any_cause (causes_in line) then [] else fate_of c (length (messages_in line)) (reading_of bytes) v ∷ []
+fates_of c bytes v line = if any_cause (causes_in line) || is_side (reading_of bytes) then [] else fate_of c (length (messages_in line)) (reading_of bytes) v ∷ []
 
 bool_cases : (b : Bool) → (b ≡ true) ⊎ (b ≡ false)
 bool_cases true = inl refl
 bool_cases false = inr refl
 
 -- one more message where the connection is full
-Accounts-full : (sent : List (List ℕ)) (bytes : List ℕ) (c : ConnId) (m : Message) (v : Verdict) (line : List Fate) → nat_lt 1000000 (length (readable sent)) ≡ false → all_readable sent ≡ true → reading_of bytes ≡ Some m → nat_eq (length (messages_in line)) 1000000 ≡ true → Accounts sent false line → Accounts (sent ++ bytes ∷ []) false (line ++ Closed c Spent ∷ [])
-Accounts-full sent bytes c m v line far all reads full h =
-    let short : length (readable sent) ≤ 1000000 = ltb-false 1000000 (length (readable sent)) far in
-    let count : length (messages_in line) ≡ length (readable sent) = ap length (h.whole ∙ take_all 1000000 (readable sent) short) in
-    let full' : 1000000 ≤ length (readable sent) = omega (arith, count, eqb-true _ _ full) in
-    let more : readable (sent ++ bytes ∷ []) ≡ readable sent ++ m ∷ [] = rw (readable-push sent bytes, all, reads) refl in
-    let over : nat_lt 1000000 (length (readable (sent ++ bytes ∷ []))) ≡ true = rw more (lt-ltb _ _ (omega (arith, full', length-append (readable sent) (m ∷ [])))) in
-    Accounts-closed sent (sent ++ bytes ∷ []) false false c Spent line (rw more (same_front (readable sent) (m ∷ []) full')) (ends_not sent far all) (ends_far (sent ++ bytes ∷ []) false over) h
+Accounts-full : (sent : List (List ℕ)) (bytes : List ℕ) (c : ConnId) (m : Message) (v : Verdict) (line : List Fate) → is_carried m ≡ true → nat_lt 1000000 (length (all_carried sent)) ≡ false → all_readable sent ≡ true → reading_of bytes ≡ Some m → nat_eq (length (messages_in line)) 1000000 ≡ true → Accounts sent false line → Accounts (sent ++ bytes ∷ []) false (line ++ Closed c Spent ∷ [])
+Accounts-full sent bytes c m v line is far all reads full h =
+    let short : length (all_carried sent) ≤ 1000000 = ltb-false 1000000 (length (all_carried sent)) far in
+    let count : length (messages_in line) ≡ length (all_carried sent) = ap length (h.whole ∙ take_all 1000000 (all_carried sent) short) in
+    let full' : 1000000 ≤ length (all_carried sent) = omega (arith, count, eqb-true _ _ full) in
+    let more : all_carried (sent ++ bytes ∷ []) ≡ all_carried sent ++ m ∷ [] = rw (all_carried-push sent bytes, all, reads, is) refl in
+    let over : nat_lt 1000000 (length (all_carried (sent ++ bytes ∷ []))) ≡ true = rw more (lt-ltb _ _ (omega (arith, full', length-append (all_carried sent) (m ∷ [])))) in
+    Accounts-closed sent (sent ++ bytes ∷ []) false false c Spent line (rw more (same_front (all_carried sent) (m ∷ []) full')) (ends_not sent far all) (ends_far (sent ++ bytes ∷ []) false over) h
 
 -- one more message where there is room
-Accounts-one : (sent : List (List ℕ)) (bytes : List ℕ) (c : ConnId) (m : Message) (v : Verdict) (line : List Fate) → nat_lt 1000000 (length (readable sent)) ≡ false → all_readable sent ≡ true → reading_of bytes ≡ Some m → nat_eq (length (messages_in line)) 1000000 ≡ false → Accounts sent false line → Accounts (sent ++ bytes ∷ []) false (line ++ Taken c (record { 0 = length (messages_in line) }) m v ∷ [])
-Accounts-one sent bytes c m v line far all reads room h =
-    let short : length (readable sent) ≤ 1000000 = ltb-false 1000000 (length (readable sent)) far in
-    let known : carried sent ≡ readable sent = take_all 1000000 (readable sent) short in
-    let count : length (messages_in line) ≡ length (readable sent) = ap length (h.whole ∙ known) in
-    let few : length (readable sent) < 1000000 = below (length (readable sent)) short (λ e. eqb-false (length (messages_in line)) 1000000 room (count ∙ e)) in
-    let more : readable (sent ++ bytes ∷ []) ≡ readable sent ++ m ∷ [] = rw (readable-push sent bytes, all, reads) refl in
-    let fits : length (readable sent ++ m ∷ []) ≤ 1000000 = omega (arith, few, length-append (readable sent) (m ∷ [])) in
-    let near : nat_lt 1000000 (length (readable (sent ++ bytes ∷ []))) ≡ false = rw more (le-ltb _ _ fits) in
+Accounts-one : (sent : List (List ℕ)) (bytes : List ℕ) (c : ConnId) (m : Message) (v : Verdict) (line : List Fate) → is_carried m ≡ true → nat_lt 1000000 (length (all_carried sent)) ≡ false → all_readable sent ≡ true → reading_of bytes ≡ Some m → nat_eq (length (messages_in line)) 1000000 ≡ false → Accounts sent false line → Accounts (sent ++ bytes ∷ []) false (line ++ Taken c (record { 0 = length (messages_in line) }) m v ∷ [])
+Accounts-one sent bytes c m v line is far all reads room h =
+    let short : length (all_carried sent) ≤ 1000000 = ltb-false 1000000 (length (all_carried sent)) far in
+    let known : carried sent ≡ all_carried sent = take_all 1000000 (all_carried sent) short in
+    let count : length (messages_in line) ≡ length (all_carried sent) = ap length (h.whole ∙ known) in
+    let few : length (all_carried sent) < 1000000 = below (length (all_carried sent)) short (λ e. eqb-false (length (messages_in line)) 1000000 room (count ∙ e)) in
+    let more : all_carried (sent ++ bytes ∷ []) ≡ all_carried sent ++ m ∷ [] = rw (all_carried-push sent bytes, all, reads, is) refl in
+    let fits : length (all_carried sent ++ m ∷ []) ≤ 1000000 = omega (arith, few, length-append (all_carried sent) (m ∷ [])) in
+    let near : nat_lt 1000000 (length (all_carried (sent ++ bytes ∷ []))) ≡ false = rw more (le-ltb _ _ fits) in
     let good : all_readable (sent ++ bytes ∷ []) ≡ true = rw (all_readable-push sent bytes, all, reads) refl in
-    Accounts-taken sent (sent ++ bytes ∷ []) c m v line (rw (more, known) (take_all 1000000 (readable sent ++ m ∷ []) fits)) (ends_not sent far all) (ends_not (sent ++ bytes ∷ []) near good) h
+    Accounts-taken sent (sent ++ bytes ∷ []) c m v line (rw (more, known) (take_all 1000000 (all_carried sent ++ m ∷ []) fits)) (ends_not sent far all) (ends_not (sent ++ bytes ∷ []) near good) h
   where
     below : (n : ℕ) → n ≤ 1000000 → (n ≡ 1000000 → ⊥) → n < 1000000
     below n le ne = omega arith
 
-Accounts-read : (sent : List (List ℕ)) (bytes : List ℕ) (c : ConnId) (v : Verdict) (line : List Fate) (far all : Bool) (r : Option Message) → nat_lt 1000000 (length (readable sent)) ≡ far → all_readable sent ≡ all → reading_of bytes ≡ r → Accounts sent false line → Accounts (sent ++ bytes ∷ []) false (line ++ fates_of c bytes v line)
+-- one more carried message
+Accounts-carried : (sent : List (List ℕ)) (bytes : List ℕ) (c : ConnId) (m : Message) (v : Verdict) (line : List Fate) → is_carried m ≡ true → nat_lt 1000000 (length (all_carried sent)) ≡ false → all_readable sent ≡ true → reading_of bytes ≡ Some m → Accounts sent false line → Accounts (sent ++ bytes ∷ []) false (line ++ fates_of c bytes v line)
+Accounts-carried sent bytes c m v line is fe ae re h =
+    let ended : causes_in line ≡ [] = h.cause ∙ ap (λ e. option_to_list e) (ends_not sent fe ae) in
+    elim (bool_cases (nat_eq (length (messages_in line)) 1000000)) [
+      | inl full ↦ (let one : fates_of c bytes v line ≡ Closed c Spent ∷ [] = rw (ended, re, is, full) refl in rw one (Accounts-full sent bytes c m v line is fe ae re full h))
+      | inr room ↦
+          (let one : fates_of c bytes v line ≡ Taken c (record { 0 = length (messages_in line) }) m v ∷ [] = rw (ended, re, is, room) refl in rw one (Accounts-one sent bytes c m v line is fe ae re room h))
+    ]
+
+-- one more side message
+Accounts-side : (sent : List (List ℕ)) (bytes : List ℕ) (c : ConnId) (m : Message) (v : Verdict) (line : List Fate) → is_carried m ≡ false → nat_lt 1000000 (length (all_carried sent)) ≡ false → all_readable sent ≡ true → reading_of bytes ≡ Some m → Accounts sent false line → Accounts (sent ++ bytes ∷ []) false (line ++ fates_of c bytes v line)
+Accounts-side sent bytes c m v line side fe ae re h =
+    let ended : causes_in line ≡ [] = h.cause ∙ ap (λ e. option_to_list e) (ends_not sent fe ae) in
+    let none : fates_of c bytes v line ≡ [] = rw (ended, re, side) refl in
+    let more : all_carried (sent ++ bytes ∷ []) ≡ all_carried sent = all_carried-push sent bytes ∙ rw (ae, re, side) (append-nil (all_carried sent)) in
+    let good : all_readable (sent ++ bytes ∷ []) ≡ true = rw (all_readable-push sent bytes, ae, re) refl in
+    rw (none, append-nil line) (Accounts-same sent (sent ++ bytes ∷ []) false false line (ap (λ ms. take 1000000 ms) more) (ends_not (sent ++ bytes ∷ []) (rw more fe) good ∙ sym (ends_not sent fe ae)) h)
+
+Accounts-read : (sent : List (List ℕ)) (bytes : List ℕ) (c : ConnId) (v : Verdict) (line : List Fate) (far all : Bool) (r : Option Message) → nat_lt 1000000 (length (all_carried sent)) ≡ far → all_readable sent ≡ all → reading_of bytes ≡ r → Accounts sent false line → Accounts (sent ++ bytes ∷ []) false (line ++ fates_of c bytes v line)
 Accounts-read sent bytes c v line true all r fe ae re h =
     let ended : causes_in line ≡ Spent ∷ [] = h.cause ∙ ap (λ e. option_to_list e) (ends_far sent false fe) in
     let none : fates_of c bytes v line ≡ [] = rw ended refl in
-    let full : 1000000 < length (readable sent) = ltb-true 1000000 (length (readable sent)) fe in
-    let over : nat_lt 1000000 (length (readable (sent ++ bytes ∷ []))) ≡ true = rw (readable-push sent bytes) (lt-ltb _ _ (omega (arith, full, length-append (readable sent) (if all_readable sent then option_to_list (reading_of bytes) else [])))) in
-    rw (none, append-nil line) (Accounts-same sent (sent ++ bytes ∷ []) false false line (rw (readable-push sent bytes) (same_front (readable sent) _ (omega (arith, full)))) (ends_far (sent ++ bytes ∷ []) false over ∙ sym (ends_far sent false fe)) h)
+    let full : 1000000 < length (all_carried sent) = ltb-true 1000000 (length (all_carried sent)) fe in
+    let over : nat_lt 1000000 (length (all_carried (sent ++ bytes ∷ []))) ≡ true = rw (all_carried-push sent bytes) (lt-ltb _ _ (omega (arith, full, length-append (all_carried sent) (if all_readable sent then carried_in (reading_of bytes) else [])))) in
+    rw (none, append-nil line) (Accounts-same sent (sent ++ bytes ∷ []) false false line (rw (all_carried-push sent bytes) (same_front (all_carried sent) _ (omega (arith, full)))) (ends_far (sent ++ bytes ∷ []) false over ∙ sym (ends_far sent false fe)) h)
 Accounts-read sent bytes c v line false false r fe ae re h =
     let ended : causes_in line ≡ Malformed ∷ [] = h.cause ∙ ap (λ e. option_to_list e) (ends_bad sent false fe ae) in
     let none : fates_of c bytes v line ≡ [] = rw ended refl in
-    let more : readable (sent ++ bytes ∷ []) ≡ readable sent = readable-push sent bytes ∙ rw ae (append-nil (readable sent)) in
+    let more : all_carried (sent ++ bytes ∷ []) ≡ all_carried sent = all_carried-push sent bytes ∙ rw ae (append-nil (all_carried sent)) in
     let bad : all_readable (sent ++ bytes ∷ []) ≡ false = rw (all_readable-push sent bytes, ae) refl in
     rw (none, append-nil line) (Accounts-same sent (sent ++ bytes ∷ []) false false line (ap (λ ms. take 1000000 ms) more) (ends_bad (sent ++ bytes ∷ []) false (rw more fe) bad ∙ sym (ends_bad sent false fe ae)) h)
 Accounts-read sent bytes c v line false true None fe ae re h =
     let ended : causes_in line ≡ [] = h.cause ∙ ap (λ e. option_to_list e) (ends_not sent fe ae) in
     let one : fates_of c bytes v line ≡ Closed c Malformed ∷ [] = rw (ended, re) refl in
-    let more : readable (sent ++ bytes ∷ []) ≡ readable sent = readable-push sent bytes ∙ rw (ae, re) (append-nil (readable sent)) in
+    let more : all_carried (sent ++ bytes ∷ []) ≡ all_carried sent = all_carried-push sent bytes ∙ rw (ae, re) (append-nil (all_carried sent)) in
     let bad : all_readable (sent ++ bytes ∷ []) ≡ false = rw (all_readable-push sent bytes, ae, re) refl in
     rw one (Accounts-closed sent (sent ++ bytes ∷ []) false false c Malformed line (ap (λ ms. take 1000000 ms) more) (ends_not sent fe ae) (ends_bad (sent ++ bytes ∷ []) false (rw more fe) bad) h)
 Accounts-read sent bytes c v line false true (Some m) fe ae re h =
-    let ended : causes_in line ≡ [] = h.cause ∙ ap (λ e. option_to_list e) (ends_not sent fe ae) in
-    elim (bool_cases (nat_eq (length (messages_in line)) 1000000)) [
-      | inl full ↦ (let one : fates_of c bytes v line ≡ Closed c Spent ∷ [] = rw (ended, re, full) refl in rw one (Accounts-full sent bytes c m v line fe ae re full h))
-      | inr room ↦ (let one : fates_of c bytes v line ≡ Taken c (record { 0 = length (messages_in line) }) m v ∷ [] = rw (ended, re, room) refl in rw one (Accounts-one sent bytes c m v line fe ae re room h))
+    elim (bool_cases (is_carried m)) [
+      | inl is ↦ Accounts-carried sent bytes c m v line is fe ae re h
+      | inr side ↦ Accounts-side sent bytes c m v line side fe ae re h
     ]
 
 pub Accounts-receives : (sent : List (List ℕ)) (bytes : List ℕ) (c : ConnId) (v : Verdict) (line : List Fate) → Accounts sent false line → Accounts (sent ++ bytes ∷ []) false (line ++ fates_of c bytes v line)
 Accounts-receives sent bytes c v line h = Accounts-read sent bytes c v line _ _ _ refl refl refl h
 
 -- the link closes the connection
-Accounts-shut : (sent : List (List ℕ)) (c : ConnId) (line : List Fate) (far all : Bool) → nat_lt 1000000 (length (readable sent)) ≡ far → all_readable sent ≡ all → Accounts sent false line → Accounts sent true (line ++ (if any_cause (causes_in line) then [] else Closed c Link ∷ []))
+Accounts-shut : (sent : List (List ℕ)) (c : ConnId) (line : List Fate) (far all : Bool) → nat_lt 1000000 (length (all_carried sent)) ≡ far → all_readable sent ≡ all → Accounts sent false line → Accounts sent true (line ++ (if any_cause (causes_in line) then [] else Closed c Link ∷ []))
 Accounts-shut sent c line true all fe ae h =
     let ended : causes_in line ≡ Spent ∷ [] = h.cause ∙ ap (λ e. option_to_list e) (ends_far sent false fe) in
     rw (ended, append-nil line) (Accounts-same sent sent false true line refl (ends_far sent true fe ∙ sym (ends_far sent false fe)) h)

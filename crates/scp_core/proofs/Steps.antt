@@ -6,9 +6,10 @@ use Rattle.std.proofs.lemmas.Bool.Decides.{nat_tests}
 use Rattle.std.proofs.lemmas.Bool.{eqb-true}
 use Rattle.scp_types.specs.declared.names.ConnId.{ConnId}
 use Rattle.scp_wire.specs.declared.message.Message.{Message}
+use Rattle.scp_wire.specs.Carried.{is_side}
 use Rattle.scp_wire.specs.Reading.{reading_of}
-use Rattle.scp_core.specs.declared.journal.Cause.{Cause}
-use Rattle.scp_core.specs.declared.journal.Cause.TheVariants.{Link, Spent}
+use Rattle.scp_wire.specs.declared.link.Cause.{Cause}
+use Rattle.scp_wire.specs.declared.link.Cause.TheVariants.{Link, Spent}
 use Rattle.scp_core.specs.declared.journal.Fate.{Fate}
 use Rattle.scp_core.specs.declared.journal.Fate.TheVariants.{Taken, Closed}
 use Rattle.scp_core.specs.declared.journal.Verdict.{Verdict}
@@ -113,10 +114,10 @@ IsReply-step : (life : ℕ) (h : Heard) (old new : NodeView) (event : Event) (re
 IsReply-step life h old new event Failed k a s = is_there h.failed (sym k.failed ∙ s.0)
 IsReply-step life h old new event NoLink k a s = (runs h old k s.0, s.1)
 IsReply-step life h old new (Open link) NoMemory k a s = s.0.adds
-IsReply-step life h old new (Send link bytes) NoMemory k a s = live life h old new (Send link bytes) k a s.0
+IsReply-step life h old new (Send link bytes) NoMemory k a s = (live life h old new (Send link bytes) k a s.0, s.0.adds)
 IsReply-step life h old new (Close link) NoMemory k a s = live life h old new (Close link) k a s.0
 IsReply-step life h old new (Open link) JournalFull k a s = s.0.adds
-IsReply-step life h old new (Send link bytes) JournalFull k a s = live life h old new (Send link bytes) k a s.0
+IsReply-step life h old new (Send link bytes) JournalFull k a s = (live life h old new (Send link bytes) k a s.0, s.0.adds)
 IsReply-step life h old new (Close link) JournalFull k a s = live life h old new (Close link) k a s.0
 IsReply-step life h old new (Open link) AlreadyOpen k a s = ((runs h old k s.was, s.link), sym k.is_open ∙ s.refuses)
 IsReply-step life h old new (Send link bytes) AlreadyOpen k a s = s.refuses
@@ -170,13 +171,13 @@ Accounts-send life h old new bytes true is t k s a =
     let P : ℕ → Type 0 = λ n. new.journal ≡ old.journal ++ fates_of (at old n) bytes s.verdict (of_conn (at old n) old.journal) in
     let added : new.journal ≡ old.journal ++ fates_of c bytes s.verdict line = subst P now s.adds.journal in
     let same : same_conn (conn_of fate) c ≡ true = ap (λ (d : ConnId). same_conn d c) (conn_of-fate_of c (length (messages_in line)) (reading_of bytes) s.verdict) ∙ same_conn-at old.peer old.me life life ∙ eq-eqb life life refl in
-    let whole : of_conn c new.journal ≡ line ++ fates_of c bytes s.verdict line = ap (of_conn c) added ∙ of_conn-mine_if c old.journal (any_cause (causes_in line)) fate same in
+    let whole : of_conn c new.journal ≡ line ++ fates_of c bytes s.verdict line = ap (of_conn c) added ∙ of_conn-mine_if c old.journal (any_cause (causes_in line) || is_side (reading_of bytes)) fate same in
     rw (whole, open') (Accounts-receives h.sent bytes c s.verdict line (rw open' at a))
 Accounts-send life h old new bytes false is t k s a =
     let c = at old life in
     let fate = fate_of (conn_now old) (length (messages_in (line_of old))) (reading_of bytes) s.verdict in
     let other : same_conn (conn_of fate) c ≡ false = ap (λ (d : ConnId). same_conn d c) (conn_of-fate_of (conn_now old) (length (messages_in (line_of old))) (reading_of bytes) s.verdict) ∙ same_conn-at old.peer old.me old.life life ∙ ap (λ n. nat_eq n life) k.life ∙ is in
-    rw (s.adds.journal, of_conn-other_if c old.journal (has_ended old) fate other) a
+    rw (s.adds.journal, of_conn-other_if c old.journal (has_ended old || is_side (reading_of bytes)) fate other) a
 
 or_nothing : (b : Bool) → (b || false) ≡ b
 or_nothing true = refl
@@ -263,7 +264,7 @@ Grows-step old new event Failed s = grows_not old new (step_keeps old new s.1)
 Grows-step old new event JournalFull s = grows_not old new s.0.kept
 Grows-step old new event NoMemory s = grows_not old new s.0.kept
 Grows-step old new (Open link) Accepted s = record { me = s.1.me; peer = s.1.peer; more = []; journal = s.1.journal ∙ sym (append-nil old.journal) }
-Grows-step old new (Send link bytes) Accepted s = record { me = s.1.adds.me; peer = s.1.adds.peer; more = if has_ended old then [] else fate_of (conn_now old) (length (messages_in (line_of old))) (reading_of bytes) s.1.verdict ∷ []; journal = s.1.adds.journal }
+Grows-step old new (Send link bytes) Accepted s = record { me = s.1.adds.me; peer = s.1.adds.peer; more = if has_ended old || is_side (reading_of bytes) then [] else fate_of (conn_now old) (length (messages_in (line_of old))) (reading_of bytes) s.1.verdict ∷ []; journal = s.1.adds.journal }
 Grows-step old new (Close link) Accepted s = record { me = s.1.me; peer = s.1.peer; more = if has_ended old then [] else Closed (conn_now old) Link ∷ []; journal = s.1.journal }
 
 -- ---- a list of events and its replies with one more

@@ -1,7 +1,7 @@
 -- Decisions, the verdict on a record, and the slots in order.
 use Rattle.std.specs.Prelude.{ℕ, ◌+◌, ◌<◌, ◌≤◌, ◌≡◌, ◌≢◌, Bool, true, false, ◌||◌, List, [], ◌∷◌, ◌++◌, nat_lt, nat_le, nat_eq, if◌then◌else◌, map, Option, Some, None, option_to_list}
 use Rattle.std.specs.List.{list_any, AllPairs}
-use Rattle.scp_wire.specs.declared.message.Message.TheVariants.{Record}
+use Rattle.scp_wire.specs.declared.message.Message.TheVariants.{GetSet, Set, NoSet, Record}
 use Rattle.scp_core.specs.declared.journal.Fate.{Fate}
 use Rattle.scp_core.specs.declared.journal.Fate.TheVariants.{Taken, Closed}
 use Rattle.scp_core.specs.declared.journal.Verdict.{Verdict}
@@ -22,6 +22,9 @@ OnePerSlot decisions = AllPairs (λ d e. d.slot.0 ≢ e.slot.0) decisions
 
 -- the decision that an entry makes: that of a record taken with the verdict Decided, of its slot and value
 abbrev pub decision_by : Fate → Option Decision
+decision_by (Taken conn seq (GetSet hash) verdict) = None
+decision_by (Taken conn seq (Set set) verdict) = None
+decision_by (Taken conn seq (NoSet hash) verdict) = None
 decision_by (Taken conn seq (Record slot value) Decided) = Some (record { slot = slot; value = value; origin = Named conn seq })
 decision_by (Taken conn seq (Record slot value) Already) = None
 decision_by (Taken conn seq (Record slot value) FarSlot) = None
@@ -44,8 +47,11 @@ verdict_at lowest has_decision slot =
     if has_decision || nat_lt slot lowest then Already
     else (if nat_lt 4294967295 slot || nat_le (lowest + 16) slot then FarSlot else Decided)
 
--- the entry's verdict is the right one over the decisions that stood before it
+-- the entry's verdict is the right one over the decisions that stood before it; a side message has none
 abbrev pub HasVerdict : List Decision → Fate → Type 0
+HasVerdict before (Taken conn seq (GetSet hash) verdict) = ⊥
+HasVerdict before (Taken conn seq (Set set) verdict) = ⊥
+HasVerdict before (Taken conn seq (NoSet hash) verdict) = ⊥
 HasVerdict before (Taken conn seq (Record slot value) verdict) = (lowest : ℕ) × IsLowest before lowest × (verdict ≡ verdict_at lowest (is_decided slot.0 before) slot.0)
 HasVerdict before (Closed conn cause) = Unit {0}
 

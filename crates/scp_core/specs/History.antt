@@ -1,9 +1,10 @@
 -- What was sent on a connection: a list of events and their replies, and nothing else, says it.
-use Rattle.std.specs.Prelude.{ℕ, ◌+◌, Bool, true, false, ◌||◌, not, List, [], ◌∷◌, ◌++◌, Option, Some, None, nat_eq, nat_lt, if◌then◌else◌, length, fold, take, is_some}
+use Rattle.std.specs.Prelude.{ℕ, ◌+◌, Bool, true, false, ◌||◌, not, List, [], ◌∷◌, ◌++◌, Option, Some, None, nat_eq, nat_lt, if◌then◌else◌, length, filter, fold, take, is_some}
 use Rattle.scp_wire.specs.declared.message.Message.{Message}
+use Rattle.scp_wire.specs.Carried.{is_carried}
 use Rattle.scp_wire.specs.Reading.{reading_of}
-use Rattle.scp_core.specs.declared.journal.Cause.{Cause}
-use Rattle.scp_core.specs.declared.journal.Cause.TheVariants.{Malformed, Link, Spent}
+use Rattle.scp_wire.specs.declared.link.Cause.{Cause}
+use Rattle.scp_wire.specs.declared.link.Cause.TheVariants.{Malformed, Link, Spent}
 use Rattle.scp_core.specs.declared.event.Event.{Event}
 use Rattle.scp_core.specs.declared.event.Event.TheVariants.{Open, Send, Close}
 use Rattle.scp_core.specs.declared.event.Reply.{Reply}
@@ -60,12 +61,16 @@ abbrev pub all_readable : List (List ℕ) → Bool
 all_readable [] = true
 all_readable (bytes ∷ sent) = if is_some (reading_of bytes) then all_readable sent else false
 
+-- those of them that are carried
+abbrev pub all_carried : List (List ℕ) → List Message
+all_carried sent = filter is_carried (readable sent)
+
 -- the carried messages of a connection on which this was sent
 abbrev pub carried : List (List ℕ) → List Message
-carried sent = take 1000000 (readable sent)
+carried sent = take 1000000 (all_carried sent)
 
 -- why the connection ends, if it does
 abbrev pub end_of : List (List ℕ) → Bool → Option Cause
 end_of sent closed =
-    if nat_lt 1000000 (length (readable sent)) then Some Spent
+    if nat_lt 1000000 (length (all_carried sent)) then Some Spent
     else (if not (all_readable sent) then Some Malformed else (if closed then Some Link else None))

@@ -3,12 +3,10 @@ use Rattle.std.specs.Prelude.{ℕ, ◌+◌, ◌≡◌, List, [], ◌∷◌, Some
 use Rattle.std.specs.Cmp.Lexicographic.{pointwise}
 use Rattle.scp_types.specs.declared.names.ConnId.{ConnId}
 use Rattle.scp_types.specs.declared.names.NodeId.{NodeId}
-use Rattle.scp_types.specs.declared.names.Slot.{Slot}
 use Rattle.scp_wire.specs.declared.message.Message.{Message}
-use Rattle.scp_wire.specs.declared.message.Message.TheVariants.{Record}
 use Rattle.scp_core.specs.declared.journal.Fate.{Fate}
 use Rattle.scp_core.specs.declared.journal.Fate.TheVariants.{Taken, Closed}
-use Rattle.scp_core.specs.declared.journal.Cause.{Cause}
+use Rattle.scp_wire.specs.declared.link.Cause.{Cause}
 
 -- the connection of an entry
 abbrev pub conn_of : Fate → ConnId
@@ -20,13 +18,6 @@ same_node a b = pointwise nat_eq a.0 b.0
 
 abbrev pub same_conn : ConnId → ConnId → Bool
 same_conn c d = same_node c.from d.from && same_node c.to d.to && nat_eq c.life d.life
-
--- the slot and the value that a record names
-abbrev pub slot_of : Message → Slot
-slot_of (Record slot value) = slot
-
-abbrev pub value_of : Message → List ℕ
-value_of (Record slot value) = value
 
 -- the entries of a connection, in the journal's order
 abbrev pub of_conn : ConnId → List Fate → List Fate

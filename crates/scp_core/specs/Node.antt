@@ -1,14 +1,15 @@
 -- What clients see of a node, and what one event does to it.
-use Rattle.std.specs.Prelude.{ℕ, ◌+◌, ◌<◌, ◌≡◌, ◌≢◌, Bool, true, false, List, [], ◌∷◌, ◌++◌, Option, Some, None, nat_eq, if◌then◌else◌, length}
+use Rattle.std.specs.Prelude.{ℕ, ◌+◌, ◌<◌, ◌≡◌, ◌≢◌, Bool, true, false, ◌||◌, List, [], ◌∷◌, ◌++◌, Option, Some, None, nat_eq, if◌then◌else◌, length}
 use Rattle.scp_types.specs.declared.names.ConnId.{ConnId}
 use Rattle.scp_types.specs.declared.names.NodeId.{NodeId}
 use Rattle.scp_wire.specs.declared.message.Message.{Message}
+use Rattle.scp_wire.specs.Carried.{is_side}
 use Rattle.scp_wire.specs.Reading.{reading_of}
 use Rattle.scp_core.specs.declared.journal.Fate.{Fate}
 use Rattle.scp_core.specs.declared.journal.Fate.TheVariants.{Taken, Closed}
 use Rattle.scp_core.specs.declared.journal.Verdict.{Verdict}
-use Rattle.scp_core.specs.declared.journal.Cause.{Cause}
-use Rattle.scp_core.specs.declared.journal.Cause.TheVariants.{Malformed, Link, Spent}
+use Rattle.scp_wire.specs.declared.link.Cause.{Cause}
+use Rattle.scp_wire.specs.declared.link.Cause.TheVariants.{Malformed, Link, Spent}
 use Rattle.scp_core.specs.declared.journal.Decision.{Decision}
 use Rattle.scp_core.specs.declared.event.Event.{Event}
 use Rattle.scp_core.specs.declared.event.Event.TheVariants.{Open, Send, Close}
@@ -47,7 +48,7 @@ any_cause (cause ∷ causes) = true
 abbrev pub has_ended : NodeView → Bool
 has_ended v = any_cause (causes_in (line_of v))
 
--- the fate of the next bytes on a connection that carried n messages
+-- the fate of the next bytes on a connection that carried n messages, unless they are a side message
 abbrev pub fate_of : ConnId → ℕ → Option Message → Verdict → Fate
 fate_of conn n None verdict = Closed conn Malformed
 fate_of conn n (Some message) verdict = if nat_eq n 1000000 then Closed conn Spent else Taken conn (record { 0 = n }) message verdict
@@ -80,7 +81,7 @@ link_of (Close link) = link
 -- an event that adds an entry where its connection is live
 abbrev pub AddsAnEntry : Event → Type 0
 AddsAnEntry (Open link) = ⊥
-AddsAnEntry (Send link bytes) = Unit {0}
+AddsAnEntry (Send link bytes) = is_side (reading_of bytes) ≡ false
 AddsAnEntry (Close link) = Unit {0}
 
 -- the event fails the node where it would have added an entry
@@ -108,7 +109,7 @@ pub record Receives (old : NodeView) (bytes : List ℕ) (new : NodeView) : Type 
   pub was : old.failed ≡ false
   pub is_open : old.is_open ≡ true
   pub verdict : Verdict
-  pub adds : Adds old (if has_ended old then [] else fate_of (conn_now old) (length (messages_in (line_of old))) (reading_of bytes) verdict ∷ []) new
+  pub adds : Adds old (if has_ended old || is_side (reading_of bytes) then [] else fate_of (conn_now old) (length (messages_in (line_of old))) (reading_of bytes) verdict ∷ []) new
 
 pub record Closes (old new : NodeView) : Type 0 where
   pub me : new.me ≡ old.me

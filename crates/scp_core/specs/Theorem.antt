@@ -3,6 +3,8 @@ use Rattle.std.specs.Prelude.{ℕ, ◌+◌, ◌<◌, ◌≤◌, ◌≡◌, ◌�
 use Rattle.std.specs.List.Sorted.{IsPermutation}
 use Rattle.std.specs.FinMap as map
 use Rattle.scp_kv.specs.State.{fold_of}
+use Rattle.scp_wire.specs.Carried.{is_side}
+use Rattle.scp_wire.specs.Reading.{reading_of}
 use Rattle.scp_core.specs.declared.journal.Fate.{Fate}
 use Rattle.scp_core.specs.declared.event.Event.{Event}
 use Rattle.scp_core.specs.declared.event.Event.TheVariants.{Open, Send, Close}
@@ -40,8 +42,8 @@ IsReply life h (Open link) LivesSpent = IsHere h (Open link) × (h.is_open ≡ f
 IsReply life h (Open link) Accepted = IsHere h (Open link) × (h.is_open ≡ false) × (h.life < 65535)
 IsReply life h (Send link bytes) NotOpen = IsHere h (Send link bytes) × (h.is_open ≡ false)
 IsReply life h (Send link bytes) Accepted = IsHere h (Send link bytes) × (h.is_open ≡ true)
-IsReply life h (Send link bytes) JournalFull = IsLive life h (Send link bytes)
-IsReply life h (Send link bytes) NoMemory = IsLive life h (Send link bytes)
+IsReply life h (Send link bytes) JournalFull = IsLive life h (Send link bytes) × (is_side (reading_of bytes) ≡ false)
+IsReply life h (Send link bytes) NoMemory = IsLive life h (Send link bytes) × (is_side (reading_of bytes) ≡ false)
 IsReply life h (Close link) NotOpen = IsHere h (Close link) × (h.is_open ≡ false)
 IsReply life h (Close link) Accepted = IsHere h (Close link) × (h.is_open ≡ true)
 IsReply life h (Close link) JournalFull = IsLive life h (Close link)

@@ -1,35 +1,4 @@
-ghost use Rattle.std.specs.Prelude.{◌≡◌, IfOk, IsOkUnless};
-
-use scp_types::Fault;
-use std::marker::Model;
-
-/// Bytes as they came over a link; nothing is known of them.
-#[derive(Debug, Drop)]
-pub struct Bytes(Vec<u8>);
-
-impl Model for Bytes {
-    ghost use Rattle.std.specs.Prelude.{List, ℕ};
-
-    ghost Value = { List ℕ };
-
-    ghost view = { λ b. b.0.items };
-}
-
-impl Bytes {
-    /// These bytes.
-    pub fn new(bytes: Vec<u8>) -> Bytes
-        ensures { result ≡ bytes.items }
-    {
-        Bytes(bytes)
-    }
-
-    /// The bytes as a slice.
-    pub fn as_slice(&self) -> &[u8]
-        ensures { result.now ≡ self.now }
-    {
-        self.0.as_slice()
-    }
-}
+use scp_wire::Bytes;
 
 /// What happens at a node: each names one of its links, which come from its peers in their order.
 #[derive(Debug, Drop)]
@@ -43,6 +12,7 @@ pub enum Event {
 }
 
 impl Event {
+    ghost use Rattle.std.specs.Prelude.{◌≡◌};
     ghost use Rattle.scp_core.specs.Node.{link_of};
 
     /// The link that the event names.

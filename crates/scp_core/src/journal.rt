@@ -1,5 +1,5 @@
 use scp_types::{ConnId, Seq, Slot, Value};
-use scp_wire::Message;
+use scp_wire::{Cause, Message};
 
 /// What was found of a message that was taken.
 #[derive(Clone, Copy, Debug, PartialEq, Eq)]
@@ -10,17 +10,6 @@ pub enum Verdict {
     FarSlot,
     /// It decided its slot.
     Decided,
-}
-
-/// Why a connection ended.
-#[derive(Clone, Copy, Debug, PartialEq, Eq)]
-pub enum Cause {
-    /// Bytes came that are no message.
-    Malformed,
-    /// The link was closed.
-    Link,
-    /// A message came after 1,000,000 carried ones.
-    Spent,
 }
 
 /// An entry of the journal: what became of a carried message, or the end of a connection.

@@ -22,6 +22,12 @@ impl Model for Ledger {
 
     ghost Value = { LedgerView };
 
+    ghost use Rattle.std.specs.Coded.{codes};
+    ghost use Rattle.scp_xdr.specs.TreeModel.{coded_row};
+    ghost use Rattle.scp_quorum.specs.QuorumTree.{coded_level};
+
+    ghost coded = { Prim.hlevel (codes, coded_row coded_level) };
+
     ghost use Rattle.scp_core.specs.Inside.{ledger_view};
     ghost use Rattle.std.specs.Prelude.{◌≤◌, length};
 

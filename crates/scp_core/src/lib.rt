@@ -21,11 +21,12 @@ mod running;
 mod shared;
 
 pub use config::{Config, Peers};
-pub use event::{Bytes, Event, Reply};
-pub use journal::{Cause, Decision, Fate, Origin, Verdict};
+pub use event::{Event, Reply};
+pub use journal::{Decision, Fate, Origin, Verdict};
 pub use node::Node;
 pub use outcome::Run;
 pub use running::run;
+pub use scp_wire::{Bytes, Cause};
 pub use shared::SharedDecision;
 
 #[cfg(test)]

@@ -1,10 +1,11 @@
 ghost use Rattle.std.specs.Prelude.{◌≡◌, ◌≢◌, ◌∷◌, ◌++◌, [], ◌+◌, ◌<◌, ◌↔◌, ℕ, IsTrue, true, false, length, OnOk, OnErr, IfOk, IfErr, List, Some, None, Ok, Err, IsOkUnless, MatchOption, option_map, if◌then◌else◌, ◌==◌};
 ghost use Rattle.std.specs.FinMap as map;
+ghost use Rattle.scp_wire.specs.Carried.{is_side};
 ghost use Rattle.scp_wire.specs.Reading.{reading_of};
 ghost use Rattle.scp_core.specs.Node.{Step, Adds, Keeps, line_of, has_ended, conn_now, fate_of, link_of};
 ghost use Rattle.scp_core.specs.Theorem.{LedgerTheorem};
 ghost use Rattle.scp_core.specs.History.{Exchange};
-ghost use Rattle.scp_core.specs.Journal.{messages_in, slot_of, value_of};
+ghost use Rattle.scp_core.specs.Journal.{messages_in};
 ghost use Rattle.scp_core.specs.Parts.{IsLedger, IsInOrder, IsRunning};
 ghost use Rattle.scp_core.specs.Config.{IsConfig};
 ghost use Rattle.scp_core.specs.Applier.{applier_view};
@@ -12,14 +13,14 @@ ghost use Rattle.scp_core.specs.declared.journal.Fate.TheVariants.{Taken, Closed
 
 use crate::applier::Applier;
 use crate::config::Config;
-use crate::event::{Bytes, Event, Reply};
-use crate::journal::{Cause, Decision, Fate, Origin, Verdict};
+use crate::event::{Event, Reply};
+use crate::journal::{Decision, Fate, Origin, Verdict};
 use crate::ledger::{JOURNAL_LIMIT, Ledger};
 use crate::link::Link;
 use crate::shared::SharedDecision;
 use scp_kv::KvState;
 use scp_types::{ConnId, Fault, NodeId, Seq, Slot, Value};
-use scp_wire::{Message, decode};
+use scp_wire::{Cause, Message, decode, is_side_message};
 use std::alloc::Global;
 use std::marker::Model;
 
@@ -45,6 +46,12 @@ impl Model for Node {
     ghost use Rattle.scp_core.specs.Node.{NodeView};
 
     ghost Value = { NodeView };
+
+    ghost use Rattle.std.specs.Coded.{codes};
+    ghost use Rattle.scp_xdr.specs.TreeModel.{coded_row};
+    ghost use Rattle.scp_quorum.specs.QuorumTree.{coded_level};
+
+    ghost coded = { Prim.hlevel (codes, coded_row coded_level) };
 
     ghost use Rattle.scp_core.specs.Inside.{node_view, IsSound};
 
@@ -191,6 +198,9 @@ impl Node {
         if self.link.has_ended {
             return Reply::Accepted;
         }
+        if is_side_message(bytes) {
+            return Reply::Accepted;
+        }
         if self.ledger.is_full() {
             return self.fail(Reply::JournalFull);
         }
@@ -239,23 +249,26 @@ impl Node {
         }
     }
 
-    /// Reads bytes, and gives them their entry.
+    /// Reads bytes that are no side message, and gives them their entry.
     fn receive(&mut self, bytes: &[u8]) -> Result<(), Fault>
         requires running { self.old.failed ≡ false }
         requires is_open { self.old.is_open ≡ true }
         requires live { has_ended self.old ≡ false }
         requires short { length self.old.journal < JOURNAL_LIMIT }
+        requires no_side { is_side (reading_of bytes.now) ≡ false }
         ensures ok { OnOk result ((verdict : Verdict) × Adds self.old (fate_of (conn_now self.old) (length (messages_in (line_of self.old))) (reading_of bytes.now) verdict ∷ []) self.new) }
         ensures err { OnErr result (Keeps self.old self.new) }
     {
         match decode(self.alloc, bytes) {
-            Ok(message) => {
+            Ok(Message::Record(slot, value)) => {
                 if self.link.next == CARRIED_LIMIT {
                     self.end(Cause::Spent)
                 } else {
-                    self.take(message)
+                    self.take(slot, value)
                 }
             }
+            // not reached, since the bytes are no side message
+            Ok(Message::GetSet(_) | Message::Set(_) | Message::NoSet(_)) => Ok(()),
             Err(Fault::NoMemory) => Err(Fault::NoMemory),
             Err(_) => self.end(Cause::Malformed),
         }
@@ -276,14 +289,14 @@ impl Node {
         Ok(())
     }
 
-    /// Takes a carried message.
-    fn take(&mut self, message: Message) -> Result<(), Fault>
+    /// Takes a record.
+    fn take(&mut self, slot: Slot, value: Value) -> Result<(), Fault>
         requires running { self.old.failed ≡ false }
         requires is_open { self.old.is_open ≡ true }
         requires live { has_ended self.old ≡ false }
         requires short { length self.old.journal < JOURNAL_LIMIT }
         requires few { length (messages_in (line_of self.old)) < CARRIED_LIMIT }
-        ensures ok { OnOk result ((verdict : Verdict) × Adds self.old (Taken (conn_now self.old) (record { 0 = length (messages_in (line_of self.old)) }) message verdict ∷ []) self.new) }
+        ensures ok { OnOk result ((verdict : Verdict) × Adds self.old (Taken (conn_now self.old) (record { 0 = length (messages_in (line_of self.old)) }) (Message.Record slot value) verdict ∷ []) self.new) }
         ensures err { OnErr result (Keeps self.old self.new) }
     {
         self.ledger.reserve()?;
@@ -297,7 +310,8 @@ impl Node {
             &mut self.applier,
             conn,
             seq,
-            message,
+            slot,
+            value,
         )?;
         self.failed = false;
         self.link.next += 1;
@@ -321,55 +335,37 @@ fn is_same(left: &NodeId, right: &NodeId) -> bool
     left == right
 }
 
-/// The slot that a record names.
-fn slot_of(message: &Message) -> Slot
-    ensures { result ≡ slot_of message.now }
-{
-    match message {
-        Message::Record(slot, _value) => *slot,
-    }
-}
-
-/// The value that a record names.
-fn value_of(message: &Message) -> &Value
-    ensures { result.now ≡ value_of message.now }
-{
-    match message {
-        Message::Record(_slot, value) => value,
-    }
-}
-
 fn decides(verdict: Verdict) -> bool
     ensures { IsTrue result ↔ (verdict ≡ Verdict.Decided) }
 {
     matches!(verdict, Verdict::Decided)
 }
 
-/// Adds the message's entry, and applies what it decides.
+/// Adds the record's entry, and applies what it decides.
 fn enter(
     alloc: Global,
     ledger: &mut Ledger,
     applier: &mut Applier,
     conn: ConnId,
     seq: Seq,
-    message: Message,
+    slot: Slot,
+    value: Value,
 ) -> Result<(), Fault>
     requires room { ledger.old.has_room ≡ true }
     requires short { length ledger.old.journal < JOURNAL_LIMIT }
     requires known { IsLedger ledger.old.journal ledger.old.decisions }
     requires running { IsRunning ledger.old.decisions (applier_view applier.old) }
-    ensures ok { OnOk result ((verdict : Verdict) × (ledger.new.journal ≡ ledger.old.journal ++ Taken conn seq message verdict ∷ [])) }
+    ensures ok { OnOk result ((verdict : Verdict) × (ledger.new.journal ≡ ledger.old.journal ++ Taken conn seq (Message.Record slot value) verdict ∷ [])) }
     ensures known { OnOk result (IsLedger ledger.new.journal ledger.new.decisions) }
     ensures running { OnOk result (IsRunning ledger.new.decisions (applier_view applier.new)) }
     ensures err { OnErr result ((applier.new.applied.items ≡ applier.old.applied.items) × (ledger.new ≡ ledger.old)) }
 {
-    let slot = slot_of(&message);
     let verdict = applier.verdict(slot);
     if !decides(verdict) {
         ledger.add(Fate::Taken {
             conn,
             seq,
-            message,
+            message: Message::Record(slot, value),
             verdict,
         });
         return Ok(());
@@ -378,7 +374,7 @@ fn enter(
         alloc,
         Decision {
             slot,
-            value: value_of(&message).copy()?,
+            value: value.copy()?,
             origin: Origin::Named { conn, seq },
         },
     )?;
@@ -387,7 +383,7 @@ fn enter(
         Fate::Taken {
             conn,
             seq,
-            message,
+            message: Message::Record(slot, value),
             verdict,
         },
         decision,

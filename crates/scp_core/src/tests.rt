@@ -1,5 +1,5 @@
 use crate::*;
-use scp_types::{Fault, NodeId, Seq, Slot, Value};
+use scp_types::{ConnId, Fault, NodeId, Seq, Slot, Value};
 use scp_wire::{MESSAGE_LIMIT, Message, encode};
 use std::alloc::Global;
 use std::test::Fail;
@@ -21,158 +21,302 @@ const PUT_B: [u8; 24] = [
 /// One operation: del a.
 const DEL_A: [u8; 16] = [0, 0, 0, 1, 0, 0, 0, 1, 0, 0, 0, 1, 97, 0, 0, 0];
 
+/// A quorum set of no entries, as a message.
+const SET: [u8; 16] = [0, 0, 0, 3, 0, 0, 0, 0, 0, 0, 0, 0, 0, 0, 0, 0];
+
+/// Asks for a quorum set.
+const GET_SET: [u8; 36] = [
+    0, 0, 0, 2, 7, 7, 7, 7, 7, 7, 7, 7, 7, 7, 7, 7, 7, 7, 7, 7, 7, 7, 7, 7, 7, 7, 7, 7, 7, 7, 7, 7,
+    7, 7, 7, 7,
+];
+
+/// Answers that there is none.
+const NO_SET: [u8; 36] = [
+    0, 0, 0, 4, 7, 7, 7, 7, 7, 7, 7, 7, 7, 7, 7, 7, 7, 7, 7, 7, 7, 7, 7, 7, 7, 7, 7, 7, 7, 7, 7, 7,
+    7, 7, 7, 7,
+];
+
+/// What a peer does.
+#[derive(Clone, Copy)]
+enum Act<'a> {
+    Open(u8),
+    Close(u8),
+    Send(&'a [u8]),
+    Record(u64, &'a [u8]),
+}
+
+/// An entry of the journal: the life of its connection, the message's number and what became of it.
+#[derive(Clone, Copy, Debug, PartialEq, Eq)]
+enum Entry {
+    Taken(u32, u64, Verdict),
+    Closed(u32, Cause),
+}
+
+fn peers(alloc: Global, nodes: &[NodeId]) -> Result<Peers, Fault> {
+    Ok(Peers::new(Vec::from_slice(alloc, nodes)?))
+}
+
 fn config(alloc: Global) -> Result<Config, Fault> {
-    let mut nodes = Vec::new(alloc);
-    nodes.push(PEER)?;
-    let peers = Peers::new(nodes);
+    let peers = peers(alloc, &[PEER])?;
     Ok(Config { me: ME, peers })
 }
 
-fn record(alloc: Global, slot: u64, value: &[u8]) -> Result<Event, Fault> {
+fn new_node(alloc: Global) -> Result<Node, Fault> {
+    Node::new(alloc, config(alloc)?)
+}
+
+fn record(alloc: Global, slot: u64, value: &[u8]) -> Result<Vec<u8>, Fault> {
     let value = Value::new(Vec::from_slice(alloc, value)?);
-    let message = Message::Record(Slot(slot), value);
-    Ok(Event::Send(0, Bytes::new(encode(alloc, &message)?)))
+    encode(alloc, &Message::Record(Slot(slot), value))
 }
 
-fn raw(alloc: Global, bytes: &[u8]) -> Result<Event, Fault> {
-    Ok(Event::Send(0, Bytes::new(Vec::from_slice(alloc, bytes)?)))
+fn event_of(alloc: Global, act: &Act<'_>) -> Result<Event, Fault> {
+    Ok(match act {
+        Act::Open(link) => Event::Open(*link),
+        Act::Close(link) => Event::Close(*link),
+        Act::Send(bytes) => Event::Send(0, Bytes::new(Vec::from_slice(alloc, bytes)?)),
+        Act::Record(slot, value) => Event::Send(0, Bytes::new(record(alloc, *slot, value)?)),
+    })
 }
 
-fn verdicts(alloc: Global, node: &Node) -> Result<Vec<Option<Verdict>>, Fault> {
-    let mut found = Vec::new(alloc);
-    for fate in node.journal() {
-        found.push(match fate {
-            Fate::Taken { verdict, .. } => Some(*verdict),
-            Fate::Closed { .. } => None,
-        })?;
-    }
-    Ok(found)
+fn reply_to(node: &mut Node, event: &Event) -> Reply {
+    node.advance(event)
 }
 
-fn causes(alloc: Global, node: &Node) -> Result<Vec<Cause>, Fault> {
-    let mut found = Vec::new(alloc);
-    for fate in node.journal() {
-        if let Fate::Closed { cause, .. } = fate {
-            found.push(*cause)?;
+/// The place of the first act whose reply isn't this one.
+fn first_other(
+    alloc: Global,
+    node: &mut Node,
+    acts: &[Act<'_>],
+    reply: Reply,
+) -> Result<Option<usize>, Fault> {
+    for (index, act) in acts.iter().enumerate() {
+        if reply_to(node, &event_of(alloc, act)?) != reply {
+            return Ok(Some(index));
         }
     }
-    Ok(found)
+    Ok(None)
 }
 
-fn value_of(node: &Node, alloc: Global, key: &[u8]) -> Result<Option<u8>, Fault> {
+/// The node after these acts, each of which it accepts.
+fn after(alloc: Global, acts: &[Act<'_>]) -> Result<Node, Fault> {
+    let mut node = new_node(alloc)?;
+    match first_other(alloc, &mut node, acts, Reply::Accepted)? {
+        None => Ok(node),
+        Some(index) => Err(Fault::BadScript(index)),
+    }
+}
+
+/// The same event so often; how often it was accepted.
+fn repeated(node: &mut Node, event: &Event, count: u32) -> u32 {
+    let mut accepted = 0;
+    for _ in 0..count {
+        if reply_to(node, event) == Reply::Accepted && accepted < count {
+            accepted += 1;
+        }
+    }
+    accepted
+}
+
+fn entry_of(fate: &Fate) -> Entry {
+    match fate {
+        Fate::Taken {
+            conn,
+            seq,
+            verdict,
+            ..
+        } => Entry::Taken(conn.life, seq.0, *verdict),
+        Fate::Closed { conn, cause } => Entry::Closed(conn.life, *cause),
+    }
+}
+
+fn entries_of(alloc: Global, journal: &[Fate]) -> Result<Vec<Entry>, Fault> {
+    let mut entries = Vec::new(alloc);
+    for fate in journal {
+        entries.push(entry_of(fate))?;
+    }
+    Ok(entries)
+}
+
+fn entries(alloc: Global, node: &Node) -> Result<Vec<Entry>, Fault> {
+    entries_of(alloc, node.journal())
+}
+
+fn entry_count(node: &Node) -> usize {
+    node.journal().len()
+}
+
+fn last_verdict(journal: &[Fate]) -> Option<Verdict> {
+    match journal.last() {
+        Some(Fate::Taken { verdict, .. }) => Some(*verdict),
+        _ => None,
+    }
+}
+
+/// The verdict on a record for the slot.
+fn verdict_on(alloc: Global, node: &mut Node, slot: u64) -> Result<Option<Verdict>, Fault> {
+    reply_to(node, &event_of(alloc, &Act::Record(slot, &PUT_A))?);
+    Ok(last_verdict(node.journal()))
+}
+
+fn slots_of(alloc: Global, decisions: &[SharedDecision]) -> Result<Vec<u64>, Fault> {
+    let mut slots = Vec::new(alloc);
+    for decision in decisions {
+        slots.push(decision.get().slot.0)?;
+    }
+    Ok(slots)
+}
+
+fn applied_slots(alloc: Global, node: &Node) -> Result<Vec<u64>, Fault> {
+    slots_of(alloc, node.applied())
+}
+
+/// The first byte that the state has for the key.
+fn value_of(alloc: Global, node: &Node, key: &[u8]) -> Result<Option<u8>, Fault> {
     let key = Value::new(Vec::from_slice(alloc, key)?);
     let Some(state) = node.state() else {
         return Ok(None);
     };
-    Ok(match state.get(&key) {
-        Some(value) => value.as_slice().first().copied(),
-        None => None,
-    })
+    let value = state.get(&key);
+    Ok(value.and_then(|value| value.as_slice().first().copied()))
+}
+
+fn is_refused(made: Result<Node, Fault>) -> bool {
+    matches!(made, Err(Fault::BadConfig))
 }
 
 #[test]
 fn nothing_happens_without_events(rt: HostRuntime) -> Result<(), Fail> {
     let ran = run(rt.alloc(), config(rt.alloc())?, &[])?;
     assert_eq!(rt; ran.replies.len(), 0);
-    assert_eq!(rt; ran.node.journal().len(), 0);
-    assert_eq!(rt; ran.node.applied().len(), 0);
+    assert_eq!(rt; entry_count(&ran.node), 0);
     assert!(rt; ran.node.state().is_some_and(|state| state.is_empty()));
     Ok(())
 }
 
 #[test]
 fn a_config_has_one_other_peer(rt: HostRuntime) -> Result<(), Fail> {
-    let none = Config {
-        me: ME,
-        peers: Peers::new(Vec::new(rt.alloc())),
-    };
-    assert!(rt; matches!(Node::new(rt.alloc(), none), Err(Fault::BadConfig)));
-    let itself = Config {
-        me: PEER,
-        peers: config(rt.alloc())?.peers,
-    };
-    assert!(rt; matches!(Node::new(rt.alloc(), itself), Err(Fault::BadConfig)));
-    let mut two = Vec::new(rt.alloc());
-    two.push(PEER)?;
-    two.push(NodeId([3; 32]))?;
-    let peers = Peers::new(two);
-    assert!(rt;
-        matches!(
-            run(rt.alloc(), Config { me: ME, peers }, &[]),
-            Err(Fault::BadConfig)
-        )
+    let alloc = rt.alloc();
+    for nodes in [[].as_slice(), &[ME], &[PEER, NodeId([3; 32])]] {
+        let peers = peers(alloc, nodes)?;
+        assert!(rt; is_refused(Node::new(alloc, Config { me: ME, peers })));
+    }
+    Ok(())
+}
+
+#[test]
+fn run_refuses_a_config(rt: HostRuntime) -> Result<(), Fail> {
+    let peers = peers(rt.alloc(), &[ME])?;
+    let ran = run(rt.alloc(), Config { me: ME, peers }, &[]);
+    assert!(rt; matches!(ran, Err(Fault::BadConfig)));
+    Ok(())
+}
+
+#[test]
+fn run_replies_to_each_event(rt: HostRuntime) -> Result<(), Fail> {
+    let events = [Event::Open(0), Event::Open(0), Event::Close(0)];
+    let ran = run(rt.alloc(), config(rt.alloc())?, &events)?;
+    assert_eq!(rt;
+        ran.replies.as_slice(),
+        [Reply::Accepted, Reply::AlreadyOpen, Reply::Accepted].as_slice()
     );
     Ok(())
 }
 
 #[test]
-fn one_record_reaches_the_state(rt: HostRuntime) -> Result<(), Fail> {
-    let alloc = rt.alloc();
-    let mut events = Vec::new(alloc);
-    events.push(Event::Open(0))?;
-    events.push(record(alloc, 1, &PUT_A)?)?;
-    let ran = run(alloc, config(alloc)?, events.as_slice())?;
-    assert!(rt; ran.replies.iter().all(|reply| *reply == Reply::Accepted));
-    let node = &ran.node;
-    assert_eq!(rt;
-        verdicts(alloc, node)?.as_slice(),
-        [Some(Verdict::Decided)].as_slice()
-    );
-    assert_eq!(rt; node.decisions().len(), 1);
-    let [applied] = node.applied() else {
-        return Err(Fail::from("one slot"));
+fn a_record_decides_its_slot(rt: HostRuntime) -> Result<(), Fail> {
+    let node = after(rt.alloc(), &[Act::Open(0), Act::Record(1, &PUT_A)])?;
+    let [decision] = node.decisions() else {
+        return Err(Fail::from("one decision"));
     };
-    assert_eq!(rt; applied.slot, Slot(1));
-    assert!(rt; applied.value.as_slice() == PUT_A.as_slice());
-    let Origin::Named { conn, seq } = applied.origin;
-    assert!(rt; conn.from == PEER && conn.to == ME && conn.life == 1 && seq == Seq(0));
-    assert_eq!(rt; value_of(node, alloc, b"a")?, Some(49));
-    assert_eq!(rt; node.lives(0), 1);
-    assert_eq!(rt; node.lives(1), 0);
+    assert_eq!(rt; decision.value.as_slice(), PUT_A.as_slice());
+    let conn = ConnId {
+        from: PEER,
+        to: ME,
+        life: 1,
+    };
+    assert_eq!(rt; decision.origin, Origin::Named { conn, seq: Seq(0) });
+    Ok(())
+}
+
+#[test]
+fn a_record_reaches_the_state(rt: HostRuntime) -> Result<(), Fail> {
+    let node = after(rt.alloc(), &[Act::Open(0), Act::Record(1, &PUT_A)])?;
+    assert_eq!(rt;
+        applied_slots(rt.alloc(), &node)?.as_slice(),
+        [1].as_slice()
+    );
+    assert_eq!(rt; value_of(rt.alloc(), &node, b"a")?, Some(49));
+    Ok(())
+}
+
+#[test]
+fn a_decision_is_shared(rt: HostRuntime) -> Result<(), Fail> {
+    let node = after(rt.alloc(), &[Act::Open(0), Act::Record(1, &PUT_A)])?;
+    let first = node.decisions().first().ok_or("no decision")?;
+    assert_eq!(rt; first.share()?.get().slot, Slot(1));
     Ok(())
 }
 
 #[test]
 fn records_out_of_order_are_applied_in_order(rt: HostRuntime) -> Result<(), Fail> {
     let alloc = rt.alloc();
-    let mut events = Vec::new(alloc);
-    events.push(Event::Open(0))?;
-    events.push(record(alloc, 3, &DEL_A)?)?;
-    events.push(record(alloc, 2, &PUT_B)?)?;
-    events.push(record(alloc, 1, &PUT_A)?)?;
-    events.push(record(alloc, 1, &PUT_B)?)?;
-    let ran = run(alloc, config(alloc)?, events.as_slice())?;
-    let node = &ran.node;
-    let decided = Some(Verdict::Decided);
+    let node = after(
+        alloc,
+        &[
+            Act::Open(0),
+            Act::Record(3, &DEL_A),
+            Act::Record(2, &PUT_B),
+            Act::Record(1, &PUT_A),
+            Act::Record(1, &PUT_B),
+        ],
+    )?;
     assert_eq!(rt;
-        verdicts(alloc, node)?.as_slice(),
-        [decided, decided, decided, Some(Verdict::Already)].as_slice()
+        entries(alloc, &node)?.as_slice(),
+        [
+            Entry::Taken(1, 0, Verdict::Decided),
+            Entry::Taken(1, 1, Verdict::Decided),
+            Entry::Taken(1, 2, Verdict::Decided),
+            Entry::Taken(1, 3, Verdict::Already),
+        ]
+        .as_slice()
     );
-    assert!(rt;
-        node.applied()
-            .iter()
-            .zip(1u64..4)
-            .all(|(decision, slot)| decision.slot.0 == slot)
+    assert_eq!(rt;
+        applied_slots(alloc, &node)?.as_slice(),
+        [1, 2, 3].as_slice()
     );
-    assert_eq!(rt; node.applied().len(), 3);
-    assert_eq!(rt; value_of(node, alloc, b"a")?, None);
-    assert_eq!(rt; value_of(node, alloc, b"b")?, Some(50));
+    assert_eq!(rt; value_of(alloc, &node, b"a")?, None);
+    assert_eq!(rt; value_of(alloc, &node, b"b")?, Some(50));
     Ok(())
+}
+
+/// A node that has applied slots 1 to 16, which came from the last to the first; slot 17 came before them.
+fn sixteen_applied(alloc: Global) -> Result<Node, Fault> {
+    let mut node = after(alloc, &[Act::Open(0)])?;
+    for slot in 0..17 {
+        verdict_on(alloc, &mut node, 17 - slot)?;
+    }
+    Ok(node)
 }
 
 #[test]
 fn the_window_has_sixteen_slots(rt: HostRuntime) -> Result<(), Fail> {
     let alloc = rt.alloc();
-    let mut node = Node::new(alloc, config(alloc)?)?;
-    node.step(Event::Open(0));
-    for slot in 0..17u64 {
-        node.step(record(alloc, 17 - slot, &PUT_A)?);
-    }
+    let node = sixteen_applied(alloc)?;
     // Slot 17 was too far; 16 to 1 came in the window, and then all of them are applied.
-    let found = verdicts(alloc, &node)?;
-    assert_eq!(rt; found.len(), 17);
-    assert!(rt; found.first().copied() == Some(Some(Verdict::FarSlot)));
-    assert_eq!(rt; node.applied().len(), 16);
+    assert_eq!(rt;
+        entries(alloc, &node)?.first().copied(),
+        Some(Entry::Taken(1, 0, Verdict::FarSlot))
+    );
+    assert_eq!(rt; entry_count(&node), 17);
+    assert_eq!(rt; applied_slots(alloc, &node)?.len(), 16);
+    Ok(())
+}
+
+#[test]
+fn the_window_begins_at_the_lowest_undecided_slot(rt: HostRuntime) -> Result<(), Fail> {
+    let alloc = rt.alloc();
+    let mut node = sixteen_applied(alloc)?;
     for (slot, verdict) in [
         (0, Verdict::Already),
         (16, Verdict::Already),
@@ -183,88 +327,173 @@ fn the_window_has_sixteen_slots(rt: HostRuntime) -> Result<(), Fail> {
         (32, Verdict::Already),
         (17, Verdict::Decided),
     ] {
-        node.step(record(alloc, slot, &PUT_A)?);
-        let found = verdicts(alloc, &node)?;
-        assert_eq!(rt; found.last().copied(), Some(Some(verdict)), "slot {slot}");
+        assert_eq!(rt;
+            verdict_on(alloc, &mut node, slot)?,
+            Some(verdict),
+            "slot {slot}"
+        );
     }
-    assert_eq!(rt; node.applied().len(), 17);
+    assert_eq!(rt; applied_slots(alloc, &node)?.len(), 17);
+    Ok(())
+}
+
+#[test]
+fn a_link_that_is_not_open_takes_nothing(rt: HostRuntime) -> Result<(), Fail> {
+    let acts = [Act::Close(0), Act::Send(&[]), Act::Send(&SET)];
+    let mut node = new_node(rt.alloc())?;
+    assert_eq!(rt;
+        first_other(rt.alloc(), &mut node, &acts, Reply::NotOpen)?,
+        None
+    );
+    assert_eq!(rt; entry_count(&node), 0);
+    Ok(())
+}
+
+#[test]
+fn a_link_is_opened_once(rt: HostRuntime) -> Result<(), Fail> {
+    let mut node = after(rt.alloc(), &[Act::Open(0)])?;
+    assert_eq!(rt; reply_to(&mut node, &Event::Open(0)), Reply::AlreadyOpen);
+    assert_eq!(rt; reply_to(&mut node, &Event::Open(1)), Reply::NoLink);
+    assert_eq!(rt; node.step(Event::Close(1)), Reply::NoLink);
+    assert_eq!(rt; [node.lives(0), node.lives(1)], [1, 0]);
     Ok(())
 }
 
 #[test]
 fn a_connection_ends_once(rt: HostRuntime) -> Result<(), Fail> {
-    let alloc = rt.alloc();
-    let mut node = Node::new(alloc, config(alloc)?)?;
-    assert_eq!(rt; node.step(Event::Close(0)), Reply::NotOpen);
-    assert_eq!(rt; node.step(raw(alloc, &[])?), Reply::NotOpen);
-    assert_eq!(rt; node.step(Event::Open(1)), Reply::NoLink);
-    assert_eq!(rt; node.step(Event::Open(0)), Reply::Accepted);
-    assert_eq!(rt; node.step(Event::Open(0)), Reply::AlreadyOpen);
-    assert_eq!(rt; node.step(record(alloc, 1, &PUT_A)?), Reply::Accepted);
-    assert_eq!(rt; node.step(raw(alloc, &[0; 5])?), Reply::Accepted);
-    assert_eq!(rt; node.step(record(alloc, 2, &PUT_B)?), Reply::Accepted);
-    assert_eq!(rt; node.step(Event::Close(0)), Reply::Accepted);
-    assert_eq!(rt; node.step(Event::Close(0)), Reply::NotOpen);
-    assert_eq!(rt; node.step(Event::Open(0)), Reply::Accepted);
-    assert_eq!(rt; node.step(record(alloc, 2, &PUT_B)?), Reply::Accepted);
-    assert_eq!(rt; node.step(Event::Close(0)), Reply::Accepted);
+    let acts = [
+        Act::Open(0),
+        Act::Record(1, &PUT_A),
+        Act::Send(&[0; 5]),
+        Act::Record(2, &PUT_B),
+        Act::Close(0),
+        Act::Open(0),
+        Act::Record(2, &PUT_B),
+        Act::Close(0),
+    ];
+    let node = after(rt.alloc(), &acts)?;
     assert_eq!(rt;
-        causes(alloc, &node)?.as_slice(),
-        [Cause::Malformed, Cause::Link].as_slice()
-    );
-    assert_eq!(rt; node.journal().len(), 4);
-    assert!(rt;
-        matches!(node.journal().get(2), Some(Fate::Taken { conn, seq, .. }) if conn.life == 2 && *seq == Seq(0))
+        entries(rt.alloc(), &node)?.as_slice(),
+        [
+            Entry::Taken(1, 0, Verdict::Decided),
+            Entry::Closed(1, Cause::Malformed),
+            Entry::Taken(2, 0, Verdict::Decided),
+            Entry::Closed(2, Cause::Link),
+        ]
+        .as_slice()
     );
     Ok(())
 }
 
 #[test]
 fn over_the_limit_of_a_message(rt: HostRuntime) -> Result<(), Fail> {
-    let alloc = rt.alloc();
-    let mut node = Node::new(alloc, config(alloc)?)?;
-    node.step(Event::Open(0));
-    let long = vec![in alloc; 0u8; MESSAGE_LIMIT + 1]?;
+    let long = vec![in rt.alloc(); 0u8; MESSAGE_LIMIT + 1]?;
+    let node = after(rt.alloc(), &[Act::Open(0), Act::Send(long.as_slice())])?;
     assert_eq!(rt;
-        node.step(Event::Send(0, Bytes::new(long))),
-        Reply::Accepted
+        entries(rt.alloc(), &node)?.as_slice(),
+        [Entry::Closed(1, Cause::Malformed)].as_slice()
     );
+    Ok(())
+}
+
+#[test]
+fn side_messages_have_no_number_and_no_entry(rt: HostRuntime) -> Result<(), Fail> {
+    let acts = [
+        Act::Open(0),
+        Act::Send(&GET_SET),
+        Act::Record(1, &PUT_A),
+        Act::Send(&SET),
+        Act::Send(&NO_SET),
+        Act::Record(2, &PUT_B),
+        Act::Send(&SET),
+        Act::Close(0),
+    ];
+    let node = after(rt.alloc(), &acts)?;
     assert_eq!(rt;
-        causes(alloc, &node)?.as_slice(),
-        [Cause::Malformed].as_slice()
+        entries(rt.alloc(), &node)?.as_slice(),
+        [
+            Entry::Taken(1, 0, Verdict::Decided),
+            Entry::Taken(1, 1, Verdict::Decided),
+            Entry::Closed(1, Cause::Link),
+        ]
+        .as_slice()
     );
+    Ok(())
+}
+
+#[test]
+fn a_malformed_side_message_ends_the_connection(rt: HostRuntime) -> Result<(), Fail> {
+    for bytes in [
+        [0, 0, 0, 2].as_slice(),
+        &[0, 0, 0, 3, 0, 0, 0, 0],
+        &[0, 0, 0, 4, 7, 7, 7, 7],
+        &[0, 0, 0, 5],
+    ] {
+        let acts = [Act::Open(0), Act::Send(bytes), Act::Record(1, &PUT_A)];
+        let node = after(rt.alloc(), &acts)?;
+        assert_eq!(rt;
+            entries(rt.alloc(), &node)?.as_slice(),
+            [Entry::Closed(1, Cause::Malformed)].as_slice()
+        );
+    }
+    Ok(())
+}
+
+#[test]
+fn side_messages_end_with_their_connection(rt: HostRuntime) -> Result<(), Fail> {
+    let acts = [Act::Open(0), Act::Send(&[]), Act::Send(&SET)];
+    let node = after(rt.alloc(), &acts)?;
+    assert_eq!(rt; entry_count(&node), 1);
     Ok(())
 }
 
 #[test]
 fn lives_are_spent_after_65_535(rt: HostRuntime) -> Result<(), Fail> {
-    let alloc = rt.alloc();
-    let mut node = Node::new(alloc, config(alloc)?)?;
+    let mut node = new_node(rt.alloc())?;
     for _ in 0..65_535u32 {
-        assert_eq!(rt; node.step(Event::Open(0)), Reply::Accepted);
-        assert_eq!(rt; node.step(Event::Close(0)), Reply::Accepted);
+        assert_eq!(rt; reply_to(&mut node, &Event::Open(0)), Reply::Accepted);
+        assert_eq!(rt; reply_to(&mut node, &Event::Close(0)), Reply::Accepted);
     }
-    assert_eq!(rt; node.step(Event::Open(0)), Reply::LivesSpent);
-    assert_eq!(rt; node.journal().len(), 65_535);
+    assert_eq!(rt; reply_to(&mut node, &Event::Open(0)), Reply::LivesSpent);
+    assert_eq!(rt; entry_count(&node), 65_535);
     assert_eq!(rt; node.lives(0), 65_535);
     Ok(())
 }
 
-#[test]
-fn the_limits_of_a_connection_and_of_the_journal(rt: HostRuntime) -> Result<(), Fail> {
-    let alloc = rt.alloc();
-    let mut node = Node::new(alloc, config(alloc)?)?;
-    let far = record(alloc, u64::MAX, &[])?;
-    node.step(Event::Open(0));
-    for _ in 0..999_999u32 {
-        node.advance(&far);
+/// A node with a full journal: 1,000,000 records for a slot that is too far, on one connection.
+fn full(alloc: Global) -> Result<Node, Fault> {
+    let mut node = after(alloc, &[Act::Open(0)])?;
+    let far = event_of(alloc, &Act::Record(u64::MAX, &[]))?;
+    match repeated(&mut node, &far, 1_000_000) {
+        1_000_000 => Ok(node),
+        _ => Err(Fault::JournalFull),
     }
-    assert_eq!(rt; node.advance(&far), Reply::Accepted);
-    assert_eq!(rt; node.journal().len(), 1_000_000);
-    assert_eq!(rt; node.advance(&far), Reply::JournalFull);
-    assert_eq!(rt; node.advance(&far), Reply::Failed);
-    assert_eq!(rt; node.step(Event::Close(0)), Reply::Failed);
-    assert_eq!(rt; node.journal().len(), 1_000_000);
+}
+
+#[test]
+fn a_full_journal_fails_the_node(rt: HostRuntime) -> Result<(), Fail> {
+    let alloc = rt.alloc();
+    let mut node = full(alloc)?;
+    let far = event_of(alloc, &Act::Record(u64::MAX, &[]))?;
+    assert_eq!(rt; reply_to(&mut node, &far), Reply::JournalFull);
+    assert_eq!(rt; reply_to(&mut node, &far), Reply::Failed);
+    assert_eq!(rt; reply_to(&mut node, &Event::Close(0)), Reply::Failed);
+    assert_eq!(rt; entry_count(&node), 1_000_000);
     assert!(rt; node.state().is_none());
+    Ok(())
+}
+
+#[test]
+fn a_full_journal_takes_side_messages(rt: HostRuntime) -> Result<(), Fail> {
+    let alloc = rt.alloc();
+    let mut node = full(alloc)?;
+    let acts = [Act::Send(&GET_SET), Act::Send(&SET), Act::Send(&NO_SET)];
+    assert_eq!(rt;
+        first_other(alloc, &mut node, &acts, Reply::Accepted)?,
+        None
+    );
+    assert_eq!(rt; entry_count(&node), 1_000_000);
+    assert!(rt; node.state().is_some());
+    assert_eq!(rt; reply_to(&mut node, &Event::Close(0)), Reply::JournalFull);
     Ok(())
 }

@@ -1,6 +1,7 @@
 pub mod DeviceLemmas
-pub mod Faults
 pub mod Lines
 pub mod Sections
 pub mod Connections
 pub mod Played
+pub mod Admitted
+pub mod Taken

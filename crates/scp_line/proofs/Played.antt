@@ -1,5 +1,5 @@
 -- One command more, at the two nodes.
-use Rattle.std.proofs.Common.{◌≡◌, ◌≢◌, inl, inr, ℕ, Bool, true, List, [], ◌∷◌, ◌++◌, map, flat_map, cond, nat_eq, refl, sym, ◌∙◌, ap, subst, append_assoc, append-nil}
+use Rattle.std.proofs.Common.{◌≡◌, ◌≢◌, inl, inr, ℕ, List, [], ◌∷◌, ◌++◌, refl, sym, ◌∙◌, ap, subst, append_assoc, append-nil}
 use Rattle.scp_core.specs.declared.event.Event.{Event}
 use Rattle.scp_core.specs.declared.event.Reply.TheVariants.{Accepted}
 use Rattle.scp_core.specs.History.{Exchange}
@@ -53,19 +53,19 @@ first_steps r old new command node event is one me peer h =
       second = IsNode-same before command 2 1 old.second at_second p.second;
     }) h
 
+pub is_two : (n : ℕ) → IsNodeNumber n → n ≢ 1 → n ≡ 2
+is_two n (inl one) ne = absurd (ne one)
+is_two n (inr two) ne = two
+
 -- an event of the second node
 pub second_steps : (r : Result (Unit {0}) PlayFault) (old : Nodes) (new : NodeView) (command : Command) (node : ℕ) (event : Event) → command ≡ Step node event → NamesNode command → node ≢ 1 → new.me ≡ old.second.me → new.peer ≡ old.second.peer
     → OnOk r ((past : List Exchange) → LedgerTheorem past old.second → LedgerTheorem (past ++ (event, Accepted) ∷ []) new)
     → OnOk r ((before : List Command) → Played before old → Played (before ++ command ∷ []) (record { first = old.first; second = new }))
 second_steps r old new command node event is names other me peer h =
-    let two : node ≡ 2 = is_two node (subst NamesNode is names) other in
+    let two : node ≡ 2 = is_two node (let n : NamesNode (Step node event) = subst NamesNode is names in n.0) other in
     let at_first : event_at 1 command ≡ [] = rw (is, two) refl in
     let at_second : event_at 2 command ≡ event ∷ [] = rw (is, two) refl in
     on_ok r (λ step before p. record {
       first = IsNode-same before command 1 2 old.first at_first p.first;
       second = IsNode-step before command 2 1 old.second new event at_second me peer step p.second;
     }) h
-  where
-    is_two : (n : ℕ) → IsNodeNumber n → n ≢ 1 → n ≡ 2
-    is_two n (inl one) ne = absurd (ne one)
-    is_two n (inr two) ne = two

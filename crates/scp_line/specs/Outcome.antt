@@ -2,7 +2,7 @@
 use Rattle.std.specs.Prelude.{ℕ, List, ◌++◌, Result, Ok, Err, codes}
 use Rattle.std.specs.Fmt.{decimal}
 use Rattle.scp_types.specs.declared.fault.Fault.{Fault}
-use Rattle.scp_types.specs.declared.fault.Fault.TheVariants.{NoMemory, Malformed, TooLong, NotOpen, AlreadyOpen, LivesSpent, BadConfig, Failed, BadScript, Refused, Device}
+use Rattle.scp_types.specs.declared.fault.Fault.TheVariants.{NoMemory, Malformed, TooLong, Failed, BadScript, Refused, Device}
 use Rattle.scp_types.specs.declared.fault.Stage.{Stage}
 use Rattle.scp_types.specs.declared.fault.Stage.TheVariants.{Reader, Pend, Slot, Apply}
 use Rattle.scp_types.specs.Fault.{number_of}
@@ -48,31 +48,11 @@ IsCheckFault Device = Unit {0}
 IsCheckFault (BadScript line) = Unit {0}
 IsCheckFault fault = ⊥
 
--- why nodes can't do what the lines of a script say
-abbrev pub IsRunFault : Fault → Type 0
-IsRunFault NoMemory = Unit {0}
-IsRunFault NotOpen = Unit {0}
-IsRunFault AlreadyOpen = Unit {0}
-IsRunFault LivesSpent = Unit {0}
-IsRunFault BadConfig = Unit {0}
-IsRunFault Failed = Unit {0}
-IsRunFault fault = ⊥
-
--- why bytes have no reading
-abbrev pub IsReadingFault : Fault → Type 0
-IsReadingFault (Malformed place) = Unit {0}
-IsReadingFault TooLong = Unit {0}
-IsReadingFault fault = ⊥
-
--- why a script isn't played: it can't be read, a line is bad, or a node can't do what a line says
+-- why a script isn't played: it can't be read, a line is bad, a node failed, or the reports had no memory or no taker
 abbrev pub IsPlayFault : Fault → Type 0
 IsPlayFault NoMemory = Unit {0}
 IsPlayFault TooLong = Unit {0}
 IsPlayFault Device = Unit {0}
 IsPlayFault (BadScript line) = Unit {0}
-IsPlayFault NotOpen = Unit {0}
-IsPlayFault AlreadyOpen = Unit {0}
-IsPlayFault LivesSpent = Unit {0}
-IsPlayFault BadConfig = Unit {0}
 IsPlayFault Failed = Unit {0}
 IsPlayFault fault = ⊥

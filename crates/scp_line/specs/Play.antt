@@ -4,8 +4,9 @@ use Rattle.std.specs.Fmt.{decimal}
 use Rattle.scp_types.specs.declared.names.NodeId.{NodeId}
 use Rattle.scp_types.specs.declared.fault.Fault.{Fault}
 use Rattle.scp_types.specs.declared.fault.Fault.TheVariants.{Malformed, Failed}
+use Rattle.scp_quorum.specs.QuorumKind.{set_hash}
 use Rattle.scp_wire.specs.declared.message.Message.{Message}
-use Rattle.scp_wire.specs.declared.message.Message.TheVariants.{Record}
+use Rattle.scp_wire.specs.declared.message.Message.TheVariants.{GetSet, Set, NoSet, Record}
 use Rattle.scp_wire.specs.Message.{message_reading}
 use Rattle.scp_wire.specs.Reading.{reading_of}
 use Rattle.scp_core.specs.declared.event.Event.{Event}
@@ -51,8 +52,11 @@ pub record AreReports (script text : List ℕ) : Type 0 where
   pub is_second : IsNode (commands_in script) 2 1 second
   pub reports : text ≡ flat_map (report_at first second) (reports_in (commands_in script))
 
--- the line of a message
+-- the line of a message: the number and the word of its kind, and what it says; a quorum set is told by its hash
 abbrev pub message_line : Message → List ℕ
+message_line (GetSet hash) = codes "2 getset " ++ hex_word hash.0 ++ codes "\n"
+message_line (Set set) = codes "3 set " ++ hex_word (set_hash set) ++ codes "\n"
+message_line (NoSet hash) = codes "4 noset " ++ hex_word hash.0 ++ codes "\n"
 message_line (Record slot value) = codes "6 record " ++ decimal slot.0 ++ codes " " ++ hex_word value ++ codes "\n"
 
 -- the text shows the message that the digits spell

@@ -12,8 +12,8 @@ use Rattle.scp_types.specs.declared.names.ConnId.{ConnId}
 use Rattle.scp_types.specs.declared.names.NodeId.{NodeId}
 use Rattle.scp_core.specs.declared.journal.Verdict.{Verdict}
 use Rattle.scp_core.specs.declared.journal.Verdict.TheVariants.{Already, FarSlot, Decided}
-use Rattle.scp_core.specs.declared.journal.Cause.{Cause}
-use Rattle.scp_core.specs.declared.journal.Cause.TheVariants.{Malformed, Link, Spent}
+use Rattle.scp_wire.specs.declared.link.Cause.{Cause}
+use Rattle.scp_wire.specs.declared.link.Cause.TheVariants.{Malformed, Link, Spent}
 use Rattle.scp_core.specs.declared.journal.Fate.{Fate}
 use Rattle.scp_core.specs.declared.journal.Fate.TheVariants.{Taken, Closed}
 use Rattle.scp_core.specs.declared.journal.Origin.{Origin}

@@ -14,9 +14,15 @@ use Rattle.scp_line.specs.declared.script.Command.TheVariants.{Step, Ask, Settle
 abbrev pub IsNodeNumber : ℕ → Type 0
 IsNodeNumber node = (node ≡ 1) ⊎ (node ≡ 2)
 
+-- an event that a line of a script says: it is of link 0, and closes nothing
+abbrev pub IsOfScript : Event → Type 0
+IsOfScript (Open link) = link ≡ 0
+IsOfScript (Send link bytes) = link ≡ 0
+IsOfScript (Close link) = ⊥
+
 -- the command is for one of the two nodes
 abbrev pub NamesNode : Command → Type 0
-NamesNode (Step node event) = IsNodeNumber node
+NamesNode (Step node event) = IsNodeNumber node × IsOfScript event
 NamesNode (Ask from to slot) = Unit {0}
 NamesNode Settle = Unit {0}
 NamesNode (Report node) = IsNodeNumber node
@@ -126,6 +132,11 @@ admits commands (Step node (Close link)) = false
 admits commands (Ask from to slot) = true
 admits commands Settle = true
 admits commands (Report node) = true
+
+-- each of the commands may stand behind those before it
+abbrev pub AreAdmitted : List Command → List Command → Type 0
+AreAdmitted before [] = Unit {0}
+AreAdmitted before (command ∷ commands) = (admits before command ≡ true) × AreAdmitted (before ++ command ∷ []) commands
 
 abbrev pub admits_found : List Command → Option Command → Bool
 admits_found commands (Some command) = admits commands command

@@ -1,12 +1,11 @@
-ghost use Rattle.std.specs.Prelude.{◌≡◌, ◌≢◌, ◌++◌, ◌∷◌, [], ℕ, List, All, OnOk, IfOk, IfErr, IsOkUnless, string_bytes, map, flat_map};
-ghost use Rattle.scp_core.specs.History.{Exchange};
+ghost use Rattle.std.specs.Prelude.{◌≡◌, ◌≢◌, ◌++◌, ◌∷◌, [], ℕ, List, All, true, OnOk, OnErr, IfOk, IfErr, IsOkUnless, string_bytes, map, flat_map};
+ghost use Rattle.scp_core.specs.History.{Exchange, heard};
 ghost use Rattle.scp_core.specs.Theorem.{LedgerTheorem};
 ghost use Rattle.scp_core.specs.declared.event.Reply.TheVariants.{Accepted};
 ghost use Rattle.scp_line.specs.declared.script.Command.{Command};
-ghost use Rattle.scp_line.specs.Script.{IsNodeNumber, NamesNode, reports_in};
-ghost use Rattle.scp_line.specs.Play.{IsNode, IsNamed, id_of, report_of_node, report_at};
-ghost use Rattle.scp_line.specs.Nodes.{Played};
-ghost use Rattle.scp_line.specs.Outcome.{IsRunFault};
+ghost use Rattle.scp_line.specs.Script.{IsNodeNumber, NamesNode, AreAdmitted, admits, reports_in};
+ghost use Rattle.scp_line.specs.Play.{IsNode, id_of, report_of_node, report_at};
+ghost use Rattle.scp_line.specs.Nodes.{Played, IsTaken, StopsAt, Stops};
 
 use crate::playing::PlayFault;
 use crate::report::{ReportParts, write_report};
@@ -31,9 +30,9 @@ fn id_from(number: u8) -> NodeId
 
 /// A node that has heard nothing, linked to the other.
 fn new_node(alloc: Global, number: u8, other: u8) -> Result<Node, Fault>
+    requires { other ≢ number }
     ensures node { IfOk result (λ node. IsNode [] number other node) }
-    ensures cause { IfErr result IsRunFault }
-    ensures named { IfErr result (λ fault. IsNamed 0 fault) }
+    ensures only_memory { IsOkUnless result Fault.NoMemory }
 {
     let mut peers = Vec::new(alloc);
     peers.push(id_from(other))?;
@@ -46,37 +45,31 @@ fn new_node(alloc: Global, number: u8, other: u8) -> Result<Node, Fault>
     )
 }
 
-/// One event of a node.
+/// One event of a node that takes it, unless the node fails.
 fn step(node: &mut Node, number: u8, event: &Event) -> Result<(), PlayFault>
-    requires { IsNodeNumber number }
+    requires { (past : List Exchange) × LedgerTheorem past node.old × IsTaken (heard 1 past) event.now }
     ensures theorem { OnOk result ((past : List Exchange) → LedgerTheorem past node.old → LedgerTheorem (past ++ (event.now, Accepted) ∷ []) node.new) }
     ensures me { node.new.me ≡ node.old.me }
     ensures peer { node.new.peer ≡ node.old.peer }
-    ensures cause { IfErr result (λ e. IsRunFault e.fault) }
-    ensures named { IfErr result (λ e. IsNamed e.node e.fault) }
+    ensures refused { IfErr result (λ e. e ≡ record { fault = Fault.Failed; node = number }) }
+    ensures failed { OnErr result (node.new.failed ≡ true) }
+    ensures at { OnErr result ((reply : Reply) × ((past : List Exchange) → LedgerTheorem past node.old → LedgerTheorem (past ++ (event.now, reply) ∷ []) node.new)) }
 {
-    let fault = match node.advance(event) {
-        Reply::Accepted => return Ok(()),
-        Reply::NoMemory | Reply::JournalFull | Reply::Failed => {
-            return Err(PlayFault {
-                fault: Fault::Failed,
-                node: number,
-            });
-        }
-        Reply::AlreadyOpen => Fault::AlreadyOpen,
-        Reply::LivesSpent => Fault::LivesSpent,
-        Reply::NotOpen => Fault::NotOpen,
-        Reply::NoLink => Fault::BadConfig,
-    };
-    Err(PlayFault { fault, node: 0 })
+    match node.advance(event) {
+        Reply::Accepted => Ok(()),
+        // An event of a script is refused for no other reason than the node's failure.
+        _ => Err(PlayFault {
+            fault: Fault::Failed,
+            node: number,
+        }),
+    }
 }
 
 impl Nodes {
     /// Two nodes that have heard nothing.
     pub fn new(alloc: Global) -> Result<Nodes, Fault>
         ensures played { IfOk result (λ nodes. Played [] nodes) }
-        ensures cause { IfErr result IsRunFault }
-        ensures named { IfErr result (λ fault. IsNamed 0 fault) }
+        ensures only_memory { IsOkUnless result Fault.NoMemory }
     {
         Ok(Nodes {
             first: new_node(alloc, 1, 2)?,
@@ -86,10 +79,11 @@ impl Nodes {
 
     /// Does what a line says.
     fn act(&mut self, command: &Command) -> Result<(), PlayFault>
-        requires { NamesNode command.now }
+        requires names { NamesNode command.now }
+        requires admitted { (before : List Command) × Played before self.old × All NamesNode before × (admits before command.now ≡ true) }
         ensures played { OnOk result ((before : List Command) → Played before self.old → Played (before ++ command.now ∷ []) self.new) }
-        ensures cause { IfErr result (λ e. IsRunFault e.fault) }
-        ensures named { IfErr result (λ e. IsNamed e.node e.fault) }
+        ensures refused { IfErr result (λ e. (e.fault ≡ Fault.Failed) × IsNodeNumber e.node) }
+        ensures stops { IfErr result (λ e. (before : List Command) → Played before self.old → StopsAt before command.now e.node) }
     {
         match command {
             Command::Step { node, event } => {
@@ -106,10 +100,11 @@ impl Nodes {
     /// Does what the lines say, in their order.
     pub fn act_all(&mut self, commands: &[Command]) -> Result<(), PlayFault>
         requires names { All NamesNode commands.now }
+        requires admitted { AreAdmitted [] commands.now }
         requires new { Played [] self.old }
         ensures played { OnOk result (Played commands.now self.new) }
-        ensures cause { IfErr result (λ e. IsRunFault e.fault) }
-        ensures named { IfErr result (λ e. IsNamed e.node e.fault) }
+        ensures refused { IfErr result (λ e. (e.fault ≡ Fault.Failed) × IsNodeNumber e.node) }
+        ensures stops { IfErr result (λ e. Stops commands.now e.node) }
     {
         for command in commands {
             self.act(command)?;

@@ -1,17 +1,21 @@
-ghost use Rattle.std.specs.Prelude.{◌≡◌, ◌≢◌, ◌⊎◌, ◌<◌, ℕ, List, length, IfOk, IfErr, IfSome, OnOk, IsErrOf, Some, Err, string_bytes, codes};
+ghost use Rattle.std.specs.Prelude.{◌≡◌, ◌≢◌, ◌++◌, IsOkUnless, ◌⊎◌, ◌<◌, ℕ, List, length, IfOk, IfErr, IfSome, OnOk, IsErrOf, Some, Err, string_bytes, codes};
 ghost use Rattle.scp_types.specs.declared.fault.Fault.TheVariants.{BadScript};
 ghost use Rattle.scp_wire.specs.Reading.{reading_of};
-ghost use Rattle.scp_wire.specs.Message.{message_reading};
+ghost use Rattle.scp_wire.specs.Message.{message_kind, message_value, message_reading};
+ghost use Rattle.scp_xdr.specs.Kind.{Fits};
+ghost use Rattle.scp_xdr.specs.Words.{IsReadingFault};
+ghost use Rattle.scp_line.specs.Report.{hex_word};
 ghost use Rattle.scp_line.specs.Device.{Gains, Fails, IsAll};
-ghost use Rattle.scp_line.specs.Script.{IsScript, IsBadLine};
-ghost use Rattle.scp_line.specs.Outcome.{IsCheckFault, IsPlayFault, IsReadingFault};
+ghost use Rattle.scp_line.specs.Script.{IsScript, IsBadLine, commands_in};
+ghost use Rattle.scp_line.specs.Nodes.{Stops};
+ghost use Rattle.scp_line.specs.Outcome.{IsCheckFault, IsPlayFault};
 ghost use Rattle.scp_line.specs.Play.{AreReports, IsShown, IsUnread, IsNamed, message_line};
 
 use crate::device::{ReportOut, SCRIPT_LIMIT, ScriptIn, read_script, write_text};
 use crate::nodes::Nodes;
 use crate::report::write_hex;
 use crate::script::{bytes_of, parse};
-use scp_types::Fault;
+use scp_types::{Fault, Hash, Slot, Value};
 use scp_wire::{Message, decode};
 use std::alloc::{AllocError, Global};
 
@@ -46,6 +50,7 @@ fn played(alloc: Global, text: &[u8]) -> Result<String, PlayFault>
     ensures line { IfErr result (λ e. (line : ℕ) → e.fault ≡ BadScript line → IsBadLine text.now line) }
     ensures named { IfErr result (λ e. IsNamed e.node e.fault) }
     ensures cause { IfErr result (λ e. IsPlayFault e.fault) }
+    ensures stops { IfErr result (λ e. e.fault ≡ Fault.Failed → Stops (commands_in text.now) e.node) }
 {
     let commands = parse(alloc, text)?;
     let mut nodes = Nodes::new(alloc)?;
@@ -77,6 +82,8 @@ pub fn play<R: ScriptIn, W: ReportOut>(
     ensures line { IfErr result (λ e. (line : ℕ) → e.fault ≡ BadScript line → IfSome (R.left reader.old) (λ all. IsBadLine all line)) }
     // No other refusal is answered.
     ensures cause { IfErr result (λ e. IsPlayFault e.fault) }
+    // Failed is answered where a node of the script failed at one of its lines.
+    ensures stops { IfErr result (λ e. e.fault ≡ Fault.Failed → IfSome (R.left reader.old) (λ all. Stops (commands_in all) e.node)) }
     // A node is named where it failed, and only there.
     ensures named { IfErr result (λ e. IsNamed e.node e.fault) }
     // After any other refusal than Device nothing was written.
@@ -114,11 +121,21 @@ pub fn check<R: ScriptIn, W: ReportOut>(
     Ok(write_text(writer, "ok\n")?)
 }
 
-/// The line of a message.
-fn line_of(alloc: Global, message: &Message) -> Result<String, AllocError>
-    ensures { IfOk result (λ text. string_bytes text ≡ message_line message.now) }
+/// The line of a message that says a hash.
+fn hash_line(alloc: Global, word: &str, hash: &Hash) -> Result<String, AllocError>
+    ensures { IfOk result (λ text. string_bytes text ≡ word.now ++ hex_word hash.now.0 ++ codes "\n") }
 {
-    let Message::Record(slot, value) = message;
+    let mut text = String::new(alloc);
+    text.push_str(word)?;
+    write_hex(&mut text, &hash.0)?;
+    text.push_str("\n")?;
+    Ok(text)
+}
+
+/// The line of a record.
+fn record_line(alloc: Global, slot: Slot, value: &Value) -> Result<String, AllocError>
+    ensures { IfOk result (λ text. string_bytes text ≡ message_line (Message.Record slot value.now)) }
+{
     let number = slot.0;
     let mut text = String::new(alloc);
     write!(&mut text, "6 record {number} ")?;
@@ -127,10 +144,24 @@ fn line_of(alloc: Global, message: &Message) -> Result<String, AllocError>
     Ok(text)
 }
 
+/// The line of a message that keeps its limits.
+fn line_of(alloc: Global, message: &Message) -> Result<String, Fault>
+    requires { Fits message_kind (message_value message.now) }
+    ensures line { IfOk result (λ text. string_bytes text ≡ message_line message.now) }
+    ensures only_memory { IsOkUnless result Fault.NoMemory }
+{
+    match message {
+        Message::GetSet(hash) => Ok(hash_line(alloc, "2 getset ", hash)?),
+        Message::Set(set) => Ok(hash_line(alloc, "3 set ", &set.hash()?)?),
+        Message::NoSet(hash) => Ok(hash_line(alloc, "4 noset ", hash)?),
+        Message::Record(slot, value) => Ok(record_line(alloc, *slot, value)?),
+    }
+}
+
 /// The message that the bytes spell.
-#[tactic(auto, using(crate::proofs::Faults::message_faults))]
 fn read_message(alloc: Global, bytes: &[u8]) -> Result<Message, Fault>
     ensures reading { IfOk result (λ message. reading_of bytes.now ≡ Some message) }
+    ensures fits { IfOk result (λ message. Fits message_kind (message_value message)) }
     ensures first { IfErr result (λ fault. fault ≢ Fault.NoMemory → message_reading bytes.now ≡ Err fault) }
     ensures cause { IfErr result (λ fault. fault ≢ Fault.NoMemory → IsReadingFault fault) }
 {
@@ -151,7 +182,7 @@ fn shown(alloc: Global, hex: &str) -> Result<String, Fault>
         return Err(Fault::Malformed(0));
     };
     let message = read_message(alloc, bytes.as_slice())?;
-    Ok(line_of(alloc, &message)?)
+    line_of(alloc, &message)
 }
 
 /// Shows the message that the digits spell, in one line.

@@ -15,6 +15,24 @@ const MESSAGE: &str =
 
 const SHOWN: &[u8] = b"6 record 1 000000010000000000000001610000000000000131000000\n";
 
+const GET_SET: &str = "000000020707070707070707070707070707070707070707070707070707070707070707";
+
+const GET_SET_SHOWN: &[u8] =
+    b"2 getset 0707070707070707070707070707070707070707070707070707070707070707\n";
+
+/// Two of three nodes.
+const SET: &str =
+    "00000003000000020000000300000000010101010101010101010101010101010101010101010101010101010101010100000000020202020202020202020202020202020202020202020202020202020202020200000000030303030303030303030303030303030303030303030303030303030303030300000000";
+
+/// Its line has the SHA-256 of the 120 bytes behind the first word.
+const SET_SHOWN: &[u8] =
+    b"3 set 82cec09b2ea19bc04323f4889977d51aca3a9368162b688cb5af4b4419a52ec4\n";
+
+const NO_SET: &str = "000000040707070707070707070707070707070707070707070707070707070707070707";
+
+const NO_SET_SHOWN: &[u8] =
+    b"4 noset 0707070707070707070707070707070707070707070707070707070707070707\n";
+
 /// The exit status of the words over the script, and whether the text is what was written.
 fn serves(rt: &HostRuntime, words: &[&str], script: &[u8], text: &[u8]) -> Option<u8> {
     let alloc = rt.alloc();
@@ -193,35 +211,50 @@ fn tells_a_writer_that_fails(rt: HostRuntime) {
     assert_eq!(rt; serve(alloc, words.as_slice(), &mut reader, &mut writer), 0);
 }
 
+/// The exit status of `decode` with this word, where the text is what was written.
+fn decodes(rt: &HostRuntime, word: &str, text: &[u8]) -> Option<u8> {
+    let words = ["scp_line", "decode", word];
+    serves(rt, words.as_slice(), b"", text)
+}
+
 #[test]
-fn shows_a_message(rt: HostRuntime) -> Result<(), Fail> {
+fn shows_a_record(rt: HostRuntime) -> Result<(), Fail> {
     let alloc = rt.alloc();
     let mut writer = MemoryOut::new(Vec::new(alloc));
     show(alloc, MESSAGE, &mut writer)?;
     assert!(rt; writer.text() == SHOWN);
-    let words = ["scp_line", "decode", "00000006000000000000000700000000"];
-    assert_eq!(rt;
-        serves(&rt, words.as_slice(), b"", b"6 record 7 -\n"),
-        Some(0)
-    );
-    for word in [
-        "zz",
-        "0",
-        "",
-        "-",
-        "00",
-        "0000000600000000000000070000000000",
-    ] {
-        let words = ["scp_line", "decode", word];
-        assert_eq!(rt;
-            serves(&rt, words.as_slice(), b"", b"fault 2\n"),
-            Some(1),
-            "at {word}"
-        );
-    }
-    let words = ["scp_line", "decode", "00000006000000000000000700001001"];
-    assert_eq!(rt; serves(&rt, words.as_slice(), b"", b"fault 3\n"), Some(1));
     Ok(())
+}
+
+#[test]
+fn decodes_each_kind(rt: HostRuntime) {
+    for (word, line) in [
+        (GET_SET, GET_SET_SHOWN),
+        (SET, SET_SHOWN),
+        (NO_SET, NO_SET_SHOWN),
+        (MESSAGE, SHOWN),
+        ("00000006000000000000000700000000", b"6 record 7 -\n"),
+    ] {
+        assert_eq!(rt; decodes(&rt, word, line), Some(0), "at {word}");
+    }
+}
+
+#[test]
+fn decodes_nothing_else(rt: HostRuntime) {
+    for (word, line) in [
+        ("zz", b"fault 2\n".as_slice()),
+        ("0", b"fault 2\n"),
+        ("", b"fault 2\n"),
+        ("-", b"fault 2\n"),
+        ("00", b"fault 2\n"),
+        ("0000000600000000000000070000000000", b"fault 2\n"),
+        ("00000002", b"fault 2\n"),
+        ("000000030000000000000000", b"fault 2\n"),
+        ("00000006000000000000000700001001", b"fault 3\n"),
+        ("0000000300000000000003e9", b"fault 3\n"),
+    ] {
+        assert_eq!(rt; decodes(&rt, word, line), Some(1), "at {word}");
+    }
 }
 
 #[test]

@@ -1,11 +1,13 @@
--- No message that keeps the limits of its parts is over the limit on all of its bytes.
-use Rattle.std.proofs.Common.{◌≡◌, ℕ, ◌+◌, ◌<◌, ◌≤◌, ◌⊎◌, List, ◌++◌, length, replicate, Result, Ok, Err, refl, arith, inl, inr}
-use Rattle.std.specs.Prelude.{IfOk, IsErrOf, ◌↔◌}
+-- When a message is over a limit.
+use Rattle.std.proofs.Common.{◌≡◌, ◌≢◌, ℕ, ◌+◌, ◌<◌, ◌≤◌, ◌⊎◌, Bool, true, false, ltb, List, ◌++◌, length, replicate, Result, Ok, Err, refl, arith, inl, inr, ltb-true, ltb-false}
+use Rattle.std.specs.Prelude.{IfOk, ◌↔◌}
 use Rattle.std.proofs.lemmas.List.{length-append, length-replicate}
 use Rattle.scp_types.specs.declared.fault.Fault.{Fault}
-use Rattle.scp_types.specs.declared.fault.Fault.TheVariants.{TooLong}
 use Rattle.scp_xdr.specs.Kind.{Values, Fits, Spells, spelling, word, long_word, padded, padding_len}
-use Rattle.scp_wire.specs.Message.{message_kind, SpellsMessage, FitsMessage}
+use Rattle.scp_quorum.specs.QuorumKind.{set_spelling}
+use Rattle.scp_wire.specs.declared.message.Message.{Message}
+use Rattle.scp_wire.specs.declared.message.Message.TheVariants.{GetSet, Set, NoSet, Record}
+use Rattle.scp_wire.specs.Message.{message_kind, message_value, SpellsMessage, FitsMessage, HasRanges, BreaksALimit}
 
 word_len : (n : ℕ) → length (word n) ≡ 4
 unfolding word
@@ -19,28 +21,63 @@ padded_len : (bytes : List ℕ) → length (padded bytes) ≤ length bytes + 3
 unfolding padded
 padded_len bytes = omega (arith, length-append bytes (replicate (padding_len (length bytes)) 0), length-replicate {A = ℕ} (padding_len (length bytes)) 0)
 
-record_len : (n : ℕ) (bytes : List ℕ) → length bytes ≤ 4096 → length (word 6 ++ (long_word n ++ (word (length bytes) ++ padded bytes))) ≤ 65536
-record_len n bytes le = simp (length-append, word_len, long_word_len) (omega (arith, padded_len bytes))
-
-pub fits_within : (v : Values message_kind) → Fits message_kind v → length (spelling message_kind v) ≤ 65536
-fits_within (inl v) fits = record_len v.0 v.1 fits.1.1.0
-fits_within (inr v) fits = elim v [ ]
-
 pub spells_within : {X : Type 0} (items : X → List ℕ) (v : Values message_kind) (r : Result X Fault) → IfOk r (λ x. Spells message_kind (items x) v) → IfOk r (λ x. length (items x) ≤ 65536) → IfOk r (λ x. SpellsMessage (items x) v)
 spells_within items v (Ok x) s within = record { within = within; spells = s }
 spells_within items v (Err f) s within = tt
 
-fits_message : (v : Values message_kind) → Fits message_kind v → FitsMessage v
-fits_message v fits = record { fits = fits; within = fits_within v fits }
+-- a part over its limit, or too many bytes in all
+abbrev IsOver : Values message_kind → Type 0
+IsOver v = (¬ (Fits message_kind v)) ⊎ (65536 < length (spelling message_kind v))
 
--- what breaks a limit is no message that fits, and the other way round
-pub breaks_limits : (v : Values message_kind) → (¬ (Fits message_kind v)) ⊎ (65536 < length (spelling message_kind v)) → ¬ (FitsMessage v)
-breaks_limits v (inl unfit) = λ fits. unfit fits.fits
-breaks_limits v (inr longer) = λ fits. omega (arith, fits.within, longer)
+pub over_breaks : (v : Values message_kind) → IsOver v → ¬ (FitsMessage v)
+over_breaks v (inl unfit) = λ fits. unfit fits.fits
+over_breaks v (inr longer) = λ fits. omega (arith, fits.within, longer)
 
-pub limits_broken : (v : Values message_kind) → ¬ (FitsMessage v) → (¬ (Fits message_kind v)) ⊎ (65536 < length (spelling message_kind v))
-limits_broken v breaks = inl (λ fits. breaks (fits_message v fits))
+pub breaks_over : (v : Values message_kind) → ¬ (FitsMessage v) → IsOver v
+breaks_over v breaks = at (ltb 65536 (length (spelling message_kind v))) refl
+  where
+    at : (b : Bool) → ltb 65536 (length (spelling message_kind v)) ≡ b → IsOver v
+    at true e = inr (ltb-true 65536 (length (spelling message_kind v)) e)
+    at false e = inl (λ fits. breaks (record { fits = fits; within = ltb-false 65536 (length (spelling message_kind v)) e }))
 
--- so the limit on all of the bytes refuses nothing more
-pub limits_of_parts : {X : Type 0} (v : Values message_kind) (r : Result X Fault) → (IsErrOf r TooLong ↔ ((¬ (Fits message_kind v)) ⊎ (65536 < length (spelling message_kind v)))) → (IsErrOf r TooLong ↔ (¬ (Fits message_kind v)))
-limits_of_parts v r given = (λ refused fits. breaks_limits v (given.0 refused) (fits_message v fits), λ unfit. given.1 (inl unfit))
+hash_len : (n : ℕ) (bytes : List ℕ) → length bytes ≡ 32 → length (word n ++ padded bytes) ≤ 65536
+hash_len n bytes e = simp (length-append, word_len) (omega (arith, padded_len bytes, e))
+
+record_len : (n : ℕ) (bytes : List ℕ) → length bytes ≤ 4096 → length (word 6 ++ (long_word n ++ (word (length bytes) ++ padded bytes))) ≤ 65536
+record_len n bytes le = simp (length-append, word_len, long_word_len) (omega (arith, padded_len bytes))
+
+set_len : (text : List ℕ) → length (word 3 ++ text) ≡ 4 + length text
+set_len text = simp (length-append, word_len) refl
+
+other_tag : (m n : ℕ) → n < m → m ≢ n
+other_tag m n lt = λ e. omega arith
+
+pub over_is : (m : Message) → HasRanges m → IsOver (message_value m) ↔ BreaksALimit m
+over_is (GetSet hash) len = (over, λ b. elim b [ ])
+  where
+    over : IsOver (message_value (GetSet hash)) → ⊥
+    over (inl unfit) = unfit (omega arith, len)
+    over (inr longer) = omega (arith, longer, hash_len 2 hash.0 len)
+over_is (NoSet hash) len = (over, λ b. elim b [ ])
+  where
+    over : IsOver (message_value (NoSet hash)) → ⊥
+    over (inl unfit) = unfit (other_tag 4 2 (omega arith), (other_tag 4 3 (omega arith), (omega arith, len)))
+    over (inr longer) = omega (arith, longer, hash_len 4 hash.0 len)
+over_is (Set set) len = (over, back)
+  where
+    over : IsOver (message_value (Set set)) → BreaksALimit (Set set)
+    over (inl unfit) = inl (λ fits. unfit (other_tag 3 2 (omega arith), (omega arith, fits)))
+    over (inr longer) = inr (omega (arith, longer, set_len (set_spelling set)))
+
+    back : BreaksALimit (Set set) → IsOver (message_value (Set set))
+    back (inl unfit) = inl (λ fits. unfit fits.1.1)
+    back (inr longer) = inr (omega (arith, longer, set_len (set_spelling set)))
+over_is (Record slot value) range = (over, λ long. inl (λ fits. omega (arith, long, fits.1.1.1.1.1.0)))
+  where
+    at : (b : Bool) → ltb 4096 (length value) ≡ b → IsOver (message_value (Record slot value)) → 4096 < length value
+    at true e o = ltb-true 4096 (length value) e
+    at false e (inl unfit) = absurd (unfit (other_tag 6 2 (omega arith), (other_tag 6 3 (omega arith), (other_tag 6 4 (omega arith), (omega arith, (range, (ltb-false 4096 (length value) e, omega (arith, ltb-false 4096 (length value) e))))))))
+    at false e (inr longer) = absurd (omega (arith, longer, record_len slot.0 value (ltb-false 4096 (length value) e)))
+
+    over : IsOver (message_value (Record slot value)) → 4096 < length value
+    over o = at (ltb 4096 (length value)) refl o

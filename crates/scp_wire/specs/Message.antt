@@ -1,24 +1,44 @@
 -- Link messages as values of a kind, and the limit on all of their bytes (this project's profile).
-use Rattle.std.specs.Prelude.{ℕ, ◌<◌, ◌≤◌, List, length, Result, Err, nat_lt, if◌then◌else◌}
+use Rattle.std.specs.Prelude.{◌≡◌, ℕ, ◌^◌, ◌<◌, ◌≤◌, ◌⊎◌, List, length, map, Result, Err, nat_lt, if◌then◌else◌}
 use Rattle.std.proofs.Common.{inl, inr}
 use Rattle.scp_types.specs.declared.fault.Fault.{Fault}
 use Rattle.scp_types.specs.declared.fault.Fault.TheVariants.{TooLong}
+use Rattle.scp_types.specs.declared.names.NodeId.{NodeId}
 use Rattle.scp_xdr.specs.Kind.{Kind, uint64, both, union, no_arm, arm, Values, Spells, Fits, spelling}
+use Rattle.scp_xdr.specs.Tree.{tree_map}
 use Rattle.scp_xdr.specs.Reading.{reading_whole}
-use Rattle.scp_xdr.specs.Shared.{value_kind}
+use Rattle.scp_xdr.specs.Shared.{value_kind, hash_kind, node_kind}
+use Rattle.scp_quorum.specs.QuorumTree.{Level, QuorumTree}
+use Rattle.scp_quorum.specs.QuorumKind.{level_kind, set_kind, set_value, set_spelling}
 use Rattle.scp_wire.specs.declared.message.Message.{Message}
-use Rattle.scp_wire.specs.declared.message.Message.TheVariants.{Record}
+use Rattle.scp_wire.specs.declared.message.Message.TheVariants.{GetSet, Set, NoSet, Record}
 
 abbrev pub message_kind : Kind
-message_kind = union (arm 6 (both uint64 value_kind) no_arm)
+message_kind = union (arm 2 hash_kind (arm 3 set_kind (arm 4 hash_kind (arm 6 (both uint64 value_kind) no_arm))))
 
 abbrev pub message_value : Message → Values message_kind
-message_value (Record slot value) = inl (slot.0, value)
+message_value (GetSet hash) = inl hash.0
+message_value (Set set) = inr (inl (set_value set))
+message_value (NoSet hash) = inr (inr (inl hash.0))
+message_value (Record slot value) = inr (inr (inr (inl (slot.0, value))))
 
--- back from the value of a kind
+-- back from the values of kinds
+abbrev pub node_of : Values node_kind → NodeId
+node_of (inl bytes) = record { 0 = bytes }
+node_of (inr v) = elim v [ ]
+
+abbrev pub level_of : Values level_kind → Level
+level_of v = record { threshold = v.0; validators = map node_of v.1 }
+
+abbrev pub set_of : Values set_kind → QuorumTree
+set_of v = tree_map level_of v
+
 abbrev pub message_of : Values message_kind → Message
-message_of (inl v) = Record (record { 0 = v.0 }) v.1
-message_of (inr v) = elim v [ ]
+message_of (inl hash) = GetSet (record { 0 = hash })
+message_of (inr (inl set)) = Set (set_of set)
+message_of (inr (inr (inl hash))) = NoSet (record { 0 = hash })
+message_of (inr (inr (inr (inl v)))) = Record (record { 0 = v.0 }) v.1
+message_of (inr (inr (inr (inr v)))) = elim v [ ]
 
 -- the bytes are those of the message
 pub record SpellsMessage (bytes : List ℕ) (v : Values message_kind) : Type 0 where
@@ -30,9 +50,19 @@ pub record FitsMessage (v : Values message_kind) : Type 0 where
   pub fits : Fits message_kind v
   pub within : length (spelling message_kind v) ≤ 65536
 
--- the value of a record is over its limit
-abbrev pub HasLongValue : Message → Type 0
-HasLongValue (Record slot value) = 4096 < length value
+-- the numbers and arrays of a message are in the range of their types
+abbrev pub HasRanges : Message → Type 0
+HasRanges (GetSet hash) = length hash.0 ≡ 32
+HasRanges (Set set) = Unit {0}
+HasRanges (NoSet hash) = length hash.0 ≡ 32
+HasRanges (Record slot value) = slot.0 < 2 ^ 64
+
+-- the value of a record is over its limit, or the quorum set over one of its own, or longer than a message lets it be
+abbrev pub BreaksALimit : Message → Type 0
+BreaksALimit (GetSet hash) = ⊥
+BreaksALimit (Set set) = (¬ (Fits set_kind (set_value set))) ⊎ (65532 < length (set_spelling set))
+BreaksALimit (NoSet hash) = ⊥
+BreaksALimit (Record slot value) = 4096 < length value
 
 -- the limit is tested before anything is read
 abbrev pub message_reading : List ℕ → Result (Values message_kind) Fault

@@ -1,15 +1,24 @@
-ghost use Rattle.std.specs.Prelude.{◌≡◌, ◌≢◌, ◌<◌, ◌≤◌, length, IfOk, IfErr, IsErrOf, ◌↔◌, ◌⊎◌, Ok, Err, Some, None};
+ghost use Rattle.std.specs.Prelude.{◌≡◌, ◌≢◌, ◌<◌, ◌^◌, length, IfOk, IfErr, IsErrOf, ◌↔◌, ◌⊎◌, Ok, Err, Some, None};
 ghost use Rattle.scp_xdr.specs.Kind.{Values};
-ghost use Rattle.scp_xdr.specs.Words.{Gives};
-ghost use Rattle.scp_wire.specs.Message.{message_kind, message_value, message_reading, SpellsMessage, FitsMessage, HasLongValue};
-ghost use Rattle.scp_wire.specs.Reading.{reading_of, ReadingIsSpelt};
+ghost use Rattle.scp_xdr.specs.Reading.{start, read_uint32};
+ghost use Rattle.scp_xdr.specs.Words.{Gives, IsReadingFault};
+ghost use Rattle.scp_wire.specs.Carried.{is_side};
+ghost use Rattle.scp_wire.specs.Message.{message_kind, message_value, message_reading, SpellsMessage, FitsMessage, HasRanges, BreaksALimit};
+ghost use Rattle.scp_wire.specs.Reading.{reading_of, has_side_word, ReadingIsSpelt};
 
 use crate::message::{MESSAGE_LIMIT, Message};
-use scp_types::{Fault, Slot, Value};
-use scp_xdr::{Reader, Writer, Xdr, spend_u32, spend_u64};
+use scp_quorum::QuorumSet;
+use scp_types::{Fault, Hash, Slot, Value};
+use scp_xdr::{Reader, Writer, Xdr, check, spend_u32, spend_u64};
 use std::alloc::Global;
 
-/// The discriminant of a record.
+/// The discriminants of the kinds.
+const GET_SET: u32 = 2;
+
+const SET: u32 = 3;
+
+const NO_SET: u32 = 4;
+
 const RECORD: u32 = 6;
 
 impl Xdr for Message {
@@ -20,6 +29,9 @@ impl Xdr for Message {
     fn read(alloc: Global, reader: &mut Reader<'_>) -> Result<Message, Fault> {
         let place = reader.place();
         match reader.u32()? {
+            GET_SET => Ok(Message::GetSet(Hash::read(alloc, reader)?)),
+            SET => Ok(Message::Set(QuorumSet::read(alloc, reader)?)),
+            NO_SET => Ok(Message::NoSet(Hash::read(alloc, reader)?)),
             RECORD => {
                 let slot = Slot(reader.u64()?);
                 Ok(Message::Record(slot, Value::read(alloc, reader)?))
@@ -30,31 +42,60 @@ impl Xdr for Message {
 
     fn pass(reader: &mut Reader<'_>) -> Result<(), Fault> {
         let place = reader.place();
-        if reader.u32()? != RECORD {
-            return Err(Fault::Malformed(place));
+        match reader.u32()? {
+            GET_SET | NO_SET => Hash::pass(reader),
+            SET => QuorumSet::pass(reader),
+            RECORD => {
+                reader.u64()?;
+                Value::pass(reader)
+            }
+            _ => Err(Fault::Malformed(place)),
         }
-        reader.u64()?;
-        Value::pass(reader)
     }
 
     fn fits(&self) -> bool {
-        let Message::Record(slot, value) = self;
-        let _number = slot.0;
-        value.fits()
+        match self {
+            Message::GetSet(hash) | Message::NoSet(hash) => hash.fits(),
+            Message::Set(set) => set.fits(),
+            Message::Record(slot, value) => {
+                let _number = slot.0;
+                value.fits()
+            }
+        }
     }
 
     fn spend(&self, room: usize) -> Option<usize> {
-        let Message::Record(slot, value) = self;
-        let _number = slot.0;
         let left = spend_u32(room)?;
-        value.spend(spend_u64(left)?)
+        match self {
+            Message::GetSet(hash) | Message::NoSet(hash) => hash.spend(left),
+            Message::Set(set) => set.spend(left),
+            Message::Record(slot, value) => {
+                let _number = slot.0;
+                value.spend(spend_u64(left)?)
+            }
+        }
     }
 
     fn write(&self, writer: &mut Writer) -> Result<(), Fault> {
-        let Message::Record(slot, value) = self;
-        writer.u32(RECORD)?;
-        writer.u64(slot.0)?;
-        value.write(writer)?;
+        match self {
+            Message::GetSet(hash) => {
+                writer.u32(GET_SET)?;
+                hash.write(writer)?;
+            }
+            Message::Set(set) => {
+                writer.u32(SET)?;
+                set.write(writer)?;
+            }
+            Message::NoSet(hash) => {
+                writer.u32(NO_SET)?;
+                hash.write(writer)?;
+            }
+            Message::Record(slot, value) => {
+                writer.u32(RECORD)?;
+                writer.u64(slot.0)?;
+                value.write(writer)?;
+            }
+        }
         Ok(())
     }
 }
@@ -62,8 +103,9 @@ impl Xdr for Message {
 /// The message that the bytes spell, all of the bytes: each kind of message has one spelling (RFC 4506).
 ///
 /// Over 65,536 bytes are `TooLong` before anything of them is read. From then on the first fault from left to right
-/// is answered, `Malformed` with its place, or `TooLong` for a length over its limit; at last `NoMemory` where there is none for the value.
-/// It takes time in proportion to the bytes, and copies the value's bytes once.
+/// is answered, `Malformed` with its place, or `TooLong` for a length or a count over its limit and for a quorum set of
+/// five inner levels; at last `NoMemory` where there is none for the value or the quorum set. It takes time in proportion
+/// to the bytes, and copies the value's bytes once.
 pub fn decode(alloc: Global, bytes: &[u8]) -> Result<Message, Fault>
     // What is read is spelt by just these bytes.
     ensures found { IfOk result (λ m. SpellsMessage bytes.now (message_value m)) }
@@ -75,6 +117,8 @@ pub fn decode(alloc: Global, bytes: &[u8]) -> Result<Message, Fault>
     ensures reading { IfOk result (λ m. reading_of bytes.now ≡ Some m) }
     // Bytes that are refused have no reading, unless memory ran out.
     ensures none { IfErr result (λ f. f ≢ Fault.NoMemory → reading_of bytes.now ≡ None) }
+    // They are malformed or too long.
+    ensures faults { IfErr result (λ f. f ≢ Fault.NoMemory → IsReadingFault f) }
     // Memory is asked for last: it is short only where the bytes spell a message.
     ensures memory_last { IsErrOf result Fault.NoMemory → (v : Values message_kind) × SpellsMessage bytes.now v }
 {
@@ -84,21 +128,61 @@ pub fn decode(alloc: Global, bytes: &[u8]) -> Result<Message, Fault>
     scp_xdr::decode(alloc, bytes)
 }
 
-/// The one spelling of the message (RFC 4506). `TooLong` where a value of over 4,096 bytes, or over 65,536 bytes
-/// in all, would be written.
+/// The one spelling of the message (RFC 4506). `TooLong` where a value of over 4,096 bytes, a quorum set over its limits,
+/// or over 65,536 bytes in all, would be written.
 pub fn encode(alloc: Global, message: &Message) -> Result<Vec<u8>, Fault>
     // What is written spells the message.
     ensures spells { IfOk result (λ bytes. SpellsMessage bytes.items (message_value message.now)) }
     // It is too long just where it breaks a limit.
     ensures too_long { IsErrOf result Fault.TooLong ↔ ¬ (FitsMessage (message_value message.now)) }
-    // That is where its value is over 4,096 bytes.
-    ensures long_value { IsErrOf result Fault.TooLong ↔ HasLongValue message.now }
+    // That is where its value is over 4,096 bytes, or its quorum set over one of its limits or over 65,532 bytes.
+    ensures limits { IsErrOf result Fault.TooLong ↔ BreaksALimit message.now }
     // There are two reasons to refuse.
     ensures only { IfErr result (λ f. (f ≡ Fault.NoMemory) ⊎ (f ≡ Fault.TooLong)) }
 {
-    let Message::Record(slot, _) = message;
-    let _number = slot.0;
+    see_ranges(message);
     scp_xdr::encode_within(alloc, MESSAGE_LIMIT, message)
+}
+
+/// That the message's numbers are in the range of their types. Does nothing.
+fn see_ranges(message: &Message)
+    ensures { HasRanges message.now }
+{
+    match message {
+        Message::GetSet(hash) | Message::NoSet(hash) => see_hash(*hash),
+        Message::Set(_) => {}
+        Message::Record(slot, _) => see_slot(*slot),
+    }
+}
+
+fn see_hash(hash: Hash)
+    ensures { length hash.0 ≡ 32 }
+{}
+
+fn see_slot(slot: Slot)
+    ensures { slot.0 < 2 ^ 64 }
+{}
+
+/// Whether the bytes spell a message that isn't carried, all of the bytes. Takes no memory, and looks only at the first
+/// word of bytes that are of another kind.
+pub fn is_side_message(bytes: &[u8]) -> bool
+    ensures { result ≡ is_side (reading_of bytes.now) }
+{
+    if bytes.len() > MESSAGE_LIMIT {
+        return false;
+    }
+    if !is_of_side_kind(bytes) {
+        return false;
+    }
+    check::<Message>(bytes).is_ok()
+}
+
+/// Whether the first word is the discriminant of a message that isn't carried.
+fn is_of_side_kind(bytes: &[u8]) -> bool
+    ensures { result ≡ has_side_word (read_uint32 (start bytes.now)) }
+{
+    let mut reader = Reader::new(bytes);
+    matches!(reader.u32(), Ok(GET_SET | SET | NO_SET))
 }
 
 /// The reading of bytes is a message just where they spell it.

@@ -1,17 +1,20 @@
-//! Link messages, as bytes and back.
+//! Link messages, as bytes and back, and what travels over a link.
 //!
 //! - `decode` gives the message that the bytes spell, all of the bytes, or the first fault with its place.
 //! - `encode` gives the one spelling of a message.
 //! - No message of over 65,536 bytes is read or written.
+//! - `is_side_message` tells of bytes, without memory, whether they spell a message that asks for a quorum set or answers.
 //! - A `Carried` message is one that is numbered on its connection.
 #![tactic(auto)]
 
 mod carried;
 mod codec;
+mod link;
 mod message;
 
 pub use carried::Carried;
-pub use codec::{decode, encode, reading_of_is_what_is_spelt};
+pub use codec::{decode, encode, is_side_message, reading_of_is_what_is_spelt};
+pub use link::{Bytes, Cause, Inbound, LinkItem};
 pub use message::{MESSAGE_LIMIT, Message};
 
 #[cfg(test)]

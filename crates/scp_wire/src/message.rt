@@ -1,6 +1,8 @@
 ghost use Rattle.std.specs.Prelude.{◌≡◌, IfOk, IsOkUnless};
+ghost use Rattle.scp_wire.specs.Carried.{is_carried};
 
-use scp_types::{Fault, Slot, Value};
+use scp_quorum::QuorumSet;
+use scp_types::{Fault, Hash, Slot, Value};
 
 /// The most bytes that a link message may have (this project's profile).
 pub const MESSAGE_LIMIT: usize = 65_536;
@@ -8,19 +10,40 @@ pub const MESSAGE_LIMIT: usize = 65_536;
 /// What goes over a link (this project's profile): an XDR union (RFC 4506, section 4.15) of the kinds below.
 #[derive(Debug, Drop)]
 pub enum Message {
+    /// Kind 2: asks for the quorum set that this hash names.
+    GetSet(Hash),
+    /// Kind 3: a quorum set, as an answer.
+    Set(QuorumSet),
+    /// Kind 4: the answer of a node that has no quorum set of this hash.
+    NoSet(Hash),
     /// Kind 6: the value that was decided for a slot.
     Record(Slot, Value),
 }
 
 impl Message {
-    /// Another message that equals this one. It copies the value's bytes.
+    /// Another message that equals this one. It copies the value's bytes, or the quorum set.
     pub fn copy(&self) -> Result<Message, Fault>
         // The copy is the original.
         ensures same { IfOk result (λ m. m ≡ self.now) }
         // Only want of memory is a reason to refuse.
         ensures only_memory { IsOkUnless result Fault.NoMemory }
     {
-        let Message::Record(slot, value) = self;
-        Ok(Message::Record(*slot, value.copy()?))
+        match self {
+            Message::GetSet(hash) => Ok(Message::GetSet(*hash)),
+            Message::Set(set) => Ok(Message::Set(set.copy()?)),
+            Message::NoSet(hash) => Ok(Message::NoSet(*hash)),
+            Message::Record(slot, value) => Ok(Message::Record(*slot, value.copy()?)),
+        }
+    }
+
+    /// Whether the message is numbered on its connection. What asks for a quorum set and what answers is a side message,
+    /// and isn't.
+    pub fn is_carried(&self) -> bool
+        ensures { result ≡ is_carried self.now }
+    {
+        match self {
+            Message::GetSet(_) | Message::Set(_) | Message::NoSet(_) => false,
+            Message::Record(..) => true,
+        }
     }
 }

@@ -8,7 +8,7 @@ use Rattle.scp_xdr.specs.Tree.{Tree, tree_of}
 use Rattle.scp_xdr.specs.Kind.{Kind, uint32, uint64, fixed, opaque, optional, array, both, union, tree, Arms, no_arm, arm, Values, Spells, padding_len}
 use Rattle.scp_xdr.specs.Reading.{Cursor, start, skip, Read, ◌>>=◌, read_uint32, read_uint64, read_bytes, unless_nonzero, first_nonzero, read_count, read_opaque, flag_of, read_flag, read_items, read_optional, tree_with, read_inner, reading, reading_arm, read_end, reading_whole}
 use Rattle.scp_xdr.specs.Passing.{left_of, pass_items, pass_optional, pass_inner, passing, passing_arm, passing_whole}
-use Rattle.scp_xdr.specs.Words.{PassesWhole}
+use Rattle.scp_xdr.specs.Words.{PassesWhole, Gives, IsReadingFault}
 use Rattle.scp_xdr.proofs.Parts.{IsBytes}
 use Rattle.scp_xdr.proofs.Laws.{whole_found, whole_again}
 
@@ -94,13 +94,13 @@ mutual
 
 abbrev Known : {A : Type 0} → Result A Fault → Type 0
 Known (Ok x) = Unit {0}
-Known (Err f) = f ≢ NoMemory
+Known (Err f) = IsReadingFault f
 
-malformed : (place : ℕ) → Malformed place ≢ NoMemory
-malformed place e = cc
+malformed : (place : ℕ) → IsReadingFault (Malformed place)
+malformed place = tt
 
-too_long : TooLong ≢ NoMemory
-too_long e = cc
+too_long : IsReadingFault TooLong
+too_long = tt
 
 known_then : {A B : Type 0} (r : Result A Fault) (f : A → Result B Fault) → Known r → ((x : A) → Known (f x)) → Known (r >>= f)
 known_then (Ok x) f h g = g x
@@ -234,9 +234,20 @@ exact_from {X} k bytes r given = at r (passing_whole k bytes) (reading_whole k b
     at (Ok x) (Err f) read g h = absurd cc
     at (Err d) p read g h = rw g at h
 
-pub known_from : {X : Type 0} (k : Kind) (bytes : List ℕ) (r : Result X Fault) → PassGives r (passing_whole k bytes) → IfErr r (λ f. f ≢ NoMemory)
+pub known_from : {X : Type 0} (k : Kind) (bytes : List ℕ) (r : Result X Fault) → PassGives r (passing_whole k bytes) → IfErr r IsReadingFault
 known_from k bytes (Ok x) given = tt
 known_from k bytes (Err f) given = rw given at (known_whole k bytes)
+
+-- the first fault of bytes that spell nothing
+faults_of : {A : Type 0} (p : Result Cursor Fault) (r : Result A Fault) (f : Fault) → Passed p r → Known p → r ≡ Err f → IsReadingFault f
+faults_of (Ok c) r f passed known e = absurd (let same : Ok passed.0 ≡ Err f = sym passed.1 ∙ e in cc)
+faults_of (Err g) r f passed known e =
+    let same : g ≡ f = (let both : Err g ≡ Err f = sym passed ∙ e in cc) in
+    rw same at known
+
+pub faults_from : {X : Type 0} (k : Kind) (view : X → Values k) (bytes : List ℕ) (r : Result X Fault) → Gives view r (reading_whole k bytes) → IfErr r (λ f. f ≢ NoMemory → IsReadingFault f)
+faults_from k view bytes (Ok x) given = tt
+faults_from k view bytes (Err f) given = λ other. faults_of (passing_whole k bytes) (reading_whole k bytes) f (passed_whole k bytes) (known_whole k bytes) (given other)
 
 pub spelt_from : {X : Type 0} (k : Kind) (bytes : List ℕ) (r : Result X Fault) → IsBytes bytes → PassesWhole r (reading_whole k bytes) → IfOk r (λ _. (v : Values k) × Spells k bytes v)
 spelt_from k bytes (Ok x) fits given = (given.0, whole_found k bytes given.0 fits given.1)

@@ -1,7 +1,7 @@
 -- What the calls of a reader and the decoders promise.
 use Rattle.std.specs.Prelude.{◌≡◌, ◌≢◌, ℕ, ◌+◌, ◌<◌, List, ◌++◌, Option, Some, None, Result, Ok, Err}
 use Rattle.scp_types.specs.declared.fault.Fault.{Fault}
-use Rattle.scp_types.specs.declared.fault.Fault.TheVariants.{NoMemory}
+use Rattle.scp_types.specs.declared.fault.Fault.TheVariants.{NoMemory, Malformed, TooLong}
 use Rattle.scp_xdr.specs.Reading.{Cursor, Read}
 
 -- The call gave what reading says and moved the reader there; a refusal leaves the reader.
@@ -47,6 +47,12 @@ Extends old new (Err f) text = (f ≡ NoMemory) × ((part : List ℕ) × (new �
 abbrev pub PassesWhole : {X Y : Type 0} → Result X Fault → Result Y Fault → Type 0
 PassesWhole {X} {Y} (Ok x) read = (y : Y) × (read ≡ Ok y)
 PassesWhole (Err f) read = read ≡ Err f
+
+-- Why bytes spell nothing.
+abbrev pub IsReadingFault : Fault → Type 0
+IsReadingFault (Malformed place) = Unit {0}
+IsReadingFault TooLong = Unit {0}
+IsReadingFault fault = ⊥
 
 -- What is left of the room behind so many bytes, or nothing where they are more than the room.
 abbrev pub Leaves : ℕ → Option ℕ → ℕ → Type 0

@@ -4,7 +4,7 @@ ghost use Rattle.scp_xdr.specs.Kind.{Kind, Values, Fits, Spells, spelling, optio
 ghost use Rattle.scp_xdr.specs.Length.{spelled_len};
 ghost use Rattle.scp_xdr.specs.Reading.{reading, reading_whole, read_items};
 ghost use Rattle.scp_xdr.specs.Passing.{passing, passing_whole, pass_items};
-ghost use Rattle.scp_xdr.specs.Words.{GoesPast, PassesWhole, Decodes, Gives, Extends, Leaves};
+ghost use Rattle.scp_xdr.specs.Words.{IsReadingFault, GoesPast, PassesWhole, Decodes, Gives, Extends, Leaves};
 
 use crate::reader::Reader;
 use crate::room::spend_u32;
@@ -65,7 +65,7 @@ fn pass_whole<T: Xdr>(bytes: &[u8]) -> Result<(), Fault>
 pub fn check<T: Xdr>(bytes: &[u8]) -> Result<(), Fault>
     ensures found { IfOk result (λ _. (v : Values T.kind) × Spells T.kind bytes.now v) }
     ensures exact { PassesWhole result (reading_whole T.kind bytes.now) }
-    ensures no_memory_needed { IfErr result (λ f. f ≢ Fault.NoMemory) }
+    ensures faults { IfErr result IsReadingFault }
 {
     pass_whole::<T>(bytes)
 }
@@ -83,6 +83,7 @@ pub fn decode<T: Xdr>(alloc: Global, bytes: &[u8]) -> Result<T, Fault>
     ensures found { IfOk result (λ v. Spells T.kind bytes.now (T.value v)) }
     ensures only { (v : Values T.kind) → Spells T.kind bytes.now v → Gives T.value result (Ok v) }
     ensures exact { Gives T.value result (reading_whole T.kind bytes.now) }
+    ensures faults { IfErr result (λ f. f ≢ Fault.NoMemory → IsReadingFault f) }
     ensures memory_last { IsErrOf result Fault.NoMemory → (v : Values T.kind) × Spells T.kind bytes.now v }
 {
     check::<T>(bytes)?;

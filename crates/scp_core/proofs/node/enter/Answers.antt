@@ -3,7 +3,7 @@ use Rattle.scp_core.specs.declared.journal.Decision.{Decision}
 use Rattle.scp_core.specs.declared.journal.Verdict.TheVariants.{Decided}
 use Rattle.scp_core.specs.Applier.{applier_view}
 use Rattle.scp_core.specs.Parts.{Takes}
-use Rattle.scp_core.proofs.Entering.{passed, decided, IsRunning-decided, few_parts}
+use Rattle.scp_core.proofs.Entering.{IsLedger-passed, IsLedger-decided, IsRunning-decided, few_parts}
 use Rattle.scp_core.proofs.node.enter.Goals as goal
 
 pub verdict-verdict-requires : goal.verdict-verdict-requires
@@ -16,7 +16,7 @@ pub returns-then-not-decides-clause-known : goal.returns-then-not-decides-clause
 returns-then-not-decides-clause-known c =
     let is = c.verdict-verdict.ensures in
     let ne : c.verdict-verdict.result ≢ Decided = λ e. let t = c.decides.ensures.1 e in cc (t, c.if-not-decides.true) in
-    rw (c.add.ensures.journal, c.add.ensures.decisions) (passed c.args.ledger.now.journal c.args.ledger.now.decisions (applier_view c.args.applier.now) c.args.conn c.args.seq c.args.message c.verdict-verdict.result c.requires.known c.requires.running (rw (← c.slot_of-slot.ensures) is) ne)
+    rw (c.add.ensures.journal, c.add.ensures.decisions) (IsLedger-passed c.args.ledger.now.journal c.args.ledger.now.decisions (applier_view c.args.applier.now) c.args.conn c.args.seq c.args.slot c.args.value c.verdict-verdict.result c.requires.known c.requires.running is ne)
 
 pub returns-clause-running : goal.returns-clause-running
 returns-clause-running c =
@@ -26,4 +26,4 @@ returns-clause-running c =
 pub returns-clause-known : goal.returns-clause-known
 returns-clause-known c =
     let is : c.verdict-verdict.result ≡ Decided = c.decides.ensures.0 c.if-not-decides.false in
-    rw (c.decide.ensures.journal, c.decide.ensures.decisions) (decided c.args.ledger.now.journal c.args.ledger.now.decisions (applier_view c.args.applier.now) c.args.conn c.args.seq c.args.message c.verdict-verdict.result c.in_ok-decision.decision c.requires.known c.requires.running (rw (← c.slot_of-slot.ensures) c.verdict-verdict.ensures) is (rw (← c.slot_of-slot.ensures, ← c.value_of.ensures, ← c.in_ok-copy.ensures.same) c.in_ok-decision.ensures.same))
+    rw (c.decide.ensures.journal, c.decide.ensures.decisions) (IsLedger-decided c.args.ledger.now.journal c.args.ledger.now.decisions (applier_view c.args.applier.now) c.args.conn c.args.seq c.args.slot c.args.value c.verdict-verdict.result c.in_ok-decision.decision c.requires.known c.requires.running c.verdict-verdict.ensures is (rw (← c.in_ok-copy.ensures.same) c.in_ok-decision.ensures.same))

@@ -1,9 +1,5 @@
-use Rattle.std.proofs.Common.{rules}
-use Rattle.std.specs.Prelude.{IsErrOf, ◌↔◌}
-use Rattle.scp_types.specs.declared.fault.Fault.TheVariants.{TooLong}
-use Rattle.scp_xdr.specs.Kind.{Fits}
-use Rattle.scp_wire.specs.Message.{message_kind, message_value}
-use Rattle.scp_wire.proofs.Limits.{spells_within, breaks_limits, limits_broken, limits_of_parts}
+use Rattle.scp_wire.specs.Message.{message_value}
+use Rattle.scp_wire.proofs.Limits.{spells_within, over_breaks, breaks_over, over_is}
 use Rattle.scp_wire.proofs.codec.encode.Goals as goal
 
 pub returns-clause-spells : goal.returns-clause-spells
@@ -12,9 +8,9 @@ returns-clause-spells c =
 
 pub returns-clause-too_long : goal.returns-clause-too_long
 returns-clause-too_long c =
-    (λ refused. breaks_limits (message_value c.args.message.now) (c.encode_within.ensures.too_long.0 refused), λ breaks. c.encode_within.ensures.too_long.1 (limits_broken (message_value c.args.message.now) breaks))
+    (λ refused. over_breaks (message_value c.args.message.now) (c.encode_within.ensures.too_long.0 refused), λ breaks. c.encode_within.ensures.too_long.1 (breaks_over (message_value c.args.message.now) breaks))
 
-pub returns-clause-long_value : goal.returns-clause-long_value
-returns-clause-long_value c =
-    let parts : IsErrOf c.encode_within.result TooLong ↔ (¬ (Fits message_kind (message_value c.args.message.now))) = limits_of_parts (message_value c.args.message.now) c.encode_within.result c.encode_within.ensures.too_long in
-    search (rules, parts)
+pub returns-clause-limits : goal.returns-clause-limits
+returns-clause-limits c =
+    let over = over_is c.args.message.now c.see_ranges.ensures in
+    (λ refused. over.0 (c.encode_within.ensures.too_long.0 refused), λ breaks. c.encode_within.ensures.too_long.1 (over.1 breaks))

@@ -8,5 +8,5 @@ returns-clause-found g c = spelt_from g.T.Xdr.kind c.args.bytes.now c.pass_whole
 pub returns-clause-exact : goal.returns-clause-exact
 returns-clause-exact g c = exact_from g.T.Xdr.kind c.args.bytes.now c.pass_whole.result c.pass_whole.ensures
 
-pub returns-clause-no_memory_needed : goal.returns-clause-no_memory_needed
-returns-clause-no_memory_needed g c = known_from g.T.Xdr.kind c.args.bytes.now c.pass_whole.result c.pass_whole.ensures
+pub returns-clause-faults : goal.returns-clause-faults
+returns-clause-faults g c = known_from g.T.Xdr.kind c.args.bytes.now c.pass_whole.result c.pass_whole.ensures
