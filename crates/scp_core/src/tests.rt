@@ -83,39 +83,44 @@ fn reply_to(node: &mut Node, event: &Event) -> Reply {
     node.advance(event)
 }
 
-/// The place of the first act whose reply isn't this one.
-fn first_other(
+fn act_on(alloc: Global, node: &mut Node, act: &Act<'_>) -> Result<Reply, Fault> {
+    let event = event_of(alloc, act)?;
+    Ok(reply_to(node, &event))
+}
+
+/// Whether the node gives this reply to each of the acts.
+fn all_reply(
     alloc: Global,
     node: &mut Node,
     acts: &[Act<'_>],
     reply: Reply,
-) -> Result<Option<usize>, Fault> {
-    for (index, act) in acts.iter().enumerate() {
-        if reply_to(node, &event_of(alloc, act)?) != reply {
-            return Ok(Some(index));
+) -> Result<bool, Fault> {
+    for act in acts {
+        if act_on(alloc, node, act)? != reply {
+            return Ok(false);
         }
     }
-    Ok(None)
+    Ok(true)
 }
 
 /// The node after these acts, each of which it accepts.
 fn after(alloc: Global, acts: &[Act<'_>]) -> Result<Node, Fault> {
     let mut node = new_node(alloc)?;
-    match first_other(alloc, &mut node, acts, Reply::Accepted)? {
-        None => Ok(node),
-        Some(index) => Err(Fault::BadScript(index)),
+    if all_reply(alloc, &mut node, acts, Reply::Accepted)? {
+        Ok(node)
+    } else {
+        Err(Fault::Failed)
     }
 }
 
-/// The same event so often; how often it was accepted.
-fn repeated(node: &mut Node, event: &Event, count: u32) -> u32 {
-    let mut accepted = 0;
+/// The same event so often; whether it was accepted each time.
+fn repeated(node: &mut Node, event: &Event, count: u32) -> bool {
     for _ in 0..count {
-        if reply_to(node, event) == Reply::Accepted && accepted < count {
-            accepted += 1;
+        if reply_to(node, event) != Reply::Accepted {
+            return false;
         }
     }
-    accepted
+    true
 }
 
 fn entry_of(fate: &Fate) -> Entry {
@@ -155,7 +160,7 @@ fn last_verdict(journal: &[Fate]) -> Option<Verdict> {
 
 /// The verdict on a record for the slot.
 fn verdict_on(alloc: Global, node: &mut Node, slot: u64) -> Result<Option<Verdict>, Fault> {
-    reply_to(node, &event_of(alloc, &Act::Record(slot, &PUT_A))?);
+    act_on(alloc, node, &Act::Record(slot, &PUT_A))?;
     Ok(last_verdict(node.journal()))
 }
 
@@ -177,12 +182,10 @@ fn value_of(alloc: Global, node: &Node, key: &[u8]) -> Result<Option<u8>, Fault>
     let Some(state) = node.state() else {
         return Ok(None);
     };
-    let value = state.get(&key);
-    Ok(value.and_then(|value| value.as_slice().first().copied()))
-}
-
-fn is_refused(made: Result<Node, Fault>) -> bool {
-    matches!(made, Err(Fault::BadConfig))
+    match state.get(&key) {
+        Some(value) => Ok(value.as_slice().first().copied()),
+        None => Ok(None),
+    }
 }
 
 #[test]
@@ -190,25 +193,7 @@ fn nothing_happens_without_events(rt: HostRuntime) -> Result<(), Fail> {
     let ran = run(rt.alloc(), config(rt.alloc())?, &[])?;
     assert_eq!(rt; ran.replies.len(), 0);
     assert_eq!(rt; entry_count(&ran.node), 0);
-    assert!(rt; ran.node.state().is_some_and(|state| state.is_empty()));
-    Ok(())
-}
-
-#[test]
-fn a_config_has_one_other_peer(rt: HostRuntime) -> Result<(), Fail> {
-    let alloc = rt.alloc();
-    for nodes in [[].as_slice(), &[ME], &[PEER, NodeId([3; 32])]] {
-        let peers = peers(alloc, nodes)?;
-        assert!(rt; is_refused(Node::new(alloc, Config { me: ME, peers })));
-    }
-    Ok(())
-}
-
-#[test]
-fn run_refuses_a_config(rt: HostRuntime) -> Result<(), Fail> {
-    let peers = peers(rt.alloc(), &[ME])?;
-    let ran = run(rt.alloc(), Config { me: ME, peers }, &[]);
-    assert!(rt; matches!(ran, Err(Fault::BadConfig)));
+    assert!(rt; matches!(ran.node.state(), Some(state) if state.is_empty()));
     Ok(())
 }
 
@@ -224,12 +209,22 @@ fn run_replies_to_each_event(rt: HostRuntime) -> Result<(), Fail> {
 }
 
 #[test]
+fn a_config_has_one_other_peer(rt: HostRuntime) -> Result<(), Fail> {
+    let alloc = rt.alloc();
+    for nodes in [[].as_slice(), &[ME], &[PEER, NodeId([3; 32])]] {
+        let peers = peers(alloc, nodes)?;
+        let ran = run(alloc, Config { me: ME, peers }, &[]);
+        assert!(rt; matches!(ran, Err(Fault::BadConfig)));
+    }
+    Ok(())
+}
+
+#[test]
 fn a_record_decides_its_slot(rt: HostRuntime) -> Result<(), Fail> {
     let node = after(rt.alloc(), &[Act::Open(0), Act::Record(1, &PUT_A)])?;
-    let [decision] = node.decisions() else {
-        return Err(Fail::from("one decision"));
-    };
-    assert_eq!(rt; decision.value.as_slice(), PUT_A.as_slice());
+    let first = node.decisions().first().ok_or("no decision")?;
+    let decision = first.share()?;
+    assert_eq!(rt; decision.get().value.as_slice(), PUT_A.as_slice());
     let conn = ConnId {
         from: PEER,
         to: ME,
@@ -240,37 +235,16 @@ fn a_record_decides_its_slot(rt: HostRuntime) -> Result<(), Fail> {
 }
 
 #[test]
-fn a_record_reaches_the_state(rt: HostRuntime) -> Result<(), Fail> {
-    let node = after(rt.alloc(), &[Act::Open(0), Act::Record(1, &PUT_A)])?;
-    assert_eq!(rt;
-        applied_slots(rt.alloc(), &node)?.as_slice(),
-        [1].as_slice()
-    );
-    assert_eq!(rt; value_of(rt.alloc(), &node, b"a")?, Some(49));
-    Ok(())
-}
-
-#[test]
-fn a_decision_is_shared(rt: HostRuntime) -> Result<(), Fail> {
-    let node = after(rt.alloc(), &[Act::Open(0), Act::Record(1, &PUT_A)])?;
-    let first = node.decisions().first().ok_or("no decision")?;
-    assert_eq!(rt; first.share()?.get().slot, Slot(1));
-    Ok(())
-}
-
-#[test]
 fn records_out_of_order_are_applied_in_order(rt: HostRuntime) -> Result<(), Fail> {
     let alloc = rt.alloc();
-    let node = after(
-        alloc,
-        &[
-            Act::Open(0),
-            Act::Record(3, &DEL_A),
-            Act::Record(2, &PUT_B),
-            Act::Record(1, &PUT_A),
-            Act::Record(1, &PUT_B),
-        ],
-    )?;
+    let acts = [
+        Act::Open(0),
+        Act::Record(3, &DEL_A),
+        Act::Record(2, &PUT_B),
+        Act::Record(1, &PUT_A),
+        Act::Record(1, &PUT_B),
+    ];
+    let node = after(alloc, &acts)?;
     assert_eq!(rt;
         entries(alloc, &node)?.as_slice(),
         [
@@ -290,33 +264,16 @@ fn records_out_of_order_are_applied_in_order(rt: HostRuntime) -> Result<(), Fail
     Ok(())
 }
 
-/// A node that has applied slots 1 to 16, which came from the last to the first; slot 17 came before them.
-fn sixteen_applied(alloc: Global) -> Result<Node, Fault> {
-    let mut node = after(alloc, &[Act::Open(0)])?;
-    for slot in 0..17 {
-        verdict_on(alloc, &mut node, 17 - slot)?;
-    }
-    Ok(node)
-}
-
 #[test]
 fn the_window_has_sixteen_slots(rt: HostRuntime) -> Result<(), Fail> {
     let alloc = rt.alloc();
-    let node = sixteen_applied(alloc)?;
-    // Slot 17 was too far; 16 to 1 came in the window, and then all of them are applied.
-    assert_eq!(rt;
-        entries(alloc, &node)?.first().copied(),
-        Some(Entry::Taken(1, 0, Verdict::FarSlot))
-    );
-    assert_eq!(rt; entry_count(&node), 17);
-    assert_eq!(rt; applied_slots(alloc, &node)?.len(), 16);
-    Ok(())
-}
-
-#[test]
-fn the_window_begins_at_the_lowest_undecided_slot(rt: HostRuntime) -> Result<(), Fail> {
-    let alloc = rt.alloc();
-    let mut node = sixteen_applied(alloc)?;
+    let mut node = after(alloc, &[Act::Open(0)])?;
+    assert_eq!(rt; verdict_on(alloc, &mut node, 17)?, Some(Verdict::FarSlot));
+    for above in 0..16 {
+        let verdict = verdict_on(alloc, &mut node, 16 - above)?;
+        assert_eq!(rt; verdict, Some(Verdict::Decided));
+    }
+    // Slots 1 to 16 are applied.
     for (slot, verdict) in [
         (0, Verdict::Already),
         (16, Verdict::Already),
@@ -338,23 +295,21 @@ fn the_window_begins_at_the_lowest_undecided_slot(rt: HostRuntime) -> Result<(),
 }
 
 #[test]
-fn a_link_that_is_not_open_takes_nothing(rt: HostRuntime) -> Result<(), Fail> {
-    let acts = [Act::Close(0), Act::Send(&[]), Act::Send(&SET)];
-    let mut node = new_node(rt.alloc())?;
-    assert_eq!(rt;
-        first_other(rt.alloc(), &mut node, &acts, Reply::NotOpen)?,
-        None
-    );
-    assert_eq!(rt; entry_count(&node), 0);
-    Ok(())
-}
-
-#[test]
 fn a_link_is_opened_once(rt: HostRuntime) -> Result<(), Fail> {
-    let mut node = after(rt.alloc(), &[Act::Open(0)])?;
+    let alloc = rt.alloc();
+    let mut node = new_node(alloc)?;
+    let acts = [Act::Close(0), Act::Send(&[]), Act::Send(&SET)];
+    assert!(rt; all_reply(alloc, &mut node, &acts, Reply::NotOpen)?);
+    assert!(rt;
+        all_reply(
+            alloc,
+            &mut node,
+            &[Act::Open(1), Act::Close(1)],
+            Reply::NoLink
+        )?
+    );
+    assert_eq!(rt; node.step(Event::Open(0)), Reply::Accepted);
     assert_eq!(rt; reply_to(&mut node, &Event::Open(0)), Reply::AlreadyOpen);
-    assert_eq!(rt; reply_to(&mut node, &Event::Open(1)), Reply::NoLink);
-    assert_eq!(rt; node.step(Event::Close(1)), Reply::NoLink);
     assert_eq!(rt; [node.lives(0), node.lives(1)], [1, 0]);
     Ok(())
 }
@@ -386,17 +341,6 @@ fn a_connection_ends_once(rt: HostRuntime) -> Result<(), Fail> {
 }
 
 #[test]
-fn over_the_limit_of_a_message(rt: HostRuntime) -> Result<(), Fail> {
-    let long = vec![in rt.alloc(); 0u8; MESSAGE_LIMIT + 1]?;
-    let node = after(rt.alloc(), &[Act::Open(0), Act::Send(long.as_slice())])?;
-    assert_eq!(rt;
-        entries(rt.alloc(), &node)?.as_slice(),
-        [Entry::Closed(1, Cause::Malformed)].as_slice()
-    );
-    Ok(())
-}
-
-#[test]
 fn side_messages_have_no_number_and_no_entry(rt: HostRuntime) -> Result<(), Fail> {
     let acts = [
         Act::Open(0),
@@ -422,9 +366,11 @@ fn side_messages_have_no_number_and_no_entry(rt: HostRuntime) -> Result<(), Fail
 }
 
 #[test]
-fn a_malformed_side_message_ends_the_connection(rt: HostRuntime) -> Result<(), Fail> {
+fn what_is_malformed_ends_the_connection(rt: HostRuntime) -> Result<(), Fail> {
+    let long = vec![in rt.alloc(); 0u8; MESSAGE_LIMIT + 1]?;
     for bytes in [
-        [0, 0, 0, 2].as_slice(),
+        long.as_slice(),
+        &[0, 0, 0, 2],
         &[0, 0, 0, 3, 0, 0, 0, 0],
         &[0, 0, 0, 4, 7, 7, 7, 7],
         &[0, 0, 0, 5],
@@ -440,23 +386,18 @@ fn a_malformed_side_message_ends_the_connection(rt: HostRuntime) -> Result<(), F
 }
 
 #[test]
-fn side_messages_end_with_their_connection(rt: HostRuntime) -> Result<(), Fail> {
-    let acts = [Act::Open(0), Act::Send(&[]), Act::Send(&SET)];
-    let node = after(rt.alloc(), &acts)?;
-    assert_eq!(rt; entry_count(&node), 1);
-    Ok(())
-}
-
-#[test]
 fn lives_are_spent_after_65_535(rt: HostRuntime) -> Result<(), Fail> {
-    let mut node = new_node(rt.alloc())?;
+    let alloc = rt.alloc();
+    let mut node = new_node(alloc)?;
+    let acts = [Act::Open(0), Act::Close(0)];
     for _ in 0..65_535u32 {
-        assert_eq!(rt; reply_to(&mut node, &Event::Open(0)), Reply::Accepted);
-        assert_eq!(rt; reply_to(&mut node, &Event::Close(0)), Reply::Accepted);
+        assert!(rt; all_reply(alloc, &mut node, &acts, Reply::Accepted)?);
     }
     assert_eq!(rt; reply_to(&mut node, &Event::Open(0)), Reply::LivesSpent);
-    assert_eq!(rt; entry_count(&node), 65_535);
-    assert_eq!(rt; node.lives(0), 65_535);
+    assert_eq!(rt;
+        [entry_count(&node), node.lives(0) as usize],
+        [65_535, 65_535]
+    );
     Ok(())
 }
 
@@ -464,36 +405,26 @@ fn lives_are_spent_after_65_535(rt: HostRuntime) -> Result<(), Fail> {
 fn full(alloc: Global) -> Result<Node, Fault> {
     let mut node = after(alloc, &[Act::Open(0)])?;
     let far = event_of(alloc, &Act::Record(u64::MAX, &[]))?;
-    match repeated(&mut node, &far, 1_000_000) {
-        1_000_000 => Ok(node),
-        _ => Err(Fault::JournalFull),
+    if repeated(&mut node, &far, 1_000_000) {
+        Ok(node)
+    } else {
+        Err(Fault::JournalFull)
     }
 }
 
 #[test]
-fn a_full_journal_fails_the_node(rt: HostRuntime) -> Result<(), Fail> {
+fn a_full_journal_takes_side_messages_alone(rt: HostRuntime) -> Result<(), Fail> {
     let alloc = rt.alloc();
     let mut node = full(alloc)?;
-    let far = event_of(alloc, &Act::Record(u64::MAX, &[]))?;
-    assert_eq!(rt; reply_to(&mut node, &far), Reply::JournalFull);
-    assert_eq!(rt; reply_to(&mut node, &far), Reply::Failed);
-    assert_eq!(rt; reply_to(&mut node, &Event::Close(0)), Reply::Failed);
+    let side = [Act::Send(&GET_SET), Act::Send(&SET), Act::Send(&NO_SET)];
+    assert!(rt; all_reply(alloc, &mut node, &side, Reply::Accepted)?);
+    assert!(rt; node.state().is_some());
+    assert_eq!(rt;
+        act_on(alloc, &mut node, &Act::Record(1, &PUT_A))?,
+        Reply::JournalFull
+    );
+    assert!(rt; all_reply(alloc, &mut node, &side, Reply::Failed)?);
     assert_eq!(rt; entry_count(&node), 1_000_000);
     assert!(rt; node.state().is_none());
-    Ok(())
-}
-
-#[test]
-fn a_full_journal_takes_side_messages(rt: HostRuntime) -> Result<(), Fail> {
-    let alloc = rt.alloc();
-    let mut node = full(alloc)?;
-    let acts = [Act::Send(&GET_SET), Act::Send(&SET), Act::Send(&NO_SET)];
-    assert_eq!(rt;
-        first_other(alloc, &mut node, &acts, Reply::Accepted)?,
-        None
-    );
-    assert_eq!(rt; entry_count(&node), 1_000_000);
-    assert!(rt; node.state().is_some());
-    assert_eq!(rt; reply_to(&mut node, &Event::Close(0)), Reply::JournalFull);
     Ok(())
 }
