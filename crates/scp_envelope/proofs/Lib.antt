@@ -1,0 +1,7 @@
+pub mod Ballots
+pub mod Ascending
+pub mod Answered
+pub mod Growing
+pub mod NewerLaws
+pub mod Longer
+pub mod EnvelopeValues

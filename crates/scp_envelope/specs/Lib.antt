@@ -1,0 +1,7 @@
+pub mod Kinds
+pub mod Envelopes
+pub mod Ballots
+pub mod Claims
+pub mod Sane
+pub mod Newer
+pub mod Laws
