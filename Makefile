@@ -5,8 +5,7 @@ SCRIPT ?= examples/first_record.scp
 
 # proves and builds what the program stands on, and prints the report of the first script
 run:
-	@scripts/program prove
-	@scripts/program run examples/first_record.scp
+	@scripts/program run < examples/first_record.scp
 
 # the whole gate, then every script under examples/ against its stored report
 test:
