@@ -16,9 +16,10 @@ pub enum Asked {
     Usage,
 }
 
-static WORKLOADS: [&str; 7] = [
+static WORKLOADS: [&str; 8] = [
     "decode",
     "records",
+    "envelopes",
     "script",
     "quorum-shared",
     "quorum-own",
@@ -47,6 +48,7 @@ fn one(name: &str, size: Option<&str>) -> Asked {
     let workload = match name {
         "decode" => Workload::Decode,
         "records" => Workload::Records,
+        "envelopes" => Workload::Envelopes,
         "script" => Workload::Script,
         "quorum-shared" => Workload::Quorum(Shape::Shared),
         "quorum-own" => Workload::Quorum(Shape::Own),

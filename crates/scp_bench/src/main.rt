@@ -6,6 +6,8 @@
 
 mod asked;
 mod decode;
+mod envelopes;
+mod hearing;
 mod messages;
 mod quorum;
 mod records;
@@ -22,7 +24,7 @@ use std::{env, io};
 
 /// What is printed where no workload is asked for.
 const USAGE: &str =
-    "usage: scp_bench [decode|records|script|quorum-shared|quorum-own|quorum-chain|quorum-missing [SIZE]]\n";
+    "usage: scp_bench [decode|records|envelopes|script|quorum-shared|quorum-own|quorum-chain|quorum-missing [SIZE]]\n";
 
 /// What is printed where there is no memory for a fault's line.
 const NO_MEMORY: &str = "out of memory\n";

@@ -1,5 +1,8 @@
 ghost use Rattle.std.specs.Prelude.{◌+◌, ◌*◌, ◌/◌, ◌<◌, ◌≤◌};
 
+use scp_types::{Hash, NodeId};
+use std::alloc::{AllocError, Global};
+
 /// The message of a slot's record (RFC 4506): kind 6, the slot, and a value of 24 bytes that puts "1" at a key of 4
 /// bytes, which is the slot's own.
 pub fn record(slot: u64) -> [u8; 40] {
@@ -8,6 +11,27 @@ pub fn record(slot: u64) -> [u8; 40] {
         0, 0, 0, 6, a, b, c, d, e, f, g, h, 0, 0, 0, 24, 0, 0, 0, 1, 0, 0, 0, 0, 0, 0, 0, 4, e, f,
         g, h, 0, 0, 0, 1, b'1', 0, 0, 0,
     ]
+}
+
+/// The message of an envelope (RFC 4506): kind 1, a PREPARE of the node for the slot with this set hash and a ballot of
+/// this counter, whose value is the empty operation list; the rest of it is absent, 0 or empty.
+pub fn prepare(
+    alloc: Global,
+    node: &NodeId,
+    slot: u64,
+    set_hash: &Hash,
+    counter: u32,
+) -> Result<Vec<u8>, AllocError> {
+    let mut bytes = Vec::with_capacity(alloc, 116)?;
+    bytes.extend_from_slice(&[0, 0, 0, 1, 0, 0, 0, 0])?;
+    bytes.extend_from_slice(&node.0)?;
+    bytes.extend_from_slice(&slot.to_be_bytes())?;
+    bytes.extend_from_slice(&[0; 4])?;
+    bytes.extend_from_slice(&set_hash.0)?;
+    bytes.extend_from_slice(&counter.to_be_bytes())?;
+    bytes.extend_from_slice(&[0, 0, 0, 4])?;
+    bytes.extend_from_slice(&[0; 24])?;
+    Ok(bytes)
 }
 
 /// The slot of a record by its place in a stream, from 0 on: 1, 2, 3, .. in turn, but every second eight of them in

@@ -1,11 +1,8 @@
+use crate::hearing::{HEARD, hear, new_node};
 use crate::messages::{record, slot_at};
-use scp_core::{Bytes, Config, Event, Node, Peers, Reply};
-use scp_types::{Fault, NodeId};
+use scp_core::{Bytes, Event, Node};
+use scp_types::Fault;
 use std::alloc::Global;
-
-/// A node hears at most so many records: its journal is then full, and its connection has carried as many messages as
-/// it may.
-const HEARD: u32 = 1_000_000;
 
 /// What the nodes have after their events.
 #[derive(Clone, Copy, Debug)]
@@ -17,32 +14,9 @@ pub struct Ledgers {
     pub keys: u64,
 }
 
-/// A node that has heard nothing, with one peer.
-fn new_node(alloc: Global) -> Result<Node, Fault> {
-    let mut peers = Vec::new(alloc);
-    peers.push(NodeId([2; 32]))?;
-    Node::new(
-        alloc,
-        Config {
-            me: NodeId([1; 32]),
-            peers: Peers::new(peers),
-        },
-    )
-}
-
-/// One event of the node.
-fn hear(node: &mut Node, event: Event) -> Result<(), Fault> {
-    match node.step(event) {
-        Reply::Accepted => Ok(()),
-        Reply::NoMemory => Err(Fault::NoMemory),
-        _ => Err(Fault::Failed),
-    }
-}
-
 /// A node that heard so many records on one connection.
 fn ledger(alloc: Global, records: u32) -> Result<Node, Fault> {
     let mut node = new_node(alloc)?;
-    hear(&mut node, Event::Open(0))?;
     for place in 0..records {
         let bytes = Vec::from_slice(alloc, &record(slot_at(place)))?;
         hear(&mut node, Event::Send(0, Bytes::new(bytes)))?;

@@ -1,4 +1,5 @@
 use crate::decode::{Decoded, decode_records};
+use crate::envelopes::{Judged, hear_envelopes};
 use crate::quorum::{Quorums, Shape, find_quorums};
 use crate::records::{Ledgers, hear_records};
 use crate::script::{Played, play_scripts};
@@ -19,6 +20,8 @@ pub enum Workload {
     Decode,
     /// Records go through a node.
     Records,
+    /// Envelopes go through a node.
+    Envelopes,
     /// Scripts are played.
     Script,
     /// The greatest quorum is asked for, 1,000 times.
@@ -78,6 +81,18 @@ fn run(alloc: Global, workload: Workload, size: u32) -> Result<String, Fault> {
                 "records {size}: nodes {nodes} entries {entries} decisions {decisions} applied {applied} keys {keys}"
             )?;
         }
+        Workload::Envelopes => {
+            let Judged {
+                nodes,
+                fresh,
+                stale,
+                others,
+            } = hear_envelopes(alloc, size)?;
+            writeln!(
+                &mut text,
+                "envelopes {size}: nodes {nodes} fresh {fresh} stale {stale} others {others}"
+            )?;
+        }
         Workload::Script => {
             let Played {
                 scripts,
@@ -109,6 +124,7 @@ pub fn write_one<W: ReportOut>(
 pub fn write_all<W: ReportOut>(alloc: Global, writer: &mut W) -> Result<(), Fault> {
     write_one(alloc, Workload::Decode, SMALL, writer)?;
     write_one(alloc, Workload::Records, SMALL, writer)?;
+    write_one(alloc, Workload::Envelopes, SMALL, writer)?;
     write_one(alloc, Workload::Script, SMALL, writer)?;
     for shape in [Shape::Shared, Shape::Own, Shape::Chain, Shape::Missing] {
         write_one(alloc, Workload::Quorum(shape), FEW, writer)?;

@@ -1,6 +1,9 @@
 pub mod Applying
-pub mod Entering
+pub mod Entries
 pub mod Lines
 pub mod Sent
 pub mod Steps
 pub mod Standing
+pub mod Freshest
+pub mod Named
+pub mod Judged

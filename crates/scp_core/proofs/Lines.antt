@@ -1,5 +1,5 @@
 -- One entry more in a connection's line.
-use Rattle.std.proofs.Common.{◌≡◌, ℕ, ◌+◌, ◌<◌, ◌≤◌, Bool, true, false, cond, List, [], ◌∷◌, ◌++◌, refl, sym, ◌∙◌, ap, arith, length-append, nat_eq, eq-eqb, All}
+use Rattle.std.proofs.Common.{◌≡◌, ℕ, ◌+◌, ◌<◌, ◌≤◌, Bool, true, false, cond, List, [], ◌∷◌, ◌++◌, length, refl, sym, ◌∙◌, ap, arith, length-append, nat_eq, eq-eqb, All}
 use Rattle.std.proofs.lemmas.Cmp.{nat_list_eq_equiv}
 use Rattle.std.proofs.lemmas.List.Elements.{filter-append, All-head, All-tail, All-push, All-weaker}
 use Rattle.std.proofs.lemmas.List.{append-nil}
@@ -12,6 +12,8 @@ use Rattle.scp_wire.specs.declared.link.Cause.{Cause}
 use Rattle.scp_core.specs.declared.journal.Verdict.{Verdict}
 use Rattle.scp_core.specs.declared.journal.Fate.{Fate}
 use Rattle.scp_core.specs.declared.journal.Fate.TheVariants.{Taken, Closed}
+use Rattle.std.specs.Prelude.{Option, Some, slice_get, zero, suc}
+use Rattle.scp_core.specs.Sets.{SharedSet}
 use Rattle.scp_core.specs.Link.{conn_at, IsOfLink}
 use Rattle.scp_core.specs.Journal.{same_conn, of_conn, conn_of, messages_in, causes_in}
 use Rattle.scp_core.specs.Node.{any_cause}
@@ -46,12 +48,12 @@ nothing_later peer me life later (f ∷ fs) lt h =
 
 pub messages_in-append : (xs ys : List Fate) → messages_in (xs ++ ys) ≡ messages_in xs ++ messages_in ys
 messages_in-append [] ys = refl
-messages_in-append (Taken conn seq m v ∷ xs) ys = ap (λ ms. m ∷ ms) (messages_in-append xs ys)
+messages_in-append (Taken conn seq m set v ∷ xs) ys = ap (λ ms. m ∷ ms) (messages_in-append xs ys)
 messages_in-append (Closed conn cause ∷ xs) ys = messages_in-append xs ys
 
 pub causes_in-append : (xs ys : List Fate) → causes_in (xs ++ ys) ≡ causes_in xs ++ causes_in ys
 causes_in-append [] ys = refl
-causes_in-append (Taken conn seq m v ∷ xs) ys = causes_in-append xs ys
+causes_in-append (Taken conn seq m set v ∷ xs) ys = causes_in-append xs ys
 causes_in-append (Closed conn cause ∷ xs) ys = ap (λ cs. cause ∷ cs) (causes_in-append xs ys)
 
 any_cause-push : (xs : List Cause) (c : Cause) → any_cause (xs ++ c ∷ []) ≡ true
@@ -61,6 +63,17 @@ any_cause-push (x ∷ xs) c = refl
 any_cause-nil : (xs : List Cause) → any_cause (xs ++ []) ≡ any_cause xs
 any_cause-nil [] = refl
 any_cause-nil (x ∷ xs) = refl
+
+-- ---- the entry at a place
+
+pub slice_get-front : {X : Type 0} (xs ys : List X) (n : ℕ) (x : X) → slice_get xs n ≡ Some x → slice_get (xs ++ ys) n ≡ Some x
+slice_get-front [] ys n x e = cc
+slice_get-front (z ∷ zs) ys zero x e = e
+slice_get-front (z ∷ zs) ys (suc n) x e = slice_get-front zs ys n x e
+
+pub slice_get-last : {X : Type 0} (xs : List X) (x : X) → slice_get (xs ++ x ∷ []) (length xs) ≡ Some x
+slice_get-last [] x = refl
+slice_get-last (z ∷ zs) x = slice_get-last zs x
 
 -- ---- the end of the link
 
@@ -84,9 +97,9 @@ IsLinkEnd-closed peer me life journal cause is_open ended count open' h =
       begun = h.begun;
     }
 
-pub IsLinkEnd-taken : (peer me : NodeId) (life : ℕ) (journal : List Fate) (seq : Seq) (m : Message) (v : Verdict) (is_open ended : Bool) (count : ℕ) → is_open ≡ true → count < 1000000 → IsLinkEnd peer me life is_open journal ended count → IsLinkEnd peer me life is_open (journal ++ Taken (conn_at peer me life) seq m v ∷ []) ended (count + 1)
-IsLinkEnd-taken peer me life journal seq m v is_open ended count open' few h =
-    let fate = Taken (conn_at peer me life) seq m v in
+pub IsLinkEnd-taken : (peer me : NodeId) (life : ℕ) (journal : List Fate) (seq : Seq) (m : Message) (set : Option SharedSet) (v : Verdict) (is_open ended : Bool) (count : ℕ) → is_open ≡ true → count < 1000000 → IsLinkEnd peer me life is_open journal ended count → IsLinkEnd peer me life is_open (journal ++ Taken (conn_at peer me life) seq m set v ∷ []) ended (count + 1)
+IsLinkEnd-taken peer me life journal seq m set v is_open ended count open' few h =
+    let fate = Taken (conn_at peer me life) seq m set v in
     let mine = of_conn-mine (conn_at peer me life) journal fate (at_life peer me life) in
     let line = of_conn (conn_at peer me life) journal in
     record {

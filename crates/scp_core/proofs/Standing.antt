@@ -31,6 +31,7 @@ stands a h = record {
   decided = h.ledger.decided;
   one_decision = h.ledger.one;
   verdicts = h.ledger.verdicts;
+  sets = h.ledger.sets;
   in_order = h.in_order.in_order;
   applied_decided = h.in_order.decided;
   running = running a h;

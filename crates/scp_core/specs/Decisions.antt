@@ -1,11 +1,14 @@
--- Decisions, the verdict on a record, and the slots in order.
-use Rattle.std.specs.Prelude.{ℕ, ◌+◌, ◌<◌, ◌≤◌, ◌≡◌, ◌≢◌, Bool, true, false, ◌||◌, List, [], ◌∷◌, ◌++◌, nat_lt, nat_le, nat_eq, if◌then◌else◌, map, Option, Some, None, option_to_list}
+-- Decisions, and the slots in order.
+use Rattle.std.specs.Prelude.{ℕ, ◌+◌, ◌<◌, ◌≤◌, ◌≡◌, ◌≢◌, Bool, true, false, List, [], ◌∷◌, ◌++◌, nat_eq, if◌then◌else◌, map, Option, Some, None, option_to_list}
 use Rattle.std.specs.List.{list_any, AllPairs}
-use Rattle.scp_wire.specs.declared.message.Message.TheVariants.{GetSet, Set, NoSet, Record}
+use Rattle.scp_types.specs.declared.names.ConnId.{ConnId}
+use Rattle.scp_types.specs.declared.names.Seq.{Seq}
+use Rattle.scp_wire.specs.declared.message.Message.{Message}
+use Rattle.scp_wire.specs.declared.message.Message.TheVariants.{Envelope, GetSet, Set, NoSet, GetRecord, Record}
 use Rattle.scp_core.specs.declared.journal.Fate.{Fate}
 use Rattle.scp_core.specs.declared.journal.Fate.TheVariants.{Taken, Closed}
 use Rattle.scp_core.specs.declared.journal.Verdict.{Verdict}
-use Rattle.scp_core.specs.declared.journal.Verdict.TheVariants.{Already, FarSlot, Decided}
+use Rattle.scp_core.specs.declared.journal.Verdict.TheVariants.{OldSlot, FarSlot, Already, Own, BadStatement, BadValue, Stale, Fresh, Forwarded, Decided}
 use Rattle.scp_core.specs.declared.journal.Decision.{Decision}
 use Rattle.scp_core.specs.declared.journal.Origin.TheVariants.{Named}
 
@@ -20,14 +23,30 @@ is_decided slot decisions = list_any (is_at slot) decisions
 abbrev pub OnePerSlot : List Decision → Type 0
 OnePerSlot decisions = AllPairs (λ d e. d.slot.0 ≢ e.slot.0) decisions
 
+abbrev pub is_deciding : Verdict → Bool
+is_deciding OldSlot = false
+is_deciding FarSlot = false
+is_deciding Already = false
+is_deciding Own = false
+is_deciding BadStatement = false
+is_deciding BadValue = false
+is_deciding Stale = false
+is_deciding Fresh = false
+is_deciding Forwarded = false
+is_deciding Decided = true
+
+-- what a record names, under its number on its connection; no other message names a decision yet
+abbrev pub named_by : ConnId → Seq → Message → Option Decision
+named_by conn seq (Envelope envelope) = None
+named_by conn seq (GetSet hash) = None
+named_by conn seq (Set set) = None
+named_by conn seq (NoSet hash) = None
+named_by conn seq (GetRecord slot) = None
+named_by conn seq (Record slot value) = Some (record { slot = slot; value = value; origin = Named conn seq })
+
 -- the decision that an entry makes: that of a record taken with the verdict Decided, of its slot and value
 abbrev pub decision_by : Fate → Option Decision
-decision_by (Taken conn seq (GetSet hash) verdict) = None
-decision_by (Taken conn seq (Set set) verdict) = None
-decision_by (Taken conn seq (NoSet hash) verdict) = None
-decision_by (Taken conn seq (Record slot value) Decided) = Some (record { slot = slot; value = value; origin = Named conn seq })
-decision_by (Taken conn seq (Record slot value) Already) = None
-decision_by (Taken conn seq (Record slot value) FarSlot) = None
+decision_by (Taken conn seq message set verdict) = if is_deciding verdict then named_by conn seq message else None
 decision_by (Closed conn cause) = None
 
 -- the decisions that the entries make, in their order
@@ -40,25 +59,6 @@ pub record IsLowest (decisions : List Decision) (lowest : ℕ) : Type 0 where
   pub from_one : 1 ≤ lowest
   pub decided : (slot : ℕ) → 1 ≤ slot → slot < lowest → is_decided slot decisions ≡ true
   pub undecided : is_decided lowest decisions ≡ false
-
--- the verdict on a record for a slot: the first that fits
-abbrev pub verdict_at : ℕ → Bool → ℕ → Verdict
-verdict_at lowest has_decision slot =
-    if has_decision || nat_lt slot lowest then Already
-    else (if nat_lt 4294967295 slot || nat_le (lowest + 16) slot then FarSlot else Decided)
-
--- the entry's verdict is the right one over the decisions that stood before it; a side message has none
-abbrev pub HasVerdict : List Decision → Fate → Type 0
-HasVerdict before (Taken conn seq (GetSet hash) verdict) = ⊥
-HasVerdict before (Taken conn seq (Set set) verdict) = ⊥
-HasVerdict before (Taken conn seq (NoSet hash) verdict) = ⊥
-HasVerdict before (Taken conn seq (Record slot value) verdict) = (lowest : ℕ) × IsLowest before lowest × (verdict ≡ verdict_at lowest (is_decided slot.0 before) slot.0)
-HasVerdict before (Closed conn cause) = Unit {0}
-
--- each entry has the right verdict where it stands
-abbrev pub HaveVerdicts : List Decision → List Fate → Type 0
-HaveVerdicts before [] = Unit {0}
-HaveVerdicts before (fate ∷ fates) = HasVerdict before fate × HaveVerdicts (before ++ option_to_list (decision_by fate)) fates
 
 -- the slots from this one on, without a gap
 abbrev pub AreInOrder : ℕ → List Decision → Type 0

@@ -2,7 +2,8 @@
 use Rattle.std.specs.Prelude.{ℕ, ◌+◌, Bool, true, false, ◌||◌, not, List, [], ◌∷◌, ◌++◌, Option, Some, None, nat_eq, nat_lt, if◌then◌else◌, length, filter, fold, take, is_some}
 use Rattle.scp_wire.specs.declared.message.Message.{Message}
 use Rattle.scp_wire.specs.Carried.{is_carried}
-use Rattle.scp_wire.specs.Reading.{reading_of}
+use Rattle.scp_types.specs.declared.names.Hash.{Hash}
+use Rattle.scp_core.specs.Sets.{reading_at}
 use Rattle.scp_wire.specs.declared.link.Cause.{Cause}
 use Rattle.scp_wire.specs.declared.link.Cause.TheVariants.{Malformed, Link, Spent}
 use Rattle.scp_core.specs.declared.event.Event.{Event}
@@ -48,29 +49,29 @@ hears life h event Failed = h
 abbrev pub heard : ℕ → List Exchange → Heard
 heard life past = fold (λ h x. hears life h x.0 x.1) nothing_heard past
 
--- the messages up to the first bytes that have no reading
+-- the messages up to the first bytes that have no reading, at a node whose own quorum set has this hash
 abbrev pub readable_from : Option Message → List Message → List Message
 readable_from None rest = []
 readable_from (Some message) rest = message ∷ rest
 
-abbrev pub readable : List (List ℕ) → List Message
-readable [] = []
-readable (bytes ∷ sent) = readable_from (reading_of bytes) (readable sent)
+abbrev pub readable : Hash → List (List ℕ) → List Message
+readable local [] = []
+readable local (bytes ∷ sent) = readable_from (reading_at local bytes) (readable local sent)
 
-abbrev pub all_readable : List (List ℕ) → Bool
-all_readable [] = true
-all_readable (bytes ∷ sent) = if is_some (reading_of bytes) then all_readable sent else false
+abbrev pub all_readable : Hash → List (List ℕ) → Bool
+all_readable local [] = true
+all_readable local (bytes ∷ sent) = if is_some (reading_at local bytes) then all_readable local sent else false
 
 -- those of them that are carried
-abbrev pub all_carried : List (List ℕ) → List Message
-all_carried sent = filter is_carried (readable sent)
+abbrev pub all_carried : Hash → List (List ℕ) → List Message
+all_carried local sent = filter is_carried (readable local sent)
 
 -- the carried messages of a connection on which this was sent
-abbrev pub carried : List (List ℕ) → List Message
-carried sent = take 1000000 (all_carried sent)
+abbrev pub carried : Hash → List (List ℕ) → List Message
+carried local sent = take 1000000 (all_carried local sent)
 
 -- why the connection ends, if it does
-abbrev pub end_of : List (List ℕ) → Bool → Option Cause
-end_of sent closed =
-    if nat_lt 1000000 (length (all_carried sent)) then Some Spent
-    else (if not (all_readable sent) then Some Malformed else (if closed then Some Link else None))
+abbrev pub end_of : Hash → List (List ℕ) → Bool → Option Cause
+end_of local sent closed =
+    if nat_lt 1000000 (length (all_carried local sent)) then Some Spent
+    else (if not (all_readable local sent) then Some Malformed else (if closed then Some Link else None))

@@ -19,6 +19,7 @@ abbrev pub node_view : node.Inside → NodeView
 node_view a = record {
   me = a.me;
   peer = a.peer;
+  set = a.set.value;
   failed = a.failed;
   life = a.link.life;
   is_open = a.link.is_open;
@@ -30,7 +31,7 @@ node_view a = record {
 }
 
 pub record IsSound (a : node.Inside) : Type 0 where
-  pub ledger : IsLedger a.ledger.journal a.ledger.decisions
+  pub ledger : IsLedger a.me a.ledger.journal a.ledger.decisions
   pub short : length a.ledger.journal ≤ 1000000
   pub in_order : IsInOrder a.ledger.decisions a.applier.applied.items
   pub running : a.failed ≡ false → IsRunning a.ledger.decisions (applier_view a.applier)

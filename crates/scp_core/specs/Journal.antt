@@ -10,7 +10,7 @@ use Rattle.scp_wire.specs.declared.link.Cause.{Cause}
 
 -- the connection of an entry
 abbrev pub conn_of : Fate → ConnId
-conn_of (Taken conn seq message verdict) = conn
+conn_of (Taken conn seq message set verdict) = conn
 conn_of (Closed conn cause) = conn
 
 abbrev pub same_node : NodeId → NodeId → Bool
@@ -26,18 +26,18 @@ of_conn conn journal = filter (λ fate. same_conn (conn_of fate) conn) journal
 -- the messages that have a fate
 abbrev pub messages_in : List Fate → List Message
 messages_in [] = []
-messages_in (Taken conn seq message verdict ∷ fates) = message ∷ messages_in fates
+messages_in (Taken conn seq message set verdict ∷ fates) = message ∷ messages_in fates
 messages_in (Closed conn cause ∷ fates) = messages_in fates
 
 -- the causes of the Closed entries
 abbrev pub causes_in : List Fate → List Cause
 causes_in [] = []
-causes_in (Taken conn seq message verdict ∷ fates) = causes_in fates
+causes_in (Taken conn seq message set verdict ∷ fates) = causes_in fates
 causes_in (Closed conn cause ∷ fates) = cause ∷ causes_in fates
 
 -- the entries follow what was carried: numbered from n without a gap, each with the message of its number,
 -- and nothing after a Closed
 abbrev pub Follows : ℕ → List Message → List Fate → Type 0
 Follows n carried [] = Unit {0}
-Follows n carried (Taken conn seq message verdict ∷ fates) = (seq.0 ≡ n) × (slice_get carried n ≡ Some message) × Follows (n + 1) carried fates
+Follows n carried (Taken conn seq message set verdict ∷ fates) = (seq.0 ≡ n) × (slice_get carried n ≡ Some message) × Follows (n + 1) carried fates
 Follows n carried (Closed conn cause ∷ fates) = fates ≡ []

@@ -1,7 +1,11 @@
 pub mod Link
 pub mod Config
 pub mod Journal
+pub mod Sets
+pub mod Fresh
 pub mod Decisions
+pub mod Verdicts
+pub mod Latest
 pub mod History
 pub mod Node
 pub mod Theorem

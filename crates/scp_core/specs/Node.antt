@@ -2,6 +2,8 @@
 use Rattle.std.specs.Prelude.{ℕ, ◌+◌, ◌<◌, ◌≡◌, ◌≢◌, Bool, true, false, ◌||◌, List, [], ◌∷◌, ◌++◌, Option, Some, None, nat_eq, if◌then◌else◌, length}
 use Rattle.scp_types.specs.declared.names.ConnId.{ConnId}
 use Rattle.scp_types.specs.declared.names.NodeId.{NodeId}
+use Rattle.scp_types.specs.declared.names.Hash.{Hash}
+use Rattle.scp_quorum.specs.QuorumTree.{QuorumTree}
 use Rattle.scp_wire.specs.declared.message.Message.{Message}
 use Rattle.scp_wire.specs.Carried.{is_side}
 use Rattle.scp_wire.specs.Reading.{reading_of}
@@ -15,6 +17,7 @@ use Rattle.scp_core.specs.declared.event.Event.{Event}
 use Rattle.scp_core.specs.declared.event.Event.TheVariants.{Open, Send, Close}
 use Rattle.scp_core.specs.declared.event.Reply.{Reply}
 use Rattle.scp_core.specs.declared.event.Reply.TheVariants.{NoLink, AlreadyOpen, LivesSpent, NotOpen, Accepted, JournalFull, NoMemory, Failed}
+use Rattle.scp_core.specs.Sets.{SharedSet, hash_of, reading_at}
 use Rattle.scp_core.specs.Link.{conn_at}
 use Rattle.scp_core.specs.Journal.{of_conn, messages_in, causes_in}
 
@@ -22,6 +25,7 @@ use Rattle.scp_core.specs.Journal.{of_conn, messages_in, causes_in}
 pub record NodeView : Type 0 where
   pub me : NodeId
   pub peer : NodeId
+  pub set : QuorumTree  -- its own quorum set
   pub failed : Bool
   pub life : ℕ  -- how often the link was opened
   pub is_open : Bool
@@ -31,6 +35,10 @@ pub record NodeView : Type 0 where
   pub waiting : List Decision  -- the decisions that aren't applied yet
   -- the keys with their values, ascending by key; None once failed
   pub state : Option (List (List ℕ × List ℕ))
+
+-- the hash of its own quorum set
+abbrev pub local_hash : NodeView → Hash
+local_hash v = hash_of v.set
 
 -- the link's last connection
 abbrev pub conn_now : NodeView → ConnId
@@ -49,23 +57,37 @@ abbrev pub has_ended : NodeView → Bool
 has_ended v = any_cause (causes_in (line_of v))
 
 -- the fate of the next bytes on a connection that carried n messages, unless they are a side message
-abbrev pub fate_of : ConnId → ℕ → Option Message → Verdict → Fate
-fate_of conn n None verdict = Closed conn Malformed
-fate_of conn n (Some message) verdict = if nat_eq n 1000000 then Closed conn Spent else Taken conn (record { 0 = n }) message verdict
+abbrev pub fate_of : ConnId → ℕ → Option Message → Option SharedSet → Verdict → Fate
+fate_of conn n None set verdict = Closed conn Malformed
+fate_of conn n (Some message) set verdict = if nat_eq n 1000000 then Closed conn Spent else Taken conn (record { 0 = n }) message set verdict
 
 -- these entries more, and the link as before
 pub record Adds (old : NodeView) (fates : List Fate) (new : NodeView) : Type 0 where
   pub me : new.me ≡ old.me
   pub peer : new.peer ≡ old.peer
+  pub set : new.set ≡ old.set
   pub journal : new.journal ≡ old.journal ++ fates
   pub life : new.life ≡ old.life
   pub is_open : new.is_open ≡ old.is_open
   pub failed : new.failed ≡ old.failed
 
+-- the fate of a message more
+pub record EntersMessage (old : NodeView) (message : Message) (new : NodeView) : Type 0 where
+  pub set : Option SharedSet
+  pub verdict : Verdict
+  pub adds : Adds old (Taken (conn_now old) (record { 0 = length (messages_in (line_of old)) }) message set verdict ∷ []) new
+
+-- the fate of what was read more
+pub record Enters (old : NodeView) (read : Option Message) (new : NodeView) : Type 0 where
+  pub set : Option SharedSet
+  pub verdict : Verdict
+  pub adds : Adds old (fate_of (conn_now old) (length (messages_in (line_of old))) read set verdict ∷ []) new
+
 -- what is left of a node that fails is as before
 pub record Keeps (old new : NodeView) : Type 0 where
   pub me : new.me ≡ old.me
   pub peer : new.peer ≡ old.peer
+  pub set : new.set ≡ old.set
   pub journal : new.journal ≡ old.journal
   pub decisions : new.decisions ≡ old.decisions
   pub applied : new.applied ≡ old.applied
@@ -97,6 +119,7 @@ pub record Fails (old : NodeView) (event : Event) (new : NodeView) : Type 0 wher
 pub record Opens (old new : NodeView) : Type 0 where
   pub me : new.me ≡ old.me
   pub peer : new.peer ≡ old.peer
+  pub set : new.set ≡ old.set
   pub was : old.failed ≡ false
   pub shut : old.is_open ≡ false
   pub left : old.life < 65535
@@ -108,12 +131,14 @@ pub record Opens (old new : NodeView) : Type 0 where
 pub record Receives (old : NodeView) (bytes : List ℕ) (new : NodeView) : Type 0 where
   pub was : old.failed ≡ false
   pub is_open : old.is_open ≡ true
+  pub set : Option SharedSet
   pub verdict : Verdict
-  pub adds : Adds old (if has_ended old || is_side (reading_of bytes) then [] else fate_of (conn_now old) (length (messages_in (line_of old))) (reading_of bytes) verdict ∷ []) new
+  pub adds : Adds old (if has_ended old || is_side (reading_at (local_hash old) bytes) then [] else fate_of (conn_now old) (length (messages_in (line_of old))) (reading_at (local_hash old) bytes) set verdict ∷ []) new
 
 pub record Closes (old new : NodeView) : Type 0 where
   pub me : new.me ≡ old.me
   pub peer : new.peer ≡ old.peer
+  pub set : new.set ≡ old.set
   pub was : old.failed ≡ false
   pub is_open : old.is_open ≡ true
   pub shut : new.is_open ≡ false

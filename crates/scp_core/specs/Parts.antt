@@ -1,14 +1,22 @@
 -- A node's private parts: the ledger, the applier and the end of the link.
 use Rattle.std.specs.Prelude.{ℕ, ◌+◌, ◌≤◌, ◌≡◌, ◌≢◌, Bool, true, List, [], ◌∷◌, ◌++◌, length, All, Contains, remove, slice_index_or}
 use Rattle.std.specs.List.Sorted.{IsPermutation}
+use Rattle.std.specs.Prelude.{Option}
+use Rattle.scp_types.specs.declared.names.ConnId.{ConnId}
 use Rattle.scp_types.specs.declared.names.NodeId.{NodeId}
+use Rattle.scp_types.specs.declared.names.Seq.{Seq}
+use Rattle.scp_wire.specs.declared.message.Message.{Message}
 use Rattle.scp_kv.specs.Map.{KvMap}
 use Rattle.scp_kv.specs.State.{fold_of, after_value}
 use Rattle.scp_core.specs.declared.journal.Fate.{Fate}
+use Rattle.scp_core.specs.declared.journal.Fate.TheVariants.{Taken}
+use Rattle.scp_core.specs.declared.journal.Verdict.{Verdict}
 use Rattle.scp_core.specs.declared.journal.Decision.{Decision}
 use Rattle.scp_core.specs.Link.{conn_at, IsOfLink}
 use Rattle.scp_core.specs.Journal.{conn_of, of_conn, messages_in, causes_in}
-use Rattle.scp_core.specs.Decisions.{OnePerSlot, decisions_in, HaveVerdicts, AreInOrder, values_of}
+use Rattle.scp_core.specs.Decisions.{OnePerSlot, decisions_in, AreInOrder, values_of}
+use Rattle.scp_core.specs.Verdicts.{HaveVerdicts}
+use Rattle.scp_core.specs.Sets.{SharedSet, HasItsSet}
 use Rattle.scp_core.specs.Node.{any_cause}
 
 pub record LedgerView : Type 0 where
@@ -21,11 +29,18 @@ pub record ApplierView : Type 0 where
   pub waiting : List Decision
   pub state : KvMap
 
--- the decisions are those of the journal, at most one per slot, and each verdict is right
-pub record IsLedger (journal : List Fate) (decisions : List Decision) : Type 0 where
+-- the decisions are those of the journal, at most one per slot; each verdict is right, and each envelope has its set
+pub record IsLedger (me : NodeId) (journal : List Fate) (decisions : List Decision) : Type 0 where
   pub decided : decisions ≡ decisions_in journal
   pub one : OnePerSlot decisions
-  pub verdicts : HaveVerdicts [] journal
+  pub verdicts : HaveVerdicts me [] journal
+  pub sets : All HasItsSet journal
+
+-- the entry of a taken message more
+pub record AddsTaken (old : List Fate) (conn : ConnId) (seq : Seq) (message : Message) (new : List Fate) : Type 0 where
+  pub set : Option SharedSet
+  pub verdict : Verdict
+  pub journal : new ≡ old ++ Taken conn seq message set verdict ∷ []
 
 -- slots 1 to n in order, and the state is their fold
 pub record IsApplied (v : ApplierView) : Type 0 where

@@ -3,6 +3,7 @@ use Rattle.std.specs.Prelude.{ℕ, ◌+◌, ◌<◌, ◌≤◌, ◌≡◌, ◌�
 use Rattle.std.specs.List.Sorted.{IsPermutation}
 use Rattle.std.specs.FinMap as map
 use Rattle.scp_kv.specs.State.{fold_of}
+use Rattle.scp_types.specs.declared.names.Hash.{Hash}
 use Rattle.scp_wire.specs.Carried.{is_side}
 use Rattle.scp_wire.specs.Reading.{reading_of}
 use Rattle.scp_core.specs.declared.journal.Fate.{Fate}
@@ -12,48 +13,50 @@ use Rattle.scp_core.specs.declared.event.Reply.{Reply}
 use Rattle.scp_core.specs.declared.event.Reply.TheVariants.{NoLink, AlreadyOpen, LivesSpent, NotOpen, Accepted, JournalFull, NoMemory, Failed}
 use Rattle.scp_core.specs.Link.{conn_at, IsOfLink}
 use Rattle.scp_core.specs.Journal.{of_conn, conn_of, messages_in, causes_in, Follows}
-use Rattle.scp_core.specs.Decisions.{OnePerSlot, decisions_in, HaveVerdicts, AreInOrder, values_of}
+use Rattle.scp_core.specs.Decisions.{OnePerSlot, decisions_in, AreInOrder, values_of}
+use Rattle.scp_core.specs.Verdicts.{HaveVerdicts}
+use Rattle.scp_core.specs.Sets.{HasItsSet}
 use Rattle.scp_core.specs.History.{Exchange, Heard, heard, hears, nothing_heard, carried, end_of}
-use Rattle.scp_core.specs.Node.{NodeView, link_of}
+use Rattle.scp_core.specs.Node.{NodeView, link_of, local_hash}
 
 -- one fate each for the carried messages of a connection, from the first, in the order sent and none after its
 -- close; none is without a fate; and each Closed has its cause
-pub record Accounts (sent : List (List ℕ)) (closed : Bool) (fates : List Fate) : Type 0 where
-  pub follows : Follows 0 (carried sent) fates
-  pub whole : messages_in fates ≡ carried sent
-  pub cause : causes_in fates ≡ option_to_list (end_of sent closed)
+pub record Accounts (local : Hash) (sent : List (List ℕ)) (closed : Bool) (fates : List Fate) : Type 0 where
+  pub follows : Follows 0 (carried local sent) fates
+  pub whole : messages_in fates ≡ carried local sent
+  pub cause : causes_in fates ≡ option_to_list (end_of local sent closed)
 
 -- the node runs, and the event is of its link
 abbrev pub IsHere : Heard → Event → Type 0
 IsHere h event = (h.failed ≡ None) × (link_of event ≡ 0)
 
 -- the link is open, and where it is in the life that is watched, that life has not ended
-pub record IsLive (life : ℕ) (h : Heard) (event : Event) : Type 0 where
+pub record IsLive (local : Hash) (life : ℕ) (h : Heard) (event : Event) : Type 0 where
   pub here : IsHere h event
   pub is_open : h.is_open ≡ true
-  pub goes_on : h.life ≡ life → end_of h.sent h.closed ≡ None
+  pub goes_on : h.life ≡ life → end_of local h.sent h.closed ≡ None
 
 -- the reply to an event, by the table of replies
-abbrev pub IsReply : ℕ → Heard → Event → Reply → Type 0
-IsReply life h event Failed = IsSome h.failed
-IsReply life h event NoLink = (h.failed ≡ None) × (link_of event ≢ 0)
-IsReply life h (Open link) AlreadyOpen = IsHere h (Open link) × (h.is_open ≡ true)
-IsReply life h (Open link) LivesSpent = IsHere h (Open link) × (h.is_open ≡ false) × (h.life ≡ 65535)
-IsReply life h (Open link) Accepted = IsHere h (Open link) × (h.is_open ≡ false) × (h.life < 65535)
-IsReply life h (Send link bytes) NotOpen = IsHere h (Send link bytes) × (h.is_open ≡ false)
-IsReply life h (Send link bytes) Accepted = IsHere h (Send link bytes) × (h.is_open ≡ true)
-IsReply life h (Send link bytes) JournalFull = IsLive life h (Send link bytes) × (is_side (reading_of bytes) ≡ false)
-IsReply life h (Send link bytes) NoMemory = IsLive life h (Send link bytes) × (is_side (reading_of bytes) ≡ false)
-IsReply life h (Close link) NotOpen = IsHere h (Close link) × (h.is_open ≡ false)
-IsReply life h (Close link) Accepted = IsHere h (Close link) × (h.is_open ≡ true)
-IsReply life h (Close link) JournalFull = IsLive life h (Close link)
-IsReply life h (Close link) NoMemory = IsLive life h (Close link)
-IsReply life h event reply = ⊥
+abbrev pub IsReply : Hash → ℕ → Heard → Event → Reply → Type 0
+IsReply local life h event Failed = IsSome h.failed
+IsReply local life h event NoLink = (h.failed ≡ None) × (link_of event ≢ 0)
+IsReply local life h (Open link) AlreadyOpen = IsHere h (Open link) × (h.is_open ≡ true)
+IsReply local life h (Open link) LivesSpent = IsHere h (Open link) × (h.is_open ≡ false) × (h.life ≡ 65535)
+IsReply local life h (Open link) Accepted = IsHere h (Open link) × (h.is_open ≡ false) × (h.life < 65535)
+IsReply local life h (Send link bytes) NotOpen = IsHere h (Send link bytes) × (h.is_open ≡ false)
+IsReply local life h (Send link bytes) Accepted = IsHere h (Send link bytes) × (h.is_open ≡ true)
+IsReply local life h (Send link bytes) JournalFull = IsLive local life h (Send link bytes) × (is_side (reading_of bytes) ≡ false)
+IsReply local life h (Send link bytes) NoMemory = IsLive local life h (Send link bytes) × (is_side (reading_of bytes) ≡ false)
+IsReply local life h (Close link) NotOpen = IsHere h (Close link) × (h.is_open ≡ false)
+IsReply local life h (Close link) Accepted = IsHere h (Close link) × (h.is_open ≡ true)
+IsReply local life h (Close link) JournalFull = IsLive local life h (Close link)
+IsReply local life h (Close link) NoMemory = IsLive local life h (Close link)
+IsReply local life h event reply = ⊥
 
 -- each reply is right where it stands
-abbrev pub AreReplies : ℕ → Heard → List Exchange → Type 0
-AreReplies life h [] = Unit {0}
-AreReplies life h (x ∷ xs) = IsReply life h x.0 x.1 × AreReplies life (hears life h x.0 x.1) xs
+abbrev pub AreReplies : Hash → ℕ → Heard → List Exchange → Type 0
+AreReplies local life h [] = Unit {0}
+AreReplies local life h (x ∷ xs) = IsReply local life h x.0 x.1 × AreReplies local life (hears life h x.0 x.1) xs
 
 -- the node's link stands as the exchanges left it, and a full journal failed it at 1,000,000 entries
 pub record Knows (h : Heard) (node : NodeView) : Type 0 where
@@ -79,7 +82,9 @@ pub record Stands (node : NodeView) : Type 0 where
   pub decided : node.decisions ≡ decisions_in node.journal
   pub one_decision : OnePerSlot node.decisions
   -- every verdict is the first that fits
-  pub verdicts : HaveVerdicts [] node.journal
+  pub verdicts : HaveVerdicts node.me [] node.journal
+  -- each taken envelope has the quorum set that its hash names
+  pub sets : All HasItsSet node.journal
   -- slots 1 to n are applied once each, in order, each with its decision
   pub in_order : AreInOrder 1 node.applied
   pub applied_decided : All (Contains node.decisions) node.applied
@@ -87,7 +92,7 @@ pub record Stands (node : NodeView) : Type 0 where
   pub stopped : node.failed ≡ true → node.state ≡ None
 
 pub record LedgerTheorem (past : List Exchange) (node : NodeView) : Type 0 where
-  pub replies : (life : ℕ) → AreReplies life nothing_heard past
+  pub replies : (life : ℕ) → AreReplies (local_hash node) life nothing_heard past
   pub knows : (life : ℕ) → Knows (heard life past) node
-  pub accounts : (life : ℕ) → Accounts (heard life past).sent (heard life past).closed (of_conn (conn_at node.peer node.me life) node.journal)
+  pub accounts : (life : ℕ) → Accounts (local_hash node) (heard life past).sent (heard life past).closed (of_conn (conn_at node.peer node.me life) node.journal)
   pub stands : Stands node

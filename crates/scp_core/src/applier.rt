@@ -1,5 +1,6 @@
 ghost use Rattle.std.specs.Prelude.{◌≡◌, ◌≢◌, ◌∷◌, ◌++◌, [], ◌+◌, ◌<◌, ◌≤◌, ℕ, length, OnOk, OnErr, IsTrue, ◌↔◌, nat_lt, List, position, IsOkUnless};
-ghost use Rattle.scp_core.specs.Decisions.{is_decided, is_at, verdict_at};
+ghost use Rattle.scp_core.specs.Decisions.{is_decided, is_at};
+ghost use Rattle.scp_core.specs.Verdicts.{verdict_at};
 ghost use Rattle.scp_core.specs.Parts.{IsApplied, IsApplier, Takes, Advances, AppliesOne};
 ghost use Rattle.scp_core.specs.Applier.{applier_view};
 
@@ -65,13 +66,28 @@ impl Applier {
         taken
     }
 
+    /// The lowest slot that isn't applied.
+    pub fn lowest(&self) -> u64
+        requires few { length self.now.applied.items < JOURNAL_LIMIT }
+        ensures { result ≡ length self.now.applied.items + 1 }
+    {
+        self.applied.len() as u64 + 1
+    }
+
+    /// Whether a decision of the slot waits to be applied. At most 15 wait.
+    pub fn waits(&self, slot: Slot) -> bool
+        ensures { result ≡ is_decided slot.0 self.now.waiting.items }
+    {
+        has_slot(self.waiting.as_slice(), slot)
+    }
+
     /// The verdict on a record for a slot.
     pub fn verdict(&self, slot: Slot) -> Verdict
         requires few { length self.now.applied.items < JOURNAL_LIMIT }
         ensures { result ≡ verdict_at (length self.now.applied.items + 1) (is_decided slot.0 self.now.waiting.items) slot.0 }
     {
-        let lowest = self.applied.len() as u64 + 1;
-        if has_slot(self.waiting.as_slice(), slot) || slot.0 < lowest {
+        let lowest = self.lowest();
+        if self.waits(slot) || slot.0 < lowest {
             Verdict::Already
         } else if slot.0 > LAST_SLOT || slot.0 - lowest >= WINDOW {
             Verdict::FarSlot

@@ -1,5 +1,6 @@
 ghost use Rattle.std.specs.Prelude.{◌≡◌};
 
+use scp_quorum::QuorumSet;
 use scp_types::NodeId;
 use std::marker::Model;
 
@@ -37,6 +38,8 @@ impl Peers {
 pub struct Config {
     /// The node itself.
     pub me: NodeId,
+    /// Its quorum set: a sane one.
+    pub set: QuorumSet,
     /// Its peers: exactly one, and another node than itself.
     pub peers: Peers,
 }

@@ -1,14 +1,30 @@
+use scp_quorum::SaneSet;
 use scp_types::{ConnId, Seq, Slot, Value};
 use scp_wire::{Cause, Message};
+use std::sync::Arc;
 
 /// What was found of a message that was taken.
 #[derive(Clone, Copy, Debug, PartialEq, Eq)]
 pub enum Verdict {
-    /// Its slot has a decision, or is below the lowest undecided one.
-    Already,
+    /// An envelope's slot is below the lowest undecided one.
+    OldSlot,
     /// Its slot is above 4,294,967,295, or 16 or more above the lowest undecided one.
     FarSlot,
-    /// It decided its slot.
+    /// Its slot has a decision; for a record also: its slot is below the lowest undecided one.
+    Already,
+    /// An envelope is of the node itself.
+    Own,
+    /// An envelope's statement isn't sane.
+    BadStatement,
+    /// A ballot statement holds a value that is no operation list.
+    BadValue,
+    /// An envelope isn't newer than the last fresh one of its node, slot and kind.
+    Stale,
+    /// An envelope is newer than all fresh ones before it of its node, slot and kind.
+    Fresh,
+    /// A request for a record was handed on.
+    Forwarded,
+    /// A record decided its slot.
     Decided,
 }
 
@@ -20,6 +36,8 @@ pub enum Fate {
         conn: ConnId,
         seq: Seq,
         message: Message,
+        /// The quorum set that an envelope names; none beside other messages.
+        set: Option<Arc<SaneSet>>,
         verdict: Verdict,
     },
     /// The connection ended.

@@ -1,28 +1,30 @@
-ghost use Rattle.std.specs.Prelude.{◌≡◌, ◌≢◌, ◌∷◌, ◌++◌, [], ◌+◌, ◌<◌, ◌↔◌, ℕ, IsTrue, true, false, length, OnOk, OnErr, IfOk, IfErr, List, Some, None, Ok, Err, IsOkUnless, MatchOption, option_map, if◌then◌else◌, ◌==◌};
+ghost use Rattle.std.specs.Prelude.{◌≡◌, ◌≢◌, ◌∷◌, ◌++◌, [], ◌+◌, ◌<◌, ◌↔◌, ◌⊎◌, ℕ, IsTrue, true, false, length, OnOk, OnErr, IfOk, IfErr, List, Some, None, Ok, Err, IsOkUnless, MatchOption, option_map, not, if◌then◌else◌, ◌==◌};
 ghost use Rattle.std.specs.FinMap as map;
-ghost use Rattle.scp_wire.specs.Carried.{is_side};
+ghost use Rattle.scp_wire.specs.Carried.{is_side, IsCarried};
 ghost use Rattle.scp_wire.specs.Reading.{reading_of};
-ghost use Rattle.scp_core.specs.Node.{Step, Adds, Keeps, line_of, has_ended, conn_now, fate_of, link_of};
+ghost use Rattle.scp_core.specs.Node.{Step, Adds, Keeps, line_of, has_ended, conn_now, link_of, local_hash, Enters, EntersMessage};
+ghost use Rattle.scp_core.specs.Sets.{reading_at, names_no_other};
 ghost use Rattle.scp_core.specs.Theorem.{LedgerTheorem};
 ghost use Rattle.scp_core.specs.History.{Exchange};
 ghost use Rattle.scp_core.specs.Journal.{messages_in};
-ghost use Rattle.scp_core.specs.Parts.{IsLedger, IsInOrder, IsRunning};
 ghost use Rattle.scp_core.specs.Config.{IsConfig};
-ghost use Rattle.scp_core.specs.Applier.{applier_view};
-ghost use Rattle.scp_core.specs.declared.journal.Fate.TheVariants.{Taken, Closed};
+ghost use Rattle.scp_core.specs.declared.journal.Fate.TheVariants.{Closed};
 
 use crate::applier::Applier;
 use crate::config::Config;
+use crate::entering::enter;
 use crate::event::{Event, Reply};
-use crate::journal::{Decision, Fate, Origin, Verdict};
+use crate::journal::Fate;
 use crate::ledger::{JOURNAL_LIMIT, Ledger};
 use crate::link::Link;
 use crate::shared::SharedDecision;
 use scp_kv::KvState;
-use scp_types::{ConnId, Fault, NodeId, Seq, Slot, Value};
-use scp_wire::{Cause, Message, decode, is_side_message};
+use scp_quorum::SaneSet;
+use scp_types::{ConnId, Fault, Hash, NodeId, Seq};
+use scp_wire::{Carried, Cause, Message, decode, is_side_message};
 use std::alloc::Global;
 use std::marker::Model;
+use std::sync::Arc;
 
 /// A connection carries at most so many messages.
 pub const CARRIED_LIMIT: u64 = 1_000_000;
@@ -36,6 +38,7 @@ pub struct Node {
     alloc: Global,
     me: NodeId,
     peer: NodeId,
+    set: Arc<SaneSet>,
     link: Link,
     ledger: Ledger,
     applier: Applier,
@@ -61,13 +64,13 @@ impl Model for Node {
 }
 
 impl Node {
-    /// A node that has heard nothing. Refused by BadConfig where there isn't exactly one peer, or where it is the node
-    /// itself.
+    /// A node that has heard nothing. Refused by `BadConfig` where there isn't exactly one peer, where it is the node
+    /// itself, or where the quorum set isn't sane; then by `NoMemory`.
     pub fn new(alloc: Global, config: Config) -> Result<Node, Fault>
         ensures theorem { IfOk result (λ node. LedgerTheorem [] node) }
-        ensures config { IfOk result (λ node. (node.me ≡ config.me) × (config.peers ≡ node.peer ∷ [])) }
-        ensures refused { result ≡ Err Fault.BadConfig ↔ ¬ (IsConfig config.me config.peers) }
-        ensures only { IsOkUnless result Fault.BadConfig }
+        ensures config { IfOk result (λ node. (node.me ≡ config.me) × (node.set ≡ config.set) × (config.peers ≡ node.peer ∷ [])) }
+        ensures refused { result ≡ Err Fault.BadConfig ↔ ¬ (IsConfig config.me config.set config.peers) }
+        ensures only { IfErr result (λ f. (f ≡ Fault.BadConfig) ⊎ (f ≡ Fault.NoMemory)) }
     {
         let Some(peer) = only_peer(config.peers.as_slice()) else {
             return Err(Fault::BadConfig);
@@ -75,10 +78,16 @@ impl Node {
         if is_same(&peer, &config.me) {
             return Err(Fault::BadConfig);
         }
+        let set = match config.set.into_sane() {
+            Ok(set) => set,
+            Err((Fault::Insane, _)) => return Err(Fault::BadConfig),
+            Err(_) => return Err(Fault::NoMemory),
+        };
         Ok(Node {
             alloc,
             me: config.me,
             peer,
+            set: Arc::new(alloc, set)?,
             link: Link {
                 life: 0,
                 is_open: false,
@@ -136,7 +145,7 @@ impl Node {
         ensures theorem { (past : List Exchange) → LedgerTheorem past self.old → LedgerTheorem (past ++ (event, result) ∷ []) self.new }
         ensures kept { result ≢ Reply.Accepted → Keeps self.old self.new }
         ensures grows { (more : List Fate) × (self.new.journal ≡ self.old.journal ++ more) }
-        ensures config { (self.new.me ≡ self.old.me) × (self.new.peer ≡ self.old.peer) }
+        ensures config { (self.new.me ≡ self.old.me) × (self.new.set ≡ self.old.set) × (self.new.peer ≡ self.old.peer) }
     {
         self.advance(&event)
     }
@@ -146,7 +155,7 @@ impl Node {
         ensures theorem { (past : List Exchange) → LedgerTheorem past self.old → LedgerTheorem (past ++ (event.now, result) ∷ []) self.new }
         ensures kept { result ≢ Reply.Accepted → Keeps self.old self.new }
         ensures grows { (more : List Fate) × (self.new.journal ≡ self.old.journal ++ more) }
-        ensures config { (self.new.me ≡ self.old.me) × (self.new.peer ≡ self.old.peer) }
+        ensures config { (self.new.me ≡ self.old.me) × (self.new.set ≡ self.old.set) × (self.new.peer ≡ self.old.peer) }
     {
         let reply = self.perform(event);
         let _ = &self.failed;
@@ -256,21 +265,26 @@ impl Node {
         requires live { has_ended self.old ≡ false }
         requires short { length self.old.journal < JOURNAL_LIMIT }
         requires no_side { is_side (reading_of bytes.now) ≡ false }
-        ensures ok { OnOk result ((verdict : Verdict) × Adds self.old (fate_of (conn_now self.old) (length (messages_in (line_of self.old))) (reading_of bytes.now) verdict ∷ []) self.new) }
+        ensures ok { OnOk result (Enters self.old (reading_at (local_hash self.old) bytes.now) self.new) }
         ensures err { OnErr result (Keeps self.old self.new) }
     {
         match decode(self.alloc, bytes) {
-            Ok(Message::Record(slot, value)) => {
-                if self.link.next == CARRIED_LIMIT {
+            Ok(message) => {
+                if names_another_set(&message, self.set.hash()) {
+                    self.end(Cause::Malformed)
+                } else if self.link.next == CARRIED_LIMIT {
                     self.end(Cause::Spent)
                 } else {
-                    self.take(slot, value)
+                    self.take(message)
                 }
             }
-            // not reached, since the bytes are no side message
-            Ok(Message::GetSet(_) | Message::Set(_) | Message::NoSet(_)) => Ok(()),
-            Err(Fault::NoMemory) => Err(Fault::NoMemory),
-            Err(_) => self.end(Cause::Malformed),
+            Err(fault) => {
+                if is_no_memory(fault) {
+                    Err(fault)
+                } else {
+                    self.end(Cause::Malformed)
+                }
+            }
         }
     }
 
@@ -289,14 +303,16 @@ impl Node {
         Ok(())
     }
 
-    /// Takes a record.
-    fn take(&mut self, slot: Slot, value: Value) -> Result<(), Fault>
+    /// Takes a carried message.
+    fn take(&mut self, message: Message) -> Result<(), Fault>
         requires running { self.old.failed ≡ false }
         requires is_open { self.old.is_open ≡ true }
         requires live { has_ended self.old ≡ false }
         requires short { length self.old.journal < JOURNAL_LIMIT }
         requires few { length (messages_in (line_of self.old)) < CARRIED_LIMIT }
-        ensures ok { OnOk result ((verdict : Verdict) × Adds self.old (Taken (conn_now self.old) (record { 0 = length (messages_in (line_of self.old)) }) (Message.Record slot value) verdict ∷ []) self.new) }
+        requires carried { IsCarried message }
+        requires named { names_no_other (local_hash self.old) message ≡ true }
+        ensures ok { OnOk result (EntersMessage self.old message self.new) }
         ensures err { OnErr result (Keeps self.old self.new) }
     {
         self.ledger.reserve()?;
@@ -306,12 +322,11 @@ impl Node {
         self.failed = true;
         enter(
             self.alloc,
+            &self.me,
+            &self.set,
             &mut self.ledger,
             &mut self.applier,
-            conn,
-            seq,
-            slot,
-            value,
+            Carried { conn, seq, message },
         )?;
         self.failed = false;
         self.link.next += 1;
@@ -335,58 +350,18 @@ fn is_same(left: &NodeId, right: &NodeId) -> bool
     left == right
 }
 
-fn decides(verdict: Verdict) -> bool
-    ensures { IsTrue result ↔ (verdict ≡ Verdict.Decided) }
+/// Whether the message is an envelope that names another quorum set than the one of this hash.
+fn names_another_set(message: &Message, local: Hash) -> bool
+    ensures { result ≡ not (names_no_other local message.now) }
 {
-    matches!(verdict, Verdict::Decided)
+    match message {
+        Message::Envelope(envelope) => envelope.set_hash() != local,
+        _ => false,
+    }
 }
 
-/// Adds the record's entry, and applies what it decides.
-fn enter(
-    alloc: Global,
-    ledger: &mut Ledger,
-    applier: &mut Applier,
-    conn: ConnId,
-    seq: Seq,
-    slot: Slot,
-    value: Value,
-) -> Result<(), Fault>
-    requires room { ledger.old.has_room ≡ true }
-    requires short { length ledger.old.journal < JOURNAL_LIMIT }
-    requires known { IsLedger ledger.old.journal ledger.old.decisions }
-    requires running { IsRunning ledger.old.decisions (applier_view applier.old) }
-    ensures ok { OnOk result ((verdict : Verdict) × (ledger.new.journal ≡ ledger.old.journal ++ Taken conn seq (Message.Record slot value) verdict ∷ [])) }
-    ensures known { OnOk result (IsLedger ledger.new.journal ledger.new.decisions) }
-    ensures running { OnOk result (IsRunning ledger.new.decisions (applier_view applier.new)) }
-    ensures err { OnErr result ((applier.new.applied.items ≡ applier.old.applied.items) × (ledger.new ≡ ledger.old)) }
+fn is_no_memory(fault: Fault) -> bool
+    ensures { IsTrue result ↔ (fault ≡ Fault.NoMemory) }
 {
-    let verdict = applier.verdict(slot);
-    if !decides(verdict) {
-        ledger.add(Fate::Taken {
-            conn,
-            seq,
-            message: Message::Record(slot, value),
-            verdict,
-        });
-        return Ok(());
-    }
-    let decision = SharedDecision::new(
-        alloc,
-        Decision {
-            slot,
-            value: value.copy()?,
-            origin: Origin::Named { conn, seq },
-        },
-    )?;
-    applier.take(decision.share()?)?;
-    ledger.decide(
-        Fate::Taken {
-            conn,
-            seq,
-            message: Message::Record(slot, value),
-            verdict,
-        },
-        decision,
-    );
-    Ok(())
+    matches!(fault, Fault::NoMemory)
 }

@@ -13,8 +13,8 @@ use std::alloc::Global;
 pub fn run(alloc: Global, config: Config, events: &[Event]) -> Result<Run, Fault>
     ensures theorem { IfOk result (λ run. LedgerTheorem (zip events.now run.replies.items) run.node) }
     ensures count { IfOk result (λ run. length run.replies.items ≡ length events.now) }
-    ensures config { IfOk result (λ run. (run.node.me ≡ config.me) × (config.peers ≡ run.node.peer ∷ [])) }
-    ensures refused { result ≡ Err Fault.BadConfig ↔ ¬ (IsConfig config.me config.peers) }
+    ensures config { IfOk result (λ run. (run.node.me ≡ config.me) × (run.node.set ≡ config.set) × (config.peers ≡ run.node.peer ∷ [])) }
+    ensures refused { result ≡ Err Fault.BadConfig ↔ ¬ (IsConfig config.me config.set config.peers) }
     ensures only { IfErr result (λ f. (f ≡ Fault.BadConfig) ⊎ (f ≡ Fault.NoMemory)) }
 {
     let mut node = Node::new(alloc, config)?;

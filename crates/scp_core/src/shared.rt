@@ -52,6 +52,6 @@ impl Deref for SharedDecision {
     fn deref(&self) -> &Decision
         ensures { result.now ≡ self.now }
     {
-        &*self.0
+        self.get()
     }
 }

@@ -1,12 +1,22 @@
 use crate::*;
+use scp_quorum::QuorumSet;
 use scp_types::{ConnId, Fault, NodeId, Seq, Slot, Value};
 use scp_wire::{MESSAGE_LIMIT, Message, encode};
 use std::alloc::Global;
 use std::test::Fail;
 
+mod envelopes;
+mod fresh;
+mod said;
+
+use said::{Said, envelope, request};
+
 const ME: NodeId = NodeId([1; 32]);
 
 const PEER: NodeId = NodeId([2; 32]);
+
+/// A node that is no peer.
+const THIRD: NodeId = NodeId([3; 32]);
 
 /// One operation: put a 1.
 const PUT_A: [u8; 24] = [
@@ -43,6 +53,8 @@ enum Act<'a> {
     Close(u8),
     Send(&'a [u8]),
     Record(u64, &'a [u8]),
+    Envelope(NodeId, u64, Said<'a>),
+    GetRecord(u64),
 }
 
 /// An entry of the journal: the life of its connection, the message's number and what became of it.
@@ -56,9 +68,19 @@ fn peers(alloc: Global, nodes: &[NodeId]) -> Result<Peers, Fault> {
     Ok(Peers::new(Vec::from_slice(alloc, nodes)?))
 }
 
+/// 2 of the node and its peer.
+fn both_nodes(alloc: Global) -> Result<QuorumSet, Fault> {
+    let nodes = Vec::from_slice(alloc, &[ME, PEER])?;
+    Ok(QuorumSet::new(2, nodes, Vec::new(alloc)))
+}
+
 fn config(alloc: Global) -> Result<Config, Fault> {
     let peers = peers(alloc, &[PEER])?;
-    Ok(Config { me: ME, peers })
+    Ok(Config {
+        me: ME,
+        set: both_nodes(alloc)?,
+        peers,
+    })
 }
 
 fn new_node(alloc: Global) -> Result<Node, Fault> {
@@ -76,6 +98,10 @@ fn event_of(alloc: Global, act: &Act<'_>) -> Result<Event, Fault> {
         Act::Close(link) => Event::Close(*link),
         Act::Send(bytes) => Event::Send(0, Bytes::new(Vec::from_slice(alloc, bytes)?)),
         Act::Record(slot, value) => Event::Send(0, Bytes::new(record(alloc, *slot, value)?)),
+        Act::Envelope(node, slot, said) => {
+            Event::Send(0, Bytes::new(envelope(alloc, *node, *slot, said)?))
+        }
+        Act::GetRecord(slot) => Event::Send(0, Bytes::new(request(alloc, *slot)?)),
     })
 }
 
@@ -147,6 +173,21 @@ fn entries(alloc: Global, node: &Node) -> Result<Vec<Entry>, Fault> {
     entries_of(alloc, node.journal())
 }
 
+/// The entries after these acts, each of which the node accepts.
+fn entries_after(alloc: Global, acts: &[Act<'_>]) -> Result<Vec<Entry>, Fault> {
+    let node = after(alloc, acts)?;
+    entries(alloc, &node)
+}
+
+/// The entries after these statements of the peer on slot 1.
+fn entries_after_saying(alloc: Global, statements: &[Said<'_>]) -> Result<Vec<Entry>, Fault> {
+    let mut node = after(alloc, &[Act::Open(0)])?;
+    for said in statements {
+        act_on(alloc, &mut node, &Act::Envelope(PEER, 1, *said))?;
+    }
+    entries(alloc, &node)
+}
+
 fn entry_count(node: &Node) -> usize {
     node.journal().len()
 }
@@ -211,9 +252,10 @@ fn run_replies_to_each_event(rt: HostRuntime) -> Result<(), Fail> {
 #[test]
 fn a_config_has_one_other_peer(rt: HostRuntime) -> Result<(), Fail> {
     let alloc = rt.alloc();
-    for nodes in [[].as_slice(), &[ME], &[PEER, NodeId([3; 32])]] {
+    for nodes in [[].as_slice(), &[ME], &[PEER, THIRD]] {
         let peers = peers(alloc, nodes)?;
-        let ran = run(alloc, Config { me: ME, peers }, &[]);
+        let set = both_nodes(alloc)?;
+        let ran = run(alloc, Config { me: ME, set, peers }, &[]);
         assert!(rt; matches!(ran, Err(Fault::BadConfig)));
     }
     Ok(())

@@ -6,7 +6,7 @@
 //! - `KvState` is a finite map from keys to values. `apply` sets a key or takes it out and leaves all others.
 //! - `apply_value` applies a value's operations in order; a value that is no list leaves the state.
 //! - `lines` gives the entries of the state in the order of the keys.
-//! - The only refusal is want of memory.
+//! - The only refusal of these calls is want of memory.
 #![tactic(auto)]
 
 mod laws;

@@ -1,5 +1,5 @@
 -- Words and lines.
-use Rattle.std.proofs.Common.{◌≡◌, ◌≢◌, ℕ, ◌+◌, ◌<◌, Bool, true, false, ◌&&◌, ◌||◌, List, [], ◌∷◌, ◌++◌, length, take, map, None, is_some, option_to_list, refl, sym, ◌∙◌, ap, subst, arith, append_assoc, append-nil, suc, nat_lt, ◌^◌, Bor, get_or}
+use Rattle.std.proofs.Common.{◌≡◌, ◌≢◌, ℕ, ◌+◌, ◌<◌, Bool, true, false, ◌&&◌, List, [], ◌∷◌, ◌++◌, length, take, map, Option, Some, None, IfSome, option_to_list, refl, sym, ◌∙◌, ap, subst, arith, append_assoc, append-nil, suc, nat_lt, ◌^◌, Bor, get_or}
 use Rattle.std.proofs.lemmas.Grind.{common_steps}
 use Rattle.std.proofs.lemmas.Bool.Decides.{nat_tests}
 use Rattle.std.specs.Str.{IsAscii}
@@ -7,17 +7,12 @@ use Rattle.std.specs.Str.Parse.{digits_value}
 use Rattle.std.specs.Fmt.{decimal}
 use Rattle.std.specs.Cmp.Lexicographic.{bytes_decides}
 use Rattle.std.proofs.lemmas.List.{take_more, get_or-map, length-map}
-use Rattle.scp_line.specs.declared.script.Reading.{Reading}
-use Rattle.scp_line.specs.Reading.{HasRead, TakesWords}
-use Rattle.scp_line.specs.Script.{stands_line, is_ascii, same, number_in, quorum_in, command_in, words_of, commands_of, is_counted, all_fit, fits}
-
--- words of another number than three count nothing
-pub quorum_in_other : (words : List (List ℕ)) → (length words ≢ 3) → quorum_in words ≡ None
-quorum_in_other [] n = refl
-quorum_in_other (a ∷ []) n = refl
-quorum_in_other (a ∷ b ∷ []) n = refl
-quorum_in_other (a ∷ b ∷ c ∷ []) n = absurd (n refl)
-quorum_in_other (a ∷ b ∷ c ∷ d ∷ words) n = refl
+use Rattle.std.proofs.lemmas.List.Folds.{list_all-append}
+use Rattle.std.specs.List.{list_all}
+use Rattle.scp_line.specs.declared.script.Command.{Command}
+use Rattle.scp_line.specs.declared.script.reading.Reading.{Reading}
+use Rattle.scp_line.specs.Reading.{HasRead, TakesWords, Stands}
+use Rattle.scp_line.specs.Script.{is_ascii, is_line, same, number_in, command_in, words_of, commands_of, Admits, AreAdmitted, AreLines}
 
 -- no words, or more than four, are no command
 pub command_in_other : (words : List (List ℕ)) → (length words ≢ 1) → (length words ≢ 2) → (length words ≢ 3) → (length words ≢ 4) → command_in words ≡ None
@@ -35,28 +30,44 @@ commands_of-append (x ∷ xs) ys = ap (λ l. option_to_list (command_in (words_o
 pub commands_of-more : (xs : List (List ℕ)) (x : List ℕ) → commands_of (xs ++ x ∷ []) ≡ commands_of xs ++ option_to_list (command_in (words_of x))
 commands_of-more xs x = commands_of-append xs (x ∷ []) ∙ grind (arith, common_steps)
 
-pub is_counted-more : (xs : List (List ℕ)) (x : List ℕ) → is_counted (xs ++ x ∷ []) ≡ (is_counted xs || is_some (quorum_in (words_of x)))
-is_counted-more [] x = elim (is_some (quorum_in (words_of x))) as (λ b. (b || false) ≡ (false || b)) [ true ↦ refl | false ↦ refl ]
-is_counted-more (y ∷ xs) x =
-    elim (is_some (quorum_in (words_of y))) as (λ b. (b || is_counted (xs ++ x ∷ [])) ≡ ((b || is_counted xs) || is_some (quorum_in (words_of x)))) [ true ↦ refl | false ↦ is_counted-more xs x ]
+-- commands behind others that may stand
+admitted-append : (before xs ys : List Command) → AreAdmitted before xs → AreAdmitted (before ++ xs) ys → AreAdmitted before (xs ++ ys)
+admitted-append before [] ys first second = subst (λ (l : List Command). AreAdmitted l ys) (append-nil before) second
+admitted-append before (x ∷ xs) ys first second = (first.0, admitted-append (before ++ x ∷ []) xs ys first.1 (subst (λ (l : List Command). AreAdmitted l ys) (sym (append_assoc before (x ∷ []) xs)) second))
 
-and_assoc : (a b c : Bool) → (a && (b && c)) ≡ ((a && b) && c)
-and_assoc true b c = refl
-and_assoc false b c = refl
+admitted-rest : (before xs ys : List Command) → AreAdmitted before (xs ++ ys) → AreAdmitted (before ++ xs) ys
+admitted-rest before [] ys all = subst (λ (l : List Command). AreAdmitted l ys) (sym (append-nil before)) all
+admitted-rest before (x ∷ xs) ys all = subst (λ (l : List Command). AreAdmitted l ys) (append_assoc before (x ∷ []) xs) (admitted-rest (before ++ x ∷ []) xs ys all.1)
+
+admitted_option : (before : List Command) (o : Option Command) → IfSome o (Admits before) → AreAdmitted before (option_to_list o)
+admitted_option before None h = tt
+admitted_option before (Some command) h = (h, tt)
+
+option_admitted : (before : List Command) (o : Option Command) → AreAdmitted before (option_to_list o) → IfSome o (Admits before)
+option_admitted before None h = tt
+option_admitted before (Some command) h = h.0
 
 and_true : (a : Bool) → (a && true) ≡ a
 and_true true = refl
 and_true false = refl
 
--- one more line fits just where it may stand behind the others
-pub all_fit-more : (earlier xs : List (List ℕ)) (x : List ℕ) → all_fit earlier (xs ++ x ∷ []) ≡ (all_fit earlier xs && fits (earlier ++ xs) x)
-all_fit-more earlier [] x =
-    let e : earlier ++ [] ≡ earlier = append-nil earlier in
-    and_true (fits earlier x) ∙ ap (λ l. fits l x) (sym e)
-all_fit-more earlier (y ∷ xs) x =
-    let rest : all_fit (earlier ++ y ∷ []) (xs ++ x ∷ []) ≡ (all_fit (earlier ++ y ∷ []) xs && fits ((earlier ++ y ∷ []) ++ xs) x) = all_fit-more (earlier ++ y ∷ []) xs x in
-    let e : (earlier ++ y ∷ []) ++ xs ≡ earlier ++ y ∷ xs = append_assoc earlier (y ∷ []) xs in
-    ap (λ b. fits earlier y && b) (rest ∙ ap (λ l. all_fit (earlier ++ y ∷ []) xs && fits l x) e) ∙ and_assoc (fits earlier y) (all_fit (earlier ++ y ∷ []) xs) (fits (earlier ++ y ∷ xs) x)
+both_true : (a b : Bool) → (a && b) ≡ true → (a ≡ true) × (b ≡ true)
+both_true true b e = (refl, e)
+both_true false b e = absurd cc
+
+-- one more line, where it may stand behind the others
+pub lines-more : (lines : List (List ℕ)) (x : List ℕ) → AreLines lines → Stands (commands_of lines) x → AreLines (lines ++ x ∷ [])
+lines-more lines x h s = record {
+  each = list_all-append is_line lines (x ∷ []) ∙ rw (h.each, s.0) refl;
+  admitted = rw (commands_of-more lines x) (admitted-append [] (commands_of lines) (option_to_list (command_in (words_of x))) h.admitted (admitted_option (commands_of lines) (command_in (words_of x)) s.1));
+}
+
+-- the last line of a script may stand behind the others
+pub last_stands : (lines : List (List ℕ)) (x : List ℕ) → AreLines (lines ++ x ∷ []) → Stands (commands_of lines) x
+last_stands lines x h =
+    let each : (list_all is_line lines && (is_line x && true)) ≡ true = sym (list_all-append is_line lines (x ∷ [])) ∙ h.each in
+    let all : AreAdmitted [] (commands_of lines ++ option_to_list (command_in (words_of x))) = rw (commands_of-more lines x) at h.admitted in
+    (sym (and_true (is_line x)) ∙ (both_true (list_all is_line lines) (is_line x && true) each).1, option_admitted (commands_of lines) (command_in (words_of x)) (admitted-rest [] (commands_of lines) (option_to_list (command_in (words_of x))) all))
 
 -- a text of ASCII bytes is ASCII byte by byte
 pub is_ascii-true : (line : List ℕ) → IsAscii line → is_ascii line ≡ true
@@ -80,17 +91,9 @@ no_number word none =
 -- a line more was read
 pub reads-more : (old new : Reading) (lines : List (List ℕ)) (x : List ℕ) → HasRead old lines → TakesWords old (words_of x) new → HasRead new (lines ++ x ∷ [])
 reads-more old new lines x r t = record {
-  links = t.links;
-  nodes = t.nodes;
+  reading = t.reading;
   commands = t.commands ∙ ap (λ l. l ++ option_to_list (command_in (words_of x))) r.commands ∙ sym (commands_of-more lines x);
-  counted = t.counted ∙ ap (λ b. b || is_some (quorum_in (words_of x))) r.counted ∙ sym (is_counted-more lines x);
 }
-
--- whether it stands where it stands
-pub fit-more : (old : Reading) (lines : List (List ℕ)) (x : List ℕ) (good : Bool) → HasRead old lines → all_fit [] lines ≡ true → good ≡ stands_line (is_some old.quorum) old.commands.items x → all_fit [] (lines ++ x ∷ []) ≡ good
-fit-more old lines x good r f g =
-    let here : stands_line (is_some old.quorum) old.commands.items x ≡ fits lines x = ap (λ b. stands_line b old.commands.items x) r.counted ∙ ap (λ l. stands_line (is_counted lines) l x) r.commands in
-    all_fit-more [] lines x ∙ ap (λ b. b && fits lines x) f ∙ sym here ∙ sym g
 
 -- the line that a slice of lines has at a place comes next in the text
 pub next_line : (items : List (Bor (List ℕ))) (lines : List (List ℕ)) (i : ℕ) (d : Bor (List ℕ)) → map (λ line. line.now) items ≡ lines → i < length items → take (i + 1) lines ≡ take i lines ++ (get_or items i d).now ∷ []

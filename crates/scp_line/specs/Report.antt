@@ -11,7 +11,7 @@ use Rattle.hex.specs.Hex.{encode_lower}
 use Rattle.scp_types.specs.declared.names.ConnId.{ConnId}
 use Rattle.scp_types.specs.declared.names.NodeId.{NodeId}
 use Rattle.scp_core.specs.declared.journal.Verdict.{Verdict}
-use Rattle.scp_core.specs.declared.journal.Verdict.TheVariants.{Already, FarSlot, Decided}
+use Rattle.scp_core.specs.declared.journal.Verdict.TheVariants.{OldSlot, FarSlot, Already, Own, BadStatement, BadValue, Stale, Fresh, Forwarded, Decided}
 use Rattle.scp_wire.specs.declared.link.Cause.{Cause}
 use Rattle.scp_wire.specs.declared.link.Cause.TheVariants.{Malformed, Link, Spent}
 use Rattle.scp_core.specs.declared.journal.Fate.{Fate}
@@ -22,8 +22,15 @@ use Rattle.scp_core.specs.declared.journal.Decision.{Decision}
 use Rattle.scp_core.specs.Journal.{conn_of, of_conn, same_conn}
 
 abbrev pub verdict_word : Verdict → List ℕ
-verdict_word Already = codes "already"
+verdict_word OldSlot = codes "old-slot"
 verdict_word FarSlot = codes "far-slot"
+verdict_word Already = codes "already"
+verdict_word Own = codes "own"
+verdict_word BadStatement = codes "bad-statement"
+verdict_word BadValue = codes "bad-value"
+verdict_word Stale = codes "stale"
+verdict_word Fresh = codes "fresh"
+verdict_word Forwarded = codes "forwarded"
 verdict_word Decided = codes "decided"
 
 abbrev pub cause_word : Cause → List ℕ
@@ -33,7 +40,7 @@ cause_word Spent = codes "spent"
 
 -- an entry's line
 abbrev pub fate_line : Fate → List ℕ
-fate_line (Taken conn seq message verdict) = decimal seq.0 ++ codes " taken " ++ verdict_word verdict ++ codes "\n"
+fate_line (Taken conn seq message set verdict) = decimal seq.0 ++ codes " taken " ++ verdict_word verdict ++ codes "\n"
 fate_line (Closed conn cause) = codes "closed " ++ cause_word cause ++ codes "\n"
 
 -- bytes in small hexadecimal digits, or a dash for none

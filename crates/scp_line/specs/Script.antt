@@ -1,15 +1,23 @@
 -- What a script says (this project's profile): its lines, their words, the command of each line, and which line is bad.
-use Rattle.std.specs.Prelude.{ℕ, ◌-◌, ◌^◌, ◌≤◌, ◌≡◌, ◌==◌, Bool, true, false, not, ◌&&◌, ◌||◌, ◌⊎◌, List, [], ◌∷◌, ◌++◌, length, take, flat_map, Option, Some, None, is_some, option_map, option_to_list, if◌then◌else◌, nat_eq, nat_lt, codes}
+use Rattle.std.specs.Prelude.{ℕ, ◌-◌, ◌^◌, ◌≤◌, ◌≡◌, ◌==◌, Bool, true, false, ◌&&◌, ◌||◌, ◌⊎◌, List, [], ◌∷◌, ◌++◌, length, take, flat_map, replicate, Option, Some, None, is_some, option_map, option_to_list, if◌then◌else◌, nat_eq, nat_lt, codes}
+use Rattle.std.specs.Option.{unwrap_or}
 use Rattle.std.specs.Result.{result_ok}
 use Rattle.std.specs.Cmp.Lexicographic.{pointwise}
 use Rattle.std.specs.Fmt.{decimal}
 use Rattle.std.specs.Str.Parse.{digits_value}
-use Rattle.std.specs.List.{slice_split, list_any, list_all}
+use Rattle.std.specs.List.{slice_split, list_any, list_all, last_or}
 use Rattle.hex.specs.Hex.{decode_of}
+use Rattle.scp_types.specs.declared.names.NodeId.{NodeId}
+use Rattle.scp_xdr.specs.Tree.{no_trees}
+use Rattle.scp_xdr.specs.Reading.{reading_whole}
+use Rattle.scp_quorum.specs.QuorumTree.{QuorumTree}
+use Rattle.scp_quorum.specs.QuorumKind.{set_kind}
+use Rattle.scp_quorum.specs.Sane.{IsSane}
+use Rattle.scp_wire.specs.Message.{set_of}
 use Rattle.scp_core.specs.declared.event.Event.{Event}
 use Rattle.scp_core.specs.declared.event.Event.TheVariants.{Open, Send, Close}
 use Rattle.scp_line.specs.declared.script.Command.{Command}
-use Rattle.scp_line.specs.declared.script.Command.TheVariants.{Step, Ask, Settle, Report}
+use Rattle.scp_line.specs.declared.script.Command.TheVariants.{Nodes, Set, Step, Ask, Settle, Report}
 
 abbrev pub IsNodeNumber : ℕ → Type 0
 IsNodeNumber node = (node ≡ 1) ⊎ (node ≡ 2)
@@ -20,8 +28,10 @@ IsOfScript (Open link) = link ≡ 0
 IsOfScript (Send link bytes) = link ≡ 0
 IsOfScript (Close link) = ⊥
 
--- the command is for one of the two nodes
+-- the command is for one of the two nodes, or makes one or two of them a quorum
 abbrev pub NamesNode : Command → Type 0
+NamesNode (Nodes quorum) = IsNodeNumber quorum
+NamesNode (Set node set) = IsNodeNumber node
 NamesNode (Step node event) = IsNodeNumber node × IsOfScript event
 NamesNode (Ask from to slot) = Unit {0}
 NamesNode Settle = Unit {0}
@@ -70,13 +80,19 @@ digits_bytes (digit ∷ digits) = result_ok (decode_of (digit ∷ digits))
 abbrev pub hex_bytes : List ℕ → Option (List ℕ)
 hex_bytes word = if same word (codes "-") then Some [] else digits_bytes word
 
--- `nodes 2 K`, K being 1 or 2
-abbrev pub quorum_in : List (List ℕ) → Option ℕ
-quorum_in [] = None
-quorum_in (verb ∷ []) = None
-quorum_in (verb ∷ count ∷ []) = None
-quorum_in (verb ∷ count ∷ quorum ∷ []) = if same verb (codes "nodes") && same count (codes "2") then one_or_two quorum else None
-quorum_in (verb ∷ count ∷ quorum ∷ more ∷ words) = None
+-- the quorum set that bytes spell, all of the bytes
+abbrev pub set_in : Option (List ℕ) → Option QuorumTree
+set_in (Some bytes) = option_map set_of (result_ok (reading_whole set_kind bytes))
+set_in None = None
+
+-- there are two nodes
+abbrev pub nodes_by : List ℕ → List ℕ → Option Command
+nodes_by count quorum = if same count (codes "2") then option_map Nodes (one_or_two quorum) else None
+
+abbrev pub set_by : Option ℕ → Option QuorumTree → Option Command
+set_by (Some node) (Some set) = Some (Set node set)
+set_by (Some node) None = None
+set_by None set = None
 
 -- the link I J goes from I to J, and is the one link, number 0, of node J
 abbrev pub open_by : Option (ℕ × ℕ) → Option Command
@@ -93,12 +109,15 @@ ask_by (Some link) (Some slot) = Some (Ask link.0 link.1 slot)
 ask_by (Some link) None = None
 ask_by None slot = None
 
--- `settle`, `report I`, `open I J`, `ask I J SLOT` and `send I J HEX`
+-- `settle`, `report I`, `nodes 2 K`, `set I HEX`, `open I J`, `ask I J SLOT` and `send I J HEX`
 abbrev pub command_in : List (List ℕ) → Option Command
 command_in [] = None
 command_in (verb ∷ []) = if same verb (codes "settle") then Some Settle else None
 command_in (verb ∷ node ∷ []) = if same verb (codes "report") then option_map Report (one_or_two node) else None
-command_in (verb ∷ from ∷ to ∷ []) = if same verb (codes "open") then open_by (link_in from to) else None
+command_in (verb ∷ first ∷ second ∷ []) =
+    if same verb (codes "nodes") then nodes_by first second
+    else (if same verb (codes "set") then set_by (one_or_two first) (set_in (hex_bytes second))
+    else (if same verb (codes "open") then open_by (link_in first second) else None))
 command_in (verb ∷ from ∷ to ∷ word ∷ []) =
     if same verb (codes "ask") then ask_by (link_in from to) (number_in word)
     else (if same verb (codes "send") then send_by (link_in from to) (hex_bytes word) else None)
@@ -108,11 +127,33 @@ command_in (verb ∷ from ∷ to ∷ word ∷ more ∷ words) = None
 abbrev pub commands_of : List (List ℕ) → List Command
 commands_of lines = flat_map (λ line. option_to_list (command_in (words_of line))) lines
 
--- one of the lines is a `nodes` line
-abbrev pub is_counted : List (List ℕ) → Bool
-is_counted lines = list_any (λ line. is_some (quorum_in (words_of line))) lines
+abbrev pub counts : Command → Bool
+counts (Nodes quorum) = true
+counts (Set node set) = false
+counts (Step node event) = false
+counts (Ask from to slot) = false
+counts Settle = false
+counts (Report node) = false
+
+-- the nodes were counted
+abbrev pub is_counted : List Command → Bool
+is_counted commands = list_any counts commands
+
+abbrev pub begins : Command → Bool
+begins (Nodes quorum) = false
+begins (Set node set) = false
+begins (Step node event) = true
+begins (Ask from to slot) = true
+begins Settle = true
+begins (Report node) = true
+
+-- a command came that is neither a `nodes` nor a `set` line's
+abbrev pub has_begun : List Command → Bool
+has_begun commands = list_any begins commands
 
 abbrev pub opens : ℕ → Command → Bool
+opens node (Nodes quorum) = false
+opens node (Set at set) = false
 opens node (Step at (Open link)) = nat_eq at node
 opens node (Step at (Send link bytes)) = false
 opens node (Step at (Close link)) = false
@@ -124,50 +165,42 @@ opens node (Report at) = false
 abbrev pub is_open : ℕ → List Command → Bool
 is_open node commands = list_any (opens node) commands
 
--- a link is opened once, and bytes are sent on an open link alone
-abbrev pub admits : List Command → Command → Bool
-admits commands (Step node (Open link)) = not (is_open node commands)
-admits commands (Step node (Send link bytes)) = is_open node commands
-admits commands (Step node (Close link)) = false
-admits commands (Ask from to slot) = true
-admits commands Settle = true
-admits commands (Report node) = true
+-- the command may stand behind these: the `nodes` line, once, then `set` lines, each with a sane quorum set, and then
+-- the others; a link is opened once, and bytes are sent on an open link alone
+abbrev pub Admits : List Command → Command → Type 0
+Admits before (Nodes quorum) = is_counted before ≡ false
+Admits before (Set node set) = (is_counted before ≡ true) × (has_begun before ≡ false) × IsSane set
+Admits before (Step node (Open link)) = (is_counted before ≡ true) × (is_open node before ≡ false)
+Admits before (Step node (Send link bytes)) = is_open node before ≡ true
+Admits before (Step node (Close link)) = ⊥
+Admits before (Ask from to slot) = is_counted before ≡ true
+Admits before Settle = is_counted before ≡ true
+Admits before (Report node) = is_counted before ≡ true
 
 -- each of the commands may stand behind those before it
 abbrev pub AreAdmitted : List Command → List Command → Type 0
 AreAdmitted before [] = Unit {0}
-AreAdmitted before (command ∷ commands) = (admits before command ≡ true) × AreAdmitted (before ++ command ∷ []) commands
+AreAdmitted before (command ∷ commands) = Admits before command × AreAdmitted (before ++ command ∷ []) commands
 
-abbrev pub admits_found : List Command → Option Command → Bool
-admits_found commands (Some command) = admits commands command
-admits_found commands None = false
+-- the line is ASCII, and it is empty, a comment, or says a command
+abbrev pub is_line : List ℕ → Bool
+is_line line = is_ascii line && (is_skipped line || is_some (command_in (words_of line)))
 
--- the words may stand where these commands stand before, and the `nodes` line or not
-abbrev pub stands : Bool → List Command → List (List ℕ) → Bool
-stands counted commands words = if counted then admits_found commands (command_in words) else is_some (quorum_in words)
-
-abbrev pub stands_line : Bool → List Command → List ℕ → Bool
-stands_line counted commands line = is_ascii line && (is_skipped line || stands counted commands (words_of line))
-
--- the line may stand behind these lines: first `nodes`, once, and then commands
-abbrev pub fits : List (List ℕ) → List ℕ → Bool
-fits earlier line = stands_line (is_counted earlier) (commands_of earlier) line
-
--- each of the lines may stand behind those before it
-abbrev pub all_fit : List (List ℕ) → List (List ℕ) → Bool
-all_fit earlier [] = true
-all_fit earlier (line ∷ lines) = fits earlier line && all_fit (earlier ++ line ∷ []) lines
+-- the lines are a script's: each is one, and each command may stand behind those before it
+pub record AreLines (lines : List (List ℕ)) : Type 0 where
+  pub each : list_all is_line lines ≡ true
+  pub admitted : AreAdmitted [] (commands_of lines)
 
 -- the text is a script
 abbrev pub IsScript : List ℕ → Type 0
-IsScript text = all_fit [] (lines_of text) ≡ true
+IsScript text = AreLines (lines_of text)
 
 -- the line of this number, from 1 on, is the first that is bad
 pub record IsBadLine (text : List ℕ) (line : ℕ) : Type 0 where
   pub from_one : 1 ≤ line
   pub within : line ≤ length (lines_of text)
-  pub good : all_fit [] (take (line - 1) (lines_of text)) ≡ true
-  pub bad : all_fit [] (take line (lines_of text)) ≡ false
+  pub good : AreLines (take (line - 1) (lines_of text))
+  pub bad : ¬ (AreLines (take line (lines_of text)))
 
 -- what a script says to do, in its order
 abbrev pub commands_in : List ℕ → List Command
@@ -175,6 +208,8 @@ commands_in text = commands_of (lines_of text)
 
 -- the events of a node, in their order
 abbrev pub event_at : ℕ → Command → List Event
+event_at node (Nodes quorum) = []
+event_at node (Set at set) = []
 event_at node (Step at event) = if nat_eq at node then event ∷ [] else []
 event_at node (Ask from to slot) = []
 event_at node Settle = []
@@ -184,6 +219,8 @@ abbrev pub events_at : ℕ → List Command → List Event
 events_at node commands = flat_map (event_at node) commands
 
 abbrev pub report_by : Command → List ℕ
+report_by (Nodes quorum) = []
+report_by (Set node set) = []
 report_by (Step at event) = []
 report_by (Ask from to slot) = []
 report_by Settle = []
@@ -192,3 +229,25 @@ report_by (Report node) = node ∷ []
 -- the nodes that reports are asked of, in the order of the lines
 abbrev pub reports_in : List Command → List ℕ
 reports_in commands = flat_map report_by commands
+
+-- the id of a node is 32 bytes of its number
+abbrev pub id_of : ℕ → NodeId
+id_of number = record { 0 = replicate 32 number }
+
+-- so many of both nodes, ascending
+abbrev pub of_both : ℕ → QuorumTree
+of_both quorum = record { head = record { threshold = quorum; validators = id_of 1 ∷ id_of 2 ∷ [] }; inner = no_trees }
+
+-- the quorum set that a command gives a node
+abbrev pub set_given : ℕ → Command → List QuorumTree
+set_given node (Nodes quorum) = of_both quorum ∷ []
+set_given node (Set at set) = if nat_eq at node then set ∷ [] else []
+set_given node (Step at event) = []
+set_given node (Ask from to slot) = []
+set_given node Settle = []
+set_given node (Report at) = []
+
+-- The quorum set of a node: the last that the commands give it. Where there are none it is 1 of both, and nothing tells
+-- of it.
+abbrev pub set_at : ℕ → List Command → QuorumTree
+set_at node commands = unwrap_or (last_or None (flat_map (set_given node) commands)) (of_both 1)

@@ -208,6 +208,7 @@ impl<D> FailsAt<D> {
     /// It fails at the call after so many, and again at each later one.
     pub fn new(device: D, calls: u64) -> Self
         ensures device { result.device ≡ device }
+        ensures calls { result.calls_left ≡ calls }
         ensures failures { result.failures ≡ 0 }
     {
         FailsAt {
@@ -227,6 +228,8 @@ impl<D> FailsAt<D> {
     fn count(&mut self) -> Result<(), Fault>
         ensures ok { OnOk result (self.new.failures ≡ self.old.failures) }
         ensures same { self.new.device ≡ self.old.device }
+        ensures counted { OnOk result (self.old.calls_left ≡ self.new.calls_left + 1) }
+        ensures spent { OnErr result ((self.old.calls_left ≡ 0) × (self.new.calls_left ≡ 0)) }
         ensures raised { OnErr result (Fails self.old.failures self.new.failures) }
         ensures cause { IfErr result (λ fault. fault ≡ Fault.Device) }
     {

@@ -2,8 +2,9 @@
 //!
 //! Promised by contracts:
 //! - `parse` gives just the commands that the text says, or its first bad line;
-//! - `play` writes one report for each `report` line, in the order of the lines, of nodes that the ledger theorem holds
-//!   of for the very events that the script says, each accepted; all is made before the first byte is written;
+//! - `play` writes one report for each `report` line, in the order of the lines, of nodes that have the quorum sets that
+//!   the script gives them, and that the ledger theorem holds of for the very events that the script says, each accepted;
+//!   all is made before the first byte is written;
 //! - `check` refuses the scripts that `play` can't read, at the same line, and `show` writes the line of the message that
 //!   the digits spell;
 //! - a failure of the reader or the writer is told as one, and nothing else is;
@@ -12,11 +13,13 @@
 
 mod asked;
 mod device;
+mod messages;
 mod nodes;
 mod outcome;
 mod playing;
 mod report;
 mod script;
+mod sets;
 
 pub use device::{
     FailsAt, MemoryIn, MemoryOut, Process, ReportOut, SCRIPT_LIMIT, ScriptIn, read_script,

@@ -3,15 +3,16 @@ ghost use Rattle.scp_core.specs.History.{Exchange, heard};
 ghost use Rattle.scp_core.specs.Theorem.{LedgerTheorem};
 ghost use Rattle.scp_core.specs.declared.event.Reply.TheVariants.{Accepted};
 ghost use Rattle.scp_line.specs.declared.script.Command.{Command};
-ghost use Rattle.scp_line.specs.Script.{IsNodeNumber, NamesNode, AreAdmitted, admits, reports_in};
-ghost use Rattle.scp_line.specs.Play.{IsNode, id_of, report_of_node, report_at};
-ghost use Rattle.scp_line.specs.Nodes.{Played, IsTaken, StopsAt, Stops};
+ghost use Rattle.scp_line.specs.Script.{IsNodeNumber, NamesNode, AreAdmitted, Admits, reports_in};
+ghost use Rattle.scp_line.specs.Play.{IsNode, report_of_node, report_at};
+ghost use Rattle.scp_line.specs.Nodes.{Played, SameConfig, IsTaken, StopsAt, Stops};
 
 use crate::playing::PlayFault;
 use crate::report::{ReportParts, write_report};
 use crate::script::Command;
+use crate::sets::{id_from, set_of_node};
 use scp_core::{Config, Event, Node, Peers, Reply};
-use scp_types::{Fault, NodeId};
+use scp_types::Fault;
 use std::alloc::{AllocError, Global};
 
 /// The two nodes of a script, each linked to the other.
@@ -21,17 +22,12 @@ pub struct Nodes {
     pub second: Node,
 }
 
-/// The id of a node: 32 bytes of its number.
-fn id_from(number: u8) -> NodeId
-    ensures { result ≡ id_of number }
-{
-    NodeId([number; 32])
-}
-
-/// A node that has heard nothing, linked to the other.
-fn new_node(alloc: Global, number: u8, other: u8) -> Result<Node, Fault>
-    requires { other ≢ number }
-    ensures node { IfOk result (λ node. IsNode [] number other node) }
+/// A node of the script that has heard nothing, linked to the other.
+fn new_node(alloc: Global, commands: &[Command], number: u8, other: u8) -> Result<Node, Fault>
+    requires apart { other ≢ number }
+    requires names { All NamesNode commands.now }
+    requires admitted { AreAdmitted [] commands.now }
+    ensures node { IfOk result (λ node. IsNode commands.now [] number other node) }
     ensures only_memory { IsOkUnless result Fault.NoMemory }
 {
     let mut peers = Vec::new(alloc);
@@ -40,6 +36,7 @@ fn new_node(alloc: Global, number: u8, other: u8) -> Result<Node, Fault>
         alloc,
         Config {
             me: id_from(number),
+            set: set_of_node(alloc, commands, number)?,
             peers: Peers::new(peers),
         },
     )
@@ -49,8 +46,7 @@ fn new_node(alloc: Global, number: u8, other: u8) -> Result<Node, Fault>
 fn step(node: &mut Node, number: u8, event: &Event) -> Result<(), PlayFault>
     requires { (past : List Exchange) × LedgerTheorem past node.old × IsTaken (heard 1 past) event.now }
     ensures theorem { OnOk result ((past : List Exchange) → LedgerTheorem past node.old → LedgerTheorem (past ++ (event.now, Accepted) ∷ []) node.new) }
-    ensures me { node.new.me ≡ node.old.me }
-    ensures peer { node.new.peer ≡ node.old.peer }
+    ensures same { SameConfig node.old node.new }
     ensures refused { IfErr result (λ e. e ≡ record { fault = Fault.Failed; node = number }) }
     ensures failed { OnErr result (node.new.failed ≡ true) }
     ensures at { OnErr result ((reply : Reply) × ((past : List Exchange) → LedgerTheorem past node.old → LedgerTheorem (past ++ (event.now, reply) ∷ []) node.new)) }
@@ -66,24 +62,26 @@ fn step(node: &mut Node, number: u8, event: &Event) -> Result<(), PlayFault>
 }
 
 impl Nodes {
-    /// Two nodes that have heard nothing.
-    pub fn new(alloc: Global) -> Result<Nodes, Fault>
-        ensures played { IfOk result (λ nodes. Played [] nodes) }
+    /// The two nodes of a script, which have heard nothing.
+    pub fn new(alloc: Global, commands: &[Command]) -> Result<Nodes, Fault>
+        requires names { All NamesNode commands.now }
+        requires admitted { AreAdmitted [] commands.now }
+        ensures played { IfOk result (λ nodes. Played commands.now [] nodes) }
         ensures only_memory { IsOkUnless result Fault.NoMemory }
     {
         Ok(Nodes {
-            first: new_node(alloc, 1, 2)?,
-            second: new_node(alloc, 2, 1)?,
+            first: new_node(alloc, commands, 1, 2)?,
+            second: new_node(alloc, commands, 2, 1)?,
         })
     }
 
     /// Does what a line says.
     fn act(&mut self, command: &Command) -> Result<(), PlayFault>
         requires names { NamesNode command.now }
-        requires admitted { (before : List Command) × Played before self.old × All NamesNode before × (admits before command.now ≡ true) }
-        ensures played { OnOk result ((before : List Command) → Played before self.old → Played (before ++ command.now ∷ []) self.new) }
+        requires admitted { (script before : List Command) × Played script before self.old × All NamesNode before × Admits before command.now }
+        ensures played { OnOk result ((script before : List Command) → Played script before self.old → Played script (before ++ command.now ∷ []) self.new) }
         ensures refused { IfErr result (λ e. (e.fault ≡ Fault.Failed) × IsNodeNumber e.node) }
-        ensures stops { IfErr result (λ e. (before : List Command) → Played before self.old → StopsAt before command.now e.node) }
+        ensures stops { IfErr result (λ e. (script before : List Command) → Played script before self.old → StopsAt script before command.now e.node) }
     {
         match command {
             Command::Step { node, event } => {
@@ -93,6 +91,8 @@ impl Nodes {
                     step(&mut self.second, 2, event)
                 }
             }
+            // The sets were given when the nodes were made.
+            Command::Nodes { .. } | Command::Set { .. } => Ok(()),
             Command::Ask { .. } | Command::Settle | Command::Report(_) => Ok(()),
         }
     }
@@ -101,8 +101,8 @@ impl Nodes {
     pub fn act_all(&mut self, commands: &[Command]) -> Result<(), PlayFault>
         requires names { All NamesNode commands.now }
         requires admitted { AreAdmitted [] commands.now }
-        requires new { Played [] self.old }
-        ensures played { OnOk result (Played commands.now self.new) }
+        requires new { Played commands.now [] self.old }
+        ensures played { OnOk result (Played commands.now commands.now self.new) }
         ensures refused { IfErr result (λ e. (e.fault ≡ Fault.Failed) × IsNodeNumber e.node) }
         ensures stops { IfErr result (λ e. Stops commands.now e.node) }
     {

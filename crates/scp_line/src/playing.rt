@@ -1,23 +1,22 @@
-ghost use Rattle.std.specs.Prelude.{◌≡◌, ◌≢◌, ◌++◌, IsOkUnless, ◌⊎◌, ◌<◌, ℕ, List, length, IfOk, IfErr, IfSome, OnOk, IsErrOf, Some, Err, string_bytes, codes};
+ghost use Rattle.std.specs.Prelude.{◌≡◌, ◌≢◌, ◌++◌, IsOkUnless, ◌⊎◌, ◌<◌, ◌≤◌, ℕ, List, length, IfOk, IfErr, IfSome, OnOk, IsErrOf, Some, Err, string_bytes, codes};
 ghost use Rattle.scp_types.specs.declared.fault.Fault.TheVariants.{BadScript};
 ghost use Rattle.scp_wire.specs.Reading.{reading_of};
 ghost use Rattle.scp_wire.specs.Message.{message_kind, message_value, message_reading};
 ghost use Rattle.scp_xdr.specs.Kind.{Fits};
 ghost use Rattle.scp_xdr.specs.Words.{IsReadingFault};
-ghost use Rattle.scp_line.specs.Report.{hex_word};
 ghost use Rattle.scp_line.specs.Device.{Gains, Fails, IsAll};
 ghost use Rattle.scp_line.specs.Script.{IsScript, IsBadLine, commands_in};
 ghost use Rattle.scp_line.specs.Nodes.{Stops};
 ghost use Rattle.scp_line.specs.Outcome.{IsCheckFault, IsPlayFault};
-ghost use Rattle.scp_line.specs.Play.{AreReports, IsShown, IsUnread, IsNamed, message_line};
+ghost use Rattle.scp_line.specs.Play.{AreReports, IsShown, IsUnread, IsNamed};
 
 use crate::device::{ReportOut, SCRIPT_LIMIT, ScriptIn, read_script, write_text};
+use crate::messages::line_of;
 use crate::nodes::Nodes;
-use crate::report::write_hex;
 use crate::script::{bytes_of, parse};
-use scp_types::{Fault, Hash, Slot, Value};
+use scp_types::Fault;
 use scp_wire::{Message, decode};
-use std::alloc::{AllocError, Global};
+use std::alloc::Global;
 
 /// How a script is played.
 #[derive(Clone, Copy, Debug, PartialEq, Eq)]
@@ -50,14 +49,15 @@ fn played(alloc: Global, text: &[u8]) -> Result<String, PlayFault>
     ensures line { IfErr result (λ e. (line : ℕ) → e.fault ≡ BadScript line → IsBadLine text.now line) }
     ensures named { IfErr result (λ e. IsNamed e.node e.fault) }
     ensures cause { IfErr result (λ e. IsPlayFault e.fault) }
-    ensures stops { IfErr result (λ e. e.fault ≡ Fault.Failed → Stops (commands_in text.now) e.node) }
+    ensures stops { IfErr result (λ e. e.fault ≡ Fault.Failed → IsScript text.now × Stops (commands_in text.now) e.node) }
 {
-    let commands = parse(alloc, text)?;
-    let mut nodes = Nodes::new(alloc)?;
-    nodes.act_all(commands.as_slice())?;
+    let script = parse(alloc, text)?;
+    let commands = script.as_slice();
+    let mut nodes = Nodes::new(alloc, commands)?;
+    nodes.act_all(commands)?;
     let mut printed = String::new(alloc);
     nodes
-        .write_reports(&mut printed, commands.as_slice())
+        .write_reports(&mut printed, commands)
         .map_err(Fault::from)?;
     Ok(printed)
 }
@@ -71,19 +71,19 @@ pub fn play<R: ScriptIn, W: ReportOut>(
     reader: &mut R,
     writer: &mut W,
 ) -> Result<(), PlayFault>
-    // What was read is a script, and what was written are its reports.
-    ensures reports { OnOk result ((script text : List ℕ) × IsAll (R.left reader.old) script × IsScript script × AreReports script text × Gains (W.written writer.old) text (W.written writer.new)) }
+    // What was read is a script of at most 1,048,576 bytes, and what was written are its reports.
+    ensures reports { OnOk result ((script text : List ℕ) × IsAll (R.left reader.old) script × (length script ≤ SCRIPT_LIMIT) × IsScript script × AreReports script text × Gains (W.written writer.old) text (W.written writer.new)) }
     // Device is answered only where the reader or the writer failed.
     ensures device { IfErr result (λ e. e.fault ≡ Fault.Device →
         Fails (R.failures reader.old) (R.failures reader.new) ⊎ Fails (W.failures writer.old) (W.failures writer.new)) }
     // TooLong is answered only of a script over the limit.
     ensures too_long { IfErr result (λ e. e.fault ≡ Fault.TooLong → IfSome (R.left reader.old) (λ all. SCRIPT_LIMIT < length all)) }
-    // BadScript names the first bad line.
-    ensures line { IfErr result (λ e. (line : ℕ) → e.fault ≡ BadScript line → IfSome (R.left reader.old) (λ all. IsBadLine all line)) }
+    // BadScript names the first bad line of a text within the limit.
+    ensures line { IfErr result (λ e. (line : ℕ) → e.fault ≡ BadScript line → IfSome (R.left reader.old) (λ all. (length all ≤ SCRIPT_LIMIT) × IsBadLine all line)) }
     // No other refusal is answered.
     ensures cause { IfErr result (λ e. IsPlayFault e.fault) }
-    // Failed is answered where a node of the script failed at one of its lines.
-    ensures stops { IfErr result (λ e. e.fault ≡ Fault.Failed → IfSome (R.left reader.old) (λ all. Stops (commands_in all) e.node)) }
+    // Failed is answered of a script alone, where a node of it failed at one of its lines.
+    ensures stops { IfErr result (λ e. e.fault ≡ Fault.Failed → IfSome (R.left reader.old) (λ all. (length all ≤ SCRIPT_LIMIT) × IsScript all × Stops (commands_in all) e.node)) }
     // A node is named where it failed, and only there.
     ensures named { IfErr result (λ e. IsNamed e.node e.fault) }
     // After any other refusal than Device nothing was written.
@@ -96,21 +96,21 @@ pub fn play<R: ScriptIn, W: ReportOut>(
     Ok(write_text(writer, text.as_str())?)
 }
 
-/// Reads a script and writes `ok` if it is one. It refuses the scripts that `play` refuses, in the same way.
+/// Reads a script and writes `ok` if it is one. What `play` refuses in the lines it refuses in the same way.
 pub fn check<R: ScriptIn, W: ReportOut>(
     alloc: Global,
     reader: &mut R,
     writer: &mut W,
 ) -> Result<(), PlayFault>
-    // What was read is a script.
-    ensures script { OnOk result ((script : List ℕ) × IsAll (R.left reader.old) script × IsScript script) }
+    // What was read is a script of at most 1,048,576 bytes.
+    ensures script { OnOk result ((script : List ℕ) × IsAll (R.left reader.old) script × (length script ≤ SCRIPT_LIMIT) × IsScript script) }
     // `ok` was written.
     ensures ok { OnOk result (Gains (W.written writer.old) (codes "ok\n") (W.written writer.new)) }
     ensures device { IfErr result (λ e. e.fault ≡ Fault.Device →
         Fails (R.failures reader.old) (R.failures reader.new) ⊎ Fails (W.failures writer.old) (W.failures writer.new)) }
     ensures too_long { IfErr result (λ e. e.fault ≡ Fault.TooLong → IfSome (R.left reader.old) (λ all. SCRIPT_LIMIT < length all)) }
-    // BadScript names the first bad line.
-    ensures line { IfErr result (λ e. (line : ℕ) → e.fault ≡ BadScript line → IfSome (R.left reader.old) (λ all. IsBadLine all line)) }
+    // BadScript names the first bad line of a text within the limit.
+    ensures line { IfErr result (λ e. (line : ℕ) → e.fault ≡ BadScript line → IfSome (R.left reader.old) (λ all. (length all ≤ SCRIPT_LIMIT) × IsBadLine all line)) }
     // No other refusal is answered.
     ensures cause { IfErr result (λ e. IsCheckFault e.fault) }
     ensures named { IfErr result (λ e. e.node ≡ 0) }
@@ -119,43 +119,6 @@ pub fn check<R: ScriptIn, W: ReportOut>(
     let script = read_script(alloc, reader)?;
     let _commands = parse(alloc, script.as_slice())?;
     Ok(write_text(writer, "ok\n")?)
-}
-
-/// The line of a message that says a hash.
-fn hash_line(alloc: Global, word: &str, hash: &Hash) -> Result<String, AllocError>
-    ensures { IfOk result (λ text. string_bytes text ≡ word.now ++ hex_word hash.now.0 ++ codes "\n") }
-{
-    let mut text = String::new(alloc);
-    text.push_str(word)?;
-    write_hex(&mut text, &hash.0)?;
-    text.push_str("\n")?;
-    Ok(text)
-}
-
-/// The line of a record.
-fn record_line(alloc: Global, slot: Slot, value: &Value) -> Result<String, AllocError>
-    ensures { IfOk result (λ text. string_bytes text ≡ message_line (Message.Record slot value.now)) }
-{
-    let number = slot.0;
-    let mut text = String::new(alloc);
-    write!(&mut text, "6 record {number} ")?;
-    write_hex(&mut text, value.as_slice())?;
-    text.push_str("\n")?;
-    Ok(text)
-}
-
-/// The line of a message that keeps its limits.
-fn line_of(alloc: Global, message: &Message) -> Result<String, Fault>
-    requires { Fits message_kind (message_value message.now) }
-    ensures line { IfOk result (λ text. string_bytes text ≡ message_line message.now) }
-    ensures only_memory { IsOkUnless result Fault.NoMemory }
-{
-    match message {
-        Message::GetSet(hash) => Ok(hash_line(alloc, "2 getset ", hash)?),
-        Message::Set(set) => Ok(hash_line(alloc, "3 set ", &set.hash()?)?),
-        Message::NoSet(hash) => Ok(hash_line(alloc, "4 noset ", hash)?),
-        Message::Record(slot, value) => Ok(record_line(alloc, *slot, value)?),
-    }
 }
 
 /// The message that the bytes spell.

@@ -17,8 +17,15 @@ fn word_of_verdict(verdict: Verdict) -> &'static str
     ensures { result.now ≡ verdict_word verdict }
 {
     match verdict {
-        Verdict::Already => "already",
+        Verdict::OldSlot => "old-slot",
         Verdict::FarSlot => "far-slot",
+        Verdict::Already => "already",
+        Verdict::Own => "own",
+        Verdict::BadStatement => "bad-statement",
+        Verdict::BadValue => "bad-value",
+        Verdict::Stale => "stale",
+        Verdict::Fresh => "fresh",
+        Verdict::Forwarded => "forwarded",
         Verdict::Decided => "decided",
     }
 }

@@ -1,6 +1,6 @@
-use crate::{
-    FailsAt, MemoryIn, MemoryOut, Mode, PlayFault, SCRIPT_LIMIT, check, play, serve, show,
-};
+mod decoding;
+
+use crate::{FailsAt, MemoryIn, MemoryOut, Mode, PlayFault, SCRIPT_LIMIT, check, play, serve};
 use scp_types::Fault;
 use std::test::Fail;
 
@@ -10,28 +10,34 @@ const SCRIPT: &[u8] =
 const REPORT: &[u8] =
     b"node 1\nconn 2 1\n0 taken decided\napplied 1 000000010000000000000001610000000000000131000000 record 2 1 0\nstate 61=31\nend\n";
 
-const MESSAGE: &str =
-    "00000006000000000000000100000018000000010000000000000001610000000000000131000000";
+/// Two of both nodes, one of both, one of node 1 alone, and a set that isn't sane.
+const BOTH: &str =
+    "000000020000000200000000010101010101010101010101010101010101010101010101010101010101010100000000020202020202020202020202020202020202020202020202020202020202020200000000";
 
-const SHOWN: &[u8] = b"6 record 1 000000010000000000000001610000000000000131000000\n";
+const EITHER: &str =
+    "000000010000000200000000010101010101010101010101010101010101010101010101010101010101010100000000020202020202020202020202020202020202020202020202020202020202020200000000";
 
-const GET_SET: &str = "000000020707070707070707070707070707070707070707070707070707070707070707";
+const ALONE: &str =
+    "000000010000000100000000010101010101010101010101010101010101010101010101010101010101010100000000";
 
-const GET_SET_SHOWN: &[u8] =
-    b"2 getset 0707070707070707070707070707070707070707070707070707070707070707\n";
+const NONE: &str = "000000000000000000000000";
+/// A PREPARE of node 2 for slot 1 that names 2 of both nodes, 1 of both, and 1 of node 1 alone.
+const NAMES_BOTH: &str =
+    "0000000100000000020202020202020202020202020202020202020202020202020202020202020200000000000000010000000002e6012681b33ba8e6d2ee7efd069cab8ce9bea8c9f49ed0f5869d2cd7846f3f0000000100000004000000000000000000000000000000000000000000000000";
 
-/// Two of three nodes.
-const SET: &str =
-    "00000003000000020000000300000000010101010101010101010101010101010101010101010101010101010101010100000000020202020202020202020202020202020202020202020202020202020202020200000000030303030303030303030303030303030303030303030303030303030303030300000000";
+const NAMES_EITHER: &str =
+    "00000001000000000202020202020202020202020202020202020202020202020202020202020202000000000000000100000000a6f6db4dc54e68a04f19ff13442308bc475061abf8c9419337ff8316fc78bb060000000100000004000000000000000000000000000000000000000000000000";
 
-/// Its line has the SHA-256 of the 120 bytes behind the first word.
-const SET_SHOWN: &[u8] =
-    b"3 set 82cec09b2ea19bc04323f4889977d51aca3a9368162b688cb5af4b4419a52ec4\n";
+const NAMES_ALONE: &str =
+    "0000000100000000020202020202020202020202020202020202020202020202020202020202020200000000000000010000000078aad24e7de2ea516391d4b13683b3bae435e54504f6770d4e6c0989432d6bdb0000000100000004000000000000000000000000000000000000000000000000";
 
-const NO_SET: &str = "000000040707070707070707070707070707070707070707070707070707070707070707";
+/// A message of each verdict: two records of slot 1, one too far, an envelope of slot 1, a request, an envelope of node 1
+/// itself, one that nominates nothing, one whose value is no operation list, and twice the same good one.
+const VERDICTS: &[u8] =
+    b"nodes 2 2\nopen 2 1\nsend 2 1 0000000600000000000000010000000400000000\nsend 2 1 0000000600000000000000010000000400000000\nsend 2 1 0000000600000000000000120000000400000000\nsend 2 1 0000000100000000020202020202020202020202020202020202020202020202020202020202020200000000000000010000000002e6012681b33ba8e6d2ee7efd069cab8ce9bea8c9f49ed0f5869d2cd7846f3f0000000100000004000000000000000000000000000000000000000000000000\nsend 2 1 000000050000000000000001\nsend 2 1 0000000100000000010101010101010101010101010101010101010101010101010101010101010100000000000000020000000002e6012681b33ba8e6d2ee7efd069cab8ce9bea8c9f49ed0f5869d2cd7846f3f0000000100000004000000000000000000000000000000000000000000000000\nsend 2 1 0000000100000000020202020202020202020202020202020202020202020202020202020202020200000000000000020000000302e6012681b33ba8e6d2ee7efd069cab8ce9bea8c9f49ed0f5869d2cd7846f3f000000000000000000000000\nsend 2 1 0000000100000000020202020202020202020202020202020202020202020202020202020202020200000000000000020000000002e6012681b33ba8e6d2ee7efd069cab8ce9bea8c9f49ed0f5869d2cd7846f3f00000001000000000000000000000000000000000000000000000000\nsend 2 1 0000000100000000020202020202020202020202020202020202020202020202020202020202020200000000000000020000000002e6012681b33ba8e6d2ee7efd069cab8ce9bea8c9f49ed0f5869d2cd7846f3f0000000100000004000000000000000000000000000000000000000000000000\nsend 2 1 0000000100000000020202020202020202020202020202020202020202020202020202020202020200000000000000020000000002e6012681b33ba8e6d2ee7efd069cab8ce9bea8c9f49ed0f5869d2cd7846f3f0000000100000004000000000000000000000000000000000000000000000000\nreport 1\n";
 
-const NO_SET_SHOWN: &[u8] =
-    b"4 noset 0707070707070707070707070707070707070707070707070707070707070707\n";
+const VERDICTS_REPORT: &[u8] =
+    b"node 1\nconn 2 1\n0 taken decided\n1 taken already\n2 taken far-slot\n3 taken old-slot\n4 taken forwarded\n5 taken own\n6 taken bad-statement\n7 taken bad-value\n8 taken fresh\n9 taken stale\napplied 1 00000000 record 2 1 0\nend\n";
 
 /// The exit status of the words over the script, and whether the text is what was written.
 fn serves(rt: &HostRuntime, words: &[&str], script: &[u8], text: &[u8]) -> Option<u8> {
@@ -152,6 +158,101 @@ fn names_the_first_bad_line(rt: HostRuntime) -> Result<(), Fail> {
 }
 
 #[test]
+fn tells_every_verdict(rt: HostRuntime) {
+    let words = ["scp_line", "run"];
+    assert_eq!(rt;
+        serves(&rt, words.as_slice(), VERDICTS, VERDICTS_REPORT),
+        Some(0)
+    );
+}
+
+/// Whether node 1 takes the message of node 2 as fresh, after these lines, or ends the connection for it.
+fn takes(rt: &HostRuntime, lines: &str, message: &str) -> Result<Option<bool>, Fail> {
+    let alloc = rt.alloc();
+    let script = format!(in alloc; "{lines}open 2 1\nsend 2 1 {message}\nreport 1\n")?;
+    let mut reader = MemoryIn::new(script.as_bytes());
+    let mut writer = MemoryOut::new(Vec::new(alloc));
+    play(alloc, Mode::Serial, &mut reader, &mut writer)?;
+    let text = writer.text();
+    if text == b"node 1\nconn 2 1\n0 taken fresh\nend\n".as_slice() {
+        return Ok(Some(true));
+    }
+    if text == b"node 1\nconn 2 1\nclosed malformed\nend\n".as_slice() {
+        return Ok(Some(false));
+    }
+    Ok(None)
+}
+
+#[test]
+fn a_node_has_the_set_that_the_script_gives_it(rt: HostRuntime) -> Result<(), Fail> {
+    let alloc = rt.alloc();
+    for (lines, taken) in [
+        (format!(in alloc; "nodes 2 2\n")?, NAMES_BOTH),
+        (format!(in alloc; "nodes 2 1\n")?, NAMES_EITHER),
+        (
+            format!(in alloc; "nodes 2 2\nset 1 {ALONE}\n")?,
+            NAMES_ALONE,
+        ),
+        (
+            format!(in alloc; "nodes 2 1\n\nset 1 {ALONE}\n#\nset 1 {BOTH}\n")?,
+            NAMES_BOTH,
+        ),
+        (
+            format!(in alloc; "nodes 2 1\nset 1 {BOTH}\nset 1 {EITHER}\n")?,
+            NAMES_EITHER,
+        ),
+        (format!(in alloc; "nodes 2 2\nset 2 {ALONE}\n")?, NAMES_BOTH),
+    ] {
+        for message in [NAMES_BOTH, NAMES_EITHER, NAMES_ALONE] {
+            let is_taken = takes(&rt, lines.as_str(), message)?;
+            assert_eq!(rt; is_taken, Some(message == taken), "after {lines}");
+        }
+    }
+    Ok(())
+}
+
+#[test]
+fn names_a_bad_set_line(rt: HostRuntime) -> Result<(), Fail> {
+    let alloc = rt.alloc();
+    for (text, line) in [
+        (format!(in alloc; "set 1 {BOTH}\nnodes 2 2\n")?, 1),
+        (format!(in alloc; "nodes 2 2\nset 3 {BOTH}\n")?, 2),
+        (format!(in alloc; "nodes 2 2\nset 0 {BOTH}\n")?, 2),
+        (format!(in alloc; "nodes 2 2\nset 1\n")?, 2),
+        (format!(in alloc; "nodes 2 2\nset {BOTH}\n")?, 2),
+        (format!(in alloc; "nodes 2 2\nset 1 {BOTH} 1\n")?, 2),
+        (format!(in alloc; "nodes 2 2\nset 1 -\n")?, 2),
+        (format!(in alloc; "nodes 2 2\nset 1 {BOTH}00000000\n")?, 2),
+        (format!(in alloc; "nodes 2 2\nset 1 {BOTH}0\n")?, 2),
+        (
+            format!(in alloc; "nodes 2 2\nset 2 {BOTH}\nset 1 {NONE}\n")?,
+            3,
+        ),
+        (
+            format!(in alloc; "nodes 2 2\nset 2 {BOTH}\nnodes 2 2\n")?,
+            3,
+        ),
+        (format!(in alloc; "nodes 2 2\nopen 2 1\nset 1 {BOTH}\n")?, 3),
+        (
+            format!(in alloc; "nodes 2 2\nask 1 2 1\nset 1 {BOTH}\n")?,
+            3,
+        ),
+        (format!(in alloc; "nodes 2 2\nsettle\nset 1 {BOTH}\n")?, 3),
+        (format!(in alloc; "nodes 2 2\nreport 1\nset 1 {BOTH}\n")?, 3),
+    ] {
+        let fault = Fault::BadScript(line);
+        let mut writer = MemoryOut::new(Vec::new(alloc));
+        let mut reader = MemoryIn::new(text.as_bytes());
+        let checked = check(alloc, &mut reader, &mut writer);
+        assert_eq!(rt; checked, Err(PlayFault { fault, node: 0 }), "at {text}");
+        let mut reader = MemoryIn::new(text.as_bytes());
+        let played = play(alloc, Mode::Serial, &mut reader, &mut writer);
+        assert_eq!(rt; played, Err(PlayFault { fault, node: 0 }), "at {text}");
+    }
+    Ok(())
+}
+
+#[test]
 fn reads_a_script_up_to_its_limit(rt: HostRuntime) -> Result<(), Fail> {
     let alloc = rt.alloc();
     let mut text = Vec::new(alloc);
@@ -209,52 +310,6 @@ fn tells_a_writer_that_fails(rt: HostRuntime) {
     let mut reader = MemoryIn::new(SCRIPT);
     let mut writer = FailsAt::new(MemoryOut::new(Vec::new(alloc)), 1);
     assert_eq!(rt; serve(alloc, words.as_slice(), &mut reader, &mut writer), 0);
-}
-
-/// The exit status of `decode` with this word, where the text is what was written.
-fn decodes(rt: &HostRuntime, word: &str, text: &[u8]) -> Option<u8> {
-    let words = ["scp_line", "decode", word];
-    serves(rt, words.as_slice(), b"", text)
-}
-
-#[test]
-fn shows_a_record(rt: HostRuntime) -> Result<(), Fail> {
-    let alloc = rt.alloc();
-    let mut writer = MemoryOut::new(Vec::new(alloc));
-    show(alloc, MESSAGE, &mut writer)?;
-    assert!(rt; writer.text() == SHOWN);
-    Ok(())
-}
-
-#[test]
-fn decodes_each_kind(rt: HostRuntime) {
-    for (word, line) in [
-        (GET_SET, GET_SET_SHOWN),
-        (SET, SET_SHOWN),
-        (NO_SET, NO_SET_SHOWN),
-        (MESSAGE, SHOWN),
-        ("00000006000000000000000700000000", b"6 record 7 -\n"),
-    ] {
-        assert_eq!(rt; decodes(&rt, word, line), Some(0), "at {word}");
-    }
-}
-
-#[test]
-fn decodes_nothing_else(rt: HostRuntime) {
-    for (word, line) in [
-        ("zz", b"fault 2\n".as_slice()),
-        ("0", b"fault 2\n"),
-        ("", b"fault 2\n"),
-        ("-", b"fault 2\n"),
-        ("00", b"fault 2\n"),
-        ("0000000600000000000000070000000000", b"fault 2\n"),
-        ("00000002", b"fault 2\n"),
-        ("000000030000000000000000", b"fault 2\n"),
-        ("00000006000000000000000700001001", b"fault 3\n"),
-        ("0000000300000000000003e9", b"fault 3\n"),
-    ] {
-        assert_eq!(rt; decodes(&rt, word, line), Some(1), "at {word}");
-    }
 }
 
 #[test]

@@ -15,3 +15,4 @@ pub mod Ascending
 pub mod Whole
 pub mod Decided
 pub mod Levels
+pub mod Alike

@@ -1,24 +1,74 @@
--- Nodes that `==` tells to be the same, in a list.
-use Rattle.std.proofs.Common.{◌≡◌, ℕ, Bool, false, not, nat_eq, List, refl, sym, ◌∙◌, ap}
-use Rattle.std.specs.Bool.{Decides}
-use Rattle.std.specs.Cmp.Lexicographic.{pointwise}
-use Rattle.std.proofs.lemmas.Bool.{not-false}
-use Rattle.std.proofs.lemmas.Slice.Eq.{slice_eq-Decides, bytes_eq-Decides}
+-- Nodes that have no byte unequal, in a list.
+use Rattle.std.proofs.Common.{◌≡◌, ℕ, zero, suc, ◌+◌, ◌%◌, ◌<◌, ◌≤◌, List, [], ◌∷◌, length, get_or, take, replicate, max, refl, sym, ◌∙◌, ap, subst, arith, bit_or}
+use Rattle.std.specs.List.{AllByRecursion}
+use Rattle.std.specs.Int.{bit_at}
+use Rattle.std.specs.Int.Bits.{bit_xor}
+use Rattle.std.specs.Simd.Lanes.{zip2}
+use Rattle.std.proofs.lemmas.Grind.{common_steps}
+use Rattle.std.proofs.lemmas.List.{take_more_same}
+use Rattle.std.proofs.lemmas.Nat.Bits.{bit_at_or, bit_at_xor, bit_at-zero, bit_at-lt, same_from_bits}
 use Rattle.scp_types.specs.declared.names.NodeId.{NodeId}
 use Rattle.scp_quorum.specs.QuorumTree.{QuorumTree}
 use Rattle.scp_quorum.proofs.Whole.{made}
 
-abbrev pub node_eq : NodeId → NodeId → Bool
-node_eq v w = pointwise nat_eq v.0 w.0
+abbrev pub AreZeros : List ℕ → Type 0
+AreZeros bytes = AllByRecursion (λ (b : ℕ). b ≡ 0) bytes
 
-node_eq-Decides : (v w : NodeId) → Decides (node_eq v w) (v ≡ w)
-node_eq-Decides v w = (
-  λ e. ap (λ (bytes : List ℕ). let n : NodeId = record { 0 = bytes } in n) ((bytes_eq-Decides v.0 w.0).0 e),
-  λ e. (bytes_eq-Decides v.0 w.0).1 (ap (λ (n : NodeId). n.0) e),
-)
+zeros : (n : ℕ) → AreZeros (replicate n 0)
+zeros zero = tt
+zeros (suc n) = (refl, zeros n)
 
-pub same_nodes : (vs ws : List NodeId) (differ : Bool) → differ ≡ not (pointwise node_eq vs ws) → differ ≡ false → vs ≡ ws
-same_nodes vs ws differ is e = (slice_eq-Decides {E = node_eq} node_eq-Decides vs ws (pointwise node_eq vs ws) refl).0 (not-false _ (sym is ∙ e))
+or_bit : (a b i : ℕ) → bit_or a b ≡ 0 → max (bit_at a i) (bit_at b i) ≡ 0
+or_bit a b i e = sym (bit_at_or a b i) ∙ ap (λ (n : ℕ). bit_at n i) e ∙ bit_at-zero i
+
+or_left : (a b : ℕ) → bit_or a b ≡ 0 → a ≡ 0
+or_left a b e = same_from_bits a 0 (λ i. omega (arith, or_bit a b i e, bit_at-zero i))
+
+or_right : (a b : ℕ) → bit_or a b ≡ 0 → b ≡ 0
+or_right a b e = same_from_bits b 0 (λ i. omega (arith, or_bit a b i e, bit_at-zero i))
+
+xor_bit : (a b i : ℕ) → bit_xor a b ≡ 0 → (bit_at a i + bit_at b i) % 2 ≡ 0
+xor_bit a b i e = sym (bit_at_xor a b i) ∙ ap (λ (n : ℕ). bit_at n i) e ∙ bit_at-zero i
+
+xor_same : (a b : ℕ) → bit_xor a b ≡ 0 → a ≡ b
+xor_same a b e = same_from_bits a b (λ i. omega (arith, xor_bit a b i e, bit_at-lt a i, bit_at-lt b i))
+
+-- bytes to which the unequal bits of two lists were added
+abbrev pub with_unequal : List ℕ → List ℕ → List ℕ → List ℕ
+with_unequal us vs ws = zip2 bit_or us (zip2 bit_xor vs ws)
+
+none_before : (us vs ws : List ℕ) → length vs ≡ length us → length ws ≡ length us → AreZeros (with_unequal us vs ws) → AreZeros us
+none_before [] vs ws k l none = tt
+none_before (u ∷ us) (v ∷ vs) (w ∷ ws) k l none = (or_left u (bit_xor v w) none.0, none_before us vs ws (omega (arith, k)) (omega (arith, l)) none.1)
+none_before (u ∷ us) [] ws k l none = absurd (omega (arith, k))
+none_before (u ∷ us) (v ∷ vs) [] k l none = absurd (omega (arith, l))
+
+same_now : (us vs ws : List ℕ) → length vs ≡ length us → length ws ≡ length us → AreZeros (with_unequal us vs ws) → vs ≡ ws
+same_now [] [] [] k l none = refl
+same_now (u ∷ us) (v ∷ vs) (w ∷ ws) k l none = rw (xor_same v w (or_right u (bit_xor v w) none.0), same_now us vs ws (omega (arith, k)) (omega (arith, l)) none.1) refl
+same_now [] (v ∷ vs) ws k l none = absurd (omega (arith, k))
+same_now [] [] (w ∷ ws) k l none = absurd (omega (arith, l))
+same_now (u ∷ us) [] ws k l none = absurd (omega (arith, k))
+same_now (u ∷ us) (v ∷ vs) [] k l none = absurd (omega (arith, l))
+
+abbrev pub no_node : NodeId
+no_node = record { 0 = [] }
+
+-- no byte of the first nodes is unequal unless it stands in these bytes
+abbrev pub SameBefore : List ℕ → List NodeId → List NodeId → ℕ → Type 0
+SameBefore us mine theirs i = AreZeros us → take i mine ≡ take i theirs
+
+pub same_more : (us vs ws : List ℕ) (mine theirs : List NodeId) (i : ℕ) → i < length mine → i < length theirs → vs ≡ (get_or mine i no_node).0 → ws ≡ (get_or theirs i no_node).0 → length vs ≡ length us → length ws ≡ length us → SameBefore us mine theirs i → SameBefore (with_unequal us vs ws) mine theirs (i + 1)
+same_more us vs ws mine theirs i h j v w k l before none =
+    let bytes : (get_or mine i no_node).0 ≡ (get_or theirs i no_node).0 = sym v ∙ same_now us vs ws k l none ∙ w in
+    let node : get_or mine i no_node ≡ get_or theirs i no_node = ap (λ (b : List ℕ). let n : NodeId = record { 0 = b } in n) bytes in
+    take_more_same mine theirs i no_node h j (before (none_before us vs ws k l none)) node
+
+pub same_all : (us : List ℕ) (mine theirs : List NodeId) (i : ℕ) → length mine ≤ i → length theirs ≤ i → SameBefore us mine theirs i → us ≡ replicate 32 0 → mine ≡ theirs
+same_all us mine theirs i h k same is =
+    let none : AreZeros us = subst AreZeros (sym is) (zeros 32) in
+    let equal : take i mine ≡ take i theirs = same none in
+    grind (arith, common_steps, equal)
 
 pub same_made : (k l : ℕ) (vs ws : List NodeId) (qs rs : List QuorumTree) → k ≡ l → vs ≡ ws → qs ≡ rs → made k vs qs ≡ made l ws rs
 same_made k l vs ws qs rs e f g = rw (e, f, g) refl

@@ -3,7 +3,7 @@ mod counts;
 mod groups;
 pub(crate) mod passes;
 
-ghost use Rattle.std.specs.Prelude.{◌≡◌, ◌↔◌, ◌<◌, ◌≤◌, IfOk, IfNone, IfSome, IsTrue, IsOkUnless, Option};
+ghost use Rattle.std.specs.Prelude.{◌≡◌, ◌↔◌, ◌<◌, ◌≤◌, IfOk, IfNone, IfSome, OnOk, IsTrue, IsOkUnless, Option};
 ghost use Rattle.std.specs.Bool.{OnFalse, OnTrue};
 ghost use Rattle.std.specs.List.{All};
 ghost use Rattle.std.specs.BTreeMap.{keys};
@@ -11,7 +11,7 @@ ghost use Rattle.std.specs.BTreeSet.{btree_set_len, IsFromIterResult};
 ghost use Rattle.scp_types.specs.declared.names.NodeId.{NodeId};
 ghost use Rattle.scp_quorum.specs.NodeSet.{is_in, node_cmp};
 ghost use Rattle.scp_quorum.specs.QuorumTree.{QuorumTree};
-ghost use Rattle.scp_quorum.specs.Quorum.{set_of, IsGreatestQuorum, IsInSomeQuorum, HasNoQuorum, IsWithin, KeepsQuorums};
+ghost use Rattle.scp_quorum.specs.Quorum.{set_of, IsGreatestQuorum, IsInSomeQuorum, HasNoQuorum, IsWithin, AllHaveSets, SatisfyThemselves, KeepsQuorums};
 ghost use Rattle.scp_quorum.specs.Groups.{HasOneSet, IsSettled};
 
 use crate::quorum_set::satisfied;
@@ -38,15 +38,55 @@ pub fn greatest_quorum(
     ensures only_memory { IsOkUnless result Fault.NoMemory }
 {
     let mut remaining = known_nodes(alloc, sets)?;
-    let groups = group_nodes(alloc, sets)?;
-    while remove_unsatisfied(&groups, &mut remaining) {
-        follow_counts(alloc, &groups, &mut remaining)?;
-    }
+    settle(alloc, sets, &mut remaining)?;
     if remaining.contains(&me) {
         Ok(Some(remaining))
     } else {
         Ok(None)
     }
+}
+
+/// Removes nodes that no quorum has, until those that remain satisfy each other's sets.
+fn settle(
+    alloc: Global,
+    sets: &BTreeMap<NodeId, Arc<SaneSet>>,
+    remaining: &mut BTreeSet<NodeId>,
+) -> Result<(), AllocError>
+    requires { AllHaveSets (set_of sets.now) (is_in remaining.old) }
+    ensures kept { OnOk result (KeepsQuorums (set_of sets.now) (is_in remaining.old) (is_in remaining.new)) }
+    ensures settled { OnOk result (SatisfyThemselves (set_of sets.now) (is_in remaining.new)) }
+{
+    if are_alike_and_satisfied(sets, remaining) {
+        return Ok(());
+    }
+    let groups = group_nodes(alloc, sets)?;
+    while remove_unsatisfied(&groups, remaining) {
+        follow_counts(alloc, &groups, remaining)?;
+    }
+    Ok(())
+}
+
+/// Whether all sets begin with the same nodes, of which so many are among these that each set is
+/// satisfied. Where all nodes share a set, this spares grouping them; a false says nothing.
+fn are_alike_and_satisfied(sets: &BTreeMap<NodeId, Arc<SaneSet>>, nodes: &BTreeSet<NodeId>) -> bool
+    requires { AllHaveSets (set_of sets.now) (is_in nodes.now) }
+    ensures { OnTrue result (SatisfyThemselves (set_of sets.now) (is_in nodes.now)) }
+{
+    let Some((_, first)) = sets.first_key_value() else {
+        return false;
+    };
+    let first = first.set();
+    let Some(head) = first.enough_of(nodes) else {
+        return false;
+    };
+    let threshold = first.threshold();
+    for (_, set) in sets {
+        let set = set.set();
+        if threshold < set.threshold() || !set.begins_with(head) {
+            return false;
+        }
+    }
+    true
 }
 
 /// Goes over the groups once, and removes the members of each whose set those that remain don't

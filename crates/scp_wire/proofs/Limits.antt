@@ -5,8 +5,9 @@ use Rattle.std.proofs.lemmas.List.{length-append, length-replicate}
 use Rattle.scp_types.specs.declared.fault.Fault.{Fault}
 use Rattle.scp_xdr.specs.Kind.{Values, Fits, Spells, spelling, word, long_word, padded, padding_len}
 use Rattle.scp_quorum.specs.QuorumKind.{set_spelling}
+use Rattle.scp_envelope.specs.Kinds.{envelope_kind, envelope_value}
 use Rattle.scp_wire.specs.declared.message.Message.{Message}
-use Rattle.scp_wire.specs.declared.message.Message.TheVariants.{GetSet, Set, NoSet, Record}
+use Rattle.scp_wire.specs.declared.message.Message.TheVariants.{Envelope, GetSet, Set, NoSet, GetRecord, Record}
 use Rattle.scp_wire.specs.Message.{message_kind, message_value, SpellsMessage, FitsMessage, HasRanges, BreaksALimit}
 
 word_len : (n : ℕ) → length (word n) ≡ 4
@@ -46,37 +47,54 @@ hash_len n bytes e = simp (length-append, word_len) (omega (arith, padded_len by
 record_len : (n : ℕ) (bytes : List ℕ) → length bytes ≤ 4096 → length (word 6 ++ (long_word n ++ (word (length bytes) ++ padded bytes))) ≤ 65536
 record_len n bytes le = simp (length-append, word_len, long_word_len) (omega (arith, padded_len bytes))
 
-set_len : (text : List ℕ) → length (word 3 ++ text) ≡ 4 + length text
-set_len text = simp (length-append, word_len) refl
+slot_len : (n : ℕ) → length (word 5 ++ long_word n) ≤ 65536
+slot_len n = simp (length-append, word_len, long_word_len) (omega arith)
+
+text_len : (tag : ℕ) (text : List ℕ) → length (word tag ++ text) ≡ 4 + length text
+text_len tag text = simp (length-append, word_len) refl
 
 other_tag : (m n : ℕ) → n < m → m ≢ n
 other_tag m n lt = λ e. omega arith
 
 pub over_is : (m : Message) → HasRanges m → IsOver (message_value m) ↔ BreaksALimit m
+over_is (Envelope envelope) range = (over, back)
+  where
+    over : IsOver (message_value (Envelope envelope)) → BreaksALimit (Envelope envelope)
+    over (inl unfit) = inl (λ fits. unfit (omega arith, fits))
+    over (inr longer) = inr (omega (arith, longer, text_len 1 (spelling envelope_kind (envelope_value envelope.value))))
+
+    back : BreaksALimit (Envelope envelope) → IsOver (message_value (Envelope envelope))
+    back (inl unfit) = inl (λ fits. unfit fits.1)
+    back (inr longer) = inr (omega (arith, longer, text_len 1 (spelling envelope_kind (envelope_value envelope.value))))
 over_is (GetSet hash) len = (over, λ b. elim b [ ])
   where
     over : IsOver (message_value (GetSet hash)) → ⊥
-    over (inl unfit) = unfit (omega arith, len)
+    over (inl unfit) = unfit (other_tag 2 1 (omega arith), (omega arith, len))
     over (inr longer) = omega (arith, longer, hash_len 2 hash.0 len)
 over_is (NoSet hash) len = (over, λ b. elim b [ ])
   where
     over : IsOver (message_value (NoSet hash)) → ⊥
-    over (inl unfit) = unfit (other_tag 4 2 (omega arith), (other_tag 4 3 (omega arith), (omega arith, len)))
+    over (inl unfit) = unfit (other_tag 4 1 (omega arith), (other_tag 4 2 (omega arith), (other_tag 4 3 (omega arith), (omega arith, len))))
     over (inr longer) = omega (arith, longer, hash_len 4 hash.0 len)
 over_is (Set set) len = (over, back)
   where
     over : IsOver (message_value (Set set)) → BreaksALimit (Set set)
-    over (inl unfit) = inl (λ fits. unfit (other_tag 3 2 (omega arith), (omega arith, fits)))
-    over (inr longer) = inr (omega (arith, longer, set_len (set_spelling set)))
+    over (inl unfit) = inl (λ fits. unfit (other_tag 3 1 (omega arith), (other_tag 3 2 (omega arith), (omega arith, fits))))
+    over (inr longer) = inr (omega (arith, longer, text_len 3 (set_spelling set)))
 
     back : BreaksALimit (Set set) → IsOver (message_value (Set set))
-    back (inl unfit) = inl (λ fits. unfit fits.1.1)
-    back (inr longer) = inr (omega (arith, longer, set_len (set_spelling set)))
-over_is (Record slot value) range = (over, λ long. inl (λ fits. omega (arith, long, fits.1.1.1.1.1.0)))
+    back (inl unfit) = inl (λ fits. unfit fits.1.1.1)
+    back (inr longer) = inr (omega (arith, longer, text_len 3 (set_spelling set)))
+over_is (GetRecord slot) range = (over, λ b. elim b [ ])
+  where
+    over : IsOver (message_value (GetRecord slot)) → ⊥
+    over (inl unfit) = unfit (other_tag 5 1 (omega arith), (other_tag 5 2 (omega arith), (other_tag 5 3 (omega arith), (other_tag 5 4 (omega arith), (omega arith, range)))))
+    over (inr longer) = omega (arith, longer, slot_len slot.0)
+over_is (Record slot value) range = (over, λ long. inl (λ fits. omega (arith, long, fits.1.1.1.1.1.1.1.0)))
   where
     at : (b : Bool) → ltb 4096 (length value) ≡ b → IsOver (message_value (Record slot value)) → 4096 < length value
     at true e o = ltb-true 4096 (length value) e
-    at false e (inl unfit) = absurd (unfit (other_tag 6 2 (omega arith), (other_tag 6 3 (omega arith), (other_tag 6 4 (omega arith), (omega arith, (range, (ltb-false 4096 (length value) e, omega (arith, ltb-false 4096 (length value) e))))))))
+    at false e (inl unfit) = absurd (unfit (other_tag 6 1 (omega arith), (other_tag 6 2 (omega arith), (other_tag 6 3 (omega arith), (other_tag 6 4 (omega arith), (other_tag 6 5 (omega arith), (omega arith, (range, (ltb-false 4096 (length value) e, omega (arith, ltb-false 4096 (length value) e))))))))))
     at false e (inr longer) = absurd (omega (arith, longer, record_len slot.0 value (ltb-false 4096 (length value) e)))
 
     over : IsOver (message_value (Record slot value)) → 4096 < length value

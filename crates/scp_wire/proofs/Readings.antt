@@ -11,8 +11,9 @@ use Rattle.scp_xdr.specs.Words.{Gives}
 use Rattle.scp_xdr.proofs.Laws.{whole_found, whole_again}
 use Rattle.scp_quorum.specs.QuorumTree.{Level}
 use Rattle.scp_quorum.specs.QuorumKind.{level_kind, node_value, level_value}
+use Rattle.scp_envelope.proofs.EnvelopeValues.{envelope_again, envelope_value_again}
 use Rattle.scp_wire.specs.declared.message.Message.{Message}
-use Rattle.scp_wire.specs.declared.message.Message.TheVariants.{GetSet, Set, NoSet, Record}
+use Rattle.scp_wire.specs.declared.message.Message.TheVariants.{Envelope, GetSet, Set, NoSet, GetRecord, Record}
 use Rattle.scp_wire.specs.Message.{node_of, level_of, message_kind, message_value, message_of, message_reading, SpellsMessage}
 use Rattle.scp_wire.specs.Reading.{message_in, reading_of, AreBytes, ReadingIsSpelt}
 
@@ -40,17 +41,21 @@ level_value_again : (v : Values level_kind) → level_value (level_of v) ≡ v
 level_value_again v = rw (each_again node_of node_value node_value_again v.1) refl
 
 message_again : (m : Message) → message_of (message_value m) ≡ m
+message_again (Envelope envelope) = ap (λ e. Envelope (record { value = e })) (envelope_again envelope.value)
 message_again (GetSet hash) = refl
 message_again (Set set) = ap Set (tree_again level_value level_of level_again set)
 message_again (NoSet hash) = refl
+message_again (GetRecord slot) = refl
 message_again (Record slot value) = refl
 
 value_again : (v : Values message_kind) → message_value (message_of v) ≡ v
-value_again (inl v) = refl
-value_again (inr (inl v)) = ap (λ t. inr (inl t)) (tree_again level_of level_value level_value_again v)
-value_again (inr (inr (inl v))) = refl
+value_again (inl v) = ap (λ e. inl e) (envelope_value_again v)
+value_again (inr (inl v)) = refl
+value_again (inr (inr (inl v))) = ap (λ t. inr (inr (inl t))) (tree_again level_of level_value level_value_again v)
 value_again (inr (inr (inr (inl v)))) = refl
-value_again (inr (inr (inr (inr v)))) = elim v [ ]
+value_again (inr (inr (inr (inr (inl v))))) = refl
+value_again (inr (inr (inr (inr (inr (inl v)))))) = refl
+value_again (inr (inr (inr (inr (inr (inr v)))))) = elim v [ ]
 
 -- ---- what a call gave
 

@@ -9,13 +9,14 @@ use Rattle.scp_xdr.specs.Words.{PassesWhole}
 use Rattle.scp_xdr.proofs.Items.{chosen}
 use Rattle.scp_xdr.proofs.Parts.{bind_ok, ok_is}
 use Rattle.scp_quorum.specs.QuorumKind.{set_kind}
+use Rattle.scp_envelope.specs.Kinds.{envelope_kind}
 use Rattle.scp_wire.specs.Message.{message_kind, message_of}
 use Rattle.scp_wire.specs.Carried.{is_side}
 use Rattle.scp_wire.specs.Reading.{has_side_word, reading_of}
 use Rattle.scp_wire.proofs.Readings.{reading_within, longer_has_none}
 
 abbrev arms : Arms
-arms = arm 2 hash_kind (arm 3 set_kind (arm 4 hash_kind (arm 6 (both uint64 value_kind) no_arm)))
+arms = arm 1 envelope_kind (arm 2 hash_kind (arm 3 set_kind (arm 4 hash_kind (arm 5 uint64 (arm 6 (both uint64 value_kind) no_arm)))))
 
 -- the discriminant that was read is that of the arm
 arm_tag : (arms : Arms) (place tag : ℕ) (c : Cursor) (v : ArmValues arms) (d : Cursor) → reading_arm arms place tag c ≡ Ok (v, d) → tag ≡ tag_of arms v
@@ -32,7 +33,9 @@ side_word (inl v) d = refl
 side_word (inr (inl v)) d = refl
 side_word (inr (inr (inl v))) d = refl
 side_word (inr (inr (inr (inl v)))) d = refl
-side_word (inr (inr (inr (inr v)))) d = elim v [ ]
+side_word (inr (inr (inr (inr (inl v))))) d = refl
+side_word (inr (inr (inr (inr (inr (inl v)))))) d = refl
+side_word (inr (inr (inr (inr (inr (inr v)))))) d = elim v [ ]
 
 -- the first word of bytes that spell a message
 word_of : (bytes : List ℕ) (v : Values message_kind) → reading_whole message_kind bytes ≡ Ok v → has_side_word (read_uint32 (start bytes)) ≡ is_side (Some (message_of v))

@@ -1,26 +1,32 @@
 -- Which messages are numbered on their connection.
 use Rattle.std.specs.Prelude.{Bool, true, false, not, Option, Some, None}
 use Rattle.scp_wire.specs.declared.message.Message.{Message}
-use Rattle.scp_wire.specs.declared.message.Message.TheVariants.{GetSet, Set, NoSet, Record}
+use Rattle.scp_wire.specs.declared.message.Message.TheVariants.{Envelope, GetSet, Set, NoSet, GetRecord, Record}
 
--- a record is; what asks for a quorum set or answers is a side message
+-- envelopes, requests for a record and records are; what asks for a quorum set or answers is a side message
 abbrev pub is_carried : Message → Bool
+is_carried (Envelope envelope) = true
 is_carried (GetSet hash) = false
 is_carried (Set set) = false
 is_carried (NoSet hash) = false
+is_carried (GetRecord slot) = true
 is_carried (Record slot value) = true
 
 abbrev pub IsCarried : Message → Type 0
+IsCarried (Envelope envelope) = Unit {0}
 IsCarried (GetSet hash) = ⊥
 IsCarried (Set set) = ⊥
 IsCarried (NoSet hash) = ⊥
+IsCarried (GetRecord slot) = Unit {0}
 IsCarried (Record slot value) = Unit {0}
 
 -- whether a message is carried has one proof
 pub IsCarried-prop : (m : Message) → IsProp (IsCarried m)
+IsCarried-prop (Envelope envelope) = hlevel
 IsCarried-prop (GetSet hash) = hlevel
 IsCarried-prop (Set set) = hlevel
 IsCarried-prop (NoSet hash) = hlevel
+IsCarried-prop (GetRecord slot) = hlevel
 IsCarried-prop (Record slot value) = hlevel
 
 -- what was read is a side message

@@ -1,3 +1,4 @@
+pub mod Boxed
 pub mod Message
 pub mod Reading
 pub mod Carried

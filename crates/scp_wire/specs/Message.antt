@@ -10,17 +10,21 @@ use Rattle.scp_xdr.specs.Reading.{reading_whole}
 use Rattle.scp_xdr.specs.Shared.{value_kind, hash_kind, node_kind}
 use Rattle.scp_quorum.specs.QuorumTree.{Level, QuorumTree}
 use Rattle.scp_quorum.specs.QuorumKind.{level_kind, set_kind, set_value, set_spelling}
+use Rattle.scp_envelope.specs.Kinds.{envelope_kind, envelope_value}
+use Rattle.scp_envelope.specs.Envelopes.{envelope_of}
 use Rattle.scp_wire.specs.declared.message.Message.{Message}
-use Rattle.scp_wire.specs.declared.message.Message.TheVariants.{GetSet, Set, NoSet, Record}
+use Rattle.scp_wire.specs.declared.message.Message.TheVariants.{Envelope, GetSet, Set, NoSet, GetRecord, Record}
 
 abbrev pub message_kind : Kind
-message_kind = union (arm 2 hash_kind (arm 3 set_kind (arm 4 hash_kind (arm 6 (both uint64 value_kind) no_arm))))
+message_kind = union (arm 1 envelope_kind (arm 2 hash_kind (arm 3 set_kind (arm 4 hash_kind (arm 5 uint64 (arm 6 (both uint64 value_kind) no_arm))))))
 
 abbrev pub message_value : Message → Values message_kind
-message_value (GetSet hash) = inl hash.0
-message_value (Set set) = inr (inl (set_value set))
-message_value (NoSet hash) = inr (inr (inl hash.0))
-message_value (Record slot value) = inr (inr (inr (inl (slot.0, value))))
+message_value (Envelope envelope) = inl (envelope_value envelope.value)
+message_value (GetSet hash) = inr (inl hash.0)
+message_value (Set set) = inr (inr (inl (set_value set)))
+message_value (NoSet hash) = inr (inr (inr (inl hash.0)))
+message_value (GetRecord slot) = inr (inr (inr (inr (inl slot.0))))
+message_value (Record slot value) = inr (inr (inr (inr (inr (inl (slot.0, value))))))
 
 -- back from the values of kinds
 abbrev pub node_of : Values node_kind → NodeId
@@ -34,11 +38,13 @@ abbrev pub set_of : Values set_kind → QuorumTree
 set_of v = tree_map level_of v
 
 abbrev pub message_of : Values message_kind → Message
-message_of (inl hash) = GetSet (record { 0 = hash })
-message_of (inr (inl set)) = Set (set_of set)
-message_of (inr (inr (inl hash))) = NoSet (record { 0 = hash })
-message_of (inr (inr (inr (inl v)))) = Record (record { 0 = v.0 }) v.1
-message_of (inr (inr (inr (inr v)))) = elim v [ ]
+message_of (inl envelope) = Envelope (record { value = envelope_of envelope })
+message_of (inr (inl hash)) = GetSet (record { 0 = hash })
+message_of (inr (inr (inl set))) = Set (set_of set)
+message_of (inr (inr (inr (inl hash)))) = NoSet (record { 0 = hash })
+message_of (inr (inr (inr (inr (inl slot))))) = GetRecord (record { 0 = slot })
+message_of (inr (inr (inr (inr (inr (inl v)))))) = Record (record { 0 = v.0 }) v.1
+message_of (inr (inr (inr (inr (inr (inr v)))))) = elim v [ ]
 
 -- the bytes are those of the message
 pub record SpellsMessage (bytes : List ℕ) (v : Values message_kind) : Type 0 where
@@ -52,16 +58,21 @@ pub record FitsMessage (v : Values message_kind) : Type 0 where
 
 -- the numbers and arrays of a message are in the range of their types
 abbrev pub HasRanges : Message → Type 0
+HasRanges (Envelope envelope) = Unit {0}
 HasRanges (GetSet hash) = length hash.0 ≡ 32
 HasRanges (Set set) = Unit {0}
 HasRanges (NoSet hash) = length hash.0 ≡ 32
+HasRanges (GetRecord slot) = slot.0 < 2 ^ 64
 HasRanges (Record slot value) = slot.0 < 2 ^ 64
 
--- the value of a record is over its limit, or the quorum set over one of its own, or longer than a message lets it be
+-- the value of a record is over its limit, or the envelope or the quorum set over one of its own, or longer than a
+-- message lets it be
 abbrev pub BreaksALimit : Message → Type 0
+BreaksALimit (Envelope envelope) = (¬ (Fits envelope_kind (envelope_value envelope.value))) ⊎ (65532 < length (spelling envelope_kind (envelope_value envelope.value)))
 BreaksALimit (GetSet hash) = ⊥
 BreaksALimit (Set set) = (¬ (Fits set_kind (set_value set))) ⊎ (65532 < length (set_spelling set))
 BreaksALimit (NoSet hash) = ⊥
+BreaksALimit (GetRecord slot) = ⊥
 BreaksALimit (Record slot value) = 4096 < length value
 
 -- the limit is tested before anything is read

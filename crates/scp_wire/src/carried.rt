@@ -3,7 +3,7 @@ ghost use Rattle.scp_wire.specs.Carried.{IsCarried, IsCarried-prop};
 use crate::message::Message;
 use scp_types::{ConnId, Seq};
 
-/// A message that is numbered on its connection, as a record is.
+/// A message that is numbered on its connection: an envelope, a request for a record, or a record.
 #[derive(Debug, Drop)]
 pub struct Carried {
     /// The life of the link that it came over.

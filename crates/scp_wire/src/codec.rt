@@ -6,18 +6,24 @@ ghost use Rattle.scp_wire.specs.Carried.{is_side};
 ghost use Rattle.scp_wire.specs.Message.{message_kind, message_value, message_reading, SpellsMessage, FitsMessage, HasRanges, BreaksALimit};
 ghost use Rattle.scp_wire.specs.Reading.{reading_of, has_side_word, ReadingIsSpelt};
 
+use crate::boxed::BoxedEnvelope;
 use crate::message::{MESSAGE_LIMIT, Message};
+use scp_envelope::Envelope;
 use scp_quorum::QuorumSet;
 use scp_types::{Fault, Hash, Slot, Value};
 use scp_xdr::{Reader, Writer, Xdr, check, spend_u32, spend_u64};
 use std::alloc::Global;
 
 /// The discriminants of the kinds.
+const ENVELOPE: u32 = 1;
+
 const GET_SET: u32 = 2;
 
 const SET: u32 = 3;
 
 const NO_SET: u32 = 4;
+
+const GET_RECORD: u32 = 5;
 
 const RECORD: u32 = 6;
 
@@ -29,9 +35,14 @@ impl Xdr for Message {
     fn read(alloc: Global, reader: &mut Reader<'_>) -> Result<Message, Fault> {
         let place = reader.place();
         match reader.u32()? {
+            ENVELOPE => {
+                let envelope = Envelope::read(alloc, reader)?;
+                Ok(Message::Envelope(BoxedEnvelope::new(alloc, envelope)?))
+            }
             GET_SET => Ok(Message::GetSet(Hash::read(alloc, reader)?)),
             SET => Ok(Message::Set(QuorumSet::read(alloc, reader)?)),
             NO_SET => Ok(Message::NoSet(Hash::read(alloc, reader)?)),
+            GET_RECORD => Ok(Message::GetRecord(Slot(reader.u64()?))),
             RECORD => {
                 let slot = Slot(reader.u64()?);
                 Ok(Message::Record(slot, Value::read(alloc, reader)?))
@@ -43,8 +54,13 @@ impl Xdr for Message {
     fn pass(reader: &mut Reader<'_>) -> Result<(), Fault> {
         let place = reader.place();
         match reader.u32()? {
+            ENVELOPE => Envelope::pass(reader),
             GET_SET | NO_SET => Hash::pass(reader),
             SET => QuorumSet::pass(reader),
+            GET_RECORD => {
+                reader.u64()?;
+                Ok(())
+            }
             RECORD => {
                 reader.u64()?;
                 Value::pass(reader)
@@ -55,8 +71,13 @@ impl Xdr for Message {
 
     fn fits(&self) -> bool {
         match self {
+            Message::Envelope(envelope) => envelope.get().fits(),
             Message::GetSet(hash) | Message::NoSet(hash) => hash.fits(),
             Message::Set(set) => set.fits(),
+            Message::GetRecord(slot) => {
+                let _number = slot.0;
+                true
+            }
             Message::Record(slot, value) => {
                 let _number = slot.0;
                 value.fits()
@@ -67,8 +88,13 @@ impl Xdr for Message {
     fn spend(&self, room: usize) -> Option<usize> {
         let left = spend_u32(room)?;
         match self {
+            Message::Envelope(envelope) => envelope.get().spend(left),
             Message::GetSet(hash) | Message::NoSet(hash) => hash.spend(left),
             Message::Set(set) => set.spend(left),
+            Message::GetRecord(slot) => {
+                let _number = slot.0;
+                spend_u64(left)
+            }
             Message::Record(slot, value) => {
                 let _number = slot.0;
                 value.spend(spend_u64(left)?)
@@ -78,6 +104,10 @@ impl Xdr for Message {
 
     fn write(&self, writer: &mut Writer) -> Result<(), Fault> {
         match self {
+            Message::Envelope(envelope) => {
+                writer.u32(ENVELOPE)?;
+                envelope.get().write(writer)?;
+            }
             Message::GetSet(hash) => {
                 writer.u32(GET_SET)?;
                 hash.write(writer)?;
@@ -89,6 +119,10 @@ impl Xdr for Message {
             Message::NoSet(hash) => {
                 writer.u32(NO_SET)?;
                 hash.write(writer)?;
+            }
+            Message::GetRecord(slot) => {
+                writer.u32(GET_RECORD)?;
+                writer.u64(slot.0)?;
             }
             Message::Record(slot, value) => {
                 writer.u32(RECORD)?;
@@ -104,8 +138,8 @@ impl Xdr for Message {
 ///
 /// Over 65,536 bytes are `TooLong` before anything of them is read. From then on the first fault from left to right
 /// is answered, `Malformed` with its place, or `TooLong` for a length or a count over its limit and for a quorum set of
-/// five inner levels; at last `NoMemory` where there is none for the value or the quorum set. It takes time in proportion
-/// to the bytes, and copies the value's bytes once.
+/// five inner levels; at last `NoMemory` where there is none for the envelope, the quorum set or the value. It takes time
+/// in proportion to the bytes, and copies each value's bytes once.
 pub fn decode(alloc: Global, bytes: &[u8]) -> Result<Message, Fault>
     // What is read is spelt by just these bytes.
     ensures found { IfOk result (λ m. SpellsMessage bytes.now (message_value m)) }
@@ -128,14 +162,14 @@ pub fn decode(alloc: Global, bytes: &[u8]) -> Result<Message, Fault>
     scp_xdr::decode(alloc, bytes)
 }
 
-/// The one spelling of the message (RFC 4506). `TooLong` where a value of over 4,096 bytes, a quorum set over its limits,
-/// or over 65,536 bytes in all, would be written.
+/// The one spelling of the message (RFC 4506). `TooLong` where a value of over 4,096 bytes, an envelope or a quorum set
+/// over its limits, or over 65,536 bytes in all, would be written.
 pub fn encode(alloc: Global, message: &Message) -> Result<Vec<u8>, Fault>
     // What is written spells the message.
     ensures spells { IfOk result (λ bytes. SpellsMessage bytes.items (message_value message.now)) }
     // It is too long just where it breaks a limit.
     ensures too_long { IsErrOf result Fault.TooLong ↔ ¬ (FitsMessage (message_value message.now)) }
-    // That is where its value is over 4,096 bytes, or its quorum set over one of its limits or over 65,532 bytes.
+    // That is where its value is over 4,096 bytes, or its envelope or quorum set over one of its limits or 65,532 bytes.
     ensures limits { IsErrOf result Fault.TooLong ↔ BreaksALimit message.now }
     // There are two reasons to refuse.
     ensures only { IfErr result (λ f. (f ≡ Fault.NoMemory) ⊎ (f ≡ Fault.TooLong)) }
@@ -150,8 +184,8 @@ fn see_ranges(message: &Message)
 {
     match message {
         Message::GetSet(hash) | Message::NoSet(hash) => see_hash(*hash),
-        Message::Set(_) => {}
-        Message::Record(slot, _) => see_slot(*slot),
+        Message::Envelope(_) | Message::Set(_) => {}
+        Message::GetRecord(slot) | Message::Record(slot, _) => see_slot(*slot),
     }
 }
 

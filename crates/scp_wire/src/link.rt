@@ -62,7 +62,7 @@ pub enum Inbound {
     Opened(ConnId),
     /// A message that is numbered on its connection.
     Carried(Carried),
-    /// A message that asks for a quorum set, or answers; it has no number.
+    /// A message that asks for a quorum set, or answers that; it has no number.
     Side { conn: ConnId, message: Message },
     /// The connection ended.
     Closed { conn: ConnId, cause: Cause },

@@ -1,6 +1,7 @@
 ghost use Rattle.std.specs.Prelude.{◌≡◌, IfOk, IsOkUnless};
 ghost use Rattle.scp_wire.specs.Carried.{is_carried};
 
+use crate::boxed::BoxedEnvelope;
 use scp_quorum::QuorumSet;
 use scp_types::{Fault, Hash, Slot, Value};
 
@@ -10,18 +11,22 @@ pub const MESSAGE_LIMIT: usize = 65_536;
 /// What goes over a link (this project's profile): an XDR union (RFC 4506, section 4.15) of the kinds below.
 #[derive(Debug, Drop)]
 pub enum Message {
+    /// Kind 1: a statement of a node.
+    Envelope(BoxedEnvelope),
     /// Kind 2: asks for the quorum set that this hash names.
     GetSet(Hash),
     /// Kind 3: a quorum set, as an answer.
     Set(QuorumSet),
     /// Kind 4: the answer of a node that has no quorum set of this hash.
     NoSet(Hash),
+    /// Kind 5: asks for the value that was decided for a slot.
+    GetRecord(Slot),
     /// Kind 6: the value that was decided for a slot.
     Record(Slot, Value),
 }
 
 impl Message {
-    /// Another message that equals this one. It copies the value's bytes, or the quorum set.
+    /// Another message that equals this one. It copies the value's bytes, the quorum set or the envelope.
     pub fn copy(&self) -> Result<Message, Fault>
         // The copy is the original.
         ensures same { IfOk result (λ m. m ≡ self.now) }
@@ -29,21 +34,23 @@ impl Message {
         ensures only_memory { IsOkUnless result Fault.NoMemory }
     {
         match self {
+            Message::Envelope(envelope) => Ok(Message::Envelope(envelope.copy()?)),
             Message::GetSet(hash) => Ok(Message::GetSet(*hash)),
             Message::Set(set) => Ok(Message::Set(set.copy()?)),
             Message::NoSet(hash) => Ok(Message::NoSet(*hash)),
+            Message::GetRecord(slot) => Ok(Message::GetRecord(*slot)),
             Message::Record(slot, value) => Ok(Message::Record(*slot, value.copy()?)),
         }
     }
 
-    /// Whether the message is numbered on its connection. What asks for a quorum set and what answers is a side message,
-    /// and isn't.
+    /// Whether the message is numbered on its connection. What asks for a quorum set and what answers that is a side
+    /// message, and isn't.
     pub fn is_carried(&self) -> bool
         ensures { result ≡ is_carried self.now }
     {
         match self {
             Message::GetSet(_) | Message::Set(_) | Message::NoSet(_) => false,
-            Message::Record(..) => true,
+            Message::Envelope(_) | Message::GetRecord(_) | Message::Record(..) => true,
         }
     }
 }

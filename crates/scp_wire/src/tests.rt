@@ -4,6 +4,8 @@ use scp_types::{ConnId, Fault, Hash, NodeId, Seq, Slot, Value};
 use std::alloc::Global;
 use std::test::*;
 
+mod envelopes;
+
 /// The record of slot 1 whose value is the operation list "put a 1".
 const RECORD: [u8; 40] = [
     0, 0, 0, 6, 0, 0, 0, 0, 0, 0, 0, 1, 0, 0, 0, 0x18, // the kind, the slot, the length
@@ -15,6 +17,23 @@ const RECORD: [u8; 40] = [
 const ONE_BYTE: [u8; 20] = [
     0, 0, 0, 6, 0, 0, 0, 0, 0, 0, 0, 1, 0, 0, 0, 1, 0x31, 0, 0, 0,
 ];
+
+/// The message of an envelope of node 1 on slot 1: a nomination that votes for the operation list "put a 1".
+const ENVELOPE: [u8; 124] = [
+    0, 0, 0, 1, 0, 0, 0, 0, // the kind, the type of the key
+    1, 1, 1, 1, 1, 1, 1, 1, 1, 1, 1, 1, 1, 1, 1, 1, // the node
+    1, 1, 1, 1, 1, 1, 1, 1, 1, 1, 1, 1, 1, 1, 1, 1, //
+    0, 0, 0, 0, 0, 0, 0, 1, 0, 0, 0, 3, // the slot, NOMINATE
+    2, 0xe6, 1, 0x26, 0x81, 0xb3, 0x3b, 0xa8, 0xe6, 0xd2, 0xee, 0x7e, 0xfd, 6, 0x9c, 0xab, // the hash
+    0x8c, 0xe9, 0xbe, 0xa8, 0xc9, 0xf4, 0x9e, 0xd0, 0xf5, 0x86, 0x9d, 0x2c, 0xd7, 0x84, 0x6f, 0x3f, //
+    0, 0, 0, 1, 0, 0, 0, 0x18, // one vote, its length
+    0, 0, 0, 1, 0, 0, 0, 0, 0, 0, 0, 1, 0x61, 0, 0, 0, // one operation, put, its key
+    0, 0, 0, 1, 0x31, 0, 0, 0, // its value
+    0, 0, 0, 0, 0, 0, 0, 0, // nothing accepted, no signature
+];
+
+/// What asks for the record of a slot.
+const GET_RECORD: [u8; 12] = [0, 0, 0, 5, 1, 2, 3, 4, 5, 6, 7, 8];
 
 /// A message of a kind that has a hash.
 fn of_hash(kind: u8) -> [u8; 36] {
@@ -183,10 +202,12 @@ fn a_record_is_read(rt: HostRuntime) -> Result<(), Fail> {
 #[test]
 fn each_kind_is_written_as_it_was_read(rt: HostRuntime) -> Result<(), Fail> {
     for bytes in [
-        of_hash(2).as_slice(),
+        ENVELOPE.as_slice(),
+        &of_hash(2),
         &two_of_three(),
         &nested(),
         &of_hash(4),
+        &GET_RECORD,
         &RECORD,
     ] {
         assert!(rt; is_kept(rt.alloc(), bytes)?);
@@ -197,10 +218,12 @@ fn each_kind_is_written_as_it_was_read(rt: HostRuntime) -> Result<(), Fail> {
 #[test]
 fn a_copy_is_written_as_its_original(rt: HostRuntime) -> Result<(), Fail> {
     for bytes in [
-        of_hash(2).as_slice(),
+        ENVELOPE.as_slice(),
+        &of_hash(2),
         &two_of_three(),
         &nested(),
         &of_hash(4),
+        &GET_RECORD,
         &RECORD,
     ] {
         assert!(rt; is_copied(rt.alloc(), bytes)?);
@@ -219,6 +242,18 @@ fn a_hash_is_read(rt: HostRuntime) -> Result<(), Fail> {
 }
 
 #[test]
+fn the_slot_that_is_asked_for_is_read(rt: HostRuntime) -> Result<(), Fail> {
+    let asked = decode(rt.alloc(), &GET_RECORD)?;
+    assert!(rt; matches!(asked, Message::GetRecord(Slot(0x0102_0304_0506_0708))));
+    let bytes = encode(rt.alloc(), &Message::GetRecord(Slot(1)))?;
+    assert_eq!(rt;
+        bytes.as_slice(),
+        [0, 0, 0, 5, 0, 0, 0, 0, 0, 0, 0, 1].as_slice()
+    );
+    Ok(())
+}
+
+#[test]
 fn a_slot_has_eight_bytes(rt: HostRuntime) -> Result<(), Fail> {
     let mut far = RECORD;
     far[4..12].copy_from_slice(&[1, 2, 3, 4, 5, 6, 7, 8]);
@@ -231,6 +266,11 @@ fn a_slot_has_eight_bytes(rt: HostRuntime) -> Result<(), Fail> {
 #[test]
 fn a_cut_record_names_the_item_that_is_cut(rt: HostRuntime) {
     assert_eq!(rt; first_wrong_cut(rt.alloc(), &RECORD, &[4, 12, 16]), None);
+}
+
+#[test]
+fn a_cut_slot_names_the_item_that_is_cut(rt: HostRuntime) {
+    assert_eq!(rt; first_wrong_cut(rt.alloc(), &GET_RECORD, &[4]), None);
 }
 
 #[test]
@@ -251,10 +291,12 @@ fn a_cut_set_names_the_item_that_is_cut(rt: HostRuntime) {
 #[test]
 fn bytes_after_the_end_are_refused(rt: HostRuntime) -> Result<(), Fail> {
     for bytes in [
-        of_hash(2).as_slice(),
+        ENVELOPE.as_slice(),
+        &of_hash(2),
         &two_of_three(),
         &nested(),
         &of_hash(4),
+        &GET_RECORD,
         &RECORD,
     ] {
         assert_eq!(rt; place_after(rt.alloc(), bytes, 1)?, Some(bytes.len()));
@@ -281,12 +323,14 @@ fn the_first_wrong_byte_of_padding_is_named(rt: HostRuntime) -> Result<(), Fail>
     both[19] = 1;
     assert_eq!(rt; place_of_fault(rt.alloc(), &both), Some(18));
     assert_eq!(rt; place_of_fault(rt.alloc(), &both[..18]), Some(16));
+    // a byte of the padding is missing, and another isn't zero
+    assert_eq!(rt; place_of_fault(rt.alloc(), &both[..19]), Some(16));
     Ok(())
 }
 
 #[test]
 fn every_other_kind_is_refused(rt: HostRuntime) {
-    for kind in [0, 1, 5, 7, 8, 255] {
+    for kind in [0, 7, 8, 255] {
         let mut other = RECORD;
         other[3] = kind;
         assert_eq!(rt; place_of_fault(rt.alloc(), &other), Some(0));
@@ -325,8 +369,14 @@ fn a_count_over_its_limit_comes_before_missing_nodes(rt: HostRuntime) {
 #[test]
 fn a_quorum_set_has_at_most_four_inner_levels(rt: HostRuntime) -> Result<(), Fail> {
     assert!(rt; is_kept(rt.alloc(), &four_inner_levels())?);
-    assert!(rt; is_too_long(rt.alloc(), &five_inner_levels()));
-    assert!(rt; !is_side_message(&five_inner_levels()));
+    let five = five_inner_levels();
+    assert!(rt; is_too_long(rt.alloc(), &five));
+    // the fifth level is refused at its count, before what is missing of it
+    let counted = five.get(..64).ok_or("shorter")?;
+    assert!(rt; is_too_long(rt.alloc(), counted));
+    let cut = five.get(..62).ok_or("shorter")?;
+    assert_eq!(rt; place_of_fault(rt.alloc(), cut), Some(60));
+    assert!(rt; !is_side_message(&five));
     Ok(())
 }
 
@@ -390,11 +440,18 @@ fn a_value_has_at_most_4_096_bytes(rt: HostRuntime) -> Result<(), Fail> {
 }
 
 #[test]
-fn a_record_alone_is_carried(rt: HostRuntime) -> Result<(), Fail> {
+fn what_is_about_quorum_sets_is_not_carried(rt: HostRuntime) -> Result<(), Fail> {
     for bytes in [of_hash(2).as_slice(), &two_of_three(), &of_hash(4)] {
         assert!(rt; !decode(rt.alloc(), bytes)?.is_carried());
     }
-    assert!(rt; decode(rt.alloc(), &RECORD)?.is_carried());
+    Ok(())
+}
+
+#[test]
+fn envelopes_and_what_is_about_records_are_carried(rt: HostRuntime) -> Result<(), Fail> {
+    for bytes in [ENVELOPE.as_slice(), &GET_RECORD, &RECORD] {
+        assert!(rt; decode(rt.alloc(), bytes)?.is_carried());
+    }
     Ok(())
 }
 
@@ -412,11 +469,13 @@ fn a_message_that_is_not_carried_is_a_side_message(rt: HostRuntime) {
 }
 
 #[test]
-fn records_and_other_kinds_are_no_side_messages(rt: HostRuntime) {
+fn carried_messages_and_other_kinds_are_no_side_messages(rt: HostRuntime) {
     for kind in [0, 1, 5, 6, 7] {
         assert!(rt; !is_side_message(&of_hash(kind)));
     }
-    assert!(rt; !is_side_message(&RECORD));
+    for bytes in [ENVELOPE.as_slice(), &GET_RECORD, &RECORD] {
+        assert!(rt; !is_side_message(bytes));
+    }
     let mut wrong = two_of_three();
     wrong[51] = 1;
     assert!(rt; !is_side_message(&wrong));

@@ -7,8 +7,9 @@
 //!   its limit before missing bytes, missing bytes before padding that isn't zero;
 //! - a value is refused as too long exactly where it doesn't keep its limits, or its spelling is over
 //!   the limit that the caller gave, before memory is taken;
-//! - a refusal leaves a reader and a writer as they were, and want of memory is answered only for bytes
-//!   that spell a value.
+//! - a refusal of a call of `Reader` or `Writer` leaves it as it was, and `decode` answers want of memory
+//!   only for bytes that spell a value. What reads or writes a part of a value, as `read_array` and the
+//!   methods of `Xdr` do, may leave the reader or the writer within that part.
 #![tactic(auto)]
 
 mod padding;

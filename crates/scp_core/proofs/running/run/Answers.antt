@@ -9,5 +9,5 @@ loop-event-preserved c =
     rw c.in_ok-push.ensures.items (record {
       theorem = rw (zip-more c.args.events.now c.loop-event.replies.items c.loop-event.event-index event reply c.loop-event-test.true c.event-item.is c.loop-event.invariant.count) (c.advance.ensures.theorem _ c.loop-event.invariant.theorem);
       count = omega (arith, c.loop-event.invariant.count, length-append c.loop-event.replies.items (reply ∷ []));
-      config = (c.advance.ensures.config.0 ∙ c.loop-event.invariant.config.0, c.advance.ensures.config.1 ∙ c.loop-event.invariant.config.1);
+      config = (c.advance.ensures.config.0 ∙ c.loop-event.invariant.config.0, c.advance.ensures.config.1 ∙ c.loop-event.invariant.config.1, c.advance.ensures.config.2 ∙ c.loop-event.invariant.config.2);
     })

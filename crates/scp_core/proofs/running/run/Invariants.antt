@@ -7,5 +7,5 @@ abbrev pub invariant-loop-event : goal.invariant-loop-event
 invariant-loop-event l = record {
   theorem : LedgerTheorem (zip (take l.event-index l.events) l.replies.items) l.node;
   count : length l.replies.items ≡ l.event-index;
-  config : (l.node.me ≡ l.initial.node.me) × (l.node.peer ≡ l.initial.node.peer);
+  config : (l.node.me ≡ l.initial.node.me) × (l.node.set ≡ l.initial.node.set) × (l.node.peer ≡ l.initial.node.peer);
 }

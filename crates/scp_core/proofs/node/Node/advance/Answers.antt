@@ -12,4 +12,4 @@ pub returns-clause-grows : goal.returns-clause-grows
 returns-clause-grows c = let g = Grows-step _ _ c.args.event.now c.perform-reply.result c.perform-reply.ensures in (g.more, g.journal)
 
 pub returns-clause-config : goal.returns-clause-config
-returns-clause-config c = let g = Grows-step _ _ c.args.event.now c.perform-reply.result c.perform-reply.ensures in (g.me, g.peer)
+returns-clause-config c = let g = Grows-step _ _ c.args.event.now c.perform-reply.result c.perform-reply.ensures in (g.me, g.set, g.peer)

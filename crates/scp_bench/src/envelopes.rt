@@ -1,0 +1,76 @@
+use crate::hearing::{HEARD, PEER, both_nodes, hear, new_node};
+use crate::messages::prepare;
+use scp_core::{Bytes, Event, Fate, Node, Verdict};
+use scp_types::{Fault, Hash};
+use std::alloc::Global;
+
+/// Envelopes go round so many slots.
+const SLOTS: u32 = 16;
+
+/// A ballot's counter stays for so many rounds, so that the first of them is fresh and the others are stale.
+const ROUNDS: u32 = 16;
+
+/// What became of the envelopes.
+#[derive(Clone, Copy, Debug)]
+pub struct Judged {
+    pub nodes: u64,
+    pub fresh: u64,
+    pub stale: u64,
+    pub others: u64,
+}
+
+/// A node that heard so many envelopes of its peer on one connection.
+fn ledger(alloc: Global, hash: &Hash, envelopes: u32) -> Result<Node, Fault> {
+    let mut node = new_node(alloc)?;
+    for place in 0..envelopes {
+        let slot = (place % SLOTS) as u64 + 1;
+        let counter = place / (SLOTS * ROUNDS) + 1;
+        let bytes = prepare(alloc, &PEER, slot, hash, counter)?;
+        hear(&mut node, Event::Send(0, Bytes::new(bytes)))?;
+    }
+    Ok(node)
+}
+
+impl Judged {
+    /// Counts an entry.
+    fn count(&mut self, fate: &Fate) {
+        let count = match fate {
+            Fate::Taken {
+                verdict: Verdict::Fresh,
+                ..
+            } => &mut self.fresh,
+            Fate::Taken {
+                verdict: Verdict::Stale,
+                ..
+            } => &mut self.stale,
+            _ => &mut self.others,
+        };
+        *count = count.wrapping_add(1);
+    }
+
+    /// Counts what became of a node's envelopes.
+    fn count_all(&mut self, node: &Node) {
+        self.nodes = self.nodes.wrapping_add(1);
+        for fate in node.journal() {
+            self.count(fate);
+        }
+    }
+}
+
+/// Brings so many envelopes through nodes, each of which hears as many as it may, one node after the other.
+pub fn hear_envelopes(alloc: Global, size: u32) -> Result<Judged, Fault> {
+    let hash = both_nodes(alloc)?.hash()?;
+    let mut judged = Judged {
+        nodes: 0,
+        fresh: 0,
+        stale: 0,
+        others: 0,
+    };
+    for _ in 0..size / HEARD {
+        judged.count_all(&ledger(alloc, &hash, HEARD)?);
+    }
+    if size % HEARD > 0 {
+        judged.count_all(&ledger(alloc, &hash, size % HEARD)?);
+    }
+    Ok(judged)
+}
