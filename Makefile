@@ -1,7 +1,7 @@
 # What the README names. `rt` is the toolchain's command.
 SCRIPT ?= examples/first_record.scp
 
-.PHONY: run test check try bench
+.PHONY: run test check try bench wrong-bodies
 
 # proves and builds what the program stands on, and prints the report of the first script
 run:
@@ -18,6 +18,10 @@ check:
 # runs a script unproved, in seconds
 try:
 	@cd crates/scp_line_cli && rt try -- run < ../../$(SCRIPT)
+
+# the wrong bodies that the gate doesn't try, to shorten it: the prover must refuse each
+wrong-bodies:
+	@scripts/wrong-bodies
 
 # counts, growth and memory of each workload
 bench:

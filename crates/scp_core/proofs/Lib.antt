@@ -7,3 +7,4 @@ pub mod Standing
 pub mod Freshest
 pub mod Named
 pub mod Judged
+pub mod Between

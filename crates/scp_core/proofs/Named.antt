@@ -47,12 +47,12 @@ pub is_carried_of : (bytes : List ℕ) (m : Message) → reading_of bytes ≡ So
 is_carried_of bytes m read side = at m (sym (ap is_side read) ∙ side)
   where
     at : (x : Message) → is_side (Some x) ≡ false → IsCarried x
-    at (Envelope envelope) e = tt
+    at (Envelope envelope) e = refl
     at (GetSet hash) e = absurd cc
     at (Set set) e = absurd cc
     at (NoSet hash) e = absurd cc
-    at (GetRecord slot) e = tt
-    at (Record slot value) e = tt
+    at (GetRecord slot) e = refl
+    at (Record slot value) e = refl
 
 -- ---- its entry
 

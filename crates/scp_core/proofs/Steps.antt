@@ -237,6 +237,17 @@ Keeps-step old new event JournalFull s ne = s.0.kept
 Keeps-step old new event NoMemory s ne = s.0.kept
 Keeps-step old new event Accepted s ne = absurd (ne refl)
 
+-- a reply that neither accepts nor fails leaves the node
+pub Same-step : (old new : NodeView) (event : Event) (reply : Reply) → Step old event reply new → reply ≢ Accepted → reply ≢ JournalFull → reply ≢ NoMemory → new ≡ old
+Same-step old new event NoLink s na nj nm = s.2
+Same-step old new event AlreadyOpen s na nj nm = s.same
+Same-step old new event LivesSpent s na nj nm = s.same
+Same-step old new event NotOpen s na nj nm = s.same
+Same-step old new event Failed s na nj nm = s.1
+Same-step old new event JournalFull s na nj nm = absurd (nj refl)
+Same-step old new event NoMemory s na nj nm = absurd (nm refl)
+Same-step old new event Accepted s na nj nm = absurd (na refl)
+
 -- the journal grows at its end, and the node stays who it is
 pub record Grows (old new : NodeView) : Type 0 where
   pub me : new.me ≡ old.me

@@ -9,6 +9,7 @@ pub mod Latest
 pub mod History
 pub mod Node
 pub mod Theorem
+pub mod Lives
 pub mod Parts
 pub mod Applier
 pub mod Inside

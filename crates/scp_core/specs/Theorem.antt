@@ -13,7 +13,7 @@ use Rattle.scp_core.specs.declared.event.Reply.{Reply}
 use Rattle.scp_core.specs.declared.event.Reply.TheVariants.{NoLink, AlreadyOpen, LivesSpent, NotOpen, Accepted, JournalFull, NoMemory, Failed}
 use Rattle.scp_core.specs.Link.{conn_at, IsOfLink}
 use Rattle.scp_core.specs.Journal.{of_conn, conn_of, messages_in, causes_in, Follows}
-use Rattle.scp_core.specs.Decisions.{OnePerSlot, decisions_in, AreInOrder, values_of}
+use Rattle.scp_core.specs.Decisions.{OnePerSlot, decisions_in, AreInOrder, values_of, IsLowest}
 use Rattle.scp_core.specs.Verdicts.{HaveVerdicts}
 use Rattle.scp_core.specs.Sets.{HasItsSet}
 use Rattle.scp_core.specs.History.{Exchange, Heard, heard, hears, nothing_heard, carried, end_of}
@@ -66,9 +66,10 @@ pub record Knows (h : Heard) (node : NodeView) : Type 0 where
   pub full : h.failed ≡ Some JournalFull → length node.journal ≡ 1000000
   pub not_full : h.failed ≡ Some NoMemory → length node.journal < 1000000
 
--- what holds of a node that runs: all decisions are applied or wait, slot n + 1 doesn't wait, and the state is the
--- fold of the applied values
+-- what holds of a node that runs: the slot behind the applied ones is the lowest that has no decision, so all decisions
+-- that can be applied are; the others wait; and the state is the fold of the applied values
 pub record Running (node : NodeView) : Type 0 where
+  pub lowest : IsLowest node.decisions (length node.applied + 1)
   pub shared_out : IsPermutation node.decisions (node.applied ++ node.waiting)
   pub next_missing : All (λ d. d.slot.0 ≢ length node.applied + 1) node.waiting
   pub folded : node.state ≡ Some (map.entries (fold_of (values_of node.applied)))

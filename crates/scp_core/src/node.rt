@@ -144,6 +144,7 @@ impl Node {
     pub fn step(&mut self, event: Event) -> Reply
         ensures theorem { (past : List Exchange) → LedgerTheorem past self.old → LedgerTheorem (past ++ (event, result) ∷ []) self.new }
         ensures kept { result ≢ Reply.Accepted → Keeps self.old self.new }
+        ensures same { result ≢ Reply.Accepted → result ≢ Reply.JournalFull → result ≢ Reply.NoMemory → self.new ≡ self.old }
         ensures grows { (more : List Fate) × (self.new.journal ≡ self.old.journal ++ more) }
         ensures config { (self.new.me ≡ self.old.me) × (self.new.set ≡ self.old.set) × (self.new.peer ≡ self.old.peer) }
     {
@@ -154,6 +155,7 @@ impl Node {
     pub fn advance(&mut self, event: &Event) -> Reply
         ensures theorem { (past : List Exchange) → LedgerTheorem past self.old → LedgerTheorem (past ++ (event.now, result) ∷ []) self.new }
         ensures kept { result ≢ Reply.Accepted → Keeps self.old self.new }
+        ensures same { result ≢ Reply.Accepted → result ≢ Reply.JournalFull → result ≢ Reply.NoMemory → self.new ≡ self.old }
         ensures grows { (more : List Fate) × (self.new.journal ≡ self.old.journal ++ more) }
         ensures config { (self.new.me ≡ self.old.me) × (self.new.set ≡ self.old.set) × (self.new.peer ≡ self.old.peer) }
     {

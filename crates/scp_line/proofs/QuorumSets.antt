@@ -17,7 +17,8 @@ use Rattle.scp_xdr.proofs.Lengths.{length_is}
 use Rattle.scp_quorum.specs.QuorumTree.{Level, QuorumTree}
 use Rattle.scp_quorum.specs.QuorumKind.{set_kind, node_value, level_value, set_value}
 use Rattle.scp_quorum.specs.Sane.{IsSane, IsInRange}
-use Rattle.scp_wire.specs.Message.{node_of, level_of, set_of}
+use Rattle.scp_envelope.specs.Envelopes.{node_of}
+use Rattle.scp_wire.specs.Message.{level_of, set_of}
 use Rattle.scp_line.specs.declared.script.Command.{Command}
 use Rattle.scp_line.specs.declared.script.Command.TheVariants.{Nodes, Set, Step, Ask, Settle, Report}
 use Rattle.scp_line.specs.Script.{IsNodeNumber, NamesNode, AreAdmitted, Admits, id_of, of_both, set_given, set_at, set_in}

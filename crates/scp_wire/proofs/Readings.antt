@@ -14,7 +14,8 @@ use Rattle.scp_quorum.specs.QuorumKind.{level_kind, node_value, level_value}
 use Rattle.scp_envelope.proofs.EnvelopeValues.{envelope_again, envelope_value_again}
 use Rattle.scp_wire.specs.declared.message.Message.{Message}
 use Rattle.scp_wire.specs.declared.message.Message.TheVariants.{Envelope, GetSet, Set, NoSet, GetRecord, Record}
-use Rattle.scp_wire.specs.Message.{node_of, level_of, message_kind, message_value, message_of, message_reading, SpellsMessage}
+use Rattle.scp_envelope.specs.Envelopes.{node_of}
+use Rattle.scp_wire.specs.Message.{level_of, message_kind, message_value, message_of, message_reading, SpellsMessage}
 use Rattle.scp_wire.specs.Reading.{message_in, reading_of, AreBytes, ReadingIsSpelt}
 
 -- ---- a message and its value

@@ -1,5 +1,6 @@
 -- Which messages are numbered on their connection.
-use Rattle.std.specs.Prelude.{Bool, true, false, not, Option, Some, None}
+use Rattle.std.specs.Prelude.{◌≡◌, Bool, true, false, not, Option, Some, None}
+use Rattle.std.proofs.Math.Bool.{Bool-set}
 use Rattle.scp_wire.specs.declared.message.Message.{Message}
 use Rattle.scp_wire.specs.declared.message.Message.TheVariants.{Envelope, GetSet, Set, NoSet, GetRecord, Record}
 
@@ -13,21 +14,11 @@ is_carried (GetRecord slot) = true
 is_carried (Record slot value) = true
 
 abbrev pub IsCarried : Message → Type 0
-IsCarried (Envelope envelope) = Unit {0}
-IsCarried (GetSet hash) = ⊥
-IsCarried (Set set) = ⊥
-IsCarried (NoSet hash) = ⊥
-IsCarried (GetRecord slot) = Unit {0}
-IsCarried (Record slot value) = Unit {0}
+IsCarried message = is_carried message ≡ true
 
 -- whether a message is carried has one proof
 pub IsCarried-prop : (m : Message) → IsProp (IsCarried m)
-IsCarried-prop (Envelope envelope) = hlevel
-IsCarried-prop (GetSet hash) = hlevel
-IsCarried-prop (Set set) = hlevel
-IsCarried-prop (NoSet hash) = hlevel
-IsCarried-prop (GetRecord slot) = hlevel
-IsCarried-prop (Record slot value) = hlevel
+IsCarried-prop m = hlevel (Bool-set)
 
 -- what was read is a side message
 abbrev pub is_side : Option Message → Bool

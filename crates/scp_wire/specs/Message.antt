@@ -3,15 +3,14 @@ use Rattle.std.specs.Prelude.{◌≡◌, ℕ, ◌^◌, ◌<◌, ◌≤◌, ◌�
 use Rattle.std.proofs.Common.{inl, inr}
 use Rattle.scp_types.specs.declared.fault.Fault.{Fault}
 use Rattle.scp_types.specs.declared.fault.Fault.TheVariants.{TooLong}
-use Rattle.scp_types.specs.declared.names.NodeId.{NodeId}
 use Rattle.scp_xdr.specs.Kind.{Kind, uint64, both, union, no_arm, arm, Values, Spells, Fits, spelling}
 use Rattle.scp_xdr.specs.Tree.{tree_map}
 use Rattle.scp_xdr.specs.Reading.{reading_whole}
-use Rattle.scp_xdr.specs.Shared.{value_kind, hash_kind, node_kind}
+use Rattle.scp_xdr.specs.Shared.{value_kind, hash_kind}
 use Rattle.scp_quorum.specs.QuorumTree.{Level, QuorumTree}
 use Rattle.scp_quorum.specs.QuorumKind.{level_kind, set_kind, set_value, set_spelling}
 use Rattle.scp_envelope.specs.Kinds.{envelope_kind, envelope_value}
-use Rattle.scp_envelope.specs.Envelopes.{envelope_of}
+use Rattle.scp_envelope.specs.Envelopes.{node_of, envelope_of}
 use Rattle.scp_wire.specs.declared.message.Message.{Message}
 use Rattle.scp_wire.specs.declared.message.Message.TheVariants.{Envelope, GetSet, Set, NoSet, GetRecord, Record}
 
@@ -27,10 +26,6 @@ message_value (GetRecord slot) = inr (inr (inr (inr (inl slot.0))))
 message_value (Record slot value) = inr (inr (inr (inr (inr (inl (slot.0, value))))))
 
 -- back from the values of kinds
-abbrev pub node_of : Values node_kind → NodeId
-node_of (inl bytes) = record { 0 = bytes }
-node_of (inr v) = elim v [ ]
-
 abbrev pub level_of : Values level_kind → Level
 level_of v = record { threshold = v.0; validators = map node_of v.1 }
 
