@@ -38,9 +38,8 @@ impl Played {
         let text = script(alloc, sends)?;
         let mut reader = MemoryIn::new(text.as_bytes());
         let mut writer = MemoryOut::new(Vec::new(alloc));
-        if let Err(refusal) = play(alloc, Mode::Serial, &mut reader, &mut writer) {
-            return Err(refusal.fault);
-        }
+        // A text in memory fails where there is no memory for it, and so do the nodes of a good script of this length.
+        play(alloc, Mode::Serial, &mut reader, &mut writer).map_err(|_| Fault::NoMemory)?;
         self.scripts = self.scripts.wrapping_add(1);
         self.lines = self.lines.wrapping_add(sends as u64 + 3);
         self.bytes = self.bytes.wrapping_add(writer.text().len() as u64);

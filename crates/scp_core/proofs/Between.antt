@@ -210,7 +210,7 @@ sent_is_between_opens before during after link unopened opened =
     let lasts : lived.life ≡ begun.life + opens_in during = life_after life begun during in
     let kept : IsAsBefore lived (heard_on life lived after) = ended life lived after (omega arith) opened in
     let whole : heard life (before ++ ((Open link, Accepted) ∷ (during ++ after))) ≡ heard_on life lived after =
-        fold-append (λ g x. hears life g x.0 x.1) nothing_heard before ((Open link, Accepted) ∷ (during ++ after)) ∙ fold-append (λ g x. hears life g x.0 x.1) begun during after in
+    fold-append (λ g x. hears life g x.0 x.1) nothing_heard before ((Open link, Accepted) ∷ (during ++ after)) ∙ fold-append (λ g x. hears life g x.0 x.1) begun during after in
     record {
       sent = ap (λ g. g.sent) whole ∙ kept.sent ∙ grown.sent ∙ ap (λ s. s ++ sent_in during) none.sent;
       closed = ap (λ g. g.closed) whole ∙ kept.closed ∙ grown.closed ∙ ap (λ c. c || is_closed_in during) none.closed;

@@ -1,4 +1,4 @@
--- A node's private parts: the ledger, the applier and the end of the link.
+-- What is inside a node and isn't seen by its clients: the ledger, the applier, and where the link's connection stands.
 use Rattle.std.specs.Prelude.{ℕ, ◌+◌, ◌≤◌, ◌≡◌, ◌≢◌, Bool, true, List, [], ◌∷◌, ◌++◌, length, All, Contains, remove, slice_index_or}
 use Rattle.std.specs.List.Sorted.{IsPermutation}
 use Rattle.std.specs.Prelude.{Option}
@@ -84,7 +84,7 @@ pub record IsInOrder (decisions applied : List Decision) : Type 0 where
   pub in_order : AreInOrder 1 applied
   pub decided : All (Contains decisions) applied
 
--- the end of the link knows where its connection stands
+-- the node's own record of its link is right: whether the connection has ended, and how many messages it carried
 pub record IsLinkEnd (peer me : NodeId) (life : ℕ) (is_open : Bool) (journal : List Fate) (has_ended : Bool) (count : ℕ) : Type 0 where
   pub ended : has_ended ≡ any_cause (causes_in (of_conn (conn_at peer me life) journal))
   pub next : count ≡ length (messages_in (of_conn (conn_at peer me life) journal))

@@ -58,7 +58,7 @@ abbrev pub AreReplies : Hash → ℕ → Heard → List Exchange → Type 0
 AreReplies local life h [] = Unit {0}
 AreReplies local life h (x ∷ xs) = IsReply local life h x.0 x.1 × AreReplies local life (hears life h x.0 x.1) xs
 
--- the node's link stands as the exchanges left it, and a full journal failed it at 1,000,000 entries
+-- the node's link stands as the exchanges left it; JournalFull failed it at 1,000,000 entries, and NoMemory below
 pub record Knows (h : Heard) (node : NodeView) : Type 0 where
   pub failed : node.failed ≡ is_some h.failed
   pub life : node.life ≡ h.life
@@ -92,6 +92,8 @@ pub record Stands (node : NodeView) : Type 0 where
   pub running : node.failed ≡ false → Running node
   pub stopped : node.failed ≡ true → node.state ≡ None
 
+-- for each life of the link: every reply is right, the node's link stands as it was heard, and the messages of that life's connection
+-- have their fates; and the facts that hold of the node by itself
 pub record LedgerTheorem (past : List Exchange) (node : NodeView) : Type 0 where
   pub replies : (life : ℕ) → AreReplies (local_hash node) life nothing_heard past
   pub knows : (life : ℕ) → Knows (heard life past) node

@@ -1,3 +1,4 @@
+//! Decisions, applied in the order of their slots.
 ghost use Rattle.std.specs.Prelude.{◌≡◌, ◌≢◌, ◌∷◌, ◌++◌, [], ◌+◌, ◌<◌, ◌≤◌, ℕ, length, OnOk, OnErr, IsTrue, ◌↔◌, nat_lt, List, position, IsOkUnless};
 ghost use Rattle.scp_core.specs.Decisions.{is_decided, is_at};
 ghost use Rattle.scp_core.specs.Verdicts.{verdict_at};
@@ -11,10 +12,10 @@ use scp_kv::{KvState, apply_value};
 use scp_types::{Fault, Slot};
 use std::alloc::Global;
 
-/// So many slots from the lowest undecided one are open.
+/// How many slots are open, from the lowest undecided one on (this project's profile).
 pub const WINDOW: u64 = 16;
 
-/// No slot above it is taken.
+/// The highest slot that can be open (this project's profile).
 pub const LAST_SLOT: u64 = 4_294_967_295;
 
 /// Decisions in the order of their slots, and the state that their values make.

@@ -1,3 +1,4 @@
+//! What a node is made of.
 ghost use Rattle.std.specs.Prelude.{◌≡◌};
 
 use scp_quorum::QuorumSet;

@@ -1,3 +1,4 @@
+//! The entry of a carried message, and what it decides.
 ghost use Rattle.std.specs.Prelude.{◌≡◌, ◌∷◌, ◌++◌, [], ◌<◌, ◌↔◌, IsTrue, true, length, OnOk, OnErr, Some, None};
 ghost use Rattle.scp_core.specs.Applier.{applier_view};
 ghost use Rattle.scp_core.specs.Sets.{names_no_other, hash_of};

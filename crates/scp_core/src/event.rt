@@ -1,3 +1,5 @@
+//! What happens at a node, and what it answers.
+
 use scp_wire::Bytes;
 
 /// What happens at a node: each names one of its links, which come from its peers in their order.

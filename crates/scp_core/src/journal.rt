@@ -1,3 +1,5 @@
+//! The journal's entries, and the decisions that they make.
+
 use scp_quorum::SaneSet;
 use scp_types::{ConnId, Seq, Slot, Value};
 use scp_wire::{Cause, Message};
@@ -22,7 +24,7 @@ pub enum Verdict {
     Stale,
     /// An envelope is newer than all fresh ones before it of its node, slot and kind.
     Fresh,
-    /// A request for a record was handed on.
+    /// A request for a record was taken. Nothing is sent in answer yet.
     Forwarded,
     /// A record decided its slot.
     Decided,

@@ -1,3 +1,4 @@
+//! Where the last fresh statements stand in a journal.
 ghost use Rattle.std.specs.Prelude.{◌≡◌, OnOk, OnErr, IsOkUnless, Some, None};
 ghost use Rattle.std.specs.BTreeMap as tree;
 ghost use Rattle.scp_core.specs.Latest.{key_in, key_cmp};

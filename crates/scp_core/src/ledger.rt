@@ -1,3 +1,4 @@
+//! The journal and the decisions, which grow at their ends alone.
 ghost use Rattle.std.specs.Prelude.{◌≡◌, ◌∷◌, ◌++◌, [], ◌+◌, ◌<◌, ◌≤◌, ◌↔◌, IsTrue, true, length, OnOk, OnErr, Some, None, IfErr, IsOkUnless};
 ghost use Rattle.scp_core.specs.Decisions.{decision_by};
 ghost use Rattle.scp_core.specs.Fresh.{IsStale, fresh_statement};
@@ -14,7 +15,7 @@ use std::alloc::Global;
 use std::marker::Model;
 use std::sync::Arc;
 
-/// At most so many entries.
+/// The most entries that a journal may have (this project's profile).
 pub const JOURNAL_LIMIT: usize = 1_000_000;
 
 /// The journal and the decisions, and where in the journal the last fresh statements stand.

@@ -7,7 +7,8 @@
 //! - at most one decision per slot, each named by a taken record of just that slot and value; every verdict is the first
 //!   that fits;
 //! - slots 1 to n are applied once each, in order, each with its decision, and the state is the fold of their values;
-//! - every reply is that of the table; a failed node keeps its journal, decisions and applied slots.
+//! - every reply is that of the table of replies (`IsReply` in `specs/Theorem.antt`);
+//! - a failed node keeps its journal, decisions and applied slots.
 #![tactic(auto)]
 
 mod applier;

@@ -1,4 +1,6 @@
-/// The end of the node's one link.
+//! The link of a node, as the node keeps it.
+
+/// What the node keeps of its one link, at the receiving end.
 #[derive(Clone, Copy)]
 pub struct Link {
     /// How often it was opened.

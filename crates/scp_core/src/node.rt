@@ -1,3 +1,4 @@
+//! A node: one event goes the whole way, from its bytes to the state.
 ghost use Rattle.std.specs.Prelude.{◌≡◌, ◌≢◌, ◌∷◌, ◌++◌, [], ◌+◌, ◌<◌, ◌↔◌, ◌⊎◌, ℕ, IsTrue, true, false, length, OnOk, OnErr, IfOk, IfErr, List, Some, None, Ok, Err, IsOkUnless, MatchOption, option_map, not, if◌then◌else◌, ◌==◌};
 ghost use Rattle.std.specs.FinMap as map;
 ghost use Rattle.scp_wire.specs.Carried.{is_side, IsCarried};
@@ -26,10 +27,10 @@ use std::alloc::Global;
 use std::marker::Model;
 use std::sync::Arc;
 
-/// A connection carries at most so many messages.
+/// The most messages that one connection carries (this project's profile).
 pub const CARRIED_LIMIT: u64 = 1_000_000;
 
-/// A link is opened at most so often.
+/// The most times that a link is opened (this project's profile).
 pub const LIVES: u32 = 65_535;
 
 /// A node with one link: link 0, which comes from its one peer.
@@ -140,7 +141,9 @@ impl Node {
     }
 
     /// One event goes the whole way. What holds of a list of events, their replies and the node holds of the list with
-    /// one more. Costs the logarithm of the number of keys, and the message's length.
+    /// one more. Costs, on average, the message's length; for an envelope also the logarithm of the number of nodes and
+    /// slots, and for two nominations the product of their lengths; for a record also the logarithm of the number of keys
+    /// for each operation of the values that can now be applied, at most 16 of them.
     pub fn step(&mut self, event: Event) -> Reply
         ensures theorem { (past : List Exchange) → LedgerTheorem past self.old → LedgerTheorem (past ++ (event, result) ∷ []) self.new }
         ensures kept { result ≢ Reply.Accepted → Keeps self.old self.new }
@@ -160,6 +163,7 @@ impl Node {
         ensures config { (self.new.me ≡ self.old.me) × (self.new.set ≡ self.old.set) × (self.new.peer ≡ self.old.peer) }
     {
         let reply = self.perform(event);
+        // opens the node, so that its invariant is at hand for the proof
         let _ = &self.failed;
         reply
     }

@@ -1,3 +1,5 @@
+//! What `run` leaves. `Run` has a module of its own, since the prover doesn't tell it from `run` in one.
+
 use crate::event::Reply;
 use crate::node::Node;
 

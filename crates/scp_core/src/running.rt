@@ -1,3 +1,4 @@
+//! A list of events on a new node.
 ghost use Rattle.std.specs.Prelude.{◌≡◌, ◌≢◌, ◌∷◌, [], ◌↔◌, ◌⊎◌, IfOk, IfErr, zip, length, Err};
 ghost use Rattle.scp_core.specs.Theorem.{LedgerTheorem};
 ghost use Rattle.scp_core.specs.Config.{IsConfig};

@@ -1,3 +1,4 @@
+//! A decision that several lists share.
 ghost use Rattle.std.specs.Prelude.{◌≡◌, IfOk, IsOkUnless};
 
 use crate::journal::Decision;

@@ -1,3 +1,4 @@
+//! The verdict on an envelope's statement.
 ghost use Rattle.std.specs.Prelude.{◌≡◌, ◌<◌, ◌≤◌, ◌+◌, ◌⊎◌, ◌↔◌, IsTrue, IfSome, length};
 ghost use Rattle.scp_core.specs.Applier.{applier_view};
 ghost use Rattle.scp_core.specs.Decisions.{decisions_in};

@@ -1,4 +1,4 @@
-//! Which claims a statement votes for and accepts.
+//! Which claims a statement votes for and accepts (the SCP draft, in this project's profile). No test here takes memory.
 ghost use Rattle.std.specs.Prelude.{◌↔◌, IsTrue, IsSomeAnd};
 ghost use Rattle.scp_envelope.specs.Claims.{IsCovered, VotesPrepare, AcceptsPrepare, VotesCommit, AcceptsCommit, VotesValue, AcceptsValue};
 
@@ -24,7 +24,8 @@ fn is_covered_by_some(ballot: &Ballot, top: &Option<Ballot>) -> bool
 }
 
 impl Statement {
-    /// Whether the statement votes to prepare the ballot.
+    /// Whether the statement votes to prepare the ballot: a PREPARE each ballot of its ballot's value up to its counter, a
+    /// CONFIRM each of its value. No other statement does.
     pub fn votes_prepare(&self, ballot: &Ballot) -> bool
         ensures { IsTrue result ↔ VotesPrepare self.now.pledges ballot.now }
     {
@@ -36,7 +37,8 @@ impl Statement {
         }
     }
 
-    /// Whether the statement accepts the ballot as prepared.
+    /// Whether the statement accepts the ballot as prepared: a PREPARE what is of the value of prepared or preparedPrime up
+    /// to its counter, a CONFIRM its value up to nPrepared, an EXTERNALIZE its value at each counter. No NOMINATE does.
     pub fn accepts_prepare(&self, ballot: &Ballot) -> bool
         ensures { IsTrue result ↔ AcceptsPrepare self.now.pledges ballot.now }
     {
@@ -53,7 +55,8 @@ impl Statement {
         }
     }
 
-    /// Whether the statement votes to commit the ballot of this counter and value.
+    /// Whether the statement votes to commit the ballot of this counter and value: a PREPARE whose nC isn't 0 its ballot's
+    /// value from nC to nH, a CONFIRM its value from nCommit on. No other statement does.
     pub fn votes_commit(&self, counter: u32, value: &Value) -> bool
         ensures { IsTrue result ↔ VotesCommit self.now.pledges counter value.now }
     {
@@ -72,7 +75,8 @@ impl Statement {
         }
     }
 
-    /// Whether the statement accepts the ballot of this counter and value as committed.
+    /// Whether the statement accepts the ballot of this counter and value as committed: a CONFIRM its value from nCommit to
+    /// nH, an EXTERNALIZE its value from its commit's counter on. No other statement does.
     pub fn accepts_commit(&self, counter: u32, value: &Value) -> bool
         ensures { IsTrue result ↔ AcceptsCommit self.now.pledges counter value.now }
     {
@@ -90,7 +94,7 @@ impl Statement {
         }
     }
 
-    /// Whether the statement votes to nominate the value.
+    /// Whether the statement votes to nominate the value: it is a NOMINATE with the value in votes. Compares n values.
     pub fn votes_value(&self, value: &Value) -> bool
         ensures { IsTrue result ↔ VotesValue self.now.pledges value.now }
     {
@@ -100,7 +104,7 @@ impl Statement {
         }
     }
 
-    /// Whether the statement accepts the value as nominated.
+    /// Whether the statement accepts the value as nominated: it is a NOMINATE with the value in accepted. Compares n values.
     pub fn accepts_value(&self, value: &Value) -> bool
         ensures { IsTrue result ↔ AcceptsValue self.now.pledges value.now }
     {

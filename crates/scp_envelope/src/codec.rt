@@ -1,4 +1,6 @@
 //! The spelling of statements and envelopes (RFC 4506; Stellar-SCP.x).
+//!
+//! A `let _name = ..` that nothing uses tells the prover the range of that number.
 ghost use Rattle.std.specs.Prelude.{◌↔◌, ◌⊎◌, ◌≡◌, IfOk, IfErr, IsErrOf, Ok};
 ghost use Rattle.scp_xdr.specs.Kind.{Values, Fits, Spells};
 ghost use Rattle.scp_xdr.specs.Reading.{reading_whole};

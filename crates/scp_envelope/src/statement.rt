@@ -1,3 +1,4 @@
+//! Statements and envelopes: the types of Stellar-SCP.x, with the meaning that the SCP draft gives them.
 ghost use Rattle.std.specs.Prelude.{◌≡◌};
 ghost use Rattle.scp_envelope.specs.Kinds.{set_hash_of};
 

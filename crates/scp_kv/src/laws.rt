@@ -24,7 +24,7 @@ pub fn a_del_takes_its_key_alone()
     ensures others { (state : KvMap) (key other : List ℕ) → other ≢ key → map.get (after_op state (del key)) other ≡ map.get state other }
 {}
 
-/// The fold of a list with one value more is the fold of the list after that value.
+/// The fold of a list with one value more is the fold of the list, to which that value is then applied.
 pub fn a_value_more_is_one_step_more()
     ensures { (values : List (List ℕ)) (value : List ℕ) → fold_of (values ++ value ∷ []) ≡ after_value (fold_of values) value }
 {}

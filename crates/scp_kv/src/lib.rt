@@ -1,6 +1,6 @@
 //! The operations that a value may hold, and the state that they build.
 //!
-//! What is promised:
+//! What it promises:
 //! - `is_ops` and `ops_of` take a value for an operation list exactly where it is one: at most 4,096 bytes that are the
 //!   XDR (RFC 4506) of at most 64 operations, with nothing after it.
 //! - `KvState` is a finite map from keys to values. `apply` sets a key or takes it out and leaves all others.

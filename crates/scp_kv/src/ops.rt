@@ -11,16 +11,16 @@ use scp_xdr::{
 };
 use std::alloc::Global;
 
-/// An operation list has at most so many bytes.
+/// The most bytes of an operation list (this project's profile).
 const LIST_LIMIT: usize = 4_096;
 
-/// An operation list has at most so many operations.
+/// The most operations of an operation list (this project's profile).
 const COUNT_LIMIT: u32 = 64;
 
-/// A key has at most so many bytes.
+/// The most bytes of a key (this project's profile).
 const KEY_LIMIT: u32 = 64;
 
-/// A value that is put at a key has at most so many bytes.
+/// The most bytes of a value that is put at a key (this project's profile).
 const ENTRY_LIMIT: u32 = 256;
 
 /// One change of the state. In an operation list a key has at most 64 bytes and a value at most 256. Its XDR is that of

@@ -99,7 +99,8 @@ impl KvState {
 
 /// Applies the operations of the value in order, where it is an operation list; any other value leaves the state.
 /// The only refusal is `NoMemory`, and it comes only for an operation list. After it some of the operations may have
-/// been applied, so the caller must give the state up.
+/// been applied, so the caller must give the state up. The time grows with the value's length, and for each operation with
+/// the logarithm of the number of keys.
 pub fn apply_value(state: &mut KvState, value: &Value) -> Result<(), Fault>
     ensures applied { OnOk result (state.new ≡ after_value state.old value.now) }
     ensures only_memory { IsOkUnless result Fault.NoMemory }

@@ -1,7 +1,8 @@
 -- Reads and writes one after another.
 use Rattle.std.proofs.Common.{◌≡◌, ℕ, List, [], ◌++◌, Option, Some, None, append_assoc, append-nil, refl, subst, sym, ◌∙◌, ap, arith, IfSome}
 use Rattle.std.proofs.lemmas.Grind.{common_steps}
-use Rattle.scp_line.specs.Device.{Gains, Loses, HasEnded}
+use Rattle.std.specs.Io.KnownBytes.{Consumes, Appends, Keeps, IsAtEnd}
+use Rattle.scp_line.specs.Device.{Gains, Loses, HasEnded, Stays}
 
 pub gains-nothing : (w : Option (List ℕ)) → Gains w [] w
 gains-nothing None = tt
@@ -29,3 +30,29 @@ read-whole None b text p h = tt
 read-whole (Some all) b text p h =
     let none : p.0 ≡ [] = subst HasEnded p.2 h in
     sym (p.1 ∙ ap (λ l. text ++ l) none ∙ append-nil text)
+
+-- what std's readers and writers say, in the words of this crate
+pub loses_consumed : (a b : Option (List ℕ)) (bytes : List ℕ) → Consumes a b bytes → Loses a bytes b
+loses_consumed None b bytes h = tt
+loses_consumed (Some xs) None bytes h = absurd h
+loses_consumed (Some xs) (Some ys) bytes h = (ys, h, refl)
+
+pub has_ended : (a b : Option (List ℕ)) → Consumes a b [] → IsAtEnd b → HasEnded a
+has_ended None b h e = tt
+has_ended (Some xs) None h e = absurd h
+has_ended (Some xs) (Some ys) h e = h ∙ e
+
+pub gains_appended : (a b : Option (List ℕ)) (bytes : List ℕ) → Appends a b bytes → Gains a bytes b
+gains_appended None b bytes h = tt
+gains_appended (Some xs) None bytes h = absurd h
+gains_appended (Some xs) (Some ys) bytes h = ap Some h
+
+pub stays_kept : (a b : Option (List ℕ)) → Keeps a b → Stays a b
+stays_kept None b h = tt
+stays_kept (Some xs) None h = absurd h
+stays_kept (Some xs) (Some ys) h = ap Some h
+
+pub stays_unwritten : (a b : Option (List ℕ)) → Appends a b [] → Stays a b
+stays_unwritten None b h = tt
+stays_unwritten (Some xs) None h = absurd h
+stays_unwritten (Some xs) (Some ys) h = ap Some (h ∙ append-nil xs)

@@ -23,6 +23,11 @@ abbrev pub Gains : Option (List ℕ) → List ℕ → Option (List ℕ) → Type
 Gains None bytes new = Unit {0}
 Gains (Some old) bytes new = new ≡ Some (old ++ bytes)
 
+-- a known text stays
+abbrev pub Stays : Option (List ℕ) → Option (List ℕ) → Type 0
+Stays None new = Unit {0}
+Stays (Some old) new = new ≡ Some old
+
 -- why a script isn't read
 abbrev pub IsReadFault : Fault → Type 0
 IsReadFault NoMemory = Unit {0}

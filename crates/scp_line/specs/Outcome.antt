@@ -1,12 +1,11 @@
 -- How a call that failed is told, and what it may fail for.
-use Rattle.std.specs.Prelude.{ℕ, List, ◌++◌, Result, Ok, Err, codes}
+use Rattle.std.specs.Prelude.{ℕ, List, ◌++◌, codes}
 use Rattle.std.specs.Fmt.{decimal}
 use Rattle.scp_types.specs.declared.fault.Fault.{Fault}
 use Rattle.scp_types.specs.declared.fault.Fault.TheVariants.{NoMemory, Malformed, TooLong, Failed, BadScript, Refused, Device}
 use Rattle.scp_types.specs.declared.fault.Stage.{Stage}
 use Rattle.scp_types.specs.declared.fault.Stage.TheVariants.{Reader, Pend, Slot, Apply}
 use Rattle.scp_types.specs.Fault.{number_of}
-use Rattle.scp_line.specs.declared.playing.PlayFault.{PlayFault}
 use Rattle.scp_line.specs.Script.{IsBadLine}
 
 abbrev pub stage_word : Stage → List ℕ
@@ -28,11 +27,6 @@ status_of (Malformed place) = 1
 status_of TooLong = 1
 status_of (BadScript line) = 1
 status_of fault = 3
-
--- the exit status of a call
-abbrev pub exit_of : Result (Unit {0}) PlayFault → ℕ
-exit_of (Ok done) = 0
-exit_of (Err e) = status_of e.fault
 
 -- why a text isn't read as a script: want of memory, or its first bad line
 abbrev pub IsScriptFault : List ℕ → Fault → Type 0

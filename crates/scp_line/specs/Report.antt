@@ -43,7 +43,7 @@ abbrev pub fate_line : Fate → List ℕ
 fate_line (Taken conn seq message set verdict) = decimal seq.0 ++ codes " taken " ++ verdict_word verdict ++ codes "\n"
 fate_line (Closed conn cause) = codes "closed " ++ cause_word cause ++ codes "\n"
 
--- bytes in small hexadecimal digits, or a dash for none
+-- bytes in lower-case hexadecimal digits, or a dash for none
 abbrev pub hex_word : List ℕ → List ℕ
 hex_word [] = codes "-"
 hex_word (byte ∷ bytes) = encode_lower (byte ∷ bytes)

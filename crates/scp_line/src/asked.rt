@@ -1,3 +1,4 @@
+//! What the words of a command line ask for.
 ghost use Rattle.std.specs.Prelude.{◌≡◌, IsOkUnless, IfErr};
 
 use crate::playing::Mode;

@@ -1,11 +1,12 @@
+//! Where a script is read from and where a text is written, with readers and writers in memory.
 ghost use Rattle.std.specs.Prelude.{◌≡◌, ◌≤◌, ◌<◌, ◌+◌, ℕ, List, [], Option, Some, None, take, drop, length, OnOk, OnErr, IfOk, IfErr, IfSome, IsErrOf, Ok};
-ghost use Rattle.scp_line.specs.Device.{Loses, HasEnded, Gains, Fails, IsReadFault};
+ghost use Rattle.scp_line.specs.Device.{Loses, HasEnded, Gains, Stays, Fails, IsReadFault};
 
 use scp_types::Fault;
 use std::alloc::Global;
 use std::io;
 
-/// A script is at most so long.
+/// The most bytes that a script may have (this project's profile).
 pub const SCRIPT_LIMIT: usize = 1_048_576;
 
 /// Where a script comes from.
@@ -15,12 +16,14 @@ pub trait ScriptIn {
     /// How often it has failed.
     ghost failures: { Self → ℕ };
 
-    /// Reads some bytes, at least one, or 0 at the end.
+    /// Reads bytes into the front of the buffer, and answers how many: at least one, or 0 at the end. The one refusal is
+    /// `Fault::Device`.
     fn read(&mut self, buffer: &mut [u8]) -> Result<usize, Fault>
         requires { 0 < length buffer.old }
         ensures count { IfOk result (λ n. n ≤ length buffer.old) }
         ensures bytes { IfOk result (λ n. Loses (left self.old) (take n buffer.new) (left self.new)) }
         ensures end { result ≡ Ok 0 → HasEnded (left self.old) }
+        ensures stays { OnErr result (Stays (left self.old) (left self.new)) }
         ensures cause { IfErr result (λ fault. fault ≡ Fault.Device) }
         ensures raised { OnErr result (Fails (failures self.old) (failures self.new)) }
         ensures kept { OnOk result (failures self.new ≡ failures self.old) };
@@ -33,12 +36,13 @@ pub trait ReportOut {
     /// How often it has failed.
     ghost failures: { Self → ℕ };
 
-    /// Takes some of the bytes, at least one.
+    /// Writes some of the bytes, from the first on, and answers how many: at least one. The one refusal is `Fault::Device`.
     fn write(&mut self, bytes: &[u8]) -> Result<usize, Fault>
         requires { 0 < length bytes.now }
         ensures some { IfOk result (λ n. 0 < n) }
         ensures count { IfOk result (λ n. n ≤ length bytes.now) }
         ensures bytes { IfOk result (λ n. Gains (written self.old) (take n bytes.now) (written self.new)) }
+        ensures stays { OnErr result (Stays (written self.old) (written self.new)) }
         ensures cause { IfErr result (λ fault. fault ≡ Fault.Device) }
         ensures raised { OnErr result (Fails (failures self.old) (failures self.new)) }
         ensures kept { OnOk result (failures self.new ≡ failures self.old) };
@@ -51,6 +55,7 @@ pub struct MemoryIn<'a> {
 }
 
 impl<'a> MemoryIn<'a> {
+    /// A script of this text.
     pub fn new(text: &'a [u8]) -> Self
         ensures { result.left.now ≡ text.entry.now }
     {
@@ -80,6 +85,7 @@ pub struct MemoryOut {
 }
 
 impl MemoryOut {
+    /// A writer that adds to this text.
     pub fn new(text: Vec<u8>) -> Self
         ensures text { result.text ≡ text }
         ensures failures { result.failures ≡ 0 }
@@ -87,6 +93,7 @@ impl MemoryOut {
         MemoryOut { text, failures: 0 }
     }
 
+    /// The text, with all that was written to it.
     pub fn text(&self) -> &[u8]
         ensures { result.now ≡ self.now.text.items }
     {
@@ -116,8 +123,10 @@ pub struct Process<R> {
 }
 
 impl<R> Process<R> {
+    /// The input or output of this handle, which hasn't failed yet.
     pub fn new(handle: R) -> Self
-        ensures { result.failures ≡ 0 }
+        ensures handle { result.handle ≡ handle }
+        ensures failures { result.failures ≡ 0 }
     {
         Process {
             handle,
@@ -127,6 +136,7 @@ impl<R> Process<R> {
 
     fn fail(&mut self) -> Fault
         ensures fault { result ≡ Fault.Device }
+        ensures handle { self.new.handle ≡ self.old.handle }
         ensures raised { Fails self.old.failures self.new.failures }
     {
         self.failures = self.failures.saturating_add(1);
@@ -135,10 +145,11 @@ impl<R> Process<R> {
 }
 
 impl<R: io::Read + Drop> ScriptIn for Process<R> {
-    ghost left = { λ _. None };
+    ghost left = { λ s. R.remaining s.handle };
 
     ghost failures = { λ s. s.failures };
 
+    #[tactic(auto, using(crate::proofs::DeviceLemmas::loses_consumed, crate::proofs::DeviceLemmas::has_ended, crate::proofs::DeviceLemmas::stays_kept))]
     fn read(&mut self, buffer: &mut [u8]) -> Result<usize, Fault> {
         match self.handle.read(buffer) {
             Ok(count) => Ok(count),
@@ -148,10 +159,11 @@ impl<R: io::Read + Drop> ScriptIn for Process<R> {
 }
 
 impl<R: io::Write + Drop> ReportOut for Process<R> {
-    ghost written = { λ _. None };
+    ghost written = { λ s. R.contents s.handle };
 
     ghost failures = { λ s. s.failures };
 
+    #[tactic(auto, using(crate::proofs::DeviceLemmas::gains_appended, crate::proofs::DeviceLemmas::stays_unwritten, crate::proofs::DeviceLemmas::stays_kept))]
     fn write(&mut self, bytes: &[u8]) -> Result<usize, Fault> {
         match self.handle.write(bytes) {
             Ok(count) if count > 0 => Ok(count),
@@ -160,13 +172,15 @@ impl<R: io::Write + Drop> ReportOut for Process<R> {
     }
 }
 
-/// Reads all there is, at most as much as a script may have.
+/// Reads all there is, at most 1,048,576 bytes: a byte more is `Fault::TooLong`. Else refused by `Fault::Device`, where the reader
+/// failed, or by `Fault::NoMemory`.
 pub fn read_script<R: ScriptIn>(alloc: Global, reader: &mut R) -> Result<Vec<u8>, Fault>
     ensures whole { IfOk result (λ text. IfSome (R.left reader.old) (λ all. text.items ≡ all)) }
     ensures limit { IfOk result (λ text. length text.items ≤ SCRIPT_LIMIT) }
     ensures too_long { IsErrOf result Fault.TooLong → IfSome (R.left reader.old) (λ all. SCRIPT_LIMIT < length all) }
     ensures device { IsErrOf result Fault.Device → Fails (R.failures reader.old) (R.failures reader.new) }
     ensures cause { IfErr result IsReadFault }
+    ensures kept { OnOk result (R.failures reader.new ≡ R.failures reader.old) }
 {
     let mut text = Vec::new(alloc);
     let mut buffer = [0u8; 4096];
@@ -182,7 +196,7 @@ pub fn read_script<R: ScriptIn>(alloc: Global, reader: &mut R) -> Result<Vec<u8>
     }
 }
 
-/// Writes the whole text.
+/// Writes the whole text. The one refusal is `Fault::Device`, where the writer failed; a part of the text may be written then.
 pub fn write_text<W: ReportOut>(writer: &mut W, text: &str) -> Result<(), Fault>
     ensures whole { OnOk result (Gains (W.written writer.old) text.now (W.written writer.new)) }
     ensures cause { IfErr result (λ fault. fault ≡ Fault.Device) }
@@ -196,7 +210,7 @@ pub fn write_text<W: ReportOut>(writer: &mut W, text: &str) -> Result<(), Fault>
     Ok(())
 }
 
-/// A reader or a writer that fails at its call of a number.
+/// A reader or a writer, for tests, that does a given number of calls and fails at each later one.
 #[derive(Drop)]
 pub struct FailsAt<D> {
     device: D,
@@ -205,7 +219,7 @@ pub struct FailsAt<D> {
 }
 
 impl<D> FailsAt<D> {
-    /// It fails at the call after so many, and again at each later one.
+    /// It does this many calls, and fails at each later one.
     pub fn new(device: D, calls: u64) -> Self
         ensures device { result.device ≡ device }
         ensures calls { result.calls_left ≡ calls }
@@ -247,7 +261,18 @@ impl ScriptIn for FailsAt<MemoryIn<'_>> {
 
     ghost failures = { λ s. s.failures };
 
-    fn read(&mut self, buffer: &mut [u8]) -> Result<usize, Fault> {
+    fn read(&mut self, buffer: &mut [u8]) -> Result<usize, Fault>
+        requires { 0 < length buffer.old }
+        ensures count { IfOk result (λ n. n ≤ length buffer.old) }
+        ensures bytes { IfOk result (λ n. Loses (Some self.old.device.left.now) (take n buffer.new) (Some self.new.device.left.now)) }
+        ensures end { result ≡ Ok 0 → HasEnded (Some self.old.device.left.now) }
+        ensures stays { OnErr result (Stays (Some self.old.device.left.now) (Some self.new.device.left.now)) }
+        ensures cause { IfErr result (λ fault. fault ≡ Fault.Device) }
+        ensures raised { OnErr result (Fails self.old.failures self.new.failures) }
+        ensures kept { OnOk result (self.new.failures ≡ self.old.failures) }
+        ensures counted { OnOk result (self.old.calls_left ≡ self.new.calls_left + 1) }
+        ensures spent { OnErr result ((self.old.calls_left ≡ 0) × (self.new.calls_left ≡ 0)) }
+    {
         self.count()?;
         self.device.read(buffer)
     }
@@ -258,7 +283,18 @@ impl ReportOut for FailsAt<MemoryOut> {
 
     ghost failures = { λ s. s.failures + s.device.failures };
 
-    fn write(&mut self, bytes: &[u8]) -> Result<usize, Fault> {
+    fn write(&mut self, bytes: &[u8]) -> Result<usize, Fault>
+        requires { 0 < length bytes.now }
+        ensures some { IfOk result (λ n. 0 < n) }
+        ensures count { IfOk result (λ n. n ≤ length bytes.now) }
+        ensures bytes { IfOk result (λ n. Gains (Some self.old.device.text.items) (take n bytes.now) (Some self.new.device.text.items)) }
+        ensures stays { OnErr result (Stays (Some self.old.device.text.items) (Some self.new.device.text.items)) }
+        ensures cause { IfErr result (λ fault. fault ≡ Fault.Device) }
+        ensures raised { OnErr result (Fails (self.old.failures + self.old.device.failures) (self.new.failures + self.new.device.failures)) }
+        ensures kept { OnOk result (self.new.failures + self.new.device.failures ≡ self.old.failures + self.old.device.failures) }
+        ensures counted { OnOk result (self.old.calls_left ≡ self.new.calls_left + 1) }
+        ensures spent { OnErr result (self.old.calls_left ≡ 0 → self.new.calls_left ≡ 0) }
+    {
         self.count()?;
         self.device.write(bytes)
     }

@@ -1,3 +1,4 @@
+//! The two nodes of a script, and what its lines do to them.
 ghost use Rattle.std.specs.Prelude.{◌≡◌, ◌≢◌, ◌++◌, ◌∷◌, [], ℕ, List, All, true, OnOk, OnErr, IfOk, IfErr, IsOkUnless, string_bytes, map, flat_map};
 ghost use Rattle.scp_core.specs.History.{Exchange, heard};
 ghost use Rattle.scp_core.specs.Theorem.{LedgerTheorem};

@@ -1,8 +1,12 @@
-ghost use Rattle.std.specs.Prelude.{◌≡◌, ◌≤◌, ◌≢◌, IfOk, OnOk, OnErr, IfErr, string_bytes, codes};
-ghost use Rattle.scp_line.specs.Outcome.{stage_word, fault_line, status_of, exit_of};
+//! What the program does and answers: `serve`, the line that tells a fault, the exit status.
+ghost use Rattle.std.specs.Prelude.{◌≡◌, ◌≤◌, ◌≢◌, ◌⊎◌, ℕ, List, IfOk, OnOk, OnErr, IfErr, length, string_bytes, codes};
+ghost use Rattle.scp_line.specs.Device.{Gains, Fails, IsAll};
+ghost use Rattle.scp_line.specs.Outcome.{stage_word, fault_line, status_of};
+ghost use Rattle.scp_line.specs.Play.{AreReports, IsShown};
+ghost use Rattle.scp_line.specs.Script.{IsScript};
 
 use crate::asked::{Asked, read_words};
-use crate::device::{ReportOut, ScriptIn, write_text};
+use crate::device::{ReportOut, SCRIPT_LIMIT, ScriptIn, write_text};
 use crate::playing::{PlayFault, check, play, show};
 use scp_types::{Fault, Stage};
 use std::alloc::{AllocError, Global};
@@ -28,7 +32,8 @@ fn line_of_stage(alloc: Global, node: u8, stage: Stage) -> Result<String, AllocE
     Ok(line)
 }
 
-/// The line that tells a fault.
+/// The line that tells a fault, with its line feed: `fault 12 line N`, `fault 10 node I`, `fault 13 node I STAGE`, or `fault` and the
+/// fault's number. The one refusal is want of memory.
 pub fn line_of_fault(alloc: Global, node: u8, fault: Fault) -> Result<String, AllocError>
     ensures { IfOk result (λ line. string_bytes line ≡ fault_line node fault) }
 {
@@ -43,7 +48,7 @@ pub fn line_of_fault(alloc: Global, node: u8, fault: Fault) -> Result<String, Al
     }
 }
 
-/// The exit status of a fault.
+/// The exit status of a fault: 1 where a script or a message was refused (`Malformed`, `TooLong`, `BadScript`), else 3.
 pub fn status(fault: Fault) -> u8
     ensures { result ≡ status_of fault }
 {
@@ -55,22 +60,14 @@ pub fn status(fault: Fault) -> u8
 
 /// Writes the line that tells a fault, if there is memory for it and the writer takes it, and answers the exit status.
 fn tell<W: ReportOut>(alloc: Global, fault: PlayFault, writer: &mut W) -> u8
-    ensures { result ≡ status_of fault.fault }
+    ensures status { result ≡ status_of fault.fault }
+    ensures refused { 1 ≤ result }
+    ensures told { (writer.new ≡ writer.old) ⊎ Gains (W.written writer.old) (fault_line fault.node fault.fault) (W.written writer.new) ⊎ Fails (W.failures writer.old) (W.failures writer.new) }
 {
     if let Ok(line) = line_of_fault(alloc, fault.node, fault.fault) {
         let _ = write_text(writer, line.as_str());
     }
     status(fault.fault)
-}
-
-/// The exit status of a call; a refusal is told.
-fn conclude<W: ReportOut>(alloc: Global, done: Result<(), PlayFault>, writer: &mut W) -> u8
-    ensures { result ≡ exit_of done }
-{
-    match done {
-        Ok(()) => 0,
-        Err(fault) => tell(alloc, fault, writer),
-    }
 }
 
 /// Does what the words of a command line ask for, the program's own name first, and answers the exit status: 0 done, 1
@@ -82,17 +79,30 @@ pub fn serve<R: ScriptIn, W: ReportOut>(
     reader: &mut R,
     writer: &mut W,
 ) -> u8
-    ensures { result ≤ 3 }
+    ensures status { result ≤ 3 }
+    // 0 is answered only where a script was played, a script was checked, or a message was shown.
+    ensures done { result ≡ 0 →
+        ((script text : List ℕ) × IsAll (R.left reader.old) script × (length script ≤ SCRIPT_LIMIT) × IsScript script × AreReports script text × Gains (W.written writer.old) text (W.written writer.new))
+        ⊎ (((script : List ℕ) × IsAll (R.left reader.old) script × (length script ≤ SCRIPT_LIMIT) × IsScript script) × Gains (W.written writer.old) (codes "ok\n") (W.written writer.new))
+        ⊎ ((digits : List ℕ) × ((text : List ℕ) × IsShown digits text × Gains (W.written writer.old) text (W.written writer.new))) }
 {
-    let done = match read_words(alloc, words) {
-        Ok(Asked::Run(mode)) => play(alloc, mode, reader, writer),
-        Ok(Asked::Check) => check(alloc, reader, writer),
-        Ok(Asked::Decode(hex)) => show(alloc, hex, writer),
+    match read_words(alloc, words) {
+        Ok(Asked::Run(mode)) => match play(alloc, mode, reader, writer) {
+            Ok(()) => 0,
+            Err(fault) => tell(alloc, fault, writer),
+        },
+        Ok(Asked::Check) => match check(alloc, reader, writer) {
+            Ok(()) => 0,
+            Err(fault) => tell(alloc, fault, writer),
+        },
+        Ok(Asked::Decode(hex)) => match show(alloc, hex, writer) {
+            Ok(()) => 0,
+            Err(fault) => tell(alloc, fault, writer),
+        },
         Ok(Asked::Usage) => {
             let _ = write_text(writer, "usage\n");
-            return 2;
+            2
         }
-        Err(fault) => Err(PlayFault::from(fault)),
-    };
-    conclude(alloc, done, writer)
+        Err(fault) => tell(alloc, PlayFault::from(fault), writer),
+    }
 }

@@ -1,3 +1,4 @@
+//! Playing a script, checking one, showing a message.
 ghost use Rattle.std.specs.Prelude.{◌≡◌, ◌≢◌, ◌++◌, IsOkUnless, ◌⊎◌, ◌<◌, ◌≤◌, ℕ, List, length, IfOk, IfErr, IfSome, OnOk, IsErrOf, Some, Err, string_bytes, codes};
 ghost use Rattle.scp_types.specs.declared.fault.Fault.TheVariants.{BadScript};
 ghost use Rattle.scp_wire.specs.Reading.{reading_of};
@@ -64,7 +65,7 @@ fn played(alloc: Global, text: &[u8]) -> Result<String, PlayFault>
 
 /// Plays a script: reads it whole, does what its lines say, and then writes the reports that they ask for. All that it
 /// writes is made before the first byte is written. The time grows with the script's length times the logarithm of the
-/// number of connections and keys.
+/// number of connections and keys. Refused as `check` refuses, and by `Failed` where a node failed, which is then named.
 pub fn play<R: ScriptIn, W: ReportOut>(
     alloc: Global,
     mode: Mode,
@@ -73,9 +74,9 @@ pub fn play<R: ScriptIn, W: ReportOut>(
 ) -> Result<(), PlayFault>
     // What was read is a script of at most 1,048,576 bytes, and what was written are its reports.
     ensures reports { OnOk result ((script text : List ℕ) × IsAll (R.left reader.old) script × (length script ≤ SCRIPT_LIMIT) × IsScript script × AreReports script text × Gains (W.written writer.old) text (W.written writer.new)) }
-    // Device is answered only where the reader or the writer failed.
+    // Device is answered only where the reader failed, and then nothing was written, or where the writer failed.
     ensures device { IfErr result (λ e. e.fault ≡ Fault.Device →
-        Fails (R.failures reader.old) (R.failures reader.new) ⊎ Fails (W.failures writer.old) (W.failures writer.new)) }
+        (Fails (R.failures reader.old) (R.failures reader.new) × (writer.new ≡ writer.old)) ⊎ Fails (W.failures writer.old) (W.failures writer.new)) }
     // TooLong is answered only of a script over the limit.
     ensures too_long { IfErr result (λ e. e.fault ≡ Fault.TooLong → IfSome (R.left reader.old) (λ all. SCRIPT_LIMIT < length all)) }
     // BadScript names the first bad line of a text within the limit.
@@ -96,7 +97,8 @@ pub fn play<R: ScriptIn, W: ReportOut>(
     Ok(write_text(writer, text.as_str())?)
 }
 
-/// Reads a script and writes `ok` if it is one. What `play` refuses in the lines it refuses in the same way.
+/// Reads a script and writes `ok` if it is one. What `play` refuses in the lines it refuses in the same way:
+/// `TooLong` over 1,048,576 bytes, `BadScript` with the first bad line, `Device` where the reader or the writer failed, `NoMemory`.
 pub fn check<R: ScriptIn, W: ReportOut>(
     alloc: Global,
     reader: &mut R,
@@ -107,7 +109,7 @@ pub fn check<R: ScriptIn, W: ReportOut>(
     // `ok` was written.
     ensures ok { OnOk result (Gains (W.written writer.old) (codes "ok\n") (W.written writer.new)) }
     ensures device { IfErr result (λ e. e.fault ≡ Fault.Device →
-        Fails (R.failures reader.old) (R.failures reader.new) ⊎ Fails (W.failures writer.old) (W.failures writer.new)) }
+        (Fails (R.failures reader.old) (R.failures reader.new) × (writer.new ≡ writer.old)) ⊎ Fails (W.failures writer.old) (W.failures writer.new)) }
     ensures too_long { IfErr result (λ e. e.fault ≡ Fault.TooLong → IfSome (R.left reader.old) (λ all. SCRIPT_LIMIT < length all)) }
     // BadScript names the first bad line of a text within the limit.
     ensures line { IfErr result (λ e. (line : ℕ) → e.fault ≡ BadScript line → IfSome (R.left reader.old) (λ all. (length all ≤ SCRIPT_LIMIT) × IsBadLine all line)) }
@@ -121,7 +123,7 @@ pub fn check<R: ScriptIn, W: ReportOut>(
     Ok(write_text(writer, "ok\n")?)
 }
 
-/// The message that the bytes spell.
+/// The message that the bytes spell. It answers what `decode` answers; its contract says that in the words of this crate.
 fn read_message(alloc: Global, bytes: &[u8]) -> Result<Message, Fault>
     ensures reading { IfOk result (λ message. reading_of bytes.now ≡ Some message) }
     ensures fits { IfOk result (λ message. Fits message_kind (message_value message)) }
@@ -148,7 +150,8 @@ fn shown(alloc: Global, hex: &str) -> Result<String, Fault>
     line_of(alloc, &message)
 }
 
-/// Shows the message that the digits spell, in one line.
+/// Shows the message that the digits spell, in one line. Refused by `Malformed(0)` where the word isn't digits, by the first fault of
+/// its bytes, by `Device` where the writer failed, or by `NoMemory`.
 pub fn show<W: ReportOut>(alloc: Global, hex: &str, writer: &mut W) -> Result<(), PlayFault>
     // The line is that of the message that the digits spell.
     ensures message { OnOk result ((text : List ℕ) × IsShown hex.now text × Gains (W.written writer.old) text (W.written writer.new)) }

@@ -1,3 +1,4 @@
+//! The text of a node's report.
 ghost use Rattle.std.specs.Prelude.{◌≡◌, ◌++◌, [], List, OnOk, IfOk, string_bytes, flat_map, if◌then◌else◌};
 ghost use Rattle.std.specs.Ordering.{is_eq};
 ghost use Rattle.std.specs.FinMap as map;

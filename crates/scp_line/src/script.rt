@@ -1,3 +1,4 @@
+//! What the lines of a script say.
 ghost use Rattle.std.specs.Prelude.{◌≡◌, All, IfOk, IfErr, OnOk};
 ghost use Rattle.scp_line.specs.Script.{commands_in, IsScript, NamesNode};
 ghost use Rattle.scp_line.specs.Outcome.{IsScriptFault};
@@ -17,7 +18,7 @@ use words::lines;
 /// What a line of a script says.
 #[derive(Debug, Drop)]
 pub enum Command {
-    /// There are two nodes, and so many of them are a quorum of each.
+    /// There are two nodes, and the quorum set of each is `quorum` of both, 1 or 2.
     Nodes { quorum: u8 },
     /// The node of this number has this quorum set.
     Set { node: u8, set: QuorumSet },
@@ -31,7 +32,8 @@ pub enum Command {
     Report(u8),
 }
 
-/// Reads a script, and gives its commands in their order. `BadScript` names the first bad line. It takes time in proportion to the text.
+/// Reads a script, and gives its commands in their order. `BadScript` names the first bad line. It takes time in
+/// proportion to the text.
 pub fn parse(alloc: Global, text: &[u8]) -> Result<Vec<Command>, Fault>
     // The text is a script.
     ensures script { OnOk result (IsScript text.now) }

@@ -1,4 +1,7 @@
 //! The program: plays or checks a script from standard input, or shows a message, and answers by its exit status.
+//!
+//! What it promises: it is safe and returns, and what it plays, checks and shows is what `play`, `check` and `show` of `scp_line`
+//! promise. Which words ask for what, and the statuses of the whole program, are shown by tests.
 #![tactic(auto)]
 
 use scp_line::{Process, serve, write_text};

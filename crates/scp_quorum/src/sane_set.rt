@@ -53,7 +53,7 @@ impl QuorumSet {
 }
 
 impl SaneSet {
-    /// 1 of this node. The one refusal is `Fault::NoMemory`.
+    /// The quorum set of threshold 1 whose one entry is this node. The one refusal is `Fault::NoMemory`.
     pub fn alone(alloc: Global, node: NodeId) -> Result<SaneSet, Fault>
         ensures value { IfOk result (λ alone. alone ≡ record { head = record { threshold = 1; validators = node ∷ [] }; inner = no_trees }) }
         ensures only_memory { IsOkUnless result Fault.NoMemory }

@@ -1,3 +1,4 @@
+//! An envelope in a box.
 ghost use Rattle.std.specs.Prelude.{◌≡◌, IfOk, IsOkUnless};
 
 use scp_envelope::Envelope;

@@ -1,3 +1,4 @@
+//! A message with its connection and its number there.
 ghost use Rattle.scp_wire.specs.Carried.{IsCarried, IsCarried-prop};
 
 use crate::message::Message;

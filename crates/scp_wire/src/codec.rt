@@ -1,3 +1,6 @@
+//! The spelling of link messages (RFC 4506; this project's profile).
+//!
+//! A `let _number = ..` that nothing uses tells the prover the range of that number.
 ghost use Rattle.std.specs.Prelude.{◌≡◌, ◌≢◌, ◌<◌, ◌^◌, length, IfOk, IfErr, IsErrOf, ◌↔◌, ◌⊎◌, Ok, Err, Some, None};
 ghost use Rattle.scp_xdr.specs.Kind.{Values};
 ghost use Rattle.scp_xdr.specs.Reading.{start, read_uint32};

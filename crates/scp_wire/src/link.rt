@@ -1,3 +1,5 @@
+//! What travels over a link.
+
 use crate::carried::Carried;
 use crate::message::Message;
 use scp_types::ConnId;
@@ -47,7 +49,8 @@ pub enum LinkItem {
 /// Why a connection ended.
 #[derive(Clone, Copy, Debug, PartialEq, Eq)]
 pub enum Cause {
-    /// Bytes came that are no message.
+    /// Bytes came that are no message, or an envelope that names another quorum set than the receiver's, which can't be
+    /// fetched yet.
     Malformed,
     /// The link was closed.
     Link,

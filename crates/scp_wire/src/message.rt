@@ -1,3 +1,4 @@
+//! The messages of a link.
 ghost use Rattle.std.specs.Prelude.{◌≡◌, IfOk, IsOkUnless};
 ghost use Rattle.scp_wire.specs.Carried.{is_carried};
 

@@ -19,11 +19,11 @@ pub trait Xdr: Drop {
 
     ghost value: { Self → Values kind };
 
-    /// Reads a value. A refusal leaves the reader anywhere.
+    /// Reads a value. Refused by the first fault of the bytes or by `Fault::NoMemory`; where the reader stands then is open.
     fn read(alloc: Global, reader: &mut Reader<'_>) -> Result<Self, Fault>
         ensures { Decodes value reader.new result (reading kind reader.old) };
 
-    /// Passes over a value without memory. A refusal leaves the reader anywhere.
+    /// Passes over a value without memory. Refused by the first fault of the bytes; where the reader stands then is open.
     fn pass(reader: &mut Reader<'_>) -> Result<(), Fault>
         ensures { GoesPast reader.new result (passing kind reader.old) };
 
@@ -31,12 +31,12 @@ pub trait Xdr: Drop {
     fn fits(&self) -> bool
         ensures { IsTrue result ↔ Fits kind (value self.now) };
 
-    /// Takes the length of the value's spelling off the room, without memory, whether the value fits
-    /// or not; nothing where the room is less.
+    /// How many of `room` bytes are left after the value's spelling, whether the value fits or not; `None` where the
+    /// spelling is longer. Takes no memory.
     fn spend(&self, room: usize) -> Option<usize>
         ensures { Leaves room result (spelled_len kind (value self.now)) };
 
-    /// Writes the value. A refusal leaves a part of it.
+    /// Writes the value. The one refusal is `Fault::NoMemory`, and a part of the value may be written then.
     fn write(&self, writer: &mut Writer) -> Result<(), Fault>
         requires { Fits kind (value self.now) }
         ensures { Extends writer.old writer.new result (spelling kind (value self.now)) };
@@ -77,8 +77,8 @@ pub fn is_spelling<T: Xdr>(bytes: &[u8]) -> bool
     check::<T>(bytes).is_ok()
 }
 
-/// The value that the bytes spell, all of the bytes. Their first fault is found before memory is
-/// taken.
+/// The value that the bytes spell, all of the bytes. Refused by their first fault, `Fault::Malformed` with its place or
+/// `Fault::TooLong`, which is found before memory is taken; else by `Fault::NoMemory`. Goes over the bytes twice.
 pub fn decode<T: Xdr>(alloc: Global, bytes: &[u8]) -> Result<T, Fault>
     ensures found { IfOk result (λ v. Spells T.kind bytes.now (T.value v)) }
     ensures only { (v : Values T.kind) → Spells T.kind bytes.now v → Gives T.value result (Ok v) }
@@ -101,7 +101,8 @@ fn write_whole<T: Xdr>(alloc: Global, capacity: usize, value: &T) -> Result<Vec<
     Ok(writer.into_vec())
 }
 
-/// The one spelling of the value.
+/// The one spelling of the value. `Fault::TooLong` exactly where the value breaks a limit of its kind, else
+/// `Fault::NoMemory`.
 pub fn encode<T: Xdr>(alloc: Global, value: &T) -> Result<Vec<u8>, Fault>
     ensures spells { IfOk result (λ bytes. Spells T.kind bytes.items (T.value value.now)) }
     ensures too_long { IsErrOf result Fault.TooLong ↔ ¬ (Fits T.kind (T.value value.now)) }
@@ -117,8 +118,8 @@ pub fn encode<T: Xdr>(alloc: Global, value: &T) -> Result<Vec<u8>, Fault>
     write_whole(alloc, capacity, value)
 }
 
-/// The one spelling of the value, where it has at most `limit` bytes. The limit is tested before
-/// memory is taken.
+/// The one spelling of the value, where it has at most `limit` bytes. `Fault::TooLong` exactly where it has more, or the
+/// value breaks a limit of its kind, which is tested before memory is taken; else `Fault::NoMemory`.
 pub fn encode_within<T: Xdr>(alloc: Global, limit: usize, value: &T) -> Result<Vec<u8>, Fault>
     ensures spells { IfOk result (λ bytes. Spells T.kind bytes.items (T.value value.now)) }
     ensures within { IfOk result (λ bytes. length bytes.items ≤ limit) }
@@ -146,7 +147,7 @@ fn read_times<T: Xdr>(alloc: Global, count: u32, reader: &mut Reader<'_>) -> Res
     Ok(items)
 }
 
-/// At most `max` values behind their count.
+/// At most `max` values, after their count (RFC 4506, section 4.13); a larger count is `Fault::TooLong`.
 pub fn read_array<T: Xdr>(alloc: Global, max: u32, reader: &mut Reader<'_>) -> Result<Vec<T>, Fault>
     ensures { Decodes (λ xs. map T.value xs.items) reader.new result (reading (array max T.kind) reader.old) }
 {
@@ -154,7 +155,7 @@ pub fn read_array<T: Xdr>(alloc: Global, max: u32, reader: &mut Reader<'_>) -> R
     read_times(alloc, count, reader)
 }
 
-/// A value behind a flag, or none.
+/// A value after a flag, or none (RFC 4506, section 4.19); another flag than 0 and 1 is `Fault::Malformed`.
 #[tactic(auto, unfolding(crate::specs::Reading::read_optional))]
 pub fn read_optional<T: Xdr>(alloc: Global, reader: &mut Reader<'_>) -> Result<Option<T>, Fault>
     ensures { Decodes (λ x. option_map T.value x) reader.new result (reading (optional T.kind) reader.old) }

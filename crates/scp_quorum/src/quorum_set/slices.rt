@@ -41,7 +41,8 @@ impl QuorumSet {
         missing == 0
     }
 
-    /// The first of the set's own nodes, as many as have the threshold among these.
+    /// The front of the set's own nodes up to the one with which as many as the threshold says are among these; `None`
+    /// where even all of them are too few.
     pub(crate) fn enough_of(&self, nodes: &BTreeSet<NodeId>) -> Option<&[NodeId]>
         ensures { IfSome result (λ head. self.now.head.threshold ≤ count_by (is_in nodes.now) head.now) }
     {
@@ -58,8 +59,7 @@ impl QuorumSet {
         None
     }
 
-    /// Whether the nodes outside these satisfy the set, which fails where more than the number of
-    /// entries less the threshold are blocked.
+    /// Whether the nodes that are none of these satisfy the set.
     fn is_satisfied_without(&self, nodes: &BTreeSet<NodeId>) -> bool
         ensures { IsTrue result ↔ Satisfies (outside (is_in nodes.now)) self.now }
     {
