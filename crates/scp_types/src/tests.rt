@@ -118,3 +118,14 @@ fn faults_have_their_numbers_and_texts(rt: HostRuntime) -> Result<(), Fail> {
     }
     Ok(())
 }
+
+#[test]
+fn long_values_and_ballots_of_counter_0_are_copied(rt: HostRuntime) -> Result<(), Fail> {
+    let value = value_of(rt.alloc(), &[7; 4_096])?;
+    let copy = value.copy()?;
+    assert_eq!(rt; copy.as_slice(), value.as_slice());
+    let ballot = Ballot { counter: 0, value };
+    let copy = ballot.copy()?;
+    assert!(rt; copy == ballot);
+    Ok(())
+}
