@@ -7,7 +7,7 @@ SCRIPT ?= examples/first_record.scp
 run:
 	@scripts/program run < examples/first_record.scp
 
-# the whole gate, then every script under examples/ against its stored report
+# the whole gate, then every script under examples/ against its stored report, and the calls of examples/*.calls
 test:
 	@scripts/gate
 

@@ -8,7 +8,7 @@ use Rattle.std.specs.declared.cmp.Ordering.TheVariants.{Less, Equal, Greater}
 use Rattle.std.proofs.lemmas.Cmp.{nat_list_cmp_total}
 use Rattle.std.proofs.lemmas.Map.Keys.{sorted_from_all_adjacent, Less-from_sorted}
 use Rattle.scp_envelope.specs.Ballots.{value_cmp}
-use Rattle.scp_envelope.proofs.Answered.{shown, refuted}
+use Rattle.scp_xdr.proofs.Answered.{shown, refuted}
 
 less : (o : Ordering) → true ≡ is_lt o → o ≡ Less
 less Less e = refl

@@ -3,12 +3,13 @@ use Rattle.std.proofs.Common.{◌≡◌, Option, Some, None, inl, inr, refl, ap}
 use Rattle.std.specs.Prelude.{option_map}
 use Rattle.scp_types.specs.declared.ballot.Ballot.{Ballot}
 use Rattle.scp_xdr.specs.Kind.{Values}
-use Rattle.scp_xdr.specs.Shared.{node_kind, ballot_kind, ballot_value}
+use Rattle.scp_xdr.specs.Shared.{ballot_kind, ballot_value}
+use Rattle.scp_xdr.proofs.Again.{node_value_again}
 use Rattle.scp_envelope.specs.declared.statement.Prepare.{Prepare}
 use Rattle.scp_envelope.specs.declared.statement.Pledges.{Pledges}
 use Rattle.scp_envelope.specs.declared.statement.Pledges.TheVariants.{Prepare as Preparing, Confirm as Confirming, Externalize as Externalizing, Nominate as Nominating}
 use Rattle.scp_envelope.specs.Kinds.{prepare_kind, prepare_value, pledges_kind, pledges_value}
-use Rattle.scp_envelope.specs.Envelopes.{ballot_of, prepare_of, pledges_of, node_of, EnvelopeIsItsValue, ValueIsAnEnvelopes}
+use Rattle.scp_envelope.specs.Envelopes.{ballot_of, prepare_of, pledges_of, EnvelopeIsItsValue, ValueIsAnEnvelopes}
 
 optional_again : (b : Option Ballot) → option_map ballot_of (option_map ballot_value b) ≡ b
 optional_again None = refl
@@ -36,10 +37,6 @@ pledges_value_again (inr (inl v)) = refl
 pledges_value_again (inr (inr (inl v))) = refl
 pledges_value_again (inr (inr (inr (inl v)))) = refl
 pledges_value_again (inr (inr (inr (inr v)))) = elim v [ ]
-
-node_value_again : (v : Values node_kind) → inl (node_of v).0 ≡ v
-node_value_again (inl v) = refl
-node_value_again (inr v) = elim v [ ]
 
 pub envelope_again : EnvelopeIsItsValue
 envelope_again e = λ i. record e { statement = record e.statement { pledges = pledges_again e.statement.pledges i } }

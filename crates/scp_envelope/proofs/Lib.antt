@@ -1,6 +1,5 @@
 pub mod Ballots
 pub mod Ascending
-pub mod Answered
 pub mod Growing
 pub mod NewerLaws
 pub mod Longer

@@ -2,9 +2,8 @@
 use Rattle.std.specs.Prelude.{◌≡◌, option_map}
 use Rattle.std.proofs.Common.{inl, inr}
 use Rattle.scp_types.specs.declared.ballot.Ballot.{Ballot}
-use Rattle.scp_types.specs.declared.names.NodeId.{NodeId}
 use Rattle.scp_xdr.specs.Kind.{Values}
-use Rattle.scp_xdr.specs.Shared.{node_kind, ballot_kind}
+use Rattle.scp_xdr.specs.Shared.{ballot_kind, node_of}
 use Rattle.scp_envelope.specs.declared.statement.Prepare.{Prepare}
 use Rattle.scp_envelope.specs.declared.statement.Confirm.{Confirm}
 use Rattle.scp_envelope.specs.declared.statement.Externalize.{Externalize}
@@ -49,10 +48,6 @@ pledges_of (inr (inl v)) = Confirming (confirm_of v)
 pledges_of (inr (inr (inl v))) = Externalizing (externalize_of v)
 pledges_of (inr (inr (inr (inl v)))) = Nominating (nominate_of v)
 pledges_of (inr (inr (inr (inr v)))) = elim v [ ]
-
-abbrev pub node_of : Values node_kind → NodeId
-node_of (inl v) = record { 0 = v }
-node_of (inr v) = elim v [ ]
 
 abbrev pub statement_of : Values statement_kind → Statement
 statement_of v = record { node = node_of v.0; slot = record { 0 = v.1.0 }; pledges = pledges_of v.1.1 }

@@ -1,5 +1,5 @@
 -- The quorum sets of a script's nodes.
-use Rattle.std.proofs.Common.{◌≡◌, ℕ, Bool, true, false, List, [], ◌∷◌, ◌++◌, length, map, nat_eq, Option, Some, None, IfSome, inl, inr, arith, refl, ap, All}
+use Rattle.std.proofs.Common.{◌≡◌, ℕ, Bool, true, false, List, [], ◌∷◌, ◌++◌, length, nat_eq, Option, Some, None, IfSome, inl, inr, arith, refl, ap, All}
 use Rattle.std.specs.Prelude.{◌≢◌, ◌⊎◌, Result, Ok, Err, IfErr, slice_index, flat_map, if◌then◌else◌}
 use Rattle.std.specs.Option.{unwrap_or}
 use Rattle.std.specs.List.{IsDistinct, last_or}
@@ -8,36 +8,20 @@ use Rattle.std.proofs.lemmas.List.Elements.{All-head, All-tail, All-cons, All-ni
 use Rattle.scp_types.specs.declared.names.NodeId.{NodeId}
 use Rattle.scp_types.specs.declared.fault.Fault.{Fault}
 use Rattle.scp_types.specs.declared.fault.Fault.TheVariants.{NoMemory, BadConfig}
-use Rattle.scp_xdr.specs.Tree.{Trees, no_trees, tree_then, row_map}
 use Rattle.scp_xdr.specs.Kind.{Values, Fits}
 use Rattle.scp_xdr.specs.Length.{padded_len, spelled_len}
-use Rattle.scp_xdr.specs.Shared.{node_kind}
+use Rattle.scp_xdr.specs.Shared.{node_kind, node_value}
 use Rattle.scp_xdr.specs.Reading.{reading_whole}
 use Rattle.scp_xdr.proofs.Lengths.{length_is}
-use Rattle.scp_quorum.specs.QuorumTree.{Level, QuorumTree}
-use Rattle.scp_quorum.specs.QuorumKind.{set_kind, node_value, level_value, set_value}
+use Rattle.scp_quorum.specs.QuorumTree.{QuorumTree}
+use Rattle.scp_quorum.specs.QuorumKind.{set_kind, set_value}
 use Rattle.scp_quorum.specs.Sane.{IsSane, IsInRange}
-use Rattle.scp_envelope.specs.Envelopes.{node_of}
-use Rattle.scp_wire.specs.Message.{level_of, set_of}
+use Rattle.scp_quorum.proofs.SetValues.{set_again}
 use Rattle.scp_line.specs.declared.script.Command.{Command}
 use Rattle.scp_line.specs.declared.script.Command.TheVariants.{Nodes, Set, Step, Ask, Settle, Report}
 use Rattle.scp_line.specs.Script.{IsNodeNumber, NamesNode, AreAdmitted, Admits, id_of, of_both, set_given, set_at, set_in}
 
 -- ---- what is read of a set is the set
-
-nodes_again : (nodes : List NodeId) → map node_of (map node_value nodes) ≡ nodes
-nodes_again [] = refl
-nodes_again (node ∷ nodes) = rw (nodes_again nodes) refl
-
-level_again : (l : Level) → level_of (level_value l) ≡ l
-level_again l = rw (nodes_again l.validators) refl
-
-row_again : (row : Trees Level) → row_map level_of (row_map level_value row) ≡ row
-row_again no_trees = refl
-row_again (tree_then level inner others) = rw (level_again level, row_again inner, row_again others) refl
-
-set_again : (set : QuorumTree) → set_of (set_value set) ≡ set
-set_again set = rw (level_again set.head, row_again set.inner) refl
 
 pub set_in_read : (bytes : List ℕ) (set : QuorumTree) → reading_whole set_kind bytes ≡ Ok (set_value set) → set_in (Some bytes) ≡ Some set
 set_in_read bytes set e = rw e (ap (λ (s : QuorumTree). Some s) (set_again set))

@@ -11,9 +11,8 @@ use Rattle.scp_types.specs.declared.names.NodeId.{NodeId}
 use Rattle.scp_xdr.specs.Tree.{no_trees}
 use Rattle.scp_xdr.specs.Reading.{reading_whole}
 use Rattle.scp_quorum.specs.QuorumTree.{QuorumTree}
-use Rattle.scp_quorum.specs.QuorumKind.{set_kind}
+use Rattle.scp_quorum.specs.QuorumKind.{set_kind, quorum_set_of}
 use Rattle.scp_quorum.specs.Sane.{IsSane}
-use Rattle.scp_wire.specs.Message.{set_of}
 use Rattle.scp_core.specs.declared.event.Event.{Event}
 use Rattle.scp_core.specs.declared.event.Event.TheVariants.{Open, Send, Close}
 use Rattle.scp_line.specs.declared.script.Command.{Command}
@@ -82,7 +81,7 @@ hex_bytes word = if same word (codes "-") then Some [] else digits_bytes word
 
 -- the quorum set that bytes spell, all of the bytes
 abbrev pub set_in : Option (List ℕ) → Option QuorumTree
-set_in (Some bytes) = option_map set_of (result_ok (reading_whole set_kind bytes))
+set_in (Some bytes) = option_map quorum_set_of (result_ok (reading_whole set_kind bytes))
 set_in None = None
 
 -- there are two nodes

@@ -6,10 +6,10 @@ use Rattle.scp_types.specs.declared.names.NodeId.{NodeId}
 use Rattle.scp_xdr.specs.Tree.{no_trees}
 use Rattle.scp_xdr.specs.Kind.{Values, Fits}
 use Rattle.scp_xdr.specs.Length.{padded_len, spelled_len}
-use Rattle.scp_xdr.specs.Shared.{node_kind}
+use Rattle.scp_xdr.specs.Shared.{node_kind, node_value}
 use Rattle.scp_xdr.proofs.Lengths.{length_is}
 use Rattle.scp_quorum.specs.QuorumTree.{QuorumTree}
-use Rattle.scp_quorum.specs.QuorumKind.{set_kind, node_value, set_value}
+use Rattle.scp_quorum.specs.QuorumKind.{set_kind, set_value}
 use Rattle.scp_quorum.specs.Sane.{IsSane}
 
 abbrev pub one : NodeId → QuorumTree

@@ -16,3 +16,4 @@ pub mod Whole
 pub mod Decided
 pub mod Levels
 pub mod Alike
+pub mod SetValues

@@ -1,20 +1,11 @@
 -- Thresholds that are in range, over the inner sets one at a time.
-use Rattle.std.proofs.Common.{◌≡◌, ◌↔◌, true, false, IsTrue, List, refl}
+use Rattle.std.proofs.Common.{List}
 use Rattle.std.specs.List.{All}
 use Rattle.std.proofs.lemmas.List.Elements.{recursion_from_All, All-from_recursion}
 use Rattle.scp_xdr.specs.Tree.{in_a_row}
 use Rattle.scp_quorum.specs.QuorumTree.{QuorumTree}
 use Rattle.scp_quorum.specs.Sane.{AreInRange, IsInRange}
 use Rattle.scp_quorum.proofs.Rows.{range_of_list, list_in_range}
-
-pub refuted : {P : Type 0} → (P → ⊥) → (IsTrue false ↔ P)
-refuted h = (λ e. absurd (apart e), λ p. absurd (h p))
-  where
-    apart : false ≡ true → ⊥
-    apart e = cc
-
-pub shown : {P : Type 0} → P → (IsTrue true ↔ P)
-shown p = (λ _. p, λ _. refl)
 
 pub each_in_range : (qs : List QuorumTree) → AreInRange (in_a_row qs) → All IsInRange qs
 each_in_range qs h = All-from_recursion IsInRange qs (list_in_range qs h)

@@ -8,11 +8,11 @@ use Rattle.scp_types.specs.declared.names.NodeId.{NodeId}
 use Rattle.scp_xdr.specs.Tree.{Trees, Tree, row_len, row_map, in_a_row, tree_of}
 use Rattle.scp_xdr.specs.Kind.{array, Values, Fits, TreeFits, RowFits, limit_at, word, spelling, row_spelling, tree_spelling}
 use Rattle.scp_xdr.specs.Length.{spelled_len, row_size, tree_size}
-use Rattle.scp_xdr.specs.Shared.{node_kind}
+use Rattle.scp_xdr.specs.Shared.{node_kind, node_value}
 use Rattle.scp_xdr.proofs.Rows.{row_len-in_a_row, row_map-in_a_row, row_spelling-in_a_row, row_size-in_a_row, row_fits, fits_row}
 use Rattle.scp_xdr.proofs.Spending.{sum_by-map}
 use Rattle.scp_quorum.specs.QuorumTree.{QuorumTree}
-use Rattle.scp_quorum.specs.QuorumKind.{level_kind, set_kind, node_value, level_value, set_value, set_spelling}
+use Rattle.scp_quorum.specs.QuorumKind.{level_kind, set_kind, level_value, set_value, set_spelling}
 
 abbrev pub made : ℕ → List NodeId → List QuorumTree → QuorumTree
 made k vs qs = tree_of (record { threshold = k; validators = vs }) qs

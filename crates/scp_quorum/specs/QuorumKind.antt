@@ -1,10 +1,8 @@
 -- The XDR of a quorum set (RFC 4506; the limits are this project's profile).
-use Rattle.std.specs.Prelude.{ℕ, List, map}
-use Rattle.std.proofs.Common.{inl}
-use Rattle.scp_types.specs.declared.names.NodeId.{NodeId}
+use Rattle.std.specs.Prelude.{◌≡◌, ℕ, List, map}
 use Rattle.scp_xdr.specs.Tree.{tree_map}
 use Rattle.scp_xdr.specs.Kind.{Kind, uint32, array, both, tree, Values, spelling}
-use Rattle.scp_xdr.specs.Shared.{node_kind}
+use Rattle.scp_xdr.specs.Shared.{node_kind, node_value, node_of}
 use Rattle.sha2.specs.Sha256.{sha256}
 use Rattle.scp_quorum.specs.QuorumTree.{Level, QuorumTree}
 
@@ -16,14 +14,25 @@ level_kind = both uint32 (array 1000 node_kind)
 abbrev pub set_kind : Kind
 set_kind = tree 4 1000 level_kind
 
-abbrev pub node_value : NodeId → Values node_kind
-node_value v = inl v.0
-
 abbrev pub level_value : Level → Values level_kind
 level_value l = (l.threshold, map node_value l.validators)
 
 abbrev pub set_value : QuorumTree → Values set_kind
 set_value q = tree_map level_value q
+
+-- back from the values of the kinds
+abbrev pub level_of : Values level_kind → Level
+level_of v = record { threshold = v.0; validators = map node_of v.1 }
+
+abbrev pub quorum_set_of : Values set_kind → QuorumTree
+quorum_set_of v = tree_map level_of v
+
+-- a quorum set is what its value says, and each value of the kind is that of a quorum set
+abbrev pub SetIsItsValue : Type 0
+SetIsItsValue = (q : QuorumTree) → quorum_set_of (set_value q) ≡ q
+
+abbrev pub ValueIsASets : Type 0
+ValueIsASets = (v : Values set_kind) → set_value (quorum_set_of v) ≡ v
 
 -- the one spelling of a quorum set
 abbrev pub set_spelling : QuorumTree → List ℕ

@@ -10,10 +10,12 @@
 //!   answered exactly where there is none.
 #![tactic(auto)]
 
+mod laws;
 mod quorum;
 mod quorum_set;
 mod sane_set;
 
+pub use laws::a_quorum_set_is_its_value;
 pub use quorum::greatest_quorum;
 pub use quorum_set::{QuorumSet, blocked, satisfied};
 pub use sane_set::SaneSet;

@@ -4,19 +4,12 @@ use Rattle.std.specs.Prelude.{IfOk, ◌↔◌}
 use Rattle.std.proofs.lemmas.List.{length-append, length-replicate}
 use Rattle.scp_types.specs.declared.fault.Fault.{Fault}
 use Rattle.scp_xdr.specs.Kind.{Values, Fits, Spells, spelling, word, long_word, padded, padding_len}
+use Rattle.scp_xdr.proofs.Lengths.{word_len, long_word_len}
 use Rattle.scp_quorum.specs.QuorumKind.{set_spelling}
 use Rattle.scp_envelope.specs.Kinds.{envelope_kind, envelope_value}
 use Rattle.scp_wire.specs.declared.message.Message.{Message}
 use Rattle.scp_wire.specs.declared.message.Message.TheVariants.{Envelope, GetSet, Set, NoSet, GetRecord, Record}
 use Rattle.scp_wire.specs.Message.{message_kind, message_value, SpellsMessage, FitsMessage, HasRanges, BreaksALimit}
-
-word_len : (n : ℕ) → length (word n) ≡ 4
-unfolding word
-word_len n = refl
-
-long_word_len : (n : ℕ) → length (long_word n) ≡ 8
-unfolding long_word
-long_word_len n = refl
 
 padded_len : (bytes : List ℕ) → length (padded bytes) ≤ length bytes + 3
 unfolding padded

@@ -1,50 +1,25 @@
 -- The reading of bytes is the message that they spell.
 use Rattle.std.proofs.Common.{◌≡◌, ◌≢◌, [], ◌∷◌, ℕ, ◌<◌, ◌≤◌, Bool, true, false, cond, ltb, List, length, Some, None, Result, Ok, Err, refl, sym, ap, ◌∙◌, inl, inr, ltb-false, le-ltb, lt-ltb}
-use Rattle.std.specs.Prelude.{IfOk, IfErr, map}
+use Rattle.std.specs.Prelude.{IfOk, IfErr}
 use Rattle.scp_types.specs.declared.fault.Fault.{Fault}
 use Rattle.scp_types.specs.declared.fault.Fault.TheVariants.{NoMemory, TooLong}
-use Rattle.scp_xdr.specs.Tree.{Trees, no_trees, tree_then, Tree, row_map, tree_map}
 use Rattle.scp_xdr.specs.Kind.{Values}
-use Rattle.scp_xdr.specs.Shared.{node_kind}
 use Rattle.scp_xdr.specs.Reading.{reading_whole}
 use Rattle.scp_xdr.specs.Words.{Gives}
 use Rattle.scp_xdr.proofs.Laws.{whole_found, whole_again}
-use Rattle.scp_quorum.specs.QuorumTree.{Level}
-use Rattle.scp_quorum.specs.QuorumKind.{level_kind, node_value, level_value}
+use Rattle.scp_quorum.proofs.SetValues.{set_again, set_value_again}
 use Rattle.scp_envelope.proofs.EnvelopeValues.{envelope_again, envelope_value_again}
 use Rattle.scp_wire.specs.declared.message.Message.{Message}
 use Rattle.scp_wire.specs.declared.message.Message.TheVariants.{Envelope, GetSet, Set, NoSet, GetRecord, Record}
-use Rattle.scp_envelope.specs.Envelopes.{node_of}
-use Rattle.scp_wire.specs.Message.{level_of, message_kind, message_value, message_of, message_reading, SpellsMessage}
+use Rattle.scp_wire.specs.Message.{message_kind, message_value, message_of, message_reading, SpellsMessage}
 use Rattle.scp_wire.specs.Reading.{message_in, reading_of, AreBytes, ReadingIsSpelt}
 
 -- ---- a message and its value
 
-row_again : {X Y : Type 0} (f : X → Y) (g : Y → X) → ((x : X) → g (f x) ≡ x) → (ts : Trees X) → row_map g (row_map f ts) ≡ ts
-row_again f g law no_trees = refl
-row_again f g law (tree_then x inner others) = rw (law x, row_again f g law inner, row_again f g law others) refl
-
-tree_again : {X Y : Type 0} (f : X → Y) (g : Y → X) → ((x : X) → g (f x) ≡ x) → (t : Tree X) → tree_map g (tree_map f t) ≡ t
-tree_again f g law t = rw (law t.head, row_again f g law t.inner) refl
-
-each_again : {X Y : Type 0} (f : X → Y) (g : Y → X) → ((x : X) → g (f x) ≡ x) → (xs : List X) → map g (map f xs) ≡ xs
-each_again f g law [] = refl
-each_again f g law (x ∷ xs) = rw (law x, each_again f g law xs) refl
-
-node_value_again : (v : Values node_kind) → node_value (node_of v) ≡ v
-node_value_again (inl bytes) = refl
-node_value_again (inr v) = elim v [ ]
-
-level_again : (l : Level) → level_of (level_value l) ≡ l
-level_again l = rw (each_again node_value node_of (λ n. refl) l.validators) refl
-
-level_value_again : (v : Values level_kind) → level_value (level_of v) ≡ v
-level_value_again v = rw (each_again node_of node_value node_value_again v.1) refl
-
 message_again : (m : Message) → message_of (message_value m) ≡ m
 message_again (Envelope envelope) = ap (λ e. Envelope (record { value = e })) (envelope_again envelope.value)
 message_again (GetSet hash) = refl
-message_again (Set set) = ap Set (tree_again level_value level_of level_again set)
+message_again (Set set) = ap Set (set_again set)
 message_again (NoSet hash) = refl
 message_again (GetRecord slot) = refl
 message_again (Record slot value) = refl
@@ -52,7 +27,7 @@ message_again (Record slot value) = refl
 value_again : (v : Values message_kind) → message_value (message_of v) ≡ v
 value_again (inl v) = ap (λ e. inl e) (envelope_value_again v)
 value_again (inr (inl v)) = refl
-value_again (inr (inr (inl v))) = ap (λ t. inr (inr (inl t))) (tree_again level_of level_value level_value_again v)
+value_again (inr (inr (inl v))) = ap (λ t. inr (inr (inl t))) (set_value_again v)
 value_again (inr (inr (inr (inl v)))) = refl
 value_again (inr (inr (inr (inr (inl v))))) = refl
 value_again (inr (inr (inr (inr (inr (inl v)))))) = refl

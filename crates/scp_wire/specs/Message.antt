@@ -1,16 +1,14 @@
 -- Link messages as values of a kind, and the limit on all of their bytes (this project's profile).
-use Rattle.std.specs.Prelude.{◌≡◌, ℕ, ◌^◌, ◌<◌, ◌≤◌, ◌⊎◌, List, length, map, Result, Err, nat_lt, if◌then◌else◌}
+use Rattle.std.specs.Prelude.{◌≡◌, ℕ, ◌^◌, ◌<◌, ◌≤◌, ◌⊎◌, List, length, Result, Err, nat_lt, if◌then◌else◌}
 use Rattle.std.proofs.Common.{inl, inr}
 use Rattle.scp_types.specs.declared.fault.Fault.{Fault}
 use Rattle.scp_types.specs.declared.fault.Fault.TheVariants.{TooLong}
 use Rattle.scp_xdr.specs.Kind.{Kind, uint64, both, union, no_arm, arm, Values, Spells, Fits, spelling}
-use Rattle.scp_xdr.specs.Tree.{tree_map}
 use Rattle.scp_xdr.specs.Reading.{reading_whole}
 use Rattle.scp_xdr.specs.Shared.{value_kind, hash_kind}
-use Rattle.scp_quorum.specs.QuorumTree.{Level, QuorumTree}
-use Rattle.scp_quorum.specs.QuorumKind.{level_kind, set_kind, set_value, set_spelling}
+use Rattle.scp_quorum.specs.QuorumKind.{set_kind, set_value, set_spelling, quorum_set_of}
 use Rattle.scp_envelope.specs.Kinds.{envelope_kind, envelope_value}
-use Rattle.scp_envelope.specs.Envelopes.{node_of, envelope_of}
+use Rattle.scp_envelope.specs.Envelopes.{envelope_of}
 use Rattle.scp_wire.specs.declared.message.Message.{Message}
 use Rattle.scp_wire.specs.declared.message.Message.TheVariants.{Envelope, GetSet, Set, NoSet, GetRecord, Record}
 
@@ -25,17 +23,11 @@ message_value (NoSet hash) = inr (inr (inr (inl hash.0)))
 message_value (GetRecord slot) = inr (inr (inr (inr (inl slot.0))))
 message_value (Record slot value) = inr (inr (inr (inr (inr (inl (slot.0, value))))))
 
--- back from the values of kinds
-abbrev pub level_of : Values level_kind → Level
-level_of v = record { threshold = v.0; validators = map node_of v.1 }
-
-abbrev pub set_of : Values set_kind → QuorumTree
-set_of v = tree_map level_of v
-
+-- back from the values of the kind
 abbrev pub message_of : Values message_kind → Message
 message_of (inl envelope) = Envelope (record { value = envelope_of envelope })
 message_of (inr (inl hash)) = GetSet (record { 0 = hash })
-message_of (inr (inr (inl set))) = Set (set_of set)
+message_of (inr (inr (inl set))) = Set (quorum_set_of set)
 message_of (inr (inr (inr (inl hash)))) = NoSet (record { 0 = hash })
 message_of (inr (inr (inr (inr (inl slot))))) = GetRecord (record { 0 = slot })
 message_of (inr (inr (inr (inr (inr (inl v)))))) = Record (record { 0 = v.0 }) v.1

@@ -13,7 +13,7 @@ pub word_len : (n : ℕ) → length (word n) ≡ 4
 unfolding word
 word_len n = refl
 
-long_word_len : (n : ℕ) → length (long_word n) ≡ 8
+pub long_word_len : (n : ℕ) → length (long_word n) ≡ 8
 unfolding long_word
 long_word_len n = refl
 

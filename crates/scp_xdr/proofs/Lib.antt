@@ -9,3 +9,5 @@ pub mod Within
 pub mod Loops
 pub mod Spending
 pub mod Each
+pub mod Again
+pub mod Answered

@@ -1,5 +1,7 @@
 -- The kinds of the types that all crates share.
+use Rattle.std.proofs.Common.{inl, inr}
 use Rattle.scp_types.specs.declared.ballot.Ballot.{Ballot}
+use Rattle.scp_types.specs.declared.names.NodeId.{NodeId}
 use Rattle.scp_xdr.specs.Kind.{Kind, uint32, fixed, opaque, both, union, no_arm, arm, Values}
 
 abbrev pub value_kind : Kind
@@ -11,6 +13,14 @@ hash_kind = fixed 32
 -- PUBLIC_KEY_TYPE_ED25519
 abbrev pub node_kind : Kind
 node_kind = union (arm 0 (fixed 32) no_arm)
+
+abbrev pub node_value : NodeId → Values node_kind
+node_value n = inl n.0
+
+-- back from the values of the kind
+abbrev pub node_of : Values node_kind → NodeId
+node_of (inl v) = record { 0 = v }
+node_of (inr v) = elim v [ ]
 
 abbrev pub ballot_kind : Kind
 ballot_kind = both uint32 value_kind

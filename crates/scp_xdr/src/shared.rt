@@ -1,8 +1,7 @@
 //! The spellings of the types that all crates share.
 //!
 //! A `let _name = ..` that nothing uses tells the prover the range of that number, or the length of these bytes.
-ghost use Rattle.scp_xdr.specs.Shared.{value_kind, hash_kind, node_kind, ballot_kind, ballot_value};
-ghost use Rattle.std.proofs.Common.{inl};
+ghost use Rattle.scp_xdr.specs.Shared.{value_kind, hash_kind, node_kind, node_value, ballot_kind, ballot_value};
 
 use crate::reader::Reader;
 use crate::room::{spend_fixed, spend_opaque, spend_u32};
@@ -74,7 +73,7 @@ impl Xdr for Hash {
 impl Xdr for NodeId {
     ghost kind = { node_kind };
 
-    ghost value = { λ n. inl n.0 };
+    ghost value = { node_value };
 
     fn read(_alloc: Global, reader: &mut Reader<'_>) -> Result<NodeId, Fault> {
         let place = reader.place();

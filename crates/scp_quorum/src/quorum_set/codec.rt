@@ -5,7 +5,8 @@ ghost use Rattle.scp_xdr.specs.Length.{spelled_len};
 ghost use Rattle.scp_xdr.specs.Reading.{reading, read_inner as read_inner_at};
 ghost use Rattle.scp_xdr.specs.Passing.{passing, pass_inner as pass_inner_at};
 ghost use Rattle.scp_xdr.specs.Words.{Decodes, GoesPast, Leaves, Extends};
-ghost use Rattle.scp_quorum.specs.QuorumKind.{level_kind, set_kind, node_value, level_value, set_value};
+ghost use Rattle.scp_xdr.specs.Shared.{node_value};
+ghost use Rattle.scp_quorum.specs.QuorumKind.{level_kind, set_kind, level_value, set_value};
 
 use super::QuorumSet;
 use scp_types::{Fault, NodeId};

@@ -5,10 +5,9 @@ use Rattle.std.proofs.lemmas.Grind.{common_steps}
 use Rattle.std.proofs.lemmas.List.Elements.{All-more, All-from_recursion, recursion_from_All}
 use Rattle.scp_types.specs.declared.names.NodeId.{NodeId}
 use Rattle.scp_xdr.specs.Kind.{Fits, array, limit_at}
-use Rattle.scp_xdr.specs.Shared.{node_kind}
+use Rattle.scp_xdr.specs.Shared.{node_kind, node_value}
 use Rattle.scp_quorum.specs.QuorumTree.{QuorumTree}
-use Rattle.scp_quorum.specs.QuorumKind.{node_value}
-use Rattle.scp_quorum.proofs.Ranges.{refuted, shown}
+use Rattle.scp_xdr.proofs.Answered.{refuted, shown}
 use Rattle.scp_quorum.proofs.Whole.{FitsAt, made_fits, made_few, made_each, limit_none, limit_some, limit_le}
 use Rattle.scp_quorum.proofs.quorum_set.QuorumSet.+fits_at.Goals as goal
 use Rattle.scp_quorum.proofs.quorum_set.QuorumSet.+fits_at.Goals.{then-levels-eq0, else-levels-eq0, then-not-array_fits-via-then-not-array_fits, then-not-array_fits-via-else-not-array_fits+then-len-limit}

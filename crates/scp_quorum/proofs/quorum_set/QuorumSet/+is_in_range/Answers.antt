@@ -5,7 +5,8 @@ use Rattle.std.specs.List.{All}
 use Rattle.scp_quorum.specs.QuorumTree.{QuorumTree}
 use Rattle.scp_quorum.specs.Sane.{IsInRange}
 use Rattle.scp_xdr.proofs.Rows.{row_len-in_a_row}
-use Rattle.scp_quorum.proofs.Ranges.{refuted, shown, each_in_range, all_in_range}
+use Rattle.scp_xdr.proofs.Answered.{refuted, shown}
+use Rattle.scp_quorum.proofs.Ranges.{each_in_range, all_in_range}
 use Rattle.scp_quorum.proofs.quorum_set.QuorumSet.+is_in_range.Goals as goal
 use Rattle.scp_quorum.proofs.quorum_set.QuorumSet.+is_in_range.Goals.{then-self-eq0-via-then-self-eq0, then-self-eq0-via-else-self-eq0+then-self-entries}
 

@@ -8,9 +8,9 @@ use Rattle.std.proofs.lemmas.List.Elements.{All-from_recursion}
 use Rattle.scp_types.specs.declared.names.NodeId.{NodeId}
 use Rattle.scp_xdr.specs.Tree.{in_a_row}
 use Rattle.scp_xdr.specs.Kind.{array, word, spelling}
-use Rattle.scp_xdr.specs.Shared.{node_kind}
+use Rattle.scp_xdr.specs.Shared.{node_kind, node_value}
 use Rattle.scp_quorum.specs.QuorumTree.{QuorumTree}
-use Rattle.scp_quorum.specs.QuorumKind.{node_value, set_spelling}
+use Rattle.scp_quorum.specs.QuorumKind.{set_spelling}
 use Rattle.scp_quorum.proofs.Whole.{made, FitsAt, made_few, made_each, made_text, limit_le, put_behind, put_two}
 use Rattle.scp_quorum.proofs.quorum_set.QuorumSet.+write_at.Goals as goal
 

@@ -6,7 +6,8 @@ use Rattle.scp_xdr.specs.Tree.{Tree}
 use Rattle.scp_xdr.specs.Kind.{Values}
 use Rattle.scp_xdr.specs.Reading.{read_items}
 use Rattle.scp_xdr.proofs.Loops.{goes_on, ends, is_done}
-use Rattle.scp_quorum.specs.QuorumKind.{level_kind, node_value, set_value}
+use Rattle.scp_xdr.specs.Shared.{node_value}
+use Rattle.scp_quorum.specs.QuorumKind.{level_kind, set_value}
 use Rattle.scp_quorum.proofs.Inner.{set_at, inner_none, inner_deep, inner_some, inner_refused, set_read}
 use Rattle.scp_quorum.proofs.Whole.{set_is}
 use Rattle.scp_quorum.proofs.quorum_set.codec.+reading.Goals as goal

@@ -1,5 +1,5 @@
 use Rattle.std.proofs.Common.{sym, ◌∙◌}
-use Rattle.scp_quorum.proofs.Ranges.{refuted, shown}
+use Rattle.scp_xdr.proofs.Answered.{refuted, shown}
 use Rattle.scp_quorum.proofs.Ascending.{all_ascend, one_more, not_ascending}
 use Rattle.scp_quorum.proofs.quorum_set.sane.is_ascending.Goals as goal
 
