@@ -5,9 +5,13 @@ use scp_wire::{MESSAGE_LIMIT, Message, encode};
 use std::alloc::Global;
 use std::test::Fail;
 
+mod again;
 mod envelopes;
 mod fresh;
+mod long;
 mod said;
+mod sets;
+mod values;
 
 use said::{Said, envelope, request};
 

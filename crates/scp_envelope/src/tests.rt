@@ -4,11 +4,13 @@ use super::*;
 use scp_types::{Ballot, Fault, Hash, NodeId, Slot, Value};
 use std::alloc::Global;
 
+mod again;
 mod claimed;
 mod copied;
 mod nominated;
 mod ordered;
 mod sane;
+mod shapes;
 mod spelt;
 
 type Short = (u32, u8);

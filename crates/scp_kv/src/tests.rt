@@ -1,3 +1,6 @@
+mod again;
+mod many;
+
 use super::*;
 use scp_types::{Fault, Value};
 use scp_xdr::{decode, encode};

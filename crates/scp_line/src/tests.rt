@@ -1,4 +1,7 @@
+mod again;
 mod decoding;
+mod devices;
+mod long;
 
 use crate::{FailsAt, MemoryIn, MemoryOut, Mode, PlayFault, SCRIPT_LIMIT, check, play, serve};
 use scp_types::Fault;

@@ -8,6 +8,7 @@ pub mod Groups
 pub mod Joining
 pub mod Same
 pub mod Known
+pub mod Table
 pub mod Ranges
 pub mod Alone
 pub mod Inner

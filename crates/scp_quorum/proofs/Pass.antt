@@ -97,5 +97,9 @@ module _ (sets : NodeId → Option QuorumTree) (old now : NodeId → Bool) (e : 
       remains true n h = cc
       remains false n h = h
 
+-- one more entry, whose set the nodes satisfy
+pub pass_satisfied : (m : BTreeMap NodeId (Arc SaneSet Global)) (nodes : NodeId → Bool) (e : NodeId × Arc SaneSet Global) (rest : Entries) → node_map.get node_cmp m e.0 ≡ Some e.1 → Satisfies nodes e.1.value → IsPass (set_of m) nodes nodes false (e ∷ rest) → IsPass (set_of m) nodes nodes false rest
+pass_satisfied m nodes e rest item here pass = pass_by (set_of m) nodes nodes e rest (set_of-entry m e item) false (λ _. here) pass
+
 pub pass_end : (sets : NodeId → Option QuorumTree) (old now : NodeId → Bool) → IsPass sets old now false [] → SatisfyThemselves sets now
 pass_end sets old now pass v has = pass.settled refl v has refl

@@ -2,6 +2,7 @@
 mod counts;
 mod groups;
 pub(crate) mod passes;
+mod table;
 
 ghost use Rattle.std.specs.Prelude.{◌≡◌, ◌↔◌, ◌<◌, ◌≤◌, IfOk, IfNone, IfSome, OnOk, IsTrue, IsOkUnless, Option};
 ghost use Rattle.std.specs.Bool.{OnFalse, OnTrue};
@@ -22,11 +23,13 @@ use scp_types::{Fault, NodeId};
 use std::alloc::{AllocError, Global};
 use std::collections::{BTreeMap, BTreeSet};
 use std::sync::Arc;
+use table::KnownNodes;
 
 /// The union of the quorums at `me` inside the nodes that have a set here, which is one of them (the
 /// SCP draft); None exactly where there is none. Takes memory for these nodes and for what names them,
-/// and the one refusal is `Fault::NoMemory`. Costs a few look-ups for each node, and for each node of
-/// each distinct set, however many nodes share it and however long the fall of one after another is.
+/// and the one refusal is `Fault::NoMemory`. Costs at most one look into a table for each node of each
+/// set, and a few look-ups for each node and for each node of each distinct set, however many nodes
+/// share it and however long the fall of one after another is.
 pub fn greatest_quorum(
     alloc: Global,
     me: NodeId,
@@ -56,9 +59,11 @@ fn settle(
     ensures kept { OnOk result (KeepsQuorums (set_of sets.now) (is_in remaining.old) (is_in remaining.new)) }
     ensures settled { OnOk result (SatisfyThemselves (set_of sets.now) (is_in remaining.new)) }
 {
-    if are_alike_and_satisfied(sets, remaining) {
+    let known = KnownNodes::of(alloc, remaining)?;
+    if are_all_satisfied(sets, &known) {
         return Ok(());
     }
+    drop(known);
     let groups = group_nodes(alloc, sets)?;
     while remove_unsatisfied(&groups, remaining) {
         follow_counts(alloc, &groups, remaining)?;
@@ -66,23 +71,23 @@ fn settle(
     Ok(())
 }
 
-/// Whether all sets begin with the same nodes, of which so many are among these that each set is
-/// satisfied. Where all nodes share a set, this spares grouping them; a false says nothing.
-fn are_alike_and_satisfied(sets: &BTreeMap<NodeId, Arc<SaneSet>>, nodes: &BTreeSet<NodeId>) -> bool
+/// Whether these nodes satisfy each set, so that nothing has to be grouped or removed; a false says
+/// nothing. A set's nodes aren't looked up where it begins with those that were enough for one before.
+fn are_all_satisfied(sets: &BTreeMap<NodeId, Arc<SaneSet>>, nodes: &KnownNodes<'_>) -> bool
     requires { AllHaveSets (set_of sets.now) (is_in nodes.now) }
     ensures { OnTrue result (SatisfyThemselves (set_of sets.now) (is_in nodes.now)) }
 {
-    let Some((_, first)) = sets.first_key_value() else {
-        return false;
-    };
-    let first = first.set();
-    let Some(head) = first.enough_of(nodes) else {
-        return false;
-    };
-    let threshold = first.threshold();
+    let mut head: &[NodeId] = &[];
+    let mut threshold = 0;
     for (_, set) in sets {
         let set = set.set();
-        if threshold < set.threshold() || !set.begins_with(head) {
+        if set.threshold() <= threshold && set.begins_with(head) {
+            continue;
+        }
+        if let Some(found) = set.enough_of(nodes) {
+            head = found;
+            threshold = set.threshold();
+        } else if !set.is_satisfied_by(nodes) {
             return false;
         }
     }

@@ -14,6 +14,7 @@ ghost use Rattle.sha2.specs.Sha256.{sha256};
 
 use scp_types::{Fault, Hash, NodeId};
 use sha2::{Digest, Sha256};
+pub(crate) use slices::NodeTest;
 pub use slices::{blocked, satisfied};
 use std::alloc::{AllocError, Global};
 use std::marker::Model;

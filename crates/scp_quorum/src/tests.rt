@@ -1,5 +1,8 @@
+mod again;
 mod limits;
+mod many;
 mod random;
+mod shapes;
 
 use super::*;
 use scp_types::{Fault, Hash, NodeId};

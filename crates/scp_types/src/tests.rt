@@ -1,3 +1,6 @@
+mod again;
+mod copies;
+
 use super::*;
 use std::cmp::Ordering;
 use std::collections::{BTreeMap, BTreeSet};

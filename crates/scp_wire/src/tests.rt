@@ -4,7 +4,9 @@ use scp_types::{ConnId, Fault, Hash, NodeId, Seq, Slot, Value};
 use std::alloc::Global;
 use std::test::*;
 
+mod again;
 mod envelopes;
+mod kinds;
 
 /// The record of slot 1 whose value is the operation list "put a 1".
 const RECORD: [u8; 40] = [

@@ -1,6 +1,10 @@
+mod again;
+mod sizes;
+
 use super::*;
 use scp_types::{Ballot, Fault, Hash, NodeId, Value};
 use std::alloc::Global;
+use std::process::Abort;
 use std::test::*;
 
 /// The file of RFC 4506, section 7.3: "sillyprog", of kind EXEC with interpreter "lisp", owned by
@@ -13,6 +17,46 @@ const SILLYPROG: [u8; 48] = [
 
 fn value_of(alloc: Global, bytes: &[u8]) -> Result<Value, Fault> {
     Ok(Value::new(Vec::from_slice(alloc, bytes)?))
+}
+
+/// So many values of so many bytes.
+fn equal_values(alloc: Global, count: usize, len: usize) -> Result<Vec<Value>, Fault> {
+    let mut values = Vec::new(alloc);
+    for _ in 0..count {
+        values.push(Value::new(vec![in alloc; 7; len]?))?;
+    }
+    Ok(values)
+}
+
+/// The refusal of a call; want of memory is handed on.
+fn refusal<T: Drop>(outcome: Result<T, Fault>) -> Result<Option<Fault>, Fault> {
+    match outcome.err() {
+        Some(Fault::NoMemory) => Err(Fault::NoMemory),
+        fault => Ok(fault),
+    }
+}
+
+/// What is read of the bytes as a part of a value.
+fn read_of<T: Xdr>(alloc: Global, bytes: &[u8]) -> Result<T, Fault> {
+    T::read(alloc, &mut Reader::new(bytes))
+}
+
+/// The value's spelling has this length, within a limit too, and the value is read of it twice.
+fn is_written_and_read<T: Xdr + PartialEq>(
+    rt: &impl Abort,
+    alloc: Global,
+    value: &T,
+    len: usize,
+) -> Result<(), Fault> {
+    let bytes = encode(alloc, value)?;
+    assert_eq!(rt; bytes.len(), len);
+    let within = encode_within(alloc, len, value)?;
+    assert_eq!(rt; within.as_slice(), bytes.as_slice());
+    for _ in 0..2 {
+        let read = decode::<T>(alloc, &bytes)?;
+        assert!(rt; read == *value);
+    }
+    Ok(())
 }
 
 #[test]

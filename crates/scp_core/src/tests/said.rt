@@ -129,14 +129,24 @@ pub fn envelope(alloc: Global, node: NodeId, slot: u64, said: &Said<'_>) -> Resu
     spelt(alloc, node, slot, pledges)
 }
 
+/// An envelope of the peer that names the quorum set of this hash.
+pub fn envelope_naming(
+    alloc: Global,
+    set_hash: Hash,
+    slot: u64,
+    said: &Said<'_>,
+) -> Result<Vec<u8>, Fault> {
+    let pledges = pledges(alloc, set_hash, said)?;
+    spelt(alloc, PEER, slot, pledges)
+}
+
 /// An envelope that names another quorum set.
 pub fn envelope_of_another_set(
     alloc: Global,
     slot: u64,
     said: &Said<'_>,
 ) -> Result<Vec<u8>, Fault> {
-    let pledges = pledges(alloc, Hash([7; 32]), said)?;
-    spelt(alloc, PEER, slot, pledges)
+    envelope_naming(alloc, Hash([7; 32]), slot, said)
 }
 
 /// What asks for the record of a slot.

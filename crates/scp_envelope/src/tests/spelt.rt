@@ -3,7 +3,7 @@ use std::process::Abort;
 use std::test::*;
 
 /// A PREPARE of ballot (3, a), prepared (2, ab), preparedPrime (1, no bytes), nC 0 and nH 2.
-const PREPARE: [u8; 136] = [
+pub(super) const PREPARE: [u8; 136] = [
     0, 0, 0, 0, // the node
     1, 1, 1, 1, 1, 1, 1, 1, 1, 1, 1, 1, 1, 1, 1, 1, 1, 1, 1, 1, 1, 1, 1, 1, 1, 1, 1, 1, 1, 1, 1, 1,
     0, 0, 0, 0, 0, 0, 0, 1, // the slot
@@ -27,7 +27,7 @@ const PREPARE: [u8; 136] = [
 ];
 
 /// A CONFIRM of ballot (3, a), nPrepared 4, nCommit 2 and nH 3.
-const CONFIRM: [u8; 108] = [
+pub(super) const CONFIRM: [u8; 108] = [
     0, 0, 0, 0, // the node
     1, 1, 1, 1, 1, 1, 1, 1, 1, 1, 1, 1, 1, 1, 1, 1, 1, 1, 1, 1, 1, 1, 1, 1, 1, 1, 1, 1, 1, 1, 1, 1,
     0, 0, 0, 0, 0, 0, 0, 1, // the slot
@@ -44,7 +44,7 @@ const CONFIRM: [u8; 108] = [
 ];
 
 /// An EXTERNALIZE of commit (3, a) and the greatest nH.
-const EXTERNALIZE: [u8; 104] = [
+pub(super) const EXTERNALIZE: [u8; 104] = [
     0, 0, 0, 0, // the node
     1, 1, 1, 1, 1, 1, 1, 1, 1, 1, 1, 1, 1, 1, 1, 1, 1, 1, 1, 1, 1, 1, 1, 1, 1, 1, 1, 1, 1, 1, 1, 1,
     0, 0, 0, 0, 0, 0, 0, 1, // the slot
@@ -60,7 +60,7 @@ const EXTERNALIZE: [u8; 104] = [
 ];
 
 /// A NOMINATE with one vote, the operation list "put a 1".
-const NOMINATE: [u8; 120] = [
+pub(super) const NOMINATE: [u8; 120] = [
     0, 0, 0, 0, // the node
     1, 1, 1, 1, 1, 1, 1, 1, 1, 1, 1, 1, 1, 1, 1, 1, 1, 1, 1, 1, 1, 1, 1, 1, 1, 1, 1, 1, 1, 1, 1, 1,
     0, 0, 0, 0, 0, 0, 0, 1, // the slot

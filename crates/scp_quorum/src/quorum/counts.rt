@@ -4,6 +4,7 @@
 //! A set falls here where its count says that it isn't satisfied any more.
 
 use super::groups::{Group, has_member};
+use super::table::NodeTable;
 use crate::quorum_set::QuorumSet;
 use scp_types::NodeId;
 use std::alloc::{AllocError, Global};
@@ -36,8 +37,8 @@ struct Naming {
 /// The counts of all sets, and what names each node.
 #[derive(Drop)]
 pub(crate) struct Counts {
-    /// The nodes that remain, which ascend.
-    nodes: Vec<NodeId>,
+    /// The nodes that remain.
+    nodes: NodeTable,
     /// The last naming of each of them.
     last_namings: Vec<Option<usize>>,
     namings: Vec<Naming>,
@@ -53,7 +54,7 @@ impl Counts {
         groups: &[Group<'_>],
         remaining: &BTreeSet<NodeId>,
     ) -> Result<Counts, AllocError> {
-        let nodes: Vec<NodeId> = remaining.iter().copied().collect(alloc)?;
+        let nodes = NodeTable::of(alloc, remaining)?;
         let last_namings = vec![in alloc; None; nodes.len()]?;
         let mut counts = Counts {
             nodes,
@@ -96,8 +97,8 @@ impl Counts {
     }
 
     fn last_naming(&self, node: &NodeId) -> Option<usize> {
-        let index = self.nodes.binary_search(node).ok()?;
-        *self.last_namings.get(index)?
+        let place = self.nodes.place_of(node)?;
+        *self.last_namings.get(place)?
     }
 
     fn naming(&self, place: Option<usize>) -> Option<Naming> {
@@ -122,9 +123,9 @@ impl Counts {
 
     fn add_validators(&mut self, validators: &[NodeId], margin: usize) -> Result<(), AllocError> {
         for validator in validators {
-            match self.nodes.binary_search(validator) {
-                Ok(index) => self.add_naming(index, margin)?,
-                Err(_) => self.lower(margin)?,
+            match self.nodes.place_of(validator) {
+                Some(node) => self.add_naming(node, margin)?,
+                None => self.lower(margin)?,
             }
         }
         Ok(())

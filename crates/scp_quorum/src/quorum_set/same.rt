@@ -32,7 +32,9 @@ impl QuorumSet {
         ensures { OnTrue result (take (length head.now) self.now.head.validators ≡ head.now) }
     {
         let nodes = self.validators.as_slice();
-        nodes.len() >= head.len() && are_same_nodes(&nodes[..head.len()], head)
+        nodes.len() >= head.len()
+            && nodes.first() == head.first()
+            && are_same_nodes(&nodes[..head.len()], head)
     }
 }
 

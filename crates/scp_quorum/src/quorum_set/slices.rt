@@ -1,5 +1,6 @@
 //! Which sets of nodes satisfy and block a quorum set.
-ghost use Rattle.std.specs.Prelude.{◌↔◌, ◌≤◌, IfSome, IsTrue, count_by};
+ghost use Rattle.std.specs.Prelude.{◌≡◌, ◌↔◌, ◌≤◌, Bool, IfSome, IsTrue, count_by, length, take};
+ghost use Rattle.scp_types.specs.declared.names.NodeId.{NodeId};
 ghost use Rattle.scp_quorum.specs.NodeSet.{is_in};
 ghost use Rattle.scp_quorum.specs.Satisfies.{Satisfies, Blocks, outside};
 
@@ -7,8 +8,37 @@ use super::QuorumSet;
 use scp_types::NodeId;
 use std::collections::BTreeSet;
 
+/// Nodes that can be asked whether they have a node.
+pub(crate) trait NodeTest {
+    /// Which nodes these are.
+    ghost members: { Self → NodeId → Bool };
+
+    fn has(&self, node: &NodeId) -> bool
+        ensures { result ≡ members self.now node.now };
+}
+
+impl NodeTest for BTreeSet<NodeId> {
+    ghost members = { λ nodes. is_in nodes };
+
+    fn has(&self, node: &NodeId) -> bool {
+        self.contains(node)
+    }
+}
+
+/// The nodes that are none of these.
+#[derive(Drop)]
+struct Others<'a>(&'a BTreeSet<NodeId>);
+
+impl NodeTest for Others<'_> {
+    ghost members = { λ others. outside (is_in others.0.now) };
+
+    fn has(&self, node: &NodeId) -> bool {
+        !self.0.contains(node)
+    }
+}
+
 /// Whether the nodes satisfy at least as many entries as the threshold says (the SCP draft). Takes no
-/// memory, and one look-up for each node of the set.
+/// memory, and at most one look-up for each node of the set: none after the one with which they do.
 pub fn satisfied(set: &QuorumSet, nodes: &BTreeSet<NodeId>) -> bool
     ensures { IsTrue result ↔ Satisfies (is_in nodes.now) set.now }
 {
@@ -16,26 +46,33 @@ pub fn satisfied(set: &QuorumSet, nodes: &BTreeSet<NodeId>) -> bool
 }
 
 /// Whether no set of nodes disjoint from these satisfies the quorum set (the SCP draft). Takes no
-/// memory, and one look-up for each node of the set.
+/// memory, and at most one look-up for each node of the set.
 pub fn blocked(set: &QuorumSet, nodes: &BTreeSet<NodeId>) -> bool
     ensures { IsTrue result ↔ Blocks (is_in nodes.now) set.now }
 {
-    !set.is_satisfied_without(nodes)
+    !set.is_satisfied_by(&Others(nodes))
 }
 
 impl QuorumSet {
-    fn is_satisfied_by(&self, nodes: &BTreeSet<NodeId>) -> bool
-        ensures { IsTrue result ↔ Satisfies (is_in nodes.now) self.now }
+    /// Whether the nodes satisfy the set. Looks at its entries up to the one with which they do.
+    pub(crate) fn is_satisfied_by<N: NodeTest>(&self, nodes: &N) -> bool
+        ensures { IsTrue result ↔ Satisfies (N.members nodes.now) self.now }
     {
         let mut missing = self.threshold;
         for validator in &self.validators {
-            if nodes.contains(validator) {
-                missing = missing.saturating_sub(1);
+            if missing == 0 {
+                return true;
+            }
+            if nodes.has(validator) {
+                missing -= 1;
             }
         }
         for inner in &self.inner_sets {
+            if missing == 0 {
+                return true;
+            }
             if inner.is_satisfied_by(nodes) {
-                missing = missing.saturating_sub(1);
+                missing -= 1;
             }
         }
         missing == 0
@@ -43,13 +80,14 @@ impl QuorumSet {
 
     /// The front of the set's own nodes up to the one with which as many as the threshold says are among these; `None`
     /// where even all of them are too few.
-    pub(crate) fn enough_of(&self, nodes: &BTreeSet<NodeId>) -> Option<&[NodeId]>
-        ensures { IfSome result (λ head. self.now.head.threshold ≤ count_by (is_in nodes.now) head.now) }
+    pub(crate) fn enough_of<N: NodeTest>(&self, nodes: &N) -> Option<&[NodeId]>
+        ensures front { IfSome result (λ head. take (length head.now) self.now.head.validators ≡ head.now) }
+        ensures enough { IfSome result (λ head. self.now.head.threshold ≤ count_by (N.members nodes.now) head.now) }
     {
         let validators = self.validators.as_slice();
         let mut wanted = self.threshold;
         for (i, validator) in validators.iter().enumerate() {
-            if nodes.contains(validator) {
+            if nodes.has(validator) {
                 wanted = wanted.saturating_sub(1);
                 if wanted == 0 {
                     return Some(&validators[..=i]);
@@ -57,23 +95,5 @@ impl QuorumSet {
             }
         }
         None
-    }
-
-    /// Whether the nodes that are none of these satisfy the set.
-    fn is_satisfied_without(&self, nodes: &BTreeSet<NodeId>) -> bool
-        ensures { IsTrue result ↔ Satisfies (outside (is_in nodes.now)) self.now }
-    {
-        let mut lacking = self.threshold;
-        for validator in &self.validators {
-            if !nodes.contains(validator) {
-                lacking = lacking.saturating_sub(1);
-            }
-        }
-        for inner in &self.inner_sets {
-            if inner.is_satisfied_without(nodes) {
-                lacking = lacking.saturating_sub(1);
-            }
-        }
-        lacking == 0
     }
 }

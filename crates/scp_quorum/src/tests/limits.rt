@@ -3,7 +3,7 @@
 use super::*;
 
 /// The node of this number.
-fn numbered(number: u32) -> NodeId {
+pub(super) fn numbered(number: u32) -> NodeId {
     let [a, b, c, d] = number.to_be_bytes();
     let mut bytes = [0; 32];
     bytes[0] = a;

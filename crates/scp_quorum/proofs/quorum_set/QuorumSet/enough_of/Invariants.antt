@@ -1,7 +1,6 @@
 use Rattle.std.proofs.Common.{◌≡◌, ◌-◌, ◌+◌, count_by, take}
-use Rattle.scp_quorum.specs.NodeSet.{is_in}
 use Rattle.scp_quorum.proofs.quorum_set.QuorumSet.enough_of.Given as goal
 
 abbrev pub invariant-loop-i : goal.invariant-loop-i
-invariant-loop-i l =
-    l.wanted ≡ l.self.head.threshold - (0 + count_by (is_in l.nodes) (take l.i l.validators))
+invariant-loop-i g l =
+    l.wanted ≡ l.self.head.threshold - (0 + count_by (g.N.NodeTest.members l.nodes) (take l.i l.validators))

@@ -1,0 +1,155 @@
+//! Calls that are made twice: the first answers rightly or for want of memory, and the second as if there had been no
+//! first. A second refusal ends the test with that refusal.
+use super::*;
+use std::process::Abort;
+
+/// What a first call gave; None where it was refused, for want of memory.
+fn first_try<T>(rt: &impl Abort, outcome: Result<T, Fault>) -> Option<T> {
+    match outcome {
+        Ok(given) => Some(given),
+        Err(fault) => {
+            assert_eq!(rt; fault, Fault::NoMemory);
+            None
+        }
+    }
+}
+
+/// The worked set.
+fn worked(alloc: Global) -> Result<QuorumSet, Fault> {
+    flat(alloc, 2, &[1, 2, 3])
+}
+
+/// The worked set and a node, in two sets.
+fn deeper(alloc: Global) -> Result<QuorumSet, Fault> {
+    let mut inner_sets = Vec::new(alloc);
+    inner_sets.push(around(alloc, worked(alloc)?)?)?;
+    inner_sets.push(flat(alloc, 1, &[5])?)?;
+    set_of(alloc, 3, &[4], inner_sets)
+}
+
+#[test]
+fn a_refused_copy_is_made_again(rt: HostRuntime) -> Result<(), Fail> {
+    let set = deeper(rt.alloc())?;
+    if let Some(copied) = first_try(&rt, set.copy()) {
+        assert!(rt; copied.is_same(&set));
+    }
+    assert!(rt; set.copy()?.is_same(&set));
+    Ok(())
+}
+
+#[test]
+fn refused_nodes_are_told_again(rt: HostRuntime) -> Result<(), Fail> {
+    let set = deeper(rt.alloc())?;
+    let want = [node(4), node(1), node(2), node(3), node(5)];
+    if let Some(nodes) = first_try(&rt, set.nodes()) {
+        assert_eq!(rt; nodes.as_slice(), want.as_slice());
+    }
+    assert_eq!(rt; set.nodes()?.as_slice(), want.as_slice());
+    Ok(())
+}
+
+#[test]
+fn a_refused_spelling_is_written_again(rt: HostRuntime) -> Result<(), Fail> {
+    let set = worked(rt.alloc())?;
+    if let Some(bytes) = first_try(&rt, set.encode()) {
+        assert_eq!(rt; bytes.as_slice(), worked_bytes().as_slice());
+    }
+    assert_eq!(rt; set.encode()?.as_slice(), worked_bytes().as_slice());
+    Ok(())
+}
+
+#[test]
+fn refused_bytes_are_read_again(rt: HostRuntime) -> Result<(), Fail> {
+    let alloc = rt.alloc();
+    for set in [worked(alloc)?, deeper(alloc)?] {
+        let bytes = set.encode()?;
+        if let Some(read) = first_try(&rt, QuorumSet::decode(alloc, &bytes)) {
+            assert!(rt; read.is_same(&set));
+        }
+        assert!(rt; QuorumSet::decode(alloc, &bytes)?.is_same(&set));
+    }
+    Ok(())
+}
+
+#[test]
+fn a_refused_hash_is_made_again(rt: HostRuntime) -> Result<(), Fail> {
+    let set = worked(rt.alloc())?;
+    if let Some(hash) = first_try(&rt, set.hash()) {
+        assert_eq!(rt; hash, Hash(WORKED_HASH));
+    }
+    assert_eq!(rt; set.hash()?, Hash(WORKED_HASH));
+    Ok(())
+}
+
+/// Hands the set in; a refusal for want of memory hands it back, and what was taken is copied.
+fn hand_in(rt: &impl Abort, set: QuorumSet) -> Result<QuorumSet, Fault> {
+    match set.into_sane() {
+        Ok(sane) => sane.set().copy(),
+        Err((fault, back)) => {
+            assert_eq!(rt; fault, Fault::NoMemory);
+            Ok(back)
+        }
+    }
+}
+
+#[test]
+fn a_refused_sane_set_is_handed_in_again(rt: HostRuntime) -> Result<(), Fail> {
+    let alloc = rt.alloc();
+    let same = worked(alloc)?;
+    let back = hand_in(&rt, worked(alloc)?)?;
+    assert!(rt; back.is_same(&same));
+    match back.into_sane() {
+        Ok(sane) => {
+            assert!(rt; sane.set().is_same(&same));
+            assert_eq!(rt; sane.hash(), Hash(WORKED_HASH));
+            Ok(())
+        }
+        Err((fault, back)) => {
+            assert!(rt; back.is_same(&same));
+            Err(Fail::from(fault))
+        }
+    }
+}
+
+#[test]
+fn a_refused_lone_set_is_made_again(rt: HostRuntime) -> Result<(), Fail> {
+    let alloc = rt.alloc();
+    let same = flat(alloc, 1, &[7])?;
+    let hash = same.hash()?;
+    if let Some(alone) = first_try(&rt, SaneSet::alone(alloc, node(7))) {
+        assert!(rt; alone.set().is_same(&same));
+        assert_eq!(rt; alone.hash(), hash);
+    }
+    let alone = SaneSet::alone(alloc, node(7))?;
+    assert!(rt; alone.set().is_same(&same));
+    assert_eq!(rt; alone.hash(), hash);
+    Ok(())
+}
+
+/// Nodes 1 and 2 are a quorum; of nodes 3, 4 and 5 one falls after the other.
+fn some_fall(alloc: Global) -> Result<BTreeMap<NodeId, Arc<SaneSet>>, Fault> {
+    let mut sets = BTreeMap::new(alloc);
+    sets.insert(node(1), shared(alloc, flat(alloc, 2, &[1, 2])?)?)?;
+    sets.insert(node(2), shared(alloc, flat(alloc, 1, &[1, 9])?)?)?;
+    sets.insert(node(3), shared(alloc, flat(alloc, 2, &[1, 4])?)?)?;
+    sets.insert(node(4), shared(alloc, flat(alloc, 1, &[5])?)?)?;
+    sets.insert(node(5), shared(alloc, flat(alloc, 1, &[6])?)?)?;
+    Ok(sets)
+}
+
+#[test]
+fn a_refused_quorum_is_found_again(rt: HostRuntime) -> Result<(), Fail> {
+    let alloc = rt.alloc();
+    let sets = some_fall(alloc)?;
+    let want = nodes(alloc, &[1, 2])?;
+    if let Some(found) = first_try(&rt, greatest_quorum(alloc, node(1), &sets)) {
+        assert!(rt; found.as_ref() == Some(&want));
+    }
+    let found = greatest_quorum(alloc, node(1), &sets)?;
+    assert!(rt; found.as_ref() == Some(&want));
+    if let Some(none) = first_try(&rt, greatest_quorum(alloc, node(3), &sets)) {
+        assert!(rt; none.is_none());
+    }
+    assert!(rt; greatest_quorum(alloc, node(3), &sets)?.is_none());
+    Ok(())
+}

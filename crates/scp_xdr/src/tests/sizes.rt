@@ -1,0 +1,71 @@
+//! Values of each size, and announced counts with little behind them.
+use super::*;
+
+#[test]
+fn values_of_each_length_are_written_and_read(rt: HostRuntime) -> Result<(), Fail> {
+    let alloc = rt.alloc();
+    for (len, spelt) in [
+        (0, 4),
+        (1, 8),
+        (3, 8),
+        (4, 8),
+        (5, 12),
+        (31, 36),
+        (32, 36),
+        (33, 40),
+        (4_095, 4_100),
+        (4_096, 4_100),
+    ] {
+        let value = Value::new(vec![in alloc; 7; len]?);
+        is_written_and_read(&rt, alloc, &value, spelt)?;
+    }
+    Ok(())
+}
+
+/// What a reader gives is as long as its limit lets it be.
+#[test]
+fn long_bytes_are_read(rt: HostRuntime) -> Result<(), Fail> {
+    let alloc = rt.alloc();
+    for (len, place) in [
+        (4_096, 4_100),
+        (4_097, 4_104),
+        (4_100, 4_104),
+        (70_000, 70_004),
+    ] {
+        let bytes = vec![in alloc; 7; len]?;
+        let mut writer = Writer::new(alloc);
+        writer.opaque(70_000, &bytes)?;
+        let spelt = writer.into_vec();
+        for _ in 0..2 {
+            let mut reader = Reader::new(&spelt);
+            assert!(rt; reader.opaque(70_000)? == bytes.as_slice());
+            assert_eq!(rt; reader.place(), place);
+            reader.end()?;
+        }
+    }
+    Ok(())
+}
+
+/// 4,294,967,295 items are announced; one value of one byte follows.
+const ANNOUNCED: [u8; 12] = [255, 255, 255, 255, 0, 0, 0, 1, 9, 0, 0, 0];
+
+/// However many items are announced, the first fault is that of the count or of what is missing.
+#[test]
+fn announced_items_take_no_memory(rt: HostRuntime) -> Result<(), Fail> {
+    let alloc = rt.alloc();
+    for (max, fault) in [
+        (u32::MAX, Fault::Malformed(12)),
+        (u32::MAX - 1, Fault::TooLong),
+        (0, Fault::TooLong),
+    ] {
+        let read = read_array::<Value>(alloc, max, &mut Reader::new(&ANNOUNCED));
+        assert_eq!(rt; refusal(read)?, Some(fault));
+        let passed = pass_array::<Value>(max, &mut Reader::new(&ANNOUNCED));
+        assert_eq!(rt; passed, Err(fault));
+    }
+    let hashes = read_array::<Hash>(alloc, u32::MAX, &mut Reader::new(&ANNOUNCED));
+    assert_eq!(rt; refusal(hashes)?, Some(Fault::Malformed(4)));
+    let cut = read_array::<Value>(alloc, u32::MAX, &mut Reader::new(&ANNOUNCED[..3]));
+    assert_eq!(rt; refusal(cut)?, Some(Fault::Malformed(0)));
+    Ok(())
+}
