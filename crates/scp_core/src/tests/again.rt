@@ -3,7 +3,6 @@
 //! The first answer of each call is the right one or want of memory, and the second is right, or the test ends with want
 //! of memory. So any allocation may be refused, alone or with all later ones, and no assertion stops a test.
 use super::long::events_of;
-use super::said::envelope_of_another_set;
 use super::*;
 use std::process::Abort;
 
@@ -159,66 +158,6 @@ fn is_run(alloc: Global, acts: &[Act<'_>], shown: Shown<'_>) -> Result<bool, Fau
     }
 }
 
-fn is_new(alloc: Global) -> Result<bool, Fault> {
-    let node = new_node(alloc)?;
-    Ok(entry_count(&node) == 0 && matches!(node.state(), Some(state) if state.is_empty()))
-}
-
-/// Whether a quorum set of no nodes is refused as such, whatever the memory.
-fn is_refused(alloc: Global) -> Result<bool, Fault> {
-    let made = Config {
-        me: ME,
-        set: QuorumSet::new(1, Vec::new(alloc), Vec::new(alloc)),
-        peers: peers(alloc, &[PEER])?,
-    };
-    Ok(matches!(Node::new(alloc, made), Err(Fault::BadConfig)))
-}
-
-/// A decision of slot 7.
-fn decision(alloc: Global) -> Result<Decision, Fault> {
-    let conn = ConnId {
-        from: PEER,
-        to: ME,
-        life: 3,
-    };
-    Ok(Decision {
-        slot: Slot(7),
-        value: Value::new(Vec::from_slice(alloc, &PUT_A)?),
-        origin: Origin::Named { conn, seq: Seq(5) },
-    })
-}
-
-fn is_seven(decision: &SharedDecision) -> bool {
-    decision.get().slot == Slot(7) && decision.get().value.as_slice() == PUT_A.as_slice()
-}
-
-fn is_made_shared(alloc: Global) -> Result<bool, Fault> {
-    Ok(is_seven(&SharedDecision::new(alloc, decision(alloc)?)?))
-}
-
-fn is_shared(decision: &SharedDecision) -> Result<bool, Fault> {
-    Ok(is_seven(&decision.share()?))
-}
-
-#[test]
-fn a_refused_node_is_made_again(rt: HostRuntime) -> Result<(), Fail> {
-    expect_right_or_want(&rt, is_new(rt.alloc()));
-    assert!(rt; is_new(rt.alloc())?);
-    assert!(rt; is_refused(rt.alloc())?);
-    Ok(())
-}
-
-#[test]
-fn a_refused_decision_is_shared_again(rt: HostRuntime) -> Result<(), Fail> {
-    expect_right_or_want(&rt, is_made_shared(rt.alloc()));
-    assert!(rt; is_made_shared(rt.alloc())?);
-    let first = SharedDecision::new(rt.alloc(), decision(rt.alloc())?)?;
-    expect_right_or_want(&rt, is_shared(&first));
-    assert!(rt; is_shared(&first)?);
-    assert!(rt; is_seven(&first));
-    Ok(())
-}
-
 #[test]
 fn a_refused_run_is_made_again(rt: HostRuntime) -> Result<(), Fail> {
     let acts = [
@@ -242,34 +181,6 @@ fn a_refused_run_is_made_again(rt: HostRuntime) -> Result<(), Fail> {
     };
     expect_right_or_want(&rt, is_run(rt.alloc(), &acts, shown));
     assert!(rt; is_run(rt.alloc(), &acts, shown)?);
-    Ok(())
-}
-
-#[test]
-fn a_refused_close_leaves_the_node(rt: HostRuntime) -> Result<(), Fail> {
-    let alloc = rt.alloc();
-    let entries = [
-        Entry::Taken(1, 0, Verdict::Forwarded),
-        Entry::Taken(1, 1, Verdict::Forwarded),
-        Entry::Taken(1, 2, Verdict::Forwarded),
-        Entry::Taken(1, 3, Verdict::Forwarded),
-        Entry::Closed(1, Cause::Link),
-    ];
-    let asks = [
-        Act::Open(0),
-        Act::GetRecord(1),
-        Act::GetRecord(2),
-        Act::GetRecord(3),
-        Act::GetRecord(4),
-    ];
-    let (before, after) = (undecided(&entries[..4]), undecided(&entries));
-    expect_taken(&rt, alloc, &asks, Act::Close(0), before, after)?;
-    let (none, ended) = (undecided(&[]), [Entry::Closed(1, Cause::Malformed)]);
-    let after = undecided(&ended);
-    expect_taken(&rt, alloc, &[Act::Open(0)], Act::Send(&[0; 5]), none, after)?;
-    let other = envelope_of_another_set(alloc, 1, &VOTE)?;
-    let sent = Act::Send(other.as_slice());
-    expect_taken(&rt, alloc, &[Act::Open(0)], sent, none, after)?;
     Ok(())
 }
 
@@ -300,39 +211,5 @@ fn a_refused_record_leaves_the_node(rt: HostRuntime) -> Result<(), Fail> {
     };
     let acts = [Act::Open(0), Act::Record(2, &PUT_B), Act::Record(3, &DEL_A)];
     expect_taken(&rt, alloc, &acts, put, waiting, filled)?;
-    Ok(())
-}
-
-#[test]
-fn a_refused_envelope_is_not_remembered(rt: HostRuntime) -> Result<(), Fail> {
-    let alloc = rt.alloc();
-    let entries = [
-        Entry::Taken(1, 0, Verdict::Fresh),
-        Entry::Taken(1, 1, Verdict::Fresh),
-        Entry::Taken(1, 2, Verdict::Stale),
-    ];
-    let acts = [
-        Act::Open(0),
-        Act::Envelope(PEER, 1, VOTE),
-        Act::Envelope(THIRD, 1, VOTE),
-    ];
-    let (before, after) = (undecided(&entries[..1]), undecided(&entries[..2]));
-    expect_taken(
-        &rt,
-        alloc,
-        &acts[..2],
-        Act::Envelope(THIRD, 1, VOTE),
-        before,
-        after,
-    )?;
-    let (before, after) = (after, undecided(&entries));
-    expect_taken(
-        &rt,
-        alloc,
-        &acts,
-        Act::Envelope(PEER, 1, VOTE),
-        before,
-        after,
-    )?;
     Ok(())
 }

@@ -1,32 +1,6 @@
 //! Values of any length, as records and as decisions.
 use super::*;
 
-/// The byte so often, behind their number. The number is a multiple of four, so there is no padding.
-fn push_word(list: &mut Vec<u8>, byte: u8, count: u32) -> Result<(), Fault> {
-    list.extend_from_slice(&count.to_be_bytes())?;
-    for _ in 0..count {
-        list.push(byte)?;
-    }
-    Ok(())
-}
-
-/// A put at a key of so many bytes of a value of so many.
-fn push_put(list: &mut Vec<u8>, key: (u8, u32), value: (u8, u32)) -> Result<(), Fault> {
-    list.extend_from_slice(&[0; 4])?;
-    push_word(list, key.0, key.1)?;
-    push_word(list, value.0, value.1)
-}
-
-/// The longest list: twelve puts of the longest keys and values, and a shorter one, in 4,096 bytes.
-fn longest_list(alloc: Global) -> Result<Vec<u8>, Fault> {
-    let mut list = Vec::from_slice(alloc, &[0, 0, 0, 13])?;
-    for number in 0..12 {
-        push_put(&mut list, (b'a' + number, 64), (b'0', 256))?;
-    }
-    push_put(&mut list, (b'z', 64), (b'1', 32))?;
-    Ok(list)
-}
-
 /// How many keys the state has.
 fn key_count(node: &Node) -> Option<usize> {
     match node.state() {
@@ -56,12 +30,6 @@ fn keys_after(alloc: Global, node: &mut Node, value: &[u8]) -> Result<Option<usi
     }
 }
 
-/// The first byte of the value at the key of 64 times this letter.
-fn first_at(alloc: Global, node: &Node, letter: u8) -> Result<Option<u8>, Fault> {
-    let key = vec![in alloc; letter; 64]?;
-    value_of(alloc, node, key.as_slice())
-}
-
 #[test]
 fn values_that_are_no_lists_are_applied(rt: HostRuntime) -> Result<(), Fail> {
     let alloc = rt.alloc();
@@ -75,25 +43,5 @@ fn values_that_are_no_lists_are_applied(rt: HostRuntime) -> Result<(), Fail> {
         applied_slots(alloc, &node)?.as_slice(),
         [1, 2, 3, 4, 5].as_slice()
     );
-    Ok(())
-}
-
-#[test]
-fn the_longest_list_is_applied(rt: HostRuntime) -> Result<(), Fail> {
-    let alloc = rt.alloc();
-    let mut node = after(alloc, &[Act::Open(0)])?;
-    let list = longest_list(alloc)?;
-    assert_eq!(rt; list.len(), 4_096);
-    let keys = keys_after(alloc, &mut node, list.as_slice())?;
-    assert_eq!(rt; keys, Some(13));
-    for (letter, first) in [
-        (b'a', Some(48)),
-        (b'l', Some(48)),
-        (b'm', None),
-        (b'z', Some(49)),
-    ] {
-        let found = first_at(alloc, &node, letter)?;
-        assert_eq!(rt; found, first);
-    }
     Ok(())
 }

@@ -37,28 +37,6 @@ fn a_refused_copy_is_made_again(rt: HostRuntime) -> Result<(), Fail> {
 }
 
 #[test]
-fn a_refused_copy_of_a_statement_is_made_again(rt: HostRuntime) -> Result<(), Fail> {
-    let alloc = rt.alloc();
-    for bytes in kinds() {
-        let Envelope {
-            statement,
-            signature,
-        } = decode(alloc, bytes)?;
-        if let Some(copied) = first_try(&rt, statement.copy()) {
-            assert_eq!(rt; copied.node, statement.node);
-            assert_eq!(rt; copied.slot, statement.slot);
-            assert!(rt; !newer(&statement, &copied));
-        }
-        let copied = Envelope {
-            statement: statement.copy()?,
-            signature,
-        };
-        assert_eq!(rt; encode(alloc, &copied)?.as_slice(), bytes);
-    }
-    Ok(())
-}
-
-#[test]
 fn refused_bytes_are_read_again(rt: HostRuntime) -> Result<(), Fail> {
     let alloc = rt.alloc();
     for bytes in kinds() {
@@ -67,20 +45,6 @@ fn refused_bytes_are_read_again(rt: HostRuntime) -> Result<(), Fail> {
         }
         let read = decode(alloc, bytes)?;
         assert_eq!(rt; encode(alloc, &read)?.as_slice(), bytes);
-    }
-    Ok(())
-}
-
-#[test]
-fn a_refused_envelope_is_written_again(rt: HostRuntime) -> Result<(), Fail> {
-    let alloc = rt.alloc();
-    for bytes in kinds() {
-        let original = decode(alloc, bytes)?;
-        if let Some(written) = first_try(&rt, encode(alloc, &original)) {
-            assert_eq!(rt; written.as_slice(), bytes);
-        }
-        let written = encode(alloc, &original)?;
-        assert_eq!(rt; written.as_slice(), bytes);
     }
     Ok(())
 }

@@ -22,28 +22,6 @@ fn three(alloc: Global) -> Result<Vec<u8>, Fault> {
     Ok(bytes)
 }
 
-/// The list of three operations, of which each is spelt again.
-fn list_again(alloc: Global, ops: &[Op]) -> Result<Vec<u8>, Fault> {
-    let mut bytes = list_of(alloc, 3)?;
-    for op in ops {
-        bytes.extend_from_slice(&encode(alloc, op)?)?;
-    }
-    Ok(bytes)
-}
-
-#[test]
-fn a_refused_list_is_read_again(rt: HostRuntime) -> Result<(), Fail> {
-    let alloc = rt.alloc();
-    let list = Value::new(three(alloc)?);
-    if let Some(read) = first_try(&rt, ops_of(alloc, &list)) {
-        let ops = read.expect(&rt, "a list");
-        assert_eq!(rt; list_again(alloc, &ops)?.as_slice(), list.as_slice());
-    }
-    let ops = ops_of(alloc, &list)?.expect(&rt, "a list");
-    assert_eq!(rt; list_again(alloc, &ops)?.as_slice(), list.as_slice());
-    Ok(())
-}
-
 /// The key of this number.
 fn key(alloc: Global, number: u8) -> Result<Value, Fault> {
     value(alloc, &[number])
@@ -94,21 +72,5 @@ fn a_refused_value_is_applied_again(rt: HostRuntime) -> Result<(), Fail> {
     apply_value(&mut state, &list)?;
     assert!(rt; state.get(&name) == Some(&entry));
     assert_eq!(rt; state.len(), 1);
-    Ok(())
-}
-
-#[test]
-fn a_refused_operation_is_written_and_read_again(rt: HostRuntime) -> Result<(), Fail> {
-    let alloc = rt.alloc();
-    for bytes in [&PUT_A[4..], &DEL_A[4..]] {
-        if let Some(read) = first_try(&rt, decode::<Op>(alloc, bytes)) {
-            assert_eq!(rt; encode(alloc, &read)?.as_slice(), bytes);
-        }
-        let read = decode::<Op>(alloc, bytes)?;
-        if let Some(written) = first_try(&rt, encode(alloc, &read)) {
-            assert_eq!(rt; written.as_slice(), bytes);
-        }
-        assert_eq!(rt; encode(alloc, &read)?.as_slice(), bytes);
-    }
     Ok(())
 }

@@ -3,11 +3,10 @@
 //! The first answer of each call is the right one or want of memory, and the second is right, or the test ends with want
 //! of memory. So any allocation may be refused, alone or with all later ones, and no assertion stops a test.
 
-use super::devices::counted;
 use super::{REPORT, SCRIPT, VERDICTS, VERDICTS_REPORT};
 use crate::{
-    FailsAt, MemoryIn, MemoryOut, Mode, PlayFault, ReportOut, ScriptIn, check, play, read_script,
-    serve, show, write_text,
+    FailsAt, MemoryIn, MemoryOut, Mode, PlayFault, ReportOut, ScriptIn, check, play, serve, show,
+    write_text,
 };
 use scp_types::Fault;
 use std::alloc::Global;
@@ -198,59 +197,6 @@ fn a_refused_text_leaves_what_stood(rt: HostRuntime) -> Result<(), Fail> {
         add(&mut writer, "end\n")?;
     }
     assert!(rt; writer.text() == b"node 1\nend\n".as_slice());
-    Ok(())
-}
-
-#[test]
-fn a_script_that_failed_is_read_from_there(rt: HostRuntime) -> Result<(), Fail> {
-    let text = counted(rt.alloc(), 10_000)?;
-    for (calls, count) in [(0, 10_000), (1, 5_904), (2, 1_808), (3, 0)] {
-        let mut reader = FailsAt::new(MemoryIn::new(text.as_slice()), calls);
-        for _ in 0..2 {
-            assert!(rt; is_device(read_script(rt.alloc(), &mut reader))?);
-        }
-        let (mut device, failures) = reader.into_parts();
-        assert_eq!(rt; failures, 2);
-        let left = read_script(rt.alloc(), &mut device)?;
-        assert_eq!(rt; left.len(), count, "after {calls} reads");
-        assert!(rt; text.as_slice().ends_with(left.as_slice()));
-    }
-    Ok(())
-}
-
-#[test]
-fn a_writer_that_failed_fails_again(rt: HostRuntime) -> Result<(), Fail> {
-    let mut writer = FailsAt::new(begun(rt.alloc())?, 2);
-    for text in ["node", " 1\n"] {
-        write_text(&mut writer, text)?;
-    }
-    for _ in 0..2 {
-        assert_eq!(rt; write_text(&mut writer, "end\n"), Err(Fault::Device));
-    }
-    let (mut device, failures) = writer.into_parts();
-    assert_eq!(rt; failures, 2);
-    assert!(rt; has(&device, b"node 1\n"));
-    write_text(&mut device, "end\n")?;
-    assert!(rt; has(&device, b"node 1\nend\n"));
-    Ok(())
-}
-
-#[test]
-fn calls_whose_reader_failed_are_made_again(rt: HostRuntime) -> Result<(), Fail> {
-    let alloc = rt.alloc();
-    for (call, text) in [(Call::Play, REPORT), (Call::Check, FINE)] {
-        for calls in 0..2u64 {
-            let mut reader = FailsAt::new(MemoryIn::new(SCRIPT), calls);
-            let mut writer = begun(alloc)?;
-            for _ in 0..2 {
-                assert!(rt; is_device(make(alloc, call, &mut reader, &mut writer))?);
-                assert!(rt; has(&writer, &[]));
-            }
-            let mut reader = MemoryIn::new(SCRIPT);
-            make(alloc, call, &mut reader, &mut writer)?;
-            assert!(rt; has(&writer, text));
-        }
-    }
     Ok(())
 }
 

@@ -1,18 +1,7 @@
 //! What writers write.
 
 use crate::{MemoryOut, ReportOut, write_text};
-use scp_types::Fault;
-use std::alloc::Global;
 use std::test::Fail;
-
-/// So many bytes: 0 to 250, over and over.
-pub fn counted(alloc: Global, len: usize) -> Result<Vec<u8>, Fault> {
-    let mut bytes = Vec::new(alloc);
-    for index in 0..len {
-        bytes.push((index % 251) as u8)?;
-    }
-    Ok(bytes)
-}
 
 #[test]
 fn texts_stand_one_behind_the_other(rt: HostRuntime) -> Result<(), Fail> {

@@ -37,50 +37,6 @@ fn a_refused_copy_is_made_again(rt: HostRuntime) -> Result<(), Fail> {
     Ok(())
 }
 
-#[test]
-fn refused_nodes_are_told_again(rt: HostRuntime) -> Result<(), Fail> {
-    let set = deeper(rt.alloc())?;
-    let want = [node(4), node(1), node(2), node(3), node(5)];
-    if let Some(nodes) = first_try(&rt, set.nodes()) {
-        assert_eq!(rt; nodes.as_slice(), want.as_slice());
-    }
-    assert_eq!(rt; set.nodes()?.as_slice(), want.as_slice());
-    Ok(())
-}
-
-#[test]
-fn a_refused_spelling_is_written_again(rt: HostRuntime) -> Result<(), Fail> {
-    let set = worked(rt.alloc())?;
-    if let Some(bytes) = first_try(&rt, set.encode()) {
-        assert_eq!(rt; bytes.as_slice(), worked_bytes().as_slice());
-    }
-    assert_eq!(rt; set.encode()?.as_slice(), worked_bytes().as_slice());
-    Ok(())
-}
-
-#[test]
-fn refused_bytes_are_read_again(rt: HostRuntime) -> Result<(), Fail> {
-    let alloc = rt.alloc();
-    for set in [worked(alloc)?, deeper(alloc)?] {
-        let bytes = set.encode()?;
-        if let Some(read) = first_try(&rt, QuorumSet::decode(alloc, &bytes)) {
-            assert!(rt; read.is_same(&set));
-        }
-        assert!(rt; QuorumSet::decode(alloc, &bytes)?.is_same(&set));
-    }
-    Ok(())
-}
-
-#[test]
-fn a_refused_hash_is_made_again(rt: HostRuntime) -> Result<(), Fail> {
-    let set = worked(rt.alloc())?;
-    if let Some(hash) = first_try(&rt, set.hash()) {
-        assert_eq!(rt; hash, Hash(WORKED_HASH));
-    }
-    assert_eq!(rt; set.hash()?, Hash(WORKED_HASH));
-    Ok(())
-}
-
 /// Hands the set in; a refusal for want of memory hands it back, and what was taken is copied.
 fn hand_in(rt: &impl Abort, set: QuorumSet) -> Result<QuorumSet, Fault> {
     match set.into_sane() {

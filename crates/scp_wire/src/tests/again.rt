@@ -3,7 +3,6 @@
 //! The first answer of each call is the right one or want of memory, and the second is right, or the test ends with want
 //! of memory. So any allocation may be refused, alone or with all later ones, and no assertion stops a test.
 use super::*;
-use scp_envelope::Envelope;
 use std::process::Abort;
 
 /// A PREPARE of node 3 on slot 2 with both optional ballots, each of the value 9, and a signature of one byte.
@@ -39,23 +38,6 @@ fn is_copy(alloc: Global, message: &Message, bytes: &[u8]) -> Result<bool, Fault
     is_written(alloc, &message.copy()?, bytes)
 }
 
-/// Whether the envelope is spelt by these bytes.
-fn is_spelt(alloc: Global, envelope: &Envelope, bytes: &[u8]) -> Result<bool, Fault> {
-    Ok(scp_envelope::encode(alloc, envelope)?.as_slice() == bytes)
-}
-
-/// Whether an envelope that goes into a box comes out of it.
-fn is_boxed(alloc: Global, bytes: &[u8]) -> Result<bool, Fault> {
-    let envelope = scp_envelope::decode(alloc, bytes)?;
-    let boxed = BoxedEnvelope::new(alloc, envelope)?;
-    is_spelt(alloc, &boxed.into_inner(), bytes)
-}
-
-/// Whether a copy of the box holds the envelope.
-fn is_box_copied(alloc: Global, boxed: &BoxedEnvelope, bytes: &[u8]) -> Result<bool, Fault> {
-    is_spelt(alloc, boxed.copy()?.get(), bytes)
-}
-
 /// Reads the bytes twice, and writes and copies twice what they spell.
 fn expect_again(rt: &impl Abort, alloc: Global, bytes: &[u8]) -> Result<(), Fault> {
     expect_right_or_want(rt, is_kept(alloc, bytes));
@@ -85,21 +67,6 @@ fn refused_messages_are_read_written_and_copied_again(rt: HostRuntime) -> Result
         &ONE_BYTE,
     ] {
         expect_again(&rt, rt.alloc(), bytes)?;
-    }
-    Ok(())
-}
-
-#[test]
-fn a_refused_box_is_made_again(rt: HostRuntime) -> Result<(), Fail> {
-    let alloc = rt.alloc();
-    for bytes in [&ENVELOPE[4..], &PREPARE[4..]] {
-        expect_right_or_want(&rt, is_boxed(alloc, bytes));
-        assert!(rt; is_boxed(alloc, bytes)?);
-        let boxed = BoxedEnvelope::new(alloc, scp_envelope::decode(alloc, bytes)?)?;
-        expect_right_or_want(&rt, is_box_copied(alloc, &boxed, bytes));
-        assert!(rt; is_box_copied(alloc, &boxed, bytes)?);
-        // the original stands
-        assert!(rt; is_spelt(alloc, boxed.get(), bytes)?);
     }
     Ok(())
 }

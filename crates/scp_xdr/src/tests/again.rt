@@ -70,18 +70,6 @@ fn a_refused_item_is_written_again(rt: HostRuntime) -> Result<(), Fail> {
     Ok(())
 }
 
-#[test]
-fn a_refused_writer_is_made_again(rt: HostRuntime) -> Result<(), Fail> {
-    for capacity in [0, 1, 4_096] {
-        if let Some(writer) = first_try(&rt, Writer::with_capacity(rt.alloc(), capacity)) {
-            assert!(rt; writer.into_vec().is_empty());
-        }
-        let writer = Writer::with_capacity(rt.alloc(), capacity)?;
-        assert!(rt; writer.into_vec().is_empty());
-    }
-    Ok(())
-}
-
 /// A ballot with its spelling.
 const BALLOT: [u8; 16] = [0, 0, 0, 3, 0, 0, 0, 5, 1, 2, 3, 4, 5, 0, 0, 0];
 
@@ -104,24 +92,6 @@ fn refused_bytes_are_read_again(rt: HostRuntime) -> Result<(), Fail> {
         assert!(rt; read == want);
     }
     assert!(rt; read_of::<Ballot>(alloc, &BALLOT)? == want);
-    Ok(())
-}
-
-#[test]
-fn a_refused_value_is_written_again(rt: HostRuntime) -> Result<(), Fail> {
-    let alloc = rt.alloc();
-    let ballot = ballot(alloc)?;
-    if let Some(bytes) = first_try(&rt, encode(alloc, &ballot)) {
-        assert_eq!(rt; bytes.as_slice(), BALLOT.as_slice());
-    }
-    assert_eq!(rt; encode(alloc, &ballot)?.as_slice(), BALLOT.as_slice());
-    if let Some(bytes) = first_try(&rt, encode_within(alloc, 16, &ballot)) {
-        assert_eq!(rt; bytes.as_slice(), BALLOT.as_slice());
-    }
-    assert_eq!(rt;
-        encode_within(alloc, 16, &ballot)?.as_slice(),
-        BALLOT.as_slice()
-    );
     Ok(())
 }
 

@@ -22,30 +22,6 @@ fn values_of_each_length_are_written_and_read(rt: HostRuntime) -> Result<(), Fai
     Ok(())
 }
 
-/// What a reader gives is as long as its limit lets it be.
-#[test]
-fn long_bytes_are_read(rt: HostRuntime) -> Result<(), Fail> {
-    let alloc = rt.alloc();
-    for (len, place) in [
-        (4_096, 4_100),
-        (4_097, 4_104),
-        (4_100, 4_104),
-        (70_000, 70_004),
-    ] {
-        let bytes = vec![in alloc; 7; len]?;
-        let mut writer = Writer::new(alloc);
-        writer.opaque(70_000, &bytes)?;
-        let spelt = writer.into_vec();
-        for _ in 0..2 {
-            let mut reader = Reader::new(&spelt);
-            assert!(rt; reader.opaque(70_000)? == bytes.as_slice());
-            assert_eq!(rt; reader.place(), place);
-            reader.end()?;
-        }
-    }
-    Ok(())
-}
-
 /// 4,294,967,295 items are announced; one value of one byte follows.
 const ANNOUNCED: [u8; 12] = [255, 255, 255, 255, 0, 0, 0, 1, 9, 0, 0, 0];
 
