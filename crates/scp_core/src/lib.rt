@@ -35,6 +35,3 @@ pub use outcome::Run;
 pub use running::run;
 pub use scp_wire::{Bytes, Cause};
 pub use shared::SharedDecision;
-
-#[cfg(test)]
-mod tests;

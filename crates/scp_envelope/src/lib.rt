@@ -32,6 +32,3 @@ pub use lists::ValueList;
 pub use order::newer;
 pub use signature::Signature;
 pub use statement::{Confirm, Envelope, Externalize, Nominate, Pledges, Prepare, Statement};
-
-#[cfg(test)]
-mod tests;

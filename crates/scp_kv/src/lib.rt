@@ -19,6 +19,3 @@ pub use laws::{
 };
 pub use ops::{Op, is_ops, ops_of};
 pub use state::{KvState, apply_value};
-
-#[cfg(test)]
-mod tests;

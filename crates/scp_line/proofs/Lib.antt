@@ -1,4 +1,3 @@
-pub mod DeviceLemmas
 pub mod Lines
 pub mod Sections
 pub mod Connections

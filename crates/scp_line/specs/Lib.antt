@@ -1,4 +1,3 @@
-pub mod Device
 pub mod Script
 pub mod Reading
 pub mod Outcome

@@ -11,8 +11,6 @@
 //! - the connections of a report ascend, and are just those with entries.
 #![tactic(auto)]
 
-mod asked;
-mod device;
 mod messages;
 mod nodes;
 mod outcome;
@@ -21,14 +19,11 @@ mod report;
 mod script;
 mod sets;
 
-pub use device::{
+pub use outcome::{line_of_fault, status};
+pub use playing::{Mode, PlayFault, check, play, show};
+pub use report::{ReportParts, connections_are_those_with_entries, write_report};
+pub use scp_device::{
     FailsAt, MemoryIn, MemoryOut, Process, ReportOut, SCRIPT_LIMIT, ScriptIn, read_script,
     write_text,
 };
-pub use outcome::{line_of_fault, serve, status};
-pub use playing::{Mode, PlayFault, check, play, show};
-pub use report::{ReportParts, connections_are_those_with_entries, write_report};
 pub use script::{Command, parse};
-
-#[cfg(test)]
-mod tests;

@@ -5,16 +5,16 @@ ghost use Rattle.scp_wire.specs.Reading.{reading_of};
 ghost use Rattle.scp_wire.specs.Message.{message_kind, message_value, message_reading};
 ghost use Rattle.scp_xdr.specs.Kind.{Fits};
 ghost use Rattle.scp_xdr.specs.Words.{IsReadingFault};
-ghost use Rattle.scp_line.specs.Device.{Gains, Fails, IsAll};
+ghost use Rattle.scp_device.specs.Device.{Gains, Fails, IsAll};
 ghost use Rattle.scp_line.specs.Script.{IsScript, IsBadLine, commands_in};
 ghost use Rattle.scp_line.specs.Nodes.{Stops};
 ghost use Rattle.scp_line.specs.Outcome.{IsCheckFault, IsPlayFault};
 ghost use Rattle.scp_line.specs.Play.{AreReports, IsShown, IsUnread, IsNamed};
 
-use crate::device::{ReportOut, SCRIPT_LIMIT, ScriptIn, read_script, write_text};
 use crate::messages::line_of;
 use crate::nodes::Nodes;
 use crate::script::{bytes_of, parse};
+use scp_device::{ReportOut, SCRIPT_LIMIT, ScriptIn, read_script, write_text};
 use scp_types::Fault;
 use scp_wire::{Message, decode};
 use std::alloc::Global;

@@ -1,10 +1,10 @@
 //! The program: plays or checks a script from standard input, or shows a message, and answers by its exit status.
 //!
-//! What it promises: it is safe and returns, and what it plays, checks and shows is what `play`, `check` and `show` of `scp_line`
-//! promise. Which words ask for what, and the statuses of the whole program, are shown by tests.
+//! What it promises: it is safe and returns, and what it plays, checks and shows is what `serve` of `scp_serve` promises. Which words ask for what, and the statuses of the whole program, are shown by tests.
 #![tactic(auto)]
 
-use scp_line::{Process, serve, write_text};
+use scp_line::{Process, write_text};
+use scp_serve::serve;
 use std::alloc::{AllocError, Global};
 use std::process::ExitCode;
 use std::{env, io};

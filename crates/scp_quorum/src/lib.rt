@@ -16,9 +16,6 @@ mod quorum_set;
 mod sane_set;
 
 pub use laws::a_quorum_set_is_its_value;
-pub use quorum::greatest_quorum;
+pub use quorum::{greatest_quorum, greatest_quorum_by_passes};
 pub use quorum_set::{QuorumSet, blocked, satisfied};
 pub use sane_set::SaneSet;
-
-#[cfg(test)]
-mod tests;

@@ -1,7 +1,7 @@
 //! The greatest quorum inside given nodes.
 mod counts;
 mod groups;
-pub(crate) mod passes;
+mod passes;
 mod table;
 
 ghost use Rattle.std.specs.Prelude.{◌≡◌, ◌↔◌, ◌<◌, ◌≤◌, IfOk, IfNone, IfSome, OnOk, IsTrue, IsOkUnless, Option};
@@ -19,6 +19,7 @@ use crate::quorum_set::satisfied;
 use crate::sane_set::SaneSet;
 use counts::Counts;
 use groups::{Group, group_nodes, has_member, remove_members};
+pub use passes::greatest_quorum_by_passes;
 use scp_types::{Fault, NodeId};
 use std::alloc::{AllocError, Global};
 use std::collections::{BTreeMap, BTreeSet};

@@ -17,6 +17,3 @@ pub use ballot::Ballot;
 pub use fault::{Fault, Stage};
 pub use names::{ConnId, Hash, NodeId, Seq, Slot};
 pub use value::Value;
-
-#[cfg(test)]
-mod tests;

@@ -22,6 +22,3 @@ pub use carried::Carried;
 pub use codec::{decode, encode, is_side_message, reading_of_is_what_is_spelt};
 pub use link::{Bytes, Cause, Inbound, LinkItem};
 pub use message::{MESSAGE_LIMIT, Message};
-
-#[cfg(test)]
-mod tests;

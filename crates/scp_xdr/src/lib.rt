@@ -27,6 +27,3 @@ pub use xdr::{
     optional_fits, pass_array, pass_optional, read_array, read_optional, spend_array,
     spend_optional, what_is_written_is_read_back, write_array, write_optional,
 };
-
-#[cfg(test)]
-mod tests;

@@ -14,9 +14,9 @@ use std::alloc::Global;
 use std::collections::{BTreeMap, BTreeSet};
 use std::sync::Arc;
 
-/// What `greatest_quorum` answers, by the plain program: passes over all nodes until one removes none.
-/// Each pass costs a look-up for each node of each set.
-pub(crate) fn greatest_quorum_by_passes(
+/// What `greatest_quorum` answers, by the plain program: passes over all nodes until one removes none. It is for comparing.
+/// Each pass costs a look-up for each node of each set, and there are at most as many passes as nodes. The one refusal is want of memory.
+pub fn greatest_quorum_by_passes(
     alloc: Global,
     me: NodeId,
     sets: &BTreeMap<NodeId, Arc<SaneSet>>,

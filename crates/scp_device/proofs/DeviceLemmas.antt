@@ -1,0 +1,58 @@
+-- Reads and writes one after another.
+use Rattle.std.proofs.Common.{◌≡◌, ℕ, List, [], ◌++◌, Option, Some, None, append_assoc, append-nil, refl, subst, sym, ◌∙◌, ap, arith, IfSome}
+use Rattle.std.proofs.lemmas.Grind.{common_steps}
+use Rattle.std.specs.Io.KnownBytes.{Consumes, Appends, Keeps, IsAtEnd}
+use Rattle.scp_device.specs.Device.{Gains, Loses, HasEnded, Stays}
+
+pub gains-nothing : (w : Option (List ℕ)) → Gains w [] w
+gains-nothing None = tt
+gains-nothing (Some old) = grind (arith, common_steps)
+
+pub gains-more : (a b c : Option (List ℕ)) (x y : List ℕ) → Gains a x b → Gains b y c → Gains a (x ++ y) c
+gains-more None b c x y p q = tt
+gains-more (Some old) b c x y p q =
+    let q' : Gains (Some (old ++ x)) y c = subst (λ (o : Option (List ℕ)). Gains o y c) p q in
+    rw append_assoc at q'
+
+pub loses-nothing : (r : Option (List ℕ)) → Loses r [] r
+loses-nothing None = tt
+loses-nothing (Some all) = (all, refl, refl)
+
+pub loses-more : (a b c : Option (List ℕ)) (x y : List ℕ) → Loses a x b → Loses b y c → Loses a (x ++ y) c
+loses-more None b c x y p q = tt
+loses-more (Some all) b c x y p q =
+    let q' : Loses (Some p.0) y c = subst (λ (o : Option (List ℕ)). Loses o y c) p.2 q in
+    (q'.0, p.1 ∙ ap (λ l. x ++ l) q'.1 ∙ sym (append_assoc x y q'.0), q'.2)
+
+-- what was read before the end is all
+pub read-whole : (a b : Option (List ℕ)) (text : List ℕ) → Loses a text b → HasEnded b → IfSome a (λ all. text ≡ all)
+read-whole None b text p h = tt
+read-whole (Some all) b text p h =
+    let none : p.0 ≡ [] = subst HasEnded p.2 h in
+    sym (p.1 ∙ ap (λ l. text ++ l) none ∙ append-nil text)
+
+-- what std's readers and writers say, in the words of this crate
+pub loses_consumed : (a b : Option (List ℕ)) (bytes : List ℕ) → Consumes a b bytes → Loses a bytes b
+loses_consumed None b bytes h = tt
+loses_consumed (Some xs) None bytes h = absurd h
+loses_consumed (Some xs) (Some ys) bytes h = (ys, h, refl)
+
+pub has_ended : (a b : Option (List ℕ)) → Consumes a b [] → IsAtEnd b → HasEnded a
+has_ended None b h e = tt
+has_ended (Some xs) None h e = absurd h
+has_ended (Some xs) (Some ys) h e = h ∙ e
+
+pub gains_appended : (a b : Option (List ℕ)) (bytes : List ℕ) → Appends a b bytes → Gains a bytes b
+gains_appended None b bytes h = tt
+gains_appended (Some xs) None bytes h = absurd h
+gains_appended (Some xs) (Some ys) bytes h = ap Some h
+
+pub stays_kept : (a b : Option (List ℕ)) → Keeps a b → Stays a b
+stays_kept None b h = tt
+stays_kept (Some xs) None h = absurd h
+stays_kept (Some xs) (Some ys) h = ap Some h
+
+pub stays_unwritten : (a b : Option (List ℕ)) → Appends a b [] → Stays a b
+stays_unwritten None b h = tt
+stays_unwritten (Some xs) None h = absurd h
+stays_unwritten (Some xs) (Some ys) h = ap Some (h ∙ append-nil xs)

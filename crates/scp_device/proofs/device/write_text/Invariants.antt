@@ -1,0 +1,15 @@
+use Rattle.std.proofs.Common.{◌≡◌, List, ℕ, Option, length}
+use Rattle.scp_device.specs.Device.{Gains}
+use Rattle.scp_device.proofs.device.write_text.Given as goal
+
+-- what is left leads to all
+abbrev pub invariant-loop-rest : goal.invariant-loop-rest
+invariant-loop-rest g l =
+    let written = g.W.ReportOut.written in
+    record {
+      leads : (end : Option (List ℕ)) → Gains (written l.writer) l.rest end → Gains (written l.initial.writer) l.text end;
+      failures : g.W.ReportOut.failures l.writer ≡ g.W.ReportOut.failures l.initial.writer;
+    }
+
+abbrev pub decreases-loop-rest : goal.decreases-loop-rest
+decreases-loop-rest g l = length l.rest

@@ -1,0 +1,15 @@
+//! Where a script is read from and where a text is written: the process's input and output, memory, and devices that fail.
+//!
+//! What it promises:
+//! - a script is read whole, up to its limit, and a text is written whole;
+//! - a read that fails leaves what is to be read, and a write that fails what was written;
+//! - of the process's input and output the bytes are those of its handle, where these are known;
+//! - a device that fails is told as one, and a device for tests fails from just the call that it is told.
+#![tactic(auto)]
+
+mod device;
+
+pub use device::{
+    FailsAt, MemoryIn, MemoryOut, Process, ReportOut, SCRIPT_LIMIT, ScriptIn, read_script,
+    write_text,
+};

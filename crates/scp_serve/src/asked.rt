@@ -1,0 +1,61 @@
+//! What the words of a command line ask for.
+ghost use Rattle.std.specs.Prelude.{◌≡◌, IsOkUnless, IfErr};
+
+use clap::error::ErrorKind;
+use clap::{Arg, ArgAction, Command, Error};
+use scp_line::Mode;
+use scp_types::Fault;
+use std::alloc::{AllocError, Global};
+
+/// What the words of a command line ask for.
+#[derive(Clone, Copy, Debug, PartialEq, Eq)]
+pub enum Asked<'a> {
+    Run(Mode),
+    Check,
+    Decode(&'a str),
+    /// None of these.
+    Usage,
+}
+
+static MODES: [&str; 1] = ["serial"];
+
+fn commands<'a>(alloc: Global) -> Result<Command<'a>, AllocError> {
+    let mode = Arg::new(alloc, "mode")
+        .long("mode")
+        .value_parser(MODES.as_slice())
+        .default_value("serial");
+    let hex = Arg::new(alloc, "hex").required(true).action(ArgAction::Set);
+    let run = Command::new(alloc, "run").arg(mode)?;
+    let check = Command::new(alloc, "check");
+    let decode = Command::new(alloc, "decode").arg(hex)?;
+    Command::new(alloc, "scp_line")
+        .subcommand_required(true)
+        .subcommand(run)?
+        .subcommand(check)?
+        .subcommand(decode)
+}
+
+fn parsed<'a>(alloc: Global, words: &'a [&'a str]) -> Result<Asked<'a>, Error> {
+    let matches = commands(alloc)?.try_get_matches_from(words)?;
+    let asked = match matches.subcommand() {
+        Some(("run", _)) => Asked::Run(Mode::Serial),
+        Some(("check", _)) => Asked::Check,
+        Some(("decode", inner)) => match inner.get_str("hex") {
+            Some(hex) => Asked::Decode(hex),
+            None => Asked::Usage,
+        },
+        _ => Asked::Usage,
+    };
+    Ok(asked)
+}
+
+/// Reads the words of a command line, the program's own name first.
+pub fn read_words<'a>(alloc: Global, words: &'a [&'a str]) -> Result<Asked<'a>, Fault>
+    ensures { IsOkUnless result Fault.NoMemory }
+{
+    match parsed(alloc, words) {
+        Ok(asked) => Ok(asked),
+        Err(error) if error.kind() == ErrorKind::OutOfMemory => Err(Fault::NoMemory),
+        Err(_) => Ok(Asked::Usage),
+    }
+}

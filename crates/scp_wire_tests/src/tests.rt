@@ -1,0 +1,507 @@
+use scp_quorum::QuorumSet;
+use scp_types::{ConnId, Fault, Hash, NodeId, Seq, Slot, Value};
+use scp_wire::*;
+use std::alloc::Global;
+use std::test::*;
+
+mod again;
+mod envelopes;
+mod kinds;
+
+/// The record of slot 1 whose value is the operation list "put a 1".
+const RECORD: [u8; 40] = [
+    0, 0, 0, 6, 0, 0, 0, 0, 0, 0, 0, 1, 0, 0, 0, 0x18, // the kind, the slot, the length
+    0, 0, 0, 1, 0, 0, 0, 0, 0, 0, 0, 1, 0x61, 0, 0, 0, // one operation, put, its key
+    0, 0, 0, 1, 0x31, 0, 0, 0, // its value
+];
+
+/// A record of slot 1 with a value of one byte.
+const ONE_BYTE: [u8; 20] = [
+    0, 0, 0, 6, 0, 0, 0, 0, 0, 0, 0, 1, 0, 0, 0, 1, 0x31, 0, 0, 0,
+];
+
+/// The message of an envelope of node 1 on slot 1: a nomination that votes for the operation list "put a 1".
+const ENVELOPE: [u8; 124] = [
+    0, 0, 0, 1, 0, 0, 0, 0, // the kind, the type of the key
+    1, 1, 1, 1, 1, 1, 1, 1, 1, 1, 1, 1, 1, 1, 1, 1, // the node
+    1, 1, 1, 1, 1, 1, 1, 1, 1, 1, 1, 1, 1, 1, 1, 1, //
+    0, 0, 0, 0, 0, 0, 0, 1, 0, 0, 0, 3, // the slot, NOMINATE
+    2, 0xe6, 1, 0x26, 0x81, 0xb3, 0x3b, 0xa8, 0xe6, 0xd2, 0xee, 0x7e, 0xfd, 6, 0x9c, 0xab, // the hash
+    0x8c, 0xe9, 0xbe, 0xa8, 0xc9, 0xf4, 0x9e, 0xd0, 0xf5, 0x86, 0x9d, 0x2c, 0xd7, 0x84, 0x6f, 0x3f, //
+    0, 0, 0, 1, 0, 0, 0, 0x18, // one vote, its length
+    0, 0, 0, 1, 0, 0, 0, 0, 0, 0, 0, 1, 0x61, 0, 0, 0, // one operation, put, its key
+    0, 0, 0, 1, 0x31, 0, 0, 0, // its value
+    0, 0, 0, 0, 0, 0, 0, 0, // nothing accepted, no signature
+];
+
+/// What asks for the record of a slot.
+const GET_RECORD: [u8; 12] = [0, 0, 0, 5, 1, 2, 3, 4, 5, 6, 7, 8];
+
+/// A message of a kind that has a hash.
+fn of_hash(kind: u8) -> [u8; 36] {
+    let mut bytes = [7; 36];
+    bytes[..4].copy_from_slice(&[0, 0, 0, kind]);
+    bytes
+}
+
+/// The quorum set of two of three nodes.
+fn two_of_three() -> [u8; 124] {
+    let mut bytes = [0; 124];
+    bytes[3] = 3;
+    bytes[7] = 2;
+    bytes[11] = 3;
+    bytes[16..48].copy_from_slice(&[1; 32]);
+    bytes[52..84].copy_from_slice(&[2; 32]);
+    bytes[88..120].copy_from_slice(&[3; 32]);
+    bytes
+}
+
+/// A quorum set of one inner set of one node.
+fn nested() -> [u8; 64] {
+    let mut bytes = [0; 64];
+    bytes[3] = 3;
+    for place in [7, 15, 19, 23] {
+        bytes[place] = 1;
+    }
+    bytes[28..60].copy_from_slice(&[9; 32]);
+    bytes
+}
+
+/// A quorum set of four inner levels, with no nodes.
+fn four_inner_levels() -> [u8; 64] {
+    let mut bytes = [0; 64];
+    bytes[3] = 3;
+    for place in [15, 27, 39, 51] {
+        bytes[place] = 1;
+    }
+    bytes
+}
+
+/// A quorum set of five inner levels, with no nodes.
+fn five_inner_levels() -> [u8; 76] {
+    let mut bytes = [0; 76];
+    bytes[3] = 3;
+    for place in [15, 27, 39, 51, 63] {
+        bytes[place] = 1;
+    }
+    bytes
+}
+
+/// A record of slot 9 with a value of so many bytes, up to its padding.
+fn long_record(alloc: Global, len: u16) -> Result<Vec<u8>, Fault> {
+    let mut bytes = Vec::from_slice(alloc, &[0, 0, 0, 6, 0, 0, 0, 0, 0, 0, 0, 9, 0, 0])?;
+    bytes.extend_from_slice(&len.to_be_bytes())?;
+    for _ in 0..len {
+        bytes.push(7)?;
+    }
+    Ok(bytes)
+}
+
+/// A quorum set over so many nodes, all the same.
+fn flat(alloc: Global, count: usize) -> Result<QuorumSet, Fault> {
+    let nodes = vec![in alloc; NodeId([5; 32]); count]?;
+    Ok(QuorumSet::new(1, nodes, Vec::new(alloc)))
+}
+
+/// A quorum set around inner sets of so many nodes each.
+fn wide(alloc: Global, counts: &[usize]) -> Result<QuorumSet, Fault> {
+    let mut inner_sets = Vec::new(alloc);
+    for count in counts {
+        inner_sets.push(flat(alloc, *count)?)?;
+    }
+    Ok(QuorumSet::new(1, Vec::new(alloc), inner_sets))
+}
+
+/// The spelling of a message of this quorum set, whatever its length.
+fn spelt(alloc: Global, set: &QuorumSet) -> Result<Vec<u8>, Fault> {
+    let mut bytes = Vec::from_slice(alloc, &[0u8, 0, 0, 3])?;
+    bytes.extend_from_slice(set.encode()?.as_slice())?;
+    Ok(bytes)
+}
+
+/// The slot and the value of a record.
+fn record_of(message: Message) -> Result<(Slot, Value), Fault> {
+    match message {
+        Message::Record(slot, value) => Ok((slot, value)),
+        _ => Err(Fault::Failed),
+    }
+}
+
+/// Whether the message that the bytes spell is written so again.
+fn is_kept(alloc: Global, bytes: &[u8]) -> Result<bool, Fault> {
+    let message = decode(alloc, bytes)?;
+    Ok(encode(alloc, &message)?.as_slice() == bytes)
+}
+
+/// Whether a copy of the message that the bytes spell is written so too.
+fn is_copied(alloc: Global, bytes: &[u8]) -> Result<bool, Fault> {
+    let copy = decode(alloc, bytes)?.copy()?;
+    Ok(encode(alloc, &copy)?.as_slice() == bytes)
+}
+
+/// Where the bytes are malformed, if that is why they are refused.
+fn place_of_fault(alloc: Global, bytes: &[u8]) -> Option<usize> {
+    match decode(alloc, bytes) {
+        Err(Fault::Malformed(place)) => Some(place),
+        _ => None,
+    }
+}
+
+/// Where the bytes are malformed once so many zero bytes follow them.
+fn place_after(alloc: Global, bytes: &[u8], count: usize) -> Result<Option<usize>, Fault> {
+    let mut longer = Vec::from_slice(alloc, bytes)?;
+    longer.extend_from_slice(vec![in alloc; 0u8; count]?.as_slice())?;
+    Ok(place_of_fault(alloc, longer.as_slice()))
+}
+
+fn is_too_long(alloc: Global, bytes: &[u8]) -> bool {
+    matches!(decode(alloc, bytes), Err(Fault::TooLong))
+}
+
+fn encodes_too_long(alloc: Global, message: &Message) -> bool {
+    matches!(encode(alloc, message), Err(Fault::TooLong))
+}
+
+/// Where the item begins that ends past this length: the last of these places up to it.
+fn last_up_to(starts: &[usize], len: usize) -> usize {
+    let mut last = 0;
+    for start in starts {
+        if *start <= len {
+            last = *start;
+        }
+    }
+    last
+}
+
+/// The first length at which the bytes are cut and the fault isn't at the item that is cut.
+fn first_wrong_cut(alloc: Global, bytes: &[u8], starts: &[usize]) -> Option<usize> {
+    for len in 0..bytes.len() {
+        if place_of_fault(alloc, &bytes[..len]) != Some(last_up_to(starts, len)) {
+            return Some(len);
+        }
+    }
+    None
+}
+
+/// The first length at which the bytes are cut and still are a side message.
+fn first_side_cut(bytes: &[u8]) -> Option<usize> {
+    for len in 0..bytes.len() {
+        if is_side_message(&bytes[..len]) {
+            return Some(len);
+        }
+    }
+    None
+}
+
+#[test]
+fn a_record_is_read(rt: HostRuntime) -> Result<(), Fail> {
+    let (slot, value) = record_of(decode(rt.alloc(), &RECORD)?)?;
+    assert_eq!(rt; slot, Slot(1));
+    assert_eq!(rt; value.as_slice(), &RECORD[16..]);
+    Ok(())
+}
+
+#[test]
+fn each_kind_is_written_as_it_was_read(rt: HostRuntime) -> Result<(), Fail> {
+    for bytes in [
+        ENVELOPE.as_slice(),
+        &of_hash(2),
+        &two_of_three(),
+        &nested(),
+        &of_hash(4),
+        &GET_RECORD,
+        &RECORD,
+    ] {
+        assert!(rt; is_kept(rt.alloc(), bytes)?);
+    }
+    Ok(())
+}
+
+#[test]
+fn a_copy_is_written_as_its_original(rt: HostRuntime) -> Result<(), Fail> {
+    for bytes in [
+        ENVELOPE.as_slice(),
+        &of_hash(2),
+        &two_of_three(),
+        &nested(),
+        &of_hash(4),
+        &GET_RECORD,
+        &RECORD,
+    ] {
+        assert!(rt; is_copied(rt.alloc(), bytes)?);
+    }
+    Ok(())
+}
+
+#[test]
+fn a_hash_is_read(rt: HostRuntime) -> Result<(), Fail> {
+    let hash = Hash([7; 32]);
+    let asked = decode(rt.alloc(), &of_hash(2))?;
+    assert!(rt; matches!(asked, Message::GetSet(found) if found == hash));
+    let answered = decode(rt.alloc(), &of_hash(4))?;
+    assert!(rt; matches!(answered, Message::NoSet(found) if found == hash));
+    Ok(())
+}
+
+#[test]
+fn the_slot_that_is_asked_for_is_read(rt: HostRuntime) -> Result<(), Fail> {
+    let asked = decode(rt.alloc(), &GET_RECORD)?;
+    assert!(rt; matches!(asked, Message::GetRecord(Slot(0x0102_0304_0506_0708))));
+    let bytes = encode(rt.alloc(), &Message::GetRecord(Slot(1)))?;
+    assert_eq!(rt;
+        bytes.as_slice(),
+        [0, 0, 0, 5, 0, 0, 0, 0, 0, 0, 0, 1].as_slice()
+    );
+    Ok(())
+}
+
+#[test]
+fn a_slot_has_eight_bytes(rt: HostRuntime) -> Result<(), Fail> {
+    let mut far = RECORD;
+    far[4..12].copy_from_slice(&[1, 2, 3, 4, 5, 6, 7, 8]);
+    let (slot, _) = record_of(decode(rt.alloc(), &far)?)?;
+    assert_eq!(rt; slot, Slot(0x0102_0304_0506_0708));
+    assert!(rt; is_kept(rt.alloc(), &far)?);
+    Ok(())
+}
+
+#[test]
+fn a_cut_record_names_the_item_that_is_cut(rt: HostRuntime) {
+    assert_eq!(rt; first_wrong_cut(rt.alloc(), &RECORD, &[4, 12, 16]), None);
+}
+
+#[test]
+fn a_cut_slot_names_the_item_that_is_cut(rt: HostRuntime) {
+    assert_eq!(rt; first_wrong_cut(rt.alloc(), &GET_RECORD, &[4]), None);
+}
+
+#[test]
+fn a_cut_hash_names_the_item_that_is_cut(rt: HostRuntime) {
+    for kind in [2, 4] {
+        assert_eq!(rt; first_wrong_cut(rt.alloc(), &of_hash(kind), &[4]), None);
+    }
+}
+
+#[test]
+fn a_cut_set_names_the_item_that_is_cut(rt: HostRuntime) {
+    let starts = [4, 8, 12, 16, 48, 52, 84, 88, 120];
+    assert_eq!(rt; first_wrong_cut(rt.alloc(), &two_of_three(), &starts), None);
+    let starts = [4, 8, 12, 16, 20, 24, 28, 60];
+    assert_eq!(rt; first_wrong_cut(rt.alloc(), &nested(), &starts), None);
+}
+
+#[test]
+fn bytes_after_the_end_are_refused(rt: HostRuntime) -> Result<(), Fail> {
+    for bytes in [
+        ENVELOPE.as_slice(),
+        &of_hash(2),
+        &two_of_three(),
+        &nested(),
+        &of_hash(4),
+        &GET_RECORD,
+        &RECORD,
+    ] {
+        assert_eq!(rt; place_after(rt.alloc(), bytes, 1)?, Some(bytes.len()));
+        assert_eq!(rt; place_after(rt.alloc(), bytes, 4)?, Some(bytes.len()));
+    }
+    Ok(())
+}
+
+#[test]
+fn padding_is_zero(rt: HostRuntime) {
+    for place in 17..20 {
+        let mut padded = ONE_BYTE;
+        padded[place] = 1;
+        assert_eq!(rt; place_of_fault(rt.alloc(), &padded), Some(place));
+    }
+}
+
+#[test]
+fn the_first_wrong_byte_of_padding_is_named(rt: HostRuntime) -> Result<(), Fail> {
+    let (_, value) = record_of(decode(rt.alloc(), &ONE_BYTE)?)?;
+    assert_eq!(rt; value.as_slice(), [0x31].as_slice());
+    let mut both = ONE_BYTE;
+    both[18] = 1;
+    both[19] = 1;
+    assert_eq!(rt; place_of_fault(rt.alloc(), &both), Some(18));
+    assert_eq!(rt; place_of_fault(rt.alloc(), &both[..18]), Some(16));
+    // a byte of the padding is missing, and another isn't zero
+    assert_eq!(rt; place_of_fault(rt.alloc(), &both[..19]), Some(16));
+    Ok(())
+}
+
+#[test]
+fn every_other_kind_is_refused(rt: HostRuntime) {
+    for kind in [0, 7, 8, 255] {
+        let mut other = RECORD;
+        other[3] = kind;
+        assert_eq!(rt; place_of_fault(rt.alloc(), &other), Some(0));
+    }
+    let mut high = RECORD;
+    high[0] = 1;
+    assert_eq!(rt; place_of_fault(rt.alloc(), &high), Some(0));
+}
+
+#[test]
+fn a_node_has_one_type_of_key(rt: HostRuntime) {
+    let mut other = two_of_three();
+    other[51] = 1;
+    assert_eq!(rt; place_of_fault(rt.alloc(), &other), Some(48));
+}
+
+#[test]
+fn a_length_over_its_limit_comes_before_missing_bytes(rt: HostRuntime) {
+    let mut long = RECORD;
+    long[14..16].copy_from_slice(&[0x10, 1]);
+    assert!(rt; is_too_long(rt.alloc(), &long));
+    assert!(rt; is_too_long(rt.alloc(), &long[..16]));
+    long[15] = 0;
+    assert_eq!(rt; place_of_fault(rt.alloc(), &long), Some(16));
+}
+
+#[test]
+fn a_count_over_its_limit_comes_before_missing_nodes(rt: HostRuntime) {
+    let mut long = two_of_three();
+    long[10..12].copy_from_slice(&[3, 0xe9]);
+    assert!(rt; is_too_long(rt.alloc(), &long));
+    long[11] = 0xe8;
+    assert_eq!(rt; place_of_fault(rt.alloc(), &long), Some(124));
+}
+
+#[test]
+fn a_quorum_set_has_at_most_four_inner_levels(rt: HostRuntime) -> Result<(), Fail> {
+    assert!(rt; is_kept(rt.alloc(), &four_inner_levels())?);
+    let five = five_inner_levels();
+    assert!(rt; is_too_long(rt.alloc(), &five));
+    // the fifth level is refused at its count, before what is missing of it
+    let counted = five.get(..64).ok_or("shorter")?;
+    assert!(rt; is_too_long(rt.alloc(), counted));
+    let cut = five.get(..62).ok_or("shorter")?;
+    assert_eq!(rt; place_of_fault(rt.alloc(), cut), Some(60));
+    assert!(rt; !is_side_message(&five));
+    Ok(())
+}
+
+#[test]
+fn the_whole_message_has_a_limit(rt: HostRuntime) {
+    let mut zeros = [0; 65_537];
+    assert!(rt; is_too_long(rt.alloc(), &zeros));
+    assert_eq!(rt; place_of_fault(rt.alloc(), &zeros[..65_536]), Some(0));
+    zeros[..40].copy_from_slice(&RECORD);
+    assert!(rt; is_too_long(rt.alloc(), &zeros));
+    assert_eq!(rt; place_of_fault(rt.alloc(), &zeros[..65_536]), Some(40));
+}
+
+#[test]
+fn a_quorum_set_fills_a_message(rt: HostRuntime) -> Result<(), Fail> {
+    let set = wide(rt.alloc(), &[1_000, 800, 19])?;
+    let bytes = spelt(rt.alloc(), &set)?;
+    assert_eq!(rt; bytes.as_slice().len(), 65_536);
+    assert!(rt; is_side_message(bytes.as_slice()));
+    assert!(rt; is_kept(rt.alloc(), bytes.as_slice())?);
+    Ok(())
+}
+
+#[test]
+fn a_longer_quorum_set_is_no_message(rt: HostRuntime) -> Result<(), Fail> {
+    let set = wide(rt.alloc(), &[1_000, 800, 19, 0])?;
+    let bytes = spelt(rt.alloc(), &set)?;
+    assert!(rt; !is_side_message(bytes.as_slice()));
+    assert!(rt; is_too_long(rt.alloc(), bytes.as_slice()));
+    assert!(rt; encodes_too_long(rt.alloc(), &Message::Set(set)));
+    Ok(())
+}
+
+#[test]
+fn a_quorum_set_over_its_own_limit_is_not_written(rt: HostRuntime) -> Result<(), Fail> {
+    let set = flat(rt.alloc(), 1_001)?;
+    assert!(rt; encodes_too_long(rt.alloc(), &Message::Set(set)));
+    Ok(())
+}
+
+#[test]
+fn a_value_may_be_empty(rt: HostRuntime) -> Result<(), Fail> {
+    let mut empty = [0; 16];
+    empty[3] = 6;
+    let (slot, value) = record_of(decode(rt.alloc(), &empty)?)?;
+    assert_eq!(rt; slot, Slot(0));
+    assert!(rt; value.as_slice().is_empty());
+    assert!(rt; is_kept(rt.alloc(), &empty)?);
+    Ok(())
+}
+
+#[test]
+fn a_value_has_at_most_4_096_bytes(rt: HostRuntime) -> Result<(), Fail> {
+    let longest = long_record(rt.alloc(), 4_096)?;
+    assert!(rt; is_kept(rt.alloc(), longest.as_slice())?);
+    let longer = long_record(rt.alloc(), 4_097)?;
+    assert!(rt; is_too_long(rt.alloc(), longer.as_slice()));
+    let value = Value::new(vec![in rt.alloc(); 7; 4_097]?);
+    assert!(rt; encodes_too_long(rt.alloc(), &Message::Record(Slot(9), value)));
+    Ok(())
+}
+
+#[test]
+fn what_is_about_quorum_sets_is_not_carried(rt: HostRuntime) -> Result<(), Fail> {
+    for bytes in [of_hash(2).as_slice(), &two_of_three(), &of_hash(4)] {
+        assert!(rt; !decode(rt.alloc(), bytes)?.is_carried());
+    }
+    Ok(())
+}
+
+#[test]
+fn envelopes_and_what_is_about_records_are_carried(rt: HostRuntime) -> Result<(), Fail> {
+    for bytes in [ENVELOPE.as_slice(), &GET_RECORD, &RECORD] {
+        assert!(rt; decode(rt.alloc(), bytes)?.is_carried());
+    }
+    Ok(())
+}
+
+#[test]
+fn a_message_that_is_not_carried_is_a_side_message(rt: HostRuntime) {
+    for bytes in [
+        of_hash(2).as_slice(),
+        &two_of_three(),
+        &nested(),
+        &of_hash(4),
+    ] {
+        assert!(rt; is_side_message(bytes));
+        assert_eq!(rt; first_side_cut(bytes), None);
+    }
+}
+
+#[test]
+fn carried_messages_and_other_kinds_are_no_side_messages(rt: HostRuntime) {
+    for kind in [0, 1, 5, 6, 7] {
+        assert!(rt; !is_side_message(&of_hash(kind)));
+    }
+    for bytes in [ENVELOPE.as_slice(), &GET_RECORD, &RECORD] {
+        assert!(rt; !is_side_message(bytes));
+    }
+    let mut wrong = two_of_three();
+    wrong[51] = 1;
+    assert!(rt; !is_side_message(&wrong));
+}
+
+#[test]
+fn a_carried_message_has_its_number(rt: HostRuntime) -> Result<(), Fail> {
+    let (slot, value) = record_of(decode(rt.alloc(), &RECORD)?)?;
+    let carried = Carried {
+        conn: ConnId {
+            from: NodeId([2; 32]),
+            to: NodeId([1; 32]),
+            life: 1,
+        },
+        seq: Seq(0),
+        message: Message::Record(slot, value),
+    };
+    assert!(rt; carried.message.is_carried());
+    Ok(())
+}
+
+#[test]
+fn bytes_are_as_they_came(rt: HostRuntime) -> Result<(), Fail> {
+    let bytes = Bytes::new(Vec::from_slice(rt.alloc(), &RECORD)?);
+    assert_eq!(rt; bytes.as_slice(), RECORD.as_slice());
+    Ok(())
+}
