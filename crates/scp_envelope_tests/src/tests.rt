@@ -104,3 +104,59 @@ fn envelope(alloc: Global, statement: Statement) -> Envelope {
         signature: Signature::new(Vec::new(alloc)),
     }
 }
+
+/// Whether the statement is sane.
+fn is_sane(statement: Result<Statement, Fault>) -> Result<bool, Fault> {
+    let statement = statement?;
+    Ok(statement.sane())
+}
+
+/// Whether the second statement is newer than the first.
+fn is_newer(old: Result<Statement, Fault>, new: Result<Statement, Fault>) -> Result<bool, Fault> {
+    let old = old?;
+    let new = new?;
+    Ok(newer(&old, &new))
+}
+
+/// Whether the statement votes to prepare the ballot, and whether it accepts it as prepared.
+fn prepares(
+    alloc: Global,
+    statement: Result<Statement, Fault>,
+    of: Short,
+) -> Result<(bool, bool), Fault> {
+    let statement = statement?;
+    let ballot = ballot(alloc, of)?;
+    Ok((
+        statement.votes_prepare(&ballot),
+        statement.accepts_prepare(&ballot),
+    ))
+}
+
+/// Whether the statement votes to commit the counter and the value, and whether it accepts that.
+fn commits(
+    alloc: Global,
+    statement: Result<Statement, Fault>,
+    counter: u32,
+    byte: u8,
+) -> Result<(bool, bool), Fault> {
+    let statement = statement?;
+    let value = value(alloc, &[byte])?;
+    Ok((
+        statement.votes_commit(counter, &value),
+        statement.accepts_commit(counter, &value),
+    ))
+}
+
+/// Whether the statement votes for the value, and whether it accepts it.
+fn nominates(
+    alloc: Global,
+    statement: Result<Statement, Fault>,
+    byte: u8,
+) -> Result<(bool, bool), Fault> {
+    let statement = statement?;
+    let value = value(alloc, &[byte])?;
+    Ok((
+        statement.votes_value(&value),
+        statement.accepts_value(&value),
+    ))
+}

@@ -96,16 +96,27 @@ fn reads_a_del(rt: HostRuntime) -> Result<(), Fail> {
     Ok(())
 }
 
+fn is_written(rt: &impl Abort, alloc: Global, op: &Op, want: &[u8]) -> Result<(), Fault> {
+    let bytes = encode(alloc, op)?;
+    assert_eq!(rt; bytes.as_slice(), want);
+    Ok(())
+}
+
 #[test]
 fn writes_the_two_kinds(rt: HostRuntime) -> Result<(), Fail> {
-    let alloc = rt.alloc();
-    let put = Op::Put(value(alloc, b"a")?, value(alloc, b"1")?);
-    assert_eq!(rt; encode(alloc, &put)?.as_slice(), &PUT_A[4..]);
-    let del = Op::Del(value(alloc, b"a")?);
-    assert_eq!(rt; encode(alloc, &del)?.as_slice(), &DEL_A[4..]);
-    match decode::<Op>(alloc, &DEL_A[4..])? {
+    let a = value(rt.alloc(), b"a")?;
+    let one = value(rt.alloc(), b"1")?;
+    is_written(&rt, rt.alloc(), &Op::Put(a, one), &PUT_A[4..])?;
+    let a = value(rt.alloc(), b"a")?;
+    is_written(&rt, rt.alloc(), &Op::Del(a), &DEL_A[4..])?;
+    Ok(())
+}
+
+#[test]
+fn an_operation_is_read(rt: HostRuntime) -> Result<(), Fail> {
+    match decode::<Op>(rt.alloc(), &DEL_A[4..])? {
         Op::Put(_, _) => assert!(rt; false),
-        Op::Del(key) => assert!(rt; key == value(alloc, b"a")?),
+        Op::Del(key) => assert_eq!(rt; key.as_slice(), b"a".as_slice()),
     }
     Ok(())
 }
@@ -218,17 +229,21 @@ fn a_key_that_a_state_has_is_got(rt: HostRuntime) -> Result<(), Fail> {
     Ok(())
 }
 
-#[test]
-fn operations_are_applied_in_order(rt: HostRuntime) -> Result<(), Fail> {
-    let alloc = rt.alloc();
-    let mut state = KvState::new(alloc);
+/// A put at "kk", a del of it, and a put there.
+fn three_at_one_key(alloc: Global) -> Result<Vec<u8>, Fault> {
     let mut bytes = list_of(alloc, 3)?;
     push_puts(&mut bytes, 1, 2, 5)?;
     push_dels(&mut bytes, 1, 2)?;
     push_puts(&mut bytes, 1, 2, 1)?;
-    apply_value(&mut state, &value(alloc, &bytes)?)?;
-    assert!(rt; state.get(&value(alloc, b"kk")?) == Some(&value(alloc, b"v")?));
-    assert_eq!(rt; state.len(), 1);
+    Ok(bytes)
+}
+
+#[test]
+fn operations_are_applied_in_order(rt: HostRuntime) -> Result<(), Fail> {
+    let bytes = three_at_one_key(rt.alloc())?;
+    let mut state = KvState::new(rt.alloc());
+    apply_list(rt.alloc(), &mut state, &bytes)?;
+    expect_state(&rt, &state, &[(b"kk", b"v")]);
     Ok(())
 }
 
@@ -238,7 +253,7 @@ fn lines_ascend(rt: HostRuntime) -> Result<(), Fail> {
     let mut state = KvState::new(alloc);
     let keys: [&[u8]; 6] = [b"b", b"ab", b"", b"a", &[0xff], b"aa"];
     for key in keys {
-        state.apply(Op::Put(value(alloc, key)?, value(alloc, key)?))?;
+        put(alloc, &mut state, key, key)?;
     }
     let sorted: [&[u8]; 6] = [b"", b"a", b"aa", b"ab", b"b", &[0xff]];
     assert_eq!(rt; state.lines().count(), 6);

@@ -5,7 +5,6 @@ const MAX: u32 = u32::MAX;
 
 #[test]
 fn a_prepare_votes_up_to_its_ballot(rt: HostRuntime) -> Result<(), Fail> {
-    let prepare = prepare(rt.alloc(), ((3, 5), None, None, 0, 0))?;
     for (of, votes) in [
         ((0, 5), true),
         ((2, 5), true),
@@ -14,16 +13,15 @@ fn a_prepare_votes_up_to_its_ballot(rt: HostRuntime) -> Result<(), Fail> {
         ((2, 4), false),
         ((3, 4), false),
     ] {
-        let ballot = ballot(rt.alloc(), of)?;
-        assert_eq!(rt; prepare.votes_prepare(&ballot), votes, "at {of:?}");
-        assert!(rt; !prepare.accepts_prepare(&ballot), "at {of:?}");
+        let prepare = prepare(rt.alloc(), ((3, 5), None, None, 0, 0));
+        let found = prepares(rt.alloc(), prepare, of)?;
+        assert_eq!(rt; found, (votes, false), "at {of:?}");
     }
     Ok(())
 }
 
 #[test]
 fn a_prepare_accepts_up_to_prepared_and_prepared_prime(rt: HostRuntime) -> Result<(), Fail> {
-    let prepare = prepare(rt.alloc(), ((9, 9), Some((3, 5)), Some((2, 4)), 0, 0))?;
     for (of, accepts) in [
         ((3, 5), true),
         ((1, 5), true),
@@ -33,15 +31,15 @@ fn a_prepare_accepts_up_to_prepared_and_prepared_prime(rt: HostRuntime) -> Resul
         ((1, 6), false),
         ((1, 9), false),
     ] {
-        let ballot = ballot(rt.alloc(), of)?;
-        assert_eq!(rt; prepare.accepts_prepare(&ballot), accepts, "at {of:?}");
+        let prepare = prepare(rt.alloc(), ((9, 9), Some((3, 5)), Some((2, 4)), 0, 0));
+        let (_, found) = prepares(rt.alloc(), prepare, of)?;
+        assert_eq!(rt; found, accepts, "at {of:?}");
     }
     Ok(())
 }
 
 #[test]
 fn a_confirm_votes_each_counter_and_accepts_some(rt: HostRuntime) -> Result<(), Fail> {
-    let confirm = confirm(rt.alloc(), ((3, 5), 4, 2, 3))?;
     for (of, votes, accepts) in [
         ((0, 5), true, true),
         ((4, 5), true, true),
@@ -49,25 +47,24 @@ fn a_confirm_votes_each_counter_and_accepts_some(rt: HostRuntime) -> Result<(), 
         ((MAX, 5), true, false),
         ((1, 4), false, false),
     ] {
-        let ballot = ballot(rt.alloc(), of)?;
-        assert_eq!(rt; confirm.votes_prepare(&ballot), votes, "at {of:?}");
-        assert_eq!(rt; confirm.accepts_prepare(&ballot), accepts, "at {of:?}");
+        let confirm = confirm(rt.alloc(), ((3, 5), 4, 2, 3));
+        let found = prepares(rt.alloc(), confirm, of)?;
+        assert_eq!(rt; found, (votes, accepts), "at {of:?}");
     }
     Ok(())
 }
 
 #[test]
 fn an_externalize_accepts_each_counter(rt: HostRuntime) -> Result<(), Fail> {
-    let externalize = externalize(rt.alloc(), ((3, 5), 4))?;
     for (of, accepts) in [
         ((0, 5), true),
         ((3, 5), true),
         ((MAX, 5), true),
         ((3, 4), false),
     ] {
-        let ballot = ballot(rt.alloc(), of)?;
-        assert_eq!(rt; externalize.accepts_prepare(&ballot), accepts, "at {of:?}");
-        assert!(rt; !externalize.votes_prepare(&ballot), "at {of:?}");
+        let externalize = externalize(rt.alloc(), ((3, 5), 4));
+        let found = prepares(rt.alloc(), externalize, of)?;
+        assert_eq!(rt; found, (false, accepts), "at {of:?}");
     }
     Ok(())
 }
@@ -85,21 +82,15 @@ fn a_prepare_votes_to_commit_within_its_range(rt: HostRuntime) -> Result<(), Fai
         (3, 3, 3, 5, true),
         (1, MAX, MAX, 5, true),
     ] {
-        let prepare = prepare(rt.alloc(), ((3, 5), None, None, low, high))?;
-        let value = value(rt.alloc(), &[byte])?;
-        assert_eq!(rt;
-            prepare.votes_commit(counter, &value),
-            votes,
-            "{low} {high} {counter} {byte}"
-        );
-        assert!(rt; !prepare.accepts_commit(counter, &value));
+        let prepare = prepare(rt.alloc(), ((3, 5), None, None, low, high));
+        let found = commits(rt.alloc(), prepare, counter, byte)?;
+        assert_eq!(rt; found, (votes, false), "{low} {high} {counter} {byte}");
     }
     Ok(())
 }
 
 #[test]
 fn a_confirm_commits_from_its_lowest_on(rt: HostRuntime) -> Result<(), Fail> {
-    let confirm = confirm(rt.alloc(), ((9, 5), 9, 2, 3))?;
     for (counter, byte, votes, accepts) in [
         (1, 5, false, false),
         (2, 5, true, true),
@@ -108,24 +99,15 @@ fn a_confirm_commits_from_its_lowest_on(rt: HostRuntime) -> Result<(), Fail> {
         (MAX, 5, true, false),
         (2, 4, false, false),
     ] {
-        let value = value(rt.alloc(), &[byte])?;
-        assert_eq!(rt;
-            confirm.votes_commit(counter, &value),
-            votes,
-            "{counter} {byte}"
-        );
-        assert_eq!(rt;
-            confirm.accepts_commit(counter, &value),
-            accepts,
-            "{counter} {byte}"
-        );
+        let confirm = confirm(rt.alloc(), ((9, 5), 9, 2, 3));
+        let found = commits(rt.alloc(), confirm, counter, byte)?;
+        assert_eq!(rt; found, (votes, accepts), "{counter} {byte}");
     }
     Ok(())
 }
 
 #[test]
 fn an_externalize_accepts_from_its_commit_on(rt: HostRuntime) -> Result<(), Fail> {
-    let externalize = externalize(rt.alloc(), ((3, 5), 4))?;
     for (counter, byte, accepts) in [
         (2, 5, false),
         (3, 5, true),
@@ -133,26 +115,20 @@ fn an_externalize_accepts_from_its_commit_on(rt: HostRuntime) -> Result<(), Fail
         (MAX, 5, true),
         (3, 4, false),
     ] {
-        let value = value(rt.alloc(), &[byte])?;
-        assert_eq!(rt;
-            externalize.accepts_commit(counter, &value),
-            accepts,
-            "{counter} {byte}"
-        );
-        assert!(rt; !externalize.votes_commit(counter, &value));
+        let externalize = externalize(rt.alloc(), ((3, 5), 4));
+        let found = commits(rt.alloc(), externalize, counter, byte)?;
+        assert_eq!(rt; found, (false, accepts), "{counter} {byte}");
     }
     Ok(())
 }
 
 #[test]
 fn ballot_statements_claim_no_values(rt: HostRuntime) -> Result<(), Fail> {
-    let value = value(rt.alloc(), &[5])?;
-    let prepare = prepare(rt.alloc(), ((3, 5), Some((3, 5)), None, 1, 3))?;
-    let confirm = confirm(rt.alloc(), ((3, 5), 3, 1, 3))?;
-    let externalize = externalize(rt.alloc(), ((3, 5), 3))?;
-    for statement in [&prepare, &confirm, &externalize] {
-        assert!(rt; !statement.votes_value(&value));
-        assert!(rt; !statement.accepts_value(&value));
-    }
+    let prepare = prepare(rt.alloc(), ((3, 5), Some((3, 5)), None, 1, 3));
+    assert_eq!(rt; nominates(rt.alloc(), prepare, 5)?, (false, false));
+    let confirm = confirm(rt.alloc(), ((3, 5), 3, 1, 3));
+    assert_eq!(rt; nominates(rt.alloc(), confirm, 5)?, (false, false));
+    let externalize = externalize(rt.alloc(), ((3, 5), 3));
+    assert_eq!(rt; nominates(rt.alloc(), externalize, 5)?, (false, false));
     Ok(())
 }

@@ -93,24 +93,24 @@ fn confirms_ascend_field_by_field(rt: HostRuntime) -> Result<(), Fail> {
 }
 
 #[test]
-fn the_lowest_commit_and_the_hash_do_not_count(rt: HostRuntime) -> Result<(), Fail> {
+fn the_lowest_commit_does_not_count(rt: HostRuntime) -> Result<(), Fail> {
     for commit in [0, 1, 2] {
-        let old = prepare(rt.alloc(), ((2, 5), Some((2, 5)), None, 1, 2))?;
-        let new = prepare(rt.alloc(), ((2, 5), Some((2, 5)), None, commit, 2))?;
-        assert!(rt; !newer(&old, &new), "prepare {commit}");
-        let old = confirm(rt.alloc(), ((2, 5), 2, 1, 2))?;
-        let new = confirm(rt.alloc(), ((2, 5), 2, commit, 2))?;
-        assert!(rt; !newer(&old, &new), "confirm {commit}");
+        let old = prepare(rt.alloc(), ((2, 5), Some((2, 5)), None, 1, 2));
+        let new = prepare(rt.alloc(), ((2, 5), Some((2, 5)), None, commit, 2));
+        assert!(rt; !is_newer(old, new)?, "prepare {commit}");
+        let old = confirm(rt.alloc(), ((2, 5), 2, 1, 2));
+        let new = confirm(rt.alloc(), ((2, 5), 2, commit, 2));
+        assert!(rt; !is_newer(old, new)?, "confirm {commit}");
     }
     Ok(())
 }
 
 #[test]
 fn no_externalize_is_newer_than_another(rt: HostRuntime) -> Result<(), Fail> {
-    let old = externalize(rt.alloc(), ((1, 5), 1))?;
     for (commit, high) in [((1, 5), 1), ((1, 5), 2), ((2, 5), 2), ((1, 6), 1)] {
-        let new = externalize(rt.alloc(), (commit, high))?;
-        assert!(rt; !newer(&old, &new), "{commit:?} {high}");
+        let old = externalize(rt.alloc(), ((1, 5), 1));
+        let new = externalize(rt.alloc(), (commit, high));
+        assert!(rt; !is_newer(old, new)?, "{commit:?} {high}");
     }
     Ok(())
 }

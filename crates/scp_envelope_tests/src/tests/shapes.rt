@@ -27,6 +27,18 @@ fn nominating(alloc: Global, votes: ValueList, accepted: ValueList) -> Envelope 
     envelope(alloc, statement(pledges))
 }
 
+/// The spelling of a copy of the envelope.
+fn spelling_of_copy(alloc: Global, original: &Envelope) -> Result<Vec<u8>, Fault> {
+    let copied = original.copy()?;
+    encode(alloc, &copied)
+}
+
+/// The spelling of what is read of these bytes.
+fn spelling_of_read(alloc: Global, bytes: &[u8]) -> Result<Vec<u8>, Fault> {
+    let read = decode(alloc, bytes)?;
+    encode(alloc, &read)
+}
+
 /// The envelope's spelling has this length; its copy has the same one, and so has what is read of it.
 fn is_copied_and_read(
     rt: &impl Abort,
@@ -36,41 +48,55 @@ fn is_copied_and_read(
 ) -> Result<(), Fault> {
     let written = encode(alloc, original)?;
     assert_eq!(rt; written.len(), len);
-    let copied = encode(alloc, &original.copy()?)?;
+    let copied = spelling_of_copy(alloc, original)?;
     assert_eq!(rt; copied.as_slice(), written.as_slice());
-    let read = encode(alloc, &decode(alloc, &written)?)?;
+    let read = spelling_of_read(alloc, &written)?;
     assert_eq!(rt; read.as_slice(), written.as_slice());
     Ok(())
 }
 
-/// Lengths up to 64 are written; a signature may be made with more, and is copied.
+/// A NOMINATE of no values with a signature of so many bytes.
+fn signed(alloc: Global, len: usize) -> Result<Envelope, Fault> {
+    let signature = Signature::new(vec![in alloc; 9; len]?);
+    let mut original = nominating(alloc, many(alloc, 0, 0)?, many(alloc, 0, 0)?);
+    original.signature = signature;
+    Ok(original)
+}
+
+/// Lengths up to 64 are written.
 #[test]
 fn signatures_of_each_length(rt: HostRuntime) -> Result<(), Fail> {
-    let alloc = rt.alloc();
-    for (signed, len) in [(0, 92), (1, 96), (4, 96), (63, 156), (64, 156)] {
-        let mut original = nominating(alloc, list(alloc, b"")?, list(alloc, b"")?);
-        original.signature = Signature::new(vec![in alloc; 9; signed]?);
-        is_copied_and_read(&rt, alloc, &original, len)?;
+    for (length, len) in [(0, 92), (1, 96), (4, 96), (63, 156), (64, 156)] {
+        let original = signed(rt.alloc(), length)?;
+        is_copied_and_read(&rt, rt.alloc(), &original, len)?;
     }
-    for signed in [65, 4_097, 70_000] {
-        let mut original = nominating(alloc, list(alloc, b"")?, list(alloc, b"")?);
-        original.signature = Signature::new(vec![in alloc; 9; signed]?);
+    Ok(())
+}
+
+/// A signature may be made with more than 64 bytes, and is copied.
+#[test]
+fn long_signatures_are_copied(rt: HostRuntime) -> Result<(), Fail> {
+    for length in [65, 4_097, 70_000] {
+        let original = signed(rt.alloc(), length)?;
         let copied = original.copy()?;
         assert_eq!(rt; copied.signature.as_slice(), original.signature.as_slice());
     }
     Ok(())
 }
 
-/// All 128 values of the greatest length: more bytes than a message may have.
+/// A NOMINATE of so many votes and accepted values of the greatest length.
+fn longest(alloc: Global, votes: usize, accepted: usize) -> Result<Envelope, Fault> {
+    let votes = many(alloc, votes, 4_096)?;
+    let accepted = many(alloc, accepted, 4_096)?;
+    Ok(nominating(alloc, votes, accepted))
+}
+
+/// All 128 values, and 16 of them: more bytes than a message may have.
 #[test]
 fn the_longest_nomination(rt: HostRuntime) -> Result<(), Fail> {
-    let alloc = rt.alloc();
-    let votes = many(alloc, 64, 4_096)?;
-    let accepted = many(alloc, 64, 4_096)?;
-    let original = nominating(alloc, votes, accepted);
-    is_copied_and_read(&rt, alloc, &original, 524_892)?;
-    let votes = many(alloc, 16, 4_096)?;
-    let shorter = nominating(alloc, votes, list(alloc, b"")?);
-    is_copied_and_read(&rt, alloc, &shorter, 65_692)?;
+    for (votes, accepted, len) in [(64, 64, 524_892), (16, 0, 65_692)] {
+        let original = longest(rt.alloc(), votes, accepted)?;
+        is_copied_and_read(&rt, rt.alloc(), &original, len)?;
+    }
     Ok(())
 }

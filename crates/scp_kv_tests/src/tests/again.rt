@@ -22,11 +22,6 @@ fn three(alloc: Global) -> Result<Vec<u8>, Fault> {
     Ok(bytes)
 }
 
-/// The key of this number.
-fn key(alloc: Global, number: u8) -> Result<Value, Fault> {
-    value(alloc, &[number])
-}
-
 /// The state has just the keys below this one, each at itself.
 fn has_keys_below(rt: &impl Abort, state: &KvState, bound: u8) {
     assert_eq!(rt; state.len(), bound as usize);
@@ -37,40 +32,41 @@ fn has_keys_below(rt: &impl Abort, state: &KvState, bound: u8) {
     }
 }
 
+/// Puts the key of this number, once more where it was refused.
+fn put_again(rt: &impl Abort, alloc: Global, state: &mut KvState, number: u8) -> Result<(), Fault> {
+    if first_try(rt, put(alloc, state, &[number], &[number])).is_none() {
+        has_keys_below(rt, state, number);
+        put(alloc, state, &[number], &[number])?;
+    }
+    has_keys_below(rt, state, number.saturating_add(1));
+    Ok(())
+}
+
 /// A put of each key in turn, of which each is made again where it was refused.
 #[test]
 fn a_refused_put_leaves_the_state_and_is_made_again(rt: HostRuntime) -> Result<(), Fail> {
-    let alloc = rt.alloc();
-    let mut state = KvState::new(alloc);
+    let mut state = KvState::new(rt.alloc());
     for number in 0..40u8 {
-        let name = key(alloc, number)?;
-        let put = Op::Put(name.copy()?, name.copy()?);
-        if first_try(&rt, state.apply(put)).is_none() {
-            has_keys_below(&rt, &state, number);
-            assert!(rt; state.get(&name) == None);
-            state.apply(Op::Put(name.copy()?, name.copy()?))?;
-        }
-        has_keys_below(&rt, &state, number.saturating_add(1));
-        assert!(rt; state.get(&name) == Some(&name));
+        put_again(&rt, rt.alloc(), &mut state, number)?;
     }
     Ok(())
+}
+
+/// Applies the list to a state that is given up after a refusal.
+fn apply_first(rt: &impl Abort, alloc: Global, list: &Value) {
+    let mut given_up = KvState::new(alloc);
+    if first_try(rt, apply_value(&mut given_up, list)).is_some() {
+        expect_state(rt, &given_up, &[(b"kk", b"v")]);
+    }
 }
 
 /// A value that is refused is applied to another state: nothing is said of the first one.
 #[test]
 fn a_refused_value_is_applied_again(rt: HostRuntime) -> Result<(), Fail> {
-    let alloc = rt.alloc();
-    let list = Value::new(three(alloc)?);
-    let name = value(alloc, b"kk")?;
-    let entry = value(alloc, b"v")?;
-    let mut given_up = KvState::new(alloc);
-    if first_try(&rt, apply_value(&mut given_up, &list)).is_some() {
-        assert!(rt; given_up.get(&name) == Some(&entry));
-        assert_eq!(rt; given_up.len(), 1);
-    }
-    let mut state = KvState::new(alloc);
+    let list = Value::new(three(rt.alloc())?);
+    apply_first(&rt, rt.alloc(), &list);
+    let mut state = KvState::new(rt.alloc());
     apply_value(&mut state, &list)?;
-    assert!(rt; state.get(&name) == Some(&entry));
-    assert_eq!(rt; state.len(), 1);
+    expect_state(&rt, &state, &[(b"kk", b"v")]);
     Ok(())
 }

@@ -4,32 +4,38 @@ use super::*;
 /// How many keys a large state has.
 const KEYS: u32 = 1_500;
 
-/// The bytes of a number. As keys they ascend as their numbers do.
-fn numbered(alloc: Global, number: u32) -> Result<Value, Fault> {
-    value(alloc, &number.to_be_bytes())
-}
-
-/// The state with each key up to the last at itself, put in another order than theirs.
+/// The state with each number up to the last at itself, put in another order than theirs. Their bytes ascend as they do.
 fn large(alloc: Global) -> Result<KvState, Fault> {
     let mut state = KvState::new(alloc);
     for step in 0..KEYS {
         let number = step.wrapping_mul(7) % KEYS;
-        state.apply(Op::Put(numbered(alloc, number)?, numbered(alloc, number)?))?;
+        let bytes = number.to_be_bytes();
+        put(alloc, &mut state, &bytes, &bytes)?;
     }
     Ok(state)
 }
 
+/// Whether the state has the key.
+fn has(alloc: Global, state: &KvState, key: &[u8]) -> Result<bool, Fault> {
+    let key = value(alloc, key)?;
+    Ok(state.get(&key).is_some())
+}
+
+/// Whether the state has the number at itself.
+fn has_itself(alloc: Global, state: &KvState, number: u32) -> Result<bool, Fault> {
+    let key = value(alloc, &number.to_be_bytes())?;
+    Ok(state.get(&key) == Some(&key))
+}
+
 #[test]
 fn each_key_of_a_large_state_is_got(rt: HostRuntime) -> Result<(), Fail> {
-    let alloc = rt.alloc();
-    let state = large(alloc)?;
+    let state = large(rt.alloc())?;
     assert_eq!(rt; state.len(), 1_500);
     for number in 0..KEYS {
-        let key = numbered(alloc, number)?;
-        assert!(rt; state.get(&key) == Some(&key), "at {number}");
+        assert!(rt; has_itself(rt.alloc(), &state, number)?, "at {number}");
     }
-    assert!(rt; state.get(&numbered(alloc, KEYS)?) == None);
-    assert!(rt; state.get(&value(alloc, &[])?) == None);
+    assert!(rt; !has(rt.alloc(), &state, &KEYS.to_be_bytes())?);
+    assert!(rt; !has(rt.alloc(), &state, &[])?);
     Ok(())
 }
 
@@ -46,10 +52,25 @@ fn puts(alloc: Global, count: u32, entry_len: u32, last_len: u32) -> Result<Vec<
     Ok(out)
 }
 
+/// The list is applied twice; the state has the keys of its puts then.
+fn is_applied(rt: &impl Abort, alloc: Global, bytes: &[u8], count: u32) -> Result<(), Fault> {
+    let mut state = KvState::new(alloc);
+    for _ in 0..2 {
+        apply_list(alloc, &mut state, bytes)?;
+        assert_eq!(rt; state.len(), count as usize);
+    }
+    for number in 0..count {
+        assert!(rt;
+            has(alloc, &state, &number.to_be_bytes())?,
+            "{number} of {count}"
+        );
+    }
+    Ok(())
+}
+
 /// Lists of so many operations up to the greatest number, and of so many bytes up to 4,096.
 #[test]
 fn long_lists_are_applied(rt: HostRuntime) -> Result<(), Fail> {
-    let alloc = rt.alloc();
     for (count, entry_len, last_len, len) in [
         (0, 0, 0, 4),
         (1, 0, 256, 276),
@@ -61,20 +82,10 @@ fn long_lists_are_applied(rt: HostRuntime) -> Result<(), Fail> {
         (64, 48, 40, 4_092),
         (64, 48, 44, 4_096),
     ] {
-        let bytes = puts(alloc, count, entry_len, last_len)?;
+        let bytes = puts(rt.alloc(), count, entry_len, last_len)?;
         assert_eq!(rt; bytes.len(), len);
-        expect_ops(&rt, alloc, &bytes, Some(count as usize))?;
-        let mut state = KvState::new(alloc);
-        for _ in 0..2 {
-            apply_value(&mut state, &value(alloc, &bytes)?)?;
-            assert_eq!(rt; state.len(), count as usize);
-        }
-        for number in 0..count {
-            assert!(rt;
-                state.get(&numbered(alloc, number)?).is_some(),
-                "{number} of {count}"
-            );
-        }
+        expect_ops(&rt, rt.alloc(), &bytes, Some(count as usize))?;
+        is_applied(&rt, rt.alloc(), &bytes, count)?;
     }
     Ok(())
 }
