@@ -45,7 +45,8 @@ def kind_of(ended):
             return "DEFECT", f"kept {ended.kept} blocks: {said[:300]}"
         return ("want" if WANT.search(err) else "other error"), said[:300]
     place = re.search(rb"\ntest stopped at (src/tests\S*)\n$", ended.out)
-    if ended.status == -6 and place and err.startswith("assertion"):
+    # (an assertion may have a text of its own, so its place tells it)
+    if ended.status == -6 and place:
         return "assertion", f"{place[1].decode()}: {said[:600]}"
     return "DEFECT", f"status {ended.status}: {said[:600]} | out {ended.out[-200:]!r}"
 
