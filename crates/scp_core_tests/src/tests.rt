@@ -3,6 +3,7 @@ use scp_quorum::QuorumSet;
 use scp_types::{ConnId, Fault, NodeId, Seq, Slot, Value};
 use scp_wire::{MESSAGE_LIMIT, Message, encode};
 use std::alloc::Global;
+use std::process::Abort;
 use std::test::Fail;
 
 mod again;
@@ -78,13 +79,14 @@ fn both_nodes(alloc: Global) -> Result<QuorumSet, Fault> {
     Ok(QuorumSet::new(2, nodes, Vec::new(alloc)))
 }
 
-fn config(alloc: Global) -> Result<Config, Fault> {
+/// The configuration of a node of this set.
+fn config_of(alloc: Global, set: QuorumSet) -> Result<Config, Fault> {
     let peers = peers(alloc, &[PEER])?;
-    Ok(Config {
-        me: ME,
-        set: both_nodes(alloc)?,
-        peers,
-    })
+    Ok(Config { me: ME, set, peers })
+}
+
+fn config(alloc: Global) -> Result<Config, Fault> {
+    config_of(alloc, both_nodes(alloc)?)
 }
 
 fn new_node(alloc: Global) -> Result<Node, Fault> {
@@ -177,6 +179,17 @@ fn entries(alloc: Global, node: &Node) -> Result<Vec<Entry>, Fault> {
     entries_of(alloc, node.journal())
 }
 
+/// The node has just these entries.
+fn expect_entries(
+    rt: &impl Abort,
+    alloc: Global,
+    node: &Node,
+    want: &[Entry],
+) -> Result<(), Fault> {
+    assert_eq!(rt; entries(alloc, node)?.as_slice(), want);
+    Ok(())
+}
+
 /// The entries after these acts, each of which the node accepts.
 fn entries_after(alloc: Global, acts: &[Act<'_>]) -> Result<Vec<Entry>, Fault> {
     let node = after(alloc, acts)?;
@@ -196,11 +209,15 @@ fn entry_count(node: &Node) -> usize {
     node.journal().len()
 }
 
-fn last_verdict(journal: &[Fate]) -> Option<Verdict> {
-    match journal.last() {
-        Some(Fate::Taken { verdict, .. }) => Some(*verdict),
-        _ => None,
+fn verdict_of(fate: &Fate) -> Option<Verdict> {
+    match entry_of(fate) {
+        Entry::Taken(_, _, verdict) => Some(verdict),
+        Entry::Closed(_, _) => None,
     }
+}
+
+fn last_verdict(journal: &[Fate]) -> Option<Verdict> {
+    verdict_of(journal.last()?)
 }
 
 /// The verdict on a record for the slot.
@@ -209,28 +226,53 @@ fn verdict_on(alloc: Global, node: &mut Node, slot: u64) -> Result<Option<Verdic
     Ok(last_verdict(node.journal()))
 }
 
-fn slots_of(alloc: Global, decisions: &[SharedDecision]) -> Result<Vec<u64>, Fault> {
-    let mut slots = Vec::new(alloc);
-    for decision in decisions {
-        slots.push(decision.get().slot.0)?;
+/// Records for these slots, one after the other, have these verdicts.
+fn expect_verdicts(
+    rt: &impl Abort,
+    alloc: Global,
+    node: &mut Node,
+    verdicts: &[(u64, Verdict)],
+) -> Result<(), Fault> {
+    for (slot, want) in verdicts {
+        let verdict = verdict_on(alloc, node, *slot)?;
+        assert_eq!(rt; verdict, Some(*want), "slot {slot}");
     }
-    Ok(slots)
+    Ok(())
 }
 
-fn applied_slots(alloc: Global, node: &Node) -> Result<Vec<u64>, Fault> {
-    slots_of(alloc, node.applied())
+/// Whether these are the decisions of these slots, in this order.
+fn has_slots(decisions: &[SharedDecision], slots: &[u64]) -> bool {
+    for (decision, slot) in decisions.iter().zip(slots) {
+        if decision.get().slot.0 != *slot {
+            return false;
+        }
+    }
+    decisions.len() == slots.len()
+}
+
+fn first_byte_at(node: &Node, key: &Value) -> Option<u8> {
+    let value = node.state()?.get(key)?;
+    value.as_slice().first().copied()
 }
 
 /// The first byte that the state has for the key.
 fn value_of(alloc: Global, node: &Node, key: &[u8]) -> Result<Option<u8>, Fault> {
     let key = Value::new(Vec::from_slice(alloc, key)?);
-    let Some(state) = node.state() else {
-        return Ok(None);
-    };
-    match state.get(&key) {
-        Some(value) => Ok(value.as_slice().first().copied()),
-        None => Ok(None),
-    }
+    Ok(first_byte_at(node, &key))
+}
+
+/// The node has applied these slots, and its state begins so at a and at b.
+fn expect_applied(
+    rt: &impl Abort,
+    alloc: Global,
+    node: &Node,
+    slots: &[u64],
+    of_keys: [Option<u8>; 2],
+) -> Result<(), Fault> {
+    assert!(rt; has_slots(node.applied(), slots));
+    let found = [value_of(alloc, node, b"a")?, value_of(alloc, node, b"b")?];
+    assert_eq!(rt; found, of_keys);
+    Ok(())
 }
 
 #[test]
@@ -265,11 +307,8 @@ fn a_config_has_one_other_peer(rt: HostRuntime) -> Result<(), Fail> {
     Ok(())
 }
 
-#[test]
-fn a_record_decides_its_slot(rt: HostRuntime) -> Result<(), Fail> {
-    let node = after(rt.alloc(), &[Act::Open(0), Act::Record(1, &PUT_A)])?;
-    let first = node.decisions().first().ok_or("no decision")?;
-    let decision = first.share()?;
+/// The decision is for "put a 1", by the first message of the link's first life.
+fn expect_named(rt: &impl Abort, decision: &SharedDecision) {
     assert_eq!(rt; decision.get().value.as_slice(), PUT_A.as_slice());
     let conn = ConnId {
         from: PEER,
@@ -277,6 +316,16 @@ fn a_record_decides_its_slot(rt: HostRuntime) -> Result<(), Fail> {
         life: 1,
     };
     assert_eq!(rt; decision.origin, Origin::Named { conn, seq: Seq(0) });
+}
+
+#[test]
+fn a_record_decides_its_slot(rt: HostRuntime) -> Result<(), Fail> {
+    let node = after(rt.alloc(), &[Act::Open(0), Act::Record(1, &PUT_A)])?;
+    let [decision] = node.decisions() else {
+        return Err("not one decision".into());
+    };
+    expect_named(&rt, decision);
+    expect_named(&rt, &decision.share()?);
     Ok(())
 }
 
@@ -291,72 +340,70 @@ fn records_out_of_order_are_applied_in_order(rt: HostRuntime) -> Result<(), Fail
         Act::Record(1, &PUT_B),
     ];
     let node = after(alloc, &acts)?;
-    assert_eq!(rt;
-        entries(alloc, &node)?.as_slice(),
-        [
-            Entry::Taken(1, 0, Verdict::Decided),
-            Entry::Taken(1, 1, Verdict::Decided),
-            Entry::Taken(1, 2, Verdict::Decided),
-            Entry::Taken(1, 3, Verdict::Already),
-        ]
-        .as_slice()
-    );
-    assert_eq!(rt;
-        applied_slots(alloc, &node)?.as_slice(),
-        [1, 2, 3].as_slice()
-    );
-    assert_eq!(rt; value_of(alloc, &node, b"a")?, None);
-    assert_eq!(rt; value_of(alloc, &node, b"b")?, Some(50));
+    let entries = [
+        Entry::Taken(1, 0, Verdict::Decided),
+        Entry::Taken(1, 1, Verdict::Decided),
+        Entry::Taken(1, 2, Verdict::Decided),
+        Entry::Taken(1, 3, Verdict::Already),
+    ];
+    expect_entries(&rt, alloc, &node, &entries)?;
+    expect_applied(&rt, alloc, &node, &[1, 2, 3], [None, Some(50)])?;
     Ok(())
 }
 
+/// Slots with the verdicts on their records, one after the other. Once that for slot 1 is taken, slots 1 to 16 are applied.
+const WINDOW: [(u64, Verdict); 25] = [
+    (17, Verdict::FarSlot),
+    (16, Verdict::Decided),
+    (15, Verdict::Decided),
+    (14, Verdict::Decided),
+    (13, Verdict::Decided),
+    (12, Verdict::Decided),
+    (11, Verdict::Decided),
+    (10, Verdict::Decided),
+    (9, Verdict::Decided),
+    (8, Verdict::Decided),
+    (7, Verdict::Decided),
+    (6, Verdict::Decided),
+    (5, Verdict::Decided),
+    (4, Verdict::Decided),
+    (3, Verdict::Decided),
+    (2, Verdict::Decided),
+    (1, Verdict::Decided),
+    (0, Verdict::Already),
+    (16, Verdict::Already),
+    (33, Verdict::FarSlot),
+    (4_294_967_296, Verdict::FarSlot),
+    (u64::MAX, Verdict::FarSlot),
+    (32, Verdict::Decided),
+    (32, Verdict::Already),
+    (17, Verdict::Decided),
+];
+
 #[test]
 fn the_window_has_sixteen_slots(rt: HostRuntime) -> Result<(), Fail> {
-    let alloc = rt.alloc();
-    let mut node = after(alloc, &[Act::Open(0)])?;
-    assert_eq!(rt; verdict_on(alloc, &mut node, 17)?, Some(Verdict::FarSlot));
-    for above in 0..16 {
-        let verdict = verdict_on(alloc, &mut node, 16 - above)?;
-        assert_eq!(rt; verdict, Some(Verdict::Decided));
-    }
-    // Slots 1 to 16 are applied.
-    for (slot, verdict) in [
-        (0, Verdict::Already),
-        (16, Verdict::Already),
-        (33, Verdict::FarSlot),
-        (4_294_967_296, Verdict::FarSlot),
-        (u64::MAX, Verdict::FarSlot),
-        (32, Verdict::Decided),
-        (32, Verdict::Already),
-        (17, Verdict::Decided),
-    ] {
-        assert_eq!(rt;
-            verdict_on(alloc, &mut node, slot)?,
-            Some(verdict),
-            "slot {slot}"
-        );
-    }
-    assert_eq!(rt; applied_slots(alloc, &node)?.len(), 17);
+    let mut node = after(rt.alloc(), &[Act::Open(0)])?;
+    expect_verdicts(&rt, rt.alloc(), &mut node, &WINDOW)?;
+    assert_eq!(rt; node.applied().len(), 17);
+    Ok(())
+}
+
+/// A new node's link is opened once, and its other links never.
+fn expect_one_link(rt: &impl Abort, alloc: Global, node: &mut Node) -> Result<(), Fault> {
+    let acts = [Act::Close(0), Act::Send(&[]), Act::Send(&SET)];
+    assert!(rt; all_reply(alloc, node, &acts, Reply::NotOpen)?);
+    let of_others = [Act::Open(1), Act::Close(1)];
+    assert!(rt; all_reply(alloc, node, &of_others, Reply::NoLink)?);
+    assert_eq!(rt; node.step(Event::Open(0)), Reply::Accepted);
+    assert_eq!(rt; reply_to(node, &Event::Open(0)), Reply::AlreadyOpen);
+    assert_eq!(rt; [node.lives(0), node.lives(1)], [1, 0]);
     Ok(())
 }
 
 #[test]
 fn a_link_is_opened_once(rt: HostRuntime) -> Result<(), Fail> {
-    let alloc = rt.alloc();
-    let mut node = new_node(alloc)?;
-    let acts = [Act::Close(0), Act::Send(&[]), Act::Send(&SET)];
-    assert!(rt; all_reply(alloc, &mut node, &acts, Reply::NotOpen)?);
-    assert!(rt;
-        all_reply(
-            alloc,
-            &mut node,
-            &[Act::Open(1), Act::Close(1)],
-            Reply::NoLink
-        )?
-    );
-    assert_eq!(rt; node.step(Event::Open(0)), Reply::Accepted);
-    assert_eq!(rt; reply_to(&mut node, &Event::Open(0)), Reply::AlreadyOpen);
-    assert_eq!(rt; [node.lives(0), node.lives(1)], [1, 0]);
+    let mut node = new_node(rt.alloc())?;
+    expect_one_link(&rt, rt.alloc(), &mut node)?;
     Ok(())
 }
 
@@ -372,9 +419,8 @@ fn a_connection_ends_once(rt: HostRuntime) -> Result<(), Fail> {
         Act::Record(2, &PUT_B),
         Act::Close(0),
     ];
-    let node = after(rt.alloc(), &acts)?;
     assert_eq!(rt;
-        entries(rt.alloc(), &node)?.as_slice(),
+        entries_after(rt.alloc(), &acts)?.as_slice(),
         [
             Entry::Taken(1, 0, Verdict::Decided),
             Entry::Closed(1, Cause::Malformed),
@@ -398,9 +444,8 @@ fn side_messages_have_no_number_and_no_entry(rt: HostRuntime) -> Result<(), Fail
         Act::Send(&SET),
         Act::Close(0),
     ];
-    let node = after(rt.alloc(), &acts)?;
     assert_eq!(rt;
-        entries(rt.alloc(), &node)?.as_slice(),
+        entries_after(rt.alloc(), &acts)?.as_slice(),
         [
             Entry::Taken(1, 0, Verdict::Decided),
             Entry::Taken(1, 1, Verdict::Decided),
@@ -411,9 +456,20 @@ fn side_messages_have_no_number_and_no_entry(rt: HostRuntime) -> Result<(), Fail
     Ok(())
 }
 
+/// The bytes end the connection, and the record behind them isn't read.
+fn expect_malformed(rt: &impl Abort, alloc: Global, bytes: &[u8]) -> Result<(), Fault> {
+    let acts = [Act::Open(0), Act::Send(bytes), Act::Record(1, &PUT_A)];
+    let found = entries_after(alloc, &acts)?;
+    assert_eq!(rt;
+        found.as_slice(),
+        [Entry::Closed(1, Cause::Malformed)].as_slice()
+    );
+    Ok(())
+}
+
 #[test]
 fn what_is_malformed_ends_the_connection(rt: HostRuntime) -> Result<(), Fail> {
-    let long = vec![in rt.alloc(); 0u8; MESSAGE_LIMIT + 1]?;
+    let long = [0; MESSAGE_LIMIT + 1];
     for bytes in [
         long.as_slice(),
         &[0, 0, 0, 2],
@@ -421,23 +477,17 @@ fn what_is_malformed_ends_the_connection(rt: HostRuntime) -> Result<(), Fail> {
         &[0, 0, 0, 4, 7, 7, 7, 7],
         &[0, 0, 0, 5],
     ] {
-        let acts = [Act::Open(0), Act::Send(bytes), Act::Record(1, &PUT_A)];
-        let node = after(rt.alloc(), &acts)?;
-        assert_eq!(rt;
-            entries(rt.alloc(), &node)?.as_slice(),
-            [Entry::Closed(1, Cause::Malformed)].as_slice()
-        );
+        expect_malformed(&rt, rt.alloc(), bytes)?;
     }
     Ok(())
 }
 
 #[test]
 fn lives_are_spent_after_65_535(rt: HostRuntime) -> Result<(), Fail> {
-    let alloc = rt.alloc();
-    let mut node = new_node(alloc)?;
-    let acts = [Act::Open(0), Act::Close(0)];
+    let mut node = new_node(rt.alloc())?;
     for _ in 0..65_535u32 {
-        assert!(rt; all_reply(alloc, &mut node, &acts, Reply::Accepted)?);
+        assert_eq!(rt; reply_to(&mut node, &Event::Open(0)), Reply::Accepted);
+        assert_eq!(rt; reply_to(&mut node, &Event::Close(0)), Reply::Accepted);
     }
     assert_eq!(rt; reply_to(&mut node, &Event::Open(0)), Reply::LivesSpent);
     assert_eq!(rt;
@@ -458,19 +508,22 @@ fn full(alloc: Global) -> Result<Node, Fault> {
     }
 }
 
+/// A node with a full journal takes side messages, and is failed by a record.
+fn expect_full(rt: &impl Abort, alloc: Global, node: &mut Node) -> Result<(), Fault> {
+    let side = [Act::Send(&GET_SET), Act::Send(&SET), Act::Send(&NO_SET)];
+    assert!(rt; all_reply(alloc, node, &side, Reply::Accepted)?);
+    assert!(rt; node.state().is_some());
+    let reply = act_on(alloc, node, &Act::Record(1, &PUT_A))?;
+    assert_eq!(rt; reply, Reply::JournalFull);
+    assert!(rt; all_reply(alloc, node, &side, Reply::Failed)?);
+    assert_eq!(rt; entry_count(node), 1_000_000);
+    assert!(rt; node.state().is_none());
+    Ok(())
+}
+
 #[test]
 fn a_full_journal_takes_side_messages_alone(rt: HostRuntime) -> Result<(), Fail> {
-    let alloc = rt.alloc();
-    let mut node = full(alloc)?;
-    let side = [Act::Send(&GET_SET), Act::Send(&SET), Act::Send(&NO_SET)];
-    assert!(rt; all_reply(alloc, &mut node, &side, Reply::Accepted)?);
-    assert!(rt; node.state().is_some());
-    assert_eq!(rt;
-        act_on(alloc, &mut node, &Act::Record(1, &PUT_A))?,
-        Reply::JournalFull
-    );
-    assert!(rt; all_reply(alloc, &mut node, &side, Reply::Failed)?);
-    assert_eq!(rt; entry_count(&node), 1_000_000);
-    assert!(rt; node.state().is_none());
+    let mut node = full(rt.alloc())?;
+    expect_full(&rt, rt.alloc(), &mut node)?;
     Ok(())
 }

@@ -3,6 +3,7 @@
 use scp_envelope::*;
 use scp_types::{Ballot, Fault, Hash, NodeId, Slot, Value};
 use std::alloc::Global;
+use std::process::Abort;
 
 mod again;
 mod claimed;
@@ -14,6 +15,19 @@ mod shapes;
 mod spelt;
 
 type Short = (u32, u8);
+
+/// A statement of node 1 on slot 1.
+#[derive(Clone, Copy, Debug)]
+enum Said {
+    /// Ballot, prepared, preparedPrime, nC and nH.
+    Prepare(Short, Option<Short>, Option<Short>, u32, u32),
+    /// Ballot, nPrepared, nCommit and nH.
+    Confirm(Short, u32, u32, u32),
+    /// Commit and nH.
+    Externalize(Short, u32),
+    /// Votes and accepted.
+    Nominate(&'static [u8], &'static [u8]),
+}
 
 fn value(alloc: Global, bytes: &[u8]) -> Result<Value, Fault> {
     Ok(Value::new(Vec::from_slice(alloc, bytes)?))
@@ -33,15 +47,21 @@ fn optional(alloc: Global, short: Option<Short>) -> Result<Option<Ballot>, Fault
     }
 }
 
+/// Adds a value of these bytes.
+fn push_value(values: &mut Vec<Value>, alloc: Global, bytes: &[u8]) -> Result<(), Fault> {
+    values.push(value(alloc, bytes)?)?;
+    Ok(())
+}
+
 fn list(alloc: Global, bytes: &[u8]) -> Result<ValueList, Fault> {
     let mut values = Vec::new(alloc);
     for byte in bytes {
-        values.push(value(alloc, &[*byte])?)?;
+        push_value(&mut values, alloc, &[*byte])?;
     }
     Ok(ValueList::new(values))
 }
 
-/// A statement of node 1 on slot 1.
+/// What the pledges say, of node 1 on slot 1.
 fn statement(pledges: Pledges) -> Statement {
     Statement {
         node: NodeId([1; 32]),
@@ -50,51 +70,56 @@ fn statement(pledges: Pledges) -> Statement {
     }
 }
 
-/// Of ballot, prepared, preparedPrime, nC and nH.
-fn prepare(
-    alloc: Global,
-    short: (Short, Option<Short>, Option<Short>, u32, u32),
-) -> Result<Statement, Fault> {
-    let (of_ballot, prepared, prime, n_commit, n_high) = short;
-    Ok(statement(Pledges::Prepare(Prepare {
-        set_hash: Hash([2; 32]),
-        ballot: ballot(alloc, of_ballot)?,
-        prepared: optional(alloc, prepared)?,
-        prepared_prime: optional(alloc, prime)?,
-        n_commit,
-        n_high,
-    })))
+/// What the statement says, in full.
+fn pledges(alloc: Global, said: Said) -> Result<Pledges, Fault> {
+    let set_hash = Hash([2; 32]);
+    match said {
+        Said::Prepare(short, prepared, prime, n_commit, n_high) => Ok(Pledges::Prepare(Prepare {
+            set_hash,
+            ballot: ballot(alloc, short)?,
+            prepared: optional(alloc, prepared)?,
+            prepared_prime: optional(alloc, prime)?,
+            n_commit,
+            n_high,
+        })),
+        Said::Confirm(short, n_prepared, n_commit, n_high) => Ok(Pledges::Confirm(Confirm {
+            ballot: ballot(alloc, short)?,
+            n_prepared,
+            n_commit,
+            n_high,
+            set_hash,
+        })),
+        Said::Externalize(short, n_high) => Ok(Pledges::Externalize(Externalize {
+            commit: ballot(alloc, short)?,
+            n_high,
+            set_hash,
+        })),
+        Said::Nominate(votes, accepted) => Ok(Pledges::Nominate(Nominate {
+            set_hash,
+            votes: list(alloc, votes)?,
+            accepted: list(alloc, accepted)?,
+        })),
+    }
 }
 
-/// Of ballot, nPrepared, nCommit and nH.
-fn confirm(alloc: Global, short: (Short, u32, u32, u32)) -> Result<Statement, Fault> {
-    let (of_ballot, n_prepared, n_commit, n_high) = short;
-    Ok(statement(Pledges::Confirm(Confirm {
-        ballot: ballot(alloc, of_ballot)?,
-        n_prepared,
-        n_commit,
-        n_high,
-        set_hash: Hash([2; 32]),
-    })))
+/// The statement in full.
+fn stated(alloc: Global, said: Said) -> Result<Statement, Fault> {
+    Ok(statement(pledges(alloc, said)?))
 }
 
-/// Of commit and nH.
-fn externalize(alloc: Global, short: (Short, u32)) -> Result<Statement, Fault> {
-    let (of_commit, n_high) = short;
-    Ok(statement(Pledges::Externalize(Externalize {
-        commit: ballot(alloc, of_commit)?,
-        n_high,
-        set_hash: Hash([2; 32]),
-    })))
+/// The statements in the same order.
+fn all_stated(alloc: Global, said: &[Said]) -> Result<Vec<Statement>, Fault> {
+    let mut statements = Vec::new(alloc);
+    for one in said {
+        push_stated(&mut statements, alloc, *one)?;
+    }
+    Ok(statements)
 }
 
-/// Of votes and accepted.
-fn nominate(alloc: Global, votes: &[u8], accepted: &[u8]) -> Result<Statement, Fault> {
-    Ok(statement(Pledges::Nominate(Nominate {
-        set_hash: Hash([2; 32]),
-        votes: list(alloc, votes)?,
-        accepted: list(alloc, accepted)?,
-    })))
+/// Adds the statement.
+fn push_stated(statements: &mut Vec<Statement>, alloc: Global, said: Said) -> Result<(), Fault> {
+    statements.push(stated(alloc, said)?)?;
+    Ok(())
 }
 
 /// The statement with an empty signature.
@@ -105,58 +130,169 @@ fn envelope(alloc: Global, statement: Statement) -> Envelope {
     }
 }
 
-/// Whether the statement is sane.
-fn is_sane(statement: Result<Statement, Fault>) -> Result<bool, Fault> {
-    let statement = statement?;
-    Ok(statement.sane())
+/// A NOMINATE of these lists, without a signature.
+fn nominating(alloc: Global, votes: ValueList, accepted: ValueList) -> Envelope {
+    let pledges = Pledges::Nominate(Nominate {
+        set_hash: Hash([255; 32]),
+        votes,
+        accepted,
+    });
+    envelope(alloc, statement(pledges))
+}
+
+/// A value of so many bytes.
+fn long(alloc: Global, len: usize) -> Result<Value, Fault> {
+    Ok(Value::new(vec![in alloc; 7; len]?))
+}
+
+/// Adds a value of so many bytes.
+fn push_long(values: &mut Vec<Value>, alloc: Global, len: usize) -> Result<(), Fault> {
+    values.push(long(alloc, len)?)?;
+    Ok(())
+}
+
+/// So many values of so many bytes.
+fn many(alloc: Global, count: usize, len: usize) -> Result<ValueList, Fault> {
+    let mut values = Vec::new(alloc);
+    for _ in 0..count {
+        push_long(&mut values, alloc, len)?;
+    }
+    Ok(ValueList::new(values))
+}
+
+/// The envelope's spelling is these bytes.
+fn is_spelt(
+    rt: &impl Abort,
+    alloc: Global,
+    envelope: &Envelope,
+    bytes: &[u8],
+) -> Result<(), Fault> {
+    let spelling = encode(alloc, envelope)?;
+    assert_eq!(rt; spelling.as_slice(), bytes);
+    Ok(())
+}
+
+/// The spelling of a copy of the envelope is these bytes.
+fn is_copied(
+    rt: &impl Abort,
+    alloc: Global,
+    original: &Envelope,
+    bytes: &[u8],
+) -> Result<(), Fault> {
+    let copied = original.copy()?;
+    is_spelt(rt, alloc, &copied, bytes)
+}
+
+/// Each statement is sane, or is not, as its row says.
+fn expect_sane(rt: &impl Abort, alloc: Global, rows: &[(Said, bool)]) -> Result<(), Fault> {
+    for (said, want) in rows {
+        let statement = stated(alloc, *said)?;
+        assert_eq!(rt; statement.sane(), *want, "{said:?}");
+    }
+    Ok(())
+}
+
+/// Each row's second statement is newer than its first, or is not, as the row says.
+fn expect_newer(rt: &impl Abort, alloc: Global, rows: &[(Said, Said, bool)]) -> Result<(), Fault> {
+    for (old, new, want) in rows {
+        let found = is_newer(alloc, *old, *new)?;
+        assert_eq!(rt; found, *want, "{old:?} {new:?}");
+    }
+    Ok(())
 }
 
 /// Whether the second statement is newer than the first.
-fn is_newer(old: Result<Statement, Fault>, new: Result<Statement, Fault>) -> Result<bool, Fault> {
-    let old = old?;
-    let new = new?;
-    Ok(newer(&old, &new))
+fn is_newer(alloc: Global, old: Said, new: Said) -> Result<bool, Fault> {
+    let old = stated(alloc, old)?;
+    is_newer_than(alloc, &old, new)
+}
+
+/// Whether the new statement is newer than this one.
+fn is_newer_than(alloc: Global, old: &Statement, new: Said) -> Result<bool, Fault> {
+    let new = stated(alloc, new)?;
+    Ok(newer(old, &new))
+}
+
+/// Of each ballot, whether the statement votes to prepare it, and whether it accepts it as prepared.
+fn expect_prepares(
+    rt: &impl Abort,
+    alloc: Global,
+    said: Said,
+    rows: &[(Short, bool, bool)],
+) -> Result<(), Fault> {
+    for (of, votes, accepts) in rows {
+        let found = prepares(alloc, said, *of)?;
+        assert_eq!(rt; found, (*votes, *accepts), "{said:?} at {of:?}");
+    }
+    Ok(())
 }
 
 /// Whether the statement votes to prepare the ballot, and whether it accepts it as prepared.
-fn prepares(
-    alloc: Global,
-    statement: Result<Statement, Fault>,
-    of: Short,
-) -> Result<(bool, bool), Fault> {
-    let statement = statement?;
+fn prepares(alloc: Global, said: Said, of: Short) -> Result<(bool, bool), Fault> {
     let ballot = ballot(alloc, of)?;
+    prepares_ballot(alloc, said, &ballot)
+}
+
+/// The same of a ballot in full.
+fn prepares_ballot(alloc: Global, said: Said, ballot: &Ballot) -> Result<(bool, bool), Fault> {
+    let statement = stated(alloc, said)?;
     Ok((
-        statement.votes_prepare(&ballot),
-        statement.accepts_prepare(&ballot),
+        statement.votes_prepare(ballot),
+        statement.accepts_prepare(ballot),
     ))
 }
 
-/// Whether the statement votes to commit the counter and the value, and whether it accepts that.
-fn commits(
+/// Of each counter and value, whether the statement votes to commit them, and whether it accepts that.
+fn expect_commits(
+    rt: &impl Abort,
     alloc: Global,
-    statement: Result<Statement, Fault>,
-    counter: u32,
-    byte: u8,
-) -> Result<(bool, bool), Fault> {
-    let statement = statement?;
-    let value = value(alloc, &[byte])?;
+    said: Said,
+    rows: &[(Short, bool, bool)],
+) -> Result<(), Fault> {
+    for (of, votes, accepts) in rows {
+        let found = commits(alloc, said, *of)?;
+        assert_eq!(rt; found, (*votes, *accepts), "{said:?} at {of:?}");
+    }
+    Ok(())
+}
+
+/// Whether the statement votes to commit the ballot's counter and value, and whether it accepts that.
+fn commits(alloc: Global, said: Said, of: Short) -> Result<(bool, bool), Fault> {
+    let ballot = ballot(alloc, of)?;
+    commits_ballot(alloc, said, &ballot)
+}
+
+/// The same of a ballot in full.
+fn commits_ballot(alloc: Global, said: Said, ballot: &Ballot) -> Result<(bool, bool), Fault> {
+    let statement = stated(alloc, said)?;
     Ok((
-        statement.votes_commit(counter, &value),
-        statement.accepts_commit(counter, &value),
+        statement.votes_commit(ballot.counter, &ballot.value),
+        statement.accepts_commit(ballot.counter, &ballot.value),
     ))
+}
+
+/// Of each value, whether the statement votes for it, and whether it accepts it.
+fn expect_nominates(
+    rt: &impl Abort,
+    alloc: Global,
+    said: Said,
+    rows: &[(u8, bool, bool)],
+) -> Result<(), Fault> {
+    for (byte, votes, accepts) in rows {
+        let found = nominates(alloc, said, *byte)?;
+        assert_eq!(rt; found, (*votes, *accepts), "{said:?} at {byte}");
+    }
+    Ok(())
 }
 
 /// Whether the statement votes for the value, and whether it accepts it.
-fn nominates(
-    alloc: Global,
-    statement: Result<Statement, Fault>,
-    byte: u8,
-) -> Result<(bool, bool), Fault> {
-    let statement = statement?;
+fn nominates(alloc: Global, said: Said, byte: u8) -> Result<(bool, bool), Fault> {
     let value = value(alloc, &[byte])?;
-    Ok((
-        statement.votes_value(&value),
-        statement.accepts_value(&value),
-    ))
+    nominates_value(alloc, said, &value)
+}
+
+/// The same of a value in full.
+fn nominates_value(alloc: Global, said: Said, value: &Value) -> Result<(bool, bool), Fault> {
+    let statement = stated(alloc, said)?;
+    Ok((statement.votes_value(value), statement.accepts_value(value)))
 }

@@ -51,73 +51,110 @@ fn push_dels(out: &mut Vec<u8>, count: u32, key_len: u32) -> Result<(), Fault> {
     Ok(())
 }
 
+/// For each key a put with a value, of these lengths, or a del where there is no value.
+fn push_each(out: &mut Vec<u8>, ops: &[(u32, Option<u32>)]) -> Result<(), Fault> {
+    for (key_len, value_len) in ops {
+        match value_len {
+            Some(value_len) => push_puts(out, 1, *key_len, *value_len)?,
+            None => push_dels(out, 1, *key_len)?,
+        }
+    }
+    Ok(())
+}
+
 /// The start of a list of so many operations.
 fn list_of(alloc: Global, count: u32) -> Result<Vec<u8>, Fault> {
     Ok(Vec::from_slice(alloc, &count.to_be_bytes())?)
 }
 
-/// The bytes are a list of so many operations, or no list.
-fn expect_ops(
-    rt: &impl Abort,
-    alloc: Global,
-    bytes: &[u8],
-    want: Option<usize>,
-) -> Result<(), Fault> {
+/// The list of the bytes, or none.
+fn read(alloc: Global, bytes: &[u8]) -> Result<Option<Vec<Op>>, Fault> {
     let list = value(alloc, bytes)?;
-    assert_eq!(rt; is_ops(&list), want.is_some());
-    let ops = ops_of(alloc, &list)?;
-    assert_eq!(rt; ops.map(|ops| ops.len()), want);
-    Ok(())
+    ops_of(alloc, &list)
+}
+
+/// Whether the bytes are a list.
+fn is_list(alloc: Global, bytes: &[u8]) -> Result<bool, Fault> {
+    let list = value(alloc, bytes)?;
+    Ok(is_ops(&list))
+}
+
+/// How many operations there are, where there is a list.
+fn count_of(ops: &Option<Vec<Op>>) -> Option<usize> {
+    match ops {
+        Some(ops) => Some(ops.len()),
+        None => None,
+    }
+}
+
+/// Whether the bytes are a list of so many operations, or no list.
+fn has_ops(alloc: Global, bytes: &[u8], want: Option<usize>) -> Result<bool, Fault> {
+    Ok(is_list(alloc, bytes)? == want.is_some() && count_of(&read(alloc, bytes)?) == want)
+}
+
+/// Whether the operation puts "1" at "a".
+fn puts_a(op: &Op) -> bool {
+    match op {
+        Op::Put(key, value) => {
+            key.as_slice() == b"a".as_slice() && value.as_slice() == b"1".as_slice()
+        }
+        Op::Del(_) => false,
+    }
+}
+
+/// Whether the operation deletes "a".
+fn dels_a(op: &Op) -> bool {
+    match op {
+        Op::Put(_, _) => false,
+        Op::Del(key) => key.as_slice() == b"a".as_slice(),
+    }
+}
+
+/// The one operation of a list.
+fn lone(ops: &Option<Vec<Op>>) -> Option<&Op> {
+    match ops {
+        Some(ops) if ops.len() == 1 => ops.first(),
+        _ => None,
+    }
 }
 
 #[test]
 fn reads_a_put(rt: HostRuntime) -> Result<(), Fail> {
-    let alloc = rt.alloc();
-    let puts = ops_of(alloc, &value(alloc, &PUT_A)?)?.expect(&rt, "a list");
-    assert_eq!(rt; puts.len(), 1);
-    match &puts[0] {
-        Op::Put(key, value) => {
-            assert!(rt; key.as_slice() == b"a".as_slice() && value.as_slice() == b"1".as_slice());
-        }
-        Op::Del(_) => assert!(rt; false),
-    }
+    let puts = read(rt.alloc(), &PUT_A)?;
+    assert!(rt; matches!(lone(&puts), Some(op) if puts_a(op)));
     Ok(())
 }
 
 #[test]
 fn reads_a_del(rt: HostRuntime) -> Result<(), Fail> {
-    let alloc = rt.alloc();
-    let dels = ops_of(alloc, &value(alloc, &DEL_A)?)?.expect(&rt, "a list");
-    assert_eq!(rt; dels.len(), 1);
-    match &dels[0] {
-        Op::Put(_, _) => assert!(rt; false),
-        Op::Del(key) => assert_eq!(rt; key.as_slice(), b"a".as_slice()),
-    }
+    let dels = read(rt.alloc(), &DEL_A)?;
+    assert!(rt; matches!(lone(&dels), Some(op) if dels_a(op)));
     Ok(())
 }
 
-fn is_written(rt: &impl Abort, alloc: Global, op: &Op, want: &[u8]) -> Result<(), Fault> {
-    let bytes = encode(alloc, op)?;
-    assert_eq!(rt; bytes.as_slice(), want);
-    Ok(())
+/// Whether the operation is written as these bytes.
+fn is_written(alloc: Global, op: Op, want: &[u8]) -> Result<bool, Fault> {
+    Ok(encode(alloc, &op)?.as_slice() == want)
+}
+
+/// A put of "1" at "a".
+fn put_a(alloc: Global) -> Result<Op, Fault> {
+    let key = value(alloc, b"a")?;
+    Ok(Op::Put(key, value(alloc, b"1")?))
 }
 
 #[test]
 fn writes_the_two_kinds(rt: HostRuntime) -> Result<(), Fail> {
-    let a = value(rt.alloc(), b"a")?;
-    let one = value(rt.alloc(), b"1")?;
-    is_written(&rt, rt.alloc(), &Op::Put(a, one), &PUT_A[4..])?;
-    let a = value(rt.alloc(), b"a")?;
-    is_written(&rt, rt.alloc(), &Op::Del(a), &DEL_A[4..])?;
+    let alloc = rt.alloc();
+    assert!(rt; is_written(alloc, put_a(alloc)?, &PUT_A[4..])?);
+    assert!(rt; is_written(alloc, Op::Del(value(alloc, b"a")?), &DEL_A[4..])?);
     Ok(())
 }
 
 #[test]
 fn an_operation_is_read(rt: HostRuntime) -> Result<(), Fail> {
-    match decode::<Op>(rt.alloc(), &DEL_A[4..])? {
-        Op::Put(_, _) => assert!(rt; false),
-        Op::Del(key) => assert_eq!(rt; key.as_slice(), b"a".as_slice()),
-    }
+    let op = decode::<Op>(rt.alloc(), &DEL_A[4..])?;
+    assert!(rt; dels_a(&op));
     Ok(())
 }
 
@@ -140,7 +177,7 @@ fn a_list_is_exact(rt: HostRuntime) -> Result<(), Fail> {
         (&third, None),
     ];
     for (bytes, want) in lists {
-        expect_ops(&rt, rt.alloc(), bytes, want)?;
+        assert!(rt; has_ops(rt.alloc(), bytes, want)?, "{bytes:?}");
     }
     Ok(())
 }
@@ -151,18 +188,18 @@ fn a_list_keeps_its_limits(rt: HostRuntime) -> Result<(), Fail> {
     for (count, want) in [(64, Some(64)), (65, None)] {
         let mut bytes = list_of(alloc, count)?;
         push_dels(&mut bytes, count, 0)?;
-        expect_ops(&rt, alloc, &bytes, want)?;
+        assert!(rt; has_ops(alloc, &bytes, want)?, "{count} dels");
     }
     for (key_len, want) in [(0, Some(2)), (64, Some(2)), (65, None)] {
         let mut bytes = list_of(alloc, 2)?;
         push_puts(&mut bytes, 1, key_len, 0)?;
         push_dels(&mut bytes, 1, key_len)?;
-        expect_ops(&rt, alloc, &bytes, want)?;
+        assert!(rt; has_ops(alloc, &bytes, want)?, "a key of {key_len}");
     }
     for (value_len, want) in [(0, Some(1)), (256, Some(1)), (257, None)] {
         let mut bytes = list_of(alloc, 1)?;
         push_puts(&mut bytes, 1, 1, value_len)?;
-        expect_ops(&rt, alloc, &bytes, want)?;
+        assert!(rt; has_ops(alloc, &bytes, want)?, "a value of {value_len}");
     }
     // 4 + 12 * (12 + 64 + 256) + 12 + 64 + 32 bytes, and the same with a word more.
     for (last_len, len, want) in [(32, 4_096, Some(13)), (33, 4_100, None)] {
@@ -170,9 +207,9 @@ fn a_list_keeps_its_limits(rt: HostRuntime) -> Result<(), Fail> {
         push_puts(&mut bytes, 12, 64, 256)?;
         push_puts(&mut bytes, 1, 64, last_len)?;
         assert_eq!(rt; bytes.len(), len);
-        expect_ops(&rt, alloc, &bytes, want)?;
+        assert!(rt; has_ops(alloc, &bytes, want)?, "{len} bytes");
         bytes.push(0)?;
-        expect_ops(&rt, alloc, &bytes, None)?;
+        assert!(rt; has_ops(alloc, &bytes, None)?, "{len} bytes and one");
     }
     Ok(())
 }
@@ -188,33 +225,58 @@ fn put(alloc: Global, state: &mut KvState, key: &[u8], entry: &[u8]) -> Result<(
     state.apply(Op::Put(key, entry))
 }
 
-/// The state has just these keys, ascending, each with its value.
-fn expect_state(rt: &impl Abort, state: &KvState, want: &[(&[u8], &[u8])]) {
-    assert_eq!(rt; state.len(), want.len());
-    assert_eq!(rt; state.is_empty(), want.is_empty());
-    assert_eq!(rt; state.lines().count(), want.len());
-    for ((key, entry), (wanted_key, wanted_entry)) in state.lines().zip(want.iter()) {
-        assert_eq!(rt; key.as_slice(), *wanted_key);
-        assert_eq!(rt; entry.as_slice(), *wanted_entry);
+/// Whether the state has just these keys, ascending, each with its value.
+fn has_lines(state: &KvState, want: &[(&[u8], &[u8])]) -> bool {
+    if state.len() != want.len()
+        || state.is_empty() != want.is_empty()
+        || state.lines().count() != want.len()
+    {
+        return false;
     }
+    for ((key, entry), (wanted_key, wanted_entry)) in state.lines().zip(want.iter()) {
+        if key.as_slice() != *wanted_key || entry.as_slice() != *wanted_entry {
+            return false;
+        }
+    }
+    true
+}
+
+/// Puts "1" and then "2" at "b", and applies an empty list and bytes that are no list.
+fn put_b(alloc: Global, state: &mut KvState) -> Result<(), Fault> {
+    put(alloc, state, b"b", b"1")?;
+    put(alloc, state, b"b", b"2")?;
+    apply_list(alloc, state, &[0; 4])?;
+    apply_list(alloc, state, &[])
+}
+
+/// Deletes "a" by a list, and once more by an operation.
+fn del_a(alloc: Global, state: &mut KvState) -> Result<(), Fault> {
+    apply_list(alloc, state, &DEL_A)?;
+    state.apply(Op::Del(value(alloc, b"a")?))
 }
 
 #[test]
 fn values_change_the_state(rt: HostRuntime) -> Result<(), Fail> {
     let alloc = rt.alloc();
     let mut state = KvState::new(alloc);
-    expect_state(&rt, &state, &[]);
+    assert!(rt; has_lines(&state, &[]));
     apply_list(alloc, &mut state, &PUT_A)?;
-    expect_state(&rt, &state, &[(b"a", b"1")]);
-    put(alloc, &mut state, b"b", b"1")?;
-    put(alloc, &mut state, b"b", b"2")?;
-    apply_list(alloc, &mut state, &[0; 4])?;
-    apply_list(alloc, &mut state, &[])?;
-    expect_state(&rt, &state, &[(b"a", b"1"), (b"b", b"2")]);
-    apply_list(alloc, &mut state, &DEL_A)?;
-    state.apply(Op::Del(value(alloc, b"a")?))?;
-    expect_state(&rt, &state, &[(b"b", b"2")]);
+    assert!(rt; has_lines(&state, &[(b"a", b"1")]));
+    put_b(alloc, &mut state)?;
+    assert!(rt; has_lines(&state, &[(b"a", b"1"), (b"b", b"2")]));
+    del_a(alloc, &mut state)?;
+    assert!(rt; has_lines(&state, &[(b"b", b"2")]));
     Ok(())
+}
+
+/// Whether this entry, or none, is what the state has at the key.
+fn has_at(alloc: Global, state: &KvState, key: &[u8], want: Option<&[u8]>) -> Result<bool, Fault> {
+    let key = value(alloc, key)?;
+    Ok(match (state.get(&key), want) {
+        (Some(entry), Some(want)) => entry.as_slice() == want,
+        (None, None) => true,
+        _ => false,
+    })
 }
 
 #[test]
@@ -222,19 +284,15 @@ fn a_key_that_a_state_has_is_got(rt: HostRuntime) -> Result<(), Fail> {
     let alloc = rt.alloc();
     let mut state = KvState::new(alloc);
     put(alloc, &mut state, b"b", b"2")?;
-    let b = value(alloc, b"b")?;
-    assert!(rt; matches!(state.get(&b), Some(entry) if entry.as_slice() == b"2".as_slice()));
-    let a = value(alloc, b"a")?;
-    assert!(rt; state.get(&a) == None);
+    assert!(rt; has_at(alloc, &state, b"b", Some(b"2".as_slice()))?);
+    assert!(rt; has_at(alloc, &state, b"a", None)?);
     Ok(())
 }
 
 /// A put at "kk", a del of it, and a put there.
 fn three_at_one_key(alloc: Global) -> Result<Vec<u8>, Fault> {
     let mut bytes = list_of(alloc, 3)?;
-    push_puts(&mut bytes, 1, 2, 5)?;
-    push_dels(&mut bytes, 1, 2)?;
-    push_puts(&mut bytes, 1, 2, 1)?;
+    push_each(&mut bytes, &[(2, Some(5)), (2, None), (2, Some(1))])?;
     Ok(bytes)
 }
 
@@ -243,23 +301,28 @@ fn operations_are_applied_in_order(rt: HostRuntime) -> Result<(), Fail> {
     let bytes = three_at_one_key(rt.alloc())?;
     let mut state = KvState::new(rt.alloc());
     apply_list(rt.alloc(), &mut state, &bytes)?;
-    expect_state(&rt, &state, &[(b"kk", b"v")]);
+    assert!(rt; has_lines(&state, &[(b"kk", b"v")]));
     Ok(())
 }
 
+const UNSORTED: [&[u8]; 6] = [b"b", b"ab", b"", b"a", &[0xff], b"aa"];
+
+/// Those keys ascending, each at itself.
+const SORTED: [(&[u8], &[u8]); 6] = [
+    (b"", b""),
+    (b"a", b"a"),
+    (b"aa", b"aa"),
+    (b"ab", b"ab"),
+    (b"b", b"b"),
+    (&[0xff], &[0xff]),
+];
+
 #[test]
 fn lines_ascend(rt: HostRuntime) -> Result<(), Fail> {
-    let alloc = rt.alloc();
-    let mut state = KvState::new(alloc);
-    let keys: [&[u8]; 6] = [b"b", b"ab", b"", b"a", &[0xff], b"aa"];
-    for key in keys {
-        put(alloc, &mut state, key, key)?;
+    let mut state = KvState::new(rt.alloc());
+    for key in UNSORTED {
+        put(rt.alloc(), &mut state, key, key)?;
     }
-    let sorted: [&[u8]; 6] = [b"", b"a", b"aa", b"ab", b"b", &[0xff]];
-    assert_eq!(rt; state.lines().count(), 6);
-    for ((key, entry), want) in state.lines().zip(sorted.iter()) {
-        assert_eq!(rt; key.as_slice(), *want);
-        assert!(rt; entry == key);
-    }
+    assert!(rt; has_lines(&state, &SORTED));
     Ok(())
 }

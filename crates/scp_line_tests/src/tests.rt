@@ -46,9 +46,12 @@ const VERDICTS: &[u8] =
 const VERDICTS_REPORT: &[u8] =
     b"node 1\nconn 2 1\n0 taken decided\n1 taken already\n2 taken far-slot\n3 taken old-slot\n4 taken forwarded\n5 taken own\n6 taken bad-statement\n7 taken bad-value\n8 taken fresh\n9 taken stale\napplied 1 00000000 record 2 1 0\nend\n";
 
+const RUN: [&str; 2] = ["scp_line", "run"];
+
+const CHECK: [&str; 2] = ["scp_line", "check"];
+
 /// The exit status of the words over the script, and whether the text is what was written.
-fn serves(rt: &HostRuntime, words: &[&str], script: &[u8], text: &[u8]) -> Option<u8> {
-    let alloc = rt.alloc();
+fn serves(alloc: Global, words: &[&str], script: &[u8], text: &[u8]) -> Option<u8> {
     let mut reader = MemoryIn::new(script);
     let mut writer = MemoryOut::new(Vec::new(alloc));
     let status = serve(alloc, words, &mut reader, &mut writer);
@@ -59,282 +62,335 @@ fn serves(rt: &HostRuntime, words: &[&str], script: &[u8], text: &[u8]) -> Optio
     }
 }
 
-#[test]
-fn plays_a_record(rt: HostRuntime) -> Result<(), Fail> {
-    let alloc = rt.alloc();
-    let mut reader = MemoryIn::new(SCRIPT);
+/// What is written where the script is played.
+fn played(alloc: Global, script: &[u8]) -> Result<MemoryOut, Fail> {
+    let mut reader = MemoryIn::new(script);
     let mut writer = MemoryOut::new(Vec::new(alloc));
     play(alloc, Mode::Serial, &mut reader, &mut writer)?;
-    assert!(rt; writer.text() == REPORT);
+    Ok(writer)
+}
+
+#[test]
+fn plays_a_record(rt: HostRuntime) -> Result<(), Fail> {
+    assert!(rt; played(rt.alloc(), SCRIPT)?.text() == REPORT);
     let words = ["scp_line", "run", "--mode", "serial"];
-    assert_eq!(rt; serves(&rt, words.as_slice(), SCRIPT, REPORT), Some(0));
+    assert_eq!(rt;
+        serves(rt.alloc(), words.as_slice(), SCRIPT, REPORT),
+        Some(0)
+    );
     Ok(())
 }
 
 #[test]
 fn reports_in_the_order_of_the_lines(rt: HostRuntime) {
-    let words = ["scp_line", "run"];
     let script =
         b"# two nodes\n\nnodes 2 1\nreport 2\nopen 1 2\nopen 2 1\nsend 1 2 00\nreport 1\nreport 2";
     let report =
         b"node 2\nconn 1 1\nclosed malformed\nend\nnode 1\nend\nnode 2\nconn 1 1\nclosed malformed\nend\n";
     assert_eq!(rt;
-        serves(&rt, words.as_slice(), script.as_slice(), report.as_slice()),
+        serves(
+            rt.alloc(),
+            RUN.as_slice(),
+            script.as_slice(),
+            report.as_slice()
+        ),
         Some(0)
     );
 }
 
 #[test]
 fn checks_the_six_lines(rt: HostRuntime) {
-    let words = ["scp_line", "check"];
-    assert_eq!(rt; serves(&rt, words.as_slice(), SCRIPT, b"ok\n"), Some(0));
-    assert_eq!(rt; serves(&rt, words.as_slice(), b"", b"ok\n"), Some(0));
-    assert_eq!(rt; serves(&rt, words.as_slice(), b"\n#\n", b"ok\n"), Some(0));
+    assert_eq!(rt;
+        serves(rt.alloc(), CHECK.as_slice(), SCRIPT, b"ok\n"),
+        Some(0)
+    );
+    assert_eq!(rt; serves(rt.alloc(), CHECK.as_slice(), b"", b"ok\n"), Some(0));
+    assert_eq!(rt;
+        serves(rt.alloc(), CHECK.as_slice(), b"\n#\n", b"ok\n"),
+        Some(0)
+    );
     assert_eq!(rt;
         serves(
-            &rt,
-            words.as_slice(),
+            rt.alloc(),
+            CHECK.as_slice(),
             b"nodes 2 1\nopen 1 2\nsend 1 2 -\nsend 1 2 aF\nask 2 1 18446744073709551615\nask 1 2 0",
             b"ok\n"
         ),
         Some(0)
     );
-    let run = ["scp_line", "run"];
-    assert_eq!(rt; serves(&rt, run.as_slice(), b"", b""), Some(0));
+    assert_eq!(rt; serves(rt.alloc(), RUN.as_slice(), b"", b""), Some(0));
+}
+
+/// Scripts, each with the line at which it is refused.
+const BAD_LINES: [(&[u8], usize); 34] = [
+    (b"nodes 2 3", 1),
+    (b"nodes 2 0", 1),
+    (b"nodes 1 1", 1),
+    (b"nodes 3 2", 1),
+    (b"nodes 2", 1),
+    (b"caps 1 1 1 1\nnodes 2 2", 1),
+    (b"open 2 1\nnodes 2 2", 1),
+    (b"#\n\nsettle", 3),
+    (b"nodes 2 2\nnodes 2 2", 2),
+    (b"nodes 2 2\n\n# no\nopen 1 1\n", 4),
+    (b"nodes 2 2\nopen 2 1 \n", 2),
+    (b"nodes 2 2\nopen  2 1\n", 2),
+    (b"nodes 2 2\n open 2 1\n", 2),
+    (b"nodes 2 2\nopen 3 1\n", 2),
+    (b"nodes 2 2\nopen 2 01\n", 2),
+    (b"nodes 2 2\nopen 2 1\nopen 2 1\n", 3),
+    (b"nodes 2 2\nsend 2 1 -\n", 2),
+    (b"nodes 2 2\nopen 2 1\nsend 1 2 -\n", 3),
+    (b"nodes 2 2\nopen 2 1\nsend 2 1 0\n", 3),
+    (b"nodes 2 2\nopen 2 1\nsend 2 1 0g\n", 3),
+    (b"nodes 2 2\nopen 2 1\nsend 2 1 \n", 3),
+    (b"nodes 2 2\nopen 2 1\nsend 2 1 --\n", 3),
+    (b"nodes 2 2\nask 1 2 01\n", 2),
+    (b"nodes 2 2\nask 1 2 +1\n", 2),
+    (b"nodes 2 2\nask 1 2 18446744073709551616\n", 2),
+    (b"nodes 2 2\nask 1 1 1\n", 2),
+    (b"nodes 2 2\nclose 2 1\n", 2),
+    (b"nodes 2 2\nreport 0\n", 2),
+    (b"nodes 2 2\nreport 3\n", 2),
+    (b"nodes 2 2\nsettle 1\n", 2),
+    (b"nodes 2 2\nSettle\n", 2),
+    (b"nodes 2 2\nsettle\r\n", 2),
+    (b"nodes 2 2\n# \xc3\xa9\n", 2),
+    (b"nodes 2 2\n#\xff\n", 2),
+];
+
+/// Each script is refused at its line.
+fn each_is_bad(rt: &impl Abort, alloc: Global, scripts: &[(&[u8], usize)]) {
+    for (text, line) in scripts {
+        assert!(rt; is_bad_at(alloc, text, *line), "line {line} of {text:?}");
+    }
 }
 
 #[test]
-fn names_the_first_bad_line(rt: HostRuntime) -> Result<(), Fail> {
-    let alloc = rt.alloc();
-    for (text, line) in [
-        (b"nodes 2 3".as_slice(), 1),
-        (b"nodes 2 0", 1),
-        (b"nodes 1 1", 1),
-        (b"nodes 3 2", 1),
-        (b"nodes 2", 1),
-        (b"caps 1 1 1 1\nnodes 2 2", 1),
-        (b"open 2 1\nnodes 2 2", 1),
-        (b"#\n\nsettle", 3),
-        (b"nodes 2 2\nnodes 2 2", 2),
-        (b"nodes 2 2\n\n# no\nopen 1 1\n", 4),
-        (b"nodes 2 2\nopen 2 1 \n", 2),
-        (b"nodes 2 2\nopen  2 1\n", 2),
-        (b"nodes 2 2\n open 2 1\n", 2),
-        (b"nodes 2 2\nopen 3 1\n", 2),
-        (b"nodes 2 2\nopen 2 01\n", 2),
-        (b"nodes 2 2\nopen 2 1\nopen 2 1\n", 3),
-        (b"nodes 2 2\nsend 2 1 -\n", 2),
-        (b"nodes 2 2\nopen 2 1\nsend 1 2 -\n", 3),
-        (b"nodes 2 2\nopen 2 1\nsend 2 1 0\n", 3),
-        (b"nodes 2 2\nopen 2 1\nsend 2 1 0g\n", 3),
-        (b"nodes 2 2\nopen 2 1\nsend 2 1 \n", 3),
-        (b"nodes 2 2\nopen 2 1\nsend 2 1 --\n", 3),
-        (b"nodes 2 2\nask 1 2 01\n", 2),
-        (b"nodes 2 2\nask 1 2 +1\n", 2),
-        (b"nodes 2 2\nask 1 2 18446744073709551616\n", 2),
-        (b"nodes 2 2\nask 1 1 1\n", 2),
-        (b"nodes 2 2\nclose 2 1\n", 2),
-        (b"nodes 2 2\nreport 0\n", 2),
-        (b"nodes 2 2\nreport 3\n", 2),
-        (b"nodes 2 2\nsettle 1\n", 2),
-        (b"nodes 2 2\nSettle\n", 2),
-        (b"nodes 2 2\nsettle\r\n", 2),
-        (b"nodes 2 2\n# \xc3\xa9\n", 2),
-        (b"nodes 2 2\n#\xff\n", 2),
-    ] {
-        let mut reader = MemoryIn::new(text);
-        let mut writer = MemoryOut::new(Vec::new(alloc));
-        let fault = Fault::BadScript(line);
-        let checked = check(alloc, &mut reader, &mut writer);
-        assert_eq!(rt; checked, Err(PlayFault { fault, node: 0 }));
-        let mut reader = MemoryIn::new(text);
-        let played = play(alloc, Mode::Serial, &mut reader, &mut writer);
-        assert_eq!(rt; played, Err(PlayFault { fault, node: 0 }));
-    }
-    let words = ["scp_line", "run"];
+fn names_the_first_bad_line(rt: HostRuntime) {
+    each_is_bad(&rt, rt.alloc(), &BAD_LINES);
     assert_eq!(rt;
         serves(
-            &rt,
-            words.as_slice(),
+            rt.alloc(),
+            RUN.as_slice(),
             b"nodes 2 2\nwait 1 1\n",
             b"fault 12 line 2\n"
         ),
         Some(1)
     );
-    Ok(())
 }
 
 #[test]
 fn tells_every_verdict(rt: HostRuntime) {
-    let words = ["scp_line", "run"];
     assert_eq!(rt;
-        serves(&rt, words.as_slice(), VERDICTS, VERDICTS_REPORT),
+        serves(rt.alloc(), RUN.as_slice(), VERDICTS, VERDICTS_REPORT),
         Some(0)
     );
 }
 
 /// Whether node 1 takes the message of node 2 as fresh, after these lines, or ends the connection for it.
-fn takes(rt: &HostRuntime, lines: &str, message: &str) -> Result<Option<bool>, Fail> {
-    let alloc = rt.alloc();
+fn takes(alloc: Global, lines: &str, message: &str) -> Result<Option<bool>, Fail> {
     let script = format!(in alloc; "{lines}open 2 1\nsend 2 1 {message}\nreport 1\n")?;
-    let mut reader = MemoryIn::new(script.as_bytes());
-    let mut writer = MemoryOut::new(Vec::new(alloc));
-    play(alloc, Mode::Serial, &mut reader, &mut writer)?;
-    let text = writer.text();
-    if text == b"node 1\nconn 2 1\n0 taken fresh\nend\n".as_slice() {
-        return Ok(Some(true));
-    }
-    if text == b"node 1\nconn 2 1\nclosed malformed\nend\n".as_slice() {
-        return Ok(Some(false));
-    }
-    Ok(None)
+    Ok(is_taken(played(alloc, script.as_bytes())?.text()))
 }
 
-#[test]
-fn a_node_has_the_set_that_the_script_gives_it(rt: HostRuntime) -> Result<(), Fail> {
-    // the parts of the first lines
-    for ([a, b, c, d, e], taken) in [
-        (["nodes 2 2\n", "", "", "", ""], NAMES_BOTH),
-        (["nodes 2 1\n", "", "", "", ""], NAMES_EITHER),
-        (["nodes 2 2\nset 1 ", ALONE, "\n", "", ""], NAMES_ALONE),
-        (
-            ["nodes 2 1\n\nset 1 ", ALONE, "\n#\nset 1 ", BOTH, "\n"],
-            NAMES_BOTH,
-        ),
-        (
-            ["nodes 2 1\nset 1 ", BOTH, "\nset 1 ", EITHER, "\n"],
-            NAMES_EITHER,
-        ),
-        (["nodes 2 2\nset 2 ", ALONE, "\n", "", ""], NAMES_BOTH),
-    ] {
-        let lines = format!(in rt.alloc(); "{a}{b}{c}{d}{e}")?;
-        for message in [NAMES_BOTH, NAMES_EITHER, NAMES_ALONE] {
-            let is_taken = takes(&rt, lines.as_str(), message)?;
-            assert_eq!(rt; is_taken, Some(message == taken), "after {lines}");
-        }
+/// Whether the report says that the message was taken as fresh, or that the connection ended for it.
+fn is_taken(report: &[u8]) -> Option<bool> {
+    if report == b"node 1\nconn 2 1\n0 taken fresh\nend\n".as_slice() {
+        return Some(true);
+    }
+    if report == b"node 1\nconn 2 1\nclosed malformed\nend\n".as_slice() {
+        return Some(false);
+    }
+    None
+}
+
+/// Of the three messages, node 1 takes just this one after these lines.
+fn takes_just(rt: &impl Abort, alloc: Global, lines: &str, taken: &str) -> Result<(), Fail> {
+    for message in [NAMES_BOTH, NAMES_EITHER, NAMES_ALONE] {
+        let is_taken = takes(alloc, lines, message)?;
+        assert!(rt; is_taken == Some(message == taken), "after {lines}");
     }
     Ok(())
 }
 
-/// The script is refused at this line, by both calls.
-fn is_bad_at(rt: &impl Abort, alloc: Global, text: &[u8], line: usize) {
+/// The parts of the first lines, and the message that is taken after them.
+const GIVEN_SETS: [([&str; 5], &str); 6] = [
+    (["nodes 2 2\n", "", "", "", ""], NAMES_BOTH),
+    (["nodes 2 1\n", "", "", "", ""], NAMES_EITHER),
+    (["nodes 2 2\nset 1 ", ALONE, "\n", "", ""], NAMES_ALONE),
+    (
+        ["nodes 2 1\n\nset 1 ", ALONE, "\n#\nset 1 ", BOTH, "\n"],
+        NAMES_BOTH,
+    ),
+    (
+        ["nodes 2 1\nset 1 ", BOTH, "\nset 1 ", EITHER, "\n"],
+        NAMES_EITHER,
+    ),
+    (["nodes 2 2\nset 2 ", ALONE, "\n", "", ""], NAMES_BOTH),
+];
+
+#[test]
+fn a_node_has_the_set_that_the_script_gives_it(rt: HostRuntime) -> Result<(), Fail> {
+    for ([a, b, c, d, e], taken) in GIVEN_SETS {
+        let lines = format!(in rt.alloc(); "{a}{b}{c}{d}{e}")?;
+        takes_just(&rt, rt.alloc(), lines.as_str(), taken)?;
+    }
+    Ok(())
+}
+
+/// Whether the script is refused at this line, by both calls.
+fn is_bad_at(alloc: Global, text: &[u8], line: usize) -> bool {
     let want = PlayFault {
         fault: Fault::BadScript(line),
         node: 0,
     };
     let mut writer = MemoryOut::new(Vec::new(alloc));
     let checked = check(alloc, &mut MemoryIn::new(text), &mut writer);
-    assert_eq!(rt; checked, Err(want), "line {line} of {text:?}");
     let played = play(alloc, Mode::Serial, &mut MemoryIn::new(text), &mut writer);
-    assert_eq!(rt; played, Err(want), "line {line} of {text:?}");
+    checked == Err(want) && played == Err(want)
+}
+
+/// What stands before a set, the set, what stands behind it, and the line at which the script is refused.
+const BAD_SETS: [(&str, &str, &str, usize); 15] = [
+    ("set 1 ", BOTH, "\nnodes 2 2\n", 1),
+    ("nodes 2 2\nset 3 ", BOTH, "\n", 2),
+    ("nodes 2 2\nset 0 ", BOTH, "\n", 2),
+    ("nodes 2 2\nset 1", "", "\n", 2),
+    ("nodes 2 2\nset ", BOTH, "\n", 2),
+    ("nodes 2 2\nset 1 ", BOTH, " 1\n", 2),
+    ("nodes 2 2\nset 1 ", "-", "\n", 2),
+    ("nodes 2 2\nset 1 ", BOTH, "00000000\n", 2),
+    ("nodes 2 2\nset 1 ", BOTH, "0\n", 2),
+    (
+        "nodes 2 2\nset 2 ",
+        BOTH,
+        "\nset 1 000000000000000000000000\n",
+        3,
+    ),
+    ("nodes 2 2\nset 2 ", BOTH, "\nnodes 2 2\n", 3),
+    ("nodes 2 2\nopen 2 1\nset 1 ", BOTH, "\n", 3),
+    ("nodes 2 2\nask 1 2 1\nset 1 ", BOTH, "\n", 3),
+    ("nodes 2 2\nsettle\nset 1 ", BOTH, "\n", 3),
+    ("nodes 2 2\nreport 1\nset 1 ", BOTH, "\n", 3),
+];
+
+/// Whether the script of these parts is refused at this line.
+fn is_bad_set(
+    alloc: Global,
+    before: &str,
+    set: &str,
+    behind: &str,
+    line: usize,
+) -> Result<bool, Fault> {
+    let text = format!(in alloc; "{before}{set}{behind}")?;
+    Ok(is_bad_at(alloc, text.as_bytes(), line))
+}
+
+/// Each script with a set is refused at its line.
+fn each_set_is_bad(
+    rt: &impl Abort,
+    alloc: Global,
+    sets: &[(&str, &str, &str, usize)],
+) -> Result<(), Fault> {
+    for (before, set, behind, line) in sets {
+        let is_bad = is_bad_set(alloc, before, set, behind, *line)?;
+        assert!(rt; is_bad, "line {line} of {before}{set}{behind}");
+    }
+    Ok(())
 }
 
 #[test]
 fn names_a_bad_set_line(rt: HostRuntime) -> Result<(), Fail> {
-    let alloc = rt.alloc();
-    // what stands before the set and behind it
-    for (before, set, behind, line) in [
-        ("set 1 ", BOTH, "\nnodes 2 2\n", 1),
-        ("nodes 2 2\nset 3 ", BOTH, "\n", 2),
-        ("nodes 2 2\nset 0 ", BOTH, "\n", 2),
-        ("nodes 2 2\nset 1", "", "\n", 2),
-        ("nodes 2 2\nset ", BOTH, "\n", 2),
-        ("nodes 2 2\nset 1 ", BOTH, " 1\n", 2),
-        ("nodes 2 2\nset 1 ", "-", "\n", 2),
-        ("nodes 2 2\nset 1 ", BOTH, "00000000\n", 2),
-        ("nodes 2 2\nset 1 ", BOTH, "0\n", 2),
-        (
-            "nodes 2 2\nset 2 ",
-            BOTH,
-            "\nset 1 000000000000000000000000\n",
-            3,
-        ),
-        ("nodes 2 2\nset 2 ", BOTH, "\nnodes 2 2\n", 3),
-        ("nodes 2 2\nopen 2 1\nset 1 ", BOTH, "\n", 3),
-        ("nodes 2 2\nask 1 2 1\nset 1 ", BOTH, "\n", 3),
-        ("nodes 2 2\nsettle\nset 1 ", BOTH, "\n", 3),
-        ("nodes 2 2\nreport 1\nset 1 ", BOTH, "\n", 3),
-    ] {
-        let text = format!(in alloc; "{before}{set}{behind}")?;
-        is_bad_at(&rt, alloc, text.as_bytes(), line);
-    }
+    each_set_is_bad(&rt, rt.alloc(), &BAD_SETS)?;
     Ok(())
 }
 
 #[test]
 fn reads_a_script_up_to_its_limit(rt: HostRuntime) -> Result<(), Fail> {
     let alloc = rt.alloc();
-    let mut text = Vec::new(alloc);
-    for _ in 0..SCRIPT_LIMIT {
-        text.push(b'#')?;
-    }
-    let words = ["scp_line", "check"];
+    let mut text = vec![in alloc; b'#'; SCRIPT_LIMIT]?;
     assert_eq!(rt;
-        serves(&rt, words.as_slice(), text.as_slice(), b"ok\n"),
+        serves(rt.alloc(), CHECK.as_slice(), text.as_slice(), b"ok\n"),
         Some(0)
     );
     text.push(b'#')?;
     assert_eq!(rt;
-        serves(&rt, words.as_slice(), text.as_slice(), b"fault 3\n"),
+        serves(rt.alloc(), CHECK.as_slice(), text.as_slice(), b"fault 3\n"),
         Some(1)
     );
-    let words = ["scp_line", "run"];
     assert_eq!(rt;
-        serves(&rt, words.as_slice(), text.as_slice(), b"fault 3\n"),
+        serves(rt.alloc(), RUN.as_slice(), text.as_slice(), b"fault 3\n"),
         Some(1)
     );
     Ok(())
 }
 
+/// What a play answers whose reader fails after so many reads.
+fn play_unread(alloc: Global, calls: u64, writer: &mut MemoryOut) -> Result<(), PlayFault> {
+    let mut reader = FailsAt::new(MemoryIn::new(SCRIPT), calls);
+    play(alloc, Mode::Serial, &mut reader, writer)
+}
+
+/// The status of a check whose reader fails after so many reads.
+fn check_unread(alloc: Global, calls: u64, writer: &mut MemoryOut) -> u8 {
+    let mut reader = FailsAt::new(MemoryIn::new(SCRIPT), calls);
+    serve(alloc, CHECK.as_slice(), &mut reader, writer)
+}
+
 #[test]
 fn tells_a_reader_that_fails(rt: HostRuntime) {
     let alloc = rt.alloc();
-    let words = ["scp_line", "check"];
+    let want = PlayFault {
+        fault: Fault::Device,
+        node: 0,
+    };
     for calls in 0..2u64 {
-        let mut reader = FailsAt::new(MemoryIn::new(SCRIPT), calls);
         let mut writer = MemoryOut::new(Vec::new(alloc));
-        let fault = Fault::Device;
-        let played = play(alloc, Mode::Serial, &mut reader, &mut writer);
-        assert_eq!(rt; played, Err(PlayFault { fault, node: 0 }));
-        let mut reader = FailsAt::new(MemoryIn::new(SCRIPT), calls);
-        let status = serve(alloc, words.as_slice(), &mut reader, &mut writer);
+        assert_eq!(rt; play_unread(alloc, calls, &mut writer), Err(want));
+        let status = check_unread(alloc, calls, &mut writer);
         assert_eq!(rt; status, 3, "after {calls} reads");
         assert!(rt; writer.text() == b"fault 14\n".as_slice());
     }
-    let mut reader = FailsAt::new(MemoryIn::new(SCRIPT), 2);
     let mut writer = MemoryOut::new(Vec::new(alloc));
-    assert_eq!(rt; serve(alloc, words.as_slice(), &mut reader, &mut writer), 0);
+    assert_eq!(rt; check_unread(alloc, 2, &mut writer), 0);
+}
+
+/// The status of a check over this writer.
+fn check_over(alloc: Global, writer: &mut FailsAt<MemoryOut>) -> u8 {
+    let mut reader = MemoryIn::new(SCRIPT);
+    serve(alloc, CHECK.as_slice(), &mut reader, writer)
 }
 
 #[test]
 fn tells_a_writer_that_fails(rt: HostRuntime) {
     let alloc = rt.alloc();
-    let words = ["scp_line", "check"];
-    let mut reader = MemoryIn::new(SCRIPT);
     let mut writer = FailsAt::new(MemoryOut::new(Vec::new(alloc)), 0);
-    assert_eq!(rt; serve(alloc, words.as_slice(), &mut reader, &mut writer), 3);
+    assert_eq!(rt; check_over(alloc, &mut writer), 3);
     let (device, failures) = writer.into_parts();
     assert_eq!(rt; failures, 2);
     assert!(rt; device.text().is_empty());
-    let mut reader = MemoryIn::new(SCRIPT);
     let mut writer = FailsAt::new(MemoryOut::new(Vec::new(alloc)), 1);
-    assert_eq!(rt; serve(alloc, words.as_slice(), &mut reader, &mut writer), 0);
+    assert_eq!(rt; check_over(alloc, &mut writer), 0);
 }
+
+/// Words that are no call.
+const NO_CALLS: [&[&str]; 9] = [
+    &["scp_line"],
+    &["scp_line", "play"],
+    &["scp_line", "run", "--mode", "threads"],
+    &["scp_line", "run", "--mode=serial", "--mode", "serial"],
+    &["scp_line", "run", "more"],
+    &["scp_line", "check", "--mode", "serial"],
+    &["scp_line", "decode"],
+    &["scp_line", "decode", "-5a"],
+    &["scp_line", "--help"],
+];
 
 #[test]
 fn prints_usage(rt: HostRuntime) {
-    for words in [
-        ["scp_line"].as_slice(),
-        ["scp_line", "play"].as_slice(),
-        ["scp_line", "run", "--mode", "threads"].as_slice(),
-        ["scp_line", "run", "--mode=serial", "--mode", "serial"].as_slice(),
-        ["scp_line", "run", "more"].as_slice(),
-        ["scp_line", "check", "--mode", "serial"].as_slice(),
-        ["scp_line", "decode"].as_slice(),
-        ["scp_line", "decode", "-5a"].as_slice(),
-        ["scp_line", "--help"].as_slice(),
-    ] {
-        assert_eq!(rt; serves(&rt, words, b"nodes", b"usage\n"), Some(2));
+    for words in NO_CALLS {
+        assert_eq!(rt; serves(rt.alloc(), words, b"nodes", b"usage\n"), Some(2));
     }
 }
 

@@ -2,63 +2,93 @@ mod again;
 mod copies;
 
 use scp_types::*;
+use std::alloc::Global;
 use std::cmp::Ordering;
 use std::collections::{BTreeMap, BTreeSet};
 use std::test::*;
 
-fn value_of(alloc: std::alloc::Global, bytes: &[u8]) -> Result<Value, Fault> {
+fn value_of(alloc: Global, bytes: &[u8]) -> Result<Value, Fault> {
     Ok(Value::new(Vec::from_slice(alloc, bytes)?))
+}
+
+fn ballot_of(alloc: Global, counter: u32, bytes: &[u8]) -> Result<Ballot, Fault> {
+    Ok(Ballot {
+        counter,
+        value: value_of(alloc, bytes)?,
+    })
+}
+
+/// Counts 1 for the value of two bytes, and 2 for its prefix.
+fn count_two(alloc: Global, counts: &mut BTreeMap<Value, u64>) -> Result<(), Fault> {
+    counts.insert(value_of(alloc, &[1, 2])?, 1)?;
+    counts.insert(value_of(alloc, &[1])?, 2)?;
+    Ok(())
+}
+
+/// The count of the value of these bytes.
+fn count_of(
+    alloc: Global,
+    counts: &BTreeMap<Value, u64>,
+    bytes: &[u8],
+) -> Result<Option<u64>, Fault> {
+    let key = value_of(alloc, bytes)?;
+    Ok(counts.get(&key).copied())
 }
 
 #[test]
 fn values_are_keys(rt: HostRuntime) -> Result<(), Fail> {
     let mut counts = BTreeMap::new(rt.alloc());
-    counts.insert(value_of(rt.alloc(), &[1, 2])?, 1u64)?;
-    counts.insert(value_of(rt.alloc(), &[1])?, 2u64)?;
-    let key = value_of(rt.alloc(), &[1])?;
-    assert_eq!(rt; counts.get(&key).copied(), Some(2));
+    count_two(rt.alloc(), &mut counts)?;
+    assert_eq!(rt; count_of(rt.alloc(), &counts, &[1])?, Some(2));
     assert_eq!(rt; counts.len(), 2);
+    Ok(())
+}
+
+#[test]
+fn ballots_are_members(rt: HostRuntime) -> Result<(), Fail> {
     let mut ballots = BTreeSet::new(rt.alloc());
-    ballots.insert(Ballot {
-        counter: 1,
-        value: key,
-    })?;
+    ballots.insert(ballot_of(rt.alloc(), 1, &[1])?)?;
     assert_eq!(rt; ballots.len(), 1);
     Ok(())
 }
 
+/// Whether the one is less than the other, by each way to ask.
+fn is_less<T: Ord>(low: &T, high: &T) -> bool {
+    low < high
+        && low != high
+        && high.cmp(low) == Ordering::Greater
+        && low.cmp(low) == Ordering::Equal
+}
+
+/// Whether the value of the one bytes is less than that of the other.
+fn is_value_less(alloc: Global, low: &[u8], high: &[u8]) -> Result<bool, Fault> {
+    let low = value_of(alloc, low)?;
+    Ok(is_less(&low, &value_of(alloc, high)?))
+}
+
 #[test]
 fn values_are_ordered_by_bytes(rt: HostRuntime) -> Result<(), Fail> {
-    let none = value_of(rt.alloc(), &[])?;
-    let prefix = value_of(rt.alloc(), &[1])?;
-    let longer = value_of(rt.alloc(), &[1, 0])?;
-    let greater = value_of(rt.alloc(), &[2])?;
-    assert!(rt; none < prefix);
-    assert!(rt; prefix < longer);
-    assert!(rt; longer < greater);
-    assert_eq!(rt; longer.cmp(&longer), Ordering::Equal);
-    assert_eq!(rt; greater.cmp(&longer), Ordering::Greater);
-    assert!(rt; longer != greater);
+    for (low, high) in [
+        ([].as_slice(), [1].as_slice()),
+        (&[1], &[1, 0]),
+        (&[1, 0], &[2]),
+    ] {
+        assert!(rt; is_value_less(rt.alloc(), low, high)?);
+    }
     Ok(())
+}
+
+/// Whether the ballot is less than the one of counter 2 and these bytes.
+fn is_ballot_less(alloc: Global, low: &Ballot, high: &[u8]) -> Result<bool, Fault> {
+    Ok(is_less(low, &ballot_of(alloc, 2, high)?))
 }
 
 #[test]
 fn ballots_are_ordered_by_counter_first(rt: HostRuntime) -> Result<(), Fail> {
-    let low = Ballot {
-        counter: 1,
-        value: value_of(rt.alloc(), &[9, 9])?,
-    };
-    let high = Ballot {
-        counter: 2,
-        value: value_of(rt.alloc(), &[1])?,
-    };
-    let same_counter = Ballot {
-        counter: 2,
-        value: value_of(rt.alloc(), &[1, 0])?,
-    };
-    assert!(rt; low < high);
-    assert!(rt; high < same_counter);
-    assert!(rt; low != high);
+    for (counter, low, high) in [(1, [9, 9].as_slice(), [1].as_slice()), (2, &[1], &[1, 0])] {
+        let low = ballot_of(rt.alloc(), counter, low)?;
+        assert!(rt; is_ballot_less(rt.alloc(), &low, high)?);
+    }
     Ok(())
 }
 
@@ -80,20 +110,30 @@ fn names_are_ordered_by_their_parts(rt: HostRuntime) {
     assert!(rt; life(low, high, 1) < life(low, high, 2));
 }
 
+/// Whether the value has these bytes, and a copy of it gives them back.
+fn gives_back(value: &Value, bytes: &[u8]) -> Result<bool, Fault> {
+    Ok(value.as_slice() == bytes && value.copy()?.into_vec().as_slice() == bytes)
+}
+
+/// Whether a copy of the ballot equals it and has a value of these bytes.
+fn is_copied(ballot: &Ballot, bytes: &[u8]) -> Result<bool, Fault> {
+    let copy = ballot.copy()?;
+    if copy != *ballot {
+        return Ok(false);
+    }
+    gives_back(&copy.value, bytes)
+}
+
 #[test]
 fn copies_are_the_same(rt: HostRuntime) -> Result<(), Fail> {
-    let ballot = Ballot {
-        counter: u32::MAX,
-        value: value_of(rt.alloc(), b"abc")?,
-    };
-    let copy = ballot.copy()?;
-    assert!(rt; copy == ballot);
-    assert_eq!(rt; copy.value.as_slice(), b"abc".as_slice());
-    let bytes = copy.value.copy()?.into_vec();
-    assert_eq!(rt; bytes.as_slice(), b"abc".as_slice());
-    let none = value_of(rt.alloc(), &[])?.copy()?;
-    assert!(rt; none.as_slice().is_empty());
+    assert!(rt; is_copied(&ballot_of(rt.alloc(), u32::MAX, b"abc")?, b"abc")?);
+    assert!(rt; gives_back(&value_of(rt.alloc(), &[])?, &[])?);
     Ok(())
+}
+
+/// Whether the fault has this text.
+fn is_shown(alloc: Global, fault: Fault, text: &str) -> Result<bool, Fail> {
+    Ok(format!(in alloc; "{fault}")?.as_str() == text)
 }
 
 #[test]
@@ -116,19 +156,14 @@ fn faults_have_their_numbers_and_texts(rt: HostRuntime) -> Result<(), Fail> {
     ];
     for (fault, number, text) in faults {
         assert_eq!(rt; fault.number(), number);
-        let shown = format!(in rt.alloc(); "{fault}")?;
-        assert_eq!(rt; shown.as_str(), text);
+        assert!(rt; is_shown(rt.alloc(), fault, text)?, "{text}");
     }
     Ok(())
 }
 
 #[test]
 fn long_values_and_ballots_of_counter_0_are_copied(rt: HostRuntime) -> Result<(), Fail> {
-    let value = value_of(rt.alloc(), &[7; 4_096])?;
-    let copy = value.copy()?;
-    assert_eq!(rt; copy.as_slice(), value.as_slice());
-    let ballot = Ballot { counter: 0, value };
-    let copy = ballot.copy()?;
-    assert!(rt; copy == ballot);
+    let ballot = ballot_of(rt.alloc(), 0, &[7; 4_096])?;
+    assert!(rt; is_copied(&ballot, &[7; 4_096])?);
     Ok(())
 }

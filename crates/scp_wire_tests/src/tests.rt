@@ -2,6 +2,7 @@ use scp_quorum::QuorumSet;
 use scp_types::{ConnId, Fault, Hash, NodeId, Seq, Slot, Value};
 use scp_wire::*;
 use std::alloc::Global;
+use std::process::Abort;
 use std::test::*;
 
 mod again;
@@ -37,63 +38,67 @@ const ENVELOPE: [u8; 124] = [
 /// What asks for the record of a slot.
 const GET_RECORD: [u8; 12] = [0, 0, 0, 5, 1, 2, 3, 4, 5, 6, 7, 8];
 
-/// A message of a kind that has a hash.
-fn of_hash(kind: u8) -> [u8; 36] {
-    let mut bytes = [7; 36];
-    bytes[..4].copy_from_slice(&[0, 0, 0, kind]);
-    bytes
-}
-
 /// The quorum set of two of three nodes.
-fn two_of_three() -> [u8; 124] {
-    let mut bytes = [0; 124];
-    bytes[3] = 3;
-    bytes[7] = 2;
-    bytes[11] = 3;
-    bytes[16..48].copy_from_slice(&[1; 32]);
-    bytes[52..84].copy_from_slice(&[2; 32]);
-    bytes[88..120].copy_from_slice(&[3; 32]);
-    bytes
-}
+const TWO_OF_THREE: [u8; 124] = [
+    0, 0, 0, 3, 0, 0, 0, 2, 0, 0, 0, 3, // the kind, the threshold, three nodes
+    0, 0, 0, 0, 1, 1, 1, 1, 1, 1, 1, 1, 1, 1, 1, 1, 1, 1, 1, 1, // the type of the key, the node
+    1, 1, 1, 1, 1, 1, 1, 1, 1, 1, 1, 1, 1, 1, 1, 1, //
+    0, 0, 0, 0, 2, 2, 2, 2, 2, 2, 2, 2, 2, 2, 2, 2, 2, 2, 2, 2, // the second node
+    2, 2, 2, 2, 2, 2, 2, 2, 2, 2, 2, 2, 2, 2, 2, 2, //
+    0, 0, 0, 0, 3, 3, 3, 3, 3, 3, 3, 3, 3, 3, 3, 3, 3, 3, 3, 3, // the third
+    3, 3, 3, 3, 3, 3, 3, 3, 3, 3, 3, 3, 3, 3, 3, 3, //
+    0, 0, 0, 0, // no inner set
+];
 
 /// A quorum set of one inner set of one node.
-fn nested() -> [u8; 64] {
-    let mut bytes = [0; 64];
-    bytes[3] = 3;
-    for place in [7, 15, 19, 23] {
-        bytes[place] = 1;
-    }
-    bytes[28..60].copy_from_slice(&[9; 32]);
-    bytes
-}
+const NESTED: [u8; 64] = [
+    0, 0, 0, 3, // the kind
+    0, 0, 0, 1, 0, 0, 0, 0, 0, 0, 0, 1, // the threshold, no nodes, one inner set
+    0, 0, 0, 1, 0, 0, 0, 1, 0, 0, 0, 0, // its threshold, one node, the type of the key
+    9, 9, 9, 9, 9, 9, 9, 9, 9, 9, 9, 9, 9, 9, 9, 9, // the node
+    9, 9, 9, 9, 9, 9, 9, 9, 9, 9, 9, 9, 9, 9, 9, 9, //
+    0, 0, 0, 0, // no inner set
+];
 
 /// A quorum set of four inner levels, with no nodes.
-fn four_inner_levels() -> [u8; 64] {
-    let mut bytes = [0; 64];
-    bytes[3] = 3;
-    for place in [15, 27, 39, 51] {
-        bytes[place] = 1;
-    }
+const FOUR_INNER_LEVELS: [u8; 64] = [
+    0, 0, 0, 3, // the kind
+    0, 0, 0, 0, 0, 0, 0, 0, 0, 0, 0, 1, // a set with one inner set
+    0, 0, 0, 0, 0, 0, 0, 0, 0, 0, 0, 1, // the first level
+    0, 0, 0, 0, 0, 0, 0, 0, 0, 0, 0, 1, // the second
+    0, 0, 0, 0, 0, 0, 0, 0, 0, 0, 0, 1, // the third
+    0, 0, 0, 0, 0, 0, 0, 0, 0, 0, 0, 0, // the fourth
+];
+
+/// A quorum set of five inner levels, with no nodes.
+const FIVE_INNER_LEVELS: [u8; 76] = [
+    0, 0, 0, 3, // the kind
+    0, 0, 0, 0, 0, 0, 0, 0, 0, 0, 0, 1, // a set with one inner set
+    0, 0, 0, 0, 0, 0, 0, 0, 0, 0, 0, 1, // the first level
+    0, 0, 0, 0, 0, 0, 0, 0, 0, 0, 0, 1, // the second
+    0, 0, 0, 0, 0, 0, 0, 0, 0, 0, 0, 1, // the third
+    0, 0, 0, 0, 0, 0, 0, 0, 0, 0, 0, 1, // the fourth
+    0, 0, 0, 0, 0, 0, 0, 0, 0, 0, 0, 0, // the fifth
+];
+
+/// A message of a kind that has a hash, with this hash.
+fn with_hash(kind: u8, hash: &[u8; 32]) -> [u8; 36] {
+    let mut bytes = [0; 36];
+    bytes[3] = kind;
+    bytes[4..].copy_from_slice(hash);
     bytes
 }
 
-/// A quorum set of five inner levels, with no nodes.
-fn five_inner_levels() -> [u8; 76] {
-    let mut bytes = [0; 76];
-    bytes[3] = 3;
-    for place in [15, 27, 39, 51, 63] {
-        bytes[place] = 1;
-    }
-    bytes
+/// A message of a kind that has a hash.
+fn of_hash(kind: u8) -> [u8; 36] {
+    with_hash(kind, &[7; 32])
 }
 
 /// A record of slot 9 with a value of so many bytes, up to its padding.
 fn long_record(alloc: Global, len: u16) -> Result<Vec<u8>, Fault> {
-    let mut bytes = Vec::from_slice(alloc, &[0, 0, 0, 6, 0, 0, 0, 0, 0, 0, 0, 9, 0, 0])?;
-    bytes.extend_from_slice(&len.to_be_bytes())?;
-    for _ in 0..len {
-        bytes.push(7)?;
-    }
+    let [high, low] = len.to_be_bytes();
+    let mut bytes = vec![in alloc; 7u8; 16 + len as usize]?;
+    bytes[..16].copy_from_slice(&[0, 0, 0, 6, 0, 0, 0, 0, 0, 0, 0, 9, 0, 0, high, low]);
     Ok(bytes)
 }
 
@@ -119,24 +124,66 @@ fn spelt(alloc: Global, set: &QuorumSet) -> Result<Vec<u8>, Fault> {
     Ok(bytes)
 }
 
-/// The slot and the value of a record.
-fn record_of(message: Message) -> Result<(Slot, Value), Fault> {
-    match message {
-        Message::Record(slot, value) => Ok((slot, value)),
-        _ => Err(Fault::Failed),
-    }
+/// Whether the message is written in these bytes.
+fn is_written(alloc: Global, message: &Message, bytes: &[u8]) -> Result<bool, Fault> {
+    Ok(encode(alloc, message)?.as_slice() == bytes)
+}
+
+/// Whether a copy of the message is written in these bytes.
+fn is_copy(alloc: Global, message: &Message, bytes: &[u8]) -> Result<bool, Fault> {
+    is_written(alloc, &message.copy()?, bytes)
 }
 
 /// Whether the message that the bytes spell is written so again.
 fn is_kept(alloc: Global, bytes: &[u8]) -> Result<bool, Fault> {
-    let message = decode(alloc, bytes)?;
-    Ok(encode(alloc, &message)?.as_slice() == bytes)
+    is_written(alloc, &decode(alloc, bytes)?, bytes)
 }
 
 /// Whether a copy of the message that the bytes spell is written so too.
 fn is_copied(alloc: Global, bytes: &[u8]) -> Result<bool, Fault> {
-    let copy = decode(alloc, bytes)?.copy()?;
-    Ok(encode(alloc, &copy)?.as_slice() == bytes)
+    is_copy(alloc, &decode(alloc, bytes)?, bytes)
+}
+
+/// Whether the message that the bytes spell is carried.
+fn carries(alloc: Global, bytes: &[u8]) -> Result<bool, Fault> {
+    Ok(decode(alloc, bytes)?.is_carried())
+}
+
+/// Whether the message is the record of this slot with this value.
+fn is_record(message: &Message, slot: Slot, value: &[u8]) -> bool {
+    match message {
+        Message::Record(found, held) => *found == slot && held.as_slice() == value,
+        _ => false,
+    }
+}
+
+/// Whether the bytes spell the record of this slot with this value.
+fn spells_record(alloc: Global, bytes: &[u8], slot: Slot, value: &[u8]) -> Result<bool, Fault> {
+    Ok(is_record(&decode(alloc, bytes)?, slot, value))
+}
+
+/// Whether the message asks for the record of this slot.
+fn asks_for_record(message: &Message, slot: Slot) -> bool {
+    matches!(message, Message::GetRecord(found) if *found == slot)
+}
+
+/// Whether the bytes spell what asks for the record of this slot.
+fn spells_get_record(alloc: Global, bytes: &[u8], slot: Slot) -> Result<bool, Fault> {
+    Ok(asks_for_record(&decode(alloc, bytes)?, slot))
+}
+
+/// Whether the message is of this kind, 2 or 4, and has this hash.
+fn has_hash(message: &Message, kind: u8, hash: Hash) -> bool {
+    match message {
+        Message::GetSet(found) => kind == 2 && *found == hash,
+        Message::NoSet(found) => kind == 4 && *found == hash,
+        _ => false,
+    }
+}
+
+/// Whether the bytes spell the message of this kind, 2 or 4, with this hash.
+fn spells_hash(alloc: Global, bytes: &[u8], kind: u8, hash: Hash) -> Result<bool, Fault> {
+    Ok(has_hash(&decode(alloc, bytes)?, kind, hash))
 }
 
 /// Where the bytes are malformed, if that is why they are refused.
@@ -147,11 +194,17 @@ fn place_of_fault(alloc: Global, bytes: &[u8]) -> Option<usize> {
     }
 }
 
-/// Where the bytes are malformed once so many zero bytes follow them.
-fn place_after(alloc: Global, bytes: &[u8], count: usize) -> Result<Option<usize>, Fault> {
+/// Where the bytes are malformed once these follow them.
+fn place_after(alloc: Global, bytes: &[u8], added: &[u8]) -> Result<Option<usize>, Fault> {
     let mut longer = Vec::from_slice(alloc, bytes)?;
-    longer.extend_from_slice(vec![in alloc; 0u8; count]?.as_slice())?;
+    longer.extend_from_slice(added)?;
     Ok(place_of_fault(alloc, longer.as_slice()))
+}
+
+/// The bytes are too long for a message, and without the last one are malformed at this place.
+fn expect_at_limit(rt: &impl Abort, alloc: Global, bytes: &[u8; 65_537], place: usize) {
+    assert!(rt; is_too_long(alloc, bytes));
+    assert_eq!(rt; place_of_fault(alloc, &bytes[..65_536]), Some(place));
 }
 
 fn is_too_long(alloc: Global, bytes: &[u8]) -> bool {
@@ -195,9 +248,7 @@ fn first_side_cut(bytes: &[u8]) -> Option<usize> {
 
 #[test]
 fn a_record_is_read(rt: HostRuntime) -> Result<(), Fail> {
-    let (slot, value) = record_of(decode(rt.alloc(), &RECORD)?)?;
-    assert_eq!(rt; slot, Slot(1));
-    assert_eq!(rt; value.as_slice(), &RECORD[16..]);
+    assert!(rt; spells_record(rt.alloc(), &RECORD, Slot(1), &RECORD[16..])?);
     Ok(())
 }
 
@@ -206,8 +257,8 @@ fn each_kind_is_written_as_it_was_read(rt: HostRuntime) -> Result<(), Fail> {
     for bytes in [
         ENVELOPE.as_slice(),
         &of_hash(2),
-        &two_of_three(),
-        &nested(),
+        &TWO_OF_THREE,
+        &NESTED,
         &of_hash(4),
         &GET_RECORD,
         &RECORD,
@@ -222,8 +273,8 @@ fn a_copy_is_written_as_its_original(rt: HostRuntime) -> Result<(), Fail> {
     for bytes in [
         ENVELOPE.as_slice(),
         &of_hash(2),
-        &two_of_three(),
-        &nested(),
+        &TWO_OF_THREE,
+        &NESTED,
         &of_hash(4),
         &GET_RECORD,
         &RECORD,
@@ -235,23 +286,21 @@ fn a_copy_is_written_as_its_original(rt: HostRuntime) -> Result<(), Fail> {
 
 #[test]
 fn a_hash_is_read(rt: HostRuntime) -> Result<(), Fail> {
-    let hash = Hash([7; 32]);
-    let asked = decode(rt.alloc(), &of_hash(2))?;
-    assert!(rt; matches!(asked, Message::GetSet(found) if found == hash));
-    let answered = decode(rt.alloc(), &of_hash(4))?;
-    assert!(rt; matches!(answered, Message::NoSet(found) if found == hash));
+    for kind in [2, 4] {
+        let bytes = of_hash(kind);
+        assert!(rt;
+            spells_hash(rt.alloc(), &bytes, kind, Hash([7; 32]))?,
+            "kind {kind}"
+        );
+    }
     Ok(())
 }
 
 #[test]
 fn the_slot_that_is_asked_for_is_read(rt: HostRuntime) -> Result<(), Fail> {
-    let asked = decode(rt.alloc(), &GET_RECORD)?;
-    assert!(rt; matches!(asked, Message::GetRecord(Slot(0x0102_0304_0506_0708))));
-    let bytes = encode(rt.alloc(), &Message::GetRecord(Slot(1)))?;
-    assert_eq!(rt;
-        bytes.as_slice(),
-        [0, 0, 0, 5, 0, 0, 0, 0, 0, 0, 0, 1].as_slice()
-    );
+    assert!(rt; spells_get_record(rt.alloc(), &GET_RECORD, Slot(0x0102_0304_0506_0708))?);
+    let bytes = [0, 0, 0, 5, 0, 0, 0, 0, 0, 0, 0, 1];
+    assert!(rt; is_written(rt.alloc(), &Message::GetRecord(Slot(1)), &bytes)?);
     Ok(())
 }
 
@@ -259,8 +308,8 @@ fn the_slot_that_is_asked_for_is_read(rt: HostRuntime) -> Result<(), Fail> {
 fn a_slot_has_eight_bytes(rt: HostRuntime) -> Result<(), Fail> {
     let mut far = RECORD;
     far[4..12].copy_from_slice(&[1, 2, 3, 4, 5, 6, 7, 8]);
-    let (slot, _) = record_of(decode(rt.alloc(), &far)?)?;
-    assert_eq!(rt; slot, Slot(0x0102_0304_0506_0708));
+    let slot = Slot(0x0102_0304_0506_0708);
+    assert!(rt; spells_record(rt.alloc(), &far, slot, &RECORD[16..])?);
     assert!(rt; is_kept(rt.alloc(), &far)?);
     Ok(())
 }
@@ -285,9 +334,9 @@ fn a_cut_hash_names_the_item_that_is_cut(rt: HostRuntime) {
 #[test]
 fn a_cut_set_names_the_item_that_is_cut(rt: HostRuntime) {
     let starts = [4, 8, 12, 16, 48, 52, 84, 88, 120];
-    assert_eq!(rt; first_wrong_cut(rt.alloc(), &two_of_three(), &starts), None);
+    assert_eq!(rt; first_wrong_cut(rt.alloc(), &TWO_OF_THREE, &starts), None);
     let starts = [4, 8, 12, 16, 20, 24, 28, 60];
-    assert_eq!(rt; first_wrong_cut(rt.alloc(), &nested(), &starts), None);
+    assert_eq!(rt; first_wrong_cut(rt.alloc(), &NESTED, &starts), None);
 }
 
 #[test]
@@ -295,14 +344,14 @@ fn bytes_after_the_end_are_refused(rt: HostRuntime) -> Result<(), Fail> {
     for bytes in [
         ENVELOPE.as_slice(),
         &of_hash(2),
-        &two_of_three(),
-        &nested(),
+        &TWO_OF_THREE,
+        &NESTED,
         &of_hash(4),
         &GET_RECORD,
         &RECORD,
     ] {
-        assert_eq!(rt; place_after(rt.alloc(), bytes, 1)?, Some(bytes.len()));
-        assert_eq!(rt; place_after(rt.alloc(), bytes, 4)?, Some(bytes.len()));
+        assert_eq!(rt; place_after(rt.alloc(), bytes, &[0; 1])?, Some(bytes.len()));
+        assert_eq!(rt; place_after(rt.alloc(), bytes, &[0; 4])?, Some(bytes.len()));
     }
     Ok(())
 }
@@ -318,8 +367,7 @@ fn padding_is_zero(rt: HostRuntime) {
 
 #[test]
 fn the_first_wrong_byte_of_padding_is_named(rt: HostRuntime) -> Result<(), Fail> {
-    let (_, value) = record_of(decode(rt.alloc(), &ONE_BYTE)?)?;
-    assert_eq!(rt; value.as_slice(), [0x31].as_slice());
+    assert!(rt; spells_record(rt.alloc(), &ONE_BYTE, Slot(1), &[0x31])?);
     let mut both = ONE_BYTE;
     both[18] = 1;
     both[19] = 1;
@@ -344,7 +392,7 @@ fn every_other_kind_is_refused(rt: HostRuntime) {
 
 #[test]
 fn a_node_has_one_type_of_key(rt: HostRuntime) {
-    let mut other = two_of_three();
+    let mut other = TWO_OF_THREE;
     other[51] = 1;
     assert_eq!(rt; place_of_fault(rt.alloc(), &other), Some(48));
 }
@@ -361,7 +409,7 @@ fn a_length_over_its_limit_comes_before_missing_bytes(rt: HostRuntime) {
 
 #[test]
 fn a_count_over_its_limit_comes_before_missing_nodes(rt: HostRuntime) {
-    let mut long = two_of_three();
+    let mut long = TWO_OF_THREE;
     long[10..12].copy_from_slice(&[3, 0xe9]);
     assert!(rt; is_too_long(rt.alloc(), &long));
     long[11] = 0xe8;
@@ -370,26 +418,22 @@ fn a_count_over_its_limit_comes_before_missing_nodes(rt: HostRuntime) {
 
 #[test]
 fn a_quorum_set_has_at_most_four_inner_levels(rt: HostRuntime) -> Result<(), Fail> {
-    assert!(rt; is_kept(rt.alloc(), &four_inner_levels())?);
-    let five = five_inner_levels();
-    assert!(rt; is_too_long(rt.alloc(), &five));
+    assert!(rt; is_kept(rt.alloc(), &FOUR_INNER_LEVELS)?);
+    assert!(rt; is_too_long(rt.alloc(), &FIVE_INNER_LEVELS));
     // the fifth level is refused at its count, before what is missing of it
-    let counted = five.get(..64).ok_or("shorter")?;
-    assert!(rt; is_too_long(rt.alloc(), counted));
-    let cut = five.get(..62).ok_or("shorter")?;
-    assert_eq!(rt; place_of_fault(rt.alloc(), cut), Some(60));
-    assert!(rt; !is_side_message(&five));
+    let five = FIVE_INNER_LEVELS;
+    assert!(rt; is_too_long(rt.alloc(), &five[..64]));
+    assert_eq!(rt; place_of_fault(rt.alloc(), &five[..62]), Some(60));
+    assert!(rt; !is_side_message(&FIVE_INNER_LEVELS));
     Ok(())
 }
 
 #[test]
 fn the_whole_message_has_a_limit(rt: HostRuntime) {
     let mut zeros = [0; 65_537];
-    assert!(rt; is_too_long(rt.alloc(), &zeros));
-    assert_eq!(rt; place_of_fault(rt.alloc(), &zeros[..65_536]), Some(0));
+    expect_at_limit(&rt, rt.alloc(), &zeros, 0);
     zeros[..40].copy_from_slice(&RECORD);
-    assert!(rt; is_too_long(rt.alloc(), &zeros));
-    assert_eq!(rt; place_of_fault(rt.alloc(), &zeros[..65_536]), Some(40));
+    expect_at_limit(&rt, rt.alloc(), &zeros, 40);
 }
 
 #[test]
@@ -423,19 +467,15 @@ fn a_quorum_set_over_its_own_limit_is_not_written(rt: HostRuntime) -> Result<(),
 fn a_value_may_be_empty(rt: HostRuntime) -> Result<(), Fail> {
     let mut empty = [0; 16];
     empty[3] = 6;
-    let (slot, value) = record_of(decode(rt.alloc(), &empty)?)?;
-    assert_eq!(rt; slot, Slot(0));
-    assert!(rt; value.as_slice().is_empty());
+    assert!(rt; spells_record(rt.alloc(), &empty, Slot(0), &[])?);
     assert!(rt; is_kept(rt.alloc(), &empty)?);
     Ok(())
 }
 
 #[test]
 fn a_value_has_at_most_4_096_bytes(rt: HostRuntime) -> Result<(), Fail> {
-    let longest = long_record(rt.alloc(), 4_096)?;
-    assert!(rt; is_kept(rt.alloc(), longest.as_slice())?);
-    let longer = long_record(rt.alloc(), 4_097)?;
-    assert!(rt; is_too_long(rt.alloc(), longer.as_slice()));
+    assert!(rt; is_kept(rt.alloc(), long_record(rt.alloc(), 4_096)?.as_slice())?);
+    assert!(rt; is_too_long(rt.alloc(), long_record(rt.alloc(), 4_097)?.as_slice()));
     let value = Value::new(vec![in rt.alloc(); 7; 4_097]?);
     assert!(rt; encodes_too_long(rt.alloc(), &Message::Record(Slot(9), value)));
     Ok(())
@@ -443,8 +483,8 @@ fn a_value_has_at_most_4_096_bytes(rt: HostRuntime) -> Result<(), Fail> {
 
 #[test]
 fn what_is_about_quorum_sets_is_not_carried(rt: HostRuntime) -> Result<(), Fail> {
-    for bytes in [of_hash(2).as_slice(), &two_of_three(), &of_hash(4)] {
-        assert!(rt; !decode(rt.alloc(), bytes)?.is_carried());
+    for bytes in [of_hash(2).as_slice(), &TWO_OF_THREE, &of_hash(4)] {
+        assert!(rt; !carries(rt.alloc(), bytes)?);
     }
     Ok(())
 }
@@ -452,19 +492,14 @@ fn what_is_about_quorum_sets_is_not_carried(rt: HostRuntime) -> Result<(), Fail>
 #[test]
 fn envelopes_and_what_is_about_records_are_carried(rt: HostRuntime) -> Result<(), Fail> {
     for bytes in [ENVELOPE.as_slice(), &GET_RECORD, &RECORD] {
-        assert!(rt; decode(rt.alloc(), bytes)?.is_carried());
+        assert!(rt; carries(rt.alloc(), bytes)?);
     }
     Ok(())
 }
 
 #[test]
 fn a_message_that_is_not_carried_is_a_side_message(rt: HostRuntime) {
-    for bytes in [
-        of_hash(2).as_slice(),
-        &two_of_three(),
-        &nested(),
-        &of_hash(4),
-    ] {
+    for bytes in [of_hash(2).as_slice(), &TWO_OF_THREE, &NESTED, &of_hash(4)] {
         assert!(rt; is_side_message(bytes));
         assert_eq!(rt; first_side_cut(bytes), None);
     }
@@ -478,14 +513,14 @@ fn carried_messages_and_other_kinds_are_no_side_messages(rt: HostRuntime) {
     for bytes in [ENVELOPE.as_slice(), &GET_RECORD, &RECORD] {
         assert!(rt; !is_side_message(bytes));
     }
-    let mut wrong = two_of_three();
+    let mut wrong = TWO_OF_THREE;
     wrong[51] = 1;
     assert!(rt; !is_side_message(&wrong));
 }
 
 #[test]
 fn a_carried_message_has_its_number(rt: HostRuntime) -> Result<(), Fail> {
-    let (slot, value) = record_of(decode(rt.alloc(), &RECORD)?)?;
+    let value = Value::new(Vec::from_slice(rt.alloc(), &RECORD[16..])?);
     let carried = Carried {
         conn: ConnId {
             from: NodeId([2; 32]),
@@ -493,7 +528,7 @@ fn a_carried_message_has_its_number(rt: HostRuntime) -> Result<(), Fail> {
             life: 1,
         },
         seq: Seq(0),
-        message: Message::Record(slot, value),
+        message: Message::Record(Slot(1), value),
     };
     assert!(rt; carried.message.is_carried());
     Ok(())

@@ -4,7 +4,6 @@
 //! of memory. So any allocation may be refused, alone or with all later ones, and no assertion stops a test.
 use super::long::events_of;
 use super::*;
-use std::process::Abort;
 
 /// A nomination of "put a 1".
 const VOTE: Said<'static> = Said::Nominate(b"1");
@@ -36,15 +35,6 @@ fn agrees(journal: &[Fate], entries: &[Entry]) -> bool {
     true
 }
 
-fn has_slots(decisions: &[SharedDecision], slots: &[u64]) -> bool {
-    for (decision, slot) in decisions.iter().zip(slots) {
-        if decision.get().slot.0 != *slot {
-            return false;
-        }
-    }
-    decisions.len() == slots.len()
-}
-
 /// Whether the node, in its link's first life, shows just this. Takes no memory.
 fn shows(node: &Node, shown: Shown<'_>) -> bool {
     node.journal().len() == shown.entries.len()
@@ -65,16 +55,24 @@ fn is_failed(node: &mut Node, event: &Event) -> bool {
     node.state().is_none() && answers == [Reply::Failed; 4]
 }
 
-/// The node after these acts. That it lacks memory is told as such.
-fn brought(alloc: Global, acts: &[Act<'_>]) -> Result<Node, Fault> {
-    let mut node = new_node(alloc)?;
+/// Acts on the node, which accepts each act. That it lacks memory is told as such.
+fn bring(alloc: Global, node: &mut Node, acts: &[Act<'_>]) -> Result<(), Fault> {
     for act in acts {
-        match act_on(alloc, &mut node, act)? {
-            Reply::Accepted => {}
-            Reply::NoMemory => return Err(Fault::NoMemory),
-            _ => return Err(Fault::Failed),
+        let reply = act_on(alloc, node, act)?;
+        if reply == Reply::NoMemory {
+            return Err(Fault::NoMemory);
+        }
+        if reply != Reply::Accepted {
+            return Err(Fault::Failed);
         }
     }
+    Ok(())
+}
+
+/// The node after these acts.
+fn brought(alloc: Global, acts: &[Act<'_>]) -> Result<Node, Fault> {
+    let mut node = new_node(alloc)?;
+    bring(alloc, &mut node, acts)?;
     Ok(node)
 }
 

@@ -14,23 +14,23 @@ fn hash_beside(fate: &Fate) -> Option<Hash> {
     }
 }
 
-fn hashes_beside(alloc: Global, journal: &[Fate]) -> Result<Vec<Option<Hash>>, Fault> {
-    let mut hashes = Vec::new(alloc);
-    for fate in journal {
-        hashes.push(hash_beside(fate))?;
+/// Whether the set of this hash stands beside the entries that are marked, and none beside the others.
+fn is_beside(journal: &[Fate], hash: Hash, marks: &[bool]) -> bool {
+    for (fate, mark) in journal.iter().zip(marks) {
+        let want = if *mark { Some(hash) } else { None };
+        if hash_beside(fate) != want {
+            return false;
+        }
     }
-    Ok(hashes)
+    journal.len() == marks.len()
 }
 
 /// Whether this quorum set is refused in a node's configuration.
 fn is_refused(alloc: Global, threshold: u32, nodes: &[NodeId]) -> Result<bool, Fault> {
     let nodes = Vec::from_slice(alloc, nodes)?;
-    let config = Config {
-        me: ME,
-        set: QuorumSet::new(threshold, nodes, Vec::new(alloc)),
-        peers: peers(alloc, &[PEER])?,
-    };
-    Ok(matches!(Node::new(alloc, config), Err(Fault::BadConfig)))
+    let set = QuorumSet::new(threshold, nodes, Vec::new(alloc));
+    let node = Node::new(alloc, config_of(alloc, set)?);
+    Ok(matches!(node, Err(Fault::BadConfig)))
 }
 
 #[test]
@@ -231,12 +231,10 @@ fn the_set_stands_beside_each_envelope_alone(rt: HostRuntime) -> Result<(), Fail
         Act::Record(1, &PUT_A),
         Act::Close(0),
     ];
+    let own = own_hash(alloc)?;
     let node = after(alloc, &acts)?;
-    let own = Some(own_hash(alloc)?);
-    assert_eq!(rt;
-        hashes_beside(alloc, node.journal())?.as_slice(),
-        [own, own, None, own, None, None].as_slice()
-    );
+    let marks = [true, true, false, true, false, false];
+    assert!(rt; is_beside(node.journal(), own, &marks));
     Ok(())
 }
 
@@ -251,19 +249,16 @@ fn a_request_for_a_record_is_forwarded_and_no_more(rt: HostRuntime) -> Result<()
         Act::GetRecord(u64::MAX),
     ];
     let mut node = after(alloc, &acts)?;
-    assert_eq!(rt;
-        entries(alloc, &node)?.as_slice(),
-        [
-            Entry::Taken(1, 0, Verdict::Forwarded),
-            Entry::Taken(1, 1, Verdict::Forwarded),
-            Entry::Taken(1, 2, Verdict::Forwarded),
-            Entry::Taken(1, 3, Verdict::Forwarded),
-        ]
-        .as_slice()
-    );
+    let entries = [
+        Entry::Taken(1, 0, Verdict::Forwarded),
+        Entry::Taken(1, 1, Verdict::Forwarded),
+        Entry::Taken(1, 2, Verdict::Forwarded),
+        Entry::Taken(1, 3, Verdict::Forwarded),
+    ];
+    expect_entries(&rt, alloc, &node, &entries)?;
     assert_eq!(rt; [node.decisions().len(), node.applied().len()], [0, 0]);
     assert!(rt; matches!(node.state(), Some(state) if state.is_empty()));
-    assert_eq!(rt; verdict_on(alloc, &mut node, 1)?, Some(Verdict::Decided));
+    expect_verdicts(&rt, alloc, &mut node, &[(1, Verdict::Decided)])?;
     Ok(())
 }
 

@@ -63,34 +63,39 @@ const ENTRIES: [Entry; 10] = [
     Entry::Taken(3, 3, Verdict::OldSlot),
 ];
 
-pub fn events_of(alloc: Global, acts: &[Act<'_>]) -> Result<Vec<Event>, Fault> {
+fn push_event(alloc: Global, events: &mut Vec<Event>, act: &Act<'_>) -> Result<(), Fault> {
+    let event = event_of(alloc, act)?;
+    events.push(event)?;
+    Ok(())
+}
+
+pub(super) fn events_of(alloc: Global, acts: &[Act<'_>]) -> Result<Vec<Event>, Fault> {
     let mut events = Vec::new(alloc);
     for act in acts {
-        events.push(event_of(alloc, act)?)?;
+        push_event(alloc, &mut events, act)?;
     }
     Ok(events)
 }
 
-/// The life and the number of the records that made the decisions.
-fn origins_of(alloc: Global, decisions: &[SharedDecision]) -> Result<Vec<(u32, u64)>, Fault> {
-    let mut origins = Vec::new(alloc);
-    for decision in decisions {
+/// Whether records of these lives and numbers made the decisions, in this order.
+fn are_named_by(decisions: &[SharedDecision], records: &[(u32, u64)]) -> bool {
+    for (decision, record) in decisions.iter().zip(records) {
         let Origin::Named { conn, seq } = &decision.get().origin;
-        origins.push((conn.life, seq.0))?;
+        if (conn.life, seq.0) != *record {
+            return false;
+        }
     }
-    Ok(origins)
+    decisions.len() == records.len()
 }
 
-/// Whether the node is as the three lives leave it.
-fn has_three_lives(alloc: Global, node: &Node) -> Result<bool, Fault> {
-    Ok(
-        entries(alloc, node)?.as_slice() == ENTRIES.as_slice()
-            && slots_of(alloc, node.decisions())?.as_slice() == [2, 1, 3, 19].as_slice()
-            && applied_slots(alloc, node)?.as_slice() == [1, 2, 3].as_slice()
-            && value_of(alloc, node, b"a")?.is_none()
-            && value_of(alloc, node, b"b")? == Some(50)
-            && node.lives(0) == 3,
-    )
+/// The node is as the three lives leave it.
+fn expect_three_lives(rt: &impl Abort, alloc: Global, node: &Node) -> Result<(), Fault> {
+    expect_entries(rt, alloc, node, &ENTRIES)?;
+    expect_applied(rt, alloc, node, &[1, 2, 3], [None, Some(50)])?;
+    assert!(rt; has_slots(node.decisions(), &[2, 1, 3, 19]));
+    assert!(rt; are_named_by(node.decisions(), &[(1, 0), (2, 0), (3, 0), (3, 1)]));
+    assert_eq!(rt; node.lives(0), 3);
+    Ok(())
 }
 
 #[test]
@@ -99,10 +104,6 @@ fn a_run_has_three_lives(rt: HostRuntime) -> Result<(), Fail> {
     let events = events_of(alloc, &LIVES)?;
     let ran = run(alloc, config(alloc)?, events.as_slice())?;
     assert_eq!(rt; ran.replies.as_slice(), REPLIES.as_slice());
-    assert!(rt; has_three_lives(alloc, &ran.node)?);
-    assert_eq!(rt;
-        origins_of(alloc, ran.node.decisions())?.as_slice(),
-        [(1, 0), (2, 0), (3, 0), (3, 1)].as_slice()
-    );
+    expect_three_lives(&rt, alloc, &ran.node)?;
     Ok(())
 }

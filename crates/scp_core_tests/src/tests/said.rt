@@ -7,11 +7,11 @@ use scp_types::{Ballot, Hash};
 use scp_wire::BoxedEnvelope;
 
 /// A ballot's counter and value.
-pub type Short = (u32, u8);
+pub(super) type Short = (u32, u8);
 
 /// What a statement says.
 #[derive(Clone, Copy)]
-pub enum Said<'a> {
+pub(super) enum Said<'a> {
     /// The values that it votes for.
     Nominate(&'a [u8]),
     /// Of ballot, prepared and preparedPrime.
@@ -119,18 +119,23 @@ fn spelt(alloc: Global, node: NodeId, slot: u64, pledges: Pledges) -> Result<Vec
 }
 
 /// The hash of the node's own quorum set.
-pub fn own_hash(alloc: Global) -> Result<Hash, Fault> {
+pub(super) fn own_hash(alloc: Global) -> Result<Hash, Fault> {
     both_nodes(alloc)?.hash()
 }
 
 /// An envelope that names the node's own quorum set.
-pub fn envelope(alloc: Global, node: NodeId, slot: u64, said: &Said<'_>) -> Result<Vec<u8>, Fault> {
+pub(super) fn envelope(
+    alloc: Global,
+    node: NodeId,
+    slot: u64,
+    said: &Said<'_>,
+) -> Result<Vec<u8>, Fault> {
     let pledges = pledges(alloc, own_hash(alloc)?, said)?;
     spelt(alloc, node, slot, pledges)
 }
 
 /// An envelope of the peer that names the quorum set of this hash.
-pub fn envelope_naming(
+pub(super) fn envelope_naming(
     alloc: Global,
     set_hash: Hash,
     slot: u64,
@@ -141,7 +146,7 @@ pub fn envelope_naming(
 }
 
 /// An envelope that names another quorum set.
-pub fn envelope_of_another_set(
+pub(super) fn envelope_of_another_set(
     alloc: Global,
     slot: u64,
     said: &Said<'_>,
@@ -150,6 +155,6 @@ pub fn envelope_of_another_set(
 }
 
 /// What asks for the record of a slot.
-pub fn request(alloc: Global, slot: u64) -> Result<Vec<u8>, Fault> {
+pub(super) fn request(alloc: Global, slot: u64) -> Result<Vec<u8>, Fault> {
     encode(alloc, &Message::GetRecord(Slot(slot)))
 }

@@ -20,11 +20,6 @@ fn nested(alloc: Global, levels: u8) -> Result<QuorumSet, Fault> {
     Ok(set)
 }
 
-fn config_of(alloc: Global, set: QuorumSet) -> Result<Config, Fault> {
-    let peers = peers(alloc, &[PEER])?;
-    Ok(Config { me: ME, set, peers })
-}
-
 /// Whether a node of this set takes an envelope that names it.
 fn takes_its_set(alloc: Global, set: QuorumSet) -> Result<bool, Fault> {
     let hash = set.hash()?;

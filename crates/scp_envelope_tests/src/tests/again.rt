@@ -2,56 +2,43 @@
 //! first. A second refusal ends the test with that refusal.
 use super::spelt::{CONFIRM, EXTERNALIZE, NOMINATE, PREPARE};
 use super::*;
-use std::process::Abort;
 use std::test::*;
 
-/// What a first call gave; None where it was refused, for want of memory.
-fn first_try<T>(rt: &impl Abort, outcome: Result<T, Fault>) -> Option<T> {
+/// An envelope of each kind.
+const KINDS: [&[u8]; 4] = [&PREPARE, &CONFIRM, &EXTERNALIZE, &NOMINATE];
+
+/// Whether an envelope was given, and not refused for want of memory; one that was is spelt so.
+fn was_given(
+    rt: &impl Abort,
+    alloc: Global,
+    outcome: &Result<Envelope, Fault>,
+    bytes: &[u8],
+) -> Result<bool, Fault> {
     match outcome {
-        Ok(given) => Some(given),
+        Ok(given) => {
+            is_spelt(rt, alloc, given, bytes)?;
+            Ok(true)
+        }
         Err(fault) => {
-            assert_eq!(rt; fault, Fault::NoMemory);
-            None
+            assert_eq!(rt; *fault, Fault::NoMemory);
+            Ok(false)
         }
     }
 }
 
-/// An envelope of each kind.
-fn kinds() -> [&'static [u8]; 4] {
-    [&PREPARE, &CONFIRM, &EXTERNALIZE, &NOMINATE]
-}
-
-/// The envelope's spelling is these bytes.
-fn is_spelt(
-    rt: &impl Abort,
-    alloc: Global,
-    envelope: &Envelope,
-    bytes: &[u8],
-) -> Result<(), Fault> {
-    let spelling = encode(alloc, envelope)?;
-    assert_eq!(rt; spelling.as_slice(), bytes);
-    Ok(())
-}
-
-/// Each copy that is made of the envelope is spelt so; None where it was refused.
+/// Whether the envelope was copied; a copy that is made is spelt so.
 fn copied(
     rt: &impl Abort,
     alloc: Global,
     original: &Envelope,
     bytes: &[u8],
-) -> Result<Option<()>, Fault> {
-    match first_try(rt, original.copy()) {
-        Some(copied) => Ok(Some(is_spelt(rt, alloc, &copied, bytes)?)),
-        None => Ok(None),
-    }
+) -> Result<bool, Fault> {
+    was_given(rt, alloc, &original.copy(), bytes)
 }
 
-/// Each envelope that is read of the bytes is spelt so; None where it was refused.
-fn read(rt: &impl Abort, alloc: Global, bytes: &[u8]) -> Result<Option<()>, Fault> {
-    match first_try(rt, decode(alloc, bytes)) {
-        Some(read) => Ok(Some(is_spelt(rt, alloc, &read, bytes)?)),
-        None => Ok(None),
-    }
+/// Whether the bytes were read; an envelope that is read is spelt so.
+fn read(rt: &impl Abort, alloc: Global, bytes: &[u8]) -> Result<bool, Fault> {
+    was_given(rt, alloc, &decode(alloc, bytes), bytes)
 }
 
 /// Copies twice, and looks at the original.
@@ -62,13 +49,26 @@ fn copied_twice(
     bytes: &[u8],
 ) -> Result<(), Fault> {
     copied(rt, alloc, original, bytes)?;
-    copied(rt, alloc, original, bytes)?.ok_or(Fault::NoMemory)?;
-    is_spelt(rt, alloc, original, bytes)
+    if copied(rt, alloc, original, bytes)? {
+        is_spelt(rt, alloc, original, bytes)
+    } else {
+        Err(Fault::NoMemory)
+    }
+}
+
+/// Reads twice.
+fn read_twice(rt: &impl Abort, alloc: Global, bytes: &[u8]) -> Result<(), Fault> {
+    read(rt, alloc, bytes)?;
+    if read(rt, alloc, bytes)? {
+        Ok(())
+    } else {
+        Err(Fault::NoMemory)
+    }
 }
 
 #[test]
 fn a_refused_copy_is_made_again(rt: HostRuntime) -> Result<(), Fail> {
-    for bytes in kinds() {
+    for bytes in KINDS {
         let original = decode(rt.alloc(), bytes)?;
         copied_twice(&rt, rt.alloc(), &original, bytes)?;
     }
@@ -77,9 +77,8 @@ fn a_refused_copy_is_made_again(rt: HostRuntime) -> Result<(), Fail> {
 
 #[test]
 fn refused_bytes_are_read_again(rt: HostRuntime) -> Result<(), Fail> {
-    for bytes in kinds() {
-        read(&rt, rt.alloc(), bytes)?;
-        read(&rt, rt.alloc(), bytes)?.ok_or(Fault::NoMemory)?;
+    for bytes in KINDS {
+        read_twice(&rt, rt.alloc(), bytes)?;
     }
     Ok(())
 }

@@ -1,22 +1,41 @@
 use super::*;
 use std::test::*;
 
-#[test]
-fn a_copy_stays_when_its_original_goes(rt: HostRuntime) -> Result<(), Fail> {
-    let original = envelope(rt.alloc(), nominate(rt.alloc(), b"ab", b"b")?);
-    let written = encode(rt.alloc(), &original)?;
+/// A copy is spelt by these bytes once its original is gone.
+fn stays_copied(
+    rt: &impl Abort,
+    alloc: Global,
+    original: Envelope,
+    bytes: &[u8],
+) -> Result<(), Fault> {
     let copied = original.copy()?;
     drop(original);
-    let again = encode(rt.alloc(), &copied)?;
-    assert_eq!(rt; again.as_slice(), written.as_slice());
+    is_spelt(rt, alloc, &copied, bytes)
+}
+
+#[test]
+fn a_copy_stays_when_its_original_goes(rt: HostRuntime) -> Result<(), Fail> {
+    let said = stated(rt.alloc(), Said::Nominate(b"ab", b"b"))?;
+    let original = envelope(rt.alloc(), said);
+    let written = encode(rt.alloc(), &original)?;
+    stays_copied(&rt, rt.alloc(), original, &written)?;
+    Ok(())
+}
+
+/// A copy of the statement is sane, and not newer.
+fn is_no_newer_copied(rt: &impl Abort, old: &Statement) -> Result<(), Fault> {
+    let copied = old.copy()?;
+    assert!(rt; !newer(old, &copied));
+    assert!(rt; copied.sane());
     Ok(())
 }
 
 #[test]
 fn a_copied_statement_is_not_newer(rt: HostRuntime) -> Result<(), Fail> {
-    let old = prepare(rt.alloc(), ((2, 5), Some((2, 5)), Some((1, 4)), 1, 2))?;
-    let copied = old.copy()?;
-    assert!(rt; !newer(&old, &copied));
-    assert!(rt; copied.sane());
+    let old = stated(
+        rt.alloc(),
+        Said::Prepare((2, 5), Some((2, 5)), Some((1, 4)), 1, 2),
+    )?;
+    is_no_newer_copied(&rt, &old)?;
     Ok(())
 }

@@ -1,15 +1,19 @@
 use super::*;
-use std::process::Abort;
 use std::test::*;
 
 /// One of each kind, with the same ballot where it has one.
-fn kinds(alloc: Global) -> Result<Vec<Statement>, Fault> {
-    let mut kinds = Vec::new(alloc);
-    kinds.push(prepare(alloc, ((2, 5), Some((2, 5)), None, 1, 2))?)?;
-    kinds.push(confirm(alloc, ((1, 5), 1, 1, 1))?)?;
-    kinds.push(externalize(alloc, ((1, 5), 1))?)?;
-    kinds.push(nominate(alloc, b"a", b"b")?)?;
-    Ok(kinds)
+const KINDS: [Said; 4] = [
+    Said::Prepare((2, 5), Some((2, 5)), None, 1, 2),
+    Said::Confirm((1, 5), 1, 1, 1),
+    Said::Externalize((1, 5), 1),
+    Said::Nominate(b"a", b"b"),
+];
+
+/// Each of the new ones is newer than the old one, or is not, as its place in the row says.
+fn are_newer(rt: &impl Abort, old: &Statement, statements: &[Statement], row: &[bool; 4]) {
+    for (new, is_newer) in statements.iter().zip(row) {
+        assert_eq!(rt; newer(old, new), *is_newer);
+    }
 }
 
 #[test]
@@ -20,25 +24,29 @@ fn a_later_kind_is_newer(rt: HostRuntime) -> Result<(), Fail> {
         [false, false, false, false],
         [false, false, false, false],
     ];
-    let kinds = kinds(rt.alloc())?;
+    let kinds = all_stated(rt.alloc(), &KINDS)?;
     for (old, row) in kinds.iter().zip(&newer_at) {
-        for (new, is_newer) in kinds.iter().zip(row) {
-            assert_eq!(rt; newer(old, new), *is_newer);
-        }
+        are_newer(&rt, old, &kinds, row);
     }
+    Ok(())
+}
+
+/// A CONFIRM is newer than the statement, until it is of another slot or another node.
+fn is_compared_on_its_slot(rt: &impl Abort, alloc: Global, old: &Statement) -> Result<(), Fault> {
+    let mut new = stated(alloc, Said::Confirm((1, 5), 1, 1, 1))?;
+    assert!(rt; newer(old, &new));
+    new.slot = Slot(2);
+    assert!(rt; !newer(old, &new));
+    new.slot = Slot(1);
+    new.node = NodeId([2; 32]);
+    assert!(rt; !newer(old, &new));
     Ok(())
 }
 
 #[test]
 fn other_nodes_and_slots_are_not_compared(rt: HostRuntime) -> Result<(), Fail> {
-    let old = prepare(rt.alloc(), ((1, 5), None, None, 0, 0))?;
-    let mut new = confirm(rt.alloc(), ((1, 5), 1, 1, 1))?;
-    assert!(rt; newer(&old, &new));
-    new.slot = Slot(2);
-    assert!(rt; !newer(&old, &new));
-    new.slot = Slot(1);
-    new.node = NodeId([2; 32]);
-    assert!(rt; !newer(&old, &new));
+    let old = stated(rt.alloc(), Said::Prepare((1, 5), None, None, 0, 0))?;
+    is_compared_on_its_slot(&rt, rt.alloc(), &old)?;
     Ok(())
 }
 
@@ -53,64 +61,88 @@ fn ascend(rt: &impl Abort, statements: &[Statement]) {
 
 #[test]
 fn prepares_ascend_field_by_field(rt: HostRuntime) -> Result<(), Fail> {
-    let mut prepares = Vec::new(rt.alloc());
-    for (ballot, prepared, prime, high) in [
-        ((1, 5), None, None, 0),
-        ((1, 5), None, None, 1),
-        ((1, 5), None, Some((1, 5)), 0),
-        ((1, 5), None, Some((2, 4)), 0),
-        ((1, 5), Some((0, 0)), None, 0),
-        ((1, 5), Some((1, 5)), None, 0),
-        ((1, 5), Some((1, 6)), None, 0),
-        ((1, 5), Some((1, 6)), None, u32::MAX),
-        ((1, 5), Some((1, 6)), Some((0, 0)), 0),
-        ((1, 5), Some((2, 0)), None, 0),
-        ((1, 6), None, None, 0),
-        ((2, 0), None, None, 0),
-    ] {
-        prepares.push(prepare(rt.alloc(), (ballot, prepared, prime, 0, high))?)?;
-    }
+    let prepares = all_stated(
+        rt.alloc(),
+        &[
+            Said::Prepare((1, 5), None, None, 0, 0),
+            Said::Prepare((1, 5), None, None, 0, 1),
+            Said::Prepare((1, 5), None, Some((1, 5)), 0, 0),
+            Said::Prepare((1, 5), None, Some((2, 4)), 0, 0),
+            Said::Prepare((1, 5), Some((0, 0)), None, 0, 0),
+            Said::Prepare((1, 5), Some((1, 5)), None, 0, 0),
+            Said::Prepare((1, 5), Some((1, 6)), None, 0, 0),
+            Said::Prepare((1, 5), Some((1, 6)), None, 0, u32::MAX),
+            Said::Prepare((1, 5), Some((1, 6)), Some((0, 0)), 0, 0),
+            Said::Prepare((1, 5), Some((2, 0)), None, 0, 0),
+            Said::Prepare((1, 6), None, None, 0, 0),
+            Said::Prepare((2, 0), None, None, 0, 0),
+        ],
+    )?;
     ascend(&rt, &prepares);
     Ok(())
 }
 
 #[test]
 fn confirms_ascend_field_by_field(rt: HostRuntime) -> Result<(), Fail> {
-    let mut confirms = Vec::new(rt.alloc());
-    for (ballot, prepared, high) in [
-        ((1, 5), 0, 0),
-        ((1, 5), 0, 1),
-        ((1, 5), 0, u32::MAX),
-        ((1, 5), 1, 0),
-        ((1, 5), 1, 1),
-        ((1, 6), 0, 0),
-        ((2, 0), 0, 0),
-    ] {
-        confirms.push(confirm(rt.alloc(), (ballot, prepared, 0, high))?)?;
-    }
+    let confirms = all_stated(
+        rt.alloc(),
+        &[
+            Said::Confirm((1, 5), 0, 0, 0),
+            Said::Confirm((1, 5), 0, 0, 1),
+            Said::Confirm((1, 5), 0, 0, u32::MAX),
+            Said::Confirm((1, 5), 1, 0, 0),
+            Said::Confirm((1, 5), 1, 0, 1),
+            Said::Confirm((1, 6), 0, 0, 0),
+            Said::Confirm((2, 0), 0, 0, 0),
+        ],
+    )?;
     ascend(&rt, &confirms);
     Ok(())
 }
 
 #[test]
 fn the_lowest_commit_does_not_count(rt: HostRuntime) -> Result<(), Fail> {
-    for commit in [0, 1, 2] {
-        let old = prepare(rt.alloc(), ((2, 5), Some((2, 5)), None, 1, 2));
-        let new = prepare(rt.alloc(), ((2, 5), Some((2, 5)), None, commit, 2));
-        assert!(rt; !is_newer(old, new)?, "prepare {commit}");
-        let old = confirm(rt.alloc(), ((2, 5), 2, 1, 2));
-        let new = confirm(rt.alloc(), ((2, 5), 2, commit, 2));
-        assert!(rt; !is_newer(old, new)?, "confirm {commit}");
-    }
+    let prepare = Said::Prepare((2, 5), Some((2, 5)), None, 1, 2);
+    let confirm = Said::Confirm((2, 5), 2, 1, 2);
+    expect_newer(
+        &rt,
+        rt.alloc(),
+        &[
+            (
+                prepare,
+                Said::Prepare((2, 5), Some((2, 5)), None, 0, 2),
+                false,
+            ),
+            (
+                prepare,
+                Said::Prepare((2, 5), Some((2, 5)), None, 1, 2),
+                false,
+            ),
+            (
+                prepare,
+                Said::Prepare((2, 5), Some((2, 5)), None, 2, 2),
+                false,
+            ),
+            (confirm, Said::Confirm((2, 5), 2, 0, 2), false),
+            (confirm, Said::Confirm((2, 5), 2, 1, 2), false),
+            (confirm, Said::Confirm((2, 5), 2, 2, 2), false),
+        ],
+    )?;
     Ok(())
 }
 
 #[test]
 fn no_externalize_is_newer_than_another(rt: HostRuntime) -> Result<(), Fail> {
-    for (commit, high) in [((1, 5), 1), ((1, 5), 2), ((2, 5), 2), ((1, 6), 1)] {
-        let old = externalize(rt.alloc(), ((1, 5), 1));
-        let new = externalize(rt.alloc(), (commit, high));
-        assert!(rt; !is_newer(old, new)?, "{commit:?} {high}");
-    }
+    let old = Said::Externalize((1, 5), 1);
+    expect_newer(
+        &rt,
+        rt.alloc(),
+        &[
+            (old, Said::Externalize((1, 5), 1), false),
+            (old, Said::Externalize((1, 5), 2), false),
+            (old, Said::Externalize((2, 5), 2), false),
+            (old, Said::Externalize((1, 6), 1), false),
+        ],
+    )?;
     Ok(())
 }

@@ -5,130 +5,159 @@ const MAX: u32 = u32::MAX;
 
 #[test]
 fn a_prepare_counts_from_1(rt: HostRuntime) -> Result<(), Fail> {
-    for (counter, sane) in [(0, false), (1, true), (MAX, true)] {
-        let prepare = prepare(rt.alloc(), ((counter, 1), None, None, 0, 0));
-        assert_eq!(rt; is_sane(prepare)?, sane, "at {counter}");
-    }
+    expect_sane(
+        &rt,
+        rt.alloc(),
+        &[
+            (Said::Prepare((0, 1), None, None, 0, 0), false),
+            (Said::Prepare((1, 1), None, None, 0, 0), true),
+            (Said::Prepare((MAX, 1), None, None, 0, 0), true),
+        ],
+    )?;
     Ok(())
 }
 
 #[test]
 fn prepared_prime_is_less_and_incompatible(rt: HostRuntime) -> Result<(), Fail> {
-    for (prepared, prime, sane) in [
-        (Some((2, 5)), None, true),
-        (None, Some((2, 5)), true),
-        (Some((2, 5)), Some((1, 6)), true),
-        (Some((2, 5)), Some((2, 4)), true),
-        (Some((2, 5)), Some((2, 6)), false),
-        (Some((2, 5)), Some((3, 4)), false),
-        (Some((2, 5)), Some((1, 5)), false),
-        (Some((2, 5)), Some((2, 5)), false),
-    ] {
-        let prepare = prepare(rt.alloc(), ((3, 5), prepared, prime, 0, 0));
-        assert_eq!(rt; is_sane(prepare)?, sane, "{prepared:?} {prime:?}");
-    }
+    expect_sane(
+        &rt,
+        rt.alloc(),
+        &[
+            (Said::Prepare((3, 5), Some((2, 5)), None, 0, 0), true),
+            (Said::Prepare((3, 5), None, Some((2, 5)), 0, 0), true),
+            (
+                Said::Prepare((3, 5), Some((2, 5)), Some((1, 6)), 0, 0),
+                true,
+            ),
+            (
+                Said::Prepare((3, 5), Some((2, 5)), Some((2, 4)), 0, 0),
+                true,
+            ),
+            (
+                Said::Prepare((3, 5), Some((2, 5)), Some((2, 6)), 0, 0),
+                false,
+            ),
+            (
+                Said::Prepare((3, 5), Some((2, 5)), Some((3, 4)), 0, 0),
+                false,
+            ),
+            (
+                Said::Prepare((3, 5), Some((2, 5)), Some((1, 5)), 0, 0),
+                false,
+            ),
+            (
+                Said::Prepare((3, 5), Some((2, 5)), Some((2, 5)), 0, 0),
+                false,
+            ),
+        ],
+    )?;
     Ok(())
 }
 
 #[test]
 fn high_is_prepared(rt: HostRuntime) -> Result<(), Fail> {
-    for (prepared, high, sane) in [
-        (None, 0, true),
-        (None, 1, false),
-        (Some((2, 5)), 0, true),
-        (Some((2, 5)), 2, true),
-        (Some((2, 5)), 3, false),
-        (Some((MAX, 5)), MAX, true),
-    ] {
-        let prepare = prepare(rt.alloc(), ((1, 5), prepared, None, 0, high));
-        assert_eq!(rt; is_sane(prepare)?, sane, "{prepared:?} {high}");
-    }
+    expect_sane(
+        &rt,
+        rt.alloc(),
+        &[
+            (Said::Prepare((1, 5), None, None, 0, 0), true),
+            (Said::Prepare((1, 5), None, None, 0, 1), false),
+            (Said::Prepare((1, 5), Some((2, 5)), None, 0, 0), true),
+            (Said::Prepare((1, 5), Some((2, 5)), None, 0, 2), true),
+            (Said::Prepare((1, 5), Some((2, 5)), None, 0, 3), false),
+            (Said::Prepare((1, 5), Some((MAX, 5)), None, 0, MAX), true),
+        ],
+    )?;
     Ok(())
 }
 
 #[test]
 fn a_commit_lies_between(rt: HostRuntime) -> Result<(), Fail> {
-    for (counter, commit, high, sane) in [
-        (3, 0, 3, true),
-        (1, 0, 3, true),
-        (3, 1, 0, false),
-        (3, 1, 1, true),
-        (3, 3, 3, true),
-        (3, 3, 2, false),
-        (2, 1, 3, false),
-        (3, 1, 3, true),
-    ] {
-        let prepare = prepare(rt.alloc(), ((counter, 5), Some((3, 5)), None, commit, high));
-        assert_eq!(rt; is_sane(prepare)?, sane, "{counter} {commit} {high}");
-    }
+    expect_sane(
+        &rt,
+        rt.alloc(),
+        &[
+            (Said::Prepare((3, 5), Some((3, 5)), None, 0, 3), true),
+            (Said::Prepare((1, 5), Some((3, 5)), None, 0, 3), true),
+            (Said::Prepare((3, 5), Some((3, 5)), None, 1, 0), false),
+            (Said::Prepare((3, 5), Some((3, 5)), None, 1, 1), true),
+            (Said::Prepare((3, 5), Some((3, 5)), None, 3, 3), true),
+            (Said::Prepare((3, 5), Some((3, 5)), None, 3, 2), false),
+            (Said::Prepare((2, 5), Some((3, 5)), None, 1, 3), false),
+            (Said::Prepare((3, 5), Some((3, 5)), None, 1, 3), true),
+        ],
+    )?;
     Ok(())
 }
 
 #[test]
 fn a_confirm_is_sane_within_its_ballot(rt: HostRuntime) -> Result<(), Fail> {
-    for (counter, prepared, commit, high, sane) in [
-        (0, 0, 0, 0, false),
-        (1, 0, 0, 0, true),
-        (3, 9, 2, 3, true),
-        (3, 3, 2, 4, false),
-        (3, 3, 3, 2, false),
-        (3, 0, 3, 3, true),
-        (MAX, MAX, MAX, MAX, true),
-    ] {
-        let confirm = confirm(rt.alloc(), ((counter, 5), prepared, commit, high));
-        assert_eq!(rt;
-            is_sane(confirm)?,
-            sane,
-            "{counter} {prepared} {commit} {high}"
-        );
-    }
+    expect_sane(
+        &rt,
+        rt.alloc(),
+        &[
+            (Said::Confirm((0, 5), 0, 0, 0), false),
+            (Said::Confirm((1, 5), 0, 0, 0), true),
+            (Said::Confirm((3, 5), 9, 2, 3), true),
+            (Said::Confirm((3, 5), 3, 2, 4), false),
+            (Said::Confirm((3, 5), 3, 3, 2), false),
+            (Said::Confirm((3, 5), 0, 3, 3), true),
+            (Said::Confirm((MAX, 5), MAX, MAX, MAX), true),
+        ],
+    )?;
     Ok(())
 }
 
 #[test]
 fn an_externalize_is_sane_from_its_commit_on(rt: HostRuntime) -> Result<(), Fail> {
-    for (counter, high, sane) in [
-        (0, 0, false),
-        (0, 1, false),
-        (1, 0, false),
-        (1, 1, true),
-        (2, 1, false),
-        (MAX, MAX, true),
-    ] {
-        let externalize = externalize(rt.alloc(), ((counter, 5), high));
-        assert_eq!(rt; is_sane(externalize)?, sane, "{counter} {high}");
-    }
+    expect_sane(
+        &rt,
+        rt.alloc(),
+        &[
+            (Said::Externalize((0, 5), 0), false),
+            (Said::Externalize((0, 5), 1), false),
+            (Said::Externalize((1, 5), 0), false),
+            (Said::Externalize((1, 5), 1), true),
+            (Said::Externalize((2, 5), 1), false),
+            (Said::Externalize((MAX, 5), MAX), true),
+        ],
+    )?;
     Ok(())
 }
 
 #[test]
 fn lists_ascend_and_one_has_a_value(rt: HostRuntime) -> Result<(), Fail> {
-    for (votes, accepted, sane) in [
-        (b"".as_slice(), b"".as_slice(), false),
-        (b"a", b"", true),
-        (b"", b"a", true),
-        (b"abc", b"bd", true),
-        (b"aa", b"", false),
-        (b"ba", b"", false),
-        (b"a", b"acb", false),
-        (b"a", b"bb", false),
-    ] {
-        let nominate = nominate(rt.alloc(), votes, accepted);
-        assert_eq!(rt; is_sane(nominate)?, sane, "{votes:?} {accepted:?}");
-    }
+    expect_sane(
+        &rt,
+        rt.alloc(),
+        &[
+            (Said::Nominate(b"", b""), false),
+            (Said::Nominate(b"a", b""), true),
+            (Said::Nominate(b"", b"a"), true),
+            (Said::Nominate(b"abc", b"bd"), true),
+            (Said::Nominate(b"aa", b""), false),
+            (Said::Nominate(b"ba", b""), false),
+            (Said::Nominate(b"a", b"acb"), false),
+            (Said::Nominate(b"a", b"bb"), false),
+        ],
+    )?;
     Ok(())
 }
 
-/// A NOMINATE that votes for these two values.
-fn voting(alloc: Global, first: &[u8], second: &[u8]) -> Result<Statement, Fault> {
+/// A list of these values.
+fn list_of(alloc: Global, items: &[&[u8]]) -> Result<ValueList, Fault> {
     let mut values = Vec::new(alloc);
-    values.push(value(alloc, first)?)?;
-    values.push(value(alloc, second)?)?;
-    Ok(statement(Pledges::Nominate(Nominate {
-        set_hash: Hash([2; 32]),
-        votes: ValueList::new(values),
-        accepted: ValueList::new(Vec::new(alloc)),
-    })))
+    for bytes in items {
+        push_value(&mut values, alloc, bytes)?;
+    }
+    Ok(ValueList::new(values))
+}
+
+/// Whether a NOMINATE that votes for these two values is sane.
+fn is_sane_voting(alloc: Global, first: &[u8], second: &[u8]) -> Result<bool, Fault> {
+    let votes = list_of(alloc, &[first, second])?;
+    let voting = nominating(alloc, votes, ValueList::new(Vec::new(alloc)));
+    Ok(voting.statement.sane())
 }
 
 #[test]
@@ -139,7 +168,7 @@ fn a_prefix_is_below_the_whole(rt: HostRuntime) -> Result<(), Fail> {
         (b"", b"a", true),
         (b"ab", b"b", true),
     ] {
-        let found = is_sane(voting(rt.alloc(), first, second))?;
+        let found = is_sane_voting(rt.alloc(), first, second)?;
         assert_eq!(rt; found, sane, "{first:?} {second:?}");
     }
     Ok(())

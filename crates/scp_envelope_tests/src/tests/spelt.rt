@@ -1,5 +1,4 @@
 use super::*;
-use std::process::Abort;
 use std::test::*;
 
 /// A PREPARE of ballot (3, a), prepared (2, ab), preparedPrime (1, no bytes), nC 0 and nH 2.
@@ -92,18 +91,30 @@ const NAMED: [u8; 32] = [
     0x50, 0x51, 0x52, 0x53, 0x54, 0x55, 0x56, 0x57, 0x58, 0x59, 0x5a, 0x5b, 0x5c, 0x5d, 0x5e, 0x5f,
 ];
 
-/// Reads the bytes, and writes what was read and a copy of it.
-fn is_read_and_written(rt: &impl Abort, alloc: Global, bytes: &[u8]) -> Result<(), Fault> {
-    let read = decode(alloc, bytes)?;
+/// The envelope is of node 1 on slot 1, names the hash of the examples and is sane.
+fn is_an_example(rt: &impl Abort, read: &Envelope) {
     assert_eq!(rt; read.statement.node, NodeId([1; 32]));
     assert_eq!(rt; read.statement.slot, Slot(1));
     assert_eq!(rt; read.set_hash(), Hash(NAMED));
     assert!(rt; read.statement.sane());
-    let written = encode(alloc, &read)?;
-    assert_eq!(rt; written.as_slice(), bytes);
-    let copied = encode(alloc, &read.copy()?)?;
-    assert_eq!(rt; copied.as_slice(), bytes);
-    Ok(())
+}
+
+/// Reads the bytes, and writes what was read and a copy of it.
+fn is_read_and_written(rt: &impl Abort, alloc: Global, bytes: &[u8]) -> Result<(), Fault> {
+    let read = decode(alloc, bytes)?;
+    is_an_example(rt, &read);
+    is_spelt_and_copied(rt, alloc, &read, bytes)
+}
+
+/// The envelope is spelt by these bytes, and so is its copy.
+fn is_spelt_and_copied(
+    rt: &impl Abort,
+    alloc: Global,
+    read: &Envelope,
+    bytes: &[u8],
+) -> Result<(), Fault> {
+    is_spelt(rt, alloc, read, bytes)?;
+    is_copied(rt, alloc, read, bytes)
 }
 
 #[test]
@@ -115,15 +126,13 @@ fn each_kind_is_read_and_written(rt: HostRuntime) -> Result<(), Fail> {
     Ok(())
 }
 
-#[test]
-fn a_prepare_has_its_fields(rt: HostRuntime) -> Result<(), Fail> {
-    let read = decode(rt.alloc(), &PREPARE)?;
-    assert_eq!(rt; read.signature.as_slice(), [7, 8, 9].as_slice());
-    let Pledges::Prepare(read) = &read.statement.pledges else {
-        return Err("another kind".into());
+/// The fields of PREPARE.
+fn has_prepare_fields(rt: &impl Abort, pledges: &Pledges) {
+    let Pledges::Prepare(read) = pledges else {
+        panic!(rt; "another kind");
     };
     let Some(prime) = &read.prepared_prime else {
-        return Err("no preparedPrime".into());
+        panic!(rt; "no preparedPrime");
     };
     assert_eq!(rt; read.ballot.counter, 3);
     assert_eq!(rt; read.ballot.value.as_slice(), b"a".as_slice());
@@ -131,57 +140,74 @@ fn a_prepare_has_its_fields(rt: HostRuntime) -> Result<(), Fail> {
     assert_eq!(rt; prime.counter, 1);
     assert!(rt; prime.value.as_slice().is_empty());
     assert_eq!(rt; (read.n_commit, read.n_high), (0, 2));
+}
+
+#[test]
+fn a_prepare_has_its_fields(rt: HostRuntime) -> Result<(), Fail> {
+    let read = decode(rt.alloc(), &PREPARE)?;
+    assert_eq!(rt; read.signature.as_slice(), [7, 8, 9].as_slice());
+    has_prepare_fields(&rt, &read.statement.pledges);
     Ok(())
+}
+
+/// The fields of CONFIRM.
+fn has_confirm_fields(rt: &impl Abort, pledges: &Pledges) {
+    let Pledges::Confirm(read) = pledges else {
+        panic!(rt; "another kind");
+    };
+    assert_eq!(rt; read.ballot.counter, 3);
+    assert_eq!(rt; (read.n_prepared, read.n_commit, read.n_high), (4, 2, 3));
 }
 
 #[test]
 fn a_confirm_has_its_fields(rt: HostRuntime) -> Result<(), Fail> {
     let read = decode(rt.alloc(), &CONFIRM)?;
-    let Pledges::Confirm(read) = &read.statement.pledges else {
-        return Err("another kind".into());
-    };
-    assert_eq!(rt; read.ballot.counter, 3);
-    assert_eq!(rt; (read.n_prepared, read.n_commit, read.n_high), (4, 2, 3));
+    has_confirm_fields(&rt, &read.statement.pledges);
     Ok(())
+}
+
+/// The fields of EXTERNALIZE.
+fn has_externalize_fields(rt: &impl Abort, pledges: &Pledges) {
+    let Pledges::Externalize(read) = pledges else {
+        panic!(rt; "another kind");
+    };
+    assert_eq!(rt; read.commit.counter, 3);
+    assert_eq!(rt; read.n_high, u32::MAX);
 }
 
 #[test]
 fn an_externalize_has_its_fields(rt: HostRuntime) -> Result<(), Fail> {
     let read = decode(rt.alloc(), &EXTERNALIZE)?;
-    let Pledges::Externalize(read) = &read.statement.pledges else {
-        return Err("another kind".into());
-    };
-    assert_eq!(rt; read.commit.counter, 3);
-    assert_eq!(rt; read.n_high, u32::MAX);
+    has_externalize_fields(&rt, &read.statement.pledges);
     Ok(())
+}
+
+/// The lists of NOMINATE.
+fn has_nominate_lists(rt: &impl Abort, pledges: &Pledges) {
+    let Pledges::Nominate(read) = pledges else {
+        panic!(rt; "another kind");
+    };
+    assert_eq!(rt; read.votes.as_slice().len(), 1);
+    assert_eq!(rt; read.votes.as_slice()[0].as_slice(), &NOMINATE[88..112]);
+    assert!(rt; read.accepted.as_slice().is_empty());
 }
 
 #[test]
 fn a_nominate_has_its_lists(rt: HostRuntime) -> Result<(), Fail> {
     let read = decode(rt.alloc(), &NOMINATE)?;
     assert!(rt; read.signature.as_slice().is_empty());
-    let Pledges::Nominate(read) = &read.statement.pledges else {
-        return Err("another kind".into());
-    };
-    assert_eq!(rt; read.votes.as_slice().len(), 1);
-    assert_eq!(rt; read.votes.as_slice()[0].as_slice(), &NOMINATE[88..112]);
-    assert!(rt; read.accepted.as_slice().is_empty());
+    has_nominate_lists(&rt, &read.statement.pledges);
     Ok(())
-}
-
-/// The last item that begins at this length or before it.
-fn item_at(items: &[usize], len: usize) -> Option<usize> {
-    items.iter().copied().filter(|item| *item <= len).max()
 }
 
 /// Cut short anywhere, the bytes are malformed where the item begins that is cut.
 fn names_the_cut_item(rt: &impl Abort, alloc: Global, bytes: &[u8], items: &[usize]) {
+    let mut place = 0;
     for len in 0..bytes.len() {
-        let place = item_at(items, len);
-        assert!(rt;
-            matches!(decode(alloc, &bytes[..len]), Err(Fault::Malformed(at)) if Some(at) == place),
-            "at {len}"
-        );
+        if items.contains(&len) {
+            place = len;
+        }
+        assert!(rt; is_malformed_at(alloc, &bytes[..len], place), "at {len}");
     }
 }
 
@@ -193,17 +219,31 @@ fn a_cut_envelope_names_the_item_that_is_cut(rt: HostRuntime) {
     names_the_cut_item(&rt, rt.alloc(), &NOMINATE, &NOMINATE_ITEMS);
 }
 
+/// Writes the new bytes over the others, from a place on.
+fn put_at(bytes: &mut [u8], place: usize, new: &[u8]) {
+    for (byte, new) in bytes.iter_mut().skip(place).zip(new) {
+        *byte = *new;
+    }
+}
+
+/// Whether the bytes are malformed at this place.
+fn is_malformed_at(alloc: Global, bytes: &[u8], place: usize) -> bool {
+    matches!(decode(alloc, bytes), Err(Fault::Malformed(at)) if at == place)
+}
+
+/// Whether the bytes are too long.
+fn is_too_long(alloc: Global, bytes: &[u8]) -> bool {
+    matches!(decode(alloc, bytes), Err(Fault::TooLong))
+}
+
 #[test]
 fn bytes_after_the_end_are_refused(rt: HostRuntime) {
     let mut longer = [0; 124];
-    longer[..120].copy_from_slice(&NOMINATE);
-    assert!(rt; matches!(decode(rt.alloc(), &longer), Err(Fault::Malformed(120))));
-    assert!(rt;
-        matches!(
-            decode(rt.alloc(), &longer[..121]),
-            Err(Fault::Malformed(120))
-        )
-    );
+    put_at(&mut longer, 0, &NOMINATE);
+    assert!(rt; is_malformed_at(rt.alloc(), &longer, 120));
+    let mut longer = [0; 121];
+    put_at(&mut longer, 0, &NOMINATE);
+    assert!(rt; is_malformed_at(rt.alloc(), &longer, 120));
 }
 
 /// PREPARE with another byte at a place is malformed there, or where the item begins.
@@ -221,12 +261,24 @@ fn flags_kinds_and_padding_are_tested(rt: HostRuntime) {
         (135, 1, 135), // padding of the signature
     ] {
         let mut other = PREPARE;
-        other[place] = byte;
-        assert!(rt;
-            matches!(decode(rt.alloc(), &other), Err(Fault::Malformed(found)) if found == at),
-            "at {place}"
-        );
+        put_at(&mut other, place, &[byte]);
+        assert!(rt; is_malformed_at(rt.alloc(), &other, at), "at {place}");
     }
+}
+
+/// A number over its limit comes before the bytes that are missing, which are missing here at the limit.
+fn has_its_limit(
+    rt: &impl Abort,
+    alloc: Global,
+    bytes: &mut [u8],
+    place: usize,
+    limit: u32,
+    missing: usize,
+) {
+    put_at(bytes, place, &limit.saturating_add(1).to_be_bytes());
+    assert!(rt; is_too_long(alloc, bytes), "at {place}");
+    put_at(bytes, place, &limit.to_be_bytes());
+    assert!(rt; is_malformed_at(alloc, bytes, missing), "at {place}");
 }
 
 /// At each length and count of NOMINATE: one over its limit comes before the bytes that are missing.
@@ -239,88 +291,75 @@ fn lengths_of_a_nominate_have_limits(rt: HostRuntime) {
         (116, 64, 120),
     ] {
         let mut other = NOMINATE;
-        other[place..place + 4].copy_from_slice(&(limit + 1u32).to_be_bytes());
-        assert!(rt;
-            matches!(decode(rt.alloc(), &other), Err(Fault::TooLong)),
-            "at {place}"
-        );
-        other[place..place + 4].copy_from_slice(&limit.to_be_bytes());
-        assert!(rt;
-            matches!(decode(rt.alloc(), &other), Err(Fault::Malformed(at)) if at == missing),
-            "at {place}"
-        );
+        has_its_limit(&rt, rt.alloc(), &mut other, place, limit, missing);
     }
 }
 
 /// The same of the values of a PREPARE's ballots.
 #[test]
 fn values_of_a_prepare_have_limits(rt: HostRuntime) {
-    for place in [84, 100, 116] {
+    for (place, limit, missing) in [(84, 4_096, 88), (100, 4_096, 104), (116, 4_096, 120)] {
         let mut other = PREPARE;
-        other[place..place + 4].copy_from_slice(&4_097u32.to_be_bytes());
-        assert!(rt;
-            matches!(decode(rt.alloc(), &other), Err(Fault::TooLong)),
-            "at {place}"
-        );
-        other[place..place + 4].copy_from_slice(&4_096u32.to_be_bytes());
-        assert!(rt;
-            matches!(decode(rt.alloc(), &other), Err(Fault::Malformed(at)) if at == place + 4),
-            "at {place}"
-        );
+        has_its_limit(&rt, rt.alloc(), &mut other, place, limit, missing);
     }
 }
 
 /// A NOMINATE that votes for so many values of no bytes.
 fn voting_for(alloc: Global, count: usize) -> Result<Envelope, Fault> {
-    let mut votes = Vec::new(alloc);
-    for _ in 0..count {
-        votes.push(value(alloc, &[])?)?;
-    }
-    let pledges = Pledges::Nominate(Nominate {
-        set_hash: Hash([2; 32]),
-        votes: ValueList::new(votes),
-        accepted: list(alloc, &[])?,
-    });
-    Ok(envelope(alloc, statement(pledges)))
+    let votes = many(alloc, count, 0)?;
+    Ok(nominating(alloc, votes, ValueList::new(Vec::new(alloc))))
+}
+
+/// The envelope's spelling.
+fn spelling(alloc: Global, envelope: Result<Envelope, Fault>) -> Result<Vec<u8>, Fault> {
+    let envelope = envelope?;
+    encode(alloc, &envelope)
+}
+
+/// Whether the envelope is too long to be written.
+fn is_too_long_to_write(alloc: Global, envelope: Result<Envelope, Fault>) -> Result<bool, Fault> {
+    let envelope = envelope?;
+    Ok(matches!(encode(alloc, &envelope), Err(Fault::TooLong)))
 }
 
 #[test]
 fn lists_that_are_written_have_limits(rt: HostRuntime) -> Result<(), Fail> {
-    let full = encode(rt.alloc(), &voting_for(rt.alloc(), 64)?)?;
+    assert!(rt; is_too_long_to_write(rt.alloc(), voting_for(rt.alloc(), 65))?);
+    let full = spelling(rt.alloc(), voting_for(rt.alloc(), 64))?;
     assert_eq!(rt; full.as_slice().len(), 92 + 4 * 64);
     assert!(rt; decode(rt.alloc(), &full).is_ok());
-    let over = encode(rt.alloc(), &voting_for(rt.alloc(), 65)?);
-    assert!(rt; matches!(over, Err(Fault::TooLong)));
     Ok(())
 }
 
 /// An EXTERNALIZE with a value and a signature of so many bytes.
 fn externalizing(alloc: Global, value_len: usize, signed: usize) -> Result<Envelope, Fault> {
-    let bytes = [5; 4_097];
-    let commit = Ballot {
-        counter: 1,
-        value: value(alloc, &bytes[..value_len.min(4_097)])?,
-    };
+    let value = long(alloc, value_len)?;
+    let signature = Signature::new(vec![in alloc; 5; signed]?);
+    let commit = Ballot { counter: 1, value };
+    let pledges = Pledges::Externalize(Externalize {
+        commit,
+        n_high: 1,
+        set_hash: Hash([2; 32]),
+    });
     Ok(Envelope {
-        statement: statement(Pledges::Externalize(Externalize {
-            commit,
-            n_high: 1,
-            set_hash: Hash([2; 32]),
-        })),
-        signature: Signature::new(Vec::from_slice(alloc, &bytes[..signed.min(4_097)])?),
+        statement: statement(pledges),
+        signature,
     })
+}
+
+/// The length of the signature that is read.
+fn signature_len(alloc: Global, bytes: &[u8]) -> Result<usize, Fault> {
+    let read = decode(alloc, bytes)?;
+    Ok(read.signature.into_vec().len())
 }
 
 #[test]
 fn bytes_that_are_written_have_limits(rt: HostRuntime) -> Result<(), Fail> {
-    let full = encode(rt.alloc(), &externalizing(rt.alloc(), 4_096, 64)?)?;
+    assert!(rt; is_too_long_to_write(rt.alloc(), externalizing(rt.alloc(), 4_097, 0))?);
+    assert!(rt; is_too_long_to_write(rt.alloc(), externalizing(rt.alloc(), 0, 65))?);
+    let full = spelling(rt.alloc(), externalizing(rt.alloc(), 4_096, 64))?;
     assert_eq!(rt; full.as_slice().len(), 96 + 4_096 + 64);
-    let read = decode(rt.alloc(), &full)?;
-    assert_eq!(rt; read.signature.into_vec().len(), 64);
-    let long_value = encode(rt.alloc(), &externalizing(rt.alloc(), 4_097, 0)?);
-    assert!(rt; matches!(long_value, Err(Fault::TooLong)));
-    let long_signature = encode(rt.alloc(), &externalizing(rt.alloc(), 0, 65)?);
-    assert!(rt; matches!(long_signature, Err(Fault::TooLong)));
+    assert_eq!(rt; signature_len(rt.alloc(), &full)?, 64);
     Ok(())
 }
 

@@ -16,29 +16,30 @@ fn first_try<T>(rt: &impl Abort, outcome: Result<T, Fault>) -> Option<T> {
 /// A list of three operations: a put of 5 bytes at "kk", a put of 1 byte there, and a del of "k".
 fn three(alloc: Global) -> Result<Vec<u8>, Fault> {
     let mut bytes = list_of(alloc, 3)?;
-    push_puts(&mut bytes, 1, 2, 5)?;
-    push_puts(&mut bytes, 1, 2, 1)?;
-    push_dels(&mut bytes, 1, 1)?;
+    push_each(&mut bytes, &[(2, Some(5)), (2, Some(1)), (1, None)])?;
     Ok(bytes)
 }
 
-/// The state has just the keys below this one, each at itself.
-fn has_keys_below(rt: &impl Abort, state: &KvState, bound: u8) {
-    assert_eq!(rt; state.len(), bound as usize);
-    assert_eq!(rt; state.lines().count(), bound as usize);
-    for ((key, entry), number) in state.lines().zip(0..bound) {
-        assert_eq!(rt; key.as_slice(), [number].as_slice());
-        assert!(rt; entry == key);
+/// Whether the state has just the keys below this one, each at itself.
+fn has_keys_below(state: &KvState, bound: u8) -> bool {
+    if state.len() != bound as usize || state.lines().count() != bound as usize {
+        return false;
     }
+    for ((key, entry), number) in state.lines().zip(0..bound) {
+        if key.as_slice() != [number].as_slice() || entry != key {
+            return false;
+        }
+    }
+    true
 }
 
 /// Puts the key of this number, once more where it was refused.
 fn put_again(rt: &impl Abort, alloc: Global, state: &mut KvState, number: u8) -> Result<(), Fault> {
     if first_try(rt, put(alloc, state, &[number], &[number])).is_none() {
-        has_keys_below(rt, state, number);
+        assert!(rt; has_keys_below(state, number));
         put(alloc, state, &[number], &[number])?;
     }
-    has_keys_below(rt, state, number.saturating_add(1));
+    assert!(rt; has_keys_below(state, number.saturating_add(1)));
     Ok(())
 }
 
@@ -56,7 +57,7 @@ fn a_refused_put_leaves_the_state_and_is_made_again(rt: HostRuntime) -> Result<(
 fn apply_first(rt: &impl Abort, alloc: Global, list: &Value) {
     let mut given_up = KvState::new(alloc);
     if first_try(rt, apply_value(&mut given_up, list)).is_some() {
-        expect_state(rt, &given_up, &[(b"kk", b"v")]);
+        assert!(rt; has_lines(&given_up, &[(b"kk", b"v")]));
     }
 }
 
@@ -67,6 +68,6 @@ fn a_refused_value_is_applied_again(rt: HostRuntime) -> Result<(), Fail> {
     apply_first(&rt, rt.alloc(), &list);
     let mut state = KvState::new(rt.alloc());
     apply_value(&mut state, &list)?;
-    expect_state(&rt, &state, &[(b"kk", b"v")]);
+    assert!(rt; has_lines(&state, &[(b"kk", b"v")]));
     Ok(())
 }

@@ -44,12 +44,11 @@ const CALLS: [(Call, &[u8], &[u8]); 4] = [
 fn plain(answer: Result<(), PlayFault>) -> Result<(), Fault> {
     match answer {
         Ok(()) => Ok(()),
-        Err(refused) => match (refused.fault, refused.node) {
-            (Fault::Failed, 1 | 2) => Err(Fault::NoMemory),
-            (Fault::Failed, _) => Err(Fault::Failed),
-            (fault, 0) => Err(fault),
-            _ => Err(Fault::Failed),
-        },
+        Err(refused) if refused.node == 0 => Err(refused.fault),
+        Err(refused) if refused.fault == Fault::Failed && refused.node <= 2 => {
+            Err(Fault::NoMemory)
+        }
+        Err(_) => Err(Fault::Failed),
     }
 }
 
@@ -82,15 +81,21 @@ fn has(writer: &MemoryOut, text: &[u8]) -> bool {
         && written.ends_with(text)
 }
 
+/// Whether the answered call wrote this text, and nothing where it was refused.
+fn has_written(answer: Result<(), Fault>, writer: &MemoryOut, text: &[u8]) -> Result<bool, Fault> {
+    match answer {
+        Ok(()) => Ok(has(writer, text)),
+        Err(fault) if has(writer, &[]) => Err(fault),
+        Err(_) => Ok(false),
+    }
+}
+
 /// Whether the call writes this text, and nothing where it is refused.
 fn writes(alloc: Global, call: Call, script: &[u8], text: &[u8]) -> Result<bool, Fault> {
     let mut reader = MemoryIn::new(script);
     let mut writer = begun(alloc)?;
-    match make(alloc, call, &mut reader, &mut writer) {
-        Ok(()) => Ok(has(&writer, text)),
-        Err(fault) if has(&writer, &[]) => Err(fault),
-        Err(_) => Ok(false),
-    }
+    let answer = make(alloc, call, &mut reader, &mut writer);
+    has_written(answer, &writer, text)
 }
 
 /// Whether the device is what failed.
@@ -156,27 +161,25 @@ fn refused_calls_are_made_again(rt: HostRuntime) -> Result<(), Fail> {
     Ok(())
 }
 
+/// Words over a script, the status that they end with, and what they write.
+const SERVED: [(&[&str], &[u8], u8, &[u8]); 6] = [
+    (&["scp_line", "run"], SCRIPT, 0, REPORT),
+    (&["scp_line", "check"], SCRIPT, 0, FINE),
+    (&["scp_line", "decode", WORD], SCRIPT, 0, SHOWN),
+    (&["scp_line", "decode", "00"], SCRIPT, 1, b"fault 2\n"),
+    (
+        &["scp_line", "run"],
+        b"nodes 2 2\n\nwait\n",
+        1,
+        b"fault 12 line 3\n",
+    ),
+    (&["scp_line", "walk"], SCRIPT, 2, b"usage\n"),
+];
+
 #[test]
 fn refused_words_are_served_again(rt: HostRuntime) -> Result<(), Fail> {
     let alloc = rt.alloc();
-    for (words, script, status, text) in [
-        (["scp_line", "run"].as_slice(), SCRIPT, 0, REPORT),
-        (["scp_line", "check"].as_slice(), SCRIPT, 0, FINE),
-        (["scp_line", "decode", WORD].as_slice(), SCRIPT, 0, SHOWN),
-        (
-            ["scp_line", "decode", "00"].as_slice(),
-            SCRIPT,
-            1,
-            b"fault 2\n",
-        ),
-        (
-            ["scp_line", "run"].as_slice(),
-            b"nodes 2 2\n\nwait\n",
-            1,
-            b"fault 12 line 3\n",
-        ),
-        (["scp_line", "walk"].as_slice(), SCRIPT, 2, b"usage\n"),
-    ] {
+    for (words, script, status, text) in SERVED {
         let mut reader = MemoryIn::new(script);
         expect_right_or_want(&rt, answers(alloc, words, &mut reader, status, text));
         let mut reader = MemoryIn::new(script);

@@ -2,6 +2,8 @@
 
 use super::serves;
 use scp_line::{MemoryOut, show};
+use std::alloc::Global;
+use std::process::Abort;
 use std::test::Fail;
 
 const MESSAGE: &str =
@@ -40,9 +42,16 @@ const NOMINATE: &str =
     "0000000100000000020202020202020202020202020202020202020202020202020202020202020200000000000000070000000302e6012681b33ba8e6d2ee7efd069cab8ce9bea8c9f49ed0f5869d2cd7846f3f0000000100000001610000000000000000000000";
 
 /// The exit status of `decode` with this word, where the text is what was written.
-fn decodes(rt: &HostRuntime, word: &str, text: &[u8]) -> Option<u8> {
+fn decodes(alloc: Global, word: &str, text: &[u8]) -> Option<u8> {
     let words = ["scp_line", "decode", word];
-    serves(rt, words.as_slice(), b"", text)
+    serves(alloc, words.as_slice(), b"", text)
+}
+
+/// Each of the words is decoded with this status, and its line is what is written.
+fn decodes_each(rt: &impl Abort, alloc: Global, words: &[(&str, &[u8])], status: u8) {
+    for (word, line) in words {
+        assert!(rt; decodes(alloc, word, line) == Some(status), "at {word}");
+    }
 }
 
 #[test]
@@ -54,50 +63,52 @@ fn shows_a_record(rt: HostRuntime) -> Result<(), Fail> {
     Ok(())
 }
 
+/// Words, and the line of each.
+const KINDS: [(&str, &[u8]); 10] = [
+    (
+        PREPARE,
+        b"1 envelope 0202020202020202020202020202020202020202020202020202020202020202 7 prepare\n",
+    ),
+    (
+        CONFIRM,
+        b"1 envelope 0202020202020202020202020202020202020202020202020202020202020202 7 confirm\n",
+    ),
+    (
+        EXTERNALIZE,
+        b"1 envelope 0202020202020202020202020202020202020202020202020202020202020202 7 externalize\n",
+    ),
+    (
+        NOMINATE,
+        b"1 envelope 0202020202020202020202020202020202020202020202020202020202020202 7 nominate\n",
+    ),
+    (GET_SET, GET_SET_SHOWN),
+    (SET, SET_SHOWN),
+    (NO_SET, NO_SET_SHOWN),
+    ("00000005000000010000000c", b"5 getrecord 4294967308\n"),
+    (MESSAGE, SHOWN),
+    ("00000006000000000000000700000000", b"6 record 7 -\n"),
+];
+
 #[test]
 fn decodes_each_kind(rt: HostRuntime) {
-    for (word, line) in [
-        (
-            PREPARE,
-            b"1 envelope 0202020202020202020202020202020202020202020202020202020202020202 7 prepare\n".as_slice(),
-        ),
-        (
-            CONFIRM,
-            b"1 envelope 0202020202020202020202020202020202020202020202020202020202020202 7 confirm\n",
-        ),
-        (
-            EXTERNALIZE,
-            b"1 envelope 0202020202020202020202020202020202020202020202020202020202020202 7 externalize\n",
-        ),
-        (
-            NOMINATE,
-            b"1 envelope 0202020202020202020202020202020202020202020202020202020202020202 7 nominate\n",
-        ),
-        (GET_SET, GET_SET_SHOWN),
-        (SET, SET_SHOWN),
-        (NO_SET, NO_SET_SHOWN),
-        ("00000005000000010000000c", b"5 getrecord 4294967308\n"),
-        (MESSAGE, SHOWN),
-        ("00000006000000000000000700000000", b"6 record 7 -\n"),
-    ] {
-        assert_eq!(rt; decodes(&rt, word, line), Some(0), "at {word}");
-    }
+    decodes_each(&rt, rt.alloc(), &KINDS, 0);
 }
+
+/// Words that are no message, and the fault of each.
+const NO_MESSAGES: [(&str, &[u8]); 10] = [
+    ("zz", b"fault 2\n"),
+    ("0", b"fault 2\n"),
+    ("", b"fault 2\n"),
+    ("-", b"fault 2\n"),
+    ("00", b"fault 2\n"),
+    ("0000000600000000000000070000000000", b"fault 2\n"),
+    ("00000002", b"fault 2\n"),
+    ("000000030000000000000000", b"fault 2\n"),
+    ("00000006000000000000000700001001", b"fault 3\n"),
+    ("0000000300000000000003e9", b"fault 3\n"),
+];
 
 #[test]
 fn decodes_nothing_else(rt: HostRuntime) {
-    for (word, line) in [
-        ("zz", b"fault 2\n".as_slice()),
-        ("0", b"fault 2\n"),
-        ("", b"fault 2\n"),
-        ("-", b"fault 2\n"),
-        ("00", b"fault 2\n"),
-        ("0000000600000000000000070000000000", b"fault 2\n"),
-        ("00000002", b"fault 2\n"),
-        ("000000030000000000000000", b"fault 2\n"),
-        ("00000006000000000000000700001001", b"fault 3\n"),
-        ("0000000300000000000003e9", b"fault 3\n"),
-    ] {
-        assert_eq!(rt; decodes(&rt, word, line), Some(1), "at {word}");
-    }
+    decodes_each(&rt, rt.alloc(), &NO_MESSAGES, 1);
 }

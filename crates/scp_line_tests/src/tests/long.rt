@@ -1,13 +1,9 @@
 //! Long scripts and words.
 
-use super::serves;
-use scp_line::{Command, MemoryIn, MemoryOut, Mode, SCRIPT_LIMIT, parse, play};
+use super::{CHECK, RUN, played, serves};
+use scp_line::{Command, SCRIPT_LIMIT, parse};
 use std::alloc::{AllocError, Global};
 use std::test::Fail;
-
-const RUN: [&str; 2] = ["scp_line", "run"];
-
-const CHECK: [&str; 2] = ["scp_line", "check"];
 
 /// How many rounds the long script has.
 const ROUNDS: u64 = 4_000;
@@ -20,8 +16,10 @@ const LAST: &[u8] =
 
 /// A comment, an empty line, two commands that do nothing, and the record of a slot that holds no operations.
 fn write_round(script: &mut String, slot: u64) -> Result<(), AllocError> {
-    writeln!(script, "# round {slot}\n\nsettle\nask 1 2 {slot}")?;
-    writeln!(script, "send 2 1 00000006{slot:016x}0000000400000000")
+    writeln!(
+        script,
+        "# round {slot}\n\nsettle\nask 1 2 {slot}\nsend 2 1 00000006{slot:016x}0000000400000000"
+    )
 }
 
 /// A script of 20,000 lines and five. Its connection ends in a malformed message.
@@ -37,22 +35,21 @@ fn long_script(alloc: Global) -> Result<String, AllocError> {
 /// These lines, and one that sends so many zeros in digits.
 fn script_with_zeros(alloc: Global, lines: &str, zeros: usize) -> Result<Vec<u8>, AllocError> {
     let mut script = Vec::from_slice(alloc, lines.as_bytes())?;
-    script.extend_from_slice(b"send 2 1 ")?;
-    script.extend_from_slice(vec![in alloc; b'0'; zeros]?.as_slice())?;
-    script.extend_from_slice(b"\n")?;
+    let digits = vec![in alloc; b'0'; zeros]?;
+    push_send(&mut script, &digits)?;
     Ok(script)
+}
+
+/// The line that sends these digits.
+fn push_send(script: &mut Vec<u8>, digits: &[u8]) -> Result<(), AllocError> {
+    for part in [b"send 2 1 ".as_slice(), digits, b"\n"] {
+        script.extend_from_slice(part)?;
+    }
+    Ok(())
 }
 
 fn count_of_lines(text: &[u8]) -> usize {
     text.iter().filter(|byte| **byte == b'\n').count()
-}
-
-/// What is written where the script is played.
-fn played(alloc: Global, script: &[u8]) -> Result<MemoryOut, Fail> {
-    let mut reader = MemoryIn::new(script);
-    let mut writer = MemoryOut::new(Vec::new(alloc));
-    play(alloc, Mode::Serial, &mut reader, &mut writer)?;
-    Ok(writer)
 }
 
 #[test]
@@ -63,7 +60,7 @@ fn a_script_of_20_000_lines_is_played(rt: HostRuntime) -> Result<(), Fail> {
     let commands = parse(alloc, script.as_bytes())?;
     assert_eq!(rt; commands.len(), 12_005);
     assert!(rt; matches!(commands.last(), Some(Command::Report(2))));
-    let status = serves(&rt, CHECK.as_slice(), script.as_bytes(), b"ok\n");
+    let status = serves(rt.alloc(), CHECK.as_slice(), script.as_bytes(), b"ok\n");
     assert_eq!(rt; status, Some(0));
     let report = played(alloc, script.as_bytes())?;
     assert!(rt; report.text().starts_with(FIRST));
@@ -78,7 +75,12 @@ fn a_word_fills_a_script(rt: HostRuntime) -> Result<(), Fail> {
     let script = script_with_zeros(rt.alloc(), lines, 1_048_538)?;
     assert_eq!(rt; script.len(), SCRIPT_LIMIT);
     let report = b"node 1\nconn 2 1\nclosed malformed\nend\n";
-    let status = serves(&rt, RUN.as_slice(), script.as_slice(), report.as_slice());
+    let status = serves(
+        rt.alloc(),
+        RUN.as_slice(),
+        script.as_slice(),
+        report.as_slice(),
+    );
     assert_eq!(rt; status, Some(0));
     Ok(())
 }

@@ -6,26 +6,38 @@ use std::process::Abort;
 /// How many nodes there are.
 const NODES: u32 = 1_200;
 
+/// The node has a set of its own, of itself alone.
+fn give_itself(alloc: Global, sets: &mut Sets, node: NodeId) -> Result<(), Fault> {
+    let set = Arc::new(alloc, SaneSet::alone(alloc, node)?)?;
+    sets.insert(node, set)?;
+    Ok(())
+}
+
 /// Each node has a set of its own, of itself alone.
 fn each_alone(alloc: Global) -> Result<Sets, Fault> {
     let mut sets = BTreeMap::new(alloc);
     for number in 0..NODES {
-        let node = numbered(number);
-        sets.insert(node, Arc::new(alloc, SaneSet::alone(alloc, node)?)?)?;
+        give_itself(alloc, &mut sets, numbered(number))?;
     }
     Ok(sets)
+}
+
+/// How many nodes the greatest quorum at the node has.
+fn count_at(alloc: Global, sets: &Sets, number: u32) -> Result<Option<usize>, Fault> {
+    let found = greatest_quorum(alloc, numbered(number), sets)?;
+    Ok(match &found {
+        Some(nodes) => Some(nodes.len()),
+        None => None,
+    })
 }
 
 /// All nodes are the greatest quorum, at each of some of them.
 fn all_are_found(rt: &impl Abort, alloc: Global, sets: &Sets) -> Result<(), Fault> {
     for number in [0, 599, 999, 1_000, NODES.wrapping_sub(1)] {
-        let found = greatest_quorum(alloc, numbered(number), sets)?;
-        assert!(rt;
-            matches!(&found, Some(nodes) if nodes.len() == 1_200),
-            "at {number}"
-        );
+        let count = count_at(alloc, sets, number)?;
+        assert!(rt; count == Some(1_200), "at {number}");
     }
-    assert!(rt; greatest_quorum(alloc, numbered(NODES), sets)?.is_none());
+    assert!(rt; count_at(alloc, sets, NODES)?.is_none());
     Ok(())
 }
 

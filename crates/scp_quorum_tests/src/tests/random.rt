@@ -1,5 +1,5 @@
 //! The greatest quorum against the plain program, on maps of pseudo-random sets.
-use super::{around, flat, node, set_of, shared};
+use super::{around, flat, node, sane, set_of, shared};
 use scp_quorum::{QuorumSet, SaneSet, greatest_quorum, greatest_quorum_by_passes};
 use scp_types::{Fault, NodeId};
 use std::alloc::Global;
@@ -32,7 +32,7 @@ impl Random {
 fn threshold(random: &mut Random, entries: usize) -> u32 {
     let most = u8::try_from(entries).unwrap_or(u8::MAX);
     let less = random.below(most);
-    u32::from(most - random.below(less.saturating_add(1)).min(most))
+    u32::from(most.saturating_sub(random.below(less.saturating_add(1))))
 }
 
 /// The nodes of one of four places, each of which is an inner set, the set itself or outside.
@@ -70,7 +70,7 @@ fn random_set(alloc: Global, random: &mut Random) -> Result<QuorumSet, Fault> {
 
 /// Some nodes with sets: one that they share, an equal one of their own, or another.
 fn random_map(alloc: Global, random: &mut Random) -> Result<BTreeMap<NodeId, Arc<SaneSet>>, Fault> {
-    let common = match random_set(alloc, random)?.into_sane() {
+    let common = match sane(random_set(alloc, random)?) {
         Ok(sane) => Arc::new(alloc, sane)?,
         Err(_) => shared(alloc, flat(alloc, 1, &[0])?)?,
     };
@@ -79,7 +79,7 @@ fn random_map(alloc: Global, random: &mut Random) -> Result<BTreeMap<NodeId, Arc
         let set = match random.below(4) {
             0 => Arc::clone(&common)?,
             1 => shared(alloc, common.set().copy()?)?,
-            2 => match random_set(alloc, random)?.into_sane() {
+            2 => match sane(random_set(alloc, random)?) {
                 Ok(sane) => Arc::new(alloc, sane)?,
                 Err(_) => continue,
             },

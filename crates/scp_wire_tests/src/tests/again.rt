@@ -3,7 +3,6 @@
 //! The first answer of each call is the right one or want of memory, and the second is right, or the test ends with want
 //! of memory. So any allocation may be refused, alone or with all later ones, and no assertion stops a test.
 use super::*;
-use std::process::Abort;
 
 /// A PREPARE of node 3 on slot 2 with both optional ballots, each of the value 9, and a signature of one byte.
 const PREPARE: [u8; 144] = [
@@ -22,34 +21,30 @@ const PREPARE: [u8; 144] = [
 
 /// The answer is right, or it is want of memory.
 fn expect_right_or_want(rt: &impl Abort, answer: Result<bool, Fault>) {
-    match answer {
-        Ok(is_right) => assert!(rt; is_right),
-        Err(fault) => assert_eq!(rt; fault, Fault::NoMemory),
-    }
+    assert!(rt; matches!(answer, Ok(true) | Err(Fault::NoMemory)));
 }
 
-/// Whether the message is written in these bytes.
-fn is_written(alloc: Global, message: &Message, bytes: &[u8]) -> Result<bool, Fault> {
-    Ok(encode(alloc, message)?.as_slice() == bytes)
-}
-
-/// Whether a copy of the message is written in these bytes.
-fn is_copy(alloc: Global, message: &Message, bytes: &[u8]) -> Result<bool, Fault> {
-    is_written(alloc, &message.copy()?, bytes)
+/// The message is written twice in these bytes, and a copy of it too.
+fn expect_written_again(
+    rt: &impl Abort,
+    alloc: Global,
+    message: &Message,
+    bytes: &[u8],
+) -> Result<(), Fault> {
+    expect_right_or_want(rt, is_written(alloc, message, bytes));
+    assert!(rt; is_written(alloc, message, bytes)?);
+    expect_right_or_want(rt, is_copy(alloc, message, bytes));
+    assert!(rt; is_copy(alloc, message, bytes)?);
+    // the original stands
+    assert!(rt; is_written(alloc, message, bytes)?);
+    Ok(())
 }
 
 /// Reads the bytes twice, and writes and copies twice what they spell.
 fn expect_again(rt: &impl Abort, alloc: Global, bytes: &[u8]) -> Result<(), Fault> {
     expect_right_or_want(rt, is_kept(alloc, bytes));
     assert!(rt; is_kept(alloc, bytes)?);
-    let message = decode(alloc, bytes)?;
-    expect_right_or_want(rt, is_written(alloc, &message, bytes));
-    assert!(rt; is_written(alloc, &message, bytes)?);
-    expect_right_or_want(rt, is_copy(alloc, &message, bytes));
-    assert!(rt; is_copy(alloc, &message, bytes)?);
-    // the original stands
-    assert!(rt; is_written(alloc, &message, bytes)?);
-    Ok(())
+    expect_written_again(rt, alloc, &decode(alloc, bytes)?, bytes)
 }
 
 #[test]
@@ -58,9 +53,9 @@ fn refused_messages_are_read_written_and_copied_again(rt: HostRuntime) -> Result
         ENVELOPE.as_slice(),
         &PREPARE,
         &of_hash(2),
-        &two_of_three(),
-        &nested(),
-        &four_inner_levels(),
+        &TWO_OF_THREE,
+        &NESTED,
+        &FOUR_INNER_LEVELS,
         &of_hash(4),
         &GET_RECORD,
         &RECORD,

@@ -11,13 +11,23 @@ const SET_HASH: [u8; 32] = [
 /// Where the items of the envelope begin, the message's kind aside.
 const STARTS: [usize; 10] = [4, 8, 40, 48, 52, 84, 88, 92, 116, 120];
 
-/// An envelope of node 1 on slot 1 that votes for values of so many bytes, with a signature of so many.
-fn voting(alloc: Global, lens: &[usize], signature: usize) -> Result<Envelope, Fault> {
-    let mut votes = Vec::new(alloc);
+/// A value of so many bytes.
+fn value_of(alloc: Global, len: usize) -> Result<Value, Fault> {
+    Ok(Value::new(vec![in alloc; 7; len]?))
+}
+
+/// Values of so many bytes.
+fn values_of(alloc: Global, lens: &[usize]) -> Result<Vec<Value>, Fault> {
+    let mut values = Vec::new(alloc);
     for len in lens {
-        votes.push(Value::new(vec![in alloc; 7; *len]?))?;
+        values.push(value_of(alloc, *len)?)?;
     }
-    Ok(Envelope {
+    Ok(values)
+}
+
+/// An envelope of node 1 on slot 1 with these votes and this signature.
+fn enveloped(alloc: Global, votes: Vec<Value>, signature: Vec<u8>) -> Envelope {
+    Envelope {
         statement: Statement {
             node: NodeId([1; 32]),
             slot: Slot(1),
@@ -27,8 +37,14 @@ fn voting(alloc: Global, lens: &[usize], signature: usize) -> Result<Envelope, F
                 accepted: ValueList::new(Vec::new(alloc)),
             }),
         },
-        signature: Signature::new(vec![in alloc; 9; signature]?),
-    })
+        signature: Signature::new(signature),
+    }
+}
+
+/// An envelope of node 1 on slot 1 that votes for values of so many bytes, with a signature of so many.
+fn voting(alloc: Global, lens: &[usize], signature: usize) -> Result<Envelope, Fault> {
+    let signature = vec![in alloc; 9; signature]?;
+    Ok(enveloped(alloc, values_of(alloc, lens)?, signature))
 }
 
 /// Fifteen values of the greatest length, and one of this length.
@@ -45,17 +61,25 @@ fn spelt_envelope(alloc: Global, envelope: &Envelope) -> Result<Vec<u8>, Fault> 
     Ok(bytes)
 }
 
-/// The message of an envelope.
-fn message_of(alloc: Global, envelope: Envelope) -> Result<Message, Fault> {
-    Ok(Message::Envelope(BoxedEnvelope::new(alloc, envelope)?))
+/// The spelling of a message of an envelope that votes for values of so many bytes, with a signature of so many.
+fn spelt_voting(alloc: Global, lens: &[usize], signature: usize) -> Result<Vec<u8>, Fault> {
+    spelt_envelope(alloc, &voting(alloc, lens, signature)?)
 }
 
-/// The envelope of a message.
-fn envelope_of(message: Message) -> Result<Envelope, Fault> {
-    match message {
-        Message::Envelope(envelope) => Ok(envelope.into_inner()),
-        _ => Err(Fault::Failed),
-    }
+/// A box of an envelope that votes for values of so many bytes, with a signature of so many.
+fn boxed_voting(alloc: Global, lens: &[usize], signature: usize) -> Result<BoxedEnvelope, Fault> {
+    BoxedEnvelope::new(alloc, voting(alloc, lens, signature)?)
+}
+
+/// Whether the message of such an envelope is read, and written as it was read.
+fn votes_are_kept(alloc: Global, lens: &[usize], signature: usize) -> Result<bool, Fault> {
+    is_kept(alloc, spelt_voting(alloc, lens, signature)?.as_slice())
+}
+
+/// Whether the message of such an envelope is too long to be written.
+fn votes_are_too_long(alloc: Global, lens: &[usize], signature: usize) -> Result<bool, Fault> {
+    let message = Message::Envelope(boxed_voting(alloc, lens, signature)?);
+    Ok(encodes_too_long(alloc, &message))
 }
 
 /// Whether it is the envelope of the bytes: one of node 1 on slot 1 that votes for "put a 1", with no signature.
@@ -73,6 +97,43 @@ fn is_first(envelope: &Envelope) -> bool {
     }
 }
 
+/// Whether the message holds the envelope of the bytes.
+fn holds_first(message: &Message) -> bool {
+    matches!(message, Message::Envelope(envelope) if is_first(envelope.get()))
+}
+
+/// Whether the message and its copy hold the envelope of the bytes, and the copy is written so.
+fn holds_first_twice(alloc: Global, message: &Message, copy: &Message) -> Result<bool, Fault> {
+    Ok(is_written(alloc, copy, &ENVELOPE)? && holds_first(message) && holds_first(copy))
+}
+
+/// The spelling of the envelope out of the box.
+fn spelt_inside(alloc: Global, boxed: BoxedEnvelope) -> Result<Vec<u8>, Fault> {
+    scp_envelope::encode(alloc, &boxed.into_inner())
+}
+
+/// Whether the envelope is spelt so.
+fn is_spelt(alloc: Global, envelope: &Envelope, bytes: &[u8]) -> Result<bool, Fault> {
+    Ok(scp_envelope::encode(alloc, envelope)?.as_slice() == bytes)
+}
+
+/// Whether a copy of the box gives back an envelope that is spelt as the box's own.
+fn copy_gives_back(alloc: Global, boxed: &BoxedEnvelope) -> Result<bool, Fault> {
+    let bytes = spelt_inside(alloc, boxed.copy()?)?;
+    is_spelt(alloc, boxed.get(), bytes.as_slice())
+}
+
+/// The slot of the envelope that a copy of the box shows.
+fn slot_of_copy(boxed: &BoxedEnvelope) -> Result<Slot, Fault> {
+    Ok(boxed.copy()?.statement.slot)
+}
+
+/// The hash of the quorum set of both of these nodes.
+fn hash_of_both(alloc: Global, nodes: &[NodeId; 2]) -> Result<Hash, Fault> {
+    let nodes = Vec::from_slice(alloc, nodes)?;
+    QuorumSet::new(2, nodes, Vec::new(alloc)).hash()
+}
+
 /// Whether the one value is the operation list "put a 1".
 fn is_put_alone(values: &[Value]) -> bool {
     match values {
@@ -83,16 +144,15 @@ fn is_put_alone(values: &[Value]) -> bool {
 
 #[test]
 fn an_envelope_is_read_and_written_again(rt: HostRuntime) -> Result<(), Fail> {
-    assert!(rt; is_first(&envelope_of(decode(rt.alloc(), &ENVELOPE)?)?));
+    assert!(rt; holds_first(&decode(rt.alloc(), &ENVELOPE)?));
     assert!(rt; is_kept(rt.alloc(), &ENVELOPE)?);
     Ok(())
 }
 
 #[test]
 fn the_hash_is_that_of_both_of_nodes_1_and_2(rt: HostRuntime) -> Result<(), Fail> {
-    let nodes = Vec::from_slice(rt.alloc(), &[NodeId([1; 32]), NodeId([2; 32])])?;
-    let set = QuorumSet::new(2, nodes, Vec::new(rt.alloc()));
-    assert_eq!(rt; set.hash()?, Hash(SET_HASH));
+    let nodes = [NodeId([1; 32]), NodeId([2; 32])];
+    assert_eq!(rt; hash_of_both(rt.alloc(), &nodes)?, Hash(SET_HASH));
     assert_eq!(rt; ENVELOPE[52..84], SET_HASH[..]);
     Ok(())
 }
@@ -100,24 +160,16 @@ fn the_hash_is_that_of_both_of_nodes_1_and_2(rt: HostRuntime) -> Result<(), Fail
 #[test]
 fn a_copy_of_an_envelope_equals_it(rt: HostRuntime) -> Result<(), Fail> {
     let message = decode(rt.alloc(), &ENVELOPE)?;
-    let copy = message.copy()?;
-    assert_eq!(rt; encode(rt.alloc(), &copy)?.as_slice(), ENVELOPE.as_slice());
-    assert!(rt; is_first(&envelope_of(message)?));
-    assert!(rt; is_first(&envelope_of(copy)?));
+    assert!(rt; holds_first_twice(rt.alloc(), &message, &message.copy()?)?);
     Ok(())
 }
 
 #[test]
 fn a_box_shows_its_envelope_and_gives_it_back(rt: HostRuntime) -> Result<(), Fail> {
-    let boxed = BoxedEnvelope::new(rt.alloc(), voting(rt.alloc(), &[1, 2], 3)?)?;
-    let copied = boxed.copy()?;
+    let boxed = boxed_voting(rt.alloc(), &[1, 2], 3)?;
     assert_eq!(rt; boxed.get().signature.as_slice(), [9; 3].as_slice());
-    assert_eq!(rt; copied.statement.slot, Slot(1));
-    let bytes = scp_envelope::encode(rt.alloc(), &copied.into_inner())?;
-    assert_eq!(rt;
-        bytes.as_slice(),
-        scp_envelope::encode(rt.alloc(), boxed.get())?.as_slice()
-    );
+    assert_eq!(rt; slot_of_copy(&boxed)?, Slot(1));
+    assert!(rt; copy_gives_back(rt.alloc(), &boxed)?);
     Ok(())
 }
 
@@ -137,49 +189,43 @@ fn a_wrong_type_of_key_or_of_pledges_is_named(rt: HostRuntime) {
 
 #[test]
 fn a_signature_of_65_bytes_is_too_long(rt: HostRuntime) -> Result<(), Fail> {
-    let longest = spelt_envelope(rt.alloc(), &voting(rt.alloc(), &[1], 64)?)?;
-    assert!(rt; is_kept(rt.alloc(), longest.as_slice())?);
+    assert!(rt; votes_are_kept(rt.alloc(), &[1], 64)?);
+    assert!(rt; votes_are_too_long(rt.alloc(), &[1], 65)?);
     let mut long = ENVELOPE;
     long[123] = 65;
     assert!(rt; is_too_long(rt.alloc(), &long));
     long[123] = 64;
     assert_eq!(rt; place_of_fault(rt.alloc(), &long), Some(124));
-    let longer = message_of(rt.alloc(), voting(rt.alloc(), &[1], 65)?)?;
-    assert!(rt; encodes_too_long(rt.alloc(), &longer));
     Ok(())
 }
 
 #[test]
 fn sixty_five_votes_are_too_long(rt: HostRuntime) -> Result<(), Fail> {
-    let longest = spelt_envelope(rt.alloc(), &voting(rt.alloc(), &[1; 64], 0)?)?;
-    assert!(rt; is_kept(rt.alloc(), longest.as_slice())?);
+    assert!(rt; votes_are_kept(rt.alloc(), &[1; 64], 0)?);
+    assert!(rt; votes_are_too_long(rt.alloc(), &[1; 65], 0)?);
     let mut long = ENVELOPE;
     long[87] = 65;
     assert!(rt; is_too_long(rt.alloc(), &long));
     long[87] = 64;
     assert_eq!(rt; place_of_fault(rt.alloc(), &long), Some(124));
-    let longer = message_of(rt.alloc(), voting(rt.alloc(), &[1; 65], 0)?)?;
-    assert!(rt; encodes_too_long(rt.alloc(), &longer));
     Ok(())
 }
 
 #[test]
 fn a_vote_of_4_097_bytes_is_too_long(rt: HostRuntime) -> Result<(), Fail> {
-    let longest = spelt_envelope(rt.alloc(), &voting(rt.alloc(), &[4_096], 0)?)?;
-    assert!(rt; is_kept(rt.alloc(), longest.as_slice())?);
+    assert!(rt; votes_are_kept(rt.alloc(), &[4_096], 0)?);
+    assert!(rt; votes_are_too_long(rt.alloc(), &[4_097], 0)?);
     let mut long = ENVELOPE;
     long[90..92].copy_from_slice(&[0x10, 1]);
     assert!(rt; is_too_long(rt.alloc(), &long));
     long[91] = 0;
     assert_eq!(rt; place_of_fault(rt.alloc(), &long), Some(92));
-    let longer = message_of(rt.alloc(), voting(rt.alloc(), &[4_097], 0)?)?;
-    assert!(rt; encodes_too_long(rt.alloc(), &longer));
     Ok(())
 }
 
 #[test]
 fn an_envelope_fills_a_message(rt: HostRuntime) -> Result<(), Fail> {
-    let bytes = spelt_envelope(rt.alloc(), &voting(rt.alloc(), &sixteen(3_936), 0)?)?;
+    let bytes = spelt_voting(rt.alloc(), &sixteen(3_936), 0)?;
     assert_eq!(rt; bytes.as_slice().len(), 65_536);
     assert!(rt; is_kept(rt.alloc(), bytes.as_slice())?);
     Ok(())
@@ -187,12 +233,10 @@ fn an_envelope_fills_a_message(rt: HostRuntime) -> Result<(), Fail> {
 
 #[test]
 fn a_longer_envelope_is_no_message(rt: HostRuntime) -> Result<(), Fail> {
-    let envelope = voting(rt.alloc(), &sixteen(3_937), 0)?;
-    let bytes = spelt_envelope(rt.alloc(), &envelope)?;
+    assert!(rt; votes_are_too_long(rt.alloc(), &sixteen(3_937), 0)?);
+    let bytes = spelt_voting(rt.alloc(), &sixteen(3_937), 0)?;
     assert_eq!(rt; bytes.as_slice().len(), 65_540);
     assert!(rt; is_too_long(rt.alloc(), bytes.as_slice()));
-    let longer = message_of(rt.alloc(), envelope)?;
-    assert!(rt; encodes_too_long(rt.alloc(), &longer));
     Ok(())
 }
 
@@ -200,6 +244,5 @@ fn a_longer_envelope_is_no_message(rt: HostRuntime) -> Result<(), Fail> {
 fn an_envelope_in_too_many_bytes_is_not_read(rt: HostRuntime) {
     let mut zeros = [0; 65_537];
     zeros[..124].copy_from_slice(&ENVELOPE);
-    assert!(rt; is_too_long(rt.alloc(), &zeros));
-    assert_eq!(rt; place_of_fault(rt.alloc(), &zeros[..65_536]), Some(124));
+    expect_at_limit(&rt, rt.alloc(), &zeros, 124);
 }

@@ -7,11 +7,9 @@ const ASCENDING: [u8; 32] = [
     26, 27, 28, 29, 30, 31,
 ];
 
-/// The message of this kind with this hash, in bytes.
-fn with_hash(kind: u8, hash: &[u8; 32]) -> [u8; 36] {
-    let mut bytes = of_hash(kind);
-    bytes[4..36].copy_from_slice(hash);
-    bytes
+/// Whether what asks for the record of the slot is written in these bytes.
+fn asks_in(alloc: Global, slot: Slot, bytes: &[u8]) -> Result<bool, Fault> {
+    is_written(alloc, &Message::GetRecord(slot), bytes)
 }
 
 #[test]
@@ -19,11 +17,12 @@ fn any_slot_is_asked_for(rt: HostRuntime) -> Result<(), Fail> {
     for slot in [0, 1, 255, 256, 4_294_967_295, 4_294_967_296, u64::MAX] {
         let mut bytes = GET_RECORD;
         bytes[4..12].copy_from_slice(&slot.to_be_bytes());
-        let message = Message::GetRecord(Slot(slot));
-        assert_eq!(rt; encode(rt.alloc(), &message)?.as_slice(), bytes.as_slice());
+        assert!(rt; asks_in(rt.alloc(), Slot(slot), &bytes)?, "slot {slot}");
         assert!(rt; is_copied(rt.alloc(), &bytes)?, "slot {slot}");
-        let asked = decode(rt.alloc(), &bytes)?;
-        assert!(rt; matches!(asked, Message::GetRecord(Slot(found)) if found == slot));
+        assert!(rt;
+            spells_get_record(rt.alloc(), &bytes, Slot(slot))?,
+            "slot {slot}"
+        );
     }
     Ok(())
 }
@@ -33,12 +32,9 @@ fn any_hash_is_asked_for_and_answered(rt: HostRuntime) -> Result<(), Fail> {
     let mut last = [0; 32];
     last[31] = 1;
     for hash in [[0; 32], [255; 32], ASCENDING, last] {
-        let (asks, answers) = (with_hash(2, &hash), with_hash(4, &hash));
-        let asked = decode(rt.alloc(), &asks)?;
-        assert!(rt; matches!(asked, Message::GetSet(found) if found == Hash(hash)));
-        let answered = decode(rt.alloc(), &answers)?;
-        assert!(rt; matches!(answered, Message::NoSet(found) if found == Hash(hash)));
-        for bytes in [asks, answers] {
+        for kind in [2, 4] {
+            let bytes = with_hash(kind, &hash);
+            assert!(rt; spells_hash(rt.alloc(), &bytes, kind, Hash(hash))?);
             assert!(rt; is_kept(rt.alloc(), &bytes)?);
             assert!(rt; is_copied(rt.alloc(), &bytes)?);
             assert!(rt; is_side_message(&bytes));

@@ -70,20 +70,13 @@ fn a_refused_item_is_written_again(rt: HostRuntime) -> Result<(), Fail> {
     Ok(())
 }
 
-/// A ballot with its spelling.
+/// The ballot of counter 3 with the value of the bytes 1 to 5.
 const BALLOT: [u8; 16] = [0, 0, 0, 3, 0, 0, 0, 5, 1, 2, 3, 4, 5, 0, 0, 0];
-
-fn ballot(alloc: Global) -> Result<Ballot, Fault> {
-    Ok(Ballot {
-        counter: 3,
-        value: value_of(alloc, &[1, 2, 3, 4, 5])?,
-    })
-}
 
 #[test]
 fn refused_bytes_are_read_again(rt: HostRuntime) -> Result<(), Fail> {
     let alloc = rt.alloc();
-    let want = ballot(alloc)?;
+    let want = third_ballot(alloc, &[1, 2, 3, 4, 5])?;
     if let Some(read) = first_try(&rt, decode::<Ballot>(alloc, &BALLOT)) {
         assert!(rt; read == want);
     }
@@ -105,27 +98,37 @@ fn flagged(alloc: Global) -> Result<Writer, Fault> {
     Ok(writer)
 }
 
+/// The flag stands; behind it stands the rest, where that was written.
+fn expect_flag(rt: &impl Abort, writer: Writer, written: Option<()>, bytes: &[u8]) {
+    let found = writer.into_vec();
+    assert!(rt; found.starts_with(&[0, 0, 0, 1]));
+    assert!(rt; written.is_none() || found.as_slice() == bytes);
+}
+
+/// Writes an array of two values behind a flag.
+fn write_flagged_array(rt: &impl Abort, alloc: Global, items: &[Value]) -> Result<(), Fault> {
+    assert!(rt; array_fits(2, items));
+    let mut broken = flagged(alloc)?;
+    let written = first_try(rt, write_array(&mut broken, 2, items));
+    expect_flag(rt, broken, written, &TWO);
+    let mut writer = flagged(alloc)?;
+    write_array(&mut writer, 2, items)?;
+    assert!(rt; wrote(writer, &TWO));
+    Ok(())
+}
+
 /// A refused array may leave a part of itself, but what stood before stands. Another writer takes it.
 #[test]
 fn a_refused_array_is_written_again(rt: HostRuntime) -> Result<(), Fail> {
-    let alloc = rt.alloc();
-    let items = equal_values(alloc, 2, 0)?;
-    assert!(rt; array_fits(2, items.as_slice()));
-    let mut broken = flagged(alloc)?;
-    let written = first_try(&rt, write_array(&mut broken, 2, items.as_slice()));
-    let bytes = broken.into_vec();
-    assert!(rt; bytes.starts_with(&TWO[..4]));
-    assert!(rt; written.is_none() || bytes.as_slice() == TWO.as_slice());
-    let mut writer = flagged(alloc)?;
-    write_array(&mut writer, 2, items.as_slice())?;
-    assert_eq!(rt; writer.into_vec().as_slice(), TWO.as_slice());
+    let items = values_of(rt.alloc(), &[&[], &[]])?;
+    write_flagged_array(&rt, rt.alloc(), items.as_slice())?;
     Ok(())
 }
 
 #[test]
 fn a_refused_array_is_read_again(rt: HostRuntime) -> Result<(), Fail> {
     let alloc = rt.alloc();
-    let items = equal_values(alloc, 2, 0)?;
+    let items = values_of(alloc, &[&[], &[]])?;
     let array = &TWO[4..];
     if let Some(read) = first_try(&rt, read_array::<Value>(alloc, 2, &mut Reader::new(array))) {
         assert!(rt; read == items);
@@ -139,26 +142,33 @@ const SOME: [u8; 24] = [
     0, 0, 0, 1, 0, 0, 0, 1, 0, 0, 0, 3, 0, 0, 0, 5, 1, 2, 3, 4, 5, 0, 0, 0,
 ];
 
+/// Writes an optional ballot behind a flag.
+fn write_flagged_optional(
+    rt: &impl Abort,
+    alloc: Global,
+    item: &Option<Ballot>,
+) -> Result<(), Fault> {
+    assert!(rt; optional_fits(item));
+    let mut broken = flagged(alloc)?;
+    let written = first_try(rt, write_optional(&mut broken, item));
+    expect_flag(rt, broken, written, &SOME);
+    let mut writer = flagged(alloc)?;
+    write_optional(&mut writer, item)?;
+    assert!(rt; wrote(writer, &SOME));
+    Ok(())
+}
+
 #[test]
 fn a_refused_optional_is_written_again(rt: HostRuntime) -> Result<(), Fail> {
-    let alloc = rt.alloc();
-    let item = Some(ballot(alloc)?);
-    assert!(rt; optional_fits(&item));
-    let mut broken = flagged(alloc)?;
-    let written = first_try(&rt, write_optional(&mut broken, &item));
-    let bytes = broken.into_vec();
-    assert!(rt; bytes.starts_with(&SOME[..4]));
-    assert!(rt; written.is_none() || bytes.as_slice() == SOME.as_slice());
-    let mut writer = flagged(alloc)?;
-    write_optional(&mut writer, &item)?;
-    assert_eq!(rt; writer.into_vec().as_slice(), SOME.as_slice());
+    let item = Some(third_ballot(rt.alloc(), &[1, 2, 3, 4, 5])?);
+    write_flagged_optional(&rt, rt.alloc(), &item)?;
     Ok(())
 }
 
 #[test]
 fn a_refused_optional_is_read_again(rt: HostRuntime) -> Result<(), Fail> {
     let alloc = rt.alloc();
-    let item = Some(ballot(alloc)?);
+    let item = Some(third_ballot(alloc, &[1, 2, 3, 4, 5])?);
     let optional = &SOME[4..];
     if let Some(read) = first_try(
         &rt,
