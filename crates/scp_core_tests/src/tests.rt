@@ -280,6 +280,7 @@ fn nothing_happens_without_events(rt: HostRuntime) -> Result<(), Fail> {
     let ran = run(rt.alloc(), config(rt.alloc())?, &[])?;
     assert_eq!(rt; ran.replies.len(), 0);
     assert_eq!(rt; entry_count(&ran.node), 0);
+    assert!(rt; ran.node.applied().is_empty());
     assert!(rt; matches!(ran.node.state(), Some(state) if state.is_empty()));
     Ok(())
 }
@@ -316,6 +317,22 @@ fn expect_named(rt: &impl Abort, decision: &SharedDecision) {
         life: 1,
     };
     assert_eq!(rt; decision.origin, Origin::Named { conn, seq: Seq(0) });
+}
+
+#[test]
+fn a_decision_is_shared(rt: HostRuntime) -> Result<(), Fail> {
+    let conn = ConnId {
+        from: PEER,
+        to: ME,
+        life: 1,
+    };
+    let decision = Decision {
+        slot: Slot(1),
+        value: Value::new(Vec::from_slice(rt.alloc(), &PUT_A)?),
+        origin: Origin::Named { conn, seq: Seq(0) },
+    };
+    expect_named(&rt, &SharedDecision::new(rt.alloc(), decision)?);
+    Ok(())
 }
 
 #[test]

@@ -2,6 +2,7 @@ mod again;
 mod decoding;
 mod devices;
 mod long;
+mod reports;
 
 use scp_line::{
     FailsAt, MemoryIn, MemoryOut, Mode, PlayFault, SCRIPT_LIMIT, check, line_of_fault, play, status,
@@ -356,22 +357,23 @@ fn tells_a_reader_that_fails(rt: HostRuntime) {
     assert_eq!(rt; check_unread(alloc, 2, &mut writer), 0);
 }
 
-/// The status of a check over this writer.
-fn check_over(alloc: Global, writer: &mut FailsAt<MemoryOut>) -> u8 {
+/// The status of the words over a writer that fails from a call on, how often it failed, and whether it has no text.
+fn fails_from(alloc: Global, words: &[&str], calls: u64) -> (u8, u64, bool) {
     let mut reader = MemoryIn::new(SCRIPT);
-    serve(alloc, CHECK.as_slice(), &mut reader, writer)
+    let mut writer = FailsAt::new(MemoryOut::new(Vec::new(alloc)), calls);
+    let status = serve(alloc, words, &mut reader, &mut writer);
+    let (device, failures) = writer.into_parts();
+    (status, failures, device.text().is_empty())
 }
 
+/// What each command writes it writes in one call, and where that fails in another one the fault.
 #[test]
 fn tells_a_writer_that_fails(rt: HostRuntime) {
-    let alloc = rt.alloc();
-    let mut writer = FailsAt::new(MemoryOut::new(Vec::new(alloc)), 0);
-    assert_eq!(rt; check_over(alloc, &mut writer), 3);
-    let (device, failures) = writer.into_parts();
-    assert_eq!(rt; failures, 2);
-    assert!(rt; device.text().is_empty());
-    let mut writer = FailsAt::new(MemoryOut::new(Vec::new(alloc)), 1);
-    assert_eq!(rt; check_over(alloc, &mut writer), 0);
+    let decode = ["scp_line", "decode", "00000006000000000000000700000000"];
+    for words in [RUN.as_slice(), CHECK.as_slice(), decode.as_slice()] {
+        assert_eq!(rt; fails_from(rt.alloc(), words, 0), (3, 2, true));
+        assert_eq!(rt; fails_from(rt.alloc(), words, 1), (0, 0, false));
+    }
 }
 
 /// Words that are no call.

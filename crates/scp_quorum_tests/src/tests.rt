@@ -197,7 +197,7 @@ fn is_quorum(alloc: Global, sets: &Sets, number: u8, numbers: &[u8]) -> Result<b
     let found = greatest_quorum(alloc, node(number), sets)?;
     let want = nodes(alloc, numbers)?;
     Ok(match &found {
-        Some(found) => *found == want,
+        Some(found) => *found == want && !want.is_empty(),
         None => want.is_empty(),
     })
 }

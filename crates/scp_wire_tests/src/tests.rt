@@ -141,7 +141,8 @@ fn is_kept(alloc: Global, bytes: &[u8]) -> Result<bool, Fault> {
 
 /// Whether a copy of the message that the bytes spell is written so too.
 fn is_copied(alloc: Global, bytes: &[u8]) -> Result<bool, Fault> {
-    is_copy(alloc, &decode(alloc, bytes)?, bytes)
+    let copy = decode(alloc, bytes)?.copy()?;
+    is_written(alloc, &copy, bytes)
 }
 
 /// Whether the message that the bytes spell is carried.

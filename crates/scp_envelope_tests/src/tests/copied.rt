@@ -22,6 +22,26 @@ fn a_copy_stays_when_its_original_goes(rt: HostRuntime) -> Result<(), Fail> {
     Ok(())
 }
 
+/// Whether a copy of the statement is spelt as the statement.
+fn is_copied_alike(alloc: Global, said: Said) -> Result<bool, Fault> {
+    let copied = stated(alloc, said)?.copy()?;
+    let bytes = encode(alloc, &envelope(alloc, stated(alloc, said)?))?;
+    Ok(encode(alloc, &envelope(alloc, copied))?.as_slice() == bytes.as_slice())
+}
+
+#[test]
+fn a_copied_statement_is_spelt_alike(rt: HostRuntime) -> Result<(), Fail> {
+    for said in [
+        Said::Prepare((2, 5), Some((2, 5)), Some((1, 4)), 1, 2),
+        Said::Confirm((3, 5), 4, 2, 3),
+        Said::Externalize((3, 5), 4),
+        Said::Nominate(b"ab", b"b"),
+    ] {
+        assert!(rt; is_copied_alike(rt.alloc(), said)?, "{said:?}");
+    }
+    Ok(())
+}
+
 /// A copy of the statement is sane, and not newer.
 fn is_no_newer_copied(rt: &impl Abort, old: &Statement) -> Result<(), Fault> {
     let copied = old.copy()?;

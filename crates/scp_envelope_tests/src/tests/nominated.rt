@@ -23,7 +23,7 @@ fn a_newer_nominate_contains_the_old_one_and_more(rt: HostRuntime) -> Result<(),
                 false,
             ),
             (
-                Said::Nominate(b"ab", b"a"),
+                Said::Nominate(b"ab", b""),
                 Said::Nominate(b"a", b"a"),
                 false,
             ),

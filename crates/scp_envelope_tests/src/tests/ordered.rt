@@ -50,6 +50,35 @@ fn other_nodes_and_slots_are_not_compared(rt: HostRuntime) -> Result<(), Fail> {
     Ok(())
 }
 
+/// Names another quorum set.
+fn name_another_set(pledges: &mut Pledges) {
+    let set_hash = Hash([3; 32]);
+    match pledges {
+        Pledges::Prepare(prepare) => prepare.set_hash = set_hash,
+        Pledges::Confirm(confirm) => confirm.set_hash = set_hash,
+        Pledges::Externalize(externalize) => externalize.set_hash = set_hash,
+        Pledges::Nominate(nominate) => nominate.set_hash = set_hash,
+    }
+}
+
+/// Whether the same of another quorum set is neither newer nor older than the statement.
+fn ignores_the_set(alloc: Global, old: &Statement, said: Said) -> Result<bool, Fault> {
+    let mut new = stated(alloc, said)?;
+    name_another_set(&mut new.pledges);
+    let is_either = newer(old, &new) || newer(&new, old);
+    let set_hash = envelope(alloc, new).set_hash();
+    Ok(!is_either && set_hash == Hash([3; 32]))
+}
+
+#[test]
+fn the_quorum_set_does_not_count(rt: HostRuntime) -> Result<(), Fail> {
+    for said in KINDS {
+        let old = stated(rt.alloc(), said)?;
+        assert!(rt; ignores_the_set(rt.alloc(), &old, said)?, "{said:?}");
+    }
+    Ok(())
+}
+
 /// Each is newer than those before it, and no other.
 fn ascend(rt: &impl Abort, statements: &[Statement]) {
     for (i, old) in statements.iter().enumerate() {
@@ -67,15 +96,19 @@ fn prepares_ascend_field_by_field(rt: HostRuntime) -> Result<(), Fail> {
             Said::Prepare((1, 5), None, None, 0, 0),
             Said::Prepare((1, 5), None, None, 0, 1),
             Said::Prepare((1, 5), None, Some((1, 5)), 0, 0),
+            Said::Prepare((1, 5), None, Some((1, 6)), 0, 0),
             Said::Prepare((1, 5), None, Some((2, 4)), 0, 0),
+            Said::Prepare((1, 5), None, Some((2, 5)), 0, 0),
             Said::Prepare((1, 5), Some((0, 0)), None, 0, 0),
             Said::Prepare((1, 5), Some((1, 5)), None, 0, 0),
             Said::Prepare((1, 5), Some((1, 6)), None, 0, 0),
             Said::Prepare((1, 5), Some((1, 6)), None, 0, u32::MAX),
             Said::Prepare((1, 5), Some((1, 6)), Some((0, 0)), 0, 0),
             Said::Prepare((1, 5), Some((2, 0)), None, 0, 0),
+            Said::Prepare((1, 5), Some((2, 5)), None, 0, 0),
             Said::Prepare((1, 6), None, None, 0, 0),
             Said::Prepare((2, 0), None, None, 0, 0),
+            Said::Prepare((2, 5), None, None, 0, 0),
         ],
     )?;
     ascend(&rt, &prepares);
@@ -94,6 +127,7 @@ fn confirms_ascend_field_by_field(rt: HostRuntime) -> Result<(), Fail> {
             Said::Confirm((1, 5), 1, 0, 1),
             Said::Confirm((1, 6), 0, 0, 0),
             Said::Confirm((2, 0), 0, 0, 0),
+            Said::Confirm((2, 5), 0, 0, 0),
         ],
     )?;
     ascend(&rt, &confirms);
@@ -140,6 +174,7 @@ fn no_externalize_is_newer_than_another(rt: HostRuntime) -> Result<(), Fail> {
         &[
             (old, Said::Externalize((1, 5), 1), false),
             (old, Said::Externalize((1, 5), 2), false),
+            (old, Said::Externalize((2, 5), 1), false),
             (old, Said::Externalize((2, 5), 2), false),
             (old, Said::Externalize((1, 6), 1), false),
         ],

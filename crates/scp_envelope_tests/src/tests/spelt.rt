@@ -74,6 +74,21 @@ pub(super) const NOMINATE: [u8; 120] = [
     0, 0, 0, 0, // no signature
 ];
 
+/// A NOMINATE with no vote, and one accepted value.
+pub(super) const ACCEPT: [u8; 100] = [
+    0, 0, 0, 0, // the node
+    1, 1, 1, 1, 1, 1, 1, 1, 1, 1, 1, 1, 1, 1, 1, 1, 1, 1, 1, 1, 1, 1, 1, 1, 1, 1, 1, 1, 1, 1, 1, 1,
+    0, 0, 0, 0, 0, 0, 0, 1, // the slot
+    0, 0, 0, 3, // NOMINATE
+    0x40, 0x41, 0x42, 0x43, 0x44, 0x45, 0x46, 0x47, 0x48, 0x49, 0x4a, 0x4b, 0x4c, 0x4d, 0x4e, 0x4f, // quorumSetHash
+    0x50, 0x51, 0x52, 0x53, 0x54, 0x55, 0x56, 0x57, 0x58, 0x59, 0x5a, 0x5b, 0x5c, 0x5d, 0x5e, 0x5f,
+    0, 0, 0, 0, // no vote
+    0, 0, 0, 1, // one accepted value
+    0, 0, 0, 3, // of 3 bytes
+    7, 8, 9, 0, // its bytes
+    0, 0, 0, 0, // no signature
+];
+
 /// Where the items of each begin, those of an opaque's bytes too.
 const PREPARE_ITEMS: [usize; 19] = [
     0, 4, 36, 44, 48, 80, 84, 88, 92, 96, 100, 104, 108, 112, 116, 120, 124, 128, 132,
@@ -84,6 +99,8 @@ const CONFIRM_ITEMS: [usize; 12] = [0, 4, 36, 44, 48, 52, 56, 60, 64, 68, 72, 10
 const EXTERNALIZE_ITEMS: [usize; 11] = [0, 4, 36, 44, 48, 52, 56, 60, 64, 96, 100];
 
 const NOMINATE_ITEMS: [usize; 10] = [0, 4, 36, 44, 48, 80, 84, 88, 112, 116];
+
+const ACCEPT_ITEMS: [usize; 10] = [0, 4, 36, 44, 48, 80, 84, 88, 92, 96];
 
 /// The hash of the examples.
 const NAMED: [u8; 32] = [
@@ -123,6 +140,7 @@ fn each_kind_is_read_and_written(rt: HostRuntime) -> Result<(), Fail> {
     is_read_and_written(&rt, rt.alloc(), &CONFIRM)?;
     is_read_and_written(&rt, rt.alloc(), &EXTERNALIZE)?;
     is_read_and_written(&rt, rt.alloc(), &NOMINATE)?;
+    is_read_and_written(&rt, rt.alloc(), &ACCEPT)?;
     Ok(())
 }
 
@@ -217,6 +235,7 @@ fn a_cut_envelope_names_the_item_that_is_cut(rt: HostRuntime) {
     names_the_cut_item(&rt, rt.alloc(), &CONFIRM, &CONFIRM_ITEMS);
     names_the_cut_item(&rt, rt.alloc(), &EXTERNALIZE, &EXTERNALIZE_ITEMS);
     names_the_cut_item(&rt, rt.alloc(), &NOMINATE, &NOMINATE_ITEMS);
+    names_the_cut_item(&rt, rt.alloc(), &ACCEPT, &ACCEPT_ITEMS);
 }
 
 /// Writes the new bytes over the others, from a place on.
@@ -295,10 +314,42 @@ fn lengths_of_a_nominate_have_limits(rt: HostRuntime) {
     }
 }
 
-/// The same of the values of a PREPARE's ballots.
+/// The same of a NOMINATE's accepted value.
+#[test]
+fn lengths_of_what_is_accepted_have_limits(rt: HostRuntime) {
+    for (place, limit, missing) in [(84, 64, 100), (88, 4_096, 92), (96, 64, 100)] {
+        let mut other = ACCEPT;
+        has_its_limit(&rt, rt.alloc(), &mut other, place, limit, missing);
+    }
+}
+
+/// The same of a CONFIRM's value and its signature.
+#[test]
+fn lengths_of_a_confirm_have_limits(rt: HostRuntime) {
+    for (place, limit, missing) in [(52, 4_096, 56), (104, 64, 108)] {
+        let mut other = CONFIRM;
+        has_its_limit(&rt, rt.alloc(), &mut other, place, limit, missing);
+    }
+}
+
+/// The same of an EXTERNALIZE's.
+#[test]
+fn lengths_of_an_externalize_have_limits(rt: HostRuntime) {
+    for (place, limit, missing) in [(52, 4_096, 56), (96, 64, 100)] {
+        let mut other = EXTERNALIZE;
+        has_its_limit(&rt, rt.alloc(), &mut other, place, limit, missing);
+    }
+}
+
+/// The same of the values of a PREPARE's ballots, and of its signature.
 #[test]
 fn values_of_a_prepare_have_limits(rt: HostRuntime) {
-    for (place, limit, missing) in [(84, 4_096, 88), (100, 4_096, 104), (116, 4_096, 120)] {
+    for (place, limit, missing) in [
+        (84, 4_096, 88),
+        (100, 4_096, 104),
+        (116, 4_096, 120),
+        (128, 64, 132),
+    ] {
         let mut other = PREPARE;
         has_its_limit(&rt, rt.alloc(), &mut other, place, limit, missing);
     }
@@ -327,7 +378,82 @@ fn lists_that_are_written_have_limits(rt: HostRuntime) -> Result<(), Fail> {
     assert!(rt; is_too_long_to_write(rt.alloc(), voting_for(rt.alloc(), 65))?);
     let full = spelling(rt.alloc(), voting_for(rt.alloc(), 64))?;
     assert_eq!(rt; full.as_slice().len(), 92 + 4 * 64);
-    assert!(rt; decode(rt.alloc(), &full).is_ok());
+    decode(rt.alloc(), &full)?;
+    Ok(())
+}
+
+/// A NOMINATE of so many values of so many bytes, as votes or as accepted.
+fn listing(alloc: Global, is_vote: bool, count: usize, len: usize) -> Result<Envelope, Fault> {
+    let values = many(alloc, count, len)?;
+    let none = ValueList::new(Vec::new(alloc));
+    Ok(if is_vote {
+        nominating(alloc, values, none)
+    } else {
+        nominating(alloc, none, values)
+    })
+}
+
+#[test]
+fn both_lists_and_their_values_have_limits(rt: HostRuntime) -> Result<(), Fail> {
+    for is_vote in [true, false] {
+        for (count, len) in [(65, 0), (1, 4_097)] {
+            let listed = listing(rt.alloc(), is_vote, count, len);
+            assert!(rt;
+                is_too_long_to_write(rt.alloc(), listed)?,
+                "{count} of {len}"
+            );
+        }
+        for (count, len) in [(64, 0), (1, 4_096)] {
+            let bytes = spelling(rt.alloc(), listing(rt.alloc(), is_vote, count, len))?;
+            assert_eq!(rt; bytes.len(), 92 + count * (4 + len));
+        }
+    }
+    Ok(())
+}
+
+/// A ballot with a value of so many bytes.
+fn long_ballot(alloc: Global, len: usize) -> Result<Ballot, Fault> {
+    let value = long(alloc, len)?;
+    Ok(Ballot { counter: 1, value })
+}
+
+/// A PREPARE whose three ballots have values of so many bytes.
+fn long_prepare(alloc: Global, lens: [usize; 3]) -> Result<Envelope, Fault> {
+    let [of_ballot, of_prepared, of_prime] = lens;
+    let pledges = Pledges::Prepare(Prepare {
+        set_hash: Hash([2; 32]),
+        ballot: long_ballot(alloc, of_ballot)?,
+        prepared: Some(long_ballot(alloc, of_prepared)?),
+        prepared_prime: Some(long_ballot(alloc, of_prime)?),
+        n_commit: 0,
+        n_high: 0,
+    });
+    Ok(envelope(alloc, statement(pledges)))
+}
+
+/// A CONFIRM with a value of so many bytes.
+fn long_confirm(alloc: Global, len: usize) -> Result<Envelope, Fault> {
+    let pledges = Pledges::Confirm(Confirm {
+        ballot: long_ballot(alloc, len)?,
+        n_prepared: 1,
+        n_commit: 1,
+        n_high: 1,
+        set_hash: Hash([2; 32]),
+    });
+    Ok(envelope(alloc, statement(pledges)))
+}
+
+#[test]
+fn values_of_ballots_that_are_written_have_limits(rt: HostRuntime) -> Result<(), Fail> {
+    for lens in [[4_097, 1, 1], [1, 4_097, 1], [1, 1, 4_097]] {
+        let prepare = long_prepare(rt.alloc(), lens);
+        assert!(rt; is_too_long_to_write(rt.alloc(), prepare)?, "{lens:?}");
+    }
+    assert!(rt; is_too_long_to_write(rt.alloc(), long_confirm(rt.alloc(), 4_097))?);
+    let prepare = spelling(rt.alloc(), long_prepare(rt.alloc(), [4_096; 3]))?;
+    assert_eq!(rt; prepare.len(), 124 + 3 * 4_096);
+    let confirm = spelling(rt.alloc(), long_confirm(rt.alloc(), 4_096))?;
+    assert_eq!(rt; confirm.len(), 104 + 4_096);
     Ok(())
 }
 

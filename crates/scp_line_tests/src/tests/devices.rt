@@ -1,6 +1,6 @@
-//! What writers write.
+//! What readers read and writers write.
 
-use scp_line::{MemoryOut, ReportOut, write_text};
+use scp_line::{MemoryIn, MemoryOut, ReportOut, read_script, write_text};
 use scp_types::Fault;
 use std::test::Fail;
 
@@ -8,6 +8,16 @@ use std::test::Fail;
 fn write_each(writer: &mut MemoryOut, texts: &[&str]) -> Result<(), Fault> {
     for text in texts {
         write_text(writer, text)?;
+    }
+    Ok(())
+}
+
+#[test]
+fn a_script_is_read_whole(rt: HostRuntime) -> Result<(), Fail> {
+    let script = [b'#'; 10_000];
+    for len in [0, 1, 4_095, 4_096, 4_097, 10_000] {
+        let read = read_script(rt.alloc(), &mut MemoryIn::new(&script[..len]))?;
+        assert!(rt; read.as_slice() == &script[..len], "{len} bytes");
     }
     Ok(())
 }

@@ -102,9 +102,12 @@ fn holds_first(message: &Message) -> bool {
     matches!(message, Message::Envelope(envelope) if is_first(envelope.get()))
 }
 
-/// Whether the message and its copy hold the envelope of the bytes, and the copy is written so.
-fn holds_first_twice(alloc: Global, message: &Message, copy: &Message) -> Result<bool, Fault> {
-    Ok(is_written(alloc, copy, &ENVELOPE)? && holds_first(message) && holds_first(copy))
+/// Whether the message gives the envelope of the bytes out of its box.
+fn gives_first(message: Message) -> bool {
+    match message {
+        Message::Envelope(envelope) => is_first(&envelope.into_inner()),
+        _ => false,
+    }
 }
 
 /// The spelling of the envelope out of the box.
@@ -145,6 +148,7 @@ fn is_put_alone(values: &[Value]) -> bool {
 #[test]
 fn an_envelope_is_read_and_written_again(rt: HostRuntime) -> Result<(), Fail> {
     assert!(rt; holds_first(&decode(rt.alloc(), &ENVELOPE)?));
+    assert!(rt; gives_first(decode(rt.alloc(), &ENVELOPE)?));
     assert!(rt; is_kept(rt.alloc(), &ENVELOPE)?);
     Ok(())
 }
@@ -160,7 +164,10 @@ fn the_hash_is_that_of_both_of_nodes_1_and_2(rt: HostRuntime) -> Result<(), Fail
 #[test]
 fn a_copy_of_an_envelope_equals_it(rt: HostRuntime) -> Result<(), Fail> {
     let message = decode(rt.alloc(), &ENVELOPE)?;
-    assert!(rt; holds_first_twice(rt.alloc(), &message, &message.copy()?)?);
+    let copy = message.copy()?;
+    assert!(rt; is_written(rt.alloc(), &copy, &ENVELOPE)?);
+    assert!(rt; gives_first(message));
+    assert!(rt; gives_first(copy));
     Ok(())
 }
 
