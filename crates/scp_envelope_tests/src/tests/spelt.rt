@@ -355,12 +355,6 @@ fn values_of_a_prepare_have_limits(rt: HostRuntime) {
     }
 }
 
-/// A NOMINATE that votes for so many values of no bytes.
-fn voting_for(alloc: Global, count: usize) -> Result<Envelope, Fault> {
-    let votes = many(alloc, count, 0)?;
-    Ok(nominating(alloc, votes, ValueList::new(Vec::new(alloc))))
-}
-
 /// The envelope's spelling.
 fn spelling(alloc: Global, envelope: Result<Envelope, Fault>) -> Result<Vec<u8>, Fault> {
     let envelope = envelope?;
@@ -371,15 +365,6 @@ fn spelling(alloc: Global, envelope: Result<Envelope, Fault>) -> Result<Vec<u8>,
 fn is_too_long_to_write(alloc: Global, envelope: Result<Envelope, Fault>) -> Result<bool, Fault> {
     let envelope = envelope?;
     Ok(matches!(encode(alloc, &envelope), Err(Fault::TooLong)))
-}
-
-#[test]
-fn lists_that_are_written_have_limits(rt: HostRuntime) -> Result<(), Fail> {
-    assert!(rt; is_too_long_to_write(rt.alloc(), voting_for(rt.alloc(), 65))?);
-    let full = spelling(rt.alloc(), voting_for(rt.alloc(), 64))?;
-    assert_eq!(rt; full.as_slice().len(), 92 + 4 * 64);
-    decode(rt.alloc(), &full)?;
-    Ok(())
 }
 
 /// A NOMINATE of so many values of so many bytes, as votes or as accepted.
@@ -406,6 +391,7 @@ fn both_lists_and_their_values_have_limits(rt: HostRuntime) -> Result<(), Fail> 
         for (count, len) in [(64, 0), (1, 4_096)] {
             let bytes = spelling(rt.alloc(), listing(rt.alloc(), is_vote, count, len))?;
             assert_eq!(rt; bytes.len(), 92 + count * (4 + len));
+            decode(rt.alloc(), &bytes)?;
         }
     }
     Ok(())
