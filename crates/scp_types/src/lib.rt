@@ -10,10 +10,14 @@
 
 mod ballot;
 mod fault;
+mod laws;
 mod names;
 mod value;
 
 pub use ballot::Ballot;
 pub use fault::{Fault, Stage};
+pub use laws::{
+    ballots_are_ordered_by_counter_then_value, connections_are_ordered_by_sender_receiver_life,
+};
 pub use names::{ConnId, Hash, NodeId, Seq, Slot};
 pub use value::Value;

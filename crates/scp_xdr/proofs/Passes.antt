@@ -234,6 +234,13 @@ exact_from {X} k bytes r given = at r (passing_whole k bytes) (reading_whole k b
     at (Ok x) (Err f) read g h = absurd cc
     at (Err d) p read g h = rw g at h
 
+pub passes_whole : (k : Kind) (bytes : List ℕ) → PassesWhole (passing_whole k bytes) (reading_whole k bytes)
+passes_whole k bytes = exact_from k bytes (passing_whole k bytes) (itself (passing_whole k bytes))
+  where
+    itself : (r : Result Cursor Fault) → PassGives r r
+    itself (Ok c) = refl
+    itself (Err f) = refl
+
 pub known_from : {X : Type 0} (k : Kind) (bytes : List ℕ) (r : Result X Fault) → PassGives r (passing_whole k bytes) → IfErr r IsReadingFault
 known_from k bytes (Ok x) given = tt
 known_from k bytes (Err f) given = rw given at (known_whole k bytes)

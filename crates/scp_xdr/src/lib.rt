@@ -23,7 +23,8 @@ pub use reader::Reader;
 pub use room::{spend_fixed, spend_opaque, spend_u32, spend_u64};
 pub use writer::Writer;
 pub use xdr::{
-    Xdr, array_fits, check, decode, encode, encode_within, is_spelling, no_spelling_begins_another,
-    optional_fits, pass_array, pass_optional, read_array, read_optional, spend_array,
-    spend_optional, what_is_written_is_read_back, write_array, write_optional,
+    Xdr, a_spelling_has_its_length, array_fits, check, decode, encode, encode_within, is_spelling,
+    no_spelling_begins_another, optional_fits, pass_array, pass_optional,
+    passing_is_reading_without_the_value, read_array, read_optional, spend_array, spend_optional,
+    what_is_written_is_read_back, write_array, write_optional,
 };

@@ -2,8 +2,8 @@ ghost use Rattle.std.specs.Prelude.{◌≡◌, ◌≢◌, ◌↔◌, ◌⊎◌, 
 ghost use Rattle.std.specs.List.{flat_map, sum_by};
 ghost use Rattle.scp_xdr.specs.Kind.{Kind, Values, Fits, Spells, spelling, optional, array};
 ghost use Rattle.scp_xdr.specs.Length.{spelled_len};
-ghost use Rattle.scp_xdr.specs.Reading.{reading, reading_whole, read_items};
-ghost use Rattle.scp_xdr.specs.Passing.{passing, passing_whole, pass_items};
+ghost use Rattle.scp_xdr.specs.Reading.{Cursor, reading, reading_whole, read_items};
+ghost use Rattle.scp_xdr.specs.Passing.{left_of, passing, passing_whole, pass_items};
 ghost use Rattle.scp_xdr.specs.Words.{IsReadingFault, GoesPast, PassesWhole, Decodes, Gives, Extends, Leaves};
 
 use crate::reader::Reader;
@@ -293,4 +293,16 @@ pub fn what_is_written_is_read_back()
     ensures read_back { (k : Kind) (v : Values k) → Fits k v → reading_whole k (spelling k v) ≡ Ok v }
     ensures one_value { (k : Kind) (bytes : List ℕ) (v w : Values k) → Spells k bytes v → Spells k bytes w → v ≡ w }
     ensures one_spelling { (k : Kind) (x y : List ℕ) (v : Values k) → Spells k x v → Spells k y v → x ≡ y }
+{}
+
+/// Passing over a value is reading it and keeping nothing: it ends at the same place, or at the same
+/// fault. So is passing over all bytes.
+pub fn passing_is_reading_without_the_value()
+    ensures value { (k : Kind) (c : Cursor) → passing k c ≡ left_of (reading k c) }
+    ensures whole { (k : Kind) (bytes : List ℕ) → PassesWhole (passing_whole k bytes) (reading_whole k bytes) }
+{}
+
+/// The length that is told without the spelling is that of the spelling.
+pub fn a_spelling_has_its_length()
+    ensures { (k : Kind) (v : Values k) → length (spelling k v) ≡ spelled_len k v }
 {}
