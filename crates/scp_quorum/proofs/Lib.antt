@@ -16,5 +16,8 @@ pub mod Ascending
 pub mod Whole
 pub mod Decided
 pub mod Levels
+pub mod Depth
 pub mod Alike
 pub mod SetValues
+pub mod Parts
+pub mod Marking

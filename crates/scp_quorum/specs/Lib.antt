@@ -5,3 +5,7 @@ pub mod Satisfies
 pub mod Sane
 pub mod Quorum
 pub mod Groups
+pub mod Places
+pub mod Laws
+pub mod Marks
+pub mod SharedSet

@@ -15,7 +15,12 @@ mod quorum;
 mod quorum_set;
 mod sane_set;
 
-pub use laws::a_quorum_set_is_its_value;
-pub use quorum::{greatest_quorum, greatest_quorum_by_passes};
-pub use quorum_set::{QuorumSet, blocked, satisfied};
+pub use laws::{
+    a_quorum_set_is_its_value, blocking_is_monotone, none_blocks_none, quorums_of_a_part,
+    satisfying_is_monotone,
+};
+pub use quorum::{
+    Marked, Places, Seat, greatest_quorum, greatest_quorum_among, greatest_quorum_by_passes,
+};
+pub use quorum_set::{Nodes, QuorumSet, blocked, satisfied};
 pub use sane_set::SaneSet;

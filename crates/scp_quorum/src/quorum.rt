@@ -2,6 +2,7 @@
 mod counts;
 mod groups;
 mod passes;
+mod places;
 mod table;
 
 ghost use Rattle.std.specs.Prelude.{◌≡◌, ◌↔◌, ◌<◌, ◌≤◌, IfOk, IfNone, IfSome, OnOk, IsTrue, IsOkUnless, Option};
@@ -20,6 +21,7 @@ use crate::sane_set::SaneSet;
 use counts::Counts;
 use groups::{Group, group_nodes, has_member, remove_members};
 pub use passes::greatest_quorum_by_passes;
+pub use places::{Marked, Places, Seat, greatest_quorum_among};
 use scp_types::{Fault, NodeId};
 use std::alloc::{AllocError, Global};
 use std::collections::{BTreeMap, BTreeSet};

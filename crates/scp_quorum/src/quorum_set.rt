@@ -3,21 +3,24 @@ mod same;
 mod sane;
 mod slices;
 
-ghost use Rattle.std.specs.Prelude.{◌≡◌, ◌↔◌, ◌⊎◌, ◌++◌, IfOk, OnOk, IfErr, IsErrOf, IsOkUnless, Ok};
+ghost use Rattle.std.specs.Prelude.{◌≡◌, ◌↔◌, ◌<◌, ◌≤◌, ◌⊎◌, [], ◌++◌, IfOk, OnOk, IfErr, IsErrOf, IsOkUnless, IsTrue, Ok};
 ghost use Rattle.scp_xdr.specs.Tree.{in_a_row, tree_of};
 ghost use Rattle.scp_xdr.specs.Kind.{Values, Fits, Spells};
 ghost use Rattle.scp_xdr.specs.Reading.{reading_whole};
 ghost use Rattle.scp_xdr.specs.Words.{Gives};
-ghost use Rattle.scp_quorum.specs.Sane.{all_nodes};
+ghost use Rattle.scp_quorum.specs.Sane.{all_nodes, levels};
 ghost use Rattle.scp_quorum.specs.QuorumKind.{set_kind, set_value, set_spelling};
 ghost use Rattle.sha2.specs.Sha256.{sha256};
 
 use scp_types::{Fault, Hash, NodeId};
 use sha2::{Digest, Sha256};
-pub(crate) use slices::NodeTest;
-pub use slices::{blocked, satisfied};
+pub use slices::{Nodes, blocked, satisfied};
 use std::alloc::{AllocError, Global};
 use std::marker::Model;
+
+/// How many levels of inner sets a quorum set may have, one more than a spelling has, so that what is
+/// too long to be spelt can still be made and is refused where it is written (this project's profile).
+const MAX_LEVELS: u32 = 5;
 
 /// A threshold over nodes and further quorum sets, which together are its entries.
 #[derive(Debug, Drop)]
@@ -45,10 +48,34 @@ impl Model for QuorumSet {
 }
 
 impl QuorumSet {
-    /// The quorum set of these parts, whether it is sane or not. Moves them and takes no memory.
-    pub fn new(threshold: u32, validators: Vec<NodeId>, inner_sets: Vec<QuorumSet>) -> QuorumSet
-        ensures { result ≡ tree_of (record { threshold = threshold; validators = validators.items }) inner_sets.items }
+    /// The quorum set of these parts, whether it is sane or not: `Fault::TooLong` exactly where it had
+    /// more than 5 levels of inner sets, so that whatever goes over a set ends within a small stack.
+    /// That is one level more than any spelling has (this project's profile). Moves the parts and takes
+    /// no memory; looks at each inner set, not at the nodes.
+    pub fn new(
+        threshold: u32,
+        validators: Vec<NodeId>,
+        inner_sets: Vec<QuorumSet>,
+    ) -> Result<QuorumSet, Fault>
+        ensures made { IfOk result (λ set. set ≡ tree_of (record { threshold = threshold; validators = validators.items }) inner_sets.items) }
+        ensures too_long { IsErrOf result Fault.TooLong ↔ 5 < levels (in_a_row inner_sets.items) }
+        ensures only { IsOkUnless result Fault.TooLong }
     {
+        if !are_within(MAX_LEVELS, inner_sets.as_slice()) {
+            return Err(Fault::TooLong);
+        }
+        Ok(QuorumSet {
+            threshold,
+            validators,
+            inner_sets,
+        })
+    }
+
+    /// The quorum set of these nodes alone, whether it is sane or not. Moves them and takes no memory.
+    pub fn of_nodes(threshold: u32, validators: Vec<NodeId>) -> QuorumSet
+        ensures { result ≡ tree_of (record { threshold = threshold; validators = validators.items }) [] }
+    {
+        let inner_sets = Vec::new(*validators.allocator());
         QuorumSet {
             threshold,
             validators,
@@ -150,6 +177,21 @@ impl QuorumSet {
         let bytes = self.encode()?;
         Ok(sha256_of(&bytes))
     }
+}
+
+/// Whether the sets are at most so many levels deep, themselves counted.
+fn are_within(most: u32, sets: &[QuorumSet]) -> bool
+    ensures { IsTrue result ↔ levels (in_a_row sets.now) ≤ most }
+{
+    if most == 0 {
+        return sets.is_empty();
+    }
+    for set in sets {
+        if !are_within(most - 1, set.inner_sets()) {
+            return false;
+        }
+    }
+    true
 }
 
 /// The SHA-256 of the bytes (FIPS 180-4).

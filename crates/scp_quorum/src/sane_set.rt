@@ -60,7 +60,7 @@ impl SaneSet {
     {
         let mut validators = Vec::new(alloc);
         validators.push(node)?;
-        let set = QuorumSet::new(1, validators, Vec::new(alloc));
+        let set = QuorumSet::of_nodes(1, validators);
         match set.hash() {
             Ok(hash) => Ok(SaneSet { set, hash }),
             Err(_) => Err(Fault::NoMemory),

@@ -52,7 +52,7 @@ fn set_of(
     for number in numbers {
         validators.push(node(*number))?;
     }
-    Ok(QuorumSet::new(threshold, validators, inner_sets))
+    QuorumSet::new(threshold, validators, inner_sets)
 }
 
 fn flat(alloc: Global, threshold: u32, numbers: &[u8]) -> Result<QuorumSet, Fault> {
@@ -371,6 +371,34 @@ fn no_fifth_inner_level(rt: HostRuntime) -> Result<(), Fail> {
     let bytes = text_around(alloc, &deep.encode()?)?;
     assert_eq!(rt; fault_of(alloc, &bytes), Some(Fault::TooLong));
     assert!(rt; is_too_deep(&around(alloc, deep)?));
+    Ok(())
+}
+
+/// Whether the set is copied, asked and told in all its levels, whose one node is node 1.
+fn goes_to_its_end(alloc: Global, set: &QuorumSet) -> Result<bool, Fault> {
+    let copy = set.copy()?;
+    Ok(tells_nodes(&copy, &[node(1)])? && is_case(alloc, &copy, (&[1], true, true))?)
+}
+
+/// A set has at most five levels of inner sets, one more than a spelling has.
+#[test]
+fn no_set_has_a_sixth_inner_level(rt: HostRuntime) -> Result<(), Fail> {
+    let alloc = rt.alloc();
+    let deepest = deep_set(alloc, flat(alloc, 1, &[1])?, 5)?;
+    assert!(rt; goes_to_its_end(alloc, &deepest)?);
+    assert_eq!(rt; around(alloc, deepest).err(), Some(Fault::TooLong));
+    Ok(())
+}
+
+/// A set is as deep as the deepest of its inner sets, wherever that stands.
+#[test]
+fn the_deepest_inner_set_counts(rt: HostRuntime) -> Result<(), Fail> {
+    let alloc = rt.alloc();
+    let mut inner_sets = one_set(alloc, flat(alloc, 1, &[2])?)?;
+    inner_sets.push(deep_set(alloc, flat(alloc, 1, &[1])?, 5)?)?;
+    inner_sets.push(flat(alloc, 1, &[3])?)?;
+    let made = set_of(alloc, 1, &[], inner_sets);
+    assert_eq!(rt; made.err(), Some(Fault::TooLong));
     Ok(())
 }
 

@@ -7,7 +7,7 @@ ghost use Rattle.std.specs.Bool.{OnTrue};
 ghost use Rattle.std.specs.List.{All, Contains};
 ghost use Rattle.scp_quorum.specs.NodeSet.{is_in};
 
-use crate::quorum_set::NodeTest;
+use crate::quorum_set::Nodes;
 use scp_types::NodeId;
 use std::alloc::{AllocError, Global};
 use std::collections::BTreeSet;
@@ -144,7 +144,7 @@ impl<'a> KnownNodes<'a> {
     }
 }
 
-impl NodeTest for KnownNodes<'_> {
+impl Nodes for KnownNodes<'_> {
     ghost members = { λ known. is_in known };
 
     fn has(&self, node: &NodeId) -> bool {

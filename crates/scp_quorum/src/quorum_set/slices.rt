@@ -9,15 +9,16 @@ use scp_types::NodeId;
 use std::collections::BTreeSet;
 
 /// Nodes that can be asked whether they have a node.
-pub(crate) trait NodeTest {
+pub trait Nodes {
     /// Which nodes these are.
     ghost members: { Self → NodeId → Bool };
 
+    /// Whether the node is one of them.
     fn has(&self, node: &NodeId) -> bool
         ensures { result ≡ members self.now node.now };
 }
 
-impl NodeTest for BTreeSet<NodeId> {
+impl Nodes for BTreeSet<NodeId> {
     ghost members = { λ nodes. is_in nodes };
 
     fn has(&self, node: &NodeId) -> bool {
@@ -27,13 +28,13 @@ impl NodeTest for BTreeSet<NodeId> {
 
 /// The nodes that are none of these.
 #[derive(Drop)]
-struct Others<'a>(&'a BTreeSet<NodeId>);
+struct Others<'a, N>(&'a N);
 
-impl NodeTest for Others<'_> {
-    ghost members = { λ others. outside (is_in others.0.now) };
+impl<N: Nodes> Nodes for Others<'_, N> {
+    ghost members = { λ others. outside (N.members others.0.now) };
 
     fn has(&self, node: &NodeId) -> bool {
-        !self.0.contains(node)
+        !self.0.has(node)
     }
 }
 
@@ -50,12 +51,13 @@ pub fn satisfied(set: &QuorumSet, nodes: &BTreeSet<NodeId>) -> bool
 pub fn blocked(set: &QuorumSet, nodes: &BTreeSet<NodeId>) -> bool
     ensures { IsTrue result ↔ Blocks (is_in nodes.now) set.now }
 {
-    !set.is_satisfied_by(&Others(nodes))
+    set.is_blocked_by(nodes)
 }
 
 impl QuorumSet {
-    /// Whether the nodes satisfy the set. Looks at its entries up to the one with which they do.
-    pub(crate) fn is_satisfied_by<N: NodeTest>(&self, nodes: &N) -> bool
+    /// Whether the nodes satisfy the set (the SCP draft). Takes no memory, and asks for each node of the set at most once:
+    /// for none after the one with which they do.
+    pub fn is_satisfied_by<N: Nodes>(&self, nodes: &N) -> bool
         ensures { IsTrue result ↔ Satisfies (N.members nodes.now) self.now }
     {
         let mut missing = self.threshold;
@@ -78,9 +80,17 @@ impl QuorumSet {
         missing == 0
     }
 
+    /// Whether no set of nodes disjoint from these satisfies the set (the SCP draft). Takes no memory, and asks for each
+    /// node of the set at most once.
+    pub fn is_blocked_by<N: Nodes>(&self, nodes: &N) -> bool
+        ensures { IsTrue result ↔ Blocks (N.members nodes.now) self.now }
+    {
+        !self.is_satisfied_by(&Others(nodes))
+    }
+
     /// The front of the set's own nodes up to the one with which as many as the threshold says are among these; `None`
     /// where even all of them are too few.
-    pub(crate) fn enough_of<N: NodeTest>(&self, nodes: &N) -> Option<&[NodeId]>
+    pub(crate) fn enough_of<N: Nodes>(&self, nodes: &N) -> Option<&[NodeId]>
         ensures front { IfSome result (λ head. take (length head.now) self.now.head.validators ≡ head.now) }
         ensures enough { IfSome result (λ head. self.now.head.threshold ≤ count_by (N.members nodes.now) head.now) }
     {

@@ -19,14 +19,14 @@ fn one_of(alloc: Global, count: u32) -> Result<QuorumSet, Fault> {
     for number in 0..count {
         validators.push(numbered(number))?;
     }
-    Ok(QuorumSet::new(1, validators, Vec::new(alloc)))
+    Ok(QuorumSet::of_nodes(1, validators))
 }
 
 /// 1 of the node of this number.
 fn lone(alloc: Global, number: u32) -> Result<QuorumSet, Fault> {
     let mut validators = Vec::new(alloc);
     validators.push(numbered(number))?;
-    Ok(QuorumSet::new(1, validators, Vec::new(alloc)))
+    Ok(QuorumSet::of_nodes(1, validators))
 }
 
 /// For each of so many nodes, 1 of it in three sets around it: 84 bytes.
@@ -36,6 +36,12 @@ fn all_deep(alloc: Global, count: u32) -> Result<Vec<QuorumSet>, Fault> {
         inner_sets.push(deep_set(alloc, lone(alloc, number)?, 3)?)?;
     }
     Ok(inner_sets)
+}
+
+/// Whether the set's hash is the SHA-256 of its spelling.
+fn is_named_by_its_spelling(set: &QuorumSet) -> Result<bool, Fault> {
+    let bytes = set.encode()?;
+    Ok(set.hash()? == sha256_of(&bytes))
 }
 
 #[test]
@@ -48,14 +54,15 @@ fn a_sane_set_has_at_most_1_000_nodes(rt: HostRuntime) -> Result<(), Fail> {
 #[test]
 fn a_sane_set_has_at_most_65_532_bytes(rt: HostRuntime) -> Result<(), Fail> {
     let alloc = rt.alloc();
-    let longest = QuorumSet::new(1, Vec::new(alloc), all_deep(alloc, 780)?);
+    let longest = QuorumSet::new(1, Vec::new(alloc), all_deep(alloc, 780)?)?;
     assert_eq!(rt; longest.encode()?.len(), 65_532);
     assert!(rt; longest.is_sane());
+    assert!(rt; is_named_by_its_spelling(&longest)?);
     let mut inner_sets = all_deep(alloc, 779)?;
     for number in 779..781 {
         inner_sets.push(lone(alloc, number)?)?;
     }
-    let longer = QuorumSet::new(1, Vec::new(alloc), inner_sets);
+    let longer = QuorumSet::new(1, Vec::new(alloc), inner_sets)?;
     assert_eq!(rt; longer.encode()?.len(), 65_544);
     assert!(rt; !longer.is_sane());
     Ok(())
