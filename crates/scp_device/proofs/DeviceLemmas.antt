@@ -1,8 +1,8 @@
 -- Reads and writes one after another.
-use Rattle.std.proofs.Common.{◌≡◌, ℕ, List, [], ◌++◌, Option, Some, None, append_assoc, append-nil, refl, subst, sym, ◌∙◌, ap, arith, IfSome}
+use Rattle.std.proofs.Common.{◌≡◌, ℕ, List, [], ◌++◌, Option, Some, None, append_assoc, append-nil, refl, subst, sym, ◌∙◌, ap, arith, IfSome, take, drop, length, ◌-◌}
 use Rattle.std.proofs.lemmas.Grind.{common_steps}
 use Rattle.std.specs.Io.KnownBytes.{Consumes, Appends, Keeps, IsAtEnd}
-use Rattle.scp_device.specs.Device.{Gains, Loses, HasEnded, Stays}
+use Rattle.scp_device.specs.Device.{Gains, GainsPart, Loses, HasEnded, Stays}
 
 pub gains-nothing : (w : Option (List ℕ)) → Gains w [] w
 gains-nothing None = tt
@@ -56,3 +56,20 @@ pub stays_unwritten : (a b : Option (List ℕ)) → Appends a b [] → Stays a b
 stays_unwritten None b h = tt
 stays_unwritten (Some xs) None h = absurd h
 stays_unwritten (Some xs) (Some ys) h = ap Some (h ∙ append-nil xs)
+
+-- ---- a part of a text that was written
+
+pub gains_part-nothing : (a b : Option (List ℕ)) (text : List ℕ) → Stays a b → GainsPart a text b
+gains_part-nothing None b text h = record { part = []; rest = text; splits = refl; gained = tt }
+gains_part-nothing (Some old) b text h = record { part = []; rest = text; splits = refl; gained = h ∙ ap Some (sym (append-nil old)) }
+
+pub gains_part-more : (a b c : Option (List ℕ)) (x y : List ℕ) → Gains a x b → GainsPart b y c → GainsPart a (x ++ y) c
+gains_part-more a b c x y p q = record {
+  part = x ++ q.part;
+  rest = q.rest;
+  splits = ap (λ l. x ++ l) q.splits ∙ sym (append_assoc x q.part q.rest);
+  gained = gains-more a b c x q.part p q.gained;
+}
+
+pub front_and_rest : (n : ℕ) (text : List ℕ) → take n text ++ take (length text - n) (drop n text) ≡ text
+front_and_rest n text = grind (arith, common_steps)

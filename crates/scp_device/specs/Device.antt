@@ -1,5 +1,5 @@
 -- What readers and writers do.
-use Rattle.std.specs.Prelude.{ℕ, ◌^◌, ◌-◌, ◌<◌, ◌≡◌, List, [], ◌++◌, Option, Some, None}
+use Rattle.std.specs.Prelude.{ℕ, ◌^◌, ◌-◌, ◌<◌, ◌≤◌, ◌≡◌, List, [], ◌++◌, Option, Some, None}
 use Rattle.scp_types.specs.declared.fault.Fault.{Fault}
 use Rattle.scp_types.specs.declared.fault.Fault.TheVariants.{NoMemory, TooLong, Device}
 
@@ -35,6 +35,13 @@ IsReadFault TooLong = Unit {0}
 IsReadFault Device = Unit {0}
 IsReadFault fault = ⊥
 
--- one failure more at least, where they could be counted
+-- a known text gets a part of these bytes at its end, from the first on
+pub record GainsPart (old : Option (List ℕ)) (bytes : List ℕ) (new : Option (List ℕ)) : Type 0 where
+  pub part : List ℕ
+  pub rest : List ℕ
+  pub splits : bytes ≡ part ++ rest
+  pub gained : Gains old part new
+
+-- no failure less, and one more at least where they could be counted
 abbrev pub Fails : ℕ → ℕ → Type 0
-Fails old new = old < 2 ^ 64 - 1 → old < new
+Fails old new = (old ≤ new) × (old < 2 ^ 64 - 1 → old < new)

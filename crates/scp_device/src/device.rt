@@ -1,6 +1,6 @@
 //! Where a script is read from and where a text is written, with readers and writers in memory.
-ghost use Rattle.std.specs.Prelude.{◌≡◌, ◌≤◌, ◌<◌, ◌+◌, ℕ, List, [], Option, Some, None, take, drop, length, OnOk, OnErr, IfOk, IfErr, IfSome, IsErrOf, Ok};
-ghost use Rattle.scp_device.specs.Device.{Loses, HasEnded, Gains, Stays, Fails, IsReadFault};
+ghost use Rattle.std.specs.Prelude.{◌≡◌, ◌≢◌, ◌⊎◌, ◌≤◌, ◌<◌, ◌+◌, ℕ, List, [], Option, Some, None, take, drop, length, OnOk, OnErr, IfOk, IfErr, IfSome, IsErrOf, Ok};
+ghost use Rattle.scp_device.specs.Device.{Loses, HasEnded, Gains, GainsPart, Stays, Fails, IsReadFault};
 
 use scp_types::Fault;
 use std::alloc::Global;
@@ -181,6 +181,8 @@ pub fn read_script<R: ScriptIn>(alloc: Global, reader: &mut R) -> Result<Vec<u8>
     ensures device { IsErrOf result Fault.Device → Fails (R.failures reader.old) (R.failures reader.new) }
     ensures cause { IfErr result IsReadFault }
     ensures kept { OnOk result (R.failures reader.new ≡ R.failures reader.old) }
+    // A read that failed is never told as anything else.
+    ensures hidden { IfErr result (λ fault. fault ≢ Fault.Device → R.failures reader.new ≡ R.failures reader.old) }
 {
     let mut text = Vec::new(alloc);
     let mut buffer = [0u8; 4096];
@@ -196,11 +198,14 @@ pub fn read_script<R: ScriptIn>(alloc: Global, reader: &mut R) -> Result<Vec<u8>
     }
 }
 
-/// Writes the whole text. The one refusal is `Fault::Device`, where the writer failed; a part of the text may be written then.
+/// Writes the whole text. The one refusal is `Fault::Device`, where the writer failed; what was written then is a part of the
+/// text, from its first byte on. A writer that failed isn't asked again.
 pub fn write_text<W: ReportOut>(writer: &mut W, text: &str) -> Result<(), Fault>
     ensures whole { OnOk result (Gains (W.written writer.old) text.now (W.written writer.new)) }
     ensures cause { IfErr result (λ fault. fault ≡ Fault.Device) }
     ensures raised { OnErr result (Fails (W.failures writer.old) (W.failures writer.new)) }
+    ensures kept { OnOk result (W.failures writer.new ≡ W.failures writer.old) }
+    ensures part { OnErr result (GainsPart (W.written writer.old) text.now (W.written writer.new)) }
 {
     let mut rest = text.as_bytes();
     while !rest.is_empty() {
@@ -294,6 +299,8 @@ impl ReportOut for FailsAt<MemoryOut> {
         ensures kept { OnOk result (self.new.failures + self.new.device.failures ≡ self.old.failures + self.old.device.failures) }
         ensures counted { OnOk result (self.old.calls_left ≡ self.new.calls_left + 1) }
         ensures spent { OnErr result (self.old.calls_left ≡ 0 → self.new.calls_left ≡ 0) }
+        // It fails at no earlier call than it was told, unless the device failed.
+        ensures early { OnErr result (((self.old.calls_left ≡ 0) × (self.new.device ≡ self.old.device)) ⊎ Fails self.old.device.failures self.new.device.failures) }
     {
         self.count()?;
         self.device.write(bytes)

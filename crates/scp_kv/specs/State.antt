@@ -1,5 +1,5 @@
 -- What operations, values and lists of values make of the map (this project's profile).
-use Rattle.std.specs.Prelude.{ℕ, List, Option, Some, None, IsNone}
+use Rattle.std.specs.Prelude.{ℕ, ◌≡◌, ◌++◌, List, Option, Some, None, IsNone}
 use Rattle.std.specs.List.{fold}
 use Rattle.std.proofs.Common.{inl, inr}
 use Rattle.std.specs.FinMap as map
@@ -16,6 +16,13 @@ after_op state (inr (inr none)) = elim none [ ]
 -- the operations, in order
 abbrev pub after_ops : KvMap → Values ops_kind → KvMap
 after_ops state ops = fold after_op state ops
+
+-- a part of the operations was applied, from the first on, and no other
+pub record IsAfterPart (old : KvMap) (ops : Values ops_kind) (new : KvMap) : Type 0 where
+  pub done : Values ops_kind
+  pub rest : Values ops_kind
+  pub splits : ops ≡ done ++ rest
+  pub applied : new ≡ after_ops old done
 
 abbrev pub after_found : KvMap → Option (Values ops_kind) → KvMap
 after_found state (Some ops) = after_ops state ops

@@ -6,7 +6,7 @@ ghost use Rattle.std.specs.List.Sorted.{IsStrictlySortedBy};
 ghost use Rattle.std.specs.Map.{keys_of};
 ghost use Rattle.scp_xdr.specs.Kind.{Values};
 ghost use Rattle.scp_kv.specs.Op.{ops_kind, op_value, IsOps};
-ghost use Rattle.scp_kv.specs.State.{after_op, after_value, PutsNewKey};
+ghost use Rattle.scp_kv.specs.State.{after_op, after_value, IsAfterPart, PutsNewKey};
 
 use crate::ops::{Op, ops_of};
 use scp_types::{Fault, Value};
@@ -98,13 +98,14 @@ impl KvState {
 }
 
 /// Applies the operations of the value in order, where it is an operation list; any other value leaves the state.
-/// The only refusal is `NoMemory`, and it comes only for an operation list. After it some of the operations may have
-/// been applied, so the caller must give the state up. The time grows with the value's length, and for each operation with
+/// The only refusal is `NoMemory`, and it comes only for an operation list. After it some of the operations, from the
+/// first on, have been applied and no more, so the caller must give the state up. The time grows with the value's length, and for each operation with
 /// the logarithm of the number of keys.
 pub fn apply_value(state: &mut KvState, value: &Value) -> Result<(), Fault>
     ensures applied { OnOk result (state.new ≡ after_value state.old value.now) }
     ensures only_memory { IsOkUnless result Fault.NoMemory }
     ensures memory_last { IsErrOf result Fault.NoMemory → (ops : Values ops_kind) × IsOps value.now ops }
+    ensures part { OnErr result ((ops : Values ops_kind) × IsOps value.now ops × IsAfterPart state.old ops state.new) }
 {
     if let Some(ops) = ops_of(state.alloc, value)? {
         for op in ops {

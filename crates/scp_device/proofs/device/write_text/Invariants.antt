@@ -1,5 +1,5 @@
 use Rattle.std.proofs.Common.{◌≡◌, List, ℕ, Option, length}
-use Rattle.scp_device.specs.Device.{Gains}
+use Rattle.scp_device.specs.Device.{Gains, GainsPart}
 use Rattle.scp_device.proofs.device.write_text.Given as goal
 
 -- what is left leads to all
@@ -8,6 +8,7 @@ invariant-loop-rest g l =
     let written = g.W.ReportOut.written in
     record {
       leads : (end : Option (List ℕ)) → Gains (written l.writer) l.rest end → Gains (written l.initial.writer) l.text end;
+      parted : (end : Option (List ℕ)) → GainsPart (written l.writer) l.rest end → GainsPart (written l.initial.writer) l.text end;
       failures : g.W.ReportOut.failures l.writer ≡ g.W.ReportOut.failures l.initial.writer;
     }
 
