@@ -1,3 +1,7 @@
 pub mod Readings
 pub mod Limits
 pub mod Sides
+pub mod Shapes
+pub mod Numbered
+pub mod Lines
+pub mod Sents

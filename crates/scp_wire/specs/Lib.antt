@@ -2,3 +2,10 @@ pub mod Boxed
 pub mod Message
 pub mod Reading
 pub mod Carried
+pub mod Sets
+pub mod Connections
+pub mod LinkReading
+pub mod Shape
+pub mod Marks
+pub mod Sent
+pub mod ReaderLaws

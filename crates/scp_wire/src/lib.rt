@@ -7,18 +7,26 @@
 //! - `is_side_message` tells of bytes, without memory, whether they spell a message about quorum sets: one that
 //!   asks for a set, or answers.
 //! - A `Carried` message is one that is numbered on its connection: an envelope, a request for a record, or a record.
-//!
-//! `LinkItem` and `Inbound` are for the queues between the stages; no call takes or gives them yet.
+//! - A `LinkReader` reads the items of one link: carried messages are numbered 0, 1, 2, .. on each connection, and each
+//!   connection ends once, with its cause. What is read of a connection is what was sent on it, up to its end.
 #![tactic(auto)]
 
 mod boxed;
 mod carried;
 mod codec;
+mod laws;
 mod link;
 mod message;
+mod reader;
+mod side;
 
 pub use boxed::BoxedEnvelope;
 pub use carried::Carried;
 pub use codec::{decode, encode, is_side_message, reading_of_is_what_is_spelt};
-pub use link::{Bytes, Cause, Inbound, LinkItem};
+pub use laws::{
+    what_is_read_grows_with_the_items, what_is_read_is_what_was_sent, what_is_read_keeps_the_shape,
+};
+pub use link::{Bytes, Cause, Command, Inbound, LinkItem};
 pub use message::{MESSAGE_LIMIT, Message};
+pub use reader::{CARRIED_LIMIT, LinkReader};
+pub use side::SideMessage;

@@ -1,8 +1,8 @@
 //! What travels over a link.
 
 use crate::carried::Carried;
-use crate::message::Message;
-use scp_types::ConnId;
+use crate::side::SideMessage;
+use scp_types::{ConnId, Fault};
 use std::marker::Model;
 
 /// Bytes as they came over a link; nothing is known of them.
@@ -18,7 +18,7 @@ impl Model for Bytes {
 }
 
 impl Bytes {
-    ghost use Rattle.std.specs.Prelude.{◌≡◌};
+    ghost use Rattle.std.specs.Prelude.{◌≡◌, IfOk, IsOkUnless};
 
     /// These bytes. Moves them and takes no memory.
     pub fn new(bytes: Vec<u8>) -> Bytes
@@ -32,6 +32,15 @@ impl Bytes {
         ensures { result.now ≡ self.now }
     {
         self.0.as_slice()
+    }
+
+    /// Equal bytes, in the same allocator. The one refusal is `Fault::NoMemory`.
+    pub fn copy(&self) -> Result<Bytes, Fault>
+        ensures same { IfOk result (λ copied. copied ≡ self.now) }
+        ensures only_memory { IsOkUnless result Fault.NoMemory }
+    {
+        let alloc = *self.0.allocator();
+        Ok(Bytes(Vec::from_slice(alloc, &self.0)?))
     }
 }
 
@@ -56,9 +65,18 @@ pub enum Cause {
     Link,
     /// A message came after 1,000,000 carried ones.
     Spent,
+    /// 65 messages of it would have waited for quorum sets. The receiver ends a connection so, and no reader does.
+    ParkedFull,
 }
 
-/// What a reader makes of the items of a link.
+/// What a node is told by itself, and not over a link.
+#[derive(Clone, Copy, Debug, PartialEq, Eq)]
+pub enum Command {
+    /// Time went on: one miss of each quorum set that is wanted.
+    Tick,
+}
+
+/// What reaches a node's inbox: what a reader makes of the items of a link, and local commands.
 #[derive(Debug, Drop)]
 pub enum Inbound {
     /// The connection begins.
@@ -66,7 +84,9 @@ pub enum Inbound {
     /// A message that is numbered on its connection.
     Carried(Carried),
     /// A message that asks for a quorum set, or answers that; it has no number.
-    Side { conn: ConnId, message: Message },
+    Side { conn: ConnId, message: SideMessage },
     /// The connection ended.
     Closed { conn: ConnId, cause: Cause },
+    /// A local command.
+    Local(Command),
 }

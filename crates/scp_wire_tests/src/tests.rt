@@ -105,7 +105,7 @@ fn long_record(alloc: Global, len: u16) -> Result<Vec<u8>, Fault> {
 /// A quorum set over so many nodes, all the same.
 fn flat(alloc: Global, count: usize) -> Result<QuorumSet, Fault> {
     let nodes = vec![in alloc; NodeId([5; 32]); count]?;
-    Ok(QuorumSet::new(1, nodes, Vec::new(alloc)))
+    Ok(QuorumSet::of_nodes(1, nodes))
 }
 
 /// A quorum set around inner sets of so many nodes each.
@@ -114,7 +114,7 @@ fn wide(alloc: Global, counts: &[usize]) -> Result<QuorumSet, Fault> {
     for count in counts {
         inner_sets.push(flat(alloc, *count)?)?;
     }
-    Ok(QuorumSet::new(1, Vec::new(alloc), inner_sets))
+    QuorumSet::new(1, Vec::new(alloc), inner_sets)
 }
 
 /// The spelling of a message of this quorum set, whatever its length.
@@ -248,12 +248,6 @@ fn first_side_cut(bytes: &[u8]) -> Option<usize> {
 }
 
 #[test]
-fn a_record_is_read(rt: HostRuntime) -> Result<(), Fail> {
-    assert!(rt; spells_record(rt.alloc(), &RECORD, Slot(1), &RECORD[16..])?);
-    Ok(())
-}
-
-#[test]
 fn each_kind_is_written_as_it_was_read(rt: HostRuntime) -> Result<(), Fail> {
     for bytes in [
         ENVELOPE.as_slice(),
@@ -282,26 +276,6 @@ fn a_copy_is_written_as_its_original(rt: HostRuntime) -> Result<(), Fail> {
     ] {
         assert!(rt; is_copied(rt.alloc(), bytes)?);
     }
-    Ok(())
-}
-
-#[test]
-fn a_hash_is_read(rt: HostRuntime) -> Result<(), Fail> {
-    for kind in [2, 4] {
-        let bytes = of_hash(kind);
-        assert!(rt;
-            spells_hash(rt.alloc(), &bytes, kind, Hash([7; 32]))?,
-            "kind {kind}"
-        );
-    }
-    Ok(())
-}
-
-#[test]
-fn the_slot_that_is_asked_for_is_read(rt: HostRuntime) -> Result<(), Fail> {
-    assert!(rt; spells_get_record(rt.alloc(), &GET_RECORD, Slot(0x0102_0304_0506_0708))?);
-    let bytes = [0, 0, 0, 5, 0, 0, 0, 0, 0, 0, 0, 1];
-    assert!(rt; is_written(rt.alloc(), &Message::GetRecord(Slot(1)), &bytes)?);
     Ok(())
 }
 

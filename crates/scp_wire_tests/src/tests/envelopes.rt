@@ -134,7 +134,7 @@ fn slot_of_copy(boxed: &BoxedEnvelope) -> Result<Slot, Fault> {
 /// The hash of the quorum set of both of these nodes.
 fn hash_of_both(alloc: Global, nodes: &[NodeId; 2]) -> Result<Hash, Fault> {
     let nodes = Vec::from_slice(alloc, nodes)?;
-    QuorumSet::new(2, nodes, Vec::new(alloc)).hash()
+    QuorumSet::of_nodes(2, nodes).hash()
 }
 
 /// Whether the one value is the operation list "put a 1".

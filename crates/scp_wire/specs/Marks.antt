@@ -1,0 +1,58 @@
+-- What a list of things says of one connection: the numbers of its messages, and its end.
+use Rattle.std.specs.Prelude.{ℕ, ◌+◌, ◌≡◌, Bool, List, [], ◌∷◌, ◌++◌, ◌⊎◌, flat_map, if◌then◌else◌}
+use Rattle.scp_types.specs.declared.names.ConnId.{ConnId}
+use Rattle.scp_wire.specs.declared.message.Message.{Message}
+use Rattle.scp_wire.specs.declared.link.Cause.{Cause}
+use Rattle.scp_wire.specs.declared.link.Cause.TheVariants.{ParkedFull}
+use Rattle.scp_wire.specs.declared.link.Inbound.{Inbound}
+use Rattle.scp_wire.specs.declared.link.Inbound.TheVariants.{Opened, Carried, Side, Closed, Local}
+use Rattle.scp_wire.specs.Connections.{same_conn}
+
+-- a carried message stood here, by its number; or the connection ended
+pub data Mark : Type 0 where
+  number : ℕ → Mark
+  ended : Cause → Mark
+
+abbrev pub one_if : {X : Type 0} → Bool → X → List X
+one_if mine x = if mine then x ∷ [] else []
+
+-- what one thing that came says of the connection
+abbrev pub came_mark : ConnId → Inbound → List Mark
+came_mark c (Opened conn) = []
+came_mark c (Carried x) = one_if (same_conn x.conn c) (number x.seq.0)
+came_mark c (Side conn message) = []
+came_mark c (Closed conn cause) = one_if (same_conn conn c) (ended cause)
+came_mark c (Local command) = []
+
+-- the marks of what came
+abbrev pub marks_in : ConnId → List Inbound → List Mark
+marks_in c items = flat_map (came_mark c) items
+
+abbrev pub came_message : ConnId → Inbound → List Message
+came_message c (Opened conn) = []
+came_message c (Carried x) = one_if (same_conn x.conn c) x.message
+came_message c (Side conn message) = []
+came_message c (Closed conn cause) = []
+came_message c (Local command) = []
+
+-- the carried messages of what came
+abbrev pub messages_in : ConnId → List Inbound → List Message
+messages_in c items = flat_map (came_message c) items
+
+-- numbers from n on without a gap, and nothing after an end
+abbrev pub Follows : ℕ → List Mark → Type 0
+Follows n [] = Unit {0}
+Follows n (number seq ∷ rest) = (seq ≡ n) × Follows (n + 1) rest
+Follows n (ended cause ∷ rest) = rest ≡ []
+
+-- the line is what was sent up to somewhere, then an end as ParkedFull, then what is still to be discarded
+pub record IsCut (sent line : List Mark) : Type 0 where
+  pub front : List Mark
+  pub rest : List Mark
+  pub later : List Mark
+  pub sent_is : sent ≡ front ++ rest
+  pub line_is : line ≡ front ++ ended ParkedFull ∷ later
+
+-- up to its first end the line is what was sent, whole, or a prefix of it where that end is ParkedFull
+abbrev pub IsWhole : List Mark → List Mark → Type 0
+IsWhole sent line = (line ≡ sent) ⊎ IsCut sent line

@@ -1,0 +1,63 @@
+-- What was sent on a connection, by the items that its link took; and what of it is carried.
+use Rattle.std.specs.Prelude.{ℕ, ◌+◌, Bool, true, false, ◌||◌, not, List, [], ◌∷◌, ◌++◌, Option, Some, None, nat_lt, if◌then◌else◌, length, filter, flat_map, take, is_some, option_to_list, map}
+use Rattle.scp_types.specs.declared.names.ConnId.{ConnId}
+use Rattle.scp_wire.specs.declared.message.Message.{Message}
+use Rattle.scp_wire.specs.declared.link.LinkItem.{LinkItem}
+use Rattle.scp_wire.specs.declared.link.LinkItem.TheVariants.{Opened, Bytes, Closed}
+use Rattle.scp_wire.specs.declared.link.Cause.{Cause}
+use Rattle.scp_wire.specs.declared.link.Cause.TheVariants.{Malformed, Link, Spent}
+use Rattle.scp_wire.specs.Carried.{is_carried}
+use Rattle.scp_wire.specs.Reading.{reading_of}
+use Rattle.scp_wire.specs.Connections.{same_conn}
+use Rattle.scp_wire.specs.Marks.{Mark, number, ended, one_if}
+
+-- the bytes that an item brings on the connection, and whether it closes it
+abbrev pub sent_by : ConnId → LinkItem → List (List ℕ)
+sent_by c (Opened conn) = []
+sent_by c (Bytes conn bytes) = one_if (same_conn conn c) bytes
+sent_by c (Closed conn) = []
+
+abbrev pub closed_by : ConnId → LinkItem → Bool
+closed_by c (Opened conn) = false
+closed_by c (Bytes conn bytes) = false
+closed_by c (Closed conn) = same_conn conn c
+
+-- the bytes that were sent on the connection, in order, and whether it was closed
+abbrev pub sent : ConnId → List LinkItem → List (List ℕ)
+sent c items = flat_map (sent_by c) items
+
+abbrev pub is_closed : ConnId → List LinkItem → Bool
+is_closed c [] = false
+is_closed c (x ∷ xs) = closed_by c x || is_closed c xs
+
+-- the messages up to the first bytes that have no reading, and whether there are none such
+abbrev pub readable_from : Option Message → List Message → List Message
+readable_from None rest = []
+readable_from (Some message) rest = message ∷ rest
+
+abbrev pub readable : List (List ℕ) → List Message
+readable [] = []
+readable (bytes ∷ rest) = readable_from (reading_of bytes) (readable rest)
+
+abbrev pub all_readable : List (List ℕ) → Bool
+all_readable [] = true
+all_readable (bytes ∷ rest) = if is_some (reading_of bytes) then all_readable rest else false
+
+abbrev pub all_carried : List (List ℕ) → List Message
+all_carried bytes = filter is_carried (readable bytes)
+
+-- the carried ones among these, so many at most; and why the connection ends, if it does
+abbrev pub carried_of : ℕ → List (List ℕ) → List Message
+carried_of limit bytes = take limit (all_carried bytes)
+
+abbrev pub end_of : ℕ → List (List ℕ) → Bool → Option Cause
+end_of limit bytes closed = if nat_lt limit (length (all_carried bytes)) then Some Spent else (if not (all_readable bytes) then Some Malformed else (if closed then Some Link else None))
+
+-- numbers from n on, one for each message
+abbrev pub numbers : ℕ → List Message → List Mark
+numbers n [] = []
+numbers n (m ∷ ms) = number n ∷ numbers (n + 1) ms
+
+-- what is sent makes a line of its messages, numbered, and then its end
+abbrev pub line_of_sent : ℕ → ℕ → List (List ℕ) → Bool → List Mark
+line_of_sent n limit bytes closed = numbers n (carried_of limit bytes) ++ map ended (option_to_list (end_of limit bytes closed))

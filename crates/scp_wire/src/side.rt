@@ -1,0 +1,15 @@
+//! Messages that have no number on their connection.
+
+use scp_quorum::QuorumSet;
+use scp_types::Hash;
+
+/// A message that asks for a quorum set, or answers that: of the kinds of link messages those that have no number.
+#[derive(Debug, Drop)]
+pub enum SideMessage {
+    /// Asks for the quorum set that this hash names.
+    GetSet(Hash),
+    /// A quorum set, as an answer.
+    Set(QuorumSet),
+    /// The answer of a node that has no quorum set of this hash.
+    NoSet(Hash),
+}
