@@ -1,18 +1,16 @@
 use scp_core::*;
 use scp_quorum::QuorumSet;
 use scp_types::{ConnId, Fault, NodeId, Seq, Slot, Value};
-use scp_wire::{MESSAGE_LIMIT, Message, encode};
+use scp_wire::{Message, encode};
 use std::alloc::Global;
 use std::process::Abort;
 use std::test::Fail;
 
 mod again;
 mod envelopes;
-mod fresh;
 mod long;
 mod said;
 mod sets;
-mod values;
 
 use said::{Said, envelope, request};
 
@@ -76,7 +74,7 @@ fn peers(alloc: Global, nodes: &[NodeId]) -> Result<Peers, Fault> {
 /// 2 of the node and its peer.
 fn both_nodes(alloc: Global) -> Result<QuorumSet, Fault> {
     let nodes = Vec::from_slice(alloc, &[ME, PEER])?;
-    Ok(QuorumSet::new(2, nodes, Vec::new(alloc)))
+    Ok(QuorumSet::of_nodes(2, nodes))
 }
 
 /// The configuration of a node of this set.
@@ -196,48 +194,8 @@ fn entries_after(alloc: Global, acts: &[Act<'_>]) -> Result<Vec<Entry>, Fault> {
     entries(alloc, &node)
 }
 
-/// The entries after these statements of the peer on slot 1.
-fn entries_after_saying(alloc: Global, statements: &[Said<'_>]) -> Result<Vec<Entry>, Fault> {
-    let mut node = after(alloc, &[Act::Open(0)])?;
-    for said in statements {
-        act_on(alloc, &mut node, &Act::Envelope(PEER, 1, *said))?;
-    }
-    entries(alloc, &node)
-}
-
 fn entry_count(node: &Node) -> usize {
     node.journal().len()
-}
-
-fn verdict_of(fate: &Fate) -> Option<Verdict> {
-    match entry_of(fate) {
-        Entry::Taken(_, _, verdict) => Some(verdict),
-        Entry::Closed(_, _) => None,
-    }
-}
-
-fn last_verdict(journal: &[Fate]) -> Option<Verdict> {
-    verdict_of(journal.last()?)
-}
-
-/// The verdict on a record for the slot.
-fn verdict_on(alloc: Global, node: &mut Node, slot: u64) -> Result<Option<Verdict>, Fault> {
-    act_on(alloc, node, &Act::Record(slot, &PUT_A))?;
-    Ok(last_verdict(node.journal()))
-}
-
-/// Records for these slots, one after the other, have these verdicts.
-fn expect_verdicts(
-    rt: &impl Abort,
-    alloc: Global,
-    node: &mut Node,
-    verdicts: &[(u64, Verdict)],
-) -> Result<(), Fault> {
-    for (slot, want) in verdicts {
-        let verdict = verdict_on(alloc, node, *slot)?;
-        assert_eq!(rt; verdict, Some(*want), "slot {slot}");
-    }
-    Ok(())
 }
 
 /// Whether these are the decisions of these slots, in this order.
@@ -346,65 +304,6 @@ fn a_record_decides_its_slot(rt: HostRuntime) -> Result<(), Fail> {
     Ok(())
 }
 
-#[test]
-fn records_out_of_order_are_applied_in_order(rt: HostRuntime) -> Result<(), Fail> {
-    let alloc = rt.alloc();
-    let acts = [
-        Act::Open(0),
-        Act::Record(3, &DEL_A),
-        Act::Record(2, &PUT_B),
-        Act::Record(1, &PUT_A),
-        Act::Record(1, &PUT_B),
-    ];
-    let node = after(alloc, &acts)?;
-    let entries = [
-        Entry::Taken(1, 0, Verdict::Decided),
-        Entry::Taken(1, 1, Verdict::Decided),
-        Entry::Taken(1, 2, Verdict::Decided),
-        Entry::Taken(1, 3, Verdict::Already),
-    ];
-    expect_entries(&rt, alloc, &node, &entries)?;
-    expect_applied(&rt, alloc, &node, &[1, 2, 3], [None, Some(50)])?;
-    Ok(())
-}
-
-/// Slots with the verdicts on their records, one after the other. Once that for slot 1 is taken, slots 1 to 16 are applied.
-const WINDOW: [(u64, Verdict); 25] = [
-    (17, Verdict::FarSlot),
-    (16, Verdict::Decided),
-    (15, Verdict::Decided),
-    (14, Verdict::Decided),
-    (13, Verdict::Decided),
-    (12, Verdict::Decided),
-    (11, Verdict::Decided),
-    (10, Verdict::Decided),
-    (9, Verdict::Decided),
-    (8, Verdict::Decided),
-    (7, Verdict::Decided),
-    (6, Verdict::Decided),
-    (5, Verdict::Decided),
-    (4, Verdict::Decided),
-    (3, Verdict::Decided),
-    (2, Verdict::Decided),
-    (1, Verdict::Decided),
-    (0, Verdict::Already),
-    (16, Verdict::Already),
-    (33, Verdict::FarSlot),
-    (4_294_967_296, Verdict::FarSlot),
-    (u64::MAX, Verdict::FarSlot),
-    (32, Verdict::Decided),
-    (32, Verdict::Already),
-    (17, Verdict::Decided),
-];
-
-#[test]
-fn the_window_has_sixteen_slots(rt: HostRuntime) -> Result<(), Fail> {
-    let mut node = after(rt.alloc(), &[Act::Open(0)])?;
-    expect_verdicts(&rt, rt.alloc(), &mut node, &WINDOW)?;
-    assert_eq!(rt; node.applied().len(), 17);
-    Ok(())
-}
-
 /// A new node's link is opened once, and its other links never.
 fn expect_one_link(rt: &impl Abort, alloc: Global, node: &mut Node) -> Result<(), Fault> {
     let acts = [Act::Close(0), Act::Send(&[]), Act::Send(&SET)];
@@ -470,32 +369,6 @@ fn side_messages_have_no_number_and_no_entry(rt: HostRuntime) -> Result<(), Fail
         ]
         .as_slice()
     );
-    Ok(())
-}
-
-/// The bytes end the connection, and the record behind them isn't read.
-fn expect_malformed(rt: &impl Abort, alloc: Global, bytes: &[u8]) -> Result<(), Fault> {
-    let acts = [Act::Open(0), Act::Send(bytes), Act::Record(1, &PUT_A)];
-    let found = entries_after(alloc, &acts)?;
-    assert_eq!(rt;
-        found.as_slice(),
-        [Entry::Closed(1, Cause::Malformed)].as_slice()
-    );
-    Ok(())
-}
-
-#[test]
-fn what_is_malformed_ends_the_connection(rt: HostRuntime) -> Result<(), Fail> {
-    let long = [0; MESSAGE_LIMIT + 1];
-    for bytes in [
-        long.as_slice(),
-        &[0, 0, 0, 2],
-        &[0, 0, 0, 3, 0, 0, 0, 0],
-        &[0, 0, 0, 4, 7, 7, 7, 7],
-        &[0, 0, 0, 5],
-    ] {
-        expect_malformed(&rt, rt.alloc(), bytes)?;
-    }
     Ok(())
 }
 

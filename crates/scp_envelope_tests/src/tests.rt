@@ -10,7 +10,6 @@ mod claimed;
 mod copied;
 mod nominated;
 mod ordered;
-mod sane;
 mod shapes;
 mod spelt;
 
@@ -181,15 +180,6 @@ fn is_copied(
 ) -> Result<(), Fault> {
     let copied = original.copy()?;
     is_spelt(rt, alloc, &copied, bytes)
-}
-
-/// Each statement is sane, or is not, as its row says.
-fn expect_sane(rt: &impl Abort, alloc: Global, rows: &[(Said, bool)]) -> Result<(), Fault> {
-    for (said, want) in rows {
-        let statement = stated(alloc, *said)?;
-        assert_eq!(rt; statement.sane(), *want, "{said:?}");
-    }
-    Ok(())
 }
 
 /// Each row's second statement is newer than its first, or is not, as the row says.

@@ -6,7 +6,7 @@ use super::long::events_of;
 use super::*;
 
 /// A nomination of "put a 1".
-const VOTE: Said<'static> = Said::Nominate(b"1");
+const VOTE: Said<'static> = Said(b"1");
 
 /// What a node shows: its entries, and the slots that were decided and applied.
 #[derive(Clone, Copy)]

@@ -13,7 +13,7 @@ const LIVES: [Act<'static>; 21] = [
     Act::Close(0),
     Act::Open(0),
     Act::Record(1, &PUT_A),
-    Act::Envelope(PEER, 3, Said::Nominate(b"1")),
+    Act::Envelope(PEER, 3, Said(b"1")),
     Act::Send(&[0; 5]),
     Act::Record(3, &DEL_A),
     Act::Close(0),
@@ -22,7 +22,7 @@ const LIVES: [Act<'static>; 21] = [
     Act::Record(3, &DEL_A),
     Act::Record(19, &PUT_A),
     Act::Record(20, &PUT_A),
-    Act::Envelope(PEER, 3, Said::Nominate(b"1")),
+    Act::Envelope(PEER, 3, Said(b"1")),
     Act::Close(2),
 ];
 
@@ -105,5 +105,38 @@ fn a_run_has_three_lives(rt: HostRuntime) -> Result<(), Fail> {
     let ran = run(alloc, config(alloc)?, events.as_slice())?;
     assert_eq!(rt; ran.replies.as_slice(), REPLIES.as_slice());
     expect_three_lives(&rt, alloc, &ran.node)?;
+    Ok(())
+}
+
+/// So many events: the link is opened and closed in turn.
+fn opens_and_closes(alloc: Global, count: usize) -> Result<Vec<Event>, Fault> {
+    let mut events = Vec::with_capacity(alloc, count)?;
+    for place in 0..count {
+        let event = if place % 2 == 0 {
+            Event::Open(0)
+        } else {
+            Event::Close(0)
+        };
+        events.push(event)?;
+    }
+    Ok(events)
+}
+
+/// How many of so many events are accepted, and how often the link was opened then.
+fn accepted_of(alloc: Global, count: usize) -> Result<(usize, u32), Fault> {
+    let events = opens_and_closes(alloc, count)?;
+    let ran = run(alloc, config(alloc)?, events.as_slice())?;
+    let accepted = ran
+        .replies
+        .iter()
+        .filter(|reply| **reply == Reply::Accepted)
+        .count();
+    Ok((accepted, ran.node.lives(0)))
+}
+
+/// No list of events is too long for a run.
+#[test]
+fn a_run_takes_70_000_events(rt: HostRuntime) -> Result<(), Fail> {
+    assert_eq!(rt; accepted_of(rt.alloc(), 70_000)?, (70_000, 35_000));
     Ok(())
 }
