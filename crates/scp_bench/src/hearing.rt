@@ -15,7 +15,7 @@ pub const HEARD: u32 = 1_000_000;
 /// 2 of the node and its peer.
 pub fn both_nodes(alloc: Global) -> Result<QuorumSet, Fault> {
     let nodes = Vec::from_slice(alloc, &[ME, PEER])?;
-    Ok(QuorumSet::new(2, nodes, Vec::new(alloc)))
+    Ok(QuorumSet::of_nodes(2, nodes))
 }
 
 /// A node that has heard nothing, with one peer, whose link is open.

@@ -18,7 +18,8 @@ use crate::asked::{Asked, read_words};
 use crate::workload::{write_all, write_one};
 use scp_line::{Process, ReportOut, line_of_fault, status, write_text};
 use scp_types::Fault;
-use std::alloc::Global;
+use std::alloc::{AllocError, Global};
+use std::io::ErrorKind;
 use std::process::ExitCode;
 use std::{env, io};
 
@@ -29,21 +30,37 @@ const USAGE: &str =
 /// What is printed where there is no memory for a fault's line.
 const NO_MEMORY: &str = "out of memory\n";
 
-fn main(rt: HostRuntime) -> ExitCode {
+/// The words of the command line; none where one isn't UTF-8.
+fn words_of(rt: &HostRuntime, alloc: Global) -> Result<Option<Vec<String>>, AllocError> {
+    match env::args(rt) {
+        Ok(words) => Ok(Some(words.collect(alloc)?)),
+        Err(error) if error.kind() == ErrorKind::OutOfMemory => Err(AllocError),
+        Err(_) => Ok(None),
+    }
+}
+
+/// Does what the words of the command line ask for, and answers the exit status. Words that aren't UTF-8 ask for nothing.
+fn answer<W: ReportOut>(rt: &HostRuntime, writer: &mut W) -> Result<u8, AllocError> {
     let alloc = rt.alloc();
+    let Some(words) = words_of(rt, alloc)? else {
+        return Ok(tell_usage(writer));
+    };
+    let words: Vec<&str> = words.iter().map(|word| word.as_str()).collect(alloc)?;
+    Ok(serve(alloc, words.as_slice(), writer))
+}
+
+fn main(rt: HostRuntime) -> ExitCode {
     let mut writer = Process::new(io::writer(&rt));
-    let words: Vec<String> = match env::args(&rt) {
-        Ok(words) => match words.collect(alloc) {
-            Ok(words) => words,
-            Err(_) => return ExitCode::from(refuse(alloc, Fault::NoMemory, &mut writer)),
-        },
-        Err(_) => return ExitCode::from(refuse(alloc, Fault::NoMemory, &mut writer)),
-    };
-    let words: Vec<&str> = match words.iter().map(|word| word.as_str()).collect(alloc) {
-        Ok(words) => words,
-        Err(_) => return ExitCode::from(refuse(alloc, Fault::NoMemory, &mut writer)),
-    };
-    ExitCode::from(serve(alloc, words.as_slice(), &mut writer))
+    match answer(&rt, &mut writer) {
+        Ok(status) => ExitCode::from(status),
+        Err(_) => ExitCode::from(refuse(rt.alloc(), Fault::NoMemory, &mut writer)),
+    }
+}
+
+/// Tells which words there are, and answers the exit status.
+fn tell_usage<W: ReportOut>(writer: &mut W) -> u8 {
+    let _ = write_text(writer, USAGE);
+    2
 }
 
 /// Does what the words ask for, and answers the exit status.
@@ -51,10 +68,7 @@ fn serve<W: ReportOut>(alloc: Global, words: &[&str], writer: &mut W) -> u8 {
     let done = match read_words(alloc, words) {
         Ok(Asked::All) => write_all(alloc, writer),
         Ok(Asked::One(workload, size)) => write_one(alloc, workload, size, writer),
-        Ok(Asked::Usage) => {
-            let _ = write_text(writer, USAGE);
-            return 2;
-        }
+        Ok(Asked::Usage) => return tell_usage(writer),
         Err(fault) => Err(fault),
     };
     match done {

@@ -59,7 +59,7 @@ fn set_of(
         let number = if ring > 0 { number % ring } else { number };
         validators.push(node(number))?;
     }
-    match QuorumSet::new(threshold, validators, Vec::new(alloc)).into_sane() {
+    match QuorumSet::of_nodes(threshold, validators).into_sane() {
         Ok(set) => Ok(Arc::new(alloc, set)?),
         Err((fault, _)) => Err(fault),
     }

@@ -13,7 +13,7 @@ use Rattle.scp_types.specs.declared.names.NodeId.{NodeId}
 use Rattle.scp_core.specs.declared.journal.Verdict.{Verdict}
 use Rattle.scp_core.specs.declared.journal.Verdict.TheVariants.{OldSlot, FarSlot, Already, Own, BadStatement, BadValue, Stale, Fresh, Forwarded, Decided}
 use Rattle.scp_wire.specs.declared.link.Cause.{Cause}
-use Rattle.scp_wire.specs.declared.link.Cause.TheVariants.{Malformed, Link, Spent}
+use Rattle.scp_wire.specs.declared.link.Cause.TheVariants.{Malformed, Link, Spent, ParkedFull}
 use Rattle.scp_core.specs.declared.journal.Fate.{Fate}
 use Rattle.scp_core.specs.declared.journal.Fate.TheVariants.{Taken, Closed}
 use Rattle.scp_core.specs.declared.journal.Origin.{Origin}
@@ -37,6 +37,7 @@ abbrev pub cause_word : Cause → List ℕ
 cause_word Malformed = codes "malformed"
 cause_word Link = codes "link"
 cause_word Spent = codes "spent"
+cause_word ParkedFull = codes "parked-full"
 
 -- an entry's line
 abbrev pub fate_line : Fate → List ℕ

@@ -5,7 +5,7 @@ ghost use Rattle.scp_wire.specs.Reading.{reading_of};
 ghost use Rattle.scp_wire.specs.Message.{message_kind, message_value, message_reading};
 ghost use Rattle.scp_xdr.specs.Kind.{Fits};
 ghost use Rattle.scp_xdr.specs.Words.{IsReadingFault};
-ghost use Rattle.scp_device.specs.Device.{Gains, Fails, IsAll};
+ghost use Rattle.scp_device.specs.Device.{Gains, GainsPart, Fails, IsAll};
 ghost use Rattle.scp_line.specs.Script.{IsScript, IsBadLine, commands_in};
 ghost use Rattle.scp_line.specs.Nodes.{Stops};
 ghost use Rattle.scp_line.specs.Outcome.{IsCheckFault, IsPlayFault};
@@ -89,6 +89,12 @@ pub fn play<R: ScriptIn, W: ReportOut>(
     ensures named { IfErr result (λ e. IsNamed e.node e.fault) }
     // After any other refusal than Device nothing was written.
     ensures untouched { IfErr result (λ e. e.fault ≢ Fault.Device → writer.new ≡ writer.old) }
+    // After a refusal nothing was written, or a part of the reports, from the first byte on.
+    ensures part { IfErr result (λ e. (writer.new ≡ writer.old) ⊎ ((script text : List ℕ) × IsAll (R.left reader.old) script × IsScript script × AreReports script text × GainsPart (W.written writer.old) text (W.written writer.new))) }
+    // No failure is told as anything else, and no call goes on after one.
+    ensures hidden { IfErr result (λ e. e.fault ≢ Fault.Device → R.failures reader.new ≡ R.failures reader.old) }
+    ensures stopped { IfErr result (λ e. (writer.new ≡ writer.old) ⊎ Fails (W.failures writer.old) (W.failures writer.new)) }
+    ensures kept { OnOk result ((R.failures reader.new ≡ R.failures reader.old) × (W.failures writer.new ≡ W.failures writer.old)) }
 {
     let script = read_script(alloc, reader)?;
     let text = match mode {
@@ -117,6 +123,12 @@ pub fn check<R: ScriptIn, W: ReportOut>(
     ensures cause { IfErr result (λ e. IsCheckFault e.fault) }
     ensures named { IfErr result (λ e. e.node ≡ 0) }
     ensures untouched { IfErr result (λ e. e.fault ≢ Fault.Device → writer.new ≡ writer.old) }
+    // After a refusal nothing was written, or a part of `ok`, from the first byte on.
+    ensures part { IfErr result (λ e. (writer.new ≡ writer.old) ⊎ GainsPart (W.written writer.old) (codes "ok\n") (W.written writer.new)) }
+    // No failure is told as anything else, and no call goes on after one.
+    ensures hidden { IfErr result (λ e. e.fault ≢ Fault.Device → R.failures reader.new ≡ R.failures reader.old) }
+    ensures stopped { IfErr result (λ e. (writer.new ≡ writer.old) ⊎ Fails (W.failures writer.old) (W.failures writer.new)) }
+    ensures kept { OnOk result ((R.failures reader.new ≡ R.failures reader.old) × (W.failures writer.new ≡ W.failures writer.old)) }
 {
     let script = read_script(alloc, reader)?;
     let _commands = parse(alloc, script.as_slice())?;
@@ -158,8 +170,12 @@ pub fn show<W: ReportOut>(alloc: Global, hex: &str, writer: &mut W) -> Result<()
     // Malformed at 0 where the word isn't digits, and else the bytes have no reading.
     ensures unread { IfErr result (λ e. e.fault ≢ Fault.NoMemory → e.fault ≢ Fault.Device → IsUnread hex.now e.fault) }
     ensures device { IfErr result (λ e. e.fault ≡ Fault.Device → Fails (W.failures writer.old) (W.failures writer.new)) }
-    ensures named { IfErr result (λ e. e.node ≡ 0) }
+    ensures named { IfErr result (λ e. (e.node ≡ 0) × IsNamed e.node e.fault) }
     ensures untouched { IfErr result (λ e. e.fault ≢ Fault.Device → writer.new ≡ writer.old) }
+    // After a refusal nothing was written, or a part of the line, from the first byte on.
+    ensures part { IfErr result (λ e. (writer.new ≡ writer.old) ⊎ ((text : List ℕ) × IsShown hex.now text × GainsPart (W.written writer.old) text (W.written writer.new))) }
+    ensures stopped { IfErr result (λ e. (writer.new ≡ writer.old) ⊎ Fails (W.failures writer.old) (W.failures writer.new)) }
+    ensures kept { OnOk result (W.failures writer.new ≡ W.failures writer.old) }
 {
     let text = shown(alloc, hex)?;
     Ok(write_text(writer, text.as_str())?)

@@ -38,6 +38,7 @@ fn word_of_cause(cause: Cause) -> &'static str
         Cause::Malformed => "malformed",
         Cause::Link => "link",
         Cause::Spent => "spent",
+        Cause::ParkedFull => "parked-full",
     }
 }
 

@@ -19,7 +19,7 @@ fn of_both(alloc: Global, quorum: u8) -> Result<QuorumSet, AllocError>
     ensures { IfOk result (λ set. set ≡ of_both quorum) }
 {
     let nodes = Vec::from_slice(alloc, &[id_from(1), id_from(2)])?;
-    Ok(QuorumSet::new(u32::from(quorum), nodes, Vec::new(alloc)))
+    Ok(QuorumSet::of_nodes(u32::from(quorum), nodes))
 }
 
 /// The quorum set that a command gives the node of this number, if it gives it one.

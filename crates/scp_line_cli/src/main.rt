@@ -6,6 +6,7 @@
 use scp_line::{Process, write_text};
 use scp_serve::serve;
 use std::alloc::{AllocError, Global};
+use std::io::ErrorKind;
 use std::process::ExitCode;
 use std::{env, io};
 
@@ -25,13 +26,17 @@ fn short_of_memory(rt: &HostRuntime) -> ExitCode {
     ExitCode::from(3)
 }
 
-fn words_of(rt: &HostRuntime, alloc: Global) -> Option<Vec<String>> {
-    let words = env::args(rt).ok()?;
-    words.collect(alloc).ok()
+/// The words of the command line, and none of them where one isn't UTF-8: those ask for nothing.
+fn words_of(rt: &HostRuntime, alloc: Global) -> Result<Vec<String>, AllocError> {
+    match env::args(rt) {
+        Ok(words) => words.collect(alloc),
+        Err(error) if error.kind() == ErrorKind::OutOfMemory => Err(AllocError),
+        Err(_) => Ok(Vec::new(alloc)),
+    }
 }
 
 fn main(rt: HostRuntime) -> ExitCode {
-    let Some(words) = words_of(&rt, rt.alloc()) else {
+    let Ok(words) = words_of(&rt, rt.alloc()) else {
         return short_of_memory(&rt);
     };
     match answer(&rt, words.as_slice()) {

@@ -1,9 +1,10 @@
 //! The words of a command line: what they ask for, and what is done and answered.
 //!
 //! What it promises:
-//! - `serve` answers a status of at most 3, and 0 only where a script was played and its reports written, a script was
-//!   checked, or a message was shown, each as `scp_line` promises it;
-//! - a fault is told by its own line, and by its status.
+//! - each thing that words can ask for is a call of its own, which answers 0 only where it was done: a script was played and
+//!   its reports written, a script was checked, a message was shown, each as `scp_line` promises it;
+//! - `serve` answers 2 only with `usage` and with nothing read, and 1 or 3 only of a fault;
+//! - a fault is told once, by its own line and its status, and a node that failed by its number.
 //!
 //! Which words ask for what is shown by tests.
 #![tactic(auto)]
@@ -11,4 +12,4 @@
 mod asked;
 mod serving;
 
-pub use serving::serve;
+pub use serving::{serve, serve_check, serve_decode, serve_run, serve_usage};

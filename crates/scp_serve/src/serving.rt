@@ -1,27 +1,96 @@
 //! What the words of a command line are answered with.
-ghost use Rattle.std.specs.Prelude.{◌≡◌, ◌≤◌, ◌⊎◌, ℕ, List, length, codes};
-ghost use Rattle.scp_device.specs.Device.{Gains, Fails, IsAll};
-ghost use Rattle.scp_line.specs.Outcome.{fault_line, status_of};
-ghost use Rattle.scp_line.specs.Play.{AreReports, IsShown};
+ghost use Rattle.std.specs.Prelude.{◌≡◌, ◌≢◌, ◌≤◌, ◌⊎◌, ℕ, List, length, codes};
+ghost use Rattle.scp_device.specs.Device.{Gains, IsAll};
+ghost use Rattle.scp_line.specs.declared.playing.PlayFault.{PlayFault};
+ghost use Rattle.scp_line.specs.Outcome.{status_of, IsCheckFault};
+ghost use Rattle.scp_line.specs.Play.{AreReports, IsShown, IsNamed, IsUnread};
 ghost use Rattle.scp_line.specs.Script.{IsScript};
+ghost use Rattle.scp_serve.specs.Serving.{IsTold, IsWritten, IsUnplayed};
 
 use crate::asked::{Asked, read_words};
 use scp_line::{
-    PlayFault, ReportOut, SCRIPT_LIMIT, ScriptIn, check, line_of_fault, play, show, status,
+    Mode, PlayFault, ReportOut, SCRIPT_LIMIT, ScriptIn, check, line_of_fault, play, show, status,
     write_text,
 };
+use scp_types::Fault;
 use std::alloc::Global;
 
 /// Writes the line that tells a fault, if there is memory for it and the writer takes it, and answers the exit status.
+#[tactic(auto, using(crate::proofs::Told::some_status, crate::proofs::Told::few_status, crate::proofs::Told::no_usage))]
 fn tell<W: ReportOut>(alloc: Global, fault: PlayFault, writer: &mut W) -> u8
     ensures status { result ≡ status_of fault.fault }
-    ensures refused { 1 ≤ result }
-    ensures told { (writer.new ≡ writer.old) ⊎ Gains (W.written writer.old) (fault_line fault.node fault.fault) (W.written writer.new) ⊎ Fails (W.failures writer.old) (W.failures writer.new) }
+    ensures some { 1 ≤ result }
+    ensures few { result ≤ 3 }
+    ensures no_usage { result ≢ 2 }
+    ensures told { IsTold W.written W.failures writer.old fault writer.new }
 {
     if let Ok(line) = line_of_fault(alloc, fault.node, fault.fault) {
         let _ = write_text(writer, line.as_str());
     }
     status(fault.fault)
+}
+
+/// Plays a script, and answers 0 where its reports were written. Else the fault is told by its line, if there is memory for that
+/// and the writer takes it, and its status is answered: 1 where the script was refused, and 3.
+#[tactic(auto, using(crate::proofs::Told::told_after, crate::proofs::Told::unplayed))]
+pub fn serve_run<R: ScriptIn, W: ReportOut>(
+    alloc: Global,
+    mode: Mode,
+    reader: &mut R,
+    writer: &mut W,
+) -> u8
+    ensures few { result ≤ 3 }
+    ensures no_usage { result ≢ 2 }
+    // What was read is a script of at most 1,048,576 bytes, and what was written are its reports.
+    ensures reports { result ≡ 0 → (script text : List ℕ) × IsAll (R.left reader.old) script × (length script ≤ SCRIPT_LIMIT) × IsScript script × AreReports script text × Gains (W.written writer.old) text (W.written writer.new) }
+    // Else just the line of the fault was written, if anything, or the writer failed.
+    ensures refused { result ≢ 0 → (fault : PlayFault) × (result ≡ status_of fault.fault) × IsUnplayed (R.left reader.old) fault × IsTold W.written W.failures writer.old fault writer.new }
+{
+    match play(alloc, mode, reader, writer) {
+        Ok(()) => 0,
+        Err(fault) => tell(alloc, fault, writer),
+    }
+}
+
+/// Checks a script, and answers 0 where it is one and `ok` was written. Else the fault is told as `serve_run` tells it.
+#[tactic(auto, using(crate::proofs::Told::told_after, crate::proofs::Told::unchecked))]
+pub fn serve_check<R: ScriptIn, W: ReportOut>(alloc: Global, reader: &mut R, writer: &mut W) -> u8
+    ensures few { result ≤ 3 }
+    ensures no_usage { result ≢ 2 }
+    // What was read is a script of at most 1,048,576 bytes, and `ok` was written.
+    ensures ok { result ≡ 0 → ((script : List ℕ) × IsAll (R.left reader.old) script × (length script ≤ SCRIPT_LIMIT) × IsScript script) × Gains (W.written writer.old) (codes "ok\n") (W.written writer.new) }
+    // Else just the line of the fault was written, if anything, or the writer failed.
+    ensures refused { result ≢ 0 → (fault : PlayFault) × (result ≡ status_of fault.fault) × IsUnplayed (R.left reader.old) fault × IsCheckFault fault.fault × IsTold W.written W.failures writer.old fault writer.new }
+{
+    match check(alloc, reader, writer) {
+        Ok(()) => 0,
+        Err(fault) => tell(alloc, fault, writer),
+    }
+}
+
+/// Shows the message that the digits spell, and answers 0 where its line was written. Else the fault is told as `serve_run`
+/// tells it. No input is read.
+#[tactic(auto, using(crate::proofs::Told::told_after))]
+pub fn serve_decode<W: ReportOut>(alloc: Global, hex: &str, writer: &mut W) -> u8
+    ensures few { result ≤ 3 }
+    ensures no_usage { result ≢ 2 }
+    ensures shown { result ≡ 0 → (text : List ℕ) × IsShown hex.now text × Gains (W.written writer.old) text (W.written writer.new) }
+    // Else just the line of the fault was written, if anything, or the writer failed.
+    ensures refused { result ≢ 0 → (fault : PlayFault) × (result ≡ status_of fault.fault) × (fault.node ≡ 0) × IsNamed fault.node fault.fault × (fault.fault ≢ Fault.NoMemory → fault.fault ≢ Fault.Device → IsUnread hex.now fault.fault) × IsTold W.written W.failures writer.old fault writer.new }
+{
+    match show(alloc, hex, writer) {
+        Ok(()) => 0,
+        Err(fault) => tell(alloc, fault, writer),
+    }
+}
+
+/// Writes `usage`, and answers 2. No input is read.
+pub fn serve_usage<W: ReportOut>(writer: &mut W) -> u8
+    ensures status { result ≡ 2 }
+    ensures usage { IsWritten W.written W.failures writer.old (codes "usage\n") writer.new }
+{
+    let _ = write_text(writer, "usage\n");
+    2
 }
 
 /// Does what the words of a command line ask for, the program's own name first, and answers the exit status: 0 done, 1
@@ -34,29 +103,21 @@ pub fn serve<R: ScriptIn, W: ReportOut>(
     writer: &mut W,
 ) -> u8
     ensures status { result ≤ 3 }
-    // 0 is answered only where a script was played, a script was checked, or a message was shown.
+    // 0 is answered only where a script was played, a script was checked, or a message was shown and nothing was read.
     ensures done { result ≡ 0 →
         ((script text : List ℕ) × IsAll (R.left reader.old) script × (length script ≤ SCRIPT_LIMIT) × IsScript script × AreReports script text × Gains (W.written writer.old) text (W.written writer.new))
         ⊎ (((script : List ℕ) × IsAll (R.left reader.old) script × (length script ≤ SCRIPT_LIMIT) × IsScript script) × Gains (W.written writer.old) (codes "ok\n") (W.written writer.new))
-        ⊎ ((digits : List ℕ) × ((text : List ℕ) × IsShown digits text × Gains (W.written writer.old) text (W.written writer.new))) }
+        ⊎ ((digits : List ℕ) × ((text : List ℕ) × IsShown digits text × Gains (W.written writer.old) text (W.written writer.new)) × (reader.new ≡ reader.old)) }
+    // 2 is answered only with `usage`, and nothing was read.
+    ensures usage { result ≡ 2 → (reader.new ≡ reader.old) × IsWritten W.written W.failures writer.old (codes "usage\n") writer.new }
+    // 1 and 3 are answered only of a fault: its line was written and nothing else, or nothing at all, or the writer failed.
+    ensures refused { result ≢ 0 → result ≢ 2 → (fault : PlayFault) × (result ≡ status_of fault.fault) × IsNamed fault.node fault.fault × IsTold W.written W.failures writer.old fault writer.new }
 {
     match read_words(alloc, words) {
-        Ok(Asked::Run(mode)) => match play(alloc, mode, reader, writer) {
-            Ok(()) => 0,
-            Err(fault) => tell(alloc, fault, writer),
-        },
-        Ok(Asked::Check) => match check(alloc, reader, writer) {
-            Ok(()) => 0,
-            Err(fault) => tell(alloc, fault, writer),
-        },
-        Ok(Asked::Decode(hex)) => match show(alloc, hex, writer) {
-            Ok(()) => 0,
-            Err(fault) => tell(alloc, fault, writer),
-        },
-        Ok(Asked::Usage) => {
-            let _ = write_text(writer, "usage\n");
-            2
-        }
+        Ok(Asked::Run(mode)) => serve_run(alloc, mode, reader, writer),
+        Ok(Asked::Check) => serve_check(alloc, reader, writer),
+        Ok(Asked::Decode(hex)) => serve_decode(alloc, hex, writer),
+        Ok(Asked::Usage) => serve_usage(writer),
         Err(fault) => tell(alloc, PlayFault::from(fault), writer),
     }
 }

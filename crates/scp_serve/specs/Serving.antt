@@ -1,0 +1,26 @@
+-- What a command line is answered with.
+use Rattle.std.specs.Prelude.{ℕ, ◌≡◌, ◌≤◌, ◌<◌, ◌⊎◌, List, length, Option, IfSome}
+use Rattle.scp_types.specs.declared.fault.Fault.{Fault}
+use Rattle.scp_types.specs.declared.fault.Fault.TheVariants.{TooLong, Failed, BadScript}
+use Rattle.scp_device.specs.Device.{Gains, Fails}
+use Rattle.scp_line.specs.declared.playing.PlayFault.{PlayFault}
+use Rattle.scp_line.specs.Script.{IsScript, IsBadLine, commands_in}
+use Rattle.scp_line.specs.Nodes.{Stops}
+use Rattle.scp_line.specs.Outcome.{fault_line, status_of, IsPlayFault}
+use Rattle.scp_line.specs.Play.{IsNamed}
+
+-- this text was written and nothing else, or the writer failed
+abbrev pub IsWritten : {W : Type 0} → (W → Option (List ℕ)) → (W → ℕ) → W → List ℕ → W → Type 0
+IsWritten written failures old text new = (Gains (written old) text (written new) × (failures new ≡ failures old)) ⊎ Fails (failures old) (failures new)
+
+-- a fault was told by its line and nothing else; nothing was written where the line had no memory
+abbrev pub IsTold : {W : Type 0} → (W → Option (List ℕ)) → (W → ℕ) → W → PlayFault → W → Type 0
+IsTold written failures old fault new = (new ≡ old) ⊎ IsWritten written failures old (fault_line fault.node fault.fault) new
+
+-- why a script that was read from here, all that was left, wasn't played
+pub record IsUnplayed (left : Option (List ℕ)) (fault : PlayFault) : Type 0 where
+  pub cause : IsPlayFault fault.fault
+  pub named : IsNamed fault.node fault.fault
+  pub too_long : fault.fault ≡ TooLong → IfSome left (λ all. 1048576 < length all)
+  pub line : (line : ℕ) → fault.fault ≡ BadScript line → IfSome left (λ all. (length all ≤ 1048576) × IsBadLine all line)
+  pub stops : fault.fault ≡ Failed → IfSome left (λ all. (length all ≤ 1048576) × IsScript all × Stops (commands_in all) fault.node)
