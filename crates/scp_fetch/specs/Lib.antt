@@ -1,0 +1,4 @@
+pub mod Hashes
+pub mod Store
+pub mod Ring
+pub mod Wants

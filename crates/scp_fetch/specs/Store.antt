@@ -1,0 +1,26 @@
+-- The quorum sets that are there: the local one, and others in the order in which they were stored (this project's profile).
+use Rattle.std.specs.Prelude.{ℕ, ◌≡◌, ◌++◌, [], ◌∷◌, List, Bool, Option, Some, None, nat_lt, length, drop, if◌then◌else◌, is_some, find}
+use Rattle.scp_types.specs.declared.names.Hash.{Hash}
+use Rattle.scp_quorum.specs.QuorumTree.{QuorumTree}
+use Rattle.scp_quorum.specs.QuorumKind.{set_hash}
+use Rattle.scp_fetch.specs.Hashes.{same_hash}
+
+pub record StoreView : Type 0 where
+  pub local : QuorumTree
+  pub others : List QuorumTree
+
+-- the set has this hash
+abbrev pub has_hash : Hash → QuorumTree → Bool
+has_hash hash set = same_hash hash (record { 0 = set_hash set })
+
+-- the set under the hash
+abbrev pub lookup : Hash → StoreView → Option QuorumTree
+lookup hash store = if has_hash hash store.local then Some store.local else find (has_hash hash) store.others
+
+-- one more; of 257 others the one that was stored first leaves
+abbrev pub pushed : QuorumTree → List QuorumTree → List QuorumTree
+pushed set others = if nat_lt (length others) 256 then others ++ set ∷ [] else drop 1 others ++ set ∷ []
+
+-- a set whose hash is there changes nothing
+abbrev pub stored : QuorumTree → StoreView → StoreView
+stored set store = if is_some (lookup (record { 0 = set_hash set }) store) then store else record store { others = pushed set store.others }

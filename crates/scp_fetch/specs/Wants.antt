@@ -1,0 +1,81 @@
+-- The hashes that are wanted, in the order in which they became so: of each its misses since then and the links that were
+-- asked (this project's profile).
+use Rattle.std.specs.Prelude.{ℕ, ◌+◌, ◌<◌, ◌≡◌, ◌++◌, [], ◌∷◌, List, Bool, true, false, not, ◌&&◌, nat_eq, nat_lt, slice_set, filter, map, if◌then◌else◌, replicate, slice_index_or}
+use Rattle.std.specs.List.{list_any}
+use Rattle.scp_types.specs.declared.names.Hash.{Hash}
+use Rattle.scp_fetch.specs.Hashes.{same_hash}
+use Rattle.scp_fetch.specs.declared.want.Want.{Want}
+use Rattle.scp_fetch.specs.declared.want.Miss.{Miss}
+use Rattle.scp_fetch.specs.declared.want.Miss.TheVariants.{One, All}
+use Rattle.scp_fetch.specs.declared.answers.Missed.{Missed}
+use Rattle.scp_fetch.specs.declared.answers.Missed.TheVariants as missed
+use Rattle.scp_fetch.specs.declared.answers.Answer.{Answer}
+use Rattle.scp_fetch.specs.declared.answers.Answer.TheVariants as answer
+
+-- the want is of this hash
+abbrev pub is_for : Hash → Want → Bool
+is_for hash want = same_hash hash want.hash
+
+abbrev pub is_wanted : Hash → List Want → Bool
+is_wanted hash wants = list_any (is_for hash) wants
+
+-- the hash is wanted, and the link was asked since both the hash became wanted and the link last opened
+abbrev pub is_asked : Hash → ℕ → List Want → Bool
+is_asked hash link wants = list_any (λ want. is_for hash want && slice_index_or want.asked link false) wants
+
+-- ---- wanting and asking
+
+abbrev pub ask : Hash → ℕ → Want → Want
+ask hash link want = if is_for hash want then record want { asked = slice_set want.asked link true } else want
+
+abbrev pub new_want : Hash → ℕ → Want
+new_want hash link = record { hash = hash; misses = 0; asked = slice_set (replicate 8 false) link true }
+
+-- the hash is wanted, and the link was asked
+abbrev pub wanted_by : Hash → ℕ → List Want → List Want
+wanted_by hash link wants = if is_wanted hash wants then map (ask hash link) wants else wants ++ new_want hash link ∷ []
+
+-- the link opened: it is unasked for all hashes
+abbrev pub unask : ℕ → Want → Want
+unask link want = record want { asked = slice_set want.asked link false }
+
+abbrev pub unasked : ℕ → List Want → List Want
+unasked link wants = map (unask link) wants
+
+-- the hash isn't wanted any more
+abbrev pub without : Hash → List Want → List Want
+without hash wants = filter (λ want. not (is_for hash want)) wants
+
+-- ---- misses
+
+-- a miss of one hash, or one of each that is wanted
+abbrev pub is_missed : Miss → Hash → Bool
+is_missed (One missed) hash = same_hash missed hash
+is_missed All hash = true
+
+-- the twelfth
+abbrev pub is_last : Miss → Want → Bool
+is_last miss want = is_missed miss want.hash && nat_lt 10 want.misses
+
+abbrev pub count_miss : Miss → Want → Want
+count_miss miss want = if is_missed miss want.hash then record want { misses = want.misses + 1 } else want
+
+-- the twelfth miss ends a want, and an earlier one counts
+abbrev pub missed_by : Miss → List Want → List Want
+missed_by miss wants = map (count_miss miss) (filter (λ want. not (is_last miss want)) wants)
+
+-- the hash is wanted, and this miss is its twelfth
+abbrev pub gives_up : Miss → List Want → Hash → Bool
+gives_up miss wants hash = list_any (λ want. is_for hash want && is_last miss want) wants
+
+-- ---- answers
+
+abbrev pub miss_of : Hash → List Want → Missed
+miss_of hash wants = if gives_up (One hash) wants hash then missed.GaveUp else (if is_wanted hash wants then missed.Waiting else missed.Unwanted)
+
+abbrev pub answer_of : Hash → Bool → List Want → Answer
+answer_of hash sane wants = if is_wanted hash wants then (if sane then answer.Sane else answer.Insane) else answer.Unwanted
+
+-- the twelfth miss ends a want
+abbrev pub IsPatient : Want → Type 0
+IsPatient want = want.misses < 12

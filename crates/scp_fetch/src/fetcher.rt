@@ -1,0 +1,148 @@
+//! The hashes that are wanted.
+ghost use Rattle.std.specs.Prelude.{◌≡◌, ◌<◌, [], not, IfOk, OnOk, OnErr, IsOkUnless};
+ghost use Rattle.scp_fetch.specs.Wants.{is_wanted, is_asked, wanted_by, unasked, missed_by, without, gives_up, miss_of, answer_of};
+
+use crate::answers::{Answer, Missed};
+use crate::want::{
+    Miss, Want, count_misses, first_want, forget_last, forget_one, has_asked, has_last, has_want,
+    note_asked, note_unasked,
+};
+use scp_types::{Fault, Hash};
+use std::alloc::Global;
+use std::marker::Model;
+
+/// At so many misses a hash is given up (this project's profile).
+pub const MISS_LIMIT: u8 = 12;
+
+/// Links have numbers below this (this project's profile).
+pub const LINK_LIMIT: u8 = 8;
+
+/// The hashes that are wanted, in the order in which they became so, each with its misses and the links that were asked.
+#[derive(Debug, Drop)]
+pub struct Fetcher {
+    wants: Vec<Want>,
+}
+
+impl Model for Fetcher {
+    ghost use Rattle.std.specs.Prelude.{List};
+    ghost use Rattle.std.specs.List.{AllByRecursion};
+    ghost use Rattle.scp_fetch.specs.declared.want.Want.{Want};
+    ghost use Rattle.scp_fetch.specs.Wants.{IsPatient};
+
+    ghost Value = { List Want };
+
+    ghost view = { λ a. a.wants.items };
+
+    ghost invariant = { λ a. AllByRecursion IsPatient a.wants.items };
+}
+
+impl Fetcher {
+    /// Nothing is wanted. Takes no memory.
+    pub fn new(alloc: Global) -> Fetcher
+        ensures { result ≡ [] }
+    {
+        Fetcher {
+            wants: Vec::new(alloc),
+        }
+    }
+
+    /// Whether the hash is wanted.
+    pub fn is_wanted(&self, hash: &Hash) -> bool
+        ensures { result ≡ is_wanted hash.now self.now }
+    {
+        has_want(self.wants.as_slice(), *hash)
+    }
+
+    /// Whether one more miss of the hash, which is wanted, is its twelfth.
+    pub fn is_at_last_miss(&self, hash: &Hash) -> bool
+        ensures { result ≡ gives_up Miss.All self.now hash.now }
+    {
+        has_last(self.wants.as_slice(), Miss::All, *hash)
+    }
+
+    /// Wants the hash, and says whether that link is to be asked: `true` exactly where it wasn't asked since both the hash
+    /// became wanted and the link last opened. The link counts as asked from then on. The one refusal is
+    /// `Fault::NoMemory`, and it leaves all as it was.
+    pub fn want(&mut self, hash: &Hash, link: u8) -> Result<bool, Fault>
+        requires link { link < 8 }
+        ensures asks { IfOk result (λ asks. asks ≡ not (is_asked hash.now link self.old)) }
+        ensures wanted { OnOk result (self.new ≡ wanted_by hash.now link self.old) }
+        ensures unchanged { OnErr result (self.new ≡ self.old) }
+        ensures only_memory { IsOkUnless result Fault.NoMemory }
+    {
+        let asks = !self.asked(hash, link);
+        if has_want(self.wants.as_slice(), *hash) {
+            note_asked(&mut self.wants, *hash, link as usize);
+        } else {
+            self.wants.push(first_want(*hash, link as usize))?;
+        }
+        Ok(asks)
+    }
+
+    /// Whether the hash is wanted and that link was asked for it since both the hash became wanted and the link last
+    /// opened.
+    pub fn asked(&self, hash: &Hash, link: u8) -> bool
+        requires link { link < 8 }
+        ensures { result ≡ is_asked hash.now link self.now }
+    {
+        has_asked(self.wants.as_slice(), *hash, link as usize)
+    }
+
+    /// One miss of the hash: a node has no such set. The twelfth gives it up, and it isn't wanted any more.
+    pub fn miss(&mut self, hash: &Hash) -> Missed
+        ensures answer { result ≡ miss_of hash.now self.old }
+        ensures counted { self.new ≡ missed_by (Miss.One hash.now) self.old }
+    {
+        let wanted = self.is_wanted(hash);
+        let last = has_last(self.wants.as_slice(), Miss::One(*hash), *hash);
+        self.count(Miss::One(*hash));
+        match (last, wanted) {
+            (true, _) => Missed::GaveUp,
+            (false, true) => Missed::Waiting,
+            (false, false) => Missed::Unwanted,
+        }
+    }
+
+    /// One miss of each hash that is wanted: time went on. Those for which it is the twelfth aren't wanted any more.
+    pub fn miss_all(&mut self)
+        ensures { self.new ≡ missed_by Miss.All self.old }
+    {
+        self.count(Miss::All);
+    }
+
+    fn count(&mut self, miss: Miss)
+        ensures { self.new ≡ missed_by miss self.old }
+    {
+        forget_last(&mut self.wants, miss);
+        count_misses(&mut self.wants, miss);
+    }
+
+    /// A set of that hash came. What was wanted isn't any more.
+    pub fn answer(&mut self, hash: &Hash, is_sane: bool) -> Answer
+        ensures answer { result ≡ answer_of hash.now is_sane self.old }
+        ensures ended { self.new ≡ without hash.now self.old }
+    {
+        let wanted = self.is_wanted(hash);
+        self.forget(hash);
+        match (wanted, is_sane) {
+            (false, _) => Answer::Unwanted,
+            (true, true) => Answer::Sane,
+            (true, false) => Answer::Insane,
+        }
+    }
+
+    /// The link opened: it is unasked for all hashes.
+    pub fn opened(&mut self, link: u8)
+        requires link { link < 8 }
+        ensures { self.new ≡ unasked link self.old }
+    {
+        note_unasked(&mut self.wants, link as usize);
+    }
+
+    /// The hash isn't wanted any more, if it was.
+    pub fn forget(&mut self, hash: &Hash)
+        ensures { self.new ≡ without hash.now self.old }
+    {
+        forget_one(&mut self.wants, *hash);
+    }
+}

@@ -1,0 +1,19 @@
+//! The quorum sets that are there, and the hashes of those that are wanted.
+//!
+//! What it promises:
+//! - A `SetStore` holds the local set and at most 256 others, each under its own hash; one more takes out the one that was
+//!   stored first. `get` gives a set of just the hash that it is asked for.
+//! - A `Fetcher` keeps the hashes that are wanted. `want` says whether a link is to be asked: that is where it wasn't asked
+//!   since both the hash became wanted and the link last opened. The twelfth miss of a hash gives it up; misses count from
+//!   the first want, and end with it.
+//! - A refusal leaves the value as it was.
+#![tactic(auto)]
+
+mod answers;
+mod fetcher;
+mod store;
+mod want;
+
+pub use answers::{Answer, Missed};
+pub use fetcher::{Fetcher, LINK_LIMIT, MISS_LIMIT};
+pub use store::{OTHER_SETS_LIMIT, SetStore};
