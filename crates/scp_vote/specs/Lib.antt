@@ -1,0 +1,6 @@
+pub mod Claims
+pub mod Board
+pub mod Statements
+pub mod Side
+pub mod Seen
+pub mod Licence

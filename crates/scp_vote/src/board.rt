@@ -1,0 +1,158 @@
+//! The voting board: each node's newest statement of each kind, and which claims are accepted and confirmed on it.
+ghost use Rattle.std.specs.Prelude.{◌≡◌, ◌≢◌, ◌↔◌, IsTrue, IfOk, IfSome, IfNone, OnOk, OnErr, IsOkUnless, Option};
+ghost use Rattle.std.specs.Option.{option_map, ForSome};
+ghost use Rattle.std.specs.BTreeMap as node_map;
+ghost use Rattle.scp_types.specs.declared.names.NodeId.{NodeId};
+ghost use Rattle.scp_quorum.specs.NodeSet.{is_in, node_cmp};
+ghost use Rattle.scp_vote.specs.Board.{kind_of, kind_of_pledges, Accepted, Confirmed, Certificate, PutsCounted, IsNewBoard, KeepsOwn};
+ghost use Rattle.scp_vote.specs.declared.claim.StatementKind.{StatementKind};
+
+use crate::claim::{Claim, StatementKind, kind_of_pledges};
+use crate::statements::{Entry, Side, enter};
+use scp_envelope::Envelope;
+use scp_quorum::SaneSet;
+use scp_types::{Fault, NodeId};
+use std::alloc::Global;
+use std::collections::{BTreeMap, BTreeSet};
+use std::sync::Arc;
+
+/// Each node's newest statement of each kind, with the quorum set that is counted for it: for this node the local set,
+/// for another node's EXTERNALIZE that node alone, else the set that was delivered with the statement.
+#[derive(Drop)]
+pub struct Board {
+    alloc: Global,
+    me: NodeId,
+    local: Arc<SaneSet>,
+    nominations: BTreeMap<NodeId, Entry>,
+    ballots: BTreeMap<NodeId, Entry>,
+    pub ghost own_nomination: { ForSome (node_map.get node_cmp nominations me) (λ e. e.counted.value ≡ local.value) },
+    pub ghost own_ballot: { ForSome (node_map.get node_cmp ballots me) (λ e. e.counted.value ≡ local.value) },
+}
+
+impl Board {
+    ghost use Rattle.scp_vote.specs.Seen.{seen};
+    ghost use Rattle.scp_vote.specs.Side.{side};
+    ghost use Rattle.scp_vote.specs.Statements.{seen_in};
+
+    /// A board without statements, of this node and its set.
+    pub fn new(alloc: Global, me: NodeId, local: Arc<SaneSet>) -> Board
+        ensures empty { (kind : StatementKind) → IsNewBoard me local.value (seen kind result) }
+    {
+        Board {
+            alloc,
+            me,
+            local,
+            nominations: BTreeMap::new(alloc),
+            ballots: BTreeMap::new(alloc),
+        }
+    }
+
+    /// Puts the envelope in the place of its node's last of that kind; all other statements stay. For this node the local
+    /// set is counted, for another node's EXTERNALIZE that node alone, else the delivered set (the SCP draft, in this
+    /// project's profile). A refusal, `Fault::NoMemory`, leaves the board as it was.
+    pub fn put(&mut self, envelope: Envelope, delivered: Arc<SaneSet>) -> Result<(), Fault>
+        ensures put { OnOk result (PutsCounted (seen (kind_of_pledges envelope.statement.pledges) self.old) (seen (kind_of_pledges envelope.statement.pledges) self.new) envelope.statement.node envelope.statement.pledges delivered.value) }
+        ensures other_kind { (kind : StatementKind) → kind ≢ kind_of_pledges envelope.statement.pledges → seen kind self.new ≡ seen kind self.old }
+        ensures refused { OnErr result ((kind : StatementKind) → seen kind self.new ≡ seen kind self.old) }
+        ensures only_memory { IsOkUnless result Fault.NoMemory }
+    {
+        let kind = kind_of_pledges(&envelope.statement.pledges);
+        let counted = self.of(kind).counted(&envelope, delivered)?;
+        match kind {
+            StatementKind::Nomination => enter(&mut self.nominations, envelope, counted)?,
+            StatementKind::Balloting => enter(&mut self.ballots, envelope, counted)?,
+        }
+        Ok(())
+    }
+
+    /// Whether the nodes that vote for or accept the claim contain a quorum at this node, or those that accept it block the
+    /// local set (the SCP draft). The one refusal is `Fault::NoMemory`.
+    pub fn accepted(&self, claim: &Claim) -> Result<bool, Fault>
+        ensures exact { IfOk result (λ yes. IsTrue yes ↔ Accepted (seen (kind_of claim.now) self.now) claim.now) }
+        ensures only_memory { IsOkUnless result Fault.NoMemory }
+    {
+        self.of(claim.kind()).accepted(claim)
+    }
+
+    /// Whether the nodes that accept the claim contain a quorum at this node (the SCP draft). The one refusal is
+    /// `Fault::NoMemory`.
+    pub fn confirmed(&self, claim: &Claim) -> Result<bool, Fault>
+        ensures exact { IfOk result (λ yes. IsTrue yes ↔ Confirmed (seen (kind_of claim.now) self.now) claim.now) }
+        ensures only_memory { IsOkUnless result Fault.NoMemory }
+    {
+        self.of(claim.kind()).confirmed(claim)
+    }
+
+    /// The greatest quorum at this node inside the nodes that accept the claim; `None` exactly where it isn't confirmed. The
+    /// one refusal is `Fault::NoMemory`.
+    pub fn certificate(&self, claim: &Claim) -> Result<Option<BTreeSet<NodeId>>, Fault>
+        ensures found { IfOk result (λ found. IfSome found (λ nodes. Certificate (seen (kind_of claim.now) self.now) claim.now (is_in nodes))) }
+        ensures none { IfOk result (λ found. IfNone found (Confirmed (seen (kind_of claim.now) self.now) claim.now → ⊥)) }
+        ensures only_memory { IsOkUnless result Fault.NoMemory }
+    {
+        self.of(claim.kind()).certificate(claim)
+    }
+
+    /// The node's newest statement of this kind.
+    pub fn statement(&self, kind: StatementKind, node: &NodeId) -> Option<&Envelope>
+        ensures pledges { option_map (λ e. e.now.statement.pledges) result ≡ (seen kind self.now).statement node.now }
+    {
+        self.statements(kind).get(node).map(|entry| &entry.envelope)
+    }
+
+    /// This node's own newest statement of this kind.
+    pub fn own(&self, kind: StatementKind) -> Option<&Envelope>
+        ensures pledges { option_map (λ e. e.now.statement.pledges) result ≡ (seen kind self.now).statement (seen kind self.now).me }
+    {
+        self.statement(kind, &self.me)
+    }
+
+    /// The statements of this kind with their counted sets, ascending by node.
+    pub fn statements(&self, kind: StatementKind) -> &BTreeMap<NodeId, Entry>
+        ensures pledges { (v : NodeId) → option_map (λ e. e.envelope.statement.pledges) (node_map.get node_cmp result.now v) ≡ (seen kind self.now).statement v }
+        ensures counted { (v : NodeId) → option_map (λ e. e.counted.value) (node_map.get node_cmp result.now v) ≡ (seen kind self.now).counted v }
+    {
+        match kind {
+            StatementKind::Nomination => &self.nominations,
+            StatementKind::Balloting => &self.ballots,
+        }
+    }
+
+    /// This node.
+    pub fn me(&self) -> NodeId
+        ensures me { (kind : StatementKind) → (seen kind self.now).me ≡ result }
+        ensures own { (kind : StatementKind) → KeepsOwn (seen kind self.now) }
+    {
+        self.me
+    }
+
+    /// This node's quorum set.
+    pub fn local(&self) -> &Arc<SaneSet>
+        ensures set { (kind : StatementKind) → (seen kind self.now).local ≡ result.now.value }
+    {
+        &self.local
+    }
+
+    /// What is seen of the statements of this kind.
+    fn of(&self, kind: StatementKind) -> Side<'_>
+        ensures same { side result ≡ seen kind self.now }
+        ensures own { KeepsOwn (side result) }
+    {
+        match kind {
+            StatementKind::Nomination => self.side(&self.nominations),
+            StatementKind::Balloting => self.side(&self.ballots),
+        }
+    }
+
+    /// What is seen of these statements.
+    fn side<'a>(&'a self, entries: &'a BTreeMap<NodeId, Entry>) -> Side<'a>
+        ensures { side result ≡ seen_in self.now.me self.now.local.value entries.now }
+    {
+        Side {
+            alloc: self.alloc,
+            me: self.me,
+            local: &self.local,
+            entries,
+        }
+    }
+}

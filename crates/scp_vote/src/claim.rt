@@ -1,0 +1,104 @@
+//! Claims, and how a statement stands by them.
+ghost use Rattle.std.specs.Prelude.{◌≡◌, ◌↔◌, IsTrue};
+ghost use Rattle.scp_vote.specs.Claims.{Stands};
+ghost use Rattle.scp_vote.specs.Board.{kind_of_pledges};
+
+use scp_envelope::{Pledges, Statement};
+use scp_types::{Ballot, Value};
+
+/// What nodes vote for and accept (the SCP draft).
+#[derive(Debug, Drop)]
+pub enum Claim {
+    /// The ballot is prepared.
+    Prepared(Ballot),
+    /// The value is committed at each counter from the first to the second.
+    Committed(u32, u32, Value),
+    /// The value is nominated.
+    Nominated(Value),
+}
+
+/// The two kinds of statements: those of nomination, and ballot statements.
+#[derive(Clone, Copy, Debug, PartialEq, Eq)]
+pub enum StatementKind {
+    Nomination,
+    Balloting,
+}
+
+impl Claim {
+    ghost use Rattle.scp_vote.specs.Board.{kind_of};
+
+    /// The kind of the statements that stand by the claim.
+    pub fn kind(&self) -> StatementKind
+        ensures { result ≡ kind_of self.now }
+    {
+        match self {
+            Claim::Nominated(_) => StatementKind::Nomination,
+            _ => StatementKind::Balloting,
+        }
+    }
+}
+
+/// The kind of a statement with these pledges.
+pub fn kind_of_pledges(pledges: &Pledges) -> StatementKind
+    ensures { result ≡ kind_of_pledges pledges.now }
+{
+    match pledges {
+        Pledges::Nominate(_) => StatementKind::Nomination,
+        _ => StatementKind::Balloting,
+    }
+}
+
+/// How a statement stands by a claim: it votes for it or accepts it, or accepts it.
+#[derive(Clone, Copy, Debug, PartialEq, Eq)]
+pub enum Support {
+    VotesOrAccepts,
+    Accepts,
+}
+
+/// Whether the statement stands so by the claim. Takes no memory.
+pub fn stands(support: Support, claim: &Claim, statement: &Statement) -> bool
+    ensures { IsTrue result ↔ Stands support claim.now statement.now.pledges }
+{
+    match claim {
+        Claim::Prepared(ballot) => match support {
+            Support::Accepts => statement.accepts_prepare(ballot),
+            Support::VotesOrAccepts => {
+                statement.votes_prepare(ballot) || statement.accepts_prepare(ballot)
+            }
+        },
+        Claim::Committed(low, high, value) => match support {
+            Support::Accepts => accepts_range(statement, *low, *high, value),
+            Support::VotesOrAccepts => supports_range(statement, *low, *high, value),
+        },
+        Claim::Nominated(value) => match support {
+            Support::Accepts => statement.accepts_value(value),
+            Support::VotesOrAccepts => {
+                statement.votes_value(value) || statement.accepts_value(value)
+            }
+        },
+    }
+}
+
+ghost use Rattle.scp_vote.specs.Claims.{AcceptsCommits, SupportsCommits};
+
+/// Whether it accepts each commit of the range: its ends are enough.
+fn accepts_range(statement: &Statement, low: u32, high: u32, value: &Value) -> bool
+    ensures { IsTrue result ↔ AcceptsCommits statement.now.pledges low high value.now }
+{
+    high < low || (statement.accepts_commit(low, value) && statement.accepts_commit(high, value))
+}
+
+/// Whether for each commit of the range, by itself, it votes for it or accepts it: its ends are enough.
+fn supports_range(statement: &Statement, low: u32, high: u32, value: &Value) -> bool
+    ensures { IsTrue result ↔ SupportsCommits statement.now.pledges low high value.now }
+{
+    high < low || (supports_one(statement, low, value) && supports_one(statement, high, value))
+}
+
+ghost use Rattle.scp_vote.specs.Claims.{SupportsCommit};
+
+fn supports_one(statement: &Statement, counter: u32, value: &Value) -> bool
+    ensures { IsTrue result ↔ SupportsCommit statement.now.pledges counter value.now }
+{
+    statement.votes_commit(counter, value) || statement.accepts_commit(counter, value)
+}

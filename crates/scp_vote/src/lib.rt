@@ -1,0 +1,19 @@
+//! Federated voting: the board of each node's newest statements, and which claims are accepted and confirmed on it.
+//!
+//! What it promises:
+//! - a claim is accepted exactly where the nodes that vote for or accept it contain a quorum at this node, or those that
+//!   accept it block the local set; it is confirmed exactly where those that accept it contain a quorum at this node
+//!   (the SCP draft);
+//! - the set that is counted for a statement is chosen when it is put: the local set for this node's own, the node alone
+//!   for another node's EXTERNALIZE, else the set that was delivered with it;
+//! - a certificate is the greatest quorum at this node inside the nodes that accept;
+//! - a put that had no memory leaves the board as it was.
+#![tactic(auto)]
+
+mod board;
+mod claim;
+mod statements;
+
+pub use board::Board;
+pub use claim::{Claim, StatementKind, Support, kind_of_pledges, stands};
+pub use statements::Entry;
