@@ -1,0 +1,75 @@
+//! The driver of the product, whose values are operation lists.
+ghost use Rattle.std.specs.Prelude.{◌≡◌, ◌≢◌, ◌≤◌, ℕ, List, [], Option, None, IfOk, IsOkUnless};
+ghost use Rattle.scp_driver.specs.Kv.{kv_level, greatest, greatest_from, leader_place, IsGreatest, IsPlace};
+ghost use Rattle.scp_driver.specs.KvLaws.{greatest_full};
+
+use crate::driver::{Driver, Level};
+use scp_kv::is_ops;
+use scp_types::{Fault, Slot, Value};
+use std::alloc::Global;
+
+/// The product's driver (this project's profile): operation lists are fully validated and all else is invalid, nothing is
+/// taken of an invalid value, the greatest candidate by bytes is the composite, and nodes lead in turn.
+#[derive(Clone, Copy, Debug)]
+pub struct KvDriver;
+
+/// The greatest of the values, of which there is one, by bytes. Takes no memory.
+pub fn greatest_of(values: &[Value]) -> &Value
+    requires some { values.now ≢ [] }
+    ensures exact { result.now ≡ greatest values.now }
+    ensures greatest { IsGreatest values.now result.now }
+{
+    let mut best = &values[0];
+    for value in &values[1..] {
+        if best < value {
+            best = value;
+        }
+    }
+    best
+}
+
+impl Driver for KvDriver {
+    ghost level = { λ d slot v. kv_level v };
+
+    ghost extracted = { λ d slot v. None };
+
+    ghost combined = { λ d slot vs. greatest vs };
+
+    ghost place = { λ d slot round n. leader_place slot round n };
+
+    fn validate(&self, _slot: Slot, value: &Value) -> Level {
+        if is_ops(value) {
+            Level::FullyValidated
+        } else {
+            Level::Invalid
+        }
+    }
+
+    fn extract(&self, _alloc: Global, _slot: Slot, _value: &Value) -> Result<Option<Value>, Fault> {
+        Ok(None)
+    }
+
+    fn combine(&self, _alloc: Global, _slot: Slot, values: &[Value]) -> Result<Value, Fault> {
+        greatest_of(values).copy()
+    }
+
+    fn leader(&self, slot: Slot, round: u64, n: usize) -> usize {
+        place_of(slot, round, n)
+    }
+
+    ghost extracts_full = { λ d slot v. tt };
+
+    ghost combines_full = { λ d slot vs some all. greatest_full vs some all };
+}
+
+/// The place (slot + round - 2) mod n, over the integers, of a round's leader among n nodes: nodes lead in turn, and for slot 1
+/// and round 1 it is the first.
+pub fn place_of(slot: Slot, round: u64, n: usize) -> usize
+    requires rounds { 1 ≤ round }
+    requires nodes { 1 ≤ n }
+    ensures exact { result ≡ leader_place slot.0 round n }
+    ensures place { IsPlace slot.0 round n result }
+{
+    let place = u128::from(slot.0) + u128::from(round) + n as u128 - 2;
+    (place % n as u128) as usize
+}

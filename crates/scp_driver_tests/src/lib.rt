@@ -1,0 +1,7 @@
+//! The tests of `scp_driver`, by its public calls, and a second driver that keeps the trait's laws.
+#![tactic(auto)]
+
+#[cfg(test)]
+mod byte_driver;
+#[cfg(test)]
+mod tests;

@@ -1,0 +1,11 @@
+mod Ascending
+mod Growing
+pub mod Passing
+mod Options
+pub mod Staying
+mod Settling
+mod Knowing
+mod Naming
+mod Leading
+mod Advancing
+mod Turning

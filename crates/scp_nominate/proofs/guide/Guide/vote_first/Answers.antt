@@ -1,0 +1,12 @@
+use Rattle.std.proofs.Common.{◌≡◌, refl, sym, subst, Contains}
+use Rattle.scp_nominate.proofs.Growing.{votes_trans, tried_stays}
+use Rattle.scp_nominate.proofs.guide.Guide.vote_first.Goals as goal
+
+pub returns-clause-voting : goal.returns-clause-voting
+returns-clause-voting g c = record { votes = votes_trans c.args.lists.now.votes c.vote_own.new.votes c.vote_leaders.new.votes c.in_ok-vote_own.ensures.more c.in_ok-vote_leaders.ensures.more; accepted = refl; candidates = refl }
+
+pub returns-clause-voted : goal.returns-clause-voted
+returns-clause-voted g c none = record {
+  proposed = λ leads v e. tried_stays c.vote_own.new.votes c.vote_leaders.new.votes v c.in_ok-vote_leaders.ensures.more (c.in_ok-vote_own.ensures.tried (subst (λ n. Contains c.args.self.now.leaders.items n) (sym c.me_of.ensures) leads) v e);
+  led = λ node other leads v f names. c.in_ok-vote_leaders.ensures.tried node (subst (λ ns. Contains ns node) (sym c.as_slice-leaders.ensures.value) leads) other v f names;
+}

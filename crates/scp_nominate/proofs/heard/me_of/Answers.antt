@@ -1,0 +1,6 @@
+use Rattle.std.proofs.Common.{sym}
+use Rattle.scp_vote.specs.declared.claim.StatementKind.TheVariants.{Nomination}
+use Rattle.scp_nominate.proofs.heard.me_of.Goals as goal
+
+pub returns : goal.returns
+returns c = sym (c.me.ensures.me Nomination)

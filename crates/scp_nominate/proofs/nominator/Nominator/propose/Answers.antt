@@ -1,0 +1,36 @@
+use Rattle.std.proofs.Common.{◌≡◌, ◌≤◌, ◌<◌, ◌+◌, ◌↔◌, ◌⊎◌, ℕ, List, [], Contains, slice_get, inl, inr, refl, sym, ◌∙◌, ap, subst, Some, None, false, true, length, arith, rules}
+use Rattle.scp_types.specs.declared.names.NodeId.{NodeId}
+use Rattle.scp_driver.specs.Driver.{IsFull}
+use Rattle.scp_nominate.specs.Heard.{heard}
+use Rattle.scp_nominate.specs.Steps.{own_lists}
+use Rattle.scp_nominate.specs.Turns.{Leads}
+use Rattle.scp_nominate.specs.declared.lists.Lists.{Lists}
+use Rattle.scp_nominate.specs.State.{own_at}
+use Rattle.scp_nominate.specs.Nomination.{Advances, nomination_of}
+use Rattle.scp_nominate.proofs.Advancing.{advances, works, paid_by, keeps_others, unchanged, heard_rests, same_own, hears_of, turns_kept, begins_rests, begins_paid}
+use Rattle.scp_nominate.proofs.Turning.{more_leads, first_leads, some_turn}
+use Rattle.scp_nominate.proofs.nominator.Nominator.propose.Goals as goal
+
+pub returns-then-is_some-clause-advances : goal.returns-then-is_some-clause-advances
+returns-then-is_some-clause-advances g c =
+    let whole : c.args.self.now.failed ≡ false = search rules in
+    unchanged (IsFull (g.D.Driver.level c.args.self.now.guide.driver) c.args.self.now.guide.slot.0) (g.D.Driver.combined c.args.self.now.guide.driver c.args.self.now.guide.slot.0) c.args.self.now.state c.args.self.now.guide.slot.0 c.args.self.now.guide.proposal c.args.self.now.nodes.items c.args.self.now.rounds c.args.self.now.failed c.nothing.result c.nothing.ensures.statement c.nothing.ensures.composite (c.requires.sound whole).rest
+
+pub returns-clause-advances : goal.returns-clause-advances
+returns-clause-advances g c = advances (IsFull (g.D.Driver.level c.args.self.now.guide.driver) c.args.self.now.guide.slot.0) (g.D.Driver.combined c.args.self.now.guide.driver c.args.self.now.guide.slot.0) c.args.self.now.state c.advance.new.self c.args.self.now.guide.slot.0 (Some c.args.value) c.args.self.now.nodes.items c.args.self.now.rounds false c.in_ok-given.given c.in_ok-given.ensures.settled c.in_ok-given.ensures.own c.in_ok-given.ensures.more c.in_ok-given.ensures.all
+
+pub returns-clause-others : goal.returns-clause-others
+returns-clause-others g c = keeps_others (heard c.args.self.now.state.board) (heard c.advance.new.self.board) _ c.in_ok-given.ensures.settled.chain.board
+
+pub returns-clause-making : goal.returns-clause-making
+returns-clause-making g c = record { slot = refl; hash = c.in_ok-given.ensures.settled.hash; nodes = refl; me = c.in_ok-given.ensures.settled.chain.board.me; local = c.in_ok-given.ensures.settled.chain.board.local }
+
+pub returns-clause-sound : goal.returns-clause-sound
+returns-clause-sound g c e =
+    let whole : c.args.self.now.failed ≡ false = search rules in
+    works g.D.Driver.level g.D.Driver.place _ c.args.self.now.state _ c.in_ok-given.ensures.settled c.in_ok-given.ensures.owed (c.requires.sound whole).leaders (c.requires.sound whole).nodes (c.requires.sound whole).rounds
+
+pub returns-clause-paid : goal.returns-clause-paid
+returns-clause-paid g c =
+    let whole : c.args.self.now.failed ≡ false = search rules in
+    paid_by (IsFull (g.D.Driver.level c.args.self.now.guide.driver) c.args.self.now.guide.slot.0) (λ node. Contains c.args.self.now.guide.leaders.items node) (Leads (g.D.Driver.place c.args.self.now.guide.driver c.args.self.now.guide.slot.0) c.args.self.now.nodes.items c.args.self.now.rounds) (Some c.args.value) (heard c.advance.new.self.board) (own_lists c.advance.new.self.lists) (λ v l. ((c.requires.sound whole).leaders v).1 l) c.in_ok-given.ensures.owed

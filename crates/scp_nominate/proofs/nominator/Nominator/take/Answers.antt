@@ -1,0 +1,38 @@
+use Rattle.std.proofs.Common.{◌≡◌, ◌≤◌, ◌<◌, ◌+◌, ◌↔◌, ◌⊎◌, ℕ, List, [], Contains, slice_get, inl, inr, refl, sym, ◌∙◌, ap, subst, Some, None, false, true, length, arith, rules}
+use Rattle.scp_types.specs.declared.names.NodeId.{NodeId}
+use Rattle.scp_driver.specs.Driver.{IsFull}
+use Rattle.scp_nominate.specs.Heard.{heard}
+use Rattle.scp_nominate.specs.Steps.{own_lists}
+use Rattle.scp_nominate.specs.Turns.{Leads}
+use Rattle.scp_nominate.specs.declared.lists.Lists.{Lists}
+use Rattle.scp_nominate.specs.State.{own_at}
+use Rattle.scp_nominate.specs.Nomination.{Advances, nomination_of}
+use Rattle.scp_nominate.proofs.Advancing.{advances, works, paid_by, keeps_others, unchanged, heard_rests, same_own, hears_of, turns_kept, begins_rests, begins_paid}
+use Rattle.scp_nominate.proofs.Turning.{more_leads, first_leads, some_turn}
+use Rattle.scp_nominate.proofs.nominator.Nominator.take.Goals as goal
+
+pub advance-requires : goal.advance-requires
+advance-requires g c =
+    let whole : c.args.self.now.failed ≡ false = search rules in
+    record { rest = heard_rests (IsFull (g.D.Driver.level c.args.self.now.guide.driver) c.args.self.now.guide.slot.0) c.args.self.now.state c.hear.new.self c.args.envelope.statement.node c.args.envelope.statement.pledges c.args.delivered.value (c.requires.sound whole).rest c.in_ok-hear.ensures.heard c.requires.other }
+
+pub returns-clause-advances : goal.returns-clause-advances
+returns-clause-advances g c =
+    let whole : c.args.self.now.failed ≡ false = search rules in
+    let new = nomination_of c.advance.new.self c.args.self.now.guide.slot.0 c.args.self.now.guide.proposal c.args.self.now.nodes.items c.args.self.now.rounds false in
+    let given = c.in_ok-given.given in
+    subst (λ o. Advances (g.D.Driver.combined c.args.self.now.guide.driver c.args.self.now.guide.slot.0) o (own_lists c.args.self.now.state.lists) new given) (same_own (IsFull (g.D.Driver.level c.args.self.now.guide.driver) c.args.self.now.guide.slot.0) c.args.self.now.state c.hear.new.self c.args.envelope.statement.node c.args.envelope.statement.pledges c.args.delivered.value (c.requires.sound whole).rest c.in_ok-hear.ensures.heard c.requires.other)
+    (subst (λ (s : Lists). Advances (g.D.Driver.combined c.args.self.now.guide.driver c.args.self.now.guide.slot.0) (own_at c.hear.new.self) (own_lists s) new given) c.in_ok-hear.ensures.heard.lists (advances (IsFull (g.D.Driver.level c.args.self.now.guide.driver) c.args.self.now.guide.slot.0) (g.D.Driver.combined c.args.self.now.guide.driver c.args.self.now.guide.slot.0) c.hear.new.self c.advance.new.self c.args.self.now.guide.slot.0 c.args.self.now.guide.proposal c.args.self.now.nodes.items c.args.self.now.rounds false c.in_ok-given.given c.in_ok-given.ensures.settled c.in_ok-given.ensures.own c.in_ok-given.ensures.more c.in_ok-given.ensures.all))
+
+pub returns-clause-others : goal.returns-clause-others
+returns-clause-others g c = hears_of (IsFull (g.D.Driver.level c.args.self.now.guide.driver) c.args.self.now.guide.slot.0) c.args.self.now.state c.hear.new.self c.args.envelope.statement.node c.args.envelope.statement.pledges c.args.delivered.value c.in_ok-hear.ensures.heard c.requires.other (heard c.advance.new.self.board) (keeps_others (heard c.hear.new.self.board) (heard c.advance.new.self.board) _ c.in_ok-given.ensures.settled.chain.board)
+
+pub returns-clause-paid : goal.returns-clause-paid
+returns-clause-paid g c =
+    let whole : c.args.self.now.failed ≡ false = search rules in
+    paid_by (IsFull (g.D.Driver.level c.args.self.now.guide.driver) c.args.self.now.guide.slot.0) (λ node. Contains c.args.self.now.guide.leaders.items node) (Leads (g.D.Driver.place c.args.self.now.guide.driver c.args.self.now.guide.slot.0) c.args.self.now.nodes.items c.args.self.now.rounds) c.args.self.now.guide.proposal (heard c.advance.new.self.board) (own_lists c.advance.new.self.lists) (λ v l. ((c.requires.sound whole).leaders v).1 l) c.in_ok-given.ensures.owed
+
+pub returns-clause-sound : goal.returns-clause-sound
+returns-clause-sound g c e =
+    let whole : c.args.self.now.failed ≡ false = search rules in
+    works g.D.Driver.level g.D.Driver.place _ c.hear.new.self _ c.in_ok-given.ensures.settled c.in_ok-given.ensures.owed (c.requires.sound whole).leaders (turns_kept (IsFull (g.D.Driver.level c.args.self.now.guide.driver) c.args.self.now.guide.slot.0) c.args.self.now.state c.hear.new.self c.args.envelope.statement.node c.args.envelope.statement.pledges c.args.delivered.value c.args.self.now.nodes.items c.in_ok-hear.ensures.heard (c.requires.sound whole).nodes) (c.requires.sound whole).rounds

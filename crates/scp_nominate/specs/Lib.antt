@@ -1,0 +1,9 @@
+pub mod Heard
+pub mod Values
+pub mod Steps
+pub mod Owed
+pub mod Own
+pub mod State
+pub mod Turns
+pub mod Given
+pub mod Nomination

@@ -1,0 +1,166 @@
+//! Votes for what other leaders name.
+ghost use Rattle.std.specs.Prelude.{◌≡◌, ◌≢◌, ◌⊎◌, ℕ, List, Contains, IfOk, OnOk, IsOkUnless};
+ghost use Rattle.scp_types.specs.declared.names.NodeId.{NodeId};
+ghost use Rattle.scp_driver.specs.Driver.{IsFull};
+ghost use Rattle.scp_nominate.specs.Heard.{heard};
+ghost use Rattle.scp_envelope.specs.Claims.{VotesValue, AcceptsValue};
+ghost use Rattle.scp_nominate.specs.Values.{Has};
+ghost use Rattle.scp_nominate.specs.Steps.{More, MoreVotes, IsTried};
+ghost use Rattle.scp_nominate.specs.Owed.{Names};
+
+use crate::heard::{me_of, statement_of};
+use crate::lists::vote;
+use crate::values::ValueSet;
+use scp_driver::{Driver, Level};
+use scp_envelope::Pledges;
+use scp_types::{Fault, NodeId, Slot, Value};
+use scp_vote::Board;
+use std::alloc::Global;
+
+/// Adds the value to the set, if it isn't there.
+#[tactic(auto, using(crate::proofs::Growing::more_added, crate::proofs::Growing::added_has))]
+pub(crate) fn add(set: &mut ValueSet, value: &Value) -> Result<(), Fault>
+    ensures more { OnOk result (More set.old set.new) }
+    ensures added { OnOk result (Has set.new value.now) }
+    ensures only { OnOk result ((v : List ℕ) → Has set.new v → Has set.old v ⊎ (value.now ≡ v)) }
+    ensures only_memory { IsOkUnless result Fault.NoMemory }
+{
+    set.insert(value.copy()?)
+}
+
+/// Adds the values to the set.
+fn add_all(set: &mut ValueSet, values: &[Value]) -> Result<(), Fault>
+    ensures more { OnOk result (More set.old set.new) }
+    ensures added { OnOk result ((v : List ℕ) → Contains values.now v → Has set.new v) }
+    ensures only_memory { IsOkUnless result Fault.NoMemory }
+{
+    for value in values {
+        add(set, value)?;
+    }
+    Ok(())
+}
+
+/// Votes for the value where it is fully validated, else for what the driver takes of it.
+fn vote_of<D: Driver>(
+    driver: &D,
+    alloc: Global,
+    slot: Slot,
+    value: &Value,
+    votes: &mut ValueSet,
+) -> Result<(), Fault>
+    ensures more { OnOk result (MoreVotes votes.old votes.new) }
+    ensures tried { OnOk result (IsFull (D.level driver.now) slot.0 value.now → IsTried votes.new value.now) }
+    ensures only_memory { IsOkUnless result Fault.NoMemory }
+{
+    if driver.validate(slot, value) == Level::FullyValidated {
+        return vote(votes, value);
+    }
+    match driver.extract(alloc, slot, value)? {
+        Some(found) => vote(votes, &found),
+        None => Ok(()),
+    }
+}
+
+/// `vote_of` each value, in order.
+pub(crate) fn vote_all<D: Driver>(
+    driver: &D,
+    alloc: Global,
+    slot: Slot,
+    values: &[Value],
+    votes: &mut ValueSet,
+) -> Result<(), Fault>
+    ensures more { OnOk result (MoreVotes votes.old votes.new) }
+    ensures tried { OnOk result ((v : List ℕ) → Contains values.now v → IsFull (D.level driver.now) slot.0 v → IsTried votes.new v) }
+    ensures only_memory { IsOkUnless result Fault.NoMemory }
+{
+    for value in values {
+        vote_of(driver, alloc, slot, value, votes)?;
+    }
+    Ok(())
+}
+
+/// The values of both lists.
+fn both(alloc: Global, votes: &[Value], accepted: &[Value]) -> Result<ValueSet, Fault>
+    ensures all { IfOk result (λ set. (v : List ℕ) → Contains votes.now v ⊎ Contains accepted.now v → Has set v) }
+    ensures only_memory { IsOkUnless result Fault.NoMemory }
+{
+    let mut set = ValueSet::new(alloc);
+    add_all(&mut set, votes)?;
+    add_all(&mut set, accepted)?;
+    Ok(set)
+}
+
+/// The values that the pledges vote for or accept.
+pub(crate) fn named(alloc: Global, pledges: &Pledges) -> Result<ValueSet, Fault>
+    ensures all { IfOk result (λ set. (v : List ℕ) → VotesValue pledges.now v ⊎ AcceptsValue pledges.now v → Has set v) }
+    ensures only_memory { IsOkUnless result Fault.NoMemory }
+{
+    match pledges {
+        Pledges::Nominate(nominate) => both(
+            alloc,
+            nominate.votes.as_slice(),
+            nominate.accepted.as_slice(),
+        ),
+        _ => Ok(ValueSet::new(alloc)),
+    }
+}
+
+/// Votes for what the leader's statement on the board names.
+pub(crate) fn vote_leader<D: Driver>(
+    driver: &D,
+    alloc: Global,
+    slot: Slot,
+    board: &Board,
+    leader: &NodeId,
+    votes: &mut ValueSet,
+) -> Result<(), Fault>
+    ensures more { OnOk result (MoreVotes votes.old votes.new) }
+    ensures tried { OnOk result ((v : List ℕ) → IsFull (D.level driver.now) slot.0 v → Names (heard board.now) leader.now v → IsTried votes.new v) }
+    ensures only_memory { IsOkUnless result Fault.NoMemory }
+{
+    match statement_of(board, leader) {
+        Some(envelope) => {
+            let values = named(alloc, &envelope.statement.pledges)?;
+            vote_all(driver, alloc, slot, values.as_slice(), votes)
+        }
+        None => Ok(()),
+    }
+}
+
+/// `vote_leader` of another node.
+fn vote_other<D: Driver>(
+    driver: &D,
+    alloc: Global,
+    slot: Slot,
+    board: &Board,
+    leader: &NodeId,
+    votes: &mut ValueSet,
+) -> Result<(), Fault>
+    ensures more { OnOk result (MoreVotes votes.old votes.new) }
+    ensures tried { OnOk result (leader.now ≢ (heard board.now).me → (v : List ℕ) → IsFull (D.level driver.now) slot.0 v → Names (heard board.now) leader.now v → IsTried votes.new v) }
+    ensures only_memory { IsOkUnless result Fault.NoMemory }
+{
+    if *leader == me_of(board) {
+        return Ok(());
+    }
+    vote_leader(driver, alloc, slot, board, leader, votes)
+}
+
+/// Votes for what the statements of the leaders other than this node name, in their order.
+pub(crate) fn vote_leaders<D: Driver>(
+    driver: &D,
+    alloc: Global,
+    slot: Slot,
+    board: &Board,
+    leaders: &[NodeId],
+    votes: &mut ValueSet,
+) -> Result<(), Fault>
+    ensures more { OnOk result (MoreVotes votes.old votes.new) }
+    ensures tried { OnOk result ((node : NodeId) → Contains leaders.now node → node ≢ (heard board.now).me → (v : List ℕ) → IsFull (D.level driver.now) slot.0 v → Names (heard board.now) node v → IsTried votes.new v) }
+    ensures only_memory { IsOkUnless result Fault.NoMemory }
+{
+    for leader in leaders {
+        vote_other(driver, alloc, slot, board, leader, votes)?;
+    }
+    Ok(())
+}

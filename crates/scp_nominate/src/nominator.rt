@@ -1,0 +1,175 @@
+//! The nominator of one slot.
+ghost use Rattle.std.specs.Prelude.{◌≡◌, ◌≢◌, ◌⊎◌, ◌↔◌, ◌<◌, ◌≤◌, ◌+◌, None, true, false, length, IfOk, IfErr, OnOk, OnErr, IsSome, is_some, IsOkUnless, Contains};
+ghost use Rattle.std.specs.Option.{ForSome};
+ghost use Rattle.scp_driver.specs.Driver.{IsFull};
+ghost use Rattle.scp_nominate.specs.Heard.{heard};
+ghost use Rattle.scp_nominate.specs.Owed.{OwesNothing};
+ghost use Rattle.scp_nominate.specs.Steps.{own_lists};
+ghost use Rattle.scp_vote.specs.Board.{kind_of_pledges, counted_of_other};
+ghost use Rattle.scp_vote.specs.declared.claim.StatementKind.TheVariants.{Nomination};
+
+use crate::guide::Guide;
+use crate::nodes::{add_leader, nodes_with};
+use crate::nominated::Nominated;
+use crate::state::State;
+use scp_driver::Driver;
+use scp_envelope::Envelope;
+use scp_quorum::SaneSet;
+use scp_types::{Fault, NodeId, Slot, Value};
+use std::alloc::Global;
+use std::sync::Arc;
+
+/// What one node votes for, accepts and finds confirmed in one slot, by its driver. After a refusal it is failed, and answers
+/// `Fault::Failed` from then on.
+#[derive(Drop)]
+pub struct Nominator<D: Driver + Drop> {
+    guide: Guide<D>,
+    state: State,
+    nodes: Vec<NodeId>,
+    rounds: u64,
+    failed: bool,
+}
+
+impl<D: Driver + Drop> Nominator<D> {
+    ghost use Rattle.scp_nominate.specs.State.{IsAtRest, IsSettling, IsOwnOf};
+    ghost use Rattle.scp_nominate.specs.Nomination.{nomination, driver_of, own, Advances, KeepsMaking, KeepsOthers, Hears, IsSound, IsPaid, Begins, first_of};
+
+    /// A nominator that has heard nothing, in round 1. The one refusal is `Fault::NoMemory`.
+    pub fn new(
+        alloc: Global,
+        me: NodeId,
+        slot: Slot,
+        local: Arc<SaneSet>,
+        driver: D,
+    ) -> Result<Nominator<D>, Fault>
+        ensures begins { IfOk result (λ made. Begins me slot.0 local.value (nomination made)) }
+        ensures driver { IfOk result (λ made. driver_of made ≡ driver) }
+        ensures sound { IfOk result (λ made. IsSound D.level D.place made) }
+        ensures only_memory { IsOkUnless result Fault.NoMemory }
+    {
+        let nodes = nodes_with(me, local.set())?;
+        let mut leaders = Vec::new(alloc);
+        add_leader(&driver, slot, 1, nodes.as_slice(), &mut leaders)?;
+        let guide = Guide {
+            driver,
+            slot,
+            leaders,
+            proposal: None,
+        };
+        Ok(Nominator {
+            guide,
+            state: State::new(alloc, me, local)?,
+            nodes,
+            rounds: 1,
+            failed: false,
+        })
+    }
+
+    /// This node proposes the value; the first proposal is kept, and a later one changes nothing. Refused by `Failed` once a
+    /// call was refused, else by `NoMemory`.
+    pub fn propose(&mut self, value: Value) -> Result<Nominated, Fault>
+        requires sound { IsSound D.level D.place self.old }
+        ensures advances { IfOk result (λ given. Advances (D.combined (driver_of self.old) (nomination self.old).slot) (own (nomination self.old)) (nomination self.old).lists (nomination self.new) given) }
+        ensures proposal { OnOk result ((nomination self.new).proposal ≡ first_of (nomination self.old).proposal value) }
+        ensures later { OnOk result (IsSome (nomination self.old).proposal → self.new ≡ self.old) }
+        ensures rounds { OnOk result ((nomination self.new).rounds ≡ (nomination self.old).rounds) }
+        ensures others { OnOk result (KeepsOthers (nomination self.old).board (nomination self.new).board) }
+        ensures making { OnOk result (KeepsMaking (nomination self.old) (nomination self.new)) }
+        ensures driver { OnOk result (driver_of self.new ≡ driver_of self.old) }
+        ensures paid { OnOk result (IsPaid D.level D.place self.new) }
+        ensures refused { IfErr result (λ f. ((f ≡ Fault.Failed) × ((nomination self.old).failed ≡ true)) ⊎ ((f ≡ Fault.NoMemory) × ((nomination self.old).failed ≡ false))) }
+        ensures working { OnOk result (((nomination self.old).failed ≡ false) × ((nomination self.new).failed ≡ false)) }
+        ensures failed { OnErr result ((nomination self.new).failed ≡ true) }
+        ensures sound { IsSound D.level D.place self.new }
+    {
+        if self.failed {
+            return Err(Fault::Failed);
+        }
+        if self.guide.proposal.is_some() {
+            return Ok(nothing());
+        }
+        self.failed = true;
+        self.guide.proposal = Some(value);
+        let given = self.state.advance(&self.guide)?;
+        self.failed = false;
+        Ok(given)
+    }
+
+    /// Another node's fresh NOMINATE, with the quorum set that was delivered with it. Refused by `Failed` once a call was
+    /// refused, else by `NoMemory`.
+    pub fn take(&mut self, envelope: Envelope, delivered: Arc<SaneSet>) -> Result<Nominated, Fault>
+        requires sound { IsSound D.level D.place self.old }
+        requires nominate { kind_of_pledges envelope.statement.pledges ≡ Nomination }
+        requires other { envelope.statement.node ≢ (nomination self.old).board.me }
+        ensures advances { IfOk result (λ given. Advances (D.combined (driver_of self.old) (nomination self.old).slot) (own (nomination self.old)) (nomination self.old).lists (nomination self.new) given) }
+        ensures proposal { OnOk result ((nomination self.new).proposal ≡ (nomination self.old).proposal) }
+        ensures rounds { OnOk result ((nomination self.new).rounds ≡ (nomination self.old).rounds) }
+        ensures others { OnOk result (Hears (nomination self.old).board (nomination self.new).board envelope.statement.node envelope.statement.pledges (counted_of_other envelope.statement.node envelope.statement.pledges delivered.value)) }
+        ensures making { OnOk result (KeepsMaking (nomination self.old) (nomination self.new)) }
+        ensures driver { OnOk result (driver_of self.new ≡ driver_of self.old) }
+        ensures paid { OnOk result (IsPaid D.level D.place self.new) }
+        ensures refused { IfErr result (λ f. ((f ≡ Fault.Failed) × ((nomination self.old).failed ≡ true)) ⊎ ((f ≡ Fault.NoMemory) × ((nomination self.old).failed ≡ false))) }
+        ensures working { OnOk result (((nomination self.old).failed ≡ false) × ((nomination self.new).failed ≡ false)) }
+        ensures failed { OnErr result ((nomination self.new).failed ≡ true) }
+        ensures sound { IsSound D.level D.place self.new }
+    {
+        if self.failed {
+            return Err(Fault::Failed);
+        }
+        self.failed = true;
+        self.state.hear(&self.guide, envelope, delivered)?;
+        let given = self.state.advance(&self.guide)?;
+        self.failed = false;
+        Ok(given)
+    }
+
+    /// Adds one round and its leader, up to as many rounds as there are nodes that lead in turn; beyond that nothing changes.
+    /// Refused by `Failed` once a call was refused, else by `NoMemory`.
+    pub fn round(&mut self) -> Result<Nominated, Fault>
+        requires sound { IsSound D.level D.place self.old }
+        ensures advances { IfOk result (λ given. Advances (D.combined (driver_of self.old) (nomination self.old).slot) (own (nomination self.old)) (nomination self.old).lists (nomination self.new) given) }
+        ensures proposal { OnOk result ((nomination self.new).proposal ≡ (nomination self.old).proposal) }
+        ensures more { OnOk result ((nomination self.old).rounds < length (nomination self.old).nodes → (nomination self.new).rounds ≡ (nomination self.old).rounds + 1) }
+        ensures beyond { OnOk result (length (nomination self.old).nodes ≤ (nomination self.old).rounds → self.new ≡ self.old) }
+        ensures others { OnOk result (KeepsOthers (nomination self.old).board (nomination self.new).board) }
+        ensures making { OnOk result (KeepsMaking (nomination self.old) (nomination self.new)) }
+        ensures driver { OnOk result (driver_of self.new ≡ driver_of self.old) }
+        ensures paid { OnOk result (IsPaid D.level D.place self.new) }
+        ensures refused { IfErr result (λ f. ((f ≡ Fault.Failed) × ((nomination self.old).failed ≡ true)) ⊎ ((f ≡ Fault.NoMemory) × ((nomination self.old).failed ≡ false))) }
+        ensures working { OnOk result (((nomination self.old).failed ≡ false) × ((nomination self.new).failed ≡ false)) }
+        ensures failed { OnErr result ((nomination self.new).failed ≡ true) }
+        ensures sound { IsSound D.level D.place self.new }
+    {
+        if self.failed {
+            return Err(Fault::Failed);
+        }
+        if self.rounds >= self.nodes.len() as u64 {
+            return Ok(nothing());
+        }
+        self.failed = true;
+        self.rounds += 1;
+        let nodes = self.nodes.as_slice();
+        let guide = &mut self.guide;
+        add_leader(
+            &guide.driver,
+            guide.slot,
+            self.rounds,
+            nodes,
+            &mut guide.leaders,
+        )?;
+        let given = self.state.advance(&self.guide)?;
+        self.failed = false;
+        Ok(given)
+    }
+}
+
+/// Neither a statement nor a composite.
+fn nothing() -> Nominated
+    ensures statement { result.statement ≡ None }
+    ensures composite { result.composite ≡ None }
+{
+    Nominated {
+        statement: None,
+        composite: None,
+    }
+}
