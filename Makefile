@@ -1,13 +1,17 @@
 # What the README names. `rt` is the toolchain's command.
 SCRIPT ?= examples/first_record.scp
 
-.PHONY: run test check try bench wrong-bodies
+.PHONY: run build test check try bench wrong-bodies
 
-# proves and builds what the program stands on, and prints the report of the first script
+# prints the report of the first script, on an unproved build, within two minutes
 run:
-	@scripts/program run < examples/first_record.scp
+	@scripts/run
 
-# the whole gate, then every script under examples/ against its stored report, and the calls of examples/*.calls
+# proves and builds what the program stands on, and leaves it as out/scp_line
+build:
+	@scripts/build
+
+# the whole gate: the edits, every proof, the tests, then every script under examples/ against its stored report, and the calls of examples/*.calls
 test:
 	@scripts/gate
 
@@ -15,13 +19,13 @@ test:
 check:
 	@rt all check
 
-# runs a script unproved, in seconds
+# runs a script unproved: make try SCRIPT=FILE
 try:
-	@cd crates/scp_line_cli && rt try -- run < ../../$(SCRIPT)
+	@scripts/run $(SCRIPT)
 
-# the wrong bodies that the gate doesn't try, to shorten it: the prover must refuse each
+# the wrong bodies that the gate doesn't try, of all crates or of some: make wrong-bodies CRATE="scp_kv scp_wire"
 wrong-bodies:
-	@scripts/wrong-bodies
+	@scripts/wrong-bodies $(CRATE)
 
 # counts, growth and memory of each workload
 bench:
