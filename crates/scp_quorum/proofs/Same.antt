@@ -2,12 +2,13 @@
 use Rattle.std.proofs.Common.{◌≡◌, ℕ, zero, suc, ◌+◌, ◌%◌, ◌<◌, ◌≤◌, List, [], ◌∷◌, length, get_or, take, replicate, max, refl, sym, ◌∙◌, ap, subst, arith, bit_or}
 use Rattle.std.specs.List.{AllByRecursion}
 use Rattle.std.specs.Int.{bit_at}
-use Rattle.std.specs.Int.Bits.{bit_xor}
+use Rattle.std.specs.Int.Bits.{bit_xor, xor_self}
 use Rattle.std.specs.Simd.Lanes.{zip2}
 use Rattle.std.proofs.lemmas.Grind.{common_steps}
 use Rattle.std.proofs.lemmas.List.{take_more_same}
 use Rattle.std.proofs.lemmas.Nat.Bits.{bit_at_or, bit_at_xor, bit_at-zero, bit_at-lt, same_from_bits}
 use Rattle.scp_types.specs.declared.names.NodeId.{NodeId}
+use Rattle.scp_xdr.specs.Tree.{Trees, no_trees, tree_then, Tree, in_a_row}
 use Rattle.scp_quorum.specs.QuorumTree.{QuorumTree}
 use Rattle.scp_quorum.proofs.Whole.{made}
 
@@ -70,5 +71,39 @@ same_all us mine theirs i h k same is =
     let equal : take i mine ≡ take i theirs = same none in
     grind (arith, common_steps, equal)
 
+zeros_added : (n : ℕ) (vs : List ℕ) → length vs ≡ n → with_unequal (replicate n 0) vs vs ≡ replicate n 0
+zeros_added zero vs k = refl
+zeros_added (suc n) (v ∷ vs) k = rw (xor_self v, zeros_added n vs (omega (arith, k))) refl
+zeros_added (suc n) [] k = absurd (omega (arith, k))
+
+-- every byte stays zero where equal bytes are added
+pub zeros_more : (n : ℕ) (vs ws : List ℕ) → length vs ≡ n → vs ≡ ws → with_unequal (replicate n 0) vs ws ≡ replicate n 0
+zeros_more n vs ws k e = subst (λ (bytes : List ℕ). with_unequal (replicate n 0) vs bytes ≡ replicate n 0) e (zeros_added n vs k)
+
+-- equal lists leave all 32 bytes zero
+abbrev pub ZeroIfSame : List ℕ → List NodeId → List NodeId → Type 0
+ZeroIfSame us mine theirs = mine ≡ theirs → us ≡ replicate 32 0
+
+pub zero_more : (us vs ws : List ℕ) (mine theirs : List NodeId) (i : ℕ) → vs ≡ (get_or mine i no_node).0 → ws ≡ (get_or theirs i no_node).0 → length vs ≡ 32 → ZeroIfSame us mine theirs → ZeroIfSame (with_unequal us vs ws) mine theirs
+zero_more us vs ws mine theirs i v w k before same =
+    let bytes : vs ≡ ws = v ∙ ap (λ (nodes : List NodeId). (get_or nodes i no_node).0) same ∙ sym w in
+    ap (λ (old : List ℕ). with_unequal old vs ws) (before same) ∙ zeros_more 32 vs ws k bytes
+
 pub same_made : (k l : ℕ) (vs ws : List NodeId) (qs rs : List QuorumTree) → k ≡ l → vs ≡ ws → qs ≡ rs → made k vs qs ≡ made l ws rs
 same_made k l vs ws qs rs e f g = rw (e, f, g) refl
+
+list_of_row : {X : Type 0} → Trees X → List (Tree X)
+list_of_row no_trees = []
+list_of_row (tree_then x inner others) = record { head = x; inner = inner } ∷ list_of_row others
+
+list_of_row-in_a_row : {X : Type 0} (ts : List (Tree X)) → list_of_row (in_a_row ts) ≡ ts
+unfolding list_of_row
+list_of_row-in_a_row [] = refl
+list_of_row-in_a_row {X} (t ∷ ts) = ap (λ (others : List (Tree X)). t ∷ others) (list_of_row-in_a_row ts)
+
+-- equal sets have equal parts
+pub made_parts : (k l : ℕ) (vs ws : List NodeId) (qs rs : List QuorumTree) → made k vs qs ≡ made l ws rs → (k ≡ l) × (vs ≡ ws) × (qs ≡ rs)
+made_parts k l vs ws qs rs e =
+    let rows : in_a_row qs ≡ in_a_row rs = ap (λ (q : QuorumTree). q.inner) e in
+    let inner : qs ≡ rs = sym (list_of_row-in_a_row qs) ∙ ap list_of_row rows ∙ list_of_row-in_a_row rs in
+    (ap (λ (q : QuorumTree). q.head.threshold) e, ap (λ (q : QuorumTree). q.head.validators) e, inner)

@@ -1,4 +1,5 @@
 ghost use Rattle.std.specs.Prelude.{◌≡◌, ◌⊎◌, [], ◌∷◌, IfOk, IfErr, IsOkUnless};
+ghost use Rattle.std.specs.Bool.{OnFalse, OnTrue};
 ghost use Rattle.scp_xdr.specs.Tree.{no_trees};
 ghost use Rattle.scp_quorum.specs.Sane.{IsSane};
 ghost use Rattle.scp_quorum.specs.QuorumKind.{set_spelling};
@@ -72,6 +73,15 @@ impl SaneSet {
         ensures { result.0 ≡ sha256 (set_spelling self.now) }
     {
         self.hash
+    }
+
+    /// Whether the sets are equal: the same thresholds, and the same entries in the same order. The hashes are compared
+    /// first, and where they are equal the whole of both, since one hash alone doesn't show it.
+    pub fn is_same(&self, other: &SaneSet) -> bool
+        ensures equal { OnTrue result (self.now ≡ other.now) }
+        ensures different { OnFalse result (self.now ≡ other.now → ⊥) }
+    {
+        self.hash == other.hash && self.set.is_same(&other.set)
     }
 
     /// The quorum set.

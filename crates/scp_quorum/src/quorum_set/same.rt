@@ -1,6 +1,6 @@
 //! Whether two quorum sets are equal, and whether one begins with given nodes.
 ghost use Rattle.std.specs.Prelude.{◌≡◌, length, take};
-ghost use Rattle.std.specs.Bool.{OnTrue};
+ghost use Rattle.std.specs.Bool.{OnFalse, OnTrue};
 
 use super::QuorumSet;
 use scp_types::NodeId;
@@ -9,7 +9,8 @@ use std::simd::prelude::*;
 impl QuorumSet {
     /// Whether the sets have the same threshold and the same entries in the same order.
     pub(crate) fn is_same(&self, other: &QuorumSet) -> bool
-        ensures { OnTrue result (self.now ≡ other.now) }
+        ensures equal { OnTrue result (self.now ≡ other.now) }
+        ensures different { OnFalse result (self.now ≡ other.now → ⊥) }
     {
         let mine = self.inner_sets.as_slice();
         let theirs = other.inner_sets.as_slice();
@@ -41,7 +42,8 @@ impl QuorumSet {
 /// Whether the lists are equal. Goes over all nodes with no branch between, which costs half of what
 /// `==` does: whoever asks expects them to be equal.
 fn are_same_nodes(mine: &[NodeId], theirs: &[NodeId]) -> bool
-    ensures { OnTrue result (mine.now ≡ theirs.now) }
+    ensures equal { OnTrue result (mine.now ≡ theirs.now) }
+    ensures different { OnFalse result (mine.now ≡ theirs.now → ⊥) }
 {
     if mine.len() != theirs.len() {
         return false;
