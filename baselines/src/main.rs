@@ -7,6 +7,7 @@ mod quorum;
 mod script;
 mod sha256;
 mod types;
+mod votes;
 mod wire;
 mod xdr;
 
@@ -196,7 +197,7 @@ fn play_scripts(size: u32) -> Result<String, Fault> {
 fn main() -> ExitCode {
     let words: Vec<String> = std::env::args().collect();
     let [_, workload, size] = &words[..] else {
-        eprintln!("usage: plain decode|records|envelopes|script SIZE");
+        eprintln!("usage: plain decode|records|envelopes|script|votes-one|votes-each SIZE");
         return ExitCode::from(2);
     };
     let Ok(size) = size.parse() else {
@@ -207,6 +208,8 @@ fn main() -> ExitCode {
         "records" => hear_records(size),
         "envelopes" => hear_envelopes(size),
         "script" => play_scripts(size),
+        "votes-one" => votes::count_votes(votes::Sharing::One, size),
+        "votes-each" => votes::count_votes(votes::Sharing::Each, size),
         // The report of one script, for comparing.
         "report" => {
             let mut report = Vec::new();

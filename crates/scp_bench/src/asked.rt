@@ -1,4 +1,5 @@
 use crate::quorum::Shape;
+use crate::votes::Sharing;
 use crate::workload::{SMALL, Workload};
 use clap::error::ErrorKind;
 use clap::{Arg, ArgAction, Command, Error};
@@ -16,7 +17,7 @@ pub enum Asked {
     Usage,
 }
 
-static WORKLOADS: [&str; 8] = [
+static WORKLOADS: [&str; 10] = [
     "decode",
     "records",
     "envelopes",
@@ -25,6 +26,8 @@ static WORKLOADS: [&str; 8] = [
     "quorum-own",
     "quorum-chain",
     "quorum-missing",
+    "votes-one",
+    "votes-each",
 ];
 
 fn command<'a>(alloc: Global) -> Result<Command<'a>, AllocError> {
@@ -54,6 +57,8 @@ fn one(name: &str, size: Option<&str>) -> Asked {
         "quorum-own" => Workload::Quorum(Shape::Own),
         "quorum-chain" => Workload::Quorum(Shape::Chain),
         "quorum-missing" => Workload::Quorum(Shape::Missing),
+        "votes-one" => Workload::Votes(Sharing::One),
+        "votes-each" => Workload::Votes(Sharing::Each),
         _ => return Asked::Usage,
     };
     match size_in(size) {

@@ -12,6 +12,7 @@ mod messages;
 mod quorum;
 mod records;
 mod script;
+mod votes;
 mod workload;
 
 use crate::asked::{Asked, read_words};
@@ -25,7 +26,7 @@ use std::{env, io};
 
 /// What is printed where no workload is asked for.
 const USAGE: &str =
-    "usage: scp_bench [decode|records|envelopes|script|quorum-shared|quorum-own|quorum-chain|quorum-missing [SIZE]]\n";
+    "usage: scp_bench [decode|records|envelopes|script|quorum-shared|quorum-own|quorum-chain|quorum-missing|votes-one|votes-each [SIZE]]\n";
 
 /// What is printed where there is no memory for a fault's line.
 const NO_MEMORY: &str = "out of memory\n";

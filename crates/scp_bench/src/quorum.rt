@@ -35,7 +35,7 @@ pub struct Quorums {
 type Sets = BTreeMap<NodeId, Arc<SaneSet>>;
 
 /// The node of this number.
-fn node(number: u32) -> NodeId {
+pub fn node(number: u32) -> NodeId {
     let [a, b, c, d] = number.to_be_bytes();
     let mut id = [0; 32];
     id[0] = a;
@@ -46,7 +46,7 @@ fn node(number: u32) -> NodeId {
 }
 
 /// A set of so many of these nodes, which are as many as `len` from the first on, in a ring of `ring` nodes.
-fn set_of(
+pub fn set_of(
     alloc: Global,
     threshold: u32,
     first: u32,
@@ -66,7 +66,7 @@ fn set_of(
 }
 
 /// Two thirds, and one more.
-fn two_thirds(nodes: u32) -> u32 {
+pub fn two_thirds(nodes: u32) -> u32 {
     nodes - nodes / 3
 }
 

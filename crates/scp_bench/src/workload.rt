@@ -3,6 +3,7 @@ use crate::envelopes::{Judged, hear_envelopes};
 use crate::quorum::{Quorums, Shape, find_quorums};
 use crate::records::{Ledgers, hear_records};
 use crate::script::{Played, play_scripts};
+use crate::votes::{Sharing, Votes, count_votes};
 use scp_line::{ReportOut, write_text};
 use scp_types::Fault;
 use std::alloc::Global;
@@ -26,6 +27,8 @@ pub enum Workload {
     Script,
     /// The greatest quorum is asked for, 1,000 times.
     Quorum(Shape),
+    /// Claims are tested on a voting board.
+    Votes(Sharing),
 }
 
 /// The name of the workload that has this shape.
@@ -49,6 +52,24 @@ fn tell_quorums(alloc: Global, shape: Shape, size: u32, text: &mut String) -> Re
     writeln!(
         text,
         "{name} {size}: calls {calls} found {found} members {members}"
+    )?;
+    Ok(())
+}
+
+/// Tests claims, and adds what was answered.
+fn tell_votes(alloc: Global, sharing: Sharing, size: u32, text: &mut String) -> Result<(), Fault> {
+    let name = match sharing {
+        Sharing::One => "votes-one",
+        Sharing::Each => "votes-each",
+    };
+    let Votes {
+        asked,
+        accepted,
+        confirmed,
+    } = count_votes(alloc, sharing, size)?;
+    writeln!(
+        text,
+        "{name} {size}: asked {asked} accepted {accepted} confirmed {confirmed}"
     )?;
     Ok(())
 }
@@ -105,6 +126,7 @@ fn run(alloc: Global, workload: Workload, size: u32) -> Result<String, Fault> {
             )?;
         }
         Workload::Quorum(shape) => tell_quorums(alloc, shape, size, &mut text)?,
+        Workload::Votes(sharing) => tell_votes(alloc, sharing, size, &mut text)?,
     }
     Ok(text)
 }
@@ -128,6 +150,9 @@ pub fn write_all<W: ReportOut>(alloc: Global, writer: &mut W) -> Result<(), Faul
     write_one(alloc, Workload::Script, SMALL, writer)?;
     for shape in [Shape::Shared, Shape::Own, Shape::Chain, Shape::Missing] {
         write_one(alloc, Workload::Quorum(shape), FEW, writer)?;
+    }
+    for sharing in [Sharing::One, Sharing::Each] {
+        write_one(alloc, Workload::Votes(sharing), FEW, writer)?;
     }
     Ok(())
 }

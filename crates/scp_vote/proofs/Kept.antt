@@ -12,8 +12,8 @@ use Rattle.scp_vote.proofs.Putting.{keeps_own}
 
 -- of this node's own statements the local set is counted
 pub board_keeps : (b : Board) (kind : StatementKind) → KeepsOwn (seen kind b)
-board_keeps b Nomination = keeps_own b.me b.local.value b.nominations b.own_nomination
-board_keeps b Balloting = keeps_own b.me b.local.value b.ballots b.own_ballot
+board_keeps b Nomination = keeps_own b.me b.local.value b.nominations.entries b.own_nomination
+board_keeps b Balloting = keeps_own b.me b.local.value b.ballots.entries b.own_ballot
 
 -- of both kinds
 pub by_kind : (P : StatementKind → Type 0) → P Nomination → P Balloting → (kind : StatementKind) → P kind

@@ -4,3 +4,4 @@ pub mod Picking
 pub mod Picked
 pub mod Putting
 pub mod Kept
+pub mod Seating

@@ -1,10 +1,7 @@
 -- A quorum among the picked sets is a quorum of the board among the nodes that were picked.
-use Rattle.std.proofs.Common.{◌≡◌, Bool, true, false, Option, Some, None, Result, Ok, Err, IfOk, IfSome, IfNone, IsSome, IsSomeAnd, IsTrue, ◌↔◌, refl, sym, subst, ◌∙◌}
+use Rattle.std.proofs.Common.{◌≡◌, Bool, true, false, Option, Some, None, IsSome, IsSomeAnd, IsTrue, ◌↔◌, refl, sym, subst, ◌∙◌}
 use Rattle.std.specs.Option.{ForSome, option_map}
-use Rattle.std.specs.BTreeSet.{BTreeSet}
 use Rattle.scp_types.specs.declared.names.NodeId.{NodeId}
-use Rattle.scp_types.specs.declared.fault.Fault.{Fault}
-use Rattle.scp_quorum.specs.NodeSet.{is_in}
 use Rattle.scp_quorum.specs.QuorumTree.{QuorumTree}
 use Rattle.scp_quorum.specs.Satisfies.{Satisfies, Blocks}
 use Rattle.scp_quorum.specs.Quorum.{IsQuorum, IsGreatestQuorum, HasNoQuorum}
@@ -39,26 +36,15 @@ module _ (b : Seen) (P : Pledges → Type 0) (nodes : NodeId → Bool) (picked :
           subst Q (sym (picks.complete v ((picked v).1 (all v has)))) (quorum.satisfied v has);
     }
 
-    greatest_picked : (us : NodeId → Bool) → IsGreatestQuorum sets b.me us → IsGreatestWhere b P us
+    pub greatest_picked : (us : NodeId → Bool) → IsGreatestQuorum sets b.me us → IsGreatestWhere b P us
     greatest_picked us greatest = record {
       quorum = to_quorum us greatest.quorum;
       all_have = λ v has. (picked v).0 (picks.sound v (there (sets v) (Satisfies us) (greatest.quorum.satisfied v has)));
       others = λ others quorum all. greatest.others others (from_quorum others quorum all);
     }
 
-    none_picked : HasNoQuorum sets b.me → HasQuorumOf b P → ⊥
+    pub none_picked : HasNoQuorum sets b.me → HasQuorumOf b P → ⊥
     none_picked none (us, quorum, all) = none us (from_quorum us quorum all)
-
-    pub found_where : (r : Result (Option (BTreeSet NodeId)) Fault)
-        → IfOk r (λ found. IfSome found (λ us. IsGreatestQuorum sets b.me (is_in us))) → IfOk r (λ found. IfSome found (λ us. IsGreatestWhere b P (is_in us)))
-    found_where (Err e) h = h
-    found_where (Ok None) h = h
-    found_where (Ok (Some us)) h = greatest_picked (is_in us) h
-
-    pub none_where : (r : Result (Option (BTreeSet NodeId)) Fault) → IfOk r (λ found. IfNone found (HasNoQuorum sets b.me)) → IfOk r (λ found. IfNone found (HasQuorumOf b P → ⊥))
-    none_where (Err e) h = h
-    none_where (Ok None) h = none_picked h
-    none_where (Ok (Some us)) h = h
 
   -- where the nodes don't satisfy the local set, no quorum at this node is among them
   pub refused : ForSome (b.counted b.me) (λ q. q ≡ b.local) → (Satisfies nodes b.local → ⊥) → HasQuorumOf b P → ⊥

@@ -1,5 +1,5 @@
 -- Putting a statement on the board.
-use Rattle.std.proofs.Common.{◌≡◌, List, Bool, true, false, cond, Option, Some, None, Result, Ok, Err, OnOk, OnErr, refl, sym, ◌∙◌, ap, subst}
+use Rattle.std.proofs.Common.{◌≡◌, ℕ, List, Bool, true, false, cond, Option, Some, None, Result, Ok, Err, OnOk, OnErr, refl, sym, ◌∙◌, ap, subst}
 use Rattle.std.specs.Map.{lookup}
 use Rattle.std.specs.Option.{ForSome, option_map}
 use Rattle.std.specs.BTreeMap as node_map
@@ -11,6 +11,8 @@ use Rattle.scp_vote.specs.declared.statements.Entry.{Entry}
 use Rattle.scp_vote.specs.Board.{Seen, IsCounted, Puts, PutsCounted, KeepsOwn}
 use Rattle.scp_vote.specs.Statements.{seen_in, Enters}
 use Rattle.scp_envelope.specs.declared.statement.Pledges.{Pledges}
+use Rattle.scp_envelope.specs.declared.statement.Envelope.{Envelope}
+use Rattle.scp_vote.specs.Seats.{Shared}
 use Rattle.scp_vote.proofs.Chain.{same_at}
 
 put_keeps : (t : Bool) (x : Entry) (o n : Option Entry) (l : QuorumTree) → n ≡ cond t (Some x) o → (t ≡ true → x.counted.value ≡ l) → ForSome o (λ e. e.counted.value ≡ l) → ForSome n (λ e. e.counted.value ≡ l)
@@ -44,10 +46,14 @@ module _ (me : NodeId) (local : QuorumTree) (old : BTreeMap NodeId Entry) where
       };
     }
 
-    -- the same after a call, whether it had memory or not
-    pub own_set_after : {T E : Type 0} (r : Result T E) → OnOk r (Enters old new e) → OnErr r (new.entries ≡ old.entries) → OwnSet me local old → OwnSet me local new
-    own_set_after (Ok x) entered refused own y f = own_set_stays entered own y f
-    own_set_after (Err x) entered refused own y f = own y (ap (λ es. lookup (is_at (node_cmp me)) es) (sym refused) ∙ f)
+  -- the same where the node's seat isn't known
+  module _ (new : BTreeMap NodeId Entry) (x : Envelope) (shared : Shared) (delivered : QuorumTree) (counted : IsCounted (seen_in me local old) x.statement.node x.statement.pledges delivered shared.value) where
+    pub own_set_put : {T E : Type 0} (r : Result T E) → OnOk r ((place : ℕ) × Enters old new (record { envelope = x; counted = shared; place = place })) → OnErr r (new.entries ≡ old.entries) → OwnSet me local old → OwnSet me local new
+    own_set_put (Ok y) entered refused own e f = own_set_stays new (record { envelope = x; counted = shared; place = entered.0 }) delivered counted entered.1 own e f
+    own_set_put (Err y) entered refused own e f = own e (ap (λ es. lookup (is_at (node_cmp me)) es) (sym refused) ∙ f)
+
+    pub put_counted : (place : ℕ) × Enters old new (record { envelope = x; counted = shared; place = place }) → PutsCounted (seen_in me local old) (seen_in me local new) x.statement.node x.statement.pledges delivered
+    put_counted entered = puts_counted new (record { envelope = x; counted = shared; place = entered.0 }) delivered counted entered.1
 
   -- the same entries are seen the same
   pub same_seen : (new : BTreeMap NodeId Entry) → new.entries ≡ old.entries → seen_in me local new ≡ seen_in me local old

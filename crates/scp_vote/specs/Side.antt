@@ -4,4 +4,4 @@ use Rattle.scp_vote.specs.Board.{Seen}
 use Rattle.scp_vote.specs.Statements.{seen_in}
 
 abbrev pub side : Side → Seen
-side s = seen_in s.me s.local.now.value s.entries.now
+side s = seen_in s.me s.local.now.value s.table.now.entries

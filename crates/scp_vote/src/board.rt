@@ -1,14 +1,16 @@
 //! The voting board: each node's newest statement of each kind, and which claims are accepted and confirmed on it.
-ghost use Rattle.std.specs.Prelude.{◌≡◌, ◌≢◌, ◌↔◌, IsTrue, IfOk, IfSome, IfNone, OnOk, OnErr, IsOkUnless, Option};
+ghost use Rattle.std.specs.Prelude.{◌≡◌, ◌≢◌, ◌↔◌, IsTrue, IfOk, IfSome, IfNone, OnOk, OnErr, IsOkUnless, Option, Some, None, cond};
 ghost use Rattle.std.specs.Option.{option_map, ForSome};
 ghost use Rattle.std.specs.BTreeMap as node_map;
+ghost use Rattle.std.specs.BTreeMap.{is_at};
 ghost use Rattle.scp_types.specs.declared.names.NodeId.{NodeId};
 ghost use Rattle.scp_quorum.specs.NodeSet.{is_in, node_cmp};
 ghost use Rattle.scp_vote.specs.Board.{kind_of, kind_of_pledges, Accepted, Confirmed, Certificate, PutsCounted, IsNewBoard, KeepsOwn};
 ghost use Rattle.scp_vote.specs.declared.claim.StatementKind.{StatementKind};
 
 use crate::claim::{Claim, StatementKind, kind_of_pledges};
-use crate::statements::{Entry, Side, enter};
+use crate::statements::{Entry, Side};
+use crate::table::Table;
 use scp_envelope::Envelope;
 use scp_quorum::SaneSet;
 use scp_types::{Fault, NodeId};
@@ -23,27 +25,28 @@ pub struct Board {
     alloc: Global,
     me: NodeId,
     local: Arc<SaneSet>,
-    nominations: BTreeMap<NodeId, Entry>,
-    ballots: BTreeMap<NodeId, Entry>,
-    pub ghost own_nomination: { ForSome (node_map.get node_cmp nominations me) (λ e. e.counted.value ≡ local.value) },
-    pub ghost own_ballot: { ForSome (node_map.get node_cmp ballots me) (λ e. e.counted.value ≡ local.value) },
+    nominations: Table,
+    ballots: Table,
+    pub ghost own_nomination: { ForSome (node_map.get node_cmp nominations.entries me) (λ e. e.counted.value ≡ local.value) },
+    pub ghost own_ballot: { ForSome (node_map.get node_cmp ballots.entries me) (λ e. e.counted.value ≡ local.value) },
 }
 
 impl Board {
-    ghost use Rattle.scp_vote.specs.Seen.{seen};
+    ghost use Rattle.scp_vote.specs.Seen.{seen, envelope_at};
     ghost use Rattle.scp_vote.specs.Side.{side};
     ghost use Rattle.scp_vote.specs.Statements.{seen_in};
 
     /// A board without statements, of this node and its set.
     pub fn new(alloc: Global, me: NodeId, local: Arc<SaneSet>) -> Board
         ensures empty { (kind : StatementKind) → IsNewBoard me local.value (seen kind result) }
+        ensures no_envelope { (kind : StatementKind) (v : NodeId) → envelope_at kind result v ≡ None }
     {
         Board {
             alloc,
             me,
             local,
-            nominations: BTreeMap::new(alloc),
-            ballots: BTreeMap::new(alloc),
+            nominations: Table::new(alloc),
+            ballots: Table::new(alloc),
         }
     }
 
@@ -54,13 +57,17 @@ impl Board {
         ensures put { OnOk result (PutsCounted (seen (kind_of_pledges envelope.statement.pledges) self.old) (seen (kind_of_pledges envelope.statement.pledges) self.new) envelope.statement.node envelope.statement.pledges delivered.value) }
         ensures other_kind { (kind : StatementKind) → kind ≢ kind_of_pledges envelope.statement.pledges → seen kind self.new ≡ seen kind self.old }
         ensures refused { OnErr result ((kind : StatementKind) → seen kind self.new ≡ seen kind self.old) }
+        ensures envelope { OnOk result ((v : NodeId) → envelope_at (kind_of_pledges envelope.statement.pledges) self.new v ≡ cond (is_at (node_cmp envelope.statement.node) v) (Some envelope) (envelope_at (kind_of_pledges envelope.statement.pledges) self.old v)) }
+        ensures other_envelopes { (kind : StatementKind) → kind ≢ kind_of_pledges envelope.statement.pledges → (v : NodeId) → envelope_at kind self.new v ≡ envelope_at kind self.old v }
+        ensures envelopes_stay { OnErr result ((kind : StatementKind) (v : NodeId) → envelope_at kind self.new v ≡ envelope_at kind self.old v) }
         ensures only_memory { IsOkUnless result Fault.NoMemory }
     {
         let kind = kind_of_pledges(&envelope.statement.pledges);
         let counted = self.of(kind).counted(&envelope, delivered)?;
+        let alloc = self.alloc;
         match kind {
-            StatementKind::Nomination => enter(&mut self.nominations, envelope, counted)?,
-            StatementKind::Balloting => enter(&mut self.ballots, envelope, counted)?,
+            StatementKind::Nomination => self.nominations.put(alloc, envelope, counted)?,
+            StatementKind::Balloting => self.ballots.put(alloc, envelope, counted)?,
         }
         Ok(())
     }
@@ -96,6 +103,7 @@ impl Board {
     /// The node's newest statement of this kind.
     pub fn statement(&self, kind: StatementKind, node: &NodeId) -> Option<&Envelope>
         ensures pledges { option_map (λ e. e.now.statement.pledges) result ≡ (seen kind self.now).statement node.now }
+        ensures envelope { option_map (λ e. e.now) result ≡ envelope_at kind self.now node.now }
     {
         self.statements(kind).get(node).map(|entry| &entry.envelope)
     }
@@ -103,6 +111,7 @@ impl Board {
     /// This node's own newest statement of this kind.
     pub fn own(&self, kind: StatementKind) -> Option<&Envelope>
         ensures pledges { option_map (λ e. e.now.statement.pledges) result ≡ (seen kind self.now).statement (seen kind self.now).me }
+        ensures envelope { option_map (λ e. e.now) result ≡ envelope_at kind self.now (seen kind self.now).me }
     {
         self.statement(kind, &self.me)
     }
@@ -111,10 +120,11 @@ impl Board {
     pub fn statements(&self, kind: StatementKind) -> &BTreeMap<NodeId, Entry>
         ensures pledges { (v : NodeId) → option_map (λ e. e.envelope.statement.pledges) (node_map.get node_cmp result.now v) ≡ (seen kind self.now).statement v }
         ensures counted { (v : NodeId) → option_map (λ e. e.counted.value) (node_map.get node_cmp result.now v) ≡ (seen kind self.now).counted v }
+        ensures envelopes { (v : NodeId) → option_map (λ e. e.envelope) (node_map.get node_cmp result.now v) ≡ envelope_at kind self.now v }
     {
         match kind {
-            StatementKind::Nomination => &self.nominations,
-            StatementKind::Balloting => &self.ballots,
+            StatementKind::Nomination => &self.nominations.entries,
+            StatementKind::Balloting => &self.ballots.entries,
         }
     }
 
@@ -145,14 +155,14 @@ impl Board {
     }
 
     /// What is seen of these statements.
-    fn side<'a>(&'a self, entries: &'a BTreeMap<NodeId, Entry>) -> Side<'a>
-        ensures { side result ≡ seen_in self.now.me self.now.local.value entries.now }
+    fn side<'a>(&'a self, table: &'a Table) -> Side<'a>
+        ensures { side result ≡ seen_in self.now.me self.now.local.value table.now.entries }
     {
         Side {
             alloc: self.alloc,
             me: self.me,
             local: &self.local,
-            entries,
+            table,
         }
     }
 }

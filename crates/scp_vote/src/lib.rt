@@ -13,6 +13,7 @@
 mod board;
 mod claim;
 mod statements;
+mod table;
 
 pub use board::Board;
 pub use claim::{Claim, StatementKind, Support, kind_of_pledges, stands};

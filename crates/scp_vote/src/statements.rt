@@ -1,13 +1,13 @@
 //! Each node's newest statement of one kind, with the quorum set that is counted for it.
-ghost use Rattle.std.specs.Prelude.{◌≡◌, OnOk, OnErr};
-ghost use Rattle.scp_vote.specs.Statements.{Enters};
+ghost use Rattle.std.specs.Prelude.{◌≡◌, get_or, false};
 
 use crate::claim::{Claim, Support, stands};
+use crate::table::{Table, mark};
 use scp_envelope::{Envelope, Pledges};
-use scp_quorum::{SaneSet, blocked, greatest_quorum, satisfied};
+use scp_quorum::{Marked, Nodes, SaneSet, greatest_quorum_among};
 use scp_types::{Fault, NodeId};
 use std::alloc::{AllocError, Global};
-use std::collections::{BTreeMap, BTreeSet};
+use std::collections::BTreeSet;
 use std::sync::Arc;
 
 /// A node's statement with its counted set.
@@ -15,6 +15,8 @@ use std::sync::Arc;
 pub struct Entry {
     pub envelope: Envelope,
     pub counted: Arc<SaneSet>,
+    /// Where the node has its seat.
+    pub(crate) place: usize,
 }
 
 /// What is seen of the statements of one kind: each node's newest.
@@ -23,80 +25,121 @@ pub(crate) struct Side<'a> {
     pub(crate) alloc: Global,
     pub(crate) me: NodeId,
     pub(crate) local: &'a Arc<SaneSet>,
-    pub(crate) entries: &'a BTreeMap<NodeId, Entry>,
+    pub(crate) table: &'a Table,
+}
+
+/// Which seats are of nodes that stand by a claim.
+#[derive(Drop)]
+struct Standing {
+    supporting: Vec<bool>,
+    accepting: Vec<bool>,
 }
 
 impl Side<'_> {
-    ghost use Rattle.std.specs.Prelude.{◌≡◌, ◌↔◌, IsTrue, IfOk, IfSome, IfNone, OnOk, OnErr, None, IsOkUnless};
-    ghost use Rattle.std.specs.Option.{option_map};
+    ghost use Rattle.std.specs.Prelude.{◌≡◌, ◌↔◌, Bool, true, false, length, IsTrue, IfOk, IfSome, IfNone, IsOkUnless};
+    ghost use Rattle.std.specs.Bool.{OnFalse, OnTrue};
+    ghost use Rattle.scp_types.specs.declared.names.NodeId.{NodeId};
     ghost use Rattle.scp_quorum.specs.NodeSet.{is_in};
-    ghost use Rattle.scp_quorum.specs.Quorum.{set_of};
+    ghost use Rattle.scp_quorum.specs.Satisfies.{Blocks};
+    ghost use Rattle.scp_quorum.specs.Quorum.{IsGreatestQuorum, HasNoQuorum};
+    ghost use Rattle.scp_quorum.specs.Places.{marked, only};
     ghost use Rattle.scp_vote.specs.Claims.{Stands};
-    ghost use Rattle.scp_vote.specs.Board.{Has, HasQuorumOf, Accepted, Confirmed, IsGreatestWhere, PutsCounted, IsCounted, IsNewBoard, KeepsOwn};
-    ghost use Rattle.scp_vote.specs.Statements.{PicksNodes, PicksSets};
+    ghost use Rattle.scp_vote.specs.Board.{Has, Accepted, Confirmed, IsGreatestWhere, IsCounted, KeepsOwn};
+    ghost use Rattle.scp_vote.specs.Statements.{PicksNodes};
+    ghost use Rattle.scp_vote.specs.Seats.{place_in};
     ghost use Rattle.scp_vote.specs.Side.{side};
     ghost use Rattle.scp_vote.specs.declared.claim.Support.TheVariants.{VotesOrAccepts, Accepts};
 
-    /// Whether this node's own statement stands so by the claim.
-    fn own_stands(&self, support: Support, claim: &Claim) -> bool
-        ensures { IsTrue result ↔ Has (side self.now) (Stands support claim.now) self.now.me }
+    /// Marks for the seats, none of them marked.
+    fn no_marks(&self) -> Result<Vec<bool>, AllocError>
+        ensures none { IfOk result (λ marks. (v : NodeId) → marked (place_in self.now.table.now.entries) marks.items v ≡ false) }
+        ensures len { IfOk result (λ marks. length marks.items ≡ length self.now.table.now.seats.items) }
     {
-        match self.entries.get(&self.me) {
-            Some(entry) => stands(support, claim, &entry.envelope.statement),
-            None => false,
-        }
+        vec![in self.alloc; false; self.table.seats.len()]
     }
 
-    /// The nodes whose statement stands so by the claim.
-    fn nodes_where(&self, support: Support, claim: &Claim) -> Result<BTreeSet<NodeId>, AllocError>
-        ensures { IfOk result (λ nodes. PicksNodes (Has (side self.now) (Stands support claim.now)) (is_in nodes)) }
+    /// Which nodes vote for or accept the claim, and which accept it. Walks each statement once.
+    fn standing(&self, claim: &Claim) -> Result<Standing, AllocError>
+        ensures supporting { IfOk result (λ s. PicksNodes (Has (side self.now) (Stands VotesOrAccepts claim.now)) (marked (place_in self.now.table.now.entries) s.supporting.items)) }
+        ensures accepting { IfOk result (λ s. PicksNodes (Has (side self.now) (Stands Accepts claim.now)) (marked (place_in self.now.table.now.entries) s.accepting.items)) }
+    {
+        let mut supporting = self.no_marks()?;
+        let mut accepting = self.no_marks()?;
+        for (_, entry) in &self.table.entries {
+            let statement = &entry.envelope.statement;
+            let supports = stands(Support::VotesOrAccepts, claim, statement);
+            let accepts = stands(Support::Accepts, claim, statement);
+            mark(&mut supporting, entry.place, supports);
+            mark(&mut accepting, entry.place, accepts);
+        }
+        Ok(Standing {
+            supporting,
+            accepting,
+        })
+    }
+
+    /// Which nodes accept the claim. Walks each statement once.
+    fn accepting(&self, claim: &Claim) -> Result<Vec<bool>, AllocError>
+        ensures { IfOk result (λ marks. PicksNodes (Has (side self.now) (Stands Accepts claim.now)) (marked (place_in self.now.table.now.entries) marks.items)) }
+    {
+        let mut accepting = self.no_marks()?;
+        for (_, entry) in &self.table.entries {
+            let accepts = stands(Support::Accepts, claim, &entry.envelope.statement);
+            mark(&mut accepting, entry.place, accepts);
+        }
+        Ok(accepting)
+    }
+
+    /// Whether the marked nodes contain a quorum at this node: then just those of the greatest stay marked. Refused before any
+    /// group is looked at where this node isn't marked, or the marked nodes don't satisfy the local set.
+    fn has_quorum(&self, marks: &mut [bool]) -> Result<bool, Fault>
+        requires { KeepsOwn (side self.now) }
+        ensures found { IfOk result (λ yes. OnTrue yes (IsGreatestQuorum (only (marked (place_in self.now.table.now.entries) marks.old) (side self.now).counted) (side self.now).me (marked (place_in self.now.table.now.entries) marks.new))) }
+        ensures none { IfOk result (λ yes. OnFalse yes (HasNoQuorum (only (marked (place_in self.now.table.now.entries) marks.old) (side self.now).counted) (side self.now).me)) }
+        ensures len { length marks.new ≡ length marks.old }
+        ensures only_memory { IsOkUnless result Fault.NoMemory }
+    {
+        if !self.may_have_quorum(marks) {
+            return Ok(false);
+        }
+        let Table { seats, sets, .. } = self.table;
+        greatest_quorum_among(self.alloc, self.table, seats, sets, &self.me, marks)
+    }
+
+    /// Whether this node is marked, and the marked nodes satisfy the local set. A quorum at this node needs both.
+    fn may_have_quorum(&self, marks: &[bool]) -> bool
+        requires { KeepsOwn (side self.now) }
+        ensures { OnFalse result (HasNoQuorum (only (marked (place_in self.now.table.now.entries) marks.now) (side self.now).counted) (side self.now).me) }
+    {
+        let nodes = Marked {
+            places: self.table,
+            marks,
+        };
+        nodes.has(&self.me) && self.local.set().is_satisfied_by(&nodes)
+    }
+
+    /// Whether the marked nodes block the local set.
+    fn is_blocked_by(&self, marks: &[bool]) -> bool
+        ensures { IsTrue result ↔ Blocks (marked (place_in self.now.table.now.entries) marks.now) (side self.now).local }
+    {
+        let nodes = Marked {
+            places: self.table,
+            marks,
+        };
+        self.local.set().is_blocked_by(&nodes)
+    }
+
+    /// The nodes that are marked.
+    fn nodes_at(&self, marks: &[bool]) -> Result<BTreeSet<NodeId>, AllocError>
+        ensures { IfOk result (λ nodes. PicksNodes (λ v. marked (place_in self.now.table.now.entries) marks.now v ≡ true) (is_in nodes)) }
     {
         let mut nodes = BTreeSet::new(self.alloc);
-        for (node, entry) in self.entries {
-            if stands(support, claim, &entry.envelope.statement) {
+        for (node, entry) in &self.table.entries {
+            if is_marked(marks, entry.place) {
                 nodes.insert(*node)?;
             }
         }
         Ok(nodes)
-    }
-
-    /// The counted sets of these nodes.
-    fn sets_of(
-        &self,
-        nodes: &BTreeSet<NodeId>,
-    ) -> Result<BTreeMap<NodeId, Arc<SaneSet>>, AllocError>
-        ensures { IfOk result (λ sets. PicksSets (side self.now) (is_in nodes.now) (set_of sets)) }
-    {
-        let mut sets = BTreeMap::new(self.alloc);
-        for (node, entry) in self.entries {
-            if nodes.contains(node) {
-                sets.insert(*node, entry.counted.clone()?)?;
-            }
-        }
-        Ok(sets)
-    }
-
-    /// The union of the quorums at this node whose nodes stand so by the claim. Most claims are refused before any set is
-    /// looked at: where this node doesn't stand by it, or the nodes that do don't satisfy the local set.
-    fn quorum_where(
-        &self,
-        support: Support,
-        claim: &Claim,
-    ) -> Result<Option<BTreeSet<NodeId>>, Fault>
-        requires { KeepsOwn (side self.now) }
-        ensures found { IfOk result (λ found. IfSome found (λ nodes. IsGreatestWhere (side self.now) (Stands support claim.now) (is_in nodes))) }
-        ensures none { IfOk result (λ found. IfNone found (HasQuorumOf (side self.now) (Stands support claim.now) → ⊥)) }
-        ensures only_memory { IsOkUnless result Fault.NoMemory }
-    {
-        if !self.own_stands(support, claim) {
-            return Ok(None);
-        }
-        let nodes = self.nodes_where(support, claim)?;
-        if !satisfied(self.local.set(), &nodes) {
-            return Ok(None);
-        }
-        let sets = self.sets_of(&nodes)?;
-        greatest_quorum(self.alloc, self.me, &sets)
     }
 
     /// Whether the nodes that vote for or accept the claim contain a quorum at this node, or those that accept it block the
@@ -106,12 +149,11 @@ impl Side<'_> {
         ensures exact { IfOk result (λ yes. IsTrue yes ↔ Accepted (side self.now) claim.now) }
         ensures only_memory { IsOkUnless result Fault.NoMemory }
     {
-        let accepting = self.nodes_where(Support::Accepts, claim)?;
-        if blocked(self.local.set(), &accepting) {
+        let mut standing = self.standing(claim)?;
+        if self.is_blocked_by(&standing.accepting) {
             return Ok(true);
         }
-        let found = self.quorum_where(Support::VotesOrAccepts, claim)?;
-        Ok(found.is_some())
+        self.has_quorum(&mut standing.supporting)
     }
 
     /// Whether the nodes that accept the claim contain a quorum at this node (the SCP draft). The one refusal is
@@ -121,8 +163,8 @@ impl Side<'_> {
         ensures exact { IfOk result (λ yes. IsTrue yes ↔ Confirmed (side self.now) claim.now) }
         ensures only_memory { IsOkUnless result Fault.NoMemory }
     {
-        let confirming = self.quorum_where(Support::Accepts, claim)?;
-        Ok(confirming.is_some())
+        let mut accepting = self.accepting(claim)?;
+        self.has_quorum(&mut accepting)
     }
 
     /// The greatest quorum at this node inside the nodes that accept the claim; `None` exactly where it isn't confirmed. The
@@ -133,7 +175,11 @@ impl Side<'_> {
         ensures none { IfOk result (λ found. IfNone found (Confirmed (side self.now) claim.now → ⊥)) }
         ensures only_memory { IsOkUnless result Fault.NoMemory }
     {
-        self.quorum_where(Support::Accepts, claim)
+        let mut accepting = self.accepting(claim)?;
+        if !self.has_quorum(&mut accepting)? {
+            return Ok(None);
+        }
+        Ok(Some(self.nodes_at(&accepting)?))
     }
 
     /// The set that is counted for the envelope's node.
@@ -158,17 +204,9 @@ impl Side<'_> {
     }
 }
 
-/// Puts the envelope and its counted set in the place of its node's last.
-pub(crate) fn enter(
-    entries: &mut BTreeMap<NodeId, Entry>,
-    envelope: Envelope,
-    counted: Arc<SaneSet>,
-) -> Result<(), AllocError>
-    ensures entered { OnOk result (Enters entries.old entries.new (record { envelope = envelope; counted = counted })) }
-    ensures refused { OnErr result (entries.new.entries ≡ entries.old.entries) }
+/// Whether the place is marked.
+fn is_marked(marks: &[bool], place: usize) -> bool
+    ensures { result ≡ get_or marks.now place false }
 {
-    let node = envelope.statement.node;
-    let old = entries.insert(node, Entry { envelope, counted })?;
-    drop(old);
-    Ok(())
+    *marks.get(place).unwrap_or(&false)
 }

@@ -1,0 +1,39 @@
+use Rattle.std.proofs.Common.{◌≡◌, true, cond, set, take, drop, ◌++◌, length, Some, ap, ◌∙◌, subst}
+use Rattle.std.specs.BTreeMap as node_map
+use Rattle.std.specs.Map.Iter.{deref_pair}
+use Rattle.std.proofs.lemmas.Map.Views.{All-turn}
+use Rattle.scp_quorum.specs.NodeSet.{node_cmp}
+use Rattle.scp_quorum.specs.Places.{marked}
+use Rattle.scp_vote.specs.declared.claim.Support.TheVariants.{VotesOrAccepts, Accepts}
+use Rattle.scp_vote.specs.Claims.{Stands}
+use Rattle.scp_vote.specs.Board.{Has}
+use Rattle.scp_vote.specs.Seats.{place_in}
+use Rattle.scp_vote.specs.Side.{side}
+use Rattle.scp_vote.proofs.Picking.{Entries, IsPicking}
+use Rattle.scp_vote.proofs.Seating.{walk_step, written, marked_len}
+use Rattle.scp_vote.proofs.statements.Side.standing.Goals as goal
+
+pub loop-entry-preserved : goal.loop-entry-preserved
+loop-entry-preserved c =
+    let es = c.args.self.now.table.now.entries in
+    let item : node_map.get node_cmp es c.in-Some.field-0-0.now ≡ Some c.in-Some.entry.now =
+    All-turn deref_pair (λ e. node_map.get node_cmp es e.0 ≡ Some e.1) _ _ _ _ _ _ _ c.into_iter-entry-iterator.ensures.into_iter_gives.6 c.into_iter-entry-iterator.ensures.into_iter_gives.0 c.loop-entry.yielded_by c.in-Some.is c.next.ensures.steps
+    in
+    let supporting_now = take c.loop-entry.supporting.len (c.mark.new.marks ++ drop (length c.mark.new.marks) c.loop-entry.supporting.items) in
+    let supporting_same : supporting_now ≡ cond c.stands-supports.result (set c.loop-entry.supporting.items c.in-Some.entry.now.place true) c.loop-entry.supporting.items =
+    written c.loop-entry.supporting.len c.loop-entry.supporting.items c.deref_mut.result.now c.mark.new.marks c.deref_mut.ensures.value c.mark.ensures.len c.loop-entry.supporting.ok.0
+    ∙ c.mark.ensures.marked ∙ ap (λ m. cond c.stands-supports.result (set m c.in-Some.entry.now.place true) m) c.deref_mut.ensures.value
+    in
+    let supporting_before : Entries → Type 0 = λ rest. IsPicking (Has (side c.args.self.now) (Stands VotesOrAccepts c.args.claim.now)) (marked (place_in es) c.loop-entry.supporting.items) rest in
+    let accepting_now = take c.loop-entry.accepting.len (c.mark-in-loop-entry.new.marks ++ drop (length c.mark-in-loop-entry.new.marks) c.loop-entry.accepting.items) in
+    let accepting_same : accepting_now ≡ cond c.stands-accepts.result (set c.loop-entry.accepting.items c.in-Some.entry.now.place true) c.loop-entry.accepting.items =
+    written c.loop-entry.accepting.len c.loop-entry.accepting.items c.deref_mut-in-loop-entry.result.now c.mark-in-loop-entry.new.marks c.deref_mut-in-loop-entry.ensures.value c.mark-in-loop-entry.ensures.len c.loop-entry.accepting.ok.0
+    ∙ c.mark-in-loop-entry.ensures.marked ∙ ap (λ m. cond c.stands-accepts.result (set m c.in-Some.entry.now.place true) m) c.deref_mut-in-loop-entry.ensures.value
+    in
+    let accepting_before : Entries → Type 0 = λ rest. IsPicking (Has (side c.args.self.now) (Stands Accepts c.args.claim.now)) (marked (place_in es) c.loop-entry.accepting.items) rest in
+    record {
+      supporting = walk_step c.args.self.now (Stands VotesOrAccepts c.args.claim.now) c.loop-entry.supporting.items supporting_now c.in-Some.field-0-0.now c.in-Some.entry.now _ c.stands-supports.result item c.stands-supports.ensures supporting_same c.loop-entry.invariant.supporting_len (subst supporting_before c.in-Some.ensures.steps c.loop-entry.invariant.supporting);
+      supporting_len = marked_len c.loop-entry.supporting.items supporting_now c.in-Some.entry.now.place c.stands-supports.result supporting_same ∙ c.loop-entry.invariant.supporting_len;
+      accepting = walk_step c.args.self.now (Stands Accepts c.args.claim.now) c.loop-entry.accepting.items accepting_now c.in-Some.field-0-0.now c.in-Some.entry.now _ c.stands-accepts.result item c.stands-accepts.ensures accepting_same c.loop-entry.invariant.accepting_len (subst accepting_before c.in-Some.ensures.steps c.loop-entry.invariant.accepting);
+      accepting_len = marked_len c.loop-entry.accepting.items accepting_now c.in-Some.entry.now.place c.stands-accepts.result accepting_same ∙ c.loop-entry.invariant.accepting_len;
+    }
