@@ -7,6 +7,7 @@ use std::alloc::Global;
 
 /// One byte is fully validated, more bytes may be valid and none are invalid. Of a value its first byte is taken, the first
 /// candidate is the composite, and rounds lead in turn, whatever the slot.
+#[derive(Clone, Copy, Debug)]
 pub struct ByteDriver;
 
 impl Driver for ByteDriver {

@@ -48,6 +48,7 @@ fn leaders_in_turn(rt: HostRuntime) -> Result<(), Fail> {
     assert_eq!(rt; place_of(Slot(MOST), MOST, 1), 0);
     assert_eq!(rt; place_of(Slot(0), 1, 3), 2);
     assert_eq!(rt; place_of(Slot(0), 1, 1), 0);
+    assert_eq!(rt; KvDriver.leader(Slot(MOST), 1, 3), 2);
     assert_eq!(rt; KvDriver.leader(Slot(1), 1, 3), 0);
     assert_eq!(rt; KvDriver.leader(Slot(1), 3, 3), 2);
     Ok(())

@@ -1,5 +1,5 @@
 -- What an input gives, from what holds while the steps are repeated.
-use Rattle.std.proofs.Common.{◌≡◌, ◌≢◌, ◌<◌, ◌≤◌, ◌↔◌, ℕ, Bool, true, false, List, [], ◌∷◌, Option, Some, None, IsSome, is_some, IsSomeAnd, length, get_or, refl, sym, ◌∙◌, ap, subst, cond, ◌⊎◌, inl, inr, arith, Contains}
+use Rattle.std.proofs.Common.{◌≡◌, ◌≢◌, ◌<◌, ◌≤◌, ◌↔◌, ℕ, Bool, true, false, List, [], ◌∷◌, Option, Some, None, IsSome, is_some, length, refl, sym, ◌∙◌, ap, subst, cond, inl, inr, arith, Contains}
 use Rattle.std.specs.Option.{ForSome, option_map}
 use Rattle.std.specs.BTreeMap.{is_at}
 use Rattle.std.proofs.lemmas.List.Elements.{Contains-get_or}
@@ -11,44 +11,37 @@ use Rattle.scp_envelope.specs.declared.statement.Pledges.{Pledges}
 use Rattle.scp_envelope.specs.declared.statement.Envelope.{Envelope}
 use Rattle.scp_envelope.specs.Newer.{ArePledgesNewer, ContainsAll}
 use Rattle.scp_envelope.specs.Sane.{IsSane}
-use Rattle.scp_envelope.specs.Claims.{VotesValue, AcceptsValue}
 use Rattle.scp_vote.specs.declared.claim.Claim.TheVariants.{Nominated as IsNominated}
 use Rattle.scp_vote.specs.declared.claim.Support.TheVariants.{VotesOrAccepts}
 use Rattle.scp_vote.specs.Claims.{Stands}
-use Rattle.scp_vote.specs.Board.{Seen, Puts, PutsCounted, KeepsOwn, IsNewBoard, counted_of_other}
-use Rattle.scp_vote.specs.Licence.{with_own, MayFollow, Leads as LeadsTo, Licensed}
+use Rattle.scp_vote.specs.Board.{Seen, counted_of_other}
+use Rattle.scp_vote.specs.Licence.{with_own, Leads as LeadsTo, Licensed}
 use Rattle.scp_vote.proofs.Same.{IsSame, follows_same}
-use Rattle.scp_vote.proofs.Chain.{IsChain, same_at}
+use Rattle.scp_vote.proofs.Chain.{IsChain}
 use Rattle.scp_nominate.specs.Heard.{heard}
 use Rattle.scp_nominate.specs.declared.values.ValueSet.{ValueSet}
 use Rattle.scp_nominate.specs.declared.lists.Lists.{Lists}
 use Rattle.scp_nominate.specs.declared.state.State.{State}
 use Rattle.scp_nominate.specs.declared.nominated.Nominated.{Nominated}
 use Rattle.scp_nominate.specs.Values.{Has}
-use Rattle.scp_nominate.specs.Own.{own_of, StandsFor, IsReady, IsKnown}
+use Rattle.scp_nominate.specs.Own.{own_of, StandsFor, IsReady}
 use Rattle.scp_nominate.specs.Owed.{OwnLists, OwesNothing, Names}
-use Rattle.scp_nominate.specs.Steps.{More, Learns, own_lists}
-use Rattle.scp_nominate.specs.State.{own_at, Tells, IsTold, IsAtRest, IsSettling, IsOwnOf, HearsOne, StateBegins}
-use Rattle.scp_nominate.specs.Given.{IsWorth, GivesComposite}
+use Rattle.scp_nominate.specs.Steps.{own_lists}
+use Rattle.scp_nominate.specs.State.{own_at, IsAtRest, IsSettling, IsOwnOf, HearsOne, StateBegins}
+use Rattle.scp_nominate.specs.Given.{IsWorth}
 use Rattle.scp_driver.specs.declared.driver.Level.{Level}
 use Rattle.scp_driver.specs.Driver.{IsFull}
 use Rattle.scp_nominate.specs.declared.nominator.Nominator.{Nominator}
 use Rattle.scp_nominate.specs.Turns.{Leads, AreInTurn}
-use Rattle.scp_nominate.specs.Nomination.{IsWorking, Nomination, nomination_of, Advances, IsOwnEnvelope, KeepsLists, KeepsOthers, Hears}
-use Rattle.scp_nominate.proofs.Options.{some_and, at_some, some_same, none_some, same_some_and}
+use Rattle.scp_nominate.specs.Nomination.{IsWorking, nomination_of, Advances, KeepsOthers, Hears}
+use Rattle.scp_nominate.proofs.Options.{some_and, at_some, none_some, same_some_and}
 use Rattle.scp_nominate.proofs.Growing.{more_has}
+use Rattle.scp_nominate.proofs.Suggesting.{decided, apart}
 use Rattle.scp_nominate.proofs.Settling.{settling_start}
 
 twice : {A : Type 0} (t : Bool) (x y z : A) → cond t x (cond t y z) ≡ cond t x z
 twice true x y z = refl
 twice false x y z = refl
-
-decided : (b : Bool) → (b ≡ true) ⊎ (b ≡ false)
-decided true = inl refl
-decided false = inr refl
-
-pub apart : (v w : NodeId) → v ≢ w → is_at (node_cmp v) w ≡ false
-apart v w differ = elim (decided (is_at (node_cmp v) w)) [ inl here ↦ absurd (differ (same_at v w here)) | inr e ↦ e ]
 
 -- the licence speaks of the others' part of the board alone
 module _ (others now : Seen) (own : Option Pledges) (same : IsSame (with_own others own) now) where

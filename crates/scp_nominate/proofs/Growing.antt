@@ -66,7 +66,7 @@ taken_stays P b x y v a (inl h) = inl (more_has x.accepted y.accepted v a.accept
 taken_stays P b x y v a (inr f) = inr (filled_stays x.votes y.votes v a.votes f)
 
 pub accepts_none : (P : List ℕ → Type 0) (b : Seen) (x : Lists) → Accepts P b x x
-accepts_none P b x = record { votes = inl refl; accepted = inl refl; candidates = refl; only = λ v h. inl h; voted = λ h. h }
+accepts_none P b x = record { votes = inl refl; accepted = inl refl; candidates = refl; only = λ v h. inl h; voted = λ h. h; votes_only = λ v h. inl h }
 
 pub accepts_trans : (P : List ℕ → Type 0) (b : Seen) (x y z : Lists) → Accepts P b x y → Accepts P b y z → Accepts P b x z
 accepts_trans P b x y z g h = record {
@@ -75,21 +75,26 @@ accepts_trans P b x y z g h = record {
   candidates = h.candidates ∙ g.candidates;
   only = λ v has. elim (h.only v has) [ inl had ↦ g.only v had | inr now ↦ inr now ];
   voted = λ v. h.voted (g.voted v);
+  votes_only = λ v has. elim (h.votes_only v has) [
+    | inl had ↦ elim (g.votes_only v had) [ inl old ↦ inl old | inr acc ↦ inr (more_has y.accepted z.accepted v h.accepted acc) ]
+    | inr now ↦ inr now
+  ];
 }
 
 pub accepts_weaker : (P Q : List ℕ → Type 0) (b : Seen) (x y : Lists) → ((v : List ℕ) → P v → Q v) → Accepts P b x y → Accepts Q b x y
-accepts_weaker P Q b x y w g = record { votes = g.votes; accepted = g.accepted; candidates = g.candidates; only = λ v has. elim (g.only v has) [ inl had ↦ inl had | inr now ↦ inr (w v now.0, now.1) ]; voted = g.voted }
+accepts_weaker P Q b x y w g = record { votes = g.votes; accepted = g.accepted; candidates = g.candidates; only = λ v has. elim (g.only v has) [ inl had ↦ inl had | inr now ↦ inr (w v now.0, now.1) ]; voted = g.voted; votes_only = g.votes_only }
 
 -- a value that is Accepted is voted for, and taken
-pub accepts_one : (b : Seen) (x y : Lists) (v : List ℕ) → Accepted b (Nominated v) → MoreVotes x.votes y.votes → Has y.votes v → Adds x.accepted y.accepted v → y.candidates ≡ x.candidates
+pub accepts_one : (b : Seen) (x y : Lists) (v : List ℕ) → Accepted b (Nominated v) → MoreVotes x.votes y.votes → Has y.votes v → ((w : List ℕ) → Has y.votes w → Has x.votes w ⊎ (v ≡ w)) → Adds x.accepted y.accepted v → y.candidates ≡ x.candidates
     → Accepts (λ w. v ≡ w) b x y × IsTaken y v
-accepts_one b x y v acc votes has adds same = (
+accepts_one b x y v acc votes has voted_only adds same = (
   record {
     votes = votes;
     accepted = more_added x.accepted y.accepted v adds;
     candidates = same;
     only = λ w h. new w adds h;
     voted = λ had w h. elim (new w adds h) [ inl old ↦ more_has x.votes y.votes w (votes_more x.votes y.votes votes) (had w old) | inr k ↦ subst (λ u. Has y.votes u) k.0 has ];
+    votes_only = λ w h. elim (voted_only w h) [ inl old ↦ inl old | inr e ↦ inr (subst (λ u. Has y.accepted u) e (has_it adds)) ];
   },
   inl (has_it adds),
 )
@@ -127,7 +132,7 @@ no_room x v none = inr (λ has. none (inl has), omega (arith, not_less))
     not_less : length x.votes.values.items < 7 → ⊥
     not_less lt = none (inr lt)
 
-last_or_before : (i k : ℕ) → k < i + 1 → (k < i) ⊎ (k ≡ i)
+pub last_or_before : (i k : ℕ) → k < i + 1 → (k < i) ⊎ (k ≡ i)
 last_or_before i k lt = elim (cases_lt k i) [ inl l ↦ inl l | inr g ↦ inr (omega arith) ]
 
 module _ (b : Seen) (vs : List (List ℕ)) (i : ℕ) (v : List ℕ) (lt : i < length vs) (is : v ≡ get_or vs i []) where

@@ -8,4 +8,5 @@ mod Knowing
 mod Naming
 mod Leading
 mod Advancing
+mod Suggesting
 mod Turning

@@ -1,7 +1,6 @@
 -- The nominator settles: each pass gives one link of the chain.
-use Rattle.std.proofs.Common.{◌≡◌, ◌<◌, ◌≤◌, ◌-◌, ℕ, Bool, true, false, List, [], Option, Some, None, IsSomeAnd, length, refl, sym, ◌∙◌, ap, subst, cond, ◌⊎◌, inl, inr, arith}
+use Rattle.std.proofs.Common.{◌≡◌, ◌<◌, ◌≤◌, ◌-◌, ℕ, Bool, true, false, List, [], Some, length, refl, sym, ◌∙◌, ap, subst, cond, inl, inr, arith}
 use Rattle.std.specs.BTreeMap.{is_at}
-use Rattle.scp_types.specs.declared.names.NodeId.{NodeId}
 use Rattle.scp_types.specs.declared.names.Hash.{Hash}
 use Rattle.scp_quorum.specs.NodeSet.{node_cmp}
 use Rattle.scp_envelope.specs.declared.statement.Pledges.{Pledges}
@@ -9,7 +8,7 @@ use Rattle.scp_vote.specs.declared.claim.Claim.TheVariants.{Nominated}
 use Rattle.scp_vote.specs.declared.claim.Support.TheVariants.{VotesOrAccepts}
 use Rattle.scp_vote.specs.Claims.{Stands}
 use Rattle.scp_vote.specs.Board.{Seen, Puts}
-use Rattle.scp_vote.proofs.Chain.{IsChain, chain_start, chain_more, own_new}
+use Rattle.scp_vote.proofs.Chain.{chain_start, chain_more, own_new}
 use Rattle.scp_nominate.specs.Heard.{heard}
 use Rattle.scp_nominate.specs.declared.values.ValueSet.{ValueSet}
 use Rattle.scp_nominate.specs.declared.lists.Lists.{Lists}
@@ -23,10 +22,11 @@ use Rattle.scp_envelope.specs.declared.statement.Nominate.{Nominate}
 use Rattle.scp_envelope.specs.declared.statement.Pledges.TheVariants.{Prepare as Preparing, Confirm as Confirming, Externalize as Externalizing, Nominate as Nominating}
 use Rattle.scp_envelope.specs.Newer.{ArePledgesNewer, IsNewerNominate}
 use Rattle.scp_envelope.proofs.Growing.{newer_nominate-trans}
-use Rattle.scp_nominate.proofs.Options.{some_same, none_some, some_and, at_some, same_some_and}
+use Rattle.scp_nominate.proofs.Options.{some_same, none_some, at_some, same_some_and}
 use Rattle.scp_nominate.proofs.Growing.{more_trans, votes_more}
 use Rattle.scp_nominate.specs.Steps.{AreVoted, Learns}
 use Rattle.scp_nominate.proofs.Staying.{confirmed_stays}
+use Rattle.scp_nominate.proofs.Suggesting.{decided}
 
 pub settling_start : (full : List ℕ → Type 0) (m : State) → IsAtRest full m → IsSettling full m m false
 settling_start full m rest = record {
@@ -50,10 +50,6 @@ newer_trans (Nominating p) q r h k = newer_nominate-trans p q r h k
 
 some_votes : (s : Lists) → AreVoted s → 0 < size s → s.votes.values.items ≡ [] → ⊥
 some_votes s voted lt none = let l : length s.votes.values.items ≡ 0 = ap length none in omega (arith, lt, within s.accepted s.votes voted)
-
-decided : (b : Bool) → (b ≡ true) ⊎ (b ≡ false)
-decided true = inl refl
-decided false = inr refl
 
 -- the own statement, put on the board, names votes alone
 known_renewed : (full : List ℕ → Type 0) (b new : Seen) (hash : Hash) (t : Lists) (x y : ValueSet) → IsKnown full b x → AreVoted t → Puts b new b.me (own_of hash t) b.local → Learns full (λ v. Has t.votes v) x y → IsKnown full new y

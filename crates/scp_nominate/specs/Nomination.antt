@@ -1,7 +1,6 @@
 -- A nominator as its contracts see it (the SCP draft, in this project's profile).
-use Rattle.std.specs.Prelude.{◌≡◌, ◌≢◌, ◌≤◌, ◌<◌, ◌↔◌, ◌⊎◌, ℕ, List, [], length, slice_get, Bool, false, Option, Some, None, IsSome, IsSomeAnd, Contains, cond}
+use Rattle.std.specs.Prelude.{◌≡◌, ◌≢◌, ◌≤◌, ◌↔◌, ◌⊎◌, ℕ, List, [], length, Bool, false, Option, Some, None, IsSome, Contains, cond}
 use Rattle.std.specs.Option.{ForSome}
-use Rattle.std.specs.List.Sorted.{IsStrictlySortedBy}
 use Rattle.std.specs.BTreeMap.{is_at}
 use Rattle.scp_types.specs.declared.names.NodeId.{NodeId}
 use Rattle.scp_types.specs.declared.names.Hash.{Hash}
@@ -9,9 +8,6 @@ use Rattle.scp_quorum.specs.NodeSet.{node_cmp}
 use Rattle.scp_quorum.specs.QuorumTree.{QuorumTree}
 use Rattle.scp_quorum.specs.QuorumKind.{set_spelling}
 use Rattle.sha2.specs.Sha256.{sha256}
-use Rattle.scp_envelope.specs.Ballots.{value_cmp}
-use Rattle.scp_envelope.specs.Newer.{ArePledgesNewer}
-use Rattle.scp_envelope.specs.Sane.{IsSane}
 use Rattle.scp_envelope.specs.declared.statement.Pledges.{Pledges}
 use Rattle.scp_envelope.specs.declared.statement.Pledges.TheVariants.{Nominate as Nominating}
 use Rattle.scp_envelope.specs.declared.statement.Envelope.{Envelope}
@@ -24,7 +20,7 @@ use Rattle.scp_nominate.specs.Heard.{heard}
 use Rattle.scp_nominate.specs.declared.state.State.{State}
 use Rattle.scp_nominate.specs.declared.nominated.Nominated.{Nominated}
 use Rattle.scp_nominate.specs.declared.nominator.Nominator.{Nominator}
-use Rattle.scp_nominate.specs.Owed.{OwnLists, OwesNothing}
+use Rattle.scp_nominate.specs.Owed.{OwnLists, AreOwn, OwesNothing, MayVote, VotesFor}
 use Rattle.scp_nominate.specs.Steps.{own_lists}
 use Rattle.scp_nominate.specs.State.{IsAtRest}
 use Rattle.scp_nominate.specs.Turns.{Leads, AreInTurn}
@@ -103,6 +99,22 @@ pub record Hears (old new : Seen) (node : NodeId) (statement : Pledges) (set : Q
 abbrev pub first_of : Option (List ℕ) → List ℕ → Option (List ℕ)
 first_of None v = Some v
 first_of (Some first) v = Some first
+
+-- The own statement is the NOMINATE of the lists with the hash of the local set, and absent while there is no vote.
+abbrev pub SaysItsLists : Nomination → Type 0
+SaysItsLists n = (own n ≡ Some (Nominating (record { set_hash = n.hash; votes = n.lists.votes; accepted = n.lists.accepted }))) ⊎ ((own n ≡ None) × (n.lists.votes ≡ []))
+
+-- the lists are what they always are, by its driver's levels
+abbrev pub HasOwnLists : {D : Type 0} → (D → ℕ → List ℕ → Level) → Nominator D → Type 0
+HasOwnLists level m = AreOwn (IsFull (level m.guide.driver) m.guide.slot.0) (own_lists m.state.lists)
+
+-- since these lists it voted for nothing but what it may, by its driver's levels, what that extracts, and its places
+abbrev pub VotesWell : {D : Type 0} → (D → ℕ → List ℕ → Level) → (D → ℕ → List ℕ → Option (List ℕ)) → (D → ℕ → ℕ → ℕ → ℕ) → OwnLists → Nominator D → Type 0
+VotesWell level extracted place lists m =
+    VotesFor
+    (MayVote (IsFull (level m.guide.driver) m.guide.slot.0) (extracted m.guide.driver m.guide.slot.0) (Leads (place m.guide.driver m.guide.slot.0) m.nodes.items m.rounds) m.guide.proposal (heard m.state.board))
+    lists
+    (own_lists m.state.lists)
 
 -- what a nominator owes by its driver's levels and places: nothing
 abbrev pub IsPaid : {D : Type 0} → (D → ℕ → List ℕ → Level) → (D → ℕ → ℕ → ℕ → ℕ) → Nominator D → Type 0

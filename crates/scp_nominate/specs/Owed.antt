@@ -1,7 +1,9 @@
--- What a node owes in nomination (the SCP draft, in this project's profile).
-use Rattle.std.specs.Prelude.{◌≡◌, ◌≢◌, ◌<◌, ◌≤◌, ℕ, ◌⊎◌, List, [], length, Option, Contains}
+-- What a node's lists are in nomination, what it may vote for, and what it owes (the SCP draft, in this project's profile).
+use Rattle.std.specs.Prelude.{◌≡◌, ◌≢◌, ◌≤◌, ℕ, ◌⊎◌, List, [], length, Option, Some, Contains}
 use Rattle.std.specs.Option.{ForSome}
+use Rattle.std.specs.List.Sorted.{IsStrictlySortedBy}
 use Rattle.scp_types.specs.declared.names.NodeId.{NodeId}
+use Rattle.scp_envelope.specs.Ballots.{value_cmp}
 use Rattle.scp_vote.specs.declared.claim.Claim.TheVariants.{Nominated}
 use Rattle.scp_vote.specs.declared.claim.Support.TheVariants.{VotesOrAccepts}
 use Rattle.scp_vote.specs.Claims.{Stands}
@@ -12,6 +14,18 @@ pub record OwnLists : Type 0 where
   pub votes : List (List ℕ)
   pub accepted : List (List ℕ)
   pub candidates : List (List ℕ)
+
+-- What always holds of them: they ascend by bytes, votes and accepted are at most 7 each, what is accepted is voted for and fully
+-- validated, and candidates are accepted.
+pub record AreOwn (full : List ℕ → Type 0) (s : OwnLists) : Type 0 where
+  pub few_votes : length s.votes ≤ 7
+  pub few_accepted : length s.accepted ≤ 7
+  pub votes_ascend : IsStrictlySortedBy value_cmp s.votes
+  pub accepted_ascend : IsStrictlySortedBy value_cmp s.accepted
+  pub candidates_ascend : IsStrictlySortedBy value_cmp s.candidates
+  pub voted : (v : List ℕ) → Contains s.accepted v → Contains s.votes v
+  pub valid : (v : List ℕ) → Contains s.accepted v → full v
+  pub candidates : (v : List ℕ) → Contains s.candidates v → Contains s.accepted v
 
 -- the votes have 7 others
 abbrev pub HasSevenOthers : List (List ℕ) → List ℕ → Type 0
@@ -29,3 +43,23 @@ pub record OwesNothing (full : List ℕ → Type 0) (leads : NodeId → Type 0) 
   pub candidates : (v : List ℕ) → Contains s.accepted v → Confirmed b (Nominated v) → Contains s.candidates v
   pub proposed : s.candidates ≡ [] → leads b.me → ForSome proposal (λ v. Contains s.votes v ⊎ HasSevenOthers s.votes v)
   pub led : s.candidates ≡ [] → (node : NodeId) → node ≢ b.me → leads node → (v : List ℕ) → full v → Names b node v → Contains s.votes v ⊎ HasSevenOthers s.votes v
+
+-- A value that is named gives itself where it is fully validated, else what is extracted of it, if anything.
+abbrev pub Gives : (List ℕ → Type 0) → (List ℕ → Option (List ℕ)) → List ℕ → List ℕ → Type 0
+Gives full extracted named v = (full named × (named ≡ v)) ⊎ ((¬ (full named)) × (extracted named ≡ Some v))
+
+-- this node leads, and proposes the value
+abbrev pub IsProposed : (NodeId → Type 0) → Option (List ℕ) → Seen → List ℕ → Type 0
+IsProposed leads proposal b v = leads b.me × (proposal ≡ Some v)
+
+-- the node, another than this one, names what gives the value
+abbrev pub Suggests : (List ℕ → Type 0) → (List ℕ → Option (List ℕ)) → Seen → NodeId → List ℕ → Type 0
+Suggests full extracted b node v = (node ≢ b.me) × ((named : List ℕ) × Names b node named × Gives full extracted named v)
+
+-- what a node without a candidate may vote for: its proposal, if it leads, and what another leader suggests
+abbrev pub MayVote : (List ℕ → Type 0) → (List ℕ → Option (List ℕ)) → (NodeId → Type 0) → Option (List ℕ) → Seen → List ℕ → Type 0
+MayVote full extracted leads proposal b v = IsProposed leads proposal b v ⊎ ((node : NodeId) × leads node × Suggests full extracted b node v)
+
+-- What is new in votes is in accepted too, or may be voted for, and then there was no candidate.
+abbrev pub VotesFor : (List ℕ → Type 0) → OwnLists → OwnLists → Type 0
+VotesFor may old new = (v : List ℕ) → Contains new.votes v → Contains old.votes v ⊎ Contains new.accepted v ⊎ ((old.candidates ≡ []) × may v)

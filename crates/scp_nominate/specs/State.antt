@@ -1,5 +1,5 @@
 -- The part of a nominator that its inputs change.
-use Rattle.std.specs.Prelude.{◌≡◌, ◌⊎◌, List, [], ℕ, Bool, true, false, Option, Some, IsSomeAnd}
+use Rattle.std.specs.Prelude.{◌≡◌, ◌⊎◌, List, [], ℕ, Bool, true, false, Option, Some}
 use Rattle.std.specs.Option.{ForSome}
 use Rattle.scp_envelope.specs.Newer.{ArePledgesNewer}
 use Rattle.scp_envelope.specs.declared.statement.Pledges.{Pledges}

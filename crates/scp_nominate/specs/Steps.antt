@@ -1,11 +1,7 @@
 -- The steps of nomination (the SCP draft's, in this project's profile), on what the board shows while they are taken.
-use Rattle.std.specs.Prelude.{◌≡◌, ◌≢◌, ◌<◌, ◌≤◌, ℕ, ◌⊎◌, List, [], length, Option}
-use Rattle.std.specs.Option.{ForSome}
-use Rattle.scp_types.specs.declared.names.NodeId.{NodeId}
+use Rattle.std.specs.Prelude.{◌≡◌, ◌<◌, ◌≤◌, ℕ, ◌⊎◌, List, length}
 use Rattle.scp_vote.specs.declared.claim.Claim.TheVariants.{Nominated}
-use Rattle.scp_vote.specs.declared.claim.Support.TheVariants.{VotesOrAccepts}
-use Rattle.scp_vote.specs.Claims.{Stands}
-use Rattle.scp_vote.specs.Board.{Seen, Has as HasStatement, Accepted, Confirmed}
+use Rattle.scp_vote.specs.Board.{Seen, Accepted, Confirmed}
 use Rattle.scp_nominate.specs.declared.values.ValueSet.{ValueSet}
 use Rattle.scp_nominate.specs.declared.lists.Lists.{Lists}
 use Rattle.scp_nominate.specs.Values.{Has}
@@ -52,6 +48,7 @@ pub record Accepts (P : List ℕ → Type 0) (b : Seen) (old new : Lists) : Type
   pub candidates : new.candidates ≡ old.candidates
   pub only : (v : List ℕ) → Has new.accepted v → Has old.accepted v ⊎ (P v × Accepted b (Nominated v))
   pub voted : AreVoted old → AreVoted new
+  pub votes_only : (v : List ℕ) → Has new.votes v → Has old.votes v ⊎ Has new.accepted v
 
 -- Step 3: values with P that are Confirmed on the board become candidates.
 pub record Confirms (P : List ℕ → Type 0) (b : Seen) (old new : ValueSet) : Type 0 where

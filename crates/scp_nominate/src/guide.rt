@@ -1,12 +1,13 @@
 //! What the steps of nomination read, and the steps.
-ghost use Rattle.std.specs.Prelude.{◌≡◌, ◌↔◌, IsTrue, [], ℕ, List, Contains, OnOk, IsOkUnless};
+ghost use Rattle.std.specs.Prelude.{◌≡◌, ◌↔◌, ◌⊎◌, IsTrue, [], ℕ, List, Some, Contains, OnOk, IsOkUnless};
 ghost use Rattle.std.specs.Option.{ForSome};
 ghost use Rattle.scp_types.specs.declared.names.NodeId.{NodeId};
 ghost use Rattle.scp_driver.specs.Driver.{IsFull};
 ghost use Rattle.scp_nominate.specs.Heard.{heard};
 ghost use Rattle.scp_nominate.specs.Own.{IsVoting, IsVoted, IsKnown, Passes};
-ghost use Rattle.scp_nominate.specs.Owed.{OwesNothing};
+ghost use Rattle.scp_nominate.specs.Owed.{OwesNothing, MayVote, VotesFor};
 ghost use Rattle.scp_nominate.specs.Steps.{MoreVotes, IsTried, own_lists};
+ghost use Rattle.scp_nominate.specs.Values.{Has};
 
 use crate::heard::me_of;
 use crate::leaders::vote_leaders;
@@ -34,11 +35,12 @@ fn has_node(nodes: &[NodeId], node: &NodeId) -> bool
 }
 
 impl<D: Driver> Guide<D> {
-    #[tactic(auto, using(crate::proofs::Leading::tried_some, crate::proofs::Leading::tried_none))]
     /// Votes for the proposal, if this node leads.
+    #[tactic(auto, using(crate::proofs::Leading::tried_some, crate::proofs::Leading::tried_none))]
     fn vote_own(&self, me: NodeId, votes: &mut ValueSet) -> Result<(), Fault>
         ensures more { OnOk result (MoreVotes votes.old votes.new) }
         ensures tried { OnOk result (Contains self.now.leaders.items me → ForSome self.now.proposal (λ v. IsTried votes.new v)) }
+        ensures only { OnOk result ((v : List ℕ) → Has votes.new v → Has votes.old v ⊎ (Contains self.now.leaders.items me × (self.now.proposal ≡ Some v))) }
         ensures only_memory { IsOkUnless result Fault.NoMemory }
     {
         if !has_node(self.leaders.as_slice(), &me) {
@@ -55,6 +57,7 @@ impl<D: Driver> Guide<D> {
     fn vote_first(&self, alloc: Global, board: &Board, lists: &mut Lists) -> Result<(), Fault>
         ensures voting { OnOk result (IsVoting lists.old lists.new) }
         ensures voted { OnOk result (lists.old.candidates.values.items ≡ [] → IsVoted (IsFull (D.level self.now.driver) self.now.slot.0) (λ node. Contains self.now.leaders.items node) self.now.proposal (heard board.now) lists.new) }
+        ensures only { OnOk result (VotesFor (MayVote (IsFull (D.level self.now.driver) self.now.slot.0) (D.extracted self.now.driver self.now.slot.0) (λ node. Contains self.now.leaders.items node) self.now.proposal (heard board.now)) (own_lists lists.old) (own_lists lists.new)) }
         ensures only_memory { IsOkUnless result Fault.NoMemory }
     {
         if lists.candidates.len() > 0 {
@@ -85,6 +88,7 @@ impl<D: Driver> Guide<D> {
         requires known { IsKnown (IsFull (D.level self.now.driver) self.now.slot.0) (heard board.now) known.now }
         ensures passes { OnOk result (Passes (IsFull (D.level self.now.driver) self.now.slot.0) (heard board.now) lists.old lists.new) }
         ensures owed { OnOk result (OwesNothing (IsFull (D.level self.now.driver) self.now.slot.0) (λ node. Contains self.now.leaders.items node) self.now.proposal (heard board.now) (own_lists lists.new)) }
+        ensures votes { OnOk result (VotesFor (MayVote (IsFull (D.level self.now.driver) self.now.slot.0) (D.extracted self.now.driver self.now.slot.0) (λ node. Contains self.now.leaders.items node) self.now.proposal (heard board.now)) (own_lists lists.old) (own_lists lists.new)) }
         ensures only_memory { IsOkUnless result Fault.NoMemory }
     {
         self.vote_first(alloc, board, lists)?;

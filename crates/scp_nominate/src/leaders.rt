@@ -6,7 +6,7 @@ ghost use Rattle.scp_nominate.specs.Heard.{heard};
 ghost use Rattle.scp_envelope.specs.Claims.{VotesValue, AcceptsValue};
 ghost use Rattle.scp_nominate.specs.Values.{Has};
 ghost use Rattle.scp_nominate.specs.Steps.{More, MoreVotes, IsTried};
-ghost use Rattle.scp_nominate.specs.Owed.{Names};
+ghost use Rattle.scp_nominate.specs.Owed.{Names, Gives, Suggests};
 
 use crate::heard::{me_of, statement_of};
 use crate::lists::vote;
@@ -32,6 +32,7 @@ pub(crate) fn add(set: &mut ValueSet, value: &Value) -> Result<(), Fault>
 fn add_all(set: &mut ValueSet, values: &[Value]) -> Result<(), Fault>
     ensures more { OnOk result (More set.old set.new) }
     ensures added { OnOk result ((v : List ℕ) → Contains values.now v → Has set.new v) }
+    ensures only { OnOk result ((v : List ℕ) → Has set.new v → Has set.old v ⊎ Contains values.now v) }
     ensures only_memory { IsOkUnless result Fault.NoMemory }
 {
     for value in values {
@@ -50,6 +51,7 @@ fn vote_of<D: Driver>(
 ) -> Result<(), Fault>
     ensures more { OnOk result (MoreVotes votes.old votes.new) }
     ensures tried { OnOk result (IsFull (D.level driver.now) slot.0 value.now → IsTried votes.new value.now) }
+    ensures only { OnOk result ((v : List ℕ) → Has votes.new v → Has votes.old v ⊎ Gives (IsFull (D.level driver.now) slot.0) (D.extracted driver.now slot.0) value.now v) }
     ensures only_memory { IsOkUnless result Fault.NoMemory }
 {
     if driver.validate(slot, value) == Level::FullyValidated {
@@ -71,6 +73,7 @@ pub(crate) fn vote_all<D: Driver>(
 ) -> Result<(), Fault>
     ensures more { OnOk result (MoreVotes votes.old votes.new) }
     ensures tried { OnOk result ((v : List ℕ) → Contains values.now v → IsFull (D.level driver.now) slot.0 v → IsTried votes.new v) }
+    ensures only { OnOk result ((v : List ℕ) → Has votes.new v → Has votes.old v ⊎ ((w : List ℕ) × Contains values.now w × Gives (IsFull (D.level driver.now) slot.0) (D.extracted driver.now slot.0) w v)) }
     ensures only_memory { IsOkUnless result Fault.NoMemory }
 {
     for value in values {
@@ -82,6 +85,7 @@ pub(crate) fn vote_all<D: Driver>(
 /// The values of both lists.
 fn both(alloc: Global, votes: &[Value], accepted: &[Value]) -> Result<ValueSet, Fault>
     ensures all { IfOk result (λ set. (v : List ℕ) → Contains votes.now v ⊎ Contains accepted.now v → Has set v) }
+    ensures only { IfOk result (λ set. (v : List ℕ) → Has set v → Contains votes.now v ⊎ Contains accepted.now v) }
     ensures only_memory { IsOkUnless result Fault.NoMemory }
 {
     let mut set = ValueSet::new(alloc);
@@ -93,6 +97,7 @@ fn both(alloc: Global, votes: &[Value], accepted: &[Value]) -> Result<ValueSet, 
 /// The values that the pledges vote for or accept.
 pub(crate) fn named(alloc: Global, pledges: &Pledges) -> Result<ValueSet, Fault>
     ensures all { IfOk result (λ set. (v : List ℕ) → VotesValue pledges.now v ⊎ AcceptsValue pledges.now v → Has set v) }
+    ensures only { IfOk result (λ set. (v : List ℕ) → Has set v → VotesValue pledges.now v ⊎ AcceptsValue pledges.now v) }
     ensures only_memory { IsOkUnless result Fault.NoMemory }
 {
     match pledges {
@@ -116,6 +121,7 @@ pub(crate) fn vote_leader<D: Driver>(
 ) -> Result<(), Fault>
     ensures more { OnOk result (MoreVotes votes.old votes.new) }
     ensures tried { OnOk result ((v : List ℕ) → IsFull (D.level driver.now) slot.0 v → Names (heard board.now) leader.now v → IsTried votes.new v) }
+    ensures only { OnOk result ((v : List ℕ) → Has votes.new v → Has votes.old v ⊎ ((w : List ℕ) × Names (heard board.now) leader.now w × Gives (IsFull (D.level driver.now) slot.0) (D.extracted driver.now slot.0) w v)) }
     ensures only_memory { IsOkUnless result Fault.NoMemory }
 {
     match statement_of(board, leader) {
@@ -138,6 +144,7 @@ fn vote_other<D: Driver>(
 ) -> Result<(), Fault>
     ensures more { OnOk result (MoreVotes votes.old votes.new) }
     ensures tried { OnOk result (leader.now ≢ (heard board.now).me → (v : List ℕ) → IsFull (D.level driver.now) slot.0 v → Names (heard board.now) leader.now v → IsTried votes.new v) }
+    ensures only { OnOk result ((v : List ℕ) → Has votes.new v → Has votes.old v ⊎ Suggests (IsFull (D.level driver.now) slot.0) (D.extracted driver.now slot.0) (heard board.now) leader.now v) }
     ensures only_memory { IsOkUnless result Fault.NoMemory }
 {
     if *leader == me_of(board) {
@@ -157,6 +164,7 @@ pub(crate) fn vote_leaders<D: Driver>(
 ) -> Result<(), Fault>
     ensures more { OnOk result (MoreVotes votes.old votes.new) }
     ensures tried { OnOk result ((node : NodeId) → Contains leaders.now node → node ≢ (heard board.now).me → (v : List ℕ) → IsFull (D.level driver.now) slot.0 v → Names (heard board.now) node v → IsTried votes.new v) }
+    ensures only { OnOk result ((v : List ℕ) → Has votes.new v → Has votes.old v ⊎ ((node : NodeId) × Contains leaders.now node × Suggests (IsFull (D.level driver.now) slot.0) (D.extracted driver.now slot.0) (heard board.now) node v)) }
     ensures only_memory { IsOkUnless result Fault.NoMemory }
 {
     for leader in leaders {

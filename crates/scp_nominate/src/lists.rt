@@ -27,6 +27,7 @@ pub(crate) fn vote(votes: &mut ValueSet, value: &Value) -> Result<(), Fault>
     ensures more { OnOk result (MoreVotes votes.old votes.new) }
     ensures tried { OnOk result (IsTried votes.new value.now) }
     ensures room { OnOk result (HasRoom votes.old value.now → Has votes.new value.now) }
+    ensures only { OnOk result ((v : List ℕ) → Has votes.new v → Has votes.old v ⊎ (value.now ≡ v)) }
     ensures only_memory { IsOkUnless result Fault.NoMemory }
 {
     if votes.contains(value) || votes.len() >= LIMIT {

@@ -5,7 +5,7 @@ ghost use Rattle.scp_driver.specs.Driver.{IsFull};
 ghost use Rattle.scp_nominate.specs.Heard.{heard};
 ghost use Rattle.scp_nominate.specs.Owed.{OwesNothing};
 ghost use Rattle.scp_nominate.specs.Steps.{own_lists};
-ghost use Rattle.scp_vote.specs.Board.{kind_of_pledges, counted_of_other};
+ghost use Rattle.scp_vote.specs.Board.{kind_of_pledges, counted_of_other, KeepsOwn};
 ghost use Rattle.scp_vote.specs.declared.claim.StatementKind.TheVariants.{Nomination};
 
 use crate::guide::Guide;
@@ -32,7 +32,7 @@ pub struct Nominator<D: Driver + Drop> {
 
 impl<D: Driver + Drop> Nominator<D> {
     ghost use Rattle.scp_nominate.specs.State.{IsAtRest, IsSettling, IsOwnOf};
-    ghost use Rattle.scp_nominate.specs.Nomination.{nomination, driver_of, own, Advances, KeepsMaking, KeepsOthers, Hears, IsSound, IsPaid, Begins, first_of};
+    ghost use Rattle.scp_nominate.specs.Nomination.{nomination, driver_of, own, Advances, HasOwnLists, SaysItsLists, VotesWell, KeepsMaking, KeepsOthers, Hears, IsSound, IsPaid, Begins, first_of};
 
     /// A nominator that has heard nothing, in round 1. The one refusal is `Fault::NoMemory`.
     pub fn new(
@@ -76,10 +76,15 @@ impl<D: Driver + Drop> Nominator<D> {
         ensures others { OnOk result (KeepsOthers (nomination self.old).board (nomination self.new).board) }
         ensures making { OnOk result (KeepsMaking (nomination self.old) (nomination self.new)) }
         ensures driver { OnOk result (driver_of self.new ≡ driver_of self.old) }
+        ensures stands { OnOk result (SaysItsLists (nomination self.new)) }
+        ensures counted { OnOk result (KeepsOwn (nomination self.new).board) }
+        ensures lists { OnOk result (HasOwnLists D.level self.new) }
+        ensures votes { OnOk result (VotesWell D.level D.extracted D.place (nomination self.old).lists self.new) }
         ensures paid { OnOk result (IsPaid D.level D.place self.new) }
         ensures refused { IfErr result (λ f. ((f ≡ Fault.Failed) × ((nomination self.old).failed ≡ true)) ⊎ ((f ≡ Fault.NoMemory) × ((nomination self.old).failed ≡ false))) }
         ensures working { OnOk result (((nomination self.old).failed ≡ false) × ((nomination self.new).failed ≡ false)) }
         ensures failed { OnErr result ((nomination self.new).failed ≡ true) }
+        ensures same { (nomination self.old).failed ≡ true → self.new ≡ self.old }
         ensures sound { IsSound D.level D.place self.new }
     {
         if self.failed {
@@ -107,10 +112,15 @@ impl<D: Driver + Drop> Nominator<D> {
         ensures others { OnOk result (Hears (nomination self.old).board (nomination self.new).board envelope.statement.node envelope.statement.pledges (counted_of_other envelope.statement.node envelope.statement.pledges delivered.value)) }
         ensures making { OnOk result (KeepsMaking (nomination self.old) (nomination self.new)) }
         ensures driver { OnOk result (driver_of self.new ≡ driver_of self.old) }
+        ensures stands { OnOk result (SaysItsLists (nomination self.new)) }
+        ensures counted { OnOk result (KeepsOwn (nomination self.new).board) }
+        ensures lists { OnOk result (HasOwnLists D.level self.new) }
+        ensures votes { OnOk result (VotesWell D.level D.extracted D.place (nomination self.old).lists self.new) }
         ensures paid { OnOk result (IsPaid D.level D.place self.new) }
         ensures refused { IfErr result (λ f. ((f ≡ Fault.Failed) × ((nomination self.old).failed ≡ true)) ⊎ ((f ≡ Fault.NoMemory) × ((nomination self.old).failed ≡ false))) }
         ensures working { OnOk result (((nomination self.old).failed ≡ false) × ((nomination self.new).failed ≡ false)) }
         ensures failed { OnErr result ((nomination self.new).failed ≡ true) }
+        ensures same { (nomination self.old).failed ≡ true → self.new ≡ self.old }
         ensures sound { IsSound D.level D.place self.new }
     {
         if self.failed {
@@ -134,10 +144,15 @@ impl<D: Driver + Drop> Nominator<D> {
         ensures others { OnOk result (KeepsOthers (nomination self.old).board (nomination self.new).board) }
         ensures making { OnOk result (KeepsMaking (nomination self.old) (nomination self.new)) }
         ensures driver { OnOk result (driver_of self.new ≡ driver_of self.old) }
+        ensures stands { OnOk result (SaysItsLists (nomination self.new)) }
+        ensures counted { OnOk result (KeepsOwn (nomination self.new).board) }
+        ensures lists { OnOk result (HasOwnLists D.level self.new) }
+        ensures votes { OnOk result (VotesWell D.level D.extracted D.place (nomination self.old).lists self.new) }
         ensures paid { OnOk result (IsPaid D.level D.place self.new) }
         ensures refused { IfErr result (λ f. ((f ≡ Fault.Failed) × ((nomination self.old).failed ≡ true)) ⊎ ((f ≡ Fault.NoMemory) × ((nomination self.old).failed ≡ false))) }
         ensures working { OnOk result (((nomination self.old).failed ≡ false) × ((nomination self.new).failed ≡ false)) }
         ensures failed { OnErr result ((nomination self.new).failed ≡ true) }
+        ensures same { (nomination self.old).failed ≡ true → self.new ≡ self.old }
         ensures sound { IsSound D.level D.place self.new }
     {
         if self.failed {

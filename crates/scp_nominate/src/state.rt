@@ -6,7 +6,7 @@ ghost use Rattle.scp_nominate.specs.Heard.{heard};
 ghost use Rattle.std.specs.Option.{ForSome};
 ghost use Rattle.scp_types.specs.declared.names.NodeId.{NodeId};
 ghost use Rattle.scp_driver.specs.Driver.{IsFull};
-ghost use Rattle.scp_nominate.specs.Owed.{OwesNothing};
+ghost use Rattle.scp_nominate.specs.Owed.{OwesNothing, MayVote, VotesFor};
 ghost use Rattle.scp_nominate.specs.Steps.{own_lists};
 
 use crate::guide::Guide;
@@ -104,6 +104,7 @@ impl State {
         requires rest { IsAtRest (IsFull (D.level guide.now.driver) guide.now.slot.0) self.old }
         ensures settled { IfOk result (λ renewed. IsSettling (IsFull (D.level guide.now.driver) guide.now.slot.0) self.old self.new renewed) }
         ensures owed { OnOk result (OwesNothing (IsFull (D.level guide.now.driver) guide.now.slot.0) (λ node. Contains guide.now.leaders.items node) guide.now.proposal (heard self.new.board) (own_lists self.new.lists)) }
+        ensures votes { OnOk result (VotesFor (MayVote (IsFull (D.level guide.now.driver) guide.now.slot.0) (D.extracted guide.now.driver guide.now.slot.0) (λ node. Contains guide.now.leaders.items node) guide.now.proposal (heard self.new.board)) (own_lists self.old.lists) (own_lists self.new.lists)) }
         ensures only_memory { IsOkUnless result Fault.NoMemory }
     {
         let mut renewed = false;
@@ -150,6 +151,7 @@ impl State {
         requires rest { IsAtRest (IsFull (D.level guide.now.driver) guide.now.slot.0) self.old }
         ensures settled { IfOk result (λ given. IsSettling (IsFull (D.level guide.now.driver) guide.now.slot.0) self.old self.new (is_some given.statement)) }
         ensures owed { OnOk result (OwesNothing (IsFull (D.level guide.now.driver) guide.now.slot.0) (λ node. Contains guide.now.leaders.items node) guide.now.proposal (heard self.new.board) (own_lists self.new.lists)) }
+        ensures votes { OnOk result (VotesFor (MayVote (IsFull (D.level guide.now.driver) guide.now.slot.0) (D.extracted guide.now.driver guide.now.slot.0) (λ node. Contains guide.now.leaders.items node) guide.now.proposal (heard self.new.board)) (own_lists self.old.lists) (own_lists self.new.lists)) }
         ensures own { IfOk result (λ given. ForSome given.statement (λ e. IsOwnOf self.new guide.now.slot.0 e)) }
         ensures more { IfOk result (λ given. IsSome given.composite ↔ (length self.old.lists.candidates.values.items < length self.new.lists.candidates.values.items)) }
         ensures all { IfOk result (λ given. ForSome given.composite (λ v. v ≡ D.combined guide.now.driver guide.now.slot.0 self.new.lists.candidates.values.items)) }

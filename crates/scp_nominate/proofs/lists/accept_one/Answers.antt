@@ -14,7 +14,7 @@ returns-clause-accepts c =
     let room : HasRoom x.votes v = c.has_room.ensures.0 (search rules) in
     let acc : Accepted (heard c.args.board.now) (Nominated v) = c.in_ok-is_accepted.ensures.exact.0 (search rules) in
     let adds : Adds x.accepted c.insert.new.self v = subst (λ (w : List ℕ). Adds x.accepted c.insert.new.self w) c.in_ok-copy.ensures.same c.in_ok-insert.ensures.added in
-    (accepts_one (heard c.args.board.now) x (record { votes = c.vote.new.votes; accepted = c.insert.new.self; candidates = x.candidates }) v acc c.in_ok-vote.ensures.more (c.in_ok-vote.ensures.room room) adds (λ _. x.candidates)).0
+    (accepts_one (heard c.args.board.now) x (record { votes = c.vote.new.votes; accepted = c.insert.new.self; candidates = x.candidates }) v acc c.in_ok-vote.ensures.more (c.in_ok-vote.ensures.room room) c.in_ok-vote.ensures.only adds (λ _. x.candidates)).0
 
 pub returns-clause-taken : goal.returns-clause-taken
 returns-clause-taken c acc =
@@ -22,4 +22,4 @@ returns-clause-taken c acc =
     let v = c.args.value.now in
     let room : HasRoom x.votes v = c.has_room.ensures.0 (search rules) in
     let adds : Adds x.accepted c.insert.new.self v = subst (λ (w : List ℕ). Adds x.accepted c.insert.new.self w) c.in_ok-copy.ensures.same c.in_ok-insert.ensures.added in
-    (accepts_one (heard c.args.board.now) x (record { votes = c.vote.new.votes; accepted = c.insert.new.self; candidates = x.candidates }) v acc c.in_ok-vote.ensures.more (c.in_ok-vote.ensures.room room) adds (λ _. x.candidates)).1
+    (accepts_one (heard c.args.board.now) x (record { votes = c.vote.new.votes; accepted = c.insert.new.self; candidates = x.candidates }) v acc c.in_ok-vote.ensures.more (c.in_ok-vote.ensures.room room) c.in_ok-vote.ensures.only adds (λ _. x.candidates)).1

@@ -1,4 +1,4 @@
-use Rattle.scp_nominate.proofs.Turning.{inserted, there}
+use Rattle.scp_nominate.proofs.Turning.{inserted}
 use Rattle.scp_nominate.proofs.nodes.add_node.Goals as goal
 
 pub returns-in_ok-insert-in-Err-clause-added : goal.returns-in_ok-insert-in-Err-clause-added

@@ -1,5 +1,6 @@
-use Rattle.std.proofs.Common.{◌≡◌, refl, sym, subst, Contains}
+use Rattle.std.proofs.Common.{◌≡◌, refl, sym, subst, inl, inr, [], Contains, rules}
 use Rattle.scp_nominate.proofs.Growing.{votes_trans, tried_stays}
+use Rattle.scp_nominate.proofs.Suggesting.{none_of}
 use Rattle.scp_nominate.proofs.guide.Guide.vote_first.Goals as goal
 
 pub returns-clause-voting : goal.returns-clause-voting
@@ -10,3 +11,14 @@ returns-clause-voted g c none = record {
   proposed = λ leads v e. tried_stays c.vote_own.new.votes c.vote_leaders.new.votes v c.in_ok-vote_leaders.ensures.more (c.in_ok-vote_own.ensures.tried (subst (λ n. Contains c.args.self.now.leaders.items n) (sym c.me_of.ensures) leads) v e);
   led = λ node other leads v f names. c.in_ok-vote_leaders.ensures.tried node (subst (λ ns. Contains ns node) (sym c.as_slice-leaders.ensures.value) leads) other v f names;
 }
+
+pub returns-clause-only : goal.returns-clause-only
+returns-clause-only g c v has =
+    let none : c.args.lists.now.candidates.values.items ≡ [] = none_of c.args.lists.now.candidates.values.items (λ lt. (search rules)) in
+    elim (c.in_ok-vote_leaders.ensures.only v has) [
+      | inl had ↦ elim (c.in_ok-vote_own.ensures.only v had) [
+        | inl old ↦ inl old
+        | inr own ↦ inr (inr (none, inl (subst (λ n. Contains c.args.self.now.leaders.items n) c.me_of.ensures own.0, own.1)))
+      ]
+      | inr led ↦ inr (inr (none, inr (led.0, subst (λ ns. Contains ns led.0) c.as_slice-leaders.ensures.value led.1, led.2)))
+    ]

@@ -1,15 +1,11 @@
-use Rattle.std.proofs.Common.{◌≡◌, ◌≤◌, ◌<◌, ◌+◌, ◌↔◌, ◌⊎◌, ℕ, List, [], Contains, slice_get, inl, inr, refl, sym, ◌∙◌, ap, subst, Some, None, false, true, length, arith, rules}
+use Rattle.std.proofs.Common.{◌≡◌, ◌↔◌, ◌⊎◌, Contains, slice_get, refl, sym, subst, Some, length, rules}
 use Rattle.scp_types.specs.declared.names.NodeId.{NodeId}
 use Rattle.scp_driver.specs.Driver.{IsFull}
 use Rattle.scp_nominate.specs.Heard.{heard}
-use Rattle.scp_nominate.specs.Steps.{own_lists}
 use Rattle.scp_nominate.specs.Turns.{Leads, AreInTurn}
 use Rattle.scp_quorum.specs.QuorumTree.{QuorumTree}
-use Rattle.scp_nominate.specs.declared.lists.Lists.{Lists}
-use Rattle.scp_nominate.specs.State.{own_at}
-use Rattle.scp_nominate.specs.Nomination.{Advances, nomination_of}
-use Rattle.scp_nominate.proofs.Advancing.{advances, works, paid_by, keeps_others, unchanged, heard_rests, same_own, hears_of, turns_kept, begins_rests, begins_paid}
-use Rattle.scp_nominate.proofs.Turning.{more_leads, first_leads, some_turn}
+use Rattle.scp_nominate.proofs.Advancing.{begins_rests, begins_paid}
+use Rattle.scp_nominate.proofs.Turning.{first_leads, some_turn}
 use Rattle.scp_nominate.proofs.nominator.Nominator.new.Goals as goal
 
 pub add_leader-requires-clause-some : goal.add_leader-requires-clause-some

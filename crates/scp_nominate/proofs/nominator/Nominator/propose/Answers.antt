@@ -1,14 +1,10 @@
-use Rattle.std.proofs.Common.{◌≡◌, ◌≤◌, ◌<◌, ◌+◌, ◌↔◌, ◌⊎◌, ℕ, List, [], Contains, slice_get, inl, inr, refl, sym, ◌∙◌, ap, subst, Some, None, false, true, length, arith, rules}
-use Rattle.scp_types.specs.declared.names.NodeId.{NodeId}
+use Rattle.std.proofs.Common.{◌≡◌, Contains, refl, Some, false, rules}
 use Rattle.scp_driver.specs.Driver.{IsFull}
 use Rattle.scp_nominate.specs.Heard.{heard}
 use Rattle.scp_nominate.specs.Steps.{own_lists}
 use Rattle.scp_nominate.specs.Turns.{Leads}
-use Rattle.scp_nominate.specs.declared.lists.Lists.{Lists}
-use Rattle.scp_nominate.specs.State.{own_at}
-use Rattle.scp_nominate.specs.Nomination.{Advances, nomination_of}
-use Rattle.scp_nominate.proofs.Advancing.{advances, works, paid_by, keeps_others, unchanged, heard_rests, same_own, hears_of, turns_kept, begins_rests, begins_paid}
-use Rattle.scp_nominate.proofs.Turning.{more_leads, first_leads, some_turn}
+use Rattle.scp_nominate.proofs.Advancing.{advances, works, paid_by, keeps_others, unchanged}
+use Rattle.scp_nominate.proofs.Suggesting.{own_lists_of, votes_led}
 use Rattle.scp_nominate.proofs.nominator.Nominator.propose.Goals as goal
 
 pub returns-then-is_some-clause-advances : goal.returns-then-is_some-clause-advances
@@ -34,3 +30,32 @@ pub returns-clause-paid : goal.returns-clause-paid
 returns-clause-paid g c =
     let whole : c.args.self.now.failed ≡ false = search rules in
     paid_by (IsFull (g.D.Driver.level c.args.self.now.guide.driver) c.args.self.now.guide.slot.0) (λ node. Contains c.args.self.now.guide.leaders.items node) (Leads (g.D.Driver.place c.args.self.now.guide.driver c.args.self.now.guide.slot.0) c.args.self.now.nodes.items c.args.self.now.rounds) (Some c.args.value) (heard c.advance.new.self.board) (own_lists c.advance.new.self.lists) (λ v l. ((c.requires.sound whole).leaders v).1 l) c.in_ok-given.ensures.owed
+
+pub returns-then-is_some-clause-stands : goal.returns-then-is_some-clause-stands
+returns-then-is_some-clause-stands g c =
+    let whole : c.args.self.now.failed ≡ false = search rules in
+    (c.requires.sound whole).rest.stands
+
+pub returns-then-is_some-clause-lists : goal.returns-then-is_some-clause-lists
+returns-then-is_some-clause-lists g c =
+    let whole : c.args.self.now.failed ≡ false = search rules in
+    own_lists_of (IsFull (g.D.Driver.level c.args.self.now.guide.driver) c.args.self.now.guide.slot.0) c.args.self.now.state.lists (c.requires.sound whole).rest.ready
+
+pub returns-clause-stands : goal.returns-clause-stands
+returns-clause-stands g c = c.in_ok-given.ensures.settled.stands
+
+pub returns-clause-lists : goal.returns-clause-lists
+returns-clause-lists g c = own_lists_of (IsFull (g.D.Driver.level c.args.self.now.guide.driver) c.args.self.now.guide.slot.0) c.advance.new.self.lists c.in_ok-given.ensures.settled.ready
+
+pub returns-clause-votes : goal.returns-clause-votes
+returns-clause-votes g c =
+    let whole : c.args.self.now.failed ≡ false = search rules in
+    votes_led (IsFull (g.D.Driver.level c.args.self.now.guide.driver) c.args.self.now.guide.slot.0) (g.D.Driver.extracted c.args.self.now.guide.driver c.args.self.now.guide.slot.0) (Some c.args.value) (λ v. Contains c.args.self.now.guide.leaders.items v) (Leads (g.D.Driver.place c.args.self.now.guide.driver c.args.self.now.guide.slot.0) c.args.self.now.nodes.items c.args.self.now.rounds) (heard c.advance.new.self.board) c.args.self.now.state.lists c.advance.new.self.lists (c.requires.sound whole).leaders c.in_ok-given.ensures.votes
+
+pub returns-then-is_some-clause-counted : goal.returns-then-is_some-clause-counted
+returns-then-is_some-clause-counted g c =
+    let whole : c.args.self.now.failed ≡ false = search rules in
+    (c.requires.sound whole).rest.keeps
+
+pub returns-clause-counted : goal.returns-clause-counted
+returns-clause-counted g c = c.in_ok-given.ensures.settled.chain.keeps

@@ -1,14 +1,12 @@
-use Rattle.std.proofs.Common.{◌≡◌, ◌≤◌, ◌<◌, ◌+◌, ◌↔◌, ◌⊎◌, ℕ, List, [], Contains, slice_get, inl, inr, refl, sym, ◌∙◌, ap, subst, Some, None, false, true, length, arith, rules}
+use Rattle.std.proofs.Common.{◌≡◌, ◌+◌, ◌↔◌, ◌⊎◌, Contains, slice_get, subst, Some, false, length, arith, rules}
 use Rattle.scp_types.specs.declared.names.NodeId.{NodeId}
 use Rattle.scp_driver.specs.Driver.{IsFull}
 use Rattle.scp_nominate.specs.Heard.{heard}
 use Rattle.scp_nominate.specs.Steps.{own_lists}
 use Rattle.scp_nominate.specs.Turns.{Leads}
-use Rattle.scp_nominate.specs.declared.lists.Lists.{Lists}
-use Rattle.scp_nominate.specs.State.{own_at}
-use Rattle.scp_nominate.specs.Nomination.{Advances, nomination_of}
-use Rattle.scp_nominate.proofs.Advancing.{advances, works, paid_by, keeps_others, unchanged, heard_rests, same_own, hears_of, turns_kept, begins_rests, begins_paid}
-use Rattle.scp_nominate.proofs.Turning.{more_leads, first_leads, some_turn}
+use Rattle.scp_nominate.proofs.Advancing.{advances, works, paid_by, keeps_others, unchanged}
+use Rattle.scp_nominate.proofs.Turning.{more_leads}
+use Rattle.scp_nominate.proofs.Suggesting.{own_lists_of, votes_led}
 use Rattle.scp_nominate.proofs.nominator.Nominator.round.Goals as goal
 
 pub returns-then-self-len-clause-advances : goal.returns-then-self-len-clause-advances
@@ -31,3 +29,32 @@ pub returns-clause-sound : goal.returns-clause-sound
 returns-clause-sound g c e =
     let whole : c.args.self.now.failed ≡ false = search rules in
     works g.D.Driver.level g.D.Driver.place _ c.args.self.now.state _ c.in_ok-given.ensures.settled c.in_ok-given.ensures.owed (more_leads (g.D.Driver.place c.args.self.now.guide.driver c.args.self.now.guide.slot.0) c.args.self.now.nodes.items c.args.self.now.rounds (λ v. Contains c.add_leader.new.leaders.items v) (λ v. Contains c.args.self.now.guide.leaders.items v) (c.requires.sound whole).leaders (subst (λ xs. (v : NodeId) → Contains c.add_leader.new.leaders.items v ↔ (Contains c.args.self.now.guide.leaders.items v ⊎ (slice_get xs ((g.D.Driver.place c.args.self.now.guide.driver c.args.self.now.guide.slot.0) (c.args.self.now.rounds + 1) (length xs)) ≡ Some v))) c.as_slice-nodes.ensures.value c.in_ok-add_leader.ensures.added)) (c.requires.sound whole).nodes (omega (arith, c.if-self-len.false, c.len.ensures))
+
+pub returns-then-self-len-clause-stands : goal.returns-then-self-len-clause-stands
+returns-then-self-len-clause-stands g c =
+    let whole : c.args.self.now.failed ≡ false = search rules in
+    (c.requires.sound whole).rest.stands
+
+pub returns-then-self-len-clause-lists : goal.returns-then-self-len-clause-lists
+returns-then-self-len-clause-lists g c =
+    let whole : c.args.self.now.failed ≡ false = search rules in
+    own_lists_of (IsFull (g.D.Driver.level c.args.self.now.guide.driver) c.args.self.now.guide.slot.0) c.args.self.now.state.lists (c.requires.sound whole).rest.ready
+
+pub returns-clause-stands : goal.returns-clause-stands
+returns-clause-stands g c = c.in_ok-given.ensures.settled.stands
+
+pub returns-clause-lists : goal.returns-clause-lists
+returns-clause-lists g c = own_lists_of (IsFull (g.D.Driver.level c.args.self.now.guide.driver) c.args.self.now.guide.slot.0) c.advance.new.self.lists c.in_ok-given.ensures.settled.ready
+
+pub returns-clause-votes : goal.returns-clause-votes
+returns-clause-votes g c =
+    let whole : c.args.self.now.failed ≡ false = search rules in
+    votes_led (IsFull (g.D.Driver.level c.args.self.now.guide.driver) c.args.self.now.guide.slot.0) (g.D.Driver.extracted c.args.self.now.guide.driver c.args.self.now.guide.slot.0) c.args.self.now.guide.proposal (λ v. Contains c.add_leader.new.leaders.items v) (Leads (g.D.Driver.place c.args.self.now.guide.driver c.args.self.now.guide.slot.0) c.args.self.now.nodes.items (c.args.self.now.rounds + 1)) (heard c.advance.new.self.board) c.args.self.now.state.lists c.advance.new.self.lists (more_leads (g.D.Driver.place c.args.self.now.guide.driver c.args.self.now.guide.slot.0) c.args.self.now.nodes.items c.args.self.now.rounds (λ v. Contains c.add_leader.new.leaders.items v) (λ v. Contains c.args.self.now.guide.leaders.items v) (c.requires.sound whole).leaders (subst (λ xs. (v : NodeId) → Contains c.add_leader.new.leaders.items v ↔ (Contains c.args.self.now.guide.leaders.items v ⊎ (slice_get xs ((g.D.Driver.place c.args.self.now.guide.driver c.args.self.now.guide.slot.0) (c.args.self.now.rounds + 1) (length xs)) ≡ Some v))) c.as_slice-nodes.ensures.value c.in_ok-add_leader.ensures.added)) c.in_ok-given.ensures.votes
+
+pub returns-then-self-len-clause-counted : goal.returns-then-self-len-clause-counted
+returns-then-self-len-clause-counted g c =
+    let whole : c.args.self.now.failed ≡ false = search rules in
+    (c.requires.sound whole).rest.keeps
+
+pub returns-clause-counted : goal.returns-clause-counted
+returns-clause-counted g c = c.in_ok-given.ensures.settled.chain.keeps

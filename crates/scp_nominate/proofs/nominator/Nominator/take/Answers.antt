@@ -1,14 +1,14 @@
-use Rattle.std.proofs.Common.{◌≡◌, ◌≤◌, ◌<◌, ◌+◌, ◌↔◌, ◌⊎◌, ℕ, List, [], Contains, slice_get, inl, inr, refl, sym, ◌∙◌, ap, subst, Some, None, false, true, length, arith, rules}
-use Rattle.scp_types.specs.declared.names.NodeId.{NodeId}
+use Rattle.std.proofs.Common.{◌≡◌, Contains, subst, false, rules}
 use Rattle.scp_driver.specs.Driver.{IsFull}
 use Rattle.scp_nominate.specs.Heard.{heard}
 use Rattle.scp_nominate.specs.Steps.{own_lists}
 use Rattle.scp_nominate.specs.Turns.{Leads}
+use Rattle.scp_nominate.specs.Owed.{MayVote, VotesFor}
 use Rattle.scp_nominate.specs.declared.lists.Lists.{Lists}
 use Rattle.scp_nominate.specs.State.{own_at}
 use Rattle.scp_nominate.specs.Nomination.{Advances, nomination_of}
-use Rattle.scp_nominate.proofs.Advancing.{advances, works, paid_by, keeps_others, unchanged, heard_rests, same_own, hears_of, turns_kept, begins_rests, begins_paid}
-use Rattle.scp_nominate.proofs.Turning.{more_leads, first_leads, some_turn}
+use Rattle.scp_nominate.proofs.Advancing.{advances, works, paid_by, keeps_others, heard_rests, same_own, hears_of, turns_kept}
+use Rattle.scp_nominate.proofs.Suggesting.{own_lists_of, votes_led}
 use Rattle.scp_nominate.proofs.nominator.Nominator.take.Goals as goal
 
 pub advance-requires : goal.advance-requires
@@ -36,3 +36,23 @@ pub returns-clause-sound : goal.returns-clause-sound
 returns-clause-sound g c e =
     let whole : c.args.self.now.failed ≡ false = search rules in
     works g.D.Driver.level g.D.Driver.place _ c.hear.new.self _ c.in_ok-given.ensures.settled c.in_ok-given.ensures.owed (c.requires.sound whole).leaders (turns_kept (IsFull (g.D.Driver.level c.args.self.now.guide.driver) c.args.self.now.guide.slot.0) c.args.self.now.state c.hear.new.self c.args.envelope.statement.node c.args.envelope.statement.pledges c.args.delivered.value c.args.self.now.nodes.items c.in_ok-hear.ensures.heard (c.requires.sound whole).nodes) (c.requires.sound whole).rounds
+
+pub returns-clause-stands : goal.returns-clause-stands
+returns-clause-stands g c = c.in_ok-given.ensures.settled.stands
+
+pub returns-clause-lists : goal.returns-clause-lists
+returns-clause-lists g c = own_lists_of (IsFull (g.D.Driver.level c.args.self.now.guide.driver) c.args.self.now.guide.slot.0) c.advance.new.self.lists c.in_ok-given.ensures.settled.ready
+
+pub returns-clause-votes : goal.returns-clause-votes
+returns-clause-votes g c =
+    let whole : c.args.self.now.failed ≡ false = search rules in
+    votes_led (IsFull (g.D.Driver.level c.args.self.now.guide.driver) c.args.self.now.guide.slot.0) (g.D.Driver.extracted c.args.self.now.guide.driver c.args.self.now.guide.slot.0) c.args.self.now.guide.proposal (λ v. Contains c.args.self.now.guide.leaders.items v) (Leads (g.D.Driver.place c.args.self.now.guide.driver c.args.self.now.guide.slot.0) c.args.self.now.nodes.items c.args.self.now.rounds) (heard c.advance.new.self.board) c.args.self.now.state.lists c.advance.new.self.lists (c.requires.sound whole).leaders (subst
+    (λ (s : Lists). VotesFor
+    (MayVote (IsFull (g.D.Driver.level c.args.self.now.guide.driver) c.args.self.now.guide.slot.0) (g.D.Driver.extracted c.args.self.now.guide.driver c.args.self.now.guide.slot.0) (λ node. Contains c.args.self.now.guide.leaders.items node) c.args.self.now.guide.proposal (heard c.advance.new.self.board))
+    (own_lists s)
+    (own_lists c.advance.new.self.lists))
+    c.in_ok-hear.ensures.heard.lists
+    c.in_ok-given.ensures.votes)
+
+pub returns-clause-counted : goal.returns-clause-counted
+returns-clause-counted g c = c.in_ok-given.ensures.settled.chain.keeps

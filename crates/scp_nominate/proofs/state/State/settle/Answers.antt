@@ -1,34 +1,59 @@
-use Rattle.std.proofs.Common.{◌≡◌, rules}
+use Rattle.std.proofs.Common.{◌≡◌, ℕ, List, inl, sym, subst, Contains, rules}
 use Rattle.scp_driver.specs.Driver.{IsFull}
 use Rattle.scp_nominate.specs.Heard.{heard}
+use Rattle.scp_vote.specs.Board.{Seen}
+use Rattle.scp_nominate.specs.declared.lists.Lists.{Lists}
 use Rattle.scp_nominate.specs.Own.{size}
+use Rattle.scp_nominate.specs.Owed.{MayVote, VotesFor}
+use Rattle.scp_nominate.specs.Steps.{own_lists}
+use Rattle.scp_nominate.proofs.Suggesting.{may_stays, votes_weaker, votes_then}
 use Rattle.scp_nominate.proofs.Passing.{size_bounded, pass_keeps}
 use Rattle.scp_nominate.proofs.Settling.{settling_start, settling_rests, settling_renewed, falls}
 use Rattle.scp_nominate.proofs.state.State.settle.Goals as goal
 
 pub loop-self-init : goal.loop-self-init
-loop-self-init g c = settling_start (IsFull (g.D.Driver.level c.args.guide.now.driver) c.args.guide.now.slot.0) c.args.self.now c.requires.rest
+loop-self-init g c = record { settling = settling_start (IsFull (g.D.Driver.level c.args.guide.now.driver) c.args.guide.now.slot.0) c.args.self.now c.requires.rest; votes = λ v has. inl has }
 
 pub size-before-requires : goal.size-before-requires
-size-before-requires g c = record { few = size_bounded (IsFull (g.D.Driver.level c.args.guide.now.driver) c.args.guide.now.slot.0) c.loop-self.self.lists c.loop-self.invariant.ready }
+size-before-requires g c = record { few = size_bounded (IsFull (g.D.Driver.level c.args.guide.now.driver) c.args.guide.now.slot.0) c.loop-self.self.lists c.loop-self.invariant.settling.ready }
 
 pub pass-requires : goal.pass-requires
-pass-requires g c = record { known = c.loop-self.invariant.known }
+pass-requires g c = record { known = c.loop-self.invariant.settling.known }
 
 pub size-requires : goal.size-requires
-size-requires g c = record { few = size_bounded (IsFull (g.D.Driver.level c.args.guide.now.driver) c.args.guide.now.slot.0) c.pass.new.lists (pass_keeps (IsFull (g.D.Driver.level c.args.guide.now.driver) c.args.guide.now.slot.0) (heard c.loop-self.self.board) c.loop-self.self.lists c.pass.new.lists c.loop-self.invariant.ready c.in_ok-pass.ensures.passes) }
+size-requires g c = record { few = size_bounded (IsFull (g.D.Driver.level c.args.guide.now.driver) c.args.guide.now.slot.0) c.pass.new.lists (pass_keeps (IsFull (g.D.Driver.level c.args.guide.now.driver) c.args.guide.now.slot.0) (heard c.loop-self.self.board) c.loop-self.self.lists c.pass.new.lists c.loop-self.invariant.settling.ready c.in_ok-pass.ensures.passes) }
 
 pub returns-then-size-before-clause-settled : goal.returns-then-size-before-clause-settled
 returns-then-size-before-clause-settled g c =
     let same : size c.pass.new.lists ≡ size c.loop-self.self.lists = search rules in
-    settling_rests (IsFull (g.D.Driver.level c.args.guide.now.driver) c.args.guide.now.slot.0) c.args.self.now c.loop-self.self c.loop-self.renewed c.pass.new.lists c.loop-self.invariant c.in_ok-pass.ensures.passes same
+    settling_rests (IsFull (g.D.Driver.level c.args.guide.now.driver) c.args.guide.now.slot.0) c.args.self.now c.loop-self.self c.loop-self.renewed c.pass.new.lists c.loop-self.invariant.settling c.in_ok-pass.ensures.passes same
 
 pub loop-self-smaller : goal.loop-self-smaller
 loop-self-smaller g c =
     let differ : size c.pass.new.lists ≡ size c.loop-self.self.lists → ⊥ = λ e. (search rules) in
-    falls (IsFull (g.D.Driver.level c.args.guide.now.driver) c.args.guide.now.slot.0) (heard c.loop-self.self.board) c.loop-self.self.lists c.pass.new.lists c.renew.new.self.lists c.loop-self.invariant.ready c.in_ok-pass.ensures.passes differ c.in_ok-renew.ensures.renews.lists
+    falls (IsFull (g.D.Driver.level c.args.guide.now.driver) c.args.guide.now.slot.0) (heard c.loop-self.self.board) c.loop-self.self.lists c.pass.new.lists c.renew.new.self.lists c.loop-self.invariant.settling.ready c.in_ok-pass.ensures.passes differ c.in_ok-renew.ensures.renews.lists
+
+pub returns-then-size-before-clause-votes : goal.returns-then-size-before-clause-votes
+returns-then-size-before-clause-votes g c = votes_then
+    (MayVote (IsFull (g.D.Driver.level c.args.guide.now.driver) c.args.guide.now.slot.0) (g.D.Driver.extracted c.args.guide.now.driver c.args.guide.now.slot.0) (λ node. Contains c.args.guide.now.leaders.items node) c.args.guide.now.proposal (heard c.loop-self.self.board))
+    c.args.self.now.lists
+    c.loop-self.self.lists
+    c.pass.new.lists
+    c.loop-self.invariant.settling.candidates
+    c.in_ok-pass.ensures.passes.accepted
+    c.loop-self.invariant.votes
+    c.in_ok-pass.ensures.votes
 
 pub loop-self-preserved : goal.loop-self-preserved
 loop-self-preserved g c =
     let differ : size c.pass.new.lists ≡ size c.loop-self.self.lists → ⊥ = λ e. (search rules) in
-    settling_renewed (IsFull (g.D.Driver.level c.args.guide.now.driver) c.args.guide.now.slot.0) c.args.self.now c.loop-self.self c.loop-self.renewed c.pass.new.lists c.loop-self.invariant c.in_ok-pass.ensures.passes c.renew.new.self differ c.in_ok-renew.ensures.renews
+    let may : Seen → List ℕ → Type 0 = MayVote (IsFull (g.D.Driver.level c.args.guide.now.driver) c.args.guide.now.slot.0) (g.D.Driver.extracted c.args.guide.now.driver c.args.guide.now.slot.0) (λ node. Contains c.args.guide.now.leaders.items node) c.args.guide.now.proposal in
+    let passed : VotesFor (may (heard c.loop-self.self.board)) (own_lists c.args.self.now.lists) (own_lists c.pass.new.lists) =
+    votes_then (may (heard c.loop-self.self.board)) c.args.self.now.lists c.loop-self.self.lists c.pass.new.lists c.loop-self.invariant.settling.candidates c.in_ok-pass.ensures.passes.accepted c.loop-self.invariant.votes c.in_ok-pass.ensures.votes in
+    record {
+      settling = settling_renewed (IsFull (g.D.Driver.level c.args.guide.now.driver) c.args.guide.now.slot.0) c.args.self.now c.loop-self.self c.loop-self.renewed c.pass.new.lists c.loop-self.invariant.settling c.in_ok-pass.ensures.passes c.renew.new.self differ c.in_ok-renew.ensures.renews;
+      votes = subst (λ (t : Lists). VotesFor (may (heard c.renew.new.self.board)) (own_lists c.args.self.now.lists) (own_lists t)) (sym c.in_ok-renew.ensures.renews.lists)
+          (votes_weaker (may (heard c.loop-self.self.board)) (may (heard c.renew.new.self.board)) c.args.self.now.lists c.pass.new.lists
+          (may_stays (IsFull (g.D.Driver.level c.args.guide.now.driver) c.args.guide.now.slot.0) (g.D.Driver.extracted c.args.guide.now.driver c.args.guide.now.slot.0) c.args.guide.now.proposal (λ node. Contains c.args.guide.now.leaders.items node) (heard c.loop-self.self.board) (heard c.renew.new.self.board) _ _ c.in_ok-renew.ensures.renews.board)
+          passed);
+    }

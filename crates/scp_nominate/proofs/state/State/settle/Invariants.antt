@@ -1,11 +1,20 @@
-use Rattle.std.proofs.Common.{◌-◌}
+use Rattle.std.proofs.Common.{◌-◌, Contains}
 use Rattle.scp_driver.specs.Driver.{IsFull}
+use Rattle.scp_nominate.specs.Heard.{heard}
 use Rattle.scp_nominate.specs.Own.{size}
+use Rattle.scp_nominate.specs.Owed.{MayVote, VotesFor}
 use Rattle.scp_nominate.specs.State.{IsSettling}
+use Rattle.scp_nominate.specs.Steps.{own_lists}
 use Rattle.scp_nominate.proofs.state.State.settle.Given as goal
 
 abbrev pub invariant-loop-self : goal.invariant-loop-self
-invariant-loop-self g l = IsSettling (IsFull (g.D.Driver.level l.guide.driver) l.guide.slot.0) l.fn.self l.self l.renewed
+invariant-loop-self g l = record {
+  settling : IsSettling (IsFull (g.D.Driver.level l.guide.driver) l.guide.slot.0) l.fn.self l.self l.renewed;
+  votes : VotesFor
+      (MayVote (IsFull (g.D.Driver.level l.guide.driver) l.guide.slot.0) (g.D.Driver.extracted l.guide.driver l.guide.slot.0) (λ node. Contains l.guide.leaders.items node) l.guide.proposal (heard l.self.board))
+      (own_lists l.fn.self.lists)
+      (own_lists l.self.lists);
+}
 
 abbrev pub decreases-loop-self : goal.decreases-loop-self
 decreases-loop-self g l = 14 - size l.self.lists

@@ -1,0 +1,8 @@
+use Rattle.std.proofs.Common.{◌∙◌, ap, subst, List, inl, inr, Some, Contains, rules}
+use Rattle.scp_types.specs.declared.names.NodeId.{NodeId}
+use Rattle.scp_nominate.proofs.guide.Guide.vote_own.Goals as goal
+
+pub returns-clause-only : goal.returns-clause-only
+returns-clause-only g c v has =
+    let leads : Contains c.args.self.now.leaders.items c.args.me = subst (λ (ns : List NodeId). Contains ns c.args.me) c.as_slice.ensures.value (c.has_node.ensures.0 (search rules)) in
+    elim (c.in_ok-vote.ensures.only v has) [ inl old ↦ inl old | inr e ↦ inr (leads, c.in-Some.is ∙ ap Some e) ]
