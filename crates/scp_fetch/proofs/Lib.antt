@@ -1,3 +1,3 @@
-pub mod Walk
+pub mod Tables
 pub mod Ring
 pub mod Storing

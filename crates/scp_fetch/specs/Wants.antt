@@ -68,6 +68,10 @@ missed_by miss wants = map (count_miss miss) (filter (λ want. not (is_last miss
 abbrev pub gives_up : Miss → List Want → Hash → Bool
 gives_up miss wants hash = list_any (λ want. is_for hash want && is_last miss want) wants
 
+-- the hashes that one miss more of each gives up, in the order in which they became wanted
+abbrev pub last_missed : List Want → List Hash
+last_missed wants = map (λ want. want.hash) (filter (is_last All) wants)
+
 -- ---- answers
 
 abbrev pub miss_of : Hash → List Want → Missed

@@ -1,12 +1,13 @@
 //! The hashes that are wanted.
 ghost use Rattle.std.specs.Prelude.{◌≡◌, ◌<◌, [], not, IfOk, OnOk, OnErr, IsOkUnless};
-ghost use Rattle.scp_fetch.specs.Wants.{is_wanted, is_asked, wanted_by, unasked, missed_by, without, gives_up, miss_of, answer_of};
+ghost use Rattle.scp_fetch.specs.Wants.{is_wanted, is_asked, wanted_by, unasked, missed_by, without, gives_up, last_missed, miss_of, answer_of};
 
 use crate::answers::{Answer, Missed};
 use crate::want::{
-    Miss, Want, count_misses, first_want, forget_last, forget_one, has_asked, has_last, has_want,
-    note_asked, note_unasked,
+    Miss, Want, add_want, count_all, end_missed, end_want, has_asked, has_last, has_want,
+    last_hashes, note_asked, note_missed, note_unasked,
 };
+use indexmap::IndexMap;
 use scp_types::{Fault, Hash};
 use std::alloc::Global;
 use std::marker::Model;
@@ -20,20 +21,20 @@ pub const LINK_LIMIT: u8 = 8;
 /// The hashes that are wanted, in the order in which they became so, each with its misses and the links that were asked.
 #[derive(Debug, Drop)]
 pub struct Fetcher {
-    wants: Vec<Want>,
+    wants: IndexMap<[u8; 32], Want>,
 }
 
 impl Model for Fetcher {
     ghost use Rattle.std.specs.Prelude.{List};
     ghost use Rattle.std.specs.List.{AllByRecursion};
     ghost use Rattle.scp_fetch.specs.declared.want.Want.{Want};
-    ghost use Rattle.scp_fetch.specs.Wants.{IsPatient};
+    ghost use Rattle.scp_fetch.specs.Table.{wants_in, IsUnderHash};
 
     ghost Value = { List Want };
 
-    ghost view = { λ a. a.wants.items };
+    ghost view = { λ a. wants_in a.wants.entries };
 
-    ghost invariant = { λ a. AllByRecursion IsPatient a.wants.items };
+    ghost invariant = { λ a. AllByRecursion IsUnderHash a.wants.entries };
 }
 
 impl Fetcher {
@@ -42,7 +43,7 @@ impl Fetcher {
         ensures { result ≡ [] }
     {
         Fetcher {
-            wants: Vec::new(alloc),
+            wants: IndexMap::new(alloc),
         }
     }
 
@@ -50,14 +51,23 @@ impl Fetcher {
     pub fn is_wanted(&self, hash: &Hash) -> bool
         ensures { result ≡ is_wanted hash.now self.now }
     {
-        has_want(self.wants.as_slice(), *hash)
+        has_want(&self.wants, hash)
     }
 
     /// Whether one more miss of the hash, which is wanted, is its twelfth.
     pub fn is_at_last_miss(&self, hash: &Hash) -> bool
         ensures { result ≡ gives_up Miss.All self.now hash.now }
     {
-        has_last(self.wants.as_slice(), Miss::All, *hash)
+        has_last(&self.wants, Miss::All, hash)
+    }
+
+    /// The hashes for which one more miss is the twelfth, in the order in which they became wanted. The one refusal is
+    /// `Fault::NoMemory`.
+    pub fn at_last_miss(&self) -> Result<Vec<Hash>, Fault>
+        ensures hashes { IfOk result (λ hashes. hashes.items ≡ last_missed self.now) }
+        ensures only_memory { IsOkUnless result Fault.NoMemory }
+    {
+        last_hashes(&self.wants)
     }
 
     /// Wants the hash, and says whether that link is to be asked: `true` exactly where it wasn't asked since both the hash
@@ -71,10 +81,10 @@ impl Fetcher {
         ensures only_memory { IsOkUnless result Fault.NoMemory }
     {
         let asks = !self.asked(hash, link);
-        if has_want(self.wants.as_slice(), *hash) {
-            note_asked(&mut self.wants, *hash, link as usize);
+        if has_want(&self.wants, hash) {
+            note_asked(&mut self.wants, hash, link as usize);
         } else {
-            self.wants.push(first_want(*hash, link as usize))?;
+            add_want(&mut self.wants, hash, link as usize)?;
         }
         Ok(asks)
     }
@@ -85,7 +95,7 @@ impl Fetcher {
         requires link { link < 8 }
         ensures { result ≡ is_asked hash.now link self.now }
     {
-        has_asked(self.wants.as_slice(), *hash, link as usize)
+        has_asked(&self.wants, hash, link as usize)
     }
 
     /// One miss of the hash: a node has no such set. The twelfth gives it up, and it isn't wanted any more.
@@ -93,28 +103,22 @@ impl Fetcher {
         ensures answer { result ≡ miss_of hash.now self.old }
         ensures counted { self.new ≡ missed_by (Miss.One hash.now) self.old }
     {
-        let wanted = self.is_wanted(hash);
-        let last = has_last(self.wants.as_slice(), Miss::One(*hash), *hash);
-        self.count(Miss::One(*hash));
-        match (last, wanted) {
-            (true, _) => Missed::GaveUp,
-            (false, true) => Missed::Waiting,
-            (false, false) => Missed::Unwanted,
+        if !self.is_wanted(hash) {
+            return Missed::Unwanted;
         }
+        if has_last(&self.wants, Miss::One(*hash), hash) {
+            end_missed(&mut self.wants, hash);
+            return Missed::GaveUp;
+        }
+        note_missed(&mut self.wants, hash);
+        Missed::Waiting
     }
 
     /// One miss of each hash that is wanted: time went on. Those for which it is the twelfth aren't wanted any more.
     pub fn miss_all(&mut self)
         ensures { self.new ≡ missed_by Miss.All self.old }
     {
-        self.count(Miss::All);
-    }
-
-    fn count(&mut self, miss: Miss)
-        ensures { self.new ≡ missed_by miss self.old }
-    {
-        forget_last(&mut self.wants, miss);
-        count_misses(&mut self.wants, miss);
+        count_all(&mut self.wants);
     }
 
     /// A set of that hash came. What was wanted isn't any more.
@@ -143,6 +147,6 @@ impl Fetcher {
     pub fn forget(&mut self, hash: &Hash)
         ensures { self.new ≡ without hash.now self.old }
     {
-        forget_one(&mut self.wants, *hash);
+        end_want(&mut self.wants, hash);
     }
 }

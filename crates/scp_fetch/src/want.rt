@@ -1,10 +1,12 @@
-//! A wanted hash, and how its wants are walked.
-ghost use Rattle.std.specs.Prelude.{◌≡◌, ◌<◌, map, filter, not};
+//! A wanted hash, and the table of those that are wanted.
+ghost use Rattle.std.specs.Prelude.{◌≡◌, ◌<◌, ◌++◌, ◌∷◌, [], ℕ, Bool, true, false, map, filter, not, nat_lt, IfOk, OnOk, OnErr, IsOkUnless};
 ghost use Rattle.std.specs.List.{AllByRecursion};
-ghost use Rattle.scp_fetch.specs.Wants.{is_wanted, is_asked, unasked, without, gives_up, ask, unask, new_want, IsPatient, count_miss, is_last, is_missed};
+ghost use Rattle.scp_fetch.specs.Wants.{is_wanted, is_asked, unasked, without, gives_up, ask, unask, new_want, missed_by, count_miss, is_last, is_missed, last_missed};
+ghost use Rattle.scp_fetch.specs.Table.{wants_in, IsUnderHash};
 
 use crate::fetcher::MISS_LIMIT;
-use scp_types::Hash;
+use indexmap::IndexMap;
+use scp_types::{Fault, Hash};
 
 /// A wanted hash, with its misses since it became so, below 12, and of each link whether it was asked since both the hash
 /// became wanted and the link last opened.
@@ -42,42 +44,53 @@ impl Miss {
     }
 }
 
-pub fn has_want(wants: &[Want], hash: Hash) -> bool
-    ensures { result ≡ is_wanted hash wants.now }
+pub fn has_want(wants: &IndexMap<[u8; 32], Want>, hash: &Hash) -> bool
+    requires under { AllByRecursion IsUnderHash wants.now.entries }
+    ensures { result ≡ is_wanted hash.now (wants_in wants.now.entries) }
 {
-    wants.iter().any(|want| hash == want.hash)
+    let _distinct = wants.len();
+    wants.contains_key(&hash.0)
 }
 
-pub fn has_last(wants: &[Want], miss: Miss, hash: Hash) -> bool
-    ensures { result ≡ gives_up miss wants.now hash }
+pub fn has_last(wants: &IndexMap<[u8; 32], Want>, miss: Miss, hash: &Hash) -> bool
+    requires under { AllByRecursion IsUnderHash wants.now.entries }
+    ensures { result ≡ gives_up miss (wants_in wants.now.entries) hash.now }
 {
-    wants
-        .iter()
-        .any(|want| hash == want.hash && miss.ends(want))
+    let _distinct = wants.len();
+    match wants.get(&hash.0) {
+        Some(want) => miss.ends(want),
+        None => false,
+    }
 }
 
-pub fn has_asked(wants: &[Want], hash: Hash, link: usize) -> bool
-    requires { link < 8 }
-    ensures { result ≡ is_asked hash link wants.now }
+pub fn has_asked(wants: &IndexMap<[u8; 32], Want>, hash: &Hash, link: usize) -> bool
+    requires link { link < 8 }
+    requires under { AllByRecursion IsUnderHash wants.now.entries }
+    ensures { result ≡ is_asked hash.now link (wants_in wants.now.entries) }
 {
-    wants
-        .iter()
-        .any(|want| hash == want.hash && want.asked[link])
+    let _distinct = wants.len();
+    match wants.get(&hash.0) {
+        Some(want) => want.asked[link],
+        None => false,
+    }
 }
 
-pub fn forget_last(wants: &mut Vec<Want>, miss: Miss)
-    ensures { wants.new.items ≡ filter (λ want. not (is_last miss want)) wants.old.items }
+/// The hashes for which a miss of each is the last.
+pub fn last_hashes(wants: &IndexMap<[u8; 32], Want>) -> Result<Vec<Hash>, Fault>
+    ensures hashes { IfOk result (λ hashes. hashes.items ≡ last_missed (wants_in wants.now.entries)) }
+    ensures only_memory { IsOkUnless result Fault.NoMemory }
 {
-    wants.retain(|want| !miss.ends(want));
+    let alloc = *wants.allocator();
+    Ok(
+        wants
+            .values()
+            .filter(|want| Miss::All.ends(want))
+            .map(|want| want.hash)
+            .collect(alloc)?,
+    )
 }
 
-pub fn forget_one(wants: &mut Vec<Want>, hash: Hash)
-    ensures { wants.new.items ≡ without hash wants.old.items }
-{
-    wants.retain(|want| hash != want.hash);
-}
-
-pub fn first_want(hash: Hash, link: usize) -> Want
+fn first_want(hash: Hash, link: usize) -> Want
     requires { link < 8 }
     ensures { result ≡ new_want hash link }
 {
@@ -90,15 +103,91 @@ pub fn first_want(hash: Hash, link: usize) -> Want
     }
 }
 
-fn asked_in(want: Want, hash: Hash, link: usize) -> Want
-    requires { link < 8 }
-    ensures { result ≡ ask hash link want }
+/// The hash becomes wanted, and the link is asked.
+pub fn add_want(wants: &mut IndexMap<[u8; 32], Want>, hash: &Hash, link: usize) -> Result<(), Fault>
+    requires link { link < 8 }
+    requires under { AllByRecursion IsUnderHash wants.old.entries }
+    requires new { is_wanted hash.now (wants_in wants.old.entries) ≡ false }
+    ensures added { OnOk result (wants_in wants.new.entries ≡ wants_in wants.old.entries ++ new_want hash.now link ∷ []) }
+    ensures under { OnOk result (AllByRecursion IsUnderHash wants.new.entries) }
+    ensures unchanged { OnErr result (wants.new.entries ≡ wants.old.entries) }
+    ensures only_memory { IsOkUnless result Fault.NoMemory }
 {
-    let mut changed = want;
-    if hash == want.hash {
-        changed.asked[link] = true;
+    let _distinct = wants.len();
+    wants.insert(hash.0, first_want(*hash, link))?;
+    Ok(())
+}
+
+/// The link is asked.
+pub fn note_asked(wants: &mut IndexMap<[u8; 32], Want>, hash: &Hash, link: usize)
+    requires link { link < 8 }
+    requires under { AllByRecursion IsUnderHash wants.old.entries }
+    ensures asked { wants_in wants.new.entries ≡ map (ask hash.now link) (wants_in wants.old.entries) }
+    ensures under { AllByRecursion IsUnderHash wants.new.entries }
+{
+    let _distinct = wants.len();
+    if let Some(want) = wants.get_mut(&hash.0) {
+        want.asked[link] = true;
     }
-    changed
+}
+
+/// One miss of the hash, which isn't its twelfth.
+pub fn note_missed(wants: &mut IndexMap<[u8; 32], Want>, hash: &Hash)
+    requires under { AllByRecursion IsUnderHash wants.old.entries }
+    requires waits { gives_up (Miss.One hash.now) (wants_in wants.old.entries) hash.now ≡ false }
+    ensures counted { wants_in wants.new.entries ≡ missed_by (Miss.One hash.now) (wants_in wants.old.entries) }
+    ensures under { AllByRecursion IsUnderHash wants.new.entries }
+{
+    let _distinct = wants.len();
+    if let Some(want) = wants.get_mut(&hash.0) {
+        want.misses = want.misses.saturating_add(1);
+    }
+}
+
+/// The twelfth miss of the hash: it isn't wanted any more.
+pub fn end_missed(wants: &mut IndexMap<[u8; 32], Want>, hash: &Hash)
+    requires under { AllByRecursion IsUnderHash wants.old.entries }
+    requires last { gives_up (Miss.One hash.now) (wants_in wants.old.entries) hash.now ≡ true }
+    ensures counted { wants_in wants.new.entries ≡ missed_by (Miss.One hash.now) (wants_in wants.old.entries) }
+    ensures under { AllByRecursion IsUnderHash wants.new.entries }
+{
+    let _distinct = wants.len();
+    end_want(wants, hash);
+}
+
+/// The hash isn't wanted any more.
+pub fn end_want(wants: &mut IndexMap<[u8; 32], Want>, hash: &Hash)
+    requires under { AllByRecursion IsUnderHash wants.old.entries }
+    ensures ended { wants_in wants.new.entries ≡ without hash.now (wants_in wants.old.entries) }
+    ensures under { AllByRecursion IsUnderHash wants.new.entries }
+{
+    let _distinct = wants.len();
+    let _ = wants.shift_remove(&hash.0);
+}
+
+/// One miss more, unless it is the last.
+fn count(want: &mut Want) -> bool
+    ensures waits { result ≡ not (is_last Miss.All want.old) }
+    ensures counted { not (is_last Miss.All want.old) ≡ true → want.new ≡ count_miss Miss.All want.old }
+{
+    if Miss::All.ends(want) {
+        return false;
+    }
+    want.misses = want.misses.saturating_add(1);
+    true
+}
+
+/// One miss of each; those for which it is the twelfth end.
+pub fn count_all(wants: &mut IndexMap<[u8; 32], Want>)
+    requires under { AllByRecursion IsUnderHash wants.old.entries }
+    ensures counted { wants_in wants.new.entries ≡ missed_by Miss.All (wants_in wants.old.entries) }
+    ensures under { AllByRecursion IsUnderHash wants.new.entries }
+{
+    wants.retain(
+        |_hash: &[u8; 32], want: &mut Want| -> bool
+            ensures { (result ≡ not (is_last Miss.All want.old)) × (not (is_last Miss.All want.old) ≡ true → want.new ≡ count_miss Miss.All want.old) }
+        { count(want) },
+    );
 }
 
 fn unasked_in(want: Want, link: usize) -> Want
@@ -110,39 +199,20 @@ fn unasked_in(want: Want, link: usize) -> Want
     changed
 }
 
-fn missed_in(want: Want, miss: Miss) -> Want
-    ensures { want.misses < 255 → result ≡ count_miss miss want }
+/// The link is unasked for all.
+pub fn note_unasked(wants: &mut IndexMap<[u8; 32], Want>, link: usize)
+    requires link { link < 8 }
+    requires under { AllByRecursion IsUnderHash wants.old.entries }
+    ensures asked { wants_in wants.new.entries ≡ unasked link (wants_in wants.old.entries) }
+    ensures under { AllByRecursion IsUnderHash wants.new.entries }
 {
-    let mut changed = want;
-    if miss.hits(want.hash) && want.misses < 255 {
-        changed.misses += 1;
-    }
-    changed
-}
-
-pub fn note_asked(wants: &mut Vec<Want>, hash: Hash, link: usize)
-    requires { link < 8 }
-    ensures { wants.new.items ≡ map (ask hash link) wants.old.items }
-{
-    for i in 0..wants.len() {
-        wants[i] = asked_in(wants[i], hash, link);
-    }
-}
-
-pub fn note_unasked(wants: &mut Vec<Want>, link: usize)
-    requires { link < 8 }
-    ensures { wants.new.items ≡ unasked link wants.old.items }
-{
-    for i in 0..wants.len() {
-        wants[i] = unasked_in(wants[i], link);
-    }
-}
-
-pub fn count_misses(wants: &mut Vec<Want>, miss: Miss)
-    requires { AllByRecursion IsPatient wants.old.items }
-    ensures { wants.new.items ≡ map (count_miss miss) wants.old.items }
-{
-    for i in 0..wants.len() {
-        wants[i] = missed_in(wants[i], miss);
-    }
+    wants.retain(
+        |_hash: &[u8; 32], want: &mut Want| -> bool
+            requires { link < 8 }
+            ensures { (result ≡ true) × (want.new ≡ unask link want.old) }
+        {
+            *want = unasked_in(*want, link);
+            true
+        },
+    );
 }

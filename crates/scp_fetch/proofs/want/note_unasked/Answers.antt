@@ -1,13 +1,12 @@
-use Rattle.std.proofs.Common.{◌∙◌, ◌<◌, ◌≤◌, length, arith}
-use Rattle.scp_fetch.proofs.Walk.{walked-read, walked-all, patient-read}
+use Rattle.std.proofs.Common.{rules, true, refl, ◌∙◌, ap, map}
+use Rattle.scp_fetch.specs.declared.want.Want.{Want}
+use Rattle.scp_fetch.specs.Wants.{unask}
+use Rattle.scp_fetch.specs.Table.{wants_in}
+use Rattle.scp_fetch.proofs.Tables.{walked_all, under_walked, kept_all}
 use Rattle.scp_fetch.proofs.want.note_unasked.Goals as goal
 
-pub loop-i-preserved : goal.loop-i-preserved
-loop-i-preserved c =
-    let below : c.loop-i.i < length c.args.wants.now.items = omega (arith, c.len-i-end.ensures, c.loop-i-test.true) in
-    walked-read _ _ _ _ _ _ c.loop-i.invariant below c.index.ensures c.unasked_in.ensures
+pub returns-clause-asked : goal.returns-clause-asked
+returns-clause-asked c = walked_all _ (λ w. true) (unask c.args.link) _ (λ k v b w h call. search rules) _ _ c.retain.ensures.filtered ∙ ap (map (unask c.args.link)) (kept_all (wants_in c.args.wants.now.entries))
 
-pub returns : goal.returns
-returns c =
-    let all : length c.args.wants.now.items ≤ c.loop-i.i = omega (arith, c.len-i-end.ensures, c.loop-i-test.false) in
-    c.loop-i.invariant ∙ walked-all _ _ _ all
+pub returns-clause-under : goal.returns-clause-under
+returns-clause-under c = under_walked _ (λ w. true) (unask c.args.link) _ (λ k v b w h call. search rules) (λ w. refl) _ _ c.retain.ensures.filtered c.requires.under

@@ -1,0 +1,449 @@
+-- How each message of a connection left, one item after another.
+use Rattle.std.proofs.Common.{◌≡◌, ◌≢◌, ℕ, ◌+◌, ◌<◌, ◌≤◌, Bool, true, false, cond, not, List, [], ◌∷◌, ◌++◌, length, refl, sym, ◌∙◌, ap, subst, arith, append_assoc, nat_eq, map, inl, inr, ◌⊎◌}
+use Rattle.std.specs.Prelude.{◌&&◌, ◌||◌, nat_lt, Option, Some, None, flat_map}
+use Rattle.std.specs.List.{AllByRecursion}
+use Rattle.std.proofs.lemmas.Bool.{ltb-true, ltb-false}
+use Rattle.std.proofs.lemmas.List.{length-append, length-map}
+use Rattle.scp_types.specs.declared.names.ConnId.{ConnId}
+use Rattle.scp_types.specs.declared.names.Hash.{Hash}
+use Rattle.scp_types.specs.declared.names.Seq.{Seq}
+use Rattle.scp_quorum.specs.QuorumTree.{QuorumTree}
+use Rattle.scp_wire.specs.declared.carried.Carried.{Carried}
+use Rattle.scp_wire.specs.declared.side.SideMessage.{SideMessage}
+use Rattle.scp_wire.specs.declared.side.SideMessage.TheVariants.{GetSet, Set, NoSet}
+use Rattle.scp_wire.specs.declared.link.Cause.{Cause}
+use Rattle.scp_wire.specs.declared.link.Cause.TheVariants.{ParkedFull}
+use Rattle.scp_wire.specs.declared.link.Command.TheVariants.{Tick}
+use Rattle.scp_wire.specs.declared.link.Inbound.{Inbound}
+use Rattle.scp_wire.specs.declared.link.Inbound.TheVariants as inbound
+use Rattle.scp_wire.specs.Connections.{same_conn}
+use Rattle.scp_wire.specs.Marks.{Mark, number, ended, one_if}
+use Rattle.scp_fetch.specs.declared.want.Want.{Want}
+use Rattle.scp_fetch.specs.declared.want.Miss.TheVariants.{One}
+use Rattle.scp_fetch.specs.Wants.{gives_up, last_missed}
+use Rattle.scp_fetch.specs.Store.{lookup}
+use Rattle.scp_pending.specs.declared.parked.Parked.{Parked}
+use Rattle.scp_pending.specs.declared.parked.Parked.TheVariants.{Waits, Free, Lost}
+use Rattle.scp_pending.specs.declared.ready.DropCause.{DropCause}
+use Rattle.scp_pending.specs.declared.ready.DropCause.TheVariants.{BadSet, GaveUp, Closed as ByClose, ParkedFull as ByFull}
+use Rattle.scp_pending.specs.declared.ready.Ready.{Ready}
+use Rattle.scp_pending.specs.declared.ready.Ready.TheVariants.{Deliver, Dropped, Closed, Local}
+use Rattle.scp_pending.specs.Sanity.{is_sane}
+use Rattle.scp_pending.specs.Queues.{QueueView, is_of, is_open, parked_of, leaves_of, leaves_in, leaving_of, in_order_of, seq_of, named, is_hash, hash_of, resolved_one, resolved_in, resolved, with_set, lost_by, dropped}
+use Rattle.scp_pending.specs.Rules.{Settled, settled_by, rules, releases, entering_by, entering, found, is_full, goes_through, by_answer, is_answer, is_given_up, heard_out}
+use Rattle.scp_pending.specs.Line.{ready_mark, marks_of, parked_mark, marks_parked}
+use Rattle.scp_pending.specs.Causes.{is_miss, IsWaiting, HeadWaits}
+use Rattle.scp_pending.specs.Endings.{Way, went, by_close, by_full, over, way_by, way, ways, HasWent, AllWent, FirstWaits, IsClosedOff, IsCutOff, Exits}
+use Rattle.scp_pending.proofs.Basics.{append_nil, clash, and_both, map-append, flat-append, same_conn-true, same_conn-refl, all_step, all_weaker, all_append}
+use Rattle.scp_pending.proofs.Later.{settled-push, times-later, Waiting-later}
+use Rattle.scp_pending.proofs.Serving.{AreSingle, AreMine, parked_shut, all_in_order}
+use Rattle.scp_pending.proofs.Standing.{Stands, StandsLost, Fits, IsWant, head_waits}
+use Rattle.scp_pending.proofs.Lines.{added, line_step, open_after, open_step}
+
+pub ways-append : (c : ConnId) (xs ys : List Ready) → ways c (xs ++ ys) ≡ ways c xs ++ ways c ys
+ways-append c xs ys = flat-append (way c) xs ys
+
+-- ---- where nothing is marked, nothing left
+
+nil_both : {X : Type 0} (xs ys : List X) → xs ++ ys ≡ [] → (xs ≡ []) × (ys ≡ [])
+nil_both [] ys e = (refl, e)
+nil_both (x ∷ xs) ys e = absurd cc
+
+no_way : (b : Bool) (m : Mark) (w : Way) → one_if b m ≡ [] → one_if b w ≡ []
+no_way true m w e = absurd cc
+no_way false m w e = refl
+
+none_way : (c : ConnId) (r : Ready) → ready_mark c r ≡ [] → way c r ≡ []
+none_way c (Deliver d) e = no_way (same_conn d.conn c) (number d.seq.0) (went d.seq) e
+none_way c (Dropped d seq cause) e = no_way (same_conn d c) (number seq.0) (way_by cause seq) e
+none_way c (Closed d cause) e = no_way (same_conn d c) (ended cause) (over cause) e
+none_way c (Local command) e = refl
+
+pub none_ways : (c : ConnId) (rs : List Ready) → marks_of c rs ≡ [] → ways c rs ≡ []
+none_ways c [] e = refl
+none_ways c (r ∷ rs) e = (let both = nil_both (ready_mark c r) (marks_of c rs) e in rw (none_way c r both.0) (none_ways c rs both.1))
+
+pub none_front : (c : ConnId) (rs : List Ready) (rest : List Mark) → marks_of c rs ++ rest ≡ [] → ways c rs ≡ []
+none_front c rs rest e = none_ways c rs (nil_both (marks_of c rs) rest e).0
+
+-- ---- what leaves goes by its own fate
+
+abbrev pub HasOwnFate : Parked → Type 0
+HasOwnFate (Waits x) = Unit {0}
+HasOwnFate (Free d) = Unit {0}
+HasOwnFate (Lost seq cause) = HasWent (way_by cause seq)
+
+abbrev pub HaveOwnFates : QueueView → Type 0
+HaveOwnFates q = AllByRecursion HasOwnFate q.parked
+
+own_lost : (start : Settled) (taken : List Inbound) (c : ConnId) (seq : Seq) (cause : DropCause) → StandsLost start taken c seq cause → HasWent (way_by cause seq)
+own_lost start taken c seq BadSet h = tt
+own_lost start taken c seq GaveUp h = tt
+own_lost start taken c seq ByClose h = absurd h
+own_lost start taken c seq ByFull h = absurd h
+
+own_of : (start : Settled) (taken : List Inbound) (wanted : List Want) (c : ConnId) (p : Parked) → Stands start taken wanted c p → HasOwnFate p
+own_of start taken wanted c (Waits x) w = tt
+own_of start taken wanted c (Free d) w = tt
+own_of start taken wanted c (Lost seq cause) w = own_lost start taken c seq cause w
+
+own_queues : (start : Settled) (taken : List Inbound) (wanted : List Want) (qs : List QueueView) → AllByRecursion (Fits start taken wanted) qs → AllByRecursion HaveOwnFates qs
+own_queues start taken wanted qs a = all_weaker (Fits start taken wanted) HaveOwnFates qs (λ q f. all_weaker (Stands start taken wanted q.conn) HasOwnFate q.parked (λ p w. own_of start taken wanted q.conn p w) f.stands) a
+
+resolved_own : (test : Option Hash → Bool) (f : Carried → Parked) → ((x : Carried) → HasOwnFate (f x)) → (qs : List QueueView) → AllByRecursion HaveOwnFates qs → AllByRecursion HaveOwnFates (resolved test f qs)
+resolved_own test f h qs a = all_step HaveOwnFates HaveOwnFates (resolved_in test f) qs (λ q k. all_step HasOwnFate HasOwnFate (resolved_one test f) q.parked one k) a
+  where
+    one : (p : Parked) → HasOwnFate p → HasOwnFate (resolved_one test f p)
+    one (Waits x) k = by_test (test (named x.message))
+      where
+        by_test : (b : Bool) → HasOwnFate (cond b (f x) (Waits x))
+        by_test true = h x
+        by_test false = tt
+    one (Free d) k = k
+    one (Lost seq cause) k = k
+
+went_if : (b : Bool) (w : Way) → HasWent w → AllWent (one_if b w)
+went_if true w h = (h, tt)
+went_if false w h = tt
+
+leaves_went : (c d : ConnId) (ps : List Parked) → AllByRecursion HasOwnFate ps → AllWent (ways c (leaves_of d ps))
+leaves_went c d [] a = tt
+leaves_went c d (Waits x ∷ ps) a = tt
+leaves_went c d (Free y ∷ ps) a = all_append HasWent (one_if (same_conn y.conn c) (went y.seq)) (ways c (leaves_of d ps)) (went_if (same_conn y.conn c) (went y.seq) tt) (leaves_went c d ps a.1)
+leaves_went c d (Lost seq cause ∷ ps) a = all_append HasWent (one_if (same_conn d c) (way_by cause seq)) (ways c (leaves_of d ps)) (went_if (same_conn d c) (way_by cause seq) a.0) (leaves_went c d ps a.1)
+
+leaving_went : (c : ConnId) (qs : List QueueView) → AllByRecursion HaveOwnFates qs → AllWent (ways c (leaving_of qs))
+leaving_went c [] a = tt
+leaving_went c (q ∷ qs) a = subst AllWent (sym (ways-append c (leaves_in q) (leaving_of qs))) (all_append HasWent (ways c (leaves_in q)) (ways c (leaving_of qs)) (leaves_went c q.conn q.parked a.0) (leaving_went c qs a.1))
+
+entering_own : (s : Settled) (x : Carried) → HasOwnFate (entering s.store x)
+entering_own s x = by_name (named x.message)
+  where
+    by_lookup : (o : Option QuorumTree) → HasOwnFate (found x o)
+    by_lookup None = tt
+    by_lookup (Some set) = tt
+
+    by_name : (o : Option Hash) → HasOwnFate (entering_by o s.store x)
+    by_name None = tt
+    by_name (Some hash) = by_lookup (lookup hash s.store)
+
+answer_own : (set : QuorumTree) (b : Bool) (x : Carried) → HasOwnFate ((cond b (with_set (Some set)) (lost_by BadSet)) x)
+answer_own set true x = tt
+answer_own set false x = tt
+
+-- ---- what the end of a connection drops
+
+abbrev pub numbers : ConnId → List QueueView → List Seq
+numbers c qs = map seq_of (parked_of c qs)
+
+dropped_ways : (c : ConnId) (cause : DropCause) (w : Seq → Way) → ((seq : Seq) → way_by cause seq ≡ w seq) → (ps : List Parked) (end : List Ready) → ways c (map (dropped c cause) ps ++ end) ≡ map w (map seq_of ps) ++ ways c end
+dropped_ways c cause w same [] end = refl
+dropped_ways c cause w same (p ∷ ps) end = rw (same_conn-refl c, same (seq_of p)) (ap (λ zs. w (seq_of p) ∷ zs) (dropped_ways c cause w same ps end))
+
+dropped_other : (c d : ConnId) (cause : DropCause) (ps : List Parked) (end : List Ready) → same_conn d c ≡ false → ways c (map (dropped d cause) ps ++ end) ≡ ways c end
+dropped_other c d cause [] end o = refl
+dropped_other c d cause (p ∷ ps) end o = rw o (dropped_other c d cause ps end o)
+
+close_ways : (c : ConnId) (cause : Cause) (ps : List Parked) → ways c (map (dropped c ByClose) ps ++ Closed c cause ∷ []) ≡ map by_close (map seq_of ps) ++ over cause ∷ []
+close_ways c cause ps = dropped_ways c ByClose by_close (λ seq. refl) ps (Closed c cause ∷ []) ∙ ap (λ b. map by_close (map seq_of ps) ++ (one_if b (over cause) ++ [])) (same_conn-refl c)
+
+full_ways : (c : ConnId) (seq : Seq) (ps : List Parked) → ways c (map (dropped c ByFull) ps ++ Dropped c seq ByFull ∷ Closed c ParkedFull ∷ []) ≡ map by_full (map seq_of ps ++ seq ∷ []) ++ over ParkedFull ∷ []
+full_ways c seq ps =
+    dropped_ways c ByFull by_full (λ s. refl) ps (Dropped c seq ByFull ∷ Closed c ParkedFull ∷ [])
+    ∙ ap (λ b. map by_full (map seq_of ps) ++ (one_if b (by_full seq) ++ (one_if b (over ParkedFull) ++ []))) (same_conn-refl c)
+    ∙ sym (append_assoc (map by_full (map seq_of ps)) (by_full seq ∷ []) (over ParkedFull ∷ []))
+    ∙ ap (λ zs. zs ++ over ParkedFull ∷ []) (sym (map-append by_full (map seq_of ps) (seq ∷ [])))
+
+-- ---- the first of what is dropped waits
+
+firsts : (start : Settled) (taken : List Inbound) (c : ConnId) (qs : List QueueView) → AllByRecursion (λ q. HeadWaits start taken q.conn q.parked) qs → FirstWaits start taken c (numbers c qs)
+firsts start taken c [] a = tt
+firsts start taken c (q ∷ qs) a = by_test (is_of c q) refl (firsts start taken c qs a.1)
+  where
+    of_head : (ps : List Parked) → q.conn ≡ c → HeadWaits start taken q.conn ps → FirstWaits start taken c (map seq_of ps)
+    of_head [] e h = tt
+    of_head (Waits x ∷ ps) e h = (x, h.0 ∙ e, refl, h.1)
+    of_head (Free d ∷ ps) e h = absurd h
+    of_head (Lost seq cause ∷ ps) e h = absurd h
+
+    by_test : (b : Bool) → is_of c q ≡ b → FirstWaits start taken c (numbers c qs) → FirstWaits start taken c (map seq_of (cond b q.parked (parked_of c qs)))
+    by_test true k rest = of_head q.parked (same_conn-true q.conn c k) a.0
+    by_test false k rest = rest
+
+waits_push : (start : Settled) (taken : List Inbound) (x y : Carried) → IsWaiting start taken x → IsWaiting start (taken ++ inbound.Carried y ∷ []) x
+waits_push start taken x y w = record {
+  hash = w.hash;
+  waiting = Waiting-later start taken (settled_by start taken) x w.hash (inbound.Carried y) refl refl w.waiting;
+  patient = subst (λ (n : ℕ). n < 12) (sym (times-later (is_miss w.hash) start taken (settled_by start taken) x (inbound.Carried y) w.waiting.place refl)) w.patient;
+}
+
+first_push : (start : Settled) (taken : List Inbound) (c : ConnId) (y : Carried) (seqs : List Seq) → 0 < length seqs → FirstWaits start taken c seqs → FirstWaits start (taken ++ inbound.Carried y ∷ []) c (seqs ++ y.seq ∷ [])
+first_push start taken c y [] some f = absurd (omega (arith, some))
+first_push start taken c y (seq ∷ seqs) some f = (f.0, f.1, f.2, waits_push start taken f.0 y f.3)
+
+pub few_of_conn : (start : Settled) (taken : List Inbound) (wanted : List Want) (c : ConnId) (qs : List QueueView) → AllByRecursion (Fits start taken wanted) qs → length (parked_of c qs) ≤ 64
+few_of_conn start taken wanted c [] a = omega arith
+few_of_conn start taken wanted c (q ∷ qs) a = by_test (is_of c q) (few_of_conn start taken wanted c qs a.1)
+  where
+    by_test : (b : Bool) → length (parked_of c qs) ≤ 64 → length (cond b q.parked (parked_of c qs)) ≤ 64
+    by_test true h = a.0.few
+    by_test false h = h
+
+-- ---- of a connection that is shut nothing leaves
+
+added_shut : (c : ConnId) (s : Settled) (item : Inbound) → is_open c s.queues ≡ false → added c s item ≡ []
+added_shut c s (inbound.Opened d) e = refl
+added_shut c s (inbound.Carried x) e = by_tests (is_open x.conn s.queues) (is_full x.conn s.queues) (same_conn x.conn c) refl refl
+  where
+    by_tests : (o f k : Bool) → is_open x.conn s.queues ≡ o → same_conn x.conn c ≡ k → cond o (one_if k (number x.seq.0) ++ cond f (one_if k (ended ParkedFull)) []) [] ≡ []
+    by_tests true f true p q = clash (is_open c s.queues) (subst (λ (d : ConnId). is_open d s.queues ≡ true) (same_conn-true x.conn c q) p) e
+    by_tests true true false p q = refl
+    by_tests true false false p q = refl
+    by_tests false f k p q = refl
+added_shut c s (inbound.Side d message) e = refl
+added_shut c s (inbound.Closed d cause) e = by_tests (is_open d s.queues) (same_conn d c) refl refl
+  where
+    by_tests : (o k : Bool) → is_open d s.queues ≡ o → same_conn d c ≡ k → cond o (one_if k (ended cause)) [] ≡ []
+    by_tests true true p q = clash (is_open c s.queues) (subst (λ (b : ConnId). is_open b s.queues ≡ true) (same_conn-true d c q) p) e
+    by_tests true false p q = refl
+    by_tests false k p q = refl
+added_shut c s (inbound.Local command) e = refl
+
+pub shut_nothing : (c : ConnId) (s : Settled) (item : Inbound) → AreSingle s.queues → AllByRecursion AreMine s.queues → is_open c s.queues ≡ false → ways c (releases s item) ≡ []
+shut_nothing c s item single mine e =
+    let none : marks_parked c s.queues ≡ [] = ap (map parked_mark) (parked_shut c s.queues e) in
+    none_front c (releases s item) (marks_parked c (rules s item).queues) (line_step c s item single mine ∙ ap (λ ms. ms ++ added c s item) none ∙ added_shut c s item e)
+
+-- ---- one item more
+
+ended_later : (start : Settled) (taken : List Inbound) (c : ConnId) (item : Inbound) (ws : List Way) → AllWent ws ⊎ (IsClosedOff start taken c ws ⊎ IsCutOff start taken c ws) → AllWent ws ⊎ (IsClosedOff start (taken ++ item ∷ []) c ws ⊎ IsCutOff start (taken ++ item ∷ []) c ws)
+ended_later start taken c item ws (inl a) = inl a
+ended_later start taken c item ws (inr (inl k)) = inr (inl (record {
+  front = k.front;
+  seqs = k.seqs;
+  cause = k.cause;
+  before = k.before;
+  rest = k.rest ++ item ∷ [];
+  at = ap (λ xs. xs ++ item ∷ []) k.at ∙ append_assoc k.before (inbound.Closed c k.cause ∷ k.rest) (item ∷ []);
+  outside = k.outside;
+  ways_are = k.ways_are;
+  fates = k.fates;
+  first = k.first;
+}))
+ended_later start taken c item ws (inr (inr k)) = inr (inr (record {
+  front = k.front;
+  seqs = k.seqs;
+  last = k.last;
+  before = k.before;
+  rest = k.rest ++ item ∷ [];
+  at = ap (λ xs. xs ++ item ∷ []) k.at ∙ append_assoc (k.before ++ inbound.Carried k.last ∷ []) k.rest (item ∷ []);
+  mine = k.mine;
+  ways_are = k.ways_are;
+  fates = k.fates;
+  count = k.count;
+  shuts = k.shuts;
+  first = k.first;
+}))
+
+-- what leaves by its own fates
+exits_on : (start : Settled) (taken : List Inbound) (c : ConnId) (item : Inbound) (o new : Bool) (ws more : List Way) → AllWent more → (new ≡ false → more ≡ []) → (new ≡ true → (o ≡ true) ⊎ (ws ≡ [])) → Exits start taken c o ws → Exits start (taken ++ item ∷ []) c new (ws ++ more)
+exits_on start taken c item o true ws more w none opens x = (let all : AllWent (ws ++ more) = all_append HasWent ws more (old (opens refl)) w in record { running = λ e. all; ended = inl all })
+  where
+    old : (o ≡ true) ⊎ (ws ≡ []) → AllWent ws
+    old (inl e) = x.running e
+    old (inr e) = rw e tt
+exits_on start taken c item o false ws more w none opens x = rw (none refl, append_nil ws) (record { running = λ e. absurd cc; ended = ended_later start taken c item ws x.ended })
+
+-- what the shape says of an item: the connection begins with nothing said of it, and no reader ends it because too much waits
+abbrev pub Begins : ConnId → Inbound → List Way → Type 0
+Begins c (inbound.Opened d) ws = same_conn d c ≡ true → ws ≡ []
+Begins c (inbound.Carried x) ws = Unit {0}
+Begins c (inbound.Side d message) ws = Unit {0}
+Begins c (inbound.Closed d cause) ws = Unit {0}
+Begins c (inbound.Local command) ws = Unit {0}
+
+abbrev pub EndsOutside : ConnId → Inbound → Type 0
+EndsOutside c (inbound.Opened d) = Unit {0}
+EndsOutside c (inbound.Carried x) = Unit {0}
+EndsOutside c (inbound.Side d message) = Unit {0}
+EndsOutside c (inbound.Closed d cause) = same_conn d c ≡ true → cause ≢ ParkedFull
+EndsOutside c (inbound.Local command) = Unit {0}
+
+-- a connection that is open was so before, or begins
+opened_by : (c : ConnId) (s : Settled) (item : Inbound) (ws : List Way) → Begins c item ws → open_after c s item ≡ true → (is_open c s.queues ≡ true) ⊎ (ws ≡ [])
+opened_by c s (inbound.Opened d) ws b e = by_tests _ (is_open c s.queues) (same_conn d c) refl b e
+  where
+    by_tests : (p o k : Bool) → is_open c s.queues ≡ o → (k ≡ true → ws ≡ []) → cond p (o || k) o ≡ true → (is_open c s.queues ≡ true) ⊎ (ws ≡ [])
+    by_tests p true k q b e = inl q
+    by_tests true false true q b e = inr (b refl)
+    by_tests true false false q b e = absurd cc
+    by_tests false false k q b e = absurd cc
+opened_by c s (inbound.Carried x) ws b e = by_tests (is_open x.conn s.queues && is_full x.conn s.queues) (is_open c s.queues) (same_conn x.conn c) refl e
+  where
+    by_tests : (p o k : Bool) → is_open c s.queues ≡ o → cond p (o && not k) o ≡ true → (is_open c s.queues ≡ true) ⊎ (ws ≡ [])
+    by_tests p true k q e = inl q
+    by_tests true false k q e = absurd cc
+    by_tests false false k q e = absurd cc
+opened_by c s (inbound.Side d message) ws b e = inl e
+opened_by c s (inbound.Closed d cause) ws b e = by_tests (is_open d s.queues) (is_open c s.queues) (same_conn d c) refl e
+  where
+    by_tests : (p o k : Bool) → is_open c s.queues ≡ o → cond p (o && not k) o ≡ true → (is_open c s.queues ≡ true) ⊎ (ws ≡ [])
+    by_tests p true k q e = inl q
+    by_tests true false k q e = absurd cc
+    by_tests false false k q e = absurd cc
+opened_by c s (inbound.Local command) ws b e = inl e
+
+brought_went : (c : ConnId) (s : Settled) (x : Carried) → (is_open x.conn s.queues && (is_full x.conn s.queues && same_conn x.conn c)) ≡ false → AllWent (ways c (releases s (inbound.Carried x)))
+brought_went c s x none = by_tests (is_open x.conn s.queues) (is_full x.conn s.queues) (goes_through x.conn (entering s.store x) s.queues) none
+  where
+    other : (k : Bool) → (true && (true && k)) ≡ false → k ≡ false
+    other k e = e
+
+    at_end : (k : Bool) → k ≡ false → AllWent (one_if k (by_full x.seq) ++ (one_if k (over ParkedFull) ++ []))
+    at_end true e = absurd cc
+    at_end false e = tt
+
+    by_tests : (o f g : Bool) → (o && (f && same_conn x.conn c)) ≡ false → AllWent (ways c (cond o (cond f (map (dropped x.conn ByFull) (parked_of x.conn s.queues) ++ Dropped x.conn x.seq ByFull ∷ Closed x.conn ParkedFull ∷ []) (cond g (leaves_of x.conn (entering s.store x ∷ [])) [])) []))
+    by_tests true true g e = rw (dropped_other c x.conn ByFull (parked_of x.conn s.queues) (Dropped x.conn x.seq ByFull ∷ Closed x.conn ParkedFull ∷ []) (other (same_conn x.conn c) e)) (at_end (same_conn x.conn c) (other (same_conn x.conn c) e))
+    by_tests true false true e = leaves_went c x.conn (entering s.store x ∷ []) (entering_own s x, tt)
+    by_tests true false false e = tt
+    by_tests false f g e = tt
+
+heard_went : (c : ConnId) (s : Settled) (d : ConnId) (m : SideMessage) → AllByRecursion HaveOwnFates s.queues → AllWent (ways c (releases s (inbound.Side d m)))
+heard_went c s d m a = by_open (is_open d s.queues) m
+  where
+    by_set : (set : QuorumTree) (b : Bool) → AllWent (ways c (cond b (leaving_of (resolved (is_hash (hash_of set)) (by_answer set) s.queues)) []))
+    by_set set true = leaving_went c (resolved (is_hash (hash_of set)) (by_answer set) s.queues) (resolved_own (is_hash (hash_of set)) (by_answer set) (answer_own set (is_sane set)) s.queues a)
+    by_set set false = tt
+
+    by_miss : (hash : Hash) (b : Bool) → AllWent (ways c (cond b (leaving_of (resolved (is_hash hash) (lost_by GaveUp) s.queues)) []))
+    by_miss hash true = leaving_went c (resolved (is_hash hash) (lost_by GaveUp) s.queues) (resolved_own (is_hash hash) (lost_by GaveUp) (λ x. tt) s.queues a)
+    by_miss hash false = tt
+
+    by_message : (m : SideMessage) → AllWent (ways c (heard_out m s))
+    by_message (GetSet hash) = tt
+    by_message (Set set) = by_set set (is_answer set s)
+    by_message (NoSet hash) = by_miss hash (gives_up (One hash) s.wanted hash)
+
+    by_open : (b : Bool) (m : SideMessage) → AllWent (ways c (cond b (heard_out m s) []))
+    by_open true m = by_message m
+    by_open false m = tt
+
+closed_went : (c : ConnId) (s : Settled) (d : ConnId) (cause : Cause) → (is_open d s.queues && same_conn d c) ≡ false → AllWent (ways c (releases s (inbound.Closed d cause)))
+closed_went c s d cause none = by_tests (is_open d s.queues) none
+  where
+    at_end : (k : Bool) → k ≡ false → AllWent (one_if k (over cause) ++ [])
+    at_end true e = absurd cc
+    at_end false e = tt
+
+    by_tests : (o : Bool) → (o && same_conn d c) ≡ false → AllWent (ways c (cond o (map (dropped d ByClose) (parked_of d s.queues) ++ Closed d cause ∷ []) []))
+    by_tests true e = rw (dropped_other c d ByClose (parked_of d s.queues) (Closed d cause ∷ []) e) (at_end (same_conn d c) e)
+    by_tests false e = tt
+
+-- what is known of a connection before the item
+pub record Before (start : Settled) (taken : List Inbound) (s : Settled) : Type 0 where
+  pub now : s ≡ settled_by start taken
+  pub single : AreSingle s.queues
+  pub mine : AllByRecursion AreMine s.queues
+  pub fits : AllByRecursion (Fits start taken s.wanted) s.queues
+  pub wanted : AllByRecursion (IsWant start taken) s.wanted
+
+heads : (start : Settled) (taken : List Inbound) (s : Settled) → Before start taken s → AllByRecursion (λ q. HeadWaits start taken q.conn q.parked) s.queues
+heads start taken s k = all_weaker (Fits start taken s.wanted) (λ (q : QueueView). HeadWaits start taken q.conn q.parked) s.queues (λ q f. head_waits start taken s.wanted k.wanted q f) k.fits
+
+and_false : (b : Bool) → (b && false) ≡ false
+and_false true = refl
+and_false false = refl
+
+cut_off : (start : Settled) (taken : List Inbound) (c : ConnId) (s : Settled) (x : Carried) (ws : List Way) → Before start taken s → x.conn ≡ c → is_open c s.queues ≡ true → is_full c s.queues ≡ true → Exits start taken c (is_open c s.queues) ws → Exits start (taken ++ inbound.Carried x ∷ []) c (is_open c (rules s (inbound.Carried x)).queues) (ws ++ ways c (releases s (inbound.Carried x)))
+cut_off start taken c s x ws k mine live full known =
+    let more : 63 < length (parked_of c s.queues) = ltb-true 63 (length (parked_of c s.queues)) full in
+    let within : length (parked_of c s.queues) ≤ 64 = few_of_conn start taken s.wanted c s.queues k.fits in
+    let same_count : length (numbers c s.queues) ≡ length (parked_of c s.queues) = length-map (parked_of c s.queues) seq_of in
+    record {
+      running = λ t. clash (is_open c (rules s item).queues) t shut;
+      ended = inr (inr (record {
+        front = ws;
+        seqs = numbers c s.queues;
+        last = x;
+        before = taken;
+        rest = [];
+        at = sym (append_nil (taken ++ item ∷ []));
+        mine = mine;
+        ways_are = ap (λ rs. ws ++ ways c rs) given ∙ ap (λ zs. ws ++ zs) (full_ways c x.seq (parked_of c s.queues));
+        fates = known.running live;
+        count = length-append (numbers c s.queues) (x.seq ∷ []) ∙ omega (arith, same_count, more, within);
+        shuts = ap (λ (t : Settled). is_open c t.queues) (settled-push start taken item ∙ ap (λ (t : Settled). rules t item) (sym k.now)) ∙ shut;
+        first = first_push start taken c x (numbers c s.queues) (omega (arith, same_count, more)) (firsts start taken c s.queues (heads start taken s k));
+      }));
+    }
+  where
+    item : Inbound
+    item = inbound.Carried x
+
+    shut : is_open c (rules s item).queues ≡ false
+    shut = open_step c s item k.single ∙ ap (λ (d : ConnId). cond (is_open d s.queues && is_full d s.queues) (is_open c s.queues && not (same_conn d c)) (is_open c s.queues)) mine ∙ rw (live, full, same_conn-refl c) refl
+
+    given : releases s item ≡ map (dropped c ByFull) (parked_of c s.queues) ++ Dropped c x.seq ByFull ∷ Closed c ParkedFull ∷ []
+    given = ap (λ (d : ConnId). cond (is_open d s.queues) (cond (is_full d s.queues) (map (dropped d ByFull) (parked_of d s.queues) ++ Dropped d x.seq ByFull ∷ Closed d ParkedFull ∷ []) (cond (goes_through d (entering s.store x) s.queues) (leaves_of d (entering s.store x ∷ [])) [])) []) mine ∙ rw (live, full) refl
+
+closed_off : (start : Settled) (taken : List Inbound) (c : ConnId) (s : Settled) (d : ConnId) (cause : Cause) (ws : List Way) → Before start taken s → d ≡ c → cause ≢ ParkedFull → is_open c s.queues ≡ true → Exits start taken c (is_open c s.queues) ws → Exits start (taken ++ inbound.Closed d cause ∷ []) c (is_open c (rules s (inbound.Closed d cause)).queues) (ws ++ ways c (releases s (inbound.Closed d cause)))
+closed_off start taken c s d cause ws k mine outside live known = record {
+  running = λ t. clash (is_open c (rules s item).queues) t shut;
+  ended = inr (inl (record {
+    front = ws;
+    seqs = numbers c s.queues;
+    cause = cause;
+    before = taken;
+    rest = [];
+    at = ap (λ (b : ConnId). taken ++ inbound.Closed b cause ∷ []) mine;
+    outside = outside;
+    ways_are = ap (λ rs. ws ++ ways c rs) given ∙ ap (λ zs. ws ++ zs) (close_ways c cause (parked_of c s.queues));
+    fates = known.running live;
+    first = firsts start taken c s.queues (heads start taken s k);
+  }));
+}
+  where
+    item : Inbound
+    item = inbound.Closed d cause
+
+    shut : is_open c (rules s item).queues ≡ false
+    shut = open_step c s item k.single ∙ ap (λ (b : ConnId). cond (is_open b s.queues) (is_open c s.queues && not (same_conn b c)) (is_open c s.queues)) mine ∙ rw (live, same_conn-refl c) refl
+
+    given : releases s item ≡ map (dropped c ByClose) (parked_of c s.queues) ++ Closed c cause ∷ []
+    given = ap (λ (b : ConnId). cond (is_open b s.queues) (map (dropped b ByClose) (parked_of b s.queues) ++ Closed b cause ∷ []) []) mine ∙ rw live refl
+
+pub exits_item : (start : Settled) (taken : List Inbound) (c : ConnId) (s : Settled) (item : Inbound) (ws : List Way) → Before start taken s → Begins c item ws → EndsOutside c item → Exits start taken c (is_open c s.queues) ws → Exits start (taken ++ item ∷ []) c (is_open c (rules s item).queues) (ws ++ ways c (releases s item))
+exits_item start taken c s (inbound.Opened d) ws k begins outside known = exits_on start taken c (inbound.Opened d) _ _ ws [] tt (λ e. refl) (λ e. opened_by c s (inbound.Opened d) ws begins (sym (open_step c s (inbound.Opened d) k.single) ∙ e)) known
+exits_item start taken c s (inbound.Side d m) ws k begins outside known = exits_on start taken c (inbound.Side d m) _ _ ws _ (heard_went c s d m (own_queues start taken s.wanted s.queues k.fits)) (λ e. shut_nothing c s (inbound.Side d m) k.single k.mine (sym (open_step c s (inbound.Side d m) k.single) ∙ e)) (λ e. inl (sym (open_step c s (inbound.Side d m) k.single) ∙ e)) known
+exits_item start taken c s (inbound.Local Tick) ws k begins outside known = exits_on start taken c (inbound.Local Tick) _ _ ws _ (leaving_went c (resolved (is_given_up s.wanted) (lost_by GaveUp) (in_order_of (last_missed s.wanted) s.queues)) (resolved_own (is_given_up s.wanted) (lost_by GaveUp) (λ x. tt) (in_order_of (last_missed s.wanted) s.queues) (all_in_order HaveOwnFates (last_missed s.wanted) s.queues (own_queues start taken s.wanted s.queues k.fits)))) (λ e. shut_nothing c s (inbound.Local Tick) k.single k.mine (sym (open_step c s (inbound.Local Tick) k.single) ∙ e)) (λ e. inl (sym (open_step c s (inbound.Local Tick) k.single) ∙ e)) known
+exits_item start taken c s (inbound.Carried x) ws k begins outside known = by_cut (is_open x.conn s.queues && (is_full x.conn s.queues && same_conn x.conn c)) refl
+  where
+    kept : (o f k oc : Bool) → (o && (f && k)) ≡ false → cond (o && f) (oc && not k) oc ≡ false → oc ≡ false
+    kept true true true oc n e = absurd cc
+    kept true true false true n e = absurd cc
+    kept true true false false n e = refl
+    kept true false k oc n e = e
+    kept false f k oc n e = e
+
+    by_cut : (b : Bool) → (is_open x.conn s.queues && (is_full x.conn s.queues && same_conn x.conn c)) ≡ b → Exits start (taken ++ inbound.Carried x ∷ []) c (is_open c (rules s (inbound.Carried x)).queues) (ws ++ ways c (releases s (inbound.Carried x)))
+    by_cut true e =
+        let one = and_both (is_open x.conn s.queues) (is_full x.conn s.queues && same_conn x.conn c) e in
+        let two = and_both (is_full x.conn s.queues) (same_conn x.conn c) one.1 in
+        let mine : x.conn ≡ c = same_conn-true x.conn c two.1 in
+        cut_off start taken c s x ws k mine (subst (λ (d : ConnId). is_open d s.queues ≡ true) mine one.0) (subst (λ (d : ConnId). is_full d s.queues ≡ true) mine two.0) known
+    by_cut false e = exits_on start taken c (inbound.Carried x) _ _ ws _ (brought_went c s x e) (λ n. shut_nothing c s (inbound.Carried x) k.single k.mine (kept (is_open x.conn s.queues) (is_full x.conn s.queues) (same_conn x.conn c) (is_open c s.queues) e (sym (open_step c s (inbound.Carried x) k.single) ∙ n))) (λ n. opened_by c s (inbound.Carried x) ws tt (sym (open_step c s (inbound.Carried x) k.single) ∙ n)) known
+exits_item start taken c s (inbound.Closed d cause) ws k begins outside known = by_close' (is_open d s.queues && same_conn d c) refl
+  where
+    kept : (o k oc : Bool) → (o && k) ≡ false → cond o (oc && not k) oc ≡ false → oc ≡ false
+    kept true true oc n e = absurd cc
+    kept true false true n e = absurd cc
+    kept true false false n e = refl
+    kept false k oc n e = e
+
+    by_close' : (b : Bool) → (is_open d s.queues && same_conn d c) ≡ b → Exits start (taken ++ inbound.Closed d cause ∷ []) c (is_open c (rules s (inbound.Closed d cause)).queues) (ws ++ ways c (releases s (inbound.Closed d cause)))
+    by_close' true e =
+        let both = and_both (is_open d s.queues) (same_conn d c) e in
+        let mine : d ≡ c = same_conn-true d c both.1 in
+        closed_off start taken c s d cause ws k mine (outside both.1) (subst (λ (b : ConnId). is_open b s.queues ≡ true) mine both.0) known
+    by_close' false e = exits_on start taken c (inbound.Closed d cause) _ _ ws _ (closed_went c s d cause e) (λ n. shut_nothing c s (inbound.Closed d cause) k.single k.mine (kept (is_open d s.queues) (same_conn d c) (is_open c s.queues) e (sym (open_step c s (inbound.Closed d cause) k.single) ∙ n))) (λ n. opened_by c s (inbound.Closed d cause) ws tt (sym (open_step c s (inbound.Closed d cause) k.single) ∙ n)) known

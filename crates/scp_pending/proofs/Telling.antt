@@ -1,0 +1,159 @@
+-- How a connection's line stands to what came of it, one item after another.
+use Rattle.std.proofs.Common.{◌≡◌, ◌≢◌, ℕ, ◌+◌, ◌<◌, ◌≤◌, Bool, true, false, cond, not, List, [], ◌∷◌, ◌++◌, length, refl, sym, ◌∙◌, ap, subst, arith, append_assoc, nat_eq, inl, inr, ◌⊎◌}
+use Rattle.std.specs.Prelude.{◌&&◌, ◌||◌, Option, Some, None, fold, filter, flat_map, slice_get, is_some, position}
+use Rattle.std.specs.List.{list_any, AllByRecursion}
+use Rattle.std.proofs.lemmas.Bool.{eqb-true, eqb-false}
+use Rattle.scp_types.specs.declared.names.ConnId.{ConnId}
+use Rattle.scp_types.specs.declared.names.NodeId.{NodeId}
+use Rattle.scp_wire.specs.declared.carried.Carried.{Carried}
+use Rattle.scp_wire.specs.declared.link.Cause.{Cause}
+use Rattle.scp_wire.specs.declared.link.Cause.TheVariants.{ParkedFull}
+use Rattle.scp_wire.specs.declared.link.Inbound.{Inbound}
+use Rattle.scp_wire.specs.declared.link.Inbound.TheVariants as inbound
+use Rattle.scp_wire.specs.Connections.{conn_at, same_node, same_conn}
+use Rattle.scp_wire.specs.Shape.{Come, nothing_came, comes, MayCome, AreInOrder, is_from, of_peer}
+use Rattle.scp_wire.specs.Marks.{Mark, number, ended, one_if, came_mark, marks_in, Follows, IsCut, IsWhole}
+use Rattle.scp_pending.proofs.Basics.{append_nil, clash, fold-append, flat-append, same_node-true, same_node-refl, same_conn-refl, same_conn-true, same_number}
+
+-- the numbers from n to m, and no end
+abbrev pub Runs : ℕ → ℕ → List Mark → Type 0
+Runs n m [] = n ≡ m
+Runs n m (number seq ∷ rest) = (seq ≡ n) × Runs (n + 1) m rest
+Runs n m (ended cause ∷ rest) = ⊥
+
+Runs-push : (n m : ℕ) (xs : List Mark) → Runs n m xs → Runs n (m + 1) (xs ++ number m ∷ [])
+Runs-push n m [] r = (sym r, ap (λ k. k + 1) r)
+Runs-push n m (number seq ∷ xs) r = (r.0, Runs-push (n + 1) m xs r.1)
+Runs-push n m (ended cause ∷ xs) r = absurd r
+
+Runs-follows : (n m : ℕ) (xs : List Mark) → Runs n m xs → Follows n xs
+Runs-follows n m [] r = tt
+Runs-follows n m (number seq ∷ xs) r = (r.0, Runs-follows (n + 1) m xs r.1)
+Runs-follows n m (ended cause ∷ xs) r = absurd r
+
+Runs-end : (n m : ℕ) (xs : List Mark) (cause : Cause) → Runs n m xs → Follows n (xs ++ ended cause ∷ [])
+Runs-end n m [] cause r = refl
+Runs-end n m (number seq ∷ xs) cause r = (r.0, Runs-end (n + 1) m xs cause r.1)
+Runs-end n m (ended k ∷ xs) cause r = absurd r
+
+-- the line is a prefix of what was sent, ended as ParkedFull
+pub record IsCutHere (sent' line' : List Mark) : Type 0 where
+  pub front : List Mark
+  pub rest : List Mark
+  pub sent_is : sent' ≡ front ++ rest
+  pub line_is : line' ≡ front ++ ended ParkedFull ∷ []
+
+pub record Told (life : ℕ) (h : Come) (open' : Bool) (sent' line' : List Mark) : Type 0 where
+  pub later : h.life < life → (sent' ≡ []) × (line' ≡ [])
+  pub open_here : open' ≡ true → (h.is_open ≡ true) × (h.life ≡ life) × (line' ≡ sent')
+  pub shut_here : open' ≡ false → h.is_open ≡ true → h.life ≡ life → IsCutHere sent' line'
+  pub runs : h.is_open ≡ true → h.life ≡ life → Runs 0 h.next sent'
+  pub whole : (line' ≡ sent') ⊎ IsCutHere sent' line'
+  pub follows : Follows 0 line'
+
+-- nothing is said of this connection, and its link stays
+pub told_same : (life : ℕ) (h : Come) (open' new : Bool) (s l s' l' : List Mark) → new ≡ open' → s' ≡ s → l' ≡ l → Told life h open' s l → Told life h new s' l'
+told_same life h open' new s l s' l' o e f a = rw (o, e, f) a
+
+-- an item on the link, of another life
+pub told_other : (life : ℕ) (h h' : Come) (open' new : Bool) (s l : List Mark) → h'.life ≡ h.life → h.life ≢ life → (new ≡ true → open' ≡ true) → Told life h open' s l → Told life h' new s l
+told_other life h h' open' new s l same other still a = record {
+  later = λ lt. a.later (rw (← same) lt);
+  open_here = λ o. absurd (other (a.open_here (still o)).1);
+  shut_here = λ o r e. absurd (other (sym same ∙ e));
+  runs = λ r e. absurd (other (sym same ∙ e));
+  whole = a.whole;
+  follows = a.follows;
+}
+
+-- the link is opened: this life, or another
+pub told_opens : (life : ℕ) (h : Come) (old : Bool) (s l : List Mark) → Told life h old s l → Told life (record { life = h.life + 1; is_open = true; next = 0 }) (nat_eq (h.life + 1) life) s l
+told_opens life h old s l a = record {
+  later = λ lt. a.later (omega (arith, lt));
+  open_here = λ o. (let e : h.life + 1 ≡ life = eqb-true (h.life + 1) life o in let none = a.later (omega (arith, e)) in (refl, e, none.1 ∙ sym none.0));
+  shut_here = λ o r e. absurd (eqb-false (h.life + 1) life o e);
+  runs = λ r e. (let none = a.later (omega (arith, e)) in rw none.0 refl);
+  whole = a.whole;
+  follows = a.follows;
+}
+
+-- a message of an open connection
+pub told_number : (life : ℕ) (h : Come) (seq : ℕ) (s l : List Mark) → h.is_open ≡ true → h.life ≡ life → seq ≡ h.next → Told life h true s l → Told life (record h { next = h.next + 1 }) true (s ++ number seq ∷ []) (l ++ number seq ∷ [])
+told_number life h seq s l running same is a =
+    let runs : Runs 0 (h.next + 1) (s ++ number seq ∷ []) = rw is (Runs-push 0 h.next s (a.runs running same)) in
+    let line : l ≡ s = (a.open_here refl).2 in
+    record {
+      later = λ lt. absurd (omega (arith, same, lt));
+      open_here = λ o. (running, same, ap (λ ms. ms ++ number seq ∷ []) line);
+      shut_here = λ o r e. absurd cc;
+      runs = λ r e. runs;
+      whole = inl (ap (λ ms. ms ++ number seq ∷ []) line);
+      follows = rw line (Runs-follows 0 (h.next + 1) _ runs);
+    }
+
+-- the 65th: it and all before it leave, and the connection is cut off
+pub told_cut : (life : ℕ) (h : Come) (seq : ℕ) (s l : List Mark) → h.is_open ≡ true → h.life ≡ life → seq ≡ h.next → Told life h true s l → Told life (record h { next = h.next + 1 }) false (s ++ number seq ∷ []) (l ++ number seq ∷ ended ParkedFull ∷ [])
+told_cut life h seq s l running same is a =
+    let runs : Runs 0 (h.next + 1) (s ++ number seq ∷ []) = rw is (Runs-push 0 h.next s (a.runs running same)) in
+    let line : l ≡ s = (a.open_here refl).2 in
+    let ends : l ++ number seq ∷ ended ParkedFull ∷ [] ≡ (s ++ number seq ∷ []) ++ ended ParkedFull ∷ [] = ap (λ ms. ms ++ number seq ∷ ended ParkedFull ∷ []) line ∙ sym (append_assoc s (number seq ∷ []) (ended ParkedFull ∷ [])) in
+    let cut : IsCutHere (s ++ number seq ∷ []) (l ++ number seq ∷ ended ParkedFull ∷ []) = record { front = s ++ number seq ∷ []; rest = []; sent_is = sym (append_nil _); line_is = ends } in
+    record {
+      later = λ lt. absurd (omega (arith, same, lt));
+      open_here = λ o. absurd cc;
+      shut_here = λ o r e. cut;
+      runs = λ r e. runs;
+      whole = inr cut;
+      follows = rw ends (Runs-end 0 (h.next + 1) _ ParkedFull runs);
+    }
+
+-- a message that is discarded: its connection was cut off
+pub told_discard : (life : ℕ) (h : Come) (seq : ℕ) (s l : List Mark) → h.is_open ≡ true → h.life ≡ life → seq ≡ h.next → Told life h false s l → Told life (record h { next = h.next + 1 }) false (s ++ number seq ∷ []) l
+told_discard life h seq s l running same is a =
+    let old = a.shut_here refl running same in
+    let cut : IsCutHere (s ++ number seq ∷ []) l = record { front = old.front; rest = old.rest ++ number seq ∷ []; sent_is = ap (λ ms. ms ++ number seq ∷ []) old.sent_is ∙ append_assoc old.front old.rest (number seq ∷ []); line_is = old.line_is } in
+    record {
+      later = λ lt. absurd (omega (arith, same, lt));
+      open_here = λ o. absurd cc;
+      shut_here = λ o r e. cut;
+      runs = λ r e. rw is (Runs-push 0 h.next s (a.runs running same));
+      whole = inr cut;
+      follows = a.follows;
+    }
+
+-- a close of an open connection
+pub told_close : (life : ℕ) (h : Come) (cause : Cause) (s l : List Mark) → h.is_open ≡ true → h.life ≡ life → Told life h true s l → Told life (record h { is_open = false }) false (s ++ ended cause ∷ []) (l ++ ended cause ∷ [])
+told_close life h cause s l running same a =
+    let line : l ≡ s = (a.open_here refl).2 in
+    record {
+      later = λ lt. absurd (omega (arith, same, lt));
+      open_here = λ o. absurd cc;
+      shut_here = λ o r e. absurd cc;
+      runs = λ r e. absurd cc;
+      whole = inl (ap (λ ms. ms ++ ended cause ∷ []) line);
+      follows = rw line (Runs-end 0 h.next s cause (a.runs running same));
+    }
+
+-- a close of one that was cut off
+pub told_close_cut : (life : ℕ) (h : Come) (cause : Cause) (s l : List Mark) → h.is_open ≡ true → h.life ≡ life → Told life h false s l → Told life (record h { is_open = false }) false (s ++ ended cause ∷ []) l
+told_close_cut life h cause s l running same a =
+    let old = a.shut_here refl running same in
+    let cut : IsCutHere (s ++ ended cause ∷ []) l = record { front = old.front; rest = old.rest ++ ended cause ∷ []; sent_is = ap (λ ms. ms ++ ended cause ∷ []) old.sent_is ∙ append_assoc old.front old.rest (ended cause ∷ []); line_is = old.line_is } in
+    record {
+      later = λ lt. absurd (omega (arith, same, lt));
+      open_here = λ o. absurd cc;
+      shut_here = λ o r e. absurd cc;
+      runs = λ r e. absurd cc;
+      whole = inr cut;
+      follows = a.follows;
+    }
+
+pub told_start : (life : ℕ) → Told life nothing_came false [] []
+told_start life = record {
+  later = λ lt. (refl, refl);
+  open_here = λ o. absurd cc;
+  shut_here = λ o r e. absurd cc;
+  runs = λ r e. absurd cc;
+  whole = inl refl;
+  follows = tt;
+}

@@ -1,0 +1,12 @@
+-- A delivered message as contracts see it.
+use Rattle.std.specs.Prelude.{Option}
+use Rattle.scp_types.specs.declared.names.ConnId.{ConnId}
+use Rattle.scp_types.specs.declared.names.Seq.{Seq}
+use Rattle.scp_quorum.specs.QuorumTree.{QuorumTree}
+use Rattle.scp_wire.specs.declared.message.Message.{Message}
+
+pub record DeliveryView : Type 0 where
+  pub conn : ConnId
+  pub seq : Seq
+  pub message : Message
+  pub set : Option QuorumTree

@@ -1,0 +1,113 @@
+-- How each message of a connection left, and how the connection ended.
+use Rattle.std.specs.Prelude.{ℕ, ◌≤◌, ◌≡◌, ◌≢◌, Bool, true, false, List, [], ◌∷◌, ◌++◌, ◌⊎◌, length, map, flat_map}
+use Rattle.std.specs.List.{AllByRecursion}
+use Rattle.scp_types.specs.declared.names.ConnId.{ConnId}
+use Rattle.scp_types.specs.declared.names.Seq.{Seq}
+use Rattle.scp_wire.specs.declared.carried.Carried.{Carried}
+use Rattle.scp_wire.specs.declared.link.Cause.{Cause}
+use Rattle.scp_wire.specs.declared.link.Cause.TheVariants.{ParkedFull}
+use Rattle.scp_wire.specs.declared.link.Command.{Command}
+use Rattle.scp_wire.specs.declared.link.Command.TheVariants.{Tick}
+use Rattle.scp_wire.specs.declared.link.Inbound.{Inbound}
+use Rattle.scp_wire.specs.declared.link.Inbound.TheVariants as inbound
+use Rattle.scp_wire.specs.Connections.{same_conn}
+use Rattle.scp_wire.specs.Marks.{one_if}
+use Rattle.scp_pending.specs.Queues.{is_open, parked_of}
+use Rattle.scp_pending.specs.Rules.{PendingView, Settled, settled_by}
+use Rattle.scp_pending.specs.Causes.{IsWaiting}
+use Rattle.scp_pending.specs.declared.ready.DropCause.{DropCause}
+use Rattle.scp_pending.specs.declared.ready.DropCause.TheVariants.{BadSet, GaveUp, Closed as ByClose, ParkedFull as ByFull}
+use Rattle.scp_pending.specs.declared.ready.Ready.{Ready}
+use Rattle.scp_pending.specs.declared.ready.Ready.TheVariants.{Deliver, Dropped, Closed, Local}
+
+-- how a message left, by its number; or the connection ended
+pub data Way : Type 0 where
+  went : Seq → Way  -- by its own fate: delivered, or lost by its set
+  by_close : Seq → Way
+  by_full : Seq → Way
+  over : Cause → Way
+
+abbrev pub way_by : DropCause → Seq → Way
+way_by BadSet seq = went seq
+way_by GaveUp seq = went seq
+way_by ByClose seq = by_close seq
+way_by ByFull seq = by_full seq
+
+abbrev pub way : ConnId → Ready → List Way
+way c (Deliver delivery) = one_if (same_conn delivery.conn c) (went delivery.seq)
+way c (Dropped conn seq cause) = one_if (same_conn conn c) (way_by cause seq)
+way c (Closed conn cause) = one_if (same_conn conn c) (over cause)
+way c (Local command) = []
+
+abbrev pub ways : ConnId → List Ready → List Way
+ways c readies = flat_map (way c) readies
+
+abbrev pub HasWent : Way → Type 0
+HasWent (went seq) = Unit {0}
+HasWent (by_close seq) = ⊥
+HasWent (by_full seq) = ⊥
+HasWent (over cause) = ⊥
+
+abbrev pub AllWent : List Way → Type 0
+AllWent ws = AllByRecursion HasWent ws
+
+-- the first of these numbers is of an envelope of the connection that waits
+abbrev pub FirstWaits : Settled → List Inbound → ConnId → List Seq → Type 0
+FirstWaits start taken c [] = Unit {0}
+FirstWaits start taken c (seq ∷ seqs) = (x : Carried) × (x.conn ≡ c) × (x.seq ≡ seq) × IsWaiting start taken x
+
+-- it was closed from outside: after those that had their own fates, what was parked then is dropped, and then comes the end
+pub record IsClosedOff (start : Settled) (taken : List Inbound) (c : ConnId) (ws : List Way) : Type 0 where
+  pub front : List Way
+  pub seqs : List Seq
+  pub cause : Cause
+  pub before : List Inbound
+  pub rest : List Inbound
+  pub at : taken ≡ before ++ inbound.Closed c cause ∷ rest
+  pub outside : cause ≢ ParkedFull
+  pub ways_are : ws ≡ front ++ (map by_close seqs ++ over cause ∷ [])
+  pub fates : AllWent front
+  pub first : FirstWaits start before c seqs
+
+-- it was cut off by one message too many: 65 are dropped, of which the last came then, and then comes the end
+pub record IsCutOff (start : Settled) (taken : List Inbound) (c : ConnId) (ws : List Way) : Type 0 where
+  pub front : List Way
+  pub seqs : List Seq
+  pub last : Carried
+  pub before : List Inbound
+  pub rest : List Inbound
+  pub at : taken ≡ (before ++ inbound.Carried last ∷ []) ++ rest
+  pub mine : last.conn ≡ c
+  pub ways_are : ws ≡ front ++ (map by_full (seqs ++ last.seq ∷ []) ++ over ParkedFull ∷ [])
+  pub fates : AllWent front
+  pub count : length (seqs ++ last.seq ∷ []) ≡ 65
+  pub shuts : is_open c (settled_by start (before ++ inbound.Carried last ∷ [])).queues ≡ false
+  pub first : FirstWaits start (before ++ inbound.Carried last ∷ []) c (seqs ++ last.seq ∷ [])
+
+-- while it is open, all that left had their own fates; afterwards too, or it was closed off or cut off
+pub record Exits (start : Settled) (taken : List Inbound) (c : ConnId) (open' : Bool) (ws : List Way) : Type 0 where
+  pub running : open' ≡ true → AllWent ws
+  pub ended : AllWent ws ⊎ (IsClosedOff start taken c ws ⊎ IsCutOff start taken c ws)
+
+-- the local commands that pass: all but Tick
+abbrev pub passing_command : Command → List Command
+passing_command Tick = []
+
+abbrev pub passing : Inbound → List Command
+passing (inbound.Opened c) = []
+passing (inbound.Carried x) = []
+passing (inbound.Side c message) = []
+passing (inbound.Closed c cause) = []
+passing (inbound.Local command) = passing_command command
+
+abbrev pub commands_in : List Inbound → List Command
+commands_in items = flat_map passing items
+
+abbrev pub passed : Ready → List Command
+passed (Deliver delivery) = []
+passed (Dropped c seq cause) = []
+passed (Closed c cause) = []
+passed (Local command) = command ∷ []
+
+abbrev pub commands_of : List Ready → List Command
+commands_of readies = flat_map passed readies

@@ -1,0 +1,11 @@
+pub mod Sanity
+pub mod Delivery
+pub mod Queues
+pub mod Rules
+pub mod Outcome
+pub mod Line
+pub mod Causes
+pub mod Endings
+pub mod Pends
+pub mod Passes
+pub mod Laws

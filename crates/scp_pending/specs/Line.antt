@@ -1,0 +1,63 @@
+-- What ready things, and what is parked, say of one connection.
+use Rattle.std.specs.Prelude.{ℕ, ◌+◌, ◌≡◌, Bool, true, false, List, [], ◌∷◌, ◌++◌, map, flat_map, Some, slice_get, count_by, length}
+use Rattle.std.specs.List.{AllByRecursion}
+use Rattle.scp_types.specs.declared.names.ConnId.{ConnId}
+use Rattle.scp_types.specs.declared.names.NodeId.{NodeId}
+use Rattle.scp_wire.specs.declared.message.Message.{Message}
+use Rattle.scp_wire.specs.declared.link.Inbound.{Inbound}
+use Rattle.scp_wire.specs.Connections.{same_conn}
+use Rattle.scp_wire.specs.Marks.{Mark, number, ended, one_if, marks_in, messages_in, Follows, IsWhole}
+use Rattle.scp_pending.specs.declared.parked.Parked.{Parked}
+use Rattle.scp_pending.specs.declared.ready.Ready.{Ready}
+use Rattle.scp_pending.specs.declared.ready.Ready.TheVariants.{Deliver, Dropped, Closed, Local}
+use Rattle.scp_pending.specs.Queues.{QueueView, parked_of, seq_of}
+use Rattle.scp_pending.specs.Rules.{PendingView}
+
+abbrev pub ready_mark : ConnId → Ready → List Mark
+ready_mark c (Deliver delivery) = one_if (same_conn delivery.conn c) (number delivery.seq.0)
+ready_mark c (Dropped conn seq cause) = one_if (same_conn conn c) (number seq.0)
+ready_mark c (Closed conn cause) = one_if (same_conn conn c) (ended cause)
+ready_mark c (Local command) = []
+
+-- the marks of what is ready, or was given
+abbrev pub marks_of : ConnId → List Ready → List Mark
+marks_of c readies = flat_map (ready_mark c) readies
+
+abbrev pub parked_mark : Parked → Mark
+parked_mark p = number (seq_of p).0
+
+abbrev pub marks_parked : ConnId → List QueueView → List Mark
+marks_parked c queues = map parked_mark (parked_of c queues)
+
+-- what is held of a connection, in the order in which it will be given
+abbrev pub held : ConnId → PendingView → List Mark
+held c v = marks_of c v.leaving ++ marks_parked c v.settled.queues
+
+-- it is a message of the connection
+abbrev pub is_message_of : ConnId → Ready → Bool
+is_message_of c (Deliver delivery) = same_conn delivery.conn c
+is_message_of c (Dropped conn seq cause) = same_conn conn c
+is_message_of c (Closed conn cause) = false
+is_message_of c (Local command) = false
+
+-- how many messages are held of a connection: ready, or parked
+abbrev pub count_held : ConnId → PendingView → ℕ
+count_held c v = count_by (is_message_of c) v.leaving + length (parked_of c v.settled.queues)
+
+-- a delivered message of the connection is that of its number
+abbrev pub HasItsMessage : ConnId → List Message → Ready → Type 0
+HasItsMessage c messages (Deliver delivery) = same_conn delivery.conn c ≡ true → slice_get messages delivery.seq.0 ≡ Some delivery.message
+HasItsMessage c messages (Dropped conn seq cause) = Unit {0}
+HasItsMessage c messages (Closed conn cause) = Unit {0}
+HasItsMessage c messages (Local command) = Unit {0}
+
+abbrev pub HaveMessages : ConnId → List Message → List Ready → Type 0
+HaveMessages c messages readies = AllByRecursion (HasItsMessage c messages) readies
+
+-- What was given of a connection, and then what is held of it, is what came of it: whole up to the first end, or a prefix
+-- of it where that end is ParkedFull; numbered 0, 1, 2, .. without a gap, with nothing after an end; and each message
+-- that was given is that of its number.
+pub record Accounts (c : ConnId) (taken : List Inbound) (given : List Ready) (held' : List Mark) : Type 0 where
+  pub whole : IsWhole (marks_in c taken) (marks_of c given ++ held')
+  pub follows : Follows 0 (marks_of c given ++ held')
+  pub messages : HaveMessages c (messages_in c taken) given

@@ -1,0 +1,22 @@
+-- What holds of what the pending stage took, what it gave, and what it holds.
+use Rattle.std.specs.Prelude.{◌≡◌, Bool, false, List, ◌++◌}
+use Rattle.scp_types.specs.declared.names.NodeId.{NodeId}
+use Rattle.scp_quorum.specs.Sane.{IsSane}
+use Rattle.scp_wire.specs.declared.link.Inbound.{Inbound}
+use Rattle.scp_pending.specs.declared.ready.Ready.{Ready}
+use Rattle.scp_pending.specs.Rules.{PendingView, Settled, fresh, settled_by, released_by}
+use Rattle.scp_pending.specs.Causes.{IsSettledBy}
+
+-- what is settled before anything is taken
+abbrev pub start_of : NodeId → List NodeId → PendingView → Settled
+start_of me peers v = fresh me peers v.settled.store.local
+
+-- by the rules, from a stage of this node and these peers that took nothing yet
+pub record Pends (me : NodeId) (peers : List NodeId) (taken : List Inbound) (given : List Ready) (v : PendingView) : Type 0 where
+  pub runs : v.failed ≡ false
+  pub local_is_sane : IsSane v.settled.store.local
+  pub settled : v.settled ≡ settled_by (start_of me peers v) taken
+  pub left : given ++ v.leaving ≡ released_by (start_of me peers v) taken
+
+abbrev pub IsSettled : NodeId → List NodeId → List Inbound → PendingView → Type 0
+IsSettled me peers taken v = IsSettledBy (start_of me peers v) taken v

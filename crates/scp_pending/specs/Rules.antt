@@ -1,0 +1,202 @@
+-- The rules of the pending stage: what an item makes of what is parked, stored and wanted, what it releases, and what is
+-- replied (this project's profile).
+use Rattle.std.specs.Prelude.{ℕ, ◌≡◌, Bool, true, false, not, ◌&&◌, ◌||◌, List, [], ◌∷◌, ◌++◌, Option, Some, None, nat_lt, length, map, filter, if◌then◌else◌, position, is_some, fold}
+use Rattle.std.specs.List.{list_any}
+use Rattle.std.specs.Option.{unwrap_or}
+use Rattle.scp_types.specs.declared.names.ConnId.{ConnId}
+use Rattle.scp_types.specs.declared.names.Hash.{Hash}
+use Rattle.scp_types.specs.declared.names.NodeId.{NodeId}
+use Rattle.scp_quorum.specs.QuorumTree.{QuorumTree}
+use Rattle.scp_wire.specs.declared.carried.Carried.{Carried}
+use Rattle.scp_wire.specs.declared.message.Message.{Message}
+use Rattle.scp_wire.specs.declared.message.Message.TheVariants as message
+use Rattle.scp_wire.specs.declared.side.SideMessage.{SideMessage}
+use Rattle.scp_wire.specs.declared.side.SideMessage.TheVariants.{GetSet, Set, NoSet}
+use Rattle.scp_wire.specs.declared.link.Cause.TheVariants.{ParkedFull}
+use Rattle.scp_wire.specs.declared.link.Command.TheVariants.{Tick}
+use Rattle.scp_wire.specs.declared.link.Inbound.{Inbound}
+use Rattle.scp_wire.specs.declared.link.Inbound.TheVariants as inbound
+use Rattle.scp_wire.specs.Connections.{same_node}
+use Rattle.scp_pending.specs.Sanity.{is_sane, has_spelling}
+use Rattle.scp_fetch.specs.declared.want.Want.{Want}
+use Rattle.scp_fetch.specs.declared.want.Miss.TheVariants.{One, All}
+use Rattle.scp_fetch.specs.Wants.{is_wanted, is_asked, wanted_by, unasked, gives_up, last_missed, missed_by, without}
+use Rattle.scp_fetch.specs.Store.{StoreView, lookup, stored}
+use Rattle.scp_pending.specs.Queues.{QueueView, is_open, is_link_open, parked_of, others, named, is_hash, hash_of, waits_for, waited_by, is_waited, is_empty, may_leave, leaves_of, served, leaving_of, in_order_of, resolved, with_set, lost_by, parked_in, dropped}
+use Rattle.scp_pending.specs.declared.parked.Parked.{Parked}
+use Rattle.scp_pending.specs.declared.parked.Parked.TheVariants.{Waits, Free, Lost}
+use Rattle.scp_pending.specs.declared.ready.DropCause.TheVariants.{BadSet, GaveUp, Closed as ByClose, ParkedFull as ByFull}
+use Rattle.scp_pending.specs.declared.ready.Ready.{Ready}
+use Rattle.scp_pending.specs.declared.ready.Ready.TheVariants.{Dropped, Closed}
+
+-- what the items that were taken determine
+pub record Settled : Type 0 where
+  pub me : NodeId
+  pub peers : List NodeId  -- by their links' numbers
+  pub store : StoreView
+  pub wanted : List Want
+  pub queues : List QueueView  -- of the open connections, in the order in which their heads began to wait
+
+-- and what is on its way out
+pub record PendingView : Type 0 where
+  pub failed : Bool
+  pub settled : Settled
+  pub leaving : List Ready
+
+abbrev pub fresh : NodeId → List NodeId → QuorumTree → Settled
+fresh me peers local = record { me = me; peers = peers; store = record { local = local; others = [] }; wanted = []; queues = [] }
+
+abbrev pub link_of : NodeId → Settled → Option ℕ
+link_of node s = position (λ peer. same_node peer node) s.peers
+
+abbrev pub link_number : NodeId → Settled → ℕ
+link_number node s = unwrap_or (link_of node s) 0
+
+-- ---- a connection begins
+
+-- it is of a peer's link to this node, and none is open there
+abbrev pub opens : ConnId → Settled → Bool
+opens c s = is_some (link_of c.from s) && same_node c.to s.me && not (is_link_open c.from s.queues)
+
+abbrev pub opened : ConnId → Settled → Settled
+opened c s = record s { queues = s.queues ++ record { conn = c; parked = [] } ∷ []; wanted = unasked (link_number c.from s) s.wanted }
+
+-- ---- a connection ends
+
+-- what waited for a hash of which nothing else is parked ends its want
+abbrev pub still_wanted : List Parked → List QueueView → Want → Bool
+still_wanted gone rest want = is_waited want.hash rest || not (list_any (waits_for want.hash) gone)
+
+abbrev pub closed_off : ConnId → Settled → Settled
+closed_off c s = record s { queues = others c s.queues; wanted = filter (still_wanted (parked_of c s.queues) (others c s.queues)) s.wanted }
+
+-- ---- a carried message
+
+abbrev pub found : Carried → Option QuorumTree → Parked
+found x None = Waits x
+found x (Some set) = with_set (Some set) x
+
+-- an envelope waits for its set, or has it; nothing else waits
+abbrev pub entering_by : Option Hash → StoreView → Carried → Parked
+entering_by None store x = with_set None x
+entering_by (Some hash) store x = found x (lookup hash store)
+
+abbrev pub entering : StoreView → Carried → Parked
+entering store x = entering_by (named x.message) store x
+
+-- 64 of it are parked
+abbrev pub is_full : ConnId → List QueueView → Bool
+is_full c queues = nat_lt 63 (length (parked_of c queues))
+
+abbrev pub goes_through : ConnId → Parked → List QueueView → Bool
+goes_through c p queues = is_empty (parked_of c queues) && may_leave (p ∷ [])
+
+abbrev pub wanted_named : ℕ → Option Hash → List Want → List Want
+wanted_named link None wanted = wanted
+wanted_named link (Some hash) wanted = wanted_by hash link wanted
+
+abbrev pub wanted_with : ℕ → Parked → List Want → List Want
+wanted_with link p wanted = wanted_named link (waited_by p) wanted
+
+abbrev pub parks : Carried → Parked → Settled → Settled
+parks x p s = record s { queues = parked_in x.conn p s.queues; wanted = wanted_with (link_number x.conn.from s) p s.wanted }
+
+abbrev pub enters : Carried → Parked → Settled → Settled
+enters x p s = if goes_through x.conn p s.queues then s else parks x p s
+
+abbrev pub brings : Carried → Settled → Settled
+brings x s = if is_full x.conn s.queues then closed_off x.conn s else enters x (entering s.store x) s
+
+-- ---- quorum sets
+
+abbrev pub by_answer : QuorumTree → Carried → Parked
+by_answer set = if is_sane set then with_set (Some set) else lost_by BadSet
+
+abbrev pub answered : QuorumTree → Settled → Settled
+answered set s = record s { store = (if is_sane set then stored set s.store else s.store); wanted = without (hash_of set) s.wanted; queues = served (resolved (is_hash (hash_of set)) (by_answer set) s.queues) }
+
+-- a Set that is wanted; a set without a spelling has no hash
+abbrev pub is_answer : QuorumTree → Settled → Bool
+is_answer set s = has_spelling set && is_wanted (hash_of set) s.wanted
+
+-- time went on: each wanted hash is missed; of several that are given up, what waited for the first wanted one leaves first
+abbrev pub is_given_up : List Want → Option Hash → Bool
+is_given_up wanted None = false
+is_given_up wanted (Some hash) = gives_up All wanted hash
+
+abbrev pub missed_all : Settled → Settled
+missed_all s = record s { wanted = missed_by All s.wanted; queues = served (resolved (is_given_up s.wanted) (lost_by GaveUp) (in_order_of (last_missed s.wanted) s.queues)) }
+
+-- one hash alone is missed
+abbrev pub gives_up_one : Hash → Settled → Settled
+gives_up_one hash s = record s { queues = served (resolved (is_hash hash) (lost_by GaveUp) s.queues) }
+
+abbrev pub missed_one : Hash → Settled → Settled
+missed_one hash s = if gives_up (One hash) s.wanted hash then gives_up_one hash (record s { wanted = missed_by (One hash) s.wanted }) else record s { wanted = missed_by (One hash) s.wanted }
+
+abbrev pub hears : SideMessage → Settled → Settled
+hears (GetSet hash) s = s
+hears (Set set) s = if is_answer set s then answered set s else s
+hears (NoSet hash) s = missed_one hash s
+
+-- ---- all items
+
+abbrev pub rules : Settled → Inbound → Settled
+rules s (inbound.Opened c) = if opens c s then opened c s else s
+rules s (inbound.Carried x) = if is_open x.conn s.queues then brings x s else s
+rules s (inbound.Side c message) = if is_open c s.queues then hears message s else s
+rules s (inbound.Closed c cause) = if is_open c s.queues then closed_off c s else s
+rules s (inbound.Local Tick) = missed_all s
+
+abbrev pub brought : Carried → Settled → List Ready
+brought x s = if is_full x.conn s.queues then map (dropped x.conn ByFull) (parked_of x.conn s.queues) ++ Dropped x.conn x.seq ByFull ∷ Closed x.conn ParkedFull ∷ [] else (if goes_through x.conn (entering s.store x) s.queues then leaves_of x.conn (entering s.store x ∷ []) else [])
+
+abbrev pub heard_out : SideMessage → Settled → List Ready
+heard_out (GetSet hash) s = []
+heard_out (Set set) s = if is_answer set s then leaving_of (resolved (is_hash (hash_of set)) (by_answer set) s.queues) else []
+heard_out (NoSet hash) s = if gives_up (One hash) s.wanted hash then leaving_of (resolved (is_hash hash) (lost_by GaveUp) s.queues) else []
+
+-- what leaves at an item, in this order
+abbrev pub releases : Settled → Inbound → List Ready
+releases s (inbound.Opened c) = []
+releases s (inbound.Carried x) = if is_open x.conn s.queues then brought x s else []
+releases s (inbound.Side c message) = if is_open c s.queues then heard_out message s else []
+releases s (inbound.Closed c cause) = if is_open c s.queues then map (dropped c ByClose) (parked_of c s.queues) ++ Closed c cause ∷ [] else []
+releases s (inbound.Local Tick) = leaving_of (resolved (is_given_up s.wanted) (lost_by GaveUp) (in_order_of (last_missed s.wanted) s.queues))
+
+abbrev pub asks_named : ℕ → Option Hash → List Want → Option (ℕ × Message)
+asks_named link None wanted = None
+asks_named link (Some hash) wanted = if is_asked hash link wanted then None else Some (link, message.GetSet hash)
+
+abbrev pub asks : ℕ → Parked → List Want → Option (ℕ × Message)
+asks link p wanted = asks_named link (waited_by p) wanted
+
+abbrev pub answer : Hash → Option QuorumTree → Message
+answer hash None = message.NoSet hash
+answer hash (Some set) = message.Set set
+
+abbrev pub replies : ConnId → SideMessage → Settled → Option (ℕ × Message)
+replies c (GetSet hash) s = Some (link_number c.from s, answer hash (lookup hash s.store))
+replies c (Set set) s = None
+replies c (NoSet hash) s = None
+
+-- the message for one link
+abbrev pub reply : Settled → Inbound → Option (ℕ × Message)
+reply s (inbound.Opened c) = None
+reply s (inbound.Carried x) = if is_open x.conn s.queues && not (is_full x.conn s.queues) then asks (link_number x.conn.from s) (entering s.store x) s.wanted else None
+reply s (inbound.Side c message) = if is_open c s.queues then replies c message s else None
+reply s (inbound.Closed c cause) = None
+reply s (inbound.Local Tick) = None
+
+-- ---- a list of items
+
+abbrev pub settled_by : Settled → List Inbound → Settled
+settled_by s items = fold rules s items
+
+-- all that leaves at a list of items
+abbrev pub released_by : Settled → List Inbound → List Ready
+released_by s [] = []
+released_by s (item ∷ items) = releases s item ++ released_by (rules s item) items
+
+abbrev pub taken_in : PendingView → Inbound → PendingView
+taken_in v item = record v { settled = rules v.settled item; leaving = v.leaving ++ releases v.settled item }

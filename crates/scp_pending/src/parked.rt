@@ -1,0 +1,154 @@
+//! A parked message.
+ghost use Rattle.std.specs.Prelude.{◌≡◌, ◌∷◌, [], IfOk, IsOkUnless, IfSome, Some, None, true, filter, option_map};
+ghost use Rattle.scp_pending.specs.Rules.{is_given_up, still_wanted};
+ghost use Rattle.scp_quorum.specs.QuorumKind.{set_hash};
+ghost use Rattle.scp_pending.specs.Queues.{named as named_by, hash_of, is_hash, waits_for as waits, waited_by, may_leave as head_may_leave, seq_of, resolved_one, lost_by, with_set};
+ghost use Rattle.scp_pending.specs.Outcome.{outcome_of, HasHash};
+
+use crate::queue::{Queue, is_waited};
+use crate::ready::{Delivery, DropCause};
+use scp_fetch::Fetcher;
+use scp_quorum::SaneSet;
+use scp_types::{Fault, Hash, Seq};
+use scp_wire::{Carried, Message};
+use std::sync::Arc;
+
+/// A parked message. It leaves at the head of its queue alone.
+#[derive(Debug, Drop)]
+pub(crate) enum Parked {
+    /// An envelope whose quorum set is unknown.
+    Waits(Carried),
+    /// It waits for nothing.
+    Free(Delivery),
+    /// It will be dropped, for this cause.
+    Lost(Seq, DropCause),
+}
+
+/// What becomes of the envelopes that wait for a hash.
+#[derive(Drop)]
+pub(crate) enum Outcome {
+    /// This is their quorum set.
+    Has(Arc<SaneSet>),
+    /// They are lost.
+    Lost(DropCause),
+}
+
+/// The hash of the quorum set that an envelope names; nothing else names one.
+pub(crate) fn named(message: &Message) -> Option<Hash>
+    ensures { result ≡ named_by message.now }
+{
+    match message {
+        Message::Envelope(envelope) => Some(envelope.set_hash()),
+        _ => None,
+    }
+}
+
+/// Whether the message names a quorum set of this hash.
+fn names(message: &Message, hash: &Hash) -> bool
+    ensures { result ≡ is_hash hash.now (named_by message.now) }
+{
+    match named(message) {
+        Some(other) => *hash == other,
+        None => false,
+    }
+}
+
+impl Parked {
+    pub(crate) fn seq(&self) -> Seq
+        ensures { result ≡ seq_of self.now }
+    {
+        match self {
+            Parked::Waits(carried) => carried.seq,
+            Parked::Free(delivery) => delivery.seq(),
+            Parked::Lost(seq, _) => *seq,
+        }
+    }
+
+    /// Whether it waits for nothing.
+    pub(crate) fn is_free(&self) -> bool
+        ensures { result ≡ head_may_leave (self.now ∷ []) }
+    {
+        !matches!(self, Parked::Waits(_))
+    }
+
+    /// The hash that it waits for.
+    pub(crate) fn waited(&self) -> Option<Hash>
+        ensures { result ≡ waited_by self.now }
+    {
+        match self {
+            Parked::Waits(carried) => named(&carried.message),
+            Parked::Free(_) | Parked::Lost(..) => None,
+        }
+    }
+
+    /// Whether it waits for a quorum set of this hash.
+    pub(crate) fn waits_for(&self, hash: &Hash) -> bool
+        ensures { result ≡ waits hash.now self.now }
+    {
+        match self {
+            Parked::Waits(carried) => names(&carried.message, hash),
+            Parked::Free(_) | Parked::Lost(..) => false,
+        }
+    }
+}
+
+impl Parked {
+    /// What it is once those that wait for the hash have their outcome.
+    pub(crate) fn settled(self, hash: &Hash, outcome: &Outcome) -> Result<Parked, Fault>
+        requires hash { HasHash (Some hash.now) outcome.now }
+        ensures { IfOk result (λ parked. parked ≡ resolved_one (is_hash hash.now) (outcome_of outcome.now) self) }
+    {
+        let Parked::Waits(carried) = self else {
+            return Ok(self);
+        };
+        if names(&carried.message, hash) {
+            outcome.of(carried)
+        } else {
+            Ok(Parked::Waits(carried))
+        }
+    }
+
+    /// What it is once those whose hashes one more miss gives up are lost.
+    pub(crate) fn given_up(self, fetcher: &Fetcher) -> Parked
+        ensures { result ≡ resolved_one (is_given_up fetcher.now) (lost_by DropCause.GaveUp) self }
+    {
+        let Parked::Waits(carried) = self else {
+            return self;
+        };
+        match named(&carried.message) {
+            Some(hash) if fetcher.is_at_last_miss(&hash) => {
+                Parked::Lost(carried.seq, DropCause::GaveUp)
+            }
+            _ => Parked::Waits(carried),
+        }
+    }
+
+    /// The hash that it waits for isn't wanted any more, where nothing among these waits for it.
+    #[tactic(auto, using(crate::proofs::Freeing::forget_free, crate::proofs::Freeing::forget_still, crate::proofs::Freeing::forget_waits))]
+    pub(crate) fn forget(&self, rest: &[Queue], fetcher: &mut Fetcher)
+        ensures { fetcher.new ≡ filter (still_wanted (self.now ∷ []) rest.now) fetcher.old }
+    {
+        if let Some(hash) = self.waited() {
+            if !is_waited(rest, &hash) {
+                fetcher.forget(&hash);
+            }
+        }
+    }
+}
+
+impl Outcome {
+    /// What becomes of an envelope.
+    fn of(&self, carried: Carried) -> Result<Parked, Fault>
+        requires named { HasHash (named_by carried.message) self.now }
+        ensures made { IfOk result (λ parked. parked ≡ outcome_of self.now carried) }
+        ensures only_memory { IsOkUnless result Fault.NoMemory }
+    {
+        match self {
+            Outcome::Has(set) => Ok(Parked::Free(Delivery::with_set(
+                carried,
+                Arc::try_clone(set)?,
+            ))),
+            Outcome::Lost(cause) => Ok(Parked::Lost(carried.seq, *cause)),
+        }
+    }
+}

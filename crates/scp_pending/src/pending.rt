@@ -1,0 +1,426 @@
+//! The pending stage.
+ghost use Rattle.std.specs.Prelude.{ℕ, ◌≡◌, ◌≤◌, ◌<◌, ◌^◌, ◌++◌, ◌∷◌, [], ◌↔◌, List, IfOk, OnOk, OnErr, IsOkUnless, IfNone, Err, IfSome, None, Some, true, false, length, map, filter, flat_map, option_to_list, position, remove, take, drop, count_by};
+ghost use Rattle.scp_types.specs.declared.names.NodeId.{NodeId};
+ghost use Rattle.scp_wire.specs.declared.link.Inbound.{Inbound};
+ghost use Rattle.scp_fetch.specs.Store.{lookup};
+ghost use Rattle.scp_pending.specs.Queues.{is_of, is_open, parked_of, others, changed, with_parked, parked_in, served, leaving_of, resolved, lost_by, dropped, is_hash, is_link_open, stays_in, leaves_in, may_leave as head_may_leave};
+ghost use Rattle.scp_pending.specs.Rules.{PendingView, Settled, fresh, rules, releases, reply, taken_in, entering as entering_with, link_number, opens, opened, closed_off, asks, brings, brought, enters, goes_through, parks, hears, heard_out, replies, answer as answer_for, is_full, wanted_with, asks_named, wanted_named};
+ghost use Rattle.scp_pending.specs.Outcome.{outcome_of, HasHash};
+ghost use Rattle.scp_quorum.specs.Sane.{IsSane};
+ghost use Rattle.scp_wire.specs.Connections.{same_node};
+ghost use Rattle.scp_pending.specs.Line.{is_message_of, count_held};
+ghost use Rattle.scp_pending.specs.Pends.{Pends, IsSettled};
+ghost use Rattle.scp_pending.specs.Passes.{Passes};
+ghost use Rattle.scp_pending.specs.declared.ready.Ready.{Ready};
+
+use crate::parked::{Outcome, Parked, named};
+use crate::queue::{
+    Queue, count_of, give, give_up_in_order, is_link_open as is_link_open_in, place_of, push_to,
+    serve_all, settle_all, take_queue,
+};
+use crate::ready::{Delivery, DropCause, Ready};
+use scp_fetch::{Fetcher, Missed, SetStore};
+use scp_quorum::{QuorumSet, SaneSet};
+use scp_types::{ConnId, Fault, Hash, NodeId};
+use scp_wire::{Carried, Cause, Command, Inbound, Message, SideMessage};
+use std::alloc::Global;
+use std::collections::VecDeque;
+use std::marker::Model;
+use std::sync::Arc;
+
+/// The most messages of one connection that are parked (this project's profile).
+pub const PARKED_LIMIT: usize = 64;
+
+/// The most peers that a node has (this project's profile).
+pub const PEER_LIMIT: usize = 7;
+
+/// Messages that wait for their quorum sets, and what is on its way out.
+#[derive(Drop)]
+pub struct Pending {
+    alloc: Global,
+    failed: bool,
+    me: NodeId,
+    peers: Vec<NodeId>,
+    store: SetStore,
+    fetcher: Fetcher,
+    queues: Vec<Queue>,
+    leaving: VecDeque<Ready>,
+}
+
+impl Model for Pending {
+    ghost use Rattle.std.specs.Prelude.{◌≤◌, length};
+    ghost use Rattle.std.specs.Coded.{codes};
+    ghost use Rattle.scp_xdr.specs.TreeModel.{coded_row};
+    ghost use Rattle.scp_quorum.specs.QuorumTree.{coded_level};
+    ghost use Rattle.scp_pending.specs.Rules.{PendingView};
+
+    ghost Value = { PendingView };
+
+    ghost coded = { Prim.hlevel (codes, coded_row coded_level) };
+
+    ghost view = { λ a. record {
+      failed = a.failed;
+      settled = record { me = a.me; peers = a.peers.items; store = a.store; wanted = a.fetcher; queues = a.queues.items };
+      leaving = a.leaving.items;
+    } };
+
+    ghost invariant = { λ a. length a.peers.items ≤ 7 };
+}
+
+impl Pending {
+    /// A stage of this node that took nothing. `peers[l]` is the sender of link l; `local` is the node's own quorum set.
+    /// Takes no memory.
+    pub fn new(alloc: Global, me: NodeId, peers: Vec<NodeId>, local: Arc<SaneSet>) -> Pending
+        requires few { length peers.items ≤ 7 }
+        ensures settled { result.settled ≡ fresh me peers.items local.value }
+        ensures pends { Pends me peers.items [] [] result }
+    {
+        let _ = local.set();
+        Pending {
+            alloc,
+            failed: false,
+            me,
+            peers,
+            store: SetStore::new(alloc, local),
+            fetcher: Fetcher::new(alloc),
+            queues: Vec::new(alloc),
+            leaving: VecDeque::new(alloc),
+        }
+    }
+
+    /// Takes one item more, where `next_ready` gives nothing, and gives the message for one link, if there is one: a GetSet where
+    /// that link is to be asked for the set of an envelope, and the answer to a GetSet. `Fault::NoMemory` leaves the stage
+    /// failed, and a failed one answers `Fault::Failed`. What parks, delivers or drops one message costs a few look-ups; a
+    /// Set, a NoSet, a Tick and the end of a connection walk what is parked.
+    pub fn take(&mut self, item: Inbound) -> Result<Option<(u8, Message)>, Fault>
+        requires nothing_ready { self.old.failed ≡ false → self.old.leaving ≡ [] }
+        ensures reply { IfOk result (λ answer. answer ≡ reply self.old.settled item) }
+        ensures rules { OnOk result (self.new ≡ taken_in self.old item) }
+        ensures passes { OnOk result ((me : NodeId) → (peers : List NodeId) → Passes (Pends me peers) (item ∷ []) [] self.old self.new) }
+        ensures failed { OnErr result (self.new.failed ≡ true) }
+        ensures failed_before { result ≡ Err Fault.Failed ↔ self.old.failed ≡ true }
+        ensures memory { self.old.failed ≡ false → IsOkUnless result Fault.NoMemory }
+    {
+        if self.failed {
+            return Err(Fault::Failed);
+        }
+        match self.settle(item) {
+            Ok(answer) => Ok(answer),
+            Err(_) => {
+                self.failed = true;
+                Err(Fault::NoMemory)
+            }
+        }
+    }
+
+    /// The next ready thing. Takes no memory. A failed stage gives nothing.
+    pub fn next_ready(&mut self) -> Option<Ready>
+        ensures passes { (me : NodeId) → (peers : List NodeId) → Passes (Pends me peers) [] (option_to_list result) self.old self.new }
+        ensures gives { self.old.failed ≡ false → self.old.leaving ≡ option_to_list result ++ self.new.leaving }
+        ensures same { self.new ≡ record self.old { leaving = self.new.leaving } }
+        ensures none { self.old.failed ≡ false → (result ≡ None ↔ self.old.leaving ≡ []) }
+        ensures failed { self.old.failed ≡ true → (result ≡ None) × (self.new ≡ self.old) }
+        ensures settled { (me : NodeId) → (peers : List NodeId) → (taken : List Inbound) → (given : List Ready) → Pends me peers taken given self.old → (result ≡ None ↔ IsSettled me peers taken self.old) }
+        ensures unchanged { result ≡ None → self.new ≡ self.old }
+    {
+        if self.failed {
+            return None;
+        }
+        next(&mut self.leaving)
+    }
+
+    /// How many messages of the connection it holds: those that are ready, and those that are parked. At most 64 where
+    /// nothing is ready, and 65 just after the take that cut the connection off.
+    pub fn parked(&self, conn: &ConnId) -> usize
+        ensures { result ≡ count_held conn.now self.now }
+    {
+        let ready = ready_of(&self.leaving, conn);
+        match count_of(&self.queues, conn) {
+            Some(count) => ready + count,
+            None => ready,
+        }
+    }
+
+    /// What an item does, and the message for one link.
+    fn settle(&mut self, item: Inbound) -> Result<Option<(u8, Message)>, Fault>
+        ensures reply { IfOk result (λ answer. answer ≡ reply self.old.settled item) }
+        ensures rules { OnOk result (self.new ≡ taken_in self.old item) }
+    {
+        match item {
+            Inbound::Opened(conn) => {
+                self.open(conn)?;
+                Ok(None)
+            }
+            Inbound::Carried(carried) => self.bring(carried),
+            Inbound::Side { conn, message } => self.hear(conn, message),
+            Inbound::Closed { conn, cause } => {
+                self.close(conn, cause)?;
+                Ok(None)
+            }
+            Inbound::Local(Command::Tick) => {
+                self.tick()?;
+                Ok(None)
+            }
+        }
+    }
+
+    /// The number of the link from this node; 0 where it is no peer.
+    fn link_number(&self, node: &NodeId) -> u8
+        ensures number { result ≡ link_number node.now self.now.settled }
+        ensures few { result < 8 }
+    {
+        match place_of_peer(&self.peers, node) {
+            Some(place) => place as u8,
+            None => 0,
+        }
+    }
+
+    /// The connection begins, unless one is open on its link, or it is of no peer or to another node.
+    fn open(&mut self, conn: ConnId) -> Result<(), Fault>
+        ensures { OnOk result (self.new ≡ taken_in self.old (Inbound.Opened conn)) }
+    {
+        if place_of_peer(&self.peers, &conn.from).is_none()
+            || conn.to != self.me
+            || is_link_open_in(&self.queues, &conn.from)
+        {
+            return Ok(());
+        }
+        self.queues.push(Queue::new(self.alloc, conn))?;
+        let link = self.link_number(&conn.from);
+        self.fetcher.opened(link);
+        Ok(())
+    }
+
+    fn bring(&mut self, carried: Carried) -> Result<Option<(u8, Message)>, Fault>
+        ensures reply { IfOk result (λ answer. answer ≡ reply self.old.settled (Inbound.Carried carried)) }
+        ensures rules { OnOk result (self.new ≡ taken_in self.old (Inbound.Carried carried)) }
+    {
+        let conn = carried.conn;
+        let Some(count) = count_of(&self.queues, &conn) else {
+            return Ok(None);
+        };
+        if count >= PARKED_LIMIT {
+            self.cut_off(carried)?;
+            return Ok(None);
+        }
+        let parked = entering(&self.store, carried)?;
+        if count == 0 && parked.is_free() {
+            give(conn, parked, &mut self.leaving)?;
+            return Ok(None);
+        }
+        self.park(conn, parked)
+    }
+
+    /// One too many: all that is parked of the connection is dropped with it, and the connection is cut off.
+    fn cut_off(&mut self, carried: Carried) -> Result<(), Fault>
+        requires open { is_open carried.conn self.old.settled.queues ≡ true }
+        requires full { is_full carried.conn self.old.settled.queues ≡ true }
+        ensures { OnOk result (self.new ≡ taken_in self.old (Inbound.Carried carried)) }
+    {
+        let conn = carried.conn;
+        self.empty(&conn, DropCause::ParkedFull)?;
+        self.leaving.push_back(Ready::Dropped {
+            conn,
+            seq: carried.seq,
+            cause: DropCause::ParkedFull,
+        })?;
+        self.leaving.push_back(Ready::Closed {
+            conn,
+            cause: Cause::ParkedFull,
+        })?;
+        Ok(())
+    }
+
+    fn close(&mut self, conn: ConnId, cause: Cause) -> Result<(), Fault>
+        ensures { OnOk result (self.new ≡ taken_in self.old (Inbound.Closed conn cause)) }
+    {
+        if place_of(&self.queues, &conn).is_none() {
+            return Ok(());
+        }
+        self.empty(&conn, DropCause::Closed)?;
+        self.leaving.push_back(Ready::Closed { conn, cause })?;
+        Ok(())
+    }
+
+    /// Drops all that is parked of the connection, and its queue.
+    fn empty(&mut self, conn: &ConnId, cause: DropCause) -> Result<(), Fault>
+        requires open { is_open conn.now self.old.settled.queues ≡ true }
+        ensures { OnOk result (self.new ≡ record self.old { settled = closed_off conn.now self.old.settled; leaving = self.old.leaving ++ map (dropped conn.now cause) (parked_of conn.now self.old.settled.queues) }) }
+    {
+        if let Some(queue) = take_queue(&mut self.queues, conn) {
+            queue.drop_all(cause, &mut self.leaving)?;
+            queue.forget(&self.queues, &mut self.fetcher);
+        }
+        Ok(())
+    }
+
+    /// Parks a message at the end of its queue. Where it waits, its quorum set is wanted, and its link is asked for it if it
+    /// wasn't yet.
+    fn park(&mut self, conn: ConnId, parked: Parked) -> Result<Option<(u8, Message)>, Fault>
+        requires open { is_open conn self.old.settled.queues ≡ true }
+        ensures reply { IfOk result (λ answer. answer ≡ asks (link_number conn.from self.old.settled) parked self.old.settled.wanted) }
+        ensures rules { OnOk result (self.new ≡ record self.old { settled = record self.old.settled { queues = parked_in conn parked self.old.settled.queues; wanted = wanted_with (link_number conn.from self.old.settled) parked self.old.settled.wanted } }) }
+    {
+        let hash = parked.waited();
+        let link = self.link_number(&conn.from);
+        let answer = self.ask(hash, link)?;
+        push_to(&mut self.queues, &conn, parked)?;
+        Ok(answer)
+    }
+
+    /// The quorum set of the hash is wanted, and the link is asked for it if it wasn't yet.
+    fn ask(&mut self, hash: Option<Hash>, link: u8) -> Result<Option<(u8, Message)>, Fault>
+        requires few { link < 8 }
+        ensures reply { IfOk result (λ answer. answer ≡ asks_named link hash self.old.settled.wanted) }
+        ensures rules { OnOk result (self.new ≡ record self.old { settled = record self.old.settled { wanted = wanted_named link hash self.old.settled.wanted } }) }
+    {
+        let Some(hash) = hash else {
+            return Ok(None);
+        };
+        let asks = self.fetcher.want(&hash, link)?;
+        if !asks {
+            return Ok(None);
+        }
+        Ok(Some((link, Message::GetSet(hash))))
+    }
+
+    fn hear(&mut self, conn: ConnId, message: SideMessage) -> Result<Option<(u8, Message)>, Fault>
+        ensures reply { IfOk result (λ answer. answer ≡ reply self.old.settled (Inbound.Side conn message)) }
+        ensures rules { OnOk result (self.new ≡ taken_in self.old (Inbound.Side conn message)) }
+    {
+        if place_of(&self.queues, &conn).is_none() {
+            return Ok(None);
+        }
+        match message {
+            SideMessage::GetSet(hash) => {
+                let link = self.link_number(&conn.from);
+                Ok(Some((link, self.answer_to(&hash)?)))
+            }
+            SideMessage::Set(set) => {
+                self.hear_set(set)?;
+                Ok(None)
+            }
+            SideMessage::NoSet(hash) => {
+                self.hear_no_set(&hash)?;
+                Ok(None)
+            }
+        }
+    }
+
+    /// The answer to a GetSet.
+    fn answer_to(&self, hash: &Hash) -> Result<Message, Fault>
+        ensures { IfOk result (λ message. message ≡ answer_for hash.now (lookup hash.now self.now.settled.store)) }
+    {
+        match self.store.get(hash) {
+            Some(set) => Ok(Message::Set(set.set().copy()?)),
+            None => Ok(Message::NoSet(*hash)),
+        }
+    }
+
+    fn hear_set(&mut self, set: QuorumSet) -> Result<(), Fault>
+        ensures { OnOk result (self.new ≡ record self.old { settled = hears (SideMessage.Set set) self.old.settled; leaving = self.old.leaving ++ heard_out (SideMessage.Set set) self.old.settled }) }
+    {
+        match set.into_sane() {
+            Ok(sane) => self.hear_sane(sane),
+            Err((Fault::Insane, set)) => self.hear_insane(&set),
+            Err(_) => Err(Fault::NoMemory),
+        }
+    }
+
+    #[tactic(auto, using(crate::proofs::Hearing::unwanted))]
+    fn hear_sane(&mut self, sane: SaneSet) -> Result<(), Fault>
+        ensures { OnOk result (self.new ≡ record self.old { settled = hears (SideMessage.Set sane) self.old.settled; leaving = self.old.leaving ++ heard_out (SideMessage.Set sane) self.old.settled }) }
+    {
+        let _ = sane.set();
+        let hash = sane.hash();
+        if !self.fetcher.is_wanted(&hash) {
+            return Ok(());
+        }
+        let shared = Arc::new(self.alloc, sane)?;
+        self.store.insert(Arc::try_clone(&shared)?)?;
+        self.fetcher.forget(&hash);
+        self.resolve(&hash, Outcome::Has(shared))?;
+        Ok(())
+    }
+
+    #[tactic(auto, using(crate::proofs::Hearing::unwanted, crate::proofs::Hearing::unspelt))]
+    fn hear_insane(&mut self, set: &QuorumSet) -> Result<(), Fault>
+        requires insane { IsSane set.now → ⊥ }
+        ensures { OnOk result (self.new ≡ record self.old { settled = hears (SideMessage.Set set.now) self.old.settled; leaving = self.old.leaving ++ heard_out (SideMessage.Set set.now) self.old.settled }) }
+    {
+        let hash = match set.hash() {
+            Ok(hash) => hash,
+            Err(Fault::TooLong) => return Ok(()),
+            Err(_) => return Err(Fault::NoMemory),
+        };
+        if self.fetcher.is_wanted(&hash) {
+            self.fetcher.forget(&hash);
+            self.resolve(&hash, Outcome::Lost(DropCause::BadSet))?;
+        }
+        Ok(())
+    }
+
+    fn hear_no_set(&mut self, hash: &Hash) -> Result<(), Fault>
+        ensures { OnOk result (self.new ≡ record self.old { settled = hears (SideMessage.NoSet hash.now) self.old.settled; leaving = self.old.leaving ++ heard_out (SideMessage.NoSet hash.now) self.old.settled }) }
+    {
+        match self.fetcher.miss(hash) {
+            Missed::GaveUp => self.resolve(hash, Outcome::Lost(DropCause::GaveUp)),
+            Missed::Waiting | Missed::Unwanted => Ok(()),
+        }
+    }
+
+    /// What waits for the hash has its outcome, and what may leave is given.
+    fn resolve(&mut self, hash: &Hash, outcome: Outcome) -> Result<(), Fault>
+        requires hash { HasHash (Some hash.now) outcome }
+        ensures { OnOk result (self.new ≡ record self.old { settled = record self.old.settled { queues = served (resolved (is_hash hash.now) (outcome_of outcome) self.old.settled.queues) }; leaving = self.old.leaving ++ leaving_of (resolved (is_hash hash.now) (outcome_of outcome) self.old.settled.queues) }) }
+    {
+        settle_all(&mut self.queues, hash, &outcome)?;
+        serve_all(self.alloc, &mut self.queues, &mut self.leaving)
+    }
+
+    fn tick(&mut self) -> Result<(), Fault>
+        ensures { OnOk result (self.new ≡ taken_in self.old (Inbound.Local Command.Tick)) }
+    {
+        give_up_in_order(self.alloc, &mut self.queues, &self.fetcher)?;
+        self.fetcher.miss_all();
+        serve_all(self.alloc, &mut self.queues, &mut self.leaving)
+    }
+}
+
+/// A message that came: an envelope waits for its quorum set, or has it; nothing else waits.
+fn entering(store: &SetStore, carried: Carried) -> Result<Parked, Fault>
+    ensures { IfOk result (λ parked. parked ≡ entering_with store.now carried) }
+{
+    let Some(hash) = named(&carried.message) else {
+        return Ok(Parked::Free(Delivery::alone(carried)));
+    };
+    match store.get(&hash) {
+        Some(set) => Ok(Parked::Free(Delivery::with_set(carried, Arc::try_clone(set)?))),
+        None => Ok(Parked::Waits(carried)),
+    }
+}
+
+fn place_of_peer(peers: &[NodeId], node: &NodeId) -> Option<usize>
+    ensures found { result ≡ position (λ peer. same_node peer node.now) peers.now }
+    ensures within { IfSome result (λ place. place < length peers.now) }
+{
+    peers.iter().position(|peer| *peer == *node)
+}
+
+fn next(leaving: &mut VecDeque<Ready>) -> Option<Ready>
+    ensures items { leaving.old.items ≡ option_to_list result ++ leaving.new.items }
+    ensures none { IfNone result (leaving.old.items ≡ []) }
+{
+    leaving.pop_front()
+}
+
+/// How many messages of the connection are ready.
+fn ready_of(leaving: &VecDeque<Ready>, conn: &ConnId) -> usize
+    ensures count { result ≡ count_by (is_message_of conn.now) leaving.now.items }
+    ensures small { result < 2 ^ 63 }
+{
+    leaving
+        .iter()
+        .filter(|ready| ready.is_message_of(conn))
+        .count()
+}

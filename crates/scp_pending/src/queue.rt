@@ -1,0 +1,388 @@
+//! The queue of an open connection.
+ghost use Rattle.std.specs.Prelude.{◌≡◌, ◌+◌, ◌<◌, ◌^◌, ◌++◌, ◌∷◌, [], IfOk, OnOk, IfSome, IsSomeAnd, IfNone, is_some, Some, None, true, false, length, map, filter, take, drop, position, option_to_list, remove, slice_get};
+ghost use Rattle.std.specs.List.{list_any};
+ghost use Rattle.scp_wire.specs.Connections.{same_conn};
+ghost use Rattle.scp_fetch.specs.Wants.{last_missed, without};
+ghost use Rattle.scp_pending.specs.Queues.{is_of, is_open, is_link_open as link_open, parked_of, others, parked_in, resolved, served, leaving_of, is_hash, waits_for as waits, is_waited as waited, is_empty as none_parked, may_leave as head_may_leave, leaves_of, stays_of, stays_in, leaves_in, is_head_waiting as has_waiting_head, with_first, in_order_of, resolved_one, resolved_in, dropped, lost_by, with_parked};
+ghost use Rattle.scp_pending.specs.Rules.{is_given_up, still_wanted};
+ghost use Rattle.scp_pending.specs.Outcome.{outcome_of, HasHash, IsPlace};
+
+use crate::parked::{Outcome, Parked, named};
+use crate::ready::{DropCause, Ready};
+use scp_fetch::Fetcher;
+use scp_types::{ConnId, Fault, Hash, NodeId};
+use std::alloc::Global;
+use std::collections::VecDeque;
+use std::marker::Model;
+use std::mem;
+
+/// The messages of an open connection that are parked, in order.
+#[derive(Debug, Drop)]
+pub(crate) struct Queue {
+    conn: ConnId,
+    parked: VecDeque<Parked>,
+}
+
+impl Model for Queue {
+    ghost use Rattle.std.specs.Coded.{codes};
+    ghost use Rattle.scp_xdr.specs.TreeModel.{coded_row};
+    ghost use Rattle.scp_quorum.specs.QuorumTree.{coded_level};
+    ghost use Rattle.scp_pending.specs.Queues.{QueueView};
+
+    ghost Value = { QueueView };
+
+    ghost coded = { Prim.hlevel (codes, coded_row coded_level) };
+
+    ghost view = { λ q. record { conn = q.conn; parked = q.parked.items } };
+}
+
+impl Queue {
+    pub(crate) fn new(alloc: Global, conn: ConnId) -> Queue
+        ensures { result ≡ record { conn = conn; parked = [] } }
+    {
+        Queue {
+            conn,
+            parked: VecDeque::new(alloc),
+        }
+    }
+
+    pub(crate) fn is_of(&self, conn: &ConnId) -> bool
+        ensures { result ≡ is_of conn.now self.now }
+    {
+        self.conn == *conn
+    }
+
+    pub(crate) fn conn(&self) -> ConnId
+        ensures { result ≡ self.now.conn }
+    {
+        self.conn
+    }
+
+    pub(crate) fn len(&self) -> usize
+        ensures len { result ≡ length self.now.parked }
+        ensures small { result < 2 ^ 63 }
+    {
+        self.parked.len()
+    }
+
+    pub(crate) fn push(&mut self, parked: Parked) -> Result<(), Fault>
+        ensures { OnOk result (self.new ≡ with_parked parked self.old) }
+    {
+        self.parked.push_back(parked)?;
+        Ok(())
+    }
+
+    /// Whether something in it waits for the hash.
+    pub(crate) fn waits_for(&self, hash: &Hash) -> bool
+        ensures { result ≡ list_any (waits hash.now) self.now.parked }
+    {
+        self.parked.iter().any(|parked| parked.waits_for(hash))
+    }
+
+    /// Whether there is a head, and it waits for nothing.
+    pub(crate) fn may_leave(&self) -> bool
+        ensures { result ≡ head_may_leave self.now.parked }
+    {
+        head_goes(&self.parked)
+    }
+
+    /// Whether its head waits for the hash.
+    pub(crate) fn is_head_waiting(&self, hash: &Hash) -> bool
+        ensures { result ≡ has_waiting_head hash.now self.now.parked }
+    {
+        match self.parked.front() {
+            Some(parked) => parked.waits_for(hash),
+            None => false,
+        }
+    }
+
+    /// Gives all that stands before the first that waits.
+    pub(crate) fn serve(&mut self, leaving: &mut VecDeque<Ready>) -> Result<(), Fault>
+        ensures stays { OnOk result (self.new ≡ stays_in self.old) }
+        ensures leaves { OnOk result (leaving.new.items ≡ leaving.old.items ++ leaves_in self.old) }
+    {
+        serve_from(self.conn, &mut self.parked, leaving)
+    }
+
+    /// Gives all of it as dropped.
+    pub(crate) fn drop_all(
+        &self,
+        cause: DropCause,
+        leaving: &mut VecDeque<Ready>,
+    ) -> Result<(), Fault>
+        ensures { OnOk result (leaving.new.items ≡ leaving.old.items ++ map (dropped self.now.conn cause) self.now.parked) }
+    {
+        drop_each(self.conn, &self.parked, cause, leaving)
+    }
+
+    /// What waits for the hash has its outcome.
+    pub(crate) fn settle(&mut self, hash: &Hash, outcome: &Outcome) -> Result<(), Fault>
+        requires hash { HasHash (Some hash.now) outcome.now }
+        ensures { OnOk result (self.new ≡ resolved_in (is_hash hash.now) (outcome_of outcome.now) self.old) }
+    {
+        settle_each(&mut self.parked, hash, outcome)
+    }
+
+    /// What waits for a hash that one more miss gives up is lost.
+    pub(crate) fn give_up(&mut self, fetcher: &Fetcher) -> Result<(), Fault>
+        ensures { OnOk result (self.new ≡ resolved_in (is_given_up fetcher.now) (lost_by DropCause.GaveUp) self.old) }
+    {
+        give_up_each(&mut self.parked, fetcher)
+    }
+
+    /// What waited here alone isn't wanted any more.
+    pub(crate) fn forget(&self, rest: &[Queue], fetcher: &mut Fetcher)
+        ensures { fetcher.new ≡ filter (still_wanted self.now.parked rest.now) fetcher.old }
+    {
+        forget_each(&self.parked, rest, fetcher);
+    }
+}
+
+fn head_goes(parked: &VecDeque<Parked>) -> bool
+    ensures { result ≡ head_may_leave parked.now.items }
+{
+    match parked.front() {
+        Some(Parked::Waits(_)) | None => false,
+        Some(_) => true,
+    }
+}
+
+fn drop_each(
+    conn: ConnId,
+    parked: &VecDeque<Parked>,
+    cause: DropCause,
+    leaving: &mut VecDeque<Ready>,
+) -> Result<(), Fault>
+    ensures { OnOk result (leaving.new.items ≡ leaving.old.items ++ map (dropped conn cause) parked.now.items) }
+{
+    for i in 0..parked.len() {
+        let seq = parked[i].seq();
+        leaving.push_back(Ready::Dropped { conn, seq, cause })?;
+    }
+    Ok(())
+}
+
+#[tactic(auto, using(crate::proofs::Freeing::leaves_next, crate::proofs::Freeing::stays_next, crate::proofs::Serving::leaves_stuck, crate::proofs::Serving::stays_stuck))]
+fn serve_from(
+    conn: ConnId,
+    parked: &mut VecDeque<Parked>,
+    leaving: &mut VecDeque<Ready>,
+) -> Result<(), Fault>
+    ensures stays { OnOk result (parked.new.items ≡ stays_of parked.old.items) }
+    ensures leaves { OnOk result (leaving.new.items ≡ leaving.old.items ++ leaves_of conn parked.old.items) }
+{
+    while head_goes(parked) {
+        let Some(p) = parked.pop_front() else {
+            return Ok(());
+        };
+        give(conn, p, leaving)?;
+    }
+    Ok(())
+}
+
+fn settle_each(parked: &mut VecDeque<Parked>, hash: &Hash, outcome: &Outcome) -> Result<(), Fault>
+    requires hash { HasHash (Some hash.now) outcome.now }
+    ensures { OnOk result (parked.new.items ≡ map (resolved_one (is_hash hash.now) (outcome_of outcome.now)) parked.old.items) }
+{
+    for i in 0..parked.len() {
+        let Some(p) = parked.pop_front() else {
+            return Ok(());
+        };
+        let settled = p.settled(hash, outcome)?;
+        parked.push_back(settled)?;
+    }
+    Ok(())
+}
+
+fn give_up_each(parked: &mut VecDeque<Parked>, fetcher: &Fetcher) -> Result<(), Fault>
+    ensures { OnOk result (parked.new.items ≡ map (resolved_one (is_given_up fetcher.now) (lost_by DropCause.GaveUp)) parked.old.items) }
+{
+    for i in 0..parked.len() {
+        let Some(p) = parked.pop_front() else {
+            return Ok(());
+        };
+        parked.push_back(p.given_up(fetcher))?;
+    }
+    Ok(())
+}
+
+#[tactic(auto, using(crate::proofs::Freeing::forget_none, crate::proofs::Freeing::forget_more))]
+fn forget_each(parked: &VecDeque<Parked>, rest: &[Queue], fetcher: &mut Fetcher)
+    ensures { fetcher.new ≡ filter (still_wanted parked.now.items rest.now) fetcher.old }
+{
+    for i in 0..parked.len() {
+        parked[i].forget(rest, fetcher);
+    }
+}
+
+/// Gives what waits for nothing.
+pub(crate) fn give(conn: ConnId, parked: Parked, leaving: &mut VecDeque<Ready>) -> Result<(), Fault>
+    ensures { OnOk result (leaving.new.items ≡ leaving.old.items ++ leaves_of conn (parked ∷ [])) }
+{
+    match parked {
+        Parked::Waits(_) => {}
+        Parked::Free(delivery) => leaving.push_back(Ready::Deliver(delivery))?,
+        Parked::Lost(seq, cause) => leaving.push_back(Ready::Dropped { conn, seq, cause })?,
+    }
+    Ok(())
+}
+
+/// Whether something that is parked waits for the hash.
+pub(crate) fn is_waited(queues: &[Queue], hash: &Hash) -> bool
+    ensures { result ≡ waited hash.now queues.now }
+{
+    queues.iter().any(|queue| queue.waits_for(hash))
+}
+
+/// The place of the connection's queue.
+pub(crate) fn place_of(queues: &[Queue], conn: &ConnId) -> Option<usize>
+    ensures place { IfSome result (λ place. IsPlace conn.now queues.now place) }
+    ensures none { IfNone result (is_open conn.now queues.now ≡ false) }
+{
+    position_of(queues, conn)
+}
+
+fn position_of(queues: &[Queue], conn: &ConnId) -> Option<usize>
+    ensures { result ≡ position (is_of conn.now) queues.now }
+{
+    queues.iter().position(|queue| queue.is_of(conn))
+}
+
+/// How many messages of the connection are parked, where it is open.
+#[tactic(auto, using(crate::proofs::Serving::parked_shut))]
+pub(crate) fn count_of(queues: &[Queue], conn: &ConnId) -> Option<usize>
+    ensures open { is_some result ≡ is_open conn.now queues.now }
+    ensures count { IfSome result (λ count. count ≡ length (parked_of conn.now queues.now)) }
+    ensures none { IfNone result (parked_of conn.now queues.now ≡ []) }
+    ensures small { IfSome result (λ count. count < 2 ^ 63) }
+{
+    let place = place_of(queues, conn)?;
+    Some(queues[place].len())
+}
+
+/// Whether a connection of the node is open.
+pub(crate) fn is_link_open(queues: &[Queue], node: &NodeId) -> bool
+    ensures { result ≡ link_open node.now queues.now }
+{
+    queues.iter().any(|queue| queue.conn().from == *node)
+}
+
+/// Takes the connection's queue out.
+pub(crate) fn take_queue(queues: &mut Vec<Queue>, conn: &ConnId) -> Option<Queue>
+    requires open { is_open conn.now queues.old.items ≡ true }
+    ensures found { IsSomeAnd result (λ queue. queue ≡ record { conn = conn.now; parked = parked_of conn.now queues.old.items }) }
+    ensures others { queues.new.items ≡ others conn.now queues.old.items }
+{
+    let place = place_of(queues, conn)?;
+    Some(queues.remove(place))
+}
+
+/// Parks a message at the end of its queue; a queue in which it is the first stands behind the others from then on.
+pub(crate) fn push_to(queues: &mut Vec<Queue>, conn: &ConnId, parked: Parked) -> Result<(), Fault>
+    requires open { is_open conn.now queues.old.items ≡ true }
+    ensures { OnOk result (queues.new.items ≡ parked_in conn.now parked queues.old.items) }
+{
+    let Some(place) = place_of(queues, conn) else {
+        return Ok(());
+    };
+    if queues[place].len() > 0 {
+        return queues[place].push(parked);
+    }
+    let mut queue = queues.remove(place);
+    queue.push(parked)?;
+    queues.push(queue)?;
+    Ok(())
+}
+
+pub(crate) fn settle_all(
+    queues: &mut Vec<Queue>,
+    hash: &Hash,
+    outcome: &Outcome,
+) -> Result<(), Fault>
+    requires hash { HasHash (Some hash.now) outcome.now }
+    ensures { OnOk result (queues.new.items ≡ resolved (is_hash hash.now) (outcome_of outcome.now) queues.old.items) }
+{
+    for i in 0..queues.len() {
+        queues[i].settle(hash, outcome)?;
+    }
+    Ok(())
+}
+
+/// What waits for hashes that one more miss gives up is lost; of several such hashes, the queues whose heads wait for the
+/// first wanted one come first.
+pub(crate) fn give_up_in_order(
+    alloc: Global,
+    queues: &mut Vec<Queue>,
+    fetcher: &Fetcher,
+) -> Result<(), Fault>
+    ensures { OnOk result (queues.new.items ≡ resolved (is_given_up fetcher.now) (lost_by DropCause.GaveUp) (in_order_of (last_missed fetcher.now) queues.old.items)) }
+{
+    let hashes = fetcher.at_last_miss()?;
+    put_in_order(alloc, queues, hashes)?;
+    give_up_all(queues, fetcher)
+}
+
+fn give_up_all(queues: &mut Vec<Queue>, fetcher: &Fetcher) -> Result<(), Fault>
+    ensures { OnOk result (queues.new.items ≡ resolved (is_given_up fetcher.now) (lost_by DropCause.GaveUp) queues.old.items) }
+{
+    for i in 0..queues.len() {
+        queues[i].give_up(fetcher)?;
+    }
+    Ok(())
+}
+
+/// The queues whose heads wait for the hash come before the others.
+#[tactic(auto, using(crate::proofs::Freeing::with_waiting, crate::proofs::Freeing::with_other))]
+fn put_first(alloc: Global, queues: &mut Vec<Queue>, hash: &Hash) -> Result<(), Fault>
+    ensures { OnOk result (queues.new.items ≡ with_first hash.now queues.old.items) }
+{
+    let mut first = Vec::new(alloc);
+    let mut rest = Vec::new(alloc);
+    for queue in mem::replace(queues, Vec::new(alloc)) {
+        if queue.is_head_waiting(hash) {
+            first.push(queue)?;
+        } else {
+            rest.push(queue)?;
+        }
+    }
+    first.append(&mut rest)?;
+    *queues = first;
+    Ok(())
+}
+
+/// Of several hashes, the queues whose heads wait for the first one come first.
+#[tactic(auto, using(crate::proofs::Freeing::order_push))]
+fn put_in_order(alloc: Global, queues: &mut Vec<Queue>, hashes: Vec<Hash>) -> Result<(), Fault>
+    ensures { OnOk result (queues.new.items ≡ in_order_of hashes.items queues.old.items) }
+{
+    let mut hashes = hashes;
+    while let Some(hash) = hashes.pop() {
+        put_first(alloc, queues, &hash)?;
+    }
+    Ok(())
+}
+
+/// Gives what may leave; the queues whose heads left stand behind the others from then on.
+#[tactic(auto, using(crate::proofs::Freeing::waiting_stays, crate::proofs::Freeing::waiting_goes, crate::proofs::Freeing::going_goes, crate::proofs::Freeing::going_stays, crate::proofs::Freeing::leaving_goes, crate::proofs::Freeing::leaving_stays))]
+pub(crate) fn serve_all(
+    alloc: Global,
+    queues: &mut Vec<Queue>,
+    leaving: &mut VecDeque<Ready>,
+) -> Result<(), Fault>
+    ensures stays { OnOk result (queues.new.items ≡ served queues.old.items) }
+    ensures leaves { OnOk result (leaving.new.items ≡ leaving.old.items ++ leaving_of queues.old.items) }
+{
+    let mut behind = Vec::new(alloc);
+    let mut waiting = Vec::new(alloc);
+    for mut queue in mem::replace(queues, Vec::new(alloc)) {
+        if queue.may_leave() {
+            queue.serve(leaving)?;
+            behind.push(queue)?;
+        } else {
+            waiting.push(queue)?;
+        }
+    }
+    waiting.append(&mut behind)?;
+    *queues = waiting;
+    Ok(())
+}
