@@ -1,0 +1,124 @@
+-- One decision more is applied, or is buffered.
+use Rattle.std.proofs.Common.{◌≡◌, ◌≢◌, ℕ, ◌+◌, ◌-◌, ◌<◌, ◌≤◌, Bool, true, false, cond, List, [], ◌∷◌, ◌++◌, inl, inr, length, get_or, map, refl, sym, ◌∙◌, ap, subst, arith, length-append, append_assoc, nat_eq, eq-eqb, All}
+use Rattle.std.specs.Prelude.{fold, position, nat_lt, Some, None}
+use Rattle.std.specs.List.{remove, position_or_len, AllPairs, list_any, IsDistinct}
+use Rattle.std.specs.List.Sorted.{IsPermutation}
+use Rattle.std.proofs.lemmas.Bool.{ltb-false, eqb-false, eqb-true, ne_eqb, cases_lt}
+use Rattle.std.proofs.lemmas.List.{map_push, append-nil, get_or-map}
+use Rattle.std.proofs.lemmas.List.Elements.{All-from_get_or, All-push, All-weaker}
+use Rattle.std.proofs.lemmas.List.Edits.{length-remove, get_or-remove_below, get_or-remove_above}
+use Rattle.std.proofs.lemmas.List.Folds.{list_any_at}
+use Rattle.std.proofs.lemmas.List.Quantifiers.{all_pairs_remove, all_pairs_push}
+use Rattle.std.proofs.lemmas.List.Sorted.{IsPermutation-more, IsPermutation-refl}
+use Rattle.std.proofs.lemmas.List.Sums.{fails_before_first}
+use Rattle.scp_kv.specs.Map.{KvMap}
+use Rattle.scp_kv.specs.State.{fold_of, after_value}
+use Rattle.std.specs.FinMap as map
+use Rattle.scp_ledger.specs.declared.journal.Decision.{Decision}
+use Rattle.scp_ledger.specs.Decisions.{is_at, is_decided, OnePerSlot}
+use Rattle.scp_apply.specs.declared.slots.Slots.{Slots}
+use Rattle.scp_apply.specs.Applied.{AreInOrder, values_of}
+use Rattle.scp_apply.specs.Applier.{IsInWindow}
+use Rattle.scp_apply.specs.Inside.{slots_view, IsApplied, IsSound, AppliesOne, Advances, Enters}
+
+fold-push : {A B : Type 0} (f : B → A → B) (a : B) (xs : List A) (x : A) → fold f a (xs ++ x ∷ []) ≡ f (fold f a xs) x
+fold-push f a [] x = refl
+fold-push f a (y ∷ ys) x = fold-push f (f a y) ys x
+
+AreInOrder-push : (slot : ℕ) (ds : List Decision) (d : Decision) → d.slot.0 ≡ length ds + slot → AreInOrder slot ds → AreInOrder slot (ds ++ d ∷ [])
+AreInOrder-push slot [] d e h = (omega arith, tt)
+AreInOrder-push slot (x ∷ xs) d e h = (h.0, AreInOrder-push (slot + 1) xs d (omega arith) h.1)
+
+folded-push : (applied : List Decision) (d : Decision) → fold_of (values_of (applied ++ d ∷ [])) ≡ after_value (fold_of (values_of applied)) d.value
+folded-push applied d = ap fold_of (map_push (λ (x : Decision). x.value) applied d) ∙ fold-push after_value map.empty (values_of applied) d.value
+
+-- ---- one is taken out of the buffer
+
+-- what holds of each but that one holds of the others
+all_but : (P : Decision → Type 0) (ds : List Decision) (place : ℕ) (d : Decision) → place < length ds → ((k : ℕ) → k < length ds → k ≢ place → P (get_or ds k d)) → All P (remove ds place)
+all_but P ds place d within h =
+    All-from_get_or P (remove ds place) d (λ k lt.
+    let shorter = length-remove ds place within in
+    elim (cases_lt k place) [
+      | inl below ↦ subst P (sym (get_or-remove_below ds place d k below within)) (h k (omega (arith, below, within)) (λ e. omega (arith, below, e)))
+      | inr above ↦ subst P (sym (get_or-remove_above ds place d k above within)) (h (k + 1) (omega (arith, lt, shorter, within)) (λ e. omega (arith, above, e)))
+    ])
+
+-- no other is of its slot
+apart : (ds : List Decision) (place k : ℕ) (d : Decision) → OnePerSlot ds → place < length ds → k < length ds → k ≢ place → (get_or ds k d).slot.0 ≢ (get_or ds place d).slot.0
+apart ds place k d one within lt ne = elim (cases_lt k place) [
+  | inl below ↦ one k place d below within
+  | inr above ↦ (λ e. one place k d (omega (arith, above, ne)) lt (sym e))
+]
+
+-- where a loop of the applier stands: what it began with, and what it has now
+pub record IsAdvancing (start now : Slots) : Type 0 where
+  pub is_applied : IsApplied now
+  pub shared_out : IsPermutation (start.applied.items ++ start.buffer.items) (now.applied.items ++ now.buffer.items)
+  pub more : List Decision
+  pub grows : now.applied.items ≡ start.applied.items ++ more
+
+pub begins : (start : Slots) → IsApplied start → IsAdvancing start start
+begins start h = record { is_applied = h; shared_out = IsPermutation-refl (start.applied.items ++ start.buffer.items); more = []; grows = sym (append-nil start.applied.items) }
+
+pub goes_on : (start now : Slots) (place : ℕ) (next : Slots) → place < length now.buffer.items → ((d : Decision) → is_at (length now.applied.items + 1) (get_or now.buffer.items place d) ≡ true) → AppliesOne now place next → IsAdvancing start now → IsAdvancing start next
+goes_on start now place next within at one h =
+    let d = one.decision in
+    let applied = now.applied.items in
+    let buffer = now.buffer.items in
+    let slot : d.slot.0 ≡ length applied + 1 = eqb-true _ _ (subst (λ (x : Decision). is_at (length applied + 1) x ≡ true) one.is (at d)) in
+    let longer : length next.applied.items ≡ length applied + 1 = ap length one.applied ∙ length-append applied (d ∷ []) in
+    let moved : IsPermutation (start.applied.items ++ start.buffer.items) ((applied ++ d ∷ []) ++ remove buffer place) = IsPermutation-more (start.applied.items ++ start.buffer.items) applied buffer place d within (sym one.is) h.shared_out in
+    let other : (k : ℕ) → k < length buffer → k ≢ place → (get_or buffer k d).slot.0 ≢ length applied + 1 = λ k lt ne e. apart buffer place k d h.is_applied.one within lt ne (e ∙ sym slot ∙ ap (λ (x : Decision). x.slot.0) (sym one.is)) in
+    record {
+      is_applied = record {
+        in_order = rw one.applied (AreInOrder-push 1 applied d (omega (arith, slot)) h.is_applied.in_order);
+        folded = one.state ∙ ap (λ (m : KvMap). after_value m d.value) h.is_applied.folded ∙ sym (folded-push applied d) ∙ ap (λ (ds : List Decision). fold_of (values_of ds)) (sym one.applied);
+        above = rw (one.buffer, longer) (all_but (λ (x : Decision). length applied + 1 < x.slot.0) buffer place d within (λ k lt ne. let here = h.is_applied.above k d lt in let far = other k lt ne in omega (arith, here, far)));
+        near = rw (one.buffer, longer) (all_but (λ (x : Decision). x.slot.0 ≤ length applied + 1 + 16) buffer place d within (λ k lt ne. let here = h.is_applied.near k d lt in omega (arith, here)));
+        one = rw one.buffer (all_pairs_remove (λ (x y : Decision). x.slot.0 ≢ y.slot.0) buffer place within h.is_applied.one);
+      };
+      shared_out = rw (one.applied, one.buffer) moved;
+      more = h.more ++ d ∷ [];
+      grows = one.applied ∙ ap (λ (ds : List Decision). ds ++ d ∷ []) h.grows ∙ append_assoc start.applied.items h.more (d ∷ []);
+    }
+
+-- ---- nothing is next
+
+position_none : {X : Type 0} (p : X → Bool) (xs : List X) → position p xs ≡ None → length xs ≤ position_or_len p xs
+position_none p xs e = ltb-false _ _ (none_if (nat_lt (position_or_len p xs) (length xs)) (position_or_len p xs) e)
+  where
+    none_if : (b : Bool) (n : ℕ) → cond b (Some n) None ≡ None → b ≡ false
+    none_if true n e = cc
+    none_if false n e = refl
+
+none_next : (n : ℕ) (ds : List Decision) → position (is_at n) ds ≡ None → All (λ d. d.slot.0 ≢ n) ds
+none_next n [] e = λ k d lt. absurd (omega arith)
+none_next n (x ∷ xs) e =
+    let le = position_none (is_at n) (x ∷ xs) e in
+    All-from_get_or (λ (d : Decision). d.slot.0 ≢ n) (x ∷ xs) x (λ k lt. eqb-false _ _ (fails_before_first (is_at n) (x ∷ xs) k x (omega arith)))
+
+pub ends : (start now : Slots) → position (is_at (length now.applied.items + 1)) now.buffer.items ≡ None → IsAdvancing start now → Advances start now
+ends start now none h = record {
+  sound = record { is_applied = h.is_applied; next_missing = none_next (length now.applied.items + 1) now.buffer.items none };
+  shared_out = h.shared_out;
+  more = h.more;
+  grows = h.grows;
+}
+
+-- ---- a decision is buffered
+
+not_there : (slot : ℕ) (ds : List Decision) (k : ℕ) (d : Decision) → is_decided slot ds ≡ false → k < length ds → (get_or ds k d).slot.0 ≢ slot
+not_there slot ds k d none lt e = two (list_any_at (is_at slot) ds k d lt (eq-eqb _ _ e)) none
+  where
+    two : is_decided slot ds ≡ true → is_decided slot ds ≡ false → ⊥
+    two p q = let r : true ≡ false = sym p ∙ q in cc
+
+pub buffered : (old new : Slots) (d : Decision) → IsSound old → IsInWindow (slots_view false old) d.slot.0 → new.applied ≡ old.applied → new.state ≡ old.state → new.buffer.items ≡ old.buffer.items ++ d ∷ [] → IsApplied new
+buffered old new d h w applied state buffer = record {
+  in_order = rw applied h.is_applied.in_order;
+  folded = rw (applied, state) h.is_applied.folded;
+  above = rw (applied, buffer) (All-push (λ (x : Decision). length old.applied.items < x.slot.0) old.buffer.items d h.is_applied.above w.from);
+  near = rw (applied, buffer) (All-push (λ (x : Decision). x.slot.0 ≤ length old.applied.items + 16) old.buffer.items d h.is_applied.near w.near);
+  one = rw buffer (all_pairs_push (λ (x y : Decision). x.slot.0 ≢ y.slot.0) old.buffer.items d h.is_applied.one (λ k x lt. not_there d.slot.0 old.buffer.items k x w.fresh lt));
+}

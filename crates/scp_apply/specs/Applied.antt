@@ -1,0 +1,17 @@
+-- Decisions in the order of their slots.
+use Rattle.std.specs.Prelude.{ℕ, ◌+◌, ◌≡◌, List, [], ◌∷◌, Option, Some, None, if◌then◌else◌, map}
+use Rattle.scp_ledger.specs.declared.journal.Decision.{Decision}
+use Rattle.scp_ledger.specs.Decisions.{is_at}
+
+-- the slots from this one on, without a gap
+abbrev pub AreInOrder : ℕ → List Decision → Type 0
+AreInOrder slot [] = Unit {0}
+AreInOrder slot (d ∷ ds) = (d.slot.0 ≡ slot) × AreInOrder (slot + 1) ds
+
+abbrev pub values_of : List Decision → List (List ℕ)
+values_of decisions = map (λ d. d.value) decisions
+
+-- the value of a slot, if it is among these
+abbrev pub value_of : ℕ → List Decision → Option (List ℕ)
+value_of slot [] = None
+value_of slot (d ∷ ds) = if is_at slot d then Some d.value else value_of slot ds

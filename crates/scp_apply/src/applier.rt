@@ -1,0 +1,112 @@
+//! An applier.
+ghost use Rattle.std.specs.Prelude.{◌≡◌, ◌↔◌, IsTrue, ◌⊎◌, [], true, false, OnOk, OnErr, IfOk, IfErr, IsErrOf, Some, option_copied, option_map};
+ghost use Rattle.std.specs.FinMap as map;
+ghost use Rattle.scp_apply.specs.Applied.{value_of};
+ghost use Rattle.scp_apply.specs.Applier.{IsApplier, IsRunning, IsInWindow, CanTake, Takes};
+
+use crate::slots::Slots;
+use scp_kv::KvState;
+use scp_ledger::{Onward, SharedDecision};
+use scp_types::{Fault, Slot, Value};
+use scp_wire::Message;
+use std::alloc::Global;
+use std::marker::Model;
+
+/// Applies decisions in the order of their slots.
+#[derive(Drop)]
+pub struct Applier {
+    slots: Slots,
+    failed: bool,
+}
+
+impl Model for Applier {
+    ghost use Rattle.scp_apply.specs.Applier.{ApplierView};
+
+    ghost Value = { ApplierView };
+
+    ghost use Rattle.std.specs.FinMap as map;
+    ghost use Rattle.std.specs.Ordering.{nat_cmp};
+    ghost use Rattle.std.specs.Cmp.Lexicographic.{slice_cmp};
+    ghost use Rattle.std.specs.Coded.{codes, coded_ℕ, coded_list};
+
+    ghost coded = { Prim.hlevel (codes, map.code {R = slice_cmp nat_cmp} (coded_list coded_ℕ) (coded_list coded_ℕ)) };
+
+    ghost use Rattle.scp_apply.specs.Inside.{applier_view, IsWell};
+
+    ghost view = { applier_view };
+
+    ghost invariant = { IsWell };
+}
+
+impl Applier {
+    /// An applier that took nothing. Takes no memory.
+    pub fn new(alloc: Global) -> Applier
+        ensures empty { result ≡ record { failed = false; applied = []; buffer = []; state = Some map.empty } }
+        ensures known { IsApplier result }
+        ensures running { IsRunning result }
+    {
+        Applier {
+            slots: Slots::new(alloc),
+            failed: false,
+        }
+    }
+
+    /// The decisions that are applied, of the slots 1, 2, ...
+    pub fn applied(&self) -> &[SharedDecision]
+        ensures same { result.now ≡ self.now.applied }
+        ensures known { IsApplier self.now }
+    {
+        self.slots.applied.as_slice()
+    }
+
+    /// The state that the applied values make; none once failed.
+    pub fn state(&self) -> Option<&KvState>
+        ensures same { option_copied result ≡ self.now.state }
+        ensures running { self.now.failed ≡ false → IsRunning self.now }
+    {
+        if self.failed {
+            return None;
+        }
+        Some(&self.slots.state)
+    }
+
+    /// The value of a slot, if it is applied. Constant time.
+    pub fn value_at(&self, slot: Slot) -> Option<&Value>
+        ensures { option_copied result ≡ value_of slot.0 self.now.applied }
+    {
+        self.slots.value_at(slot)
+    }
+
+    /// Whether the decision of a slot can be taken: it is one of the 16 from the first that isn't applied, and isn't buffered.
+    pub fn can_take(&self, slot: Slot) -> bool
+        ensures { IsTrue result ↔ IsInWindow self.now slot.0 }
+    {
+        self.slots.is_in_window(slot)
+    }
+
+    /// Takes what the slot stage sends on. A decision is buffered, and all that is next is applied; a slot that is asked for
+    /// is answered by its record, for that link, where it is applied. Refused by `NoMemory`, after which it is failed, and a
+    /// failed one by `Failed`. The time of a decision grows with what it makes applicable; that of an answer with the value.
+    pub fn take(&mut self, onward: Onward) -> Result<Option<(u8, Message)>, Fault>
+        requires next { self.old.failed ≡ false → CanTake self.old onward }
+        ensures takes { IfOk result (λ answer. Takes self.old onward answer self.new) }
+        ensures known { IsApplier self.new }
+        ensures running { self.new.failed ≡ false → IsRunning self.new }
+        // When each refusal comes, and what it leaves.
+        ensures failed { IsErrOf result Fault.Failed ↔ (self.old.failed ≡ true) }
+        ensures no_memory { IsErrOf result Fault.NoMemory → self.new.failed ≡ true }
+        ensures read { OnErr result (self.new.applied ≡ self.old.applied) }
+        ensures only { IfErr result (λ f. (f ≡ Fault.NoMemory) ⊎ (f ≡ Fault.Failed)) }
+    {
+        if self.failed {
+            return Err(Fault::Failed);
+        }
+        match self.slots.serve(onward) {
+            Ok(answer) => Ok(answer),
+            Err(_) => {
+                self.failed = true;
+                Err(Fault::NoMemory)
+            }
+        }
+    }
+}

@@ -1,0 +1,161 @@
+//! Decisions in the order of their slots, and the state that their values make.
+ghost use Rattle.std.specs.Prelude.{◌≡◌, ◌↔◌, IsTrue, ◌++◌, ◌∷◌, [], ◌+◌, ◌<◌, ◌≤◌, length, List, IfOk, OnOk, OnErr, IsOkUnless, position, option_copied, option_map, false};
+ghost use Rattle.scp_ledger.specs.declared.journal.Decision.{Decision};
+ghost use Rattle.scp_ledger.specs.Decisions.{is_at, is_decided};
+ghost use Rattle.scp_apply.specs.Applied.{AreInOrder, value_of};
+ghost use Rattle.scp_apply.specs.Applier.{IsInWindow, CanTake, Takes};
+ghost use Rattle.scp_apply.specs.Inside.{slots_view, IsApplied, IsSound, AppliesOne, Advances, Enters};
+
+use scp_kv::{KvState, apply_value};
+use scp_ledger::{Onward, SharedDecision, WINDOW};
+use scp_types::{Fault, Slot, Value};
+use scp_wire::Message;
+use std::alloc::Global;
+
+/// What is applied, what is buffered until it is next, and the state.
+#[derive(Drop)]
+pub struct Slots {
+    pub applied: Vec<SharedDecision>,
+    pub buffer: Vec<SharedDecision>,
+    pub state: KvState,
+}
+
+impl Slots {
+    pub fn new(alloc: Global) -> Slots
+        ensures applied { result.applied.items ≡ [] }
+        ensures buffer { result.buffer.items ≡ [] }
+        ensures sound { IsSound result }
+    {
+        Slots {
+            applied: Vec::new(alloc),
+            buffer: Vec::new(alloc),
+            state: KvState::new(alloc),
+        }
+    }
+
+    /// The value of a slot that is applied. Constant time.
+    pub fn value_at(&self, slot: Slot) -> Option<&Value>
+        requires in_order { AreInOrder 1 self.now.applied.items }
+        ensures { option_copied result ≡ value_of slot.0 self.now.applied.items }
+    {
+        if slot.0 == 0 {
+            return None;
+        }
+        match self.applied.get((slot.0 - 1) as usize) {
+            Some(decision) => Some(&decision.get().value),
+            None => None,
+        }
+    }
+
+    /// Whether the decision of a slot can be taken. At most 15 are buffered.
+    pub fn is_in_window(&self, slot: Slot) -> bool
+        ensures { IsTrue result ↔ IsInWindow (slots_view false self.now) slot.0 }
+    {
+        let applied = self.applied.len() as u64;
+        slot.0 > applied && slot.0 - applied <= WINDOW && !has_slot(self.buffer.as_slice(), slot)
+    }
+
+    /// Takes what the slot stage sends on, and gives the answer for one link. After a refusal the applied list is as before,
+    /// and nothing else may be used.
+    pub fn serve(&mut self, onward: Onward) -> Result<Option<(u8, Message)>, Fault>
+        requires sound { IsSound self.old }
+        requires next { CanTake (slots_view false self.old) onward }
+        ensures takes { IfOk result (λ answer. Takes (slots_view false self.old) onward answer (slots_view false self.new)) }
+        ensures sound { OnOk result (IsSound self.new) }
+        ensures err { OnErr result (self.new.applied.items ≡ self.old.applied.items) }
+        ensures only_memory { IsOkUnless result Fault.NoMemory }
+    {
+        match onward {
+            Onward::Decided(decision) => {
+                self.take(decision)?;
+                Ok(None)
+            }
+            Onward::Asked { link, slot } => self.record_of(link, slot),
+        }
+    }
+
+    /// The record of a slot, for that link, where the slot is applied.
+    fn record_of(&self, link: u8, slot: Slot) -> Result<Option<(u8, Message)>, Fault>
+        requires in_order { AreInOrder 1 self.now.applied.items }
+        ensures answer { IfOk result (λ answer. answer ≡ option_map (λ value. (link, Message.Record slot value)) (value_of slot.0 self.now.applied.items)) }
+        ensures only_memory { IsOkUnless result Fault.NoMemory }
+    {
+        match self.value_at(slot) {
+            Some(value) => Ok(Some((link, Message::Record(slot, value.copy()?)))),
+            None => Ok(None),
+        }
+    }
+
+    /// Takes a decision, and applies what is next as long as it is there. After a refusal the applied list is as before, and
+    /// nothing else may be used.
+    fn take(&mut self, decision: SharedDecision) -> Result<(), Fault>
+        requires sound { IsSound self.old }
+        requires in_window { IsInWindow (slots_view false self.old) decision.slot.0 }
+        ensures ok { OnOk result (Enters self.old decision self.new) }
+        ensures err { OnErr result (self.new.applied.items ≡ self.old.applied.items) }
+        ensures only_memory { IsOkUnless result Fault.NoMemory }
+    {
+        let before = self.applied.len();
+        let taken = self.enter(decision);
+        if taken.is_err() {
+            self.applied.truncate(before);
+        }
+        taken
+    }
+
+    /// Buffers the decision, and applies what is next.
+    fn enter(&mut self, decision: SharedDecision) -> Result<(), Fault>
+        requires sound { IsSound self.old }
+        requires in_window { IsInWindow (slots_view false self.old) decision.slot.0 }
+        ensures ok { OnOk result (Enters self.old decision self.new) }
+        ensures err { OnErr result ((more : List Decision) × (self.new.applied.items ≡ self.old.applied.items ++ more)) }
+        ensures only_memory { IsOkUnless result Fault.NoMemory }
+    {
+        self.buffer.push(decision)?;
+        self.advance()
+    }
+
+    /// Applies what is next, as long as it is buffered.
+    fn advance(&mut self) -> Result<(), Fault>
+        requires is_applied { IsApplied self.old }
+        ensures ok { OnOk result (Advances self.old self.new) }
+        ensures err { OnErr result ((more : List Decision) × (self.new.applied.items ≡ self.old.applied.items ++ more)) }
+        ensures only_memory { IsOkUnless result Fault.NoMemory }
+    {
+        while let Some(place) = self.next_place() {
+            self.apply_at(place)?;
+        }
+        Ok(())
+    }
+
+    /// Where the next slot's decision is buffered, if it is. At most 16 are.
+    fn next_place(&self) -> Option<usize>
+        ensures { result ≡ position (is_at (length self.now.applied.items + 1)) self.now.buffer.items }
+    {
+        let next = self.applied.len() as u64 + 1;
+        self.buffer
+            .iter()
+            .position(|decision| decision.get().slot.0 == next)
+    }
+
+    /// Applies the decision that is buffered at this place. After a refusal the state is to be given up.
+    fn apply_at(&mut self, place: usize) -> Result<(), Fault>
+        requires { place < length self.old.buffer.items }
+        ensures ok { OnOk result (AppliesOne self.old place self.new) }
+        ensures err { OnErr result (self.new.applied.items ≡ self.old.applied.items) }
+        ensures only_memory { IsOkUnless result Fault.NoMemory }
+    {
+        let decision = self.buffer.remove(place);
+        apply_value(&mut self.state, &decision.get().value)?;
+        self.applied.push(decision)?;
+        Ok(())
+    }
+}
+
+fn has_slot(decisions: &[SharedDecision], slot: Slot) -> bool
+    ensures { result ≡ is_decided slot.0 decisions.now }
+{
+    decisions
+        .iter()
+        .any(|decision| decision.get().slot.0 == slot.0)
+}

@@ -1,0 +1,4 @@
+pub mod Good
+pub mod Freshest
+pub mod Windows
+pub mod Entries

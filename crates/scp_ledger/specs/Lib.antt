@@ -1,0 +1,10 @@
+pub mod Decisions
+pub mod Fresh
+pub mod Verdicts
+pub mod Marks
+pub mod Ledger
+pub mod Takes
+pub mod Laws
+pub mod Latest
+pub mod Window
+pub mod Inside

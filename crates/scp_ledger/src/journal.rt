@@ -1,0 +1,72 @@
+//! The journal's entries, and the decisions that they make.
+
+use scp_pending::DropCause;
+use scp_quorum::SaneSet;
+use scp_types::{ConnId, Seq, Slot, Value};
+use scp_wire::{Cause, Message};
+use std::sync::Arc;
+
+/// What was found of a message that was taken.
+#[derive(Clone, Copy, Debug, PartialEq, Eq)]
+pub enum Verdict {
+    /// An envelope's slot is below the lowest undecided one.
+    OldSlot,
+    /// Its slot is above 4,294,967,295, or 16 or more above the lowest undecided one.
+    FarSlot,
+    /// Its slot has a decision; for a record also: its slot is below the lowest undecided one.
+    Already,
+    /// An envelope is of the node itself.
+    Own,
+    /// An envelope's statement isn't sane.
+    BadStatement,
+    /// A ballot statement holds a value that is no operation list.
+    BadValue,
+    /// An envelope isn't newer than the last fresh one of its node, slot and kind.
+    Stale,
+    /// An envelope is newer than all fresh ones before it of its node, slot and kind.
+    Fresh,
+    /// A request for a record goes on to the applier.
+    Forwarded,
+    /// A record decided its slot.
+    Decided,
+}
+
+/// An entry of the journal: what became of a carried message, or the end of a connection.
+#[derive(Debug, Drop)]
+pub enum Fate {
+    /// The message of this number on its connection was taken.
+    Taken {
+        conn: ConnId,
+        seq: Seq,
+        message: Message,
+        /// The quorum set that an envelope names; none beside other messages.
+        set: Option<Arc<SaneSet>>,
+        verdict: Verdict,
+    },
+    /// The message of this number on its connection was dropped.
+    Dropped {
+        conn: ConnId,
+        seq: Seq,
+        cause: DropCause,
+    },
+    /// The connection ended.
+    Closed {
+        conn: ConnId,
+        cause: Cause,
+    },
+}
+
+/// Who says what was decided.
+#[derive(Clone, Copy, Debug, PartialEq, Eq)]
+pub enum Origin {
+    /// The record of this number on this connection named it.
+    Named { conn: ConnId, seq: Seq },
+}
+
+/// The value of a slot, and who says so.
+#[derive(Debug, Drop)]
+pub struct Decision {
+    pub slot: Slot,
+    pub value: Value,
+    pub origin: Origin,
+}

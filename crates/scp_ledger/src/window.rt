@@ -1,0 +1,72 @@
+//! Which slots are open.
+ghost use Rattle.std.specs.Prelude.{◌≡◌, ◌<◌, ◌≤◌, ◌+◌, ◌++◌, ◌∷◌, [], ◌↔◌, IsTrue, List, OnOk, IsOkUnless, false};
+ghost use Rattle.scp_ledger.specs.declared.journal.Decision.{Decision};
+ghost use Rattle.scp_ledger.specs.Verdicts.{IsFar};
+ghost use Rattle.scp_ledger.specs.Window.{is_ahead, IsBounded, IsWindow, Passes};
+
+use scp_types::{Fault, Slot};
+use std::alloc::Global;
+use std::collections::BTreeSet;
+
+/// How many slots are open, from the lowest undecided one on (this project's profile).
+pub const WINDOW: u64 = 16;
+
+/// The highest slot that can be open (this project's profile).
+pub const LAST_SLOT: u64 = 4_294_967_295;
+
+/// The lowest slot without a decision, and which ones after it have one: at most 15.
+#[derive(Drop)]
+pub struct Window {
+    pub lowest: u64,
+    pub ahead: BTreeSet<u64>,
+}
+
+impl Window {
+    pub fn new(alloc: Global) -> Window
+        ensures { IsWindow [] result }
+    {
+        Window {
+            lowest: 1,
+            ahead: BTreeSet::new(alloc),
+        }
+    }
+
+    /// Whether a slot from the lowest one on has a decision.
+    pub fn is_ahead(&self, slot: Slot) -> bool
+        ensures { result ≡ is_ahead self.now slot.0 }
+    {
+        self.ahead.contains(&slot.0)
+    }
+
+    /// Whether a slot from the lowest one on is beyond the window, or above the last slot.
+    pub fn is_far(&self, slot: Slot) -> bool
+        requires { self.now.lowest ≤ slot.0 }
+        ensures { IsTrue result ↔ IsFar self.now.lowest slot.0 }
+    {
+        slot.0 > LAST_SLOT || slot.0 - self.lowest >= WINDOW
+    }
+
+    /// Notes that a slot has a decision from now on.
+    pub fn decide(&mut self, slot: Slot) -> Result<(), Fault>
+        requires bounded { IsBounded self.old }
+        requires from { self.old.lowest ≤ slot.0 }
+        requires last { slot.0 ≤ LAST_SLOT }
+        ensures window { OnOk result ((ds : List Decision) → (d : Decision) → d.slot ≡ slot → IsWindow ds self.old → IsWindow (ds ++ d ∷ []) self.new) }
+        ensures only_memory { IsOkUnless result Fault.NoMemory }
+    {
+        self.ahead.insert(slot.0)?;
+        self.advance();
+        Ok(())
+    }
+
+    /// Passes the slots that have a decision, up to the first that has none.
+    fn advance(&mut self)
+        requires bounded { IsBounded self.old }
+        ensures passes { Passes self.old self.new }
+        ensures undecided { is_ahead self.old self.new.lowest ≡ false }
+    {
+        while self.ahead.remove(&self.lowest) {
+            self.lowest += 1;
+        }
+    }
+}
