@@ -1,0 +1,16 @@
+pub mod Depth
+pub mod Envelopes
+pub mod Fitting
+pub mod Items
+pub mod Leaves
+pub mod MessageItems
+pub mod MessageTexts
+pub mod Near
+pub mod Numbers
+pub mod Records
+pub mod Rows
+pub mod SetRows
+pub mod SetTexts
+pub mod Splits
+pub mod ValueTexts
+pub mod WholeTexts

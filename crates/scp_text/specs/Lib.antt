@@ -1,0 +1,5 @@
+pub mod Pieces
+pub mod Values
+pub mod Sets
+pub mod Messages
+pub mod Laws
