@@ -96,31 +96,43 @@ fn has(alloc: Global, state: Option<&KvState>, key: u8, value: Option<u8>) -> Re
     })
 }
 
-/// Asks for the slot on link 3, which is answered by the value of this number, or not.
-fn asks(applier: &mut Applier, slot: u64, short: Option<u8>) -> Result<bool, Fault> {
-    let asked = Onward::Asked {
-        link: 3,
-        slot: Slot(slot),
-    };
-    Ok(match applier.take(asked)? {
-        Some((link, Message::Record(of, value))) => match short {
-            Some(short) => link == 3 && of.0 == slot && value.as_slice() == bytes_of(short),
-            None => false,
-        },
-        Some(_) => false,
-        None => short.is_none(),
-    })
+/// Whether the value is that of this number.
+fn is_value(value: &Value, short: u8) -> bool {
+    value.as_slice() == bytes_of(short)
+}
+
+/// Whether the message is the record of this slot with the value of this number.
+fn is_record(message: &Message, slot: Slot, short: u8) -> bool {
+    match message {
+        Message::Record(of, value) => *of == slot && is_value(value, short),
+        _ => false,
+    }
+}
+
+/// Whether the answer is that record for link 3, or none where the number is 0.
+fn is_answer(answer: &Option<(u8, Message)>, slot: Slot, short: u8) -> bool {
+    match answer {
+        Some((link, message)) => *link == 3 && is_record(message, slot, short),
+        None => short == 0,
+    }
+}
+
+/// Asks for the slot on link 3, which is answered by the value of this number, or not where it is 0.
+fn asks(applier: &mut Applier, slot: u64, short: u8) -> Result<bool, Fault> {
+    let slot = Slot(slot);
+    let answer = applier.take(Onward::Asked { link: 3, slot })?;
+    Ok(is_answer(&answer, slot, short))
 }
 
 fn applies_in_order(alloc: Global) -> Result<bool, Fault> {
     let mut applier = Applier::new(alloc);
     let waits = decide_all(alloc, &mut applier, &[(3, 3), (2, 2), (16, 9)])?
         && has_applied(&applier, 0)
-        && asks(&mut applier, 3, None)?;
+        && asks(&mut applier, 3, 0)?;
     let goes_on = decide(alloc, &mut applier, 1, 1)? && has_applied(&applier, 3);
-    let answers = asks(&mut applier, 2, Some(2))?
-        && asks(&mut applier, 4, None)?
-        && asks(&mut applier, 0, None)?;
+    let answers = asks(&mut applier, 2, 2)?
+        && asks(&mut applier, 4, 0)?
+        && asks(&mut applier, 0, 0)?;
     Ok(
         waits
             && goes_on
