@@ -1,11 +1,11 @@
 -- One decision more is applied, or is buffered.
-use Rattle.std.proofs.Common.{◌≡◌, ◌≢◌, ℕ, ◌+◌, ◌-◌, ◌<◌, ◌≤◌, Bool, true, false, cond, List, [], ◌∷◌, ◌++◌, inl, inr, length, get_or, map, refl, sym, ◌∙◌, ap, subst, arith, length-append, append_assoc, nat_eq, eq-eqb, All}
+use Rattle.std.proofs.Common.{◌≡◌, ◌≢◌, ℕ, ◌+◌, ◌<◌, ◌≤◌, Bool, true, false, cond, List, [], ◌∷◌, ◌++◌, inl, inr, length, get_or, refl, sym, ◌∙◌, ap, subst, arith, length-append, append_assoc, eq-eqb, All}
 use Rattle.std.specs.Prelude.{fold, position, nat_lt, Some, None}
-use Rattle.std.specs.List.{remove, position_or_len, AllPairs, list_any, IsDistinct}
+use Rattle.std.specs.List.{remove, position_or_len}
 use Rattle.std.specs.List.Sorted.{IsPermutation}
-use Rattle.std.proofs.lemmas.Bool.{ltb-false, eqb-false, eqb-true, ne_eqb, cases_lt}
-use Rattle.std.proofs.lemmas.List.{map_push, append-nil, get_or-map}
-use Rattle.std.proofs.lemmas.List.Elements.{All-from_get_or, All-push, All-weaker}
+use Rattle.std.proofs.lemmas.Bool.{ltb-false, eqb-false, eqb-true, cases_lt}
+use Rattle.std.proofs.lemmas.List.{map_push, append-nil}
+use Rattle.std.proofs.lemmas.List.Elements.{All-from_get_or, All-push}
 use Rattle.std.proofs.lemmas.List.Edits.{length-remove, get_or-remove_below, get_or-remove_above}
 use Rattle.std.proofs.lemmas.List.Folds.{list_any_at}
 use Rattle.std.proofs.lemmas.List.Quantifiers.{all_pairs_remove, all_pairs_push}
@@ -19,7 +19,7 @@ use Rattle.scp_ledger.specs.Decisions.{is_at, is_decided, OnePerSlot}
 use Rattle.scp_apply.specs.declared.slots.Slots.{Slots}
 use Rattle.scp_apply.specs.Applied.{AreInOrder, values_of}
 use Rattle.scp_apply.specs.Applier.{IsInWindow}
-use Rattle.scp_apply.specs.Inside.{slots_view, IsApplied, IsSound, AppliesOne, Advances, Enters}
+use Rattle.scp_apply.specs.Inside.{slots_view, IsApplied, IsSound, AppliesOne, Advances}
 
 fold-push : {A B : Type 0} (f : B → A → B) (a : B) (xs : List A) (x : A) → fold f a (xs ++ x ∷ []) ≡ f (fold f a xs) x
 fold-push f a [] x = refl

@@ -1,14 +1,13 @@
 -- What an applier keeps; nothing here need be believed.
 use Rattle.std.specs.Prelude.{ℕ, ◌+◌, ◌<◌, ◌≤◌, ◌≡◌, ◌≢◌, Bool, false, List, [], ◌∷◌, ◌++◌, Some, None, All, length, remove, slice_index_or, if◌then◌else◌}
 use Rattle.std.specs.List.Sorted.{IsPermutation}
-use Rattle.scp_kv.specs.Map.{KvMap}
 use Rattle.scp_kv.specs.State.{fold_of, after_value}
 use Rattle.scp_ledger.specs.declared.journal.Decision.{Decision}
 use Rattle.scp_ledger.specs.Decisions.{OnePerSlot}
 use Rattle.scp_apply.specs.declared.slots.Slots.{Slots}
 use Rattle.scp_apply.specs.declared.applier.Applier.TheInside as applier
 use Rattle.scp_apply.specs.Applied.{AreInOrder, values_of}
-use Rattle.scp_apply.specs.Applier.{ApplierView, IsApplier, IsRunning, IsLater}
+use Rattle.scp_apply.specs.Applier.{ApplierView}
 
 -- slots 1 to n in order, the state is their fold, and what is buffered is of the 16 slots from n + 1 on, no slot twice
 pub record IsApplied (s : Slots) : Type 0 where

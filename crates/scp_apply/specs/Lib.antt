@@ -1,3 +1,4 @@
 pub mod Applied
 pub mod Applier
 pub mod Inside
+pub mod Laws

@@ -86,7 +86,8 @@ impl Applier {
 
     /// Takes what the slot stage sends on. A decision is buffered, and all that is next is applied; a slot that is asked for
     /// is answered by its record, for that link, where it is applied. Refused by `NoMemory`, after which it is failed, and a
-    /// failed one by `Failed`. The time of a decision grows with what it makes applicable; that of an answer with the value.
+    /// failed one by `Failed`, and it stays as it is. The time of a decision grows with what it makes applicable; that of an
+    /// answer with the value.
     pub fn take(&mut self, onward: Onward) -> Result<Option<(u8, Message)>, Fault>
         requires next { self.old.failed ≡ false → CanTake self.old onward }
         ensures takes { IfOk result (λ answer. Takes self.old onward answer self.new) }
@@ -94,6 +95,7 @@ impl Applier {
         ensures running { self.new.failed ≡ false → IsRunning self.new }
         // When each refusal comes, and what it leaves.
         ensures failed { IsErrOf result Fault.Failed ↔ (self.old.failed ≡ true) }
+        ensures same { self.old.failed ≡ true → self.new ≡ self.old }
         ensures no_memory { IsErrOf result Fault.NoMemory → self.new.failed ≡ true }
         ensures read { OnErr result (self.new.applied ≡ self.old.applied) }
         ensures only { IfErr result (λ f. (f ≡ Fault.NoMemory) ⊎ (f ≡ Fault.Failed)) }

@@ -5,10 +5,13 @@
 //! - what was taken and isn't applied yet is buffered, and slot n + 1 isn't: at most 15 decisions, of the slots n + 2 to
 //!   n + 16;
 //! - a slot that is asked for is answered by its record exactly where it is applied;
+//! - who takes the decisions of a ledger in their order never asks for a slot that can't be taken;
 //! - an applier that failed keeps its applied list, and its state can't be read.
 #![tactic(auto)]
 
 mod applier;
+mod laws;
 mod slots;
 
 pub use applier::Applier;
+pub use laws::the_next_decision_can_be_taken;

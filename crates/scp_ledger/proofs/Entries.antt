@@ -1,6 +1,6 @@
 -- One entry more in the journal, and what it decides.
-use Rattle.std.proofs.Common.{◌≡◌, ◌≢◌, ℕ, ◌+◌, ◌<◌, ◌≤◌, Bool, true, false, List, [], ◌∷◌, ◌++◌, inl, inr, length, get_or, refl, sym, ◌∙◌, ap, subst, arith, length-append, append_assoc, eq-eqb, All}
-use Rattle.std.specs.Prelude.{Option, Some, None, option_to_list, option_map, Result, Ok, Err, IfOk}
+use Rattle.std.proofs.Common.{◌≡◌, ◌≢◌, ℕ, ◌+◌, ◌<◌, ◌≤◌, Bool, true, false, List, [], ◌∷◌, ◌++◌, inl, inr, length, get_or, refl, sym, ◌∙◌, ap, subst, arith, length-append, append_assoc, eq-eqb}
+use Rattle.std.specs.Prelude.{Option, Some, None, option_to_list}
 use Rattle.std.proofs.lemmas.Bool.{cases_lt}
 use Rattle.std.proofs.lemmas.Grind.{flat_map-append}
 use Rattle.std.proofs.lemmas.List.Elements.{All-push, All-nil}
@@ -10,31 +10,23 @@ use Rattle.std.proofs.lemmas.List.{append-nil}
 use Rattle.scp_types.specs.declared.names.ConnId.{ConnId}
 use Rattle.scp_types.specs.declared.names.NodeId.{NodeId}
 use Rattle.scp_types.specs.declared.names.Seq.{Seq}
-use Rattle.scp_types.specs.declared.names.Slot.{Slot}
 use Rattle.scp_quorum.specs.SharedSet.{SharedSet}
-use Rattle.scp_wire.specs.declared.message.Message.{Message}
 use Rattle.scp_wire.specs.declared.message.Message.TheVariants.{Envelope, GetSet, Set, NoSet, GetRecord, Record}
-use Rattle.scp_pending.specs.Delivery.{DeliveryView}
 use Rattle.scp_ledger.specs.declared.journal.Decision.{Decision}
 use Rattle.scp_ledger.specs.declared.journal.Fate.{Fate}
 use Rattle.scp_ledger.specs.declared.journal.Fate.TheVariants.{Taken, Dropped, Closed}
 use Rattle.scp_ledger.specs.declared.journal.Verdict.{Verdict}
 use Rattle.scp_ledger.specs.declared.journal.Verdict.TheVariants.{OldSlot, FarSlot, Already, Own, BadStatement, BadValue, Stale, Fresh, Forwarded, Decided}
-use Rattle.scp_ledger.specs.declared.journal.Origin.{Origin}
 use Rattle.scp_ledger.specs.declared.journal.Origin.TheVariants.{Named}
 use Rattle.scp_ledger.specs.declared.state.State.{State}
-use Rattle.scp_ledger.specs.declared.took.Took.{Took}
-use Rattle.scp_ledger.specs.declared.took.Onward.TheVariants.{Decided as Goes}
 use Rattle.scp_ledger.specs.Fresh.{fresh_statement}
 use Rattle.scp_ledger.specs.Decisions.{is_at, is_decided, OnePerSlot, IsLowest, IsNext, AreInWindow, decision_by, decisions_in}
-use Rattle.scp_ledger.specs.Verdicts.{FirstOf, IsFar, IsStatementVerdict, IsHeardAs, IsRecordVerdict, IsVerdict, HasVerdict, HaveVerdicts, HasItsSet}
+use Rattle.scp_ledger.specs.Verdicts.{FirstOf, IsFar, IsRecordVerdict, HasVerdict, HaveVerdicts, HasItsSet}
 use Rattle.scp_ledger.specs.Ledger.{LedgerView, IsLedger}
-use Rattle.scp_pending.specs.declared.ready.Ready.TheVariants.{Deliver}
-use Rattle.scp_ledger.specs.Takes.{Adds, Takes, verdict_of, onward_by}
 use Rattle.scp_ledger.specs.Latest.{KnowsLatest}
 use Rattle.scp_ledger.specs.Window.{IsWindow, IsOpen}
 use Rattle.scp_ledger.proofs.Freshest.{passed}
-use Rattle.scp_ledger.specs.Inside.{state_view, IsSound, Enters, Judges}
+use Rattle.scp_ledger.specs.Inside.{state_view, IsSound, Enters}
 
 -- ---- there is one lowest slot
 

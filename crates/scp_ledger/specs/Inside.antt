@@ -1,6 +1,5 @@
 -- What a ledger keeps; nothing here need be believed.
-use Rattle.std.specs.Prelude.{◌≤◌, ◌≡◌, ◌∷◌, [], ◌++◌, Bool, false, List, length, Option, option_map, option_to_list}
-use Rattle.scp_types.specs.declared.names.NodeId.{NodeId}
+use Rattle.std.specs.Prelude.{◌≤◌, ◌≡◌, ◌∷◌, [], ◌++◌, Bool, false, length, Option, option_map, option_to_list}
 use Rattle.scp_ledger.specs.declared.journal.Fate.{Fate}
 use Rattle.scp_ledger.specs.declared.state.State.{State}
 use Rattle.scp_ledger.specs.declared.ledger.Ledger.TheInside as ledger

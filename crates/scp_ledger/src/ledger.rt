@@ -83,8 +83,8 @@ impl Ledger {
 
     /// Takes one thing: adds its entry, with the verdict on a message, and gives what goes on to the applier. Refused by
     /// `JournalFull` where an entry more would be one above the limit, which leaves the ledger as it was; by `NoMemory`,
-    /// after which it is failed; and a failed one by `Failed`. The time grows with the message's length and the logarithm
-    /// of the number of entries.
+    /// after which it is failed; and a failed one by `Failed`, and it stays as it is. The time grows with the message's
+    /// length and the logarithm of the number of entries.
     pub fn take(&mut self, ready: Ready) -> Result<Took, Fault>
         // The entry, the verdict, the decision and the answer are these.
         ensures takes { IfOk result (λ took. Takes self.old ready took self.new) }
@@ -95,6 +95,7 @@ impl Ledger {
         ensures running { self.new.failed ≡ false → IsLowest self.new.decisions self.new.lowest }
         // When each refusal comes, and what it leaves.
         ensures failed { IsErrOf result Fault.Failed ↔ (self.old.failed ≡ true) }
+        ensures same { self.old.failed ≡ true → self.new ≡ self.old }
         ensures full { IsErrOf result Fault.JournalFull ↔ ((self.old.failed ≡ false) × (adds_entry ready ≡ true) × (length self.old.journal ≡ JOURNAL_LIMIT)) }
         ensures kept { IsErrOf result Fault.JournalFull → self.new ≡ self.old }
         ensures no_memory { IsErrOf result Fault.NoMemory → self.new.failed ≡ true }

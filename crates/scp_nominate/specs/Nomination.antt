@@ -139,6 +139,7 @@ pub record Begins (node : NodeId) (number : ℕ) (set : QuorumTree) (n : Nominat
   pub me : n.board.me ≡ node
   pub local : n.board.local ≡ set
   pub statements : (v : NodeId) → n.board.statement v ≡ None
+  pub sets : (v : NodeId) → n.board.counted v ≡ None
   pub slot : n.slot ≡ number
   pub hash : n.hash.0 ≡ sha256 (set_spelling set)
   pub lists : n.lists ≡ record { votes = []; accepted = []; candidates = [] }

@@ -1,5 +1,5 @@
 //! The nominator of one slot.
-ghost use Rattle.std.specs.Prelude.{◌≡◌, ◌≢◌, ◌⊎◌, ◌↔◌, ◌<◌, ◌≤◌, ◌+◌, None, true, false, length, IfOk, IfErr, OnOk, OnErr, IsSome, is_some, IsOkUnless, Contains};
+ghost use Rattle.std.specs.Prelude.{◌≡◌, ◌≢◌, ◌⊎◌, ◌↔◌, ◌<◌, ◌≤◌, ◌+◌, None, true, false, length, IfOk, IfErr, OnOk, OnErr, IsSome, is_some, IsOkUnless, IsTrue, Contains};
 ghost use Rattle.std.specs.Option.{ForSome};
 ghost use Rattle.scp_driver.specs.Driver.{IsFull};
 ghost use Rattle.scp_nominate.specs.Heard.{heard};
@@ -63,6 +63,27 @@ impl<D: Driver + Drop> Nominator<D> {
             rounds: 1,
             failed: false,
         })
+    }
+
+    /// The driver that it was made with.
+    pub fn driver(&self) -> &D
+        ensures same { result.now ≡ driver_of self.now }
+    {
+        &self.guide.driver
+    }
+
+    /// Whether a proposal was kept.
+    pub fn has_proposal(&self) -> bool
+        ensures exact { IsTrue result ↔ IsSome (nomination self.now).proposal }
+    {
+        self.guide.proposal.is_some()
+    }
+
+    /// Whether there were as many rounds as there are nodes that lead in turn, so that no more is added.
+    pub fn is_last_round(&self) -> bool
+        ensures exact { IsTrue result ↔ (length (nomination self.now).nodes ≤ (nomination self.now).rounds) }
+    {
+        self.rounds >= self.nodes.len() as u64
     }
 
     /// This node proposes the value; the first proposal is kept, and a later one changes nothing. Refused by `Failed` once a

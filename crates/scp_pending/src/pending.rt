@@ -90,8 +90,8 @@ impl Pending {
 
     /// Takes one item more, where `next_ready` gives nothing, and gives the message for one link, if there is one: a GetSet where
     /// that link is to be asked for the set of an envelope, and the answer to a GetSet. `Fault::NoMemory` leaves the stage
-    /// failed, and a failed one answers `Fault::Failed`. What parks, delivers or drops one message costs a few look-ups; a
-    /// Set, a NoSet, a Tick and the end of a connection walk what is parked.
+    /// failed, and a failed one answers `Fault::Failed` and stays as it is. What parks, delivers or drops one message costs a
+    /// few look-ups; a Set, a NoSet, a Tick and the end of a connection walk what is parked.
     pub fn take(&mut self, item: Inbound) -> Result<Option<(u8, Message)>, Fault>
         requires nothing_ready { self.old.failed ≡ false → self.old.leaving ≡ [] }
         ensures reply { IfOk result (λ answer. answer ≡ reply self.old.settled item) }
@@ -99,6 +99,7 @@ impl Pending {
         ensures passes { OnOk result ((me : NodeId) → (peers : List NodeId) → Passes (Pends me peers) (item ∷ []) [] self.old self.new) }
         ensures failed { OnErr result (self.new.failed ≡ true) }
         ensures failed_before { result ≡ Err Fault.Failed ↔ self.old.failed ≡ true }
+        ensures same { self.old.failed ≡ true → self.new ≡ self.old }
         ensures memory { self.old.failed ≡ false → IsOkUnless result Fault.NoMemory }
     {
         if self.failed {
