@@ -1,0 +1,4 @@
+pub mod Kept
+pub mod Waiting
+pub mod Giving
+pub mod Room

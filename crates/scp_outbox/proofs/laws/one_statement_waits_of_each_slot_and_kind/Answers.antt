@@ -1,0 +1,8 @@
+use Rattle.scp_outbox.proofs.Kept.{puts_known, gives_known}
+use Rattle.scp_outbox.proofs.laws.one_statement_waits_of_each_slot_and_kind.Goals as goal
+
+pub returns-clause-put : goal.returns-clause-put
+returns-clause-put c = puts_known
+
+pub returns-clause-given : goal.returns-clause-given
+returns-clause-given c = gives_known

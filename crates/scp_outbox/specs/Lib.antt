@@ -1,0 +1,4 @@
+pub mod Fitting
+pub mod Outbox
+pub mod Inside
+pub mod Laws

@@ -1,0 +1,22 @@
+//! What goes to one peer: marks, then requests and answers, then the newest own statements.
+//!
+//! What it promises:
+//! - Marks are given first, in order; 16 wait at most, and one more is refused.
+//! - Then, while the link is open, requests and answers, in order; 64 wait at most, and one more overwrites the oldest.
+//! - Then the newest statement of each slot and kind, in the order in which their slots and kinds came; 64 wait at most,
+//!   and one of a slot and kind that isn't there drops the first.
+//! - What was given is gone, and each message that is given was put. It is never too long for a link.
+//! - To put a message takes no memory, waits for nobody and is never refused.
+#![tactic(auto)]
+
+mod fitting;
+mod laws;
+mod mark;
+mod outbox;
+
+pub use fitting::FittingMessage;
+pub use laws::{
+    one_statement_waits_of_each_slot_and_kind, what_is_given_is_gone, what_is_given_was_put,
+};
+pub use mark::{Mark, Out};
+pub use outbox::{MARK_LIMIT, Outbox, WAITING_LIMIT};

@@ -1,0 +1,254 @@
+//! What waits to go to one peer.
+ghost use Rattle.std.specs.Prelude.{◌≡◌, ◌≢◌, ◌∷◌, ◌++◌, [], ◌<◌, ◌↔◌, ◌==◌, length, IfOk, OnOk, OnErr, IsOk, IsTrue, IsOkUnless, Ok, Err, position, Some, None, slice_get, slice_set, MatchOption, false};
+ghost use Rattle.scp_envelope.specs.Newer.{IsNewer};
+ghost use Rattle.scp_wire.specs.Boxed.{Boxed};
+ghost use Rattle.scp_outbox.specs.Outbox.{are_alike, is_nomination as is_nominating, is_statement, live_after, Puts, Gives, IsOutbox, Takes, Replaces, StatementsTake, IfMessage};
+ghost use Rattle.scp_outbox.specs.Fitting.{IsFitting};
+
+use crate::fitting::FittingMessage;
+use crate::mark::{Mark, Out};
+use circular_buffer::HeapCircularBuffer;
+use scp_envelope::{Pledges, Statement, newer};
+use scp_types::Fault;
+use scp_wire::{BoxedEnvelope, Message};
+use std::alloc::Global;
+use std::marker::Model;
+
+/// The most marks that wait (this project's profile).
+pub const MARK_LIMIT: usize = 16;
+
+/// The most requests and answers that wait, and the most statements (this project's profile).
+pub const WAITING_LIMIT: usize = 64;
+
+/// What waits to go to one peer. Contracts see whether the link is live, and three lists: the marks, the requests and
+/// answers, and the statements.
+#[derive(Drop)]
+pub struct Outbox {
+    live: bool,
+    marks: HeapCircularBuffer<Mark>,
+    ring: HeapCircularBuffer<Message>,
+    statements: HeapCircularBuffer<BoxedEnvelope>,
+}
+
+impl Model for Outbox {
+    ghost use Rattle.scp_outbox.specs.Outbox.{OutboxView};
+
+    ghost Value = { OutboxView };
+
+    ghost use Rattle.std.specs.Coded.{codes};
+    ghost use Rattle.scp_xdr.specs.TreeModel.{coded_row};
+    ghost use Rattle.scp_quorum.specs.QuorumTree.{coded_level};
+
+    ghost coded = { Prim.hlevel (codes, coded_row coded_level) };
+
+    ghost use Rattle.scp_outbox.specs.Inside.{outbox_view, IsSound};
+
+    ghost view = { outbox_view };
+
+    ghost invariant = { IsSound };
+}
+
+impl Outbox {
+    /// An outbox in which nothing waits, of a link that is live or isn't: only of a live link messages are given. It takes
+    /// all the memory that it ever needs, and the one refusal is `Fault::NoMemory`.
+    pub fn new(alloc: Global, live: bool) -> Result<Outbox, Fault>
+        // Nothing waits.
+        ensures made { IfOk result (λ o. o ≡ record { live = live; marks = []; ring = []; statements = [] }) }
+        // Only want of memory is a reason to refuse.
+        ensures only_memory { IsOkUnless result Fault.NoMemory }
+    {
+        Ok(Outbox {
+            live,
+            marks: HeapCircularBuffer::with_capacity(alloc, MARK_LIMIT)?,
+            ring: HeapCircularBuffer::with_capacity(alloc, WAITING_LIMIT)?,
+            statements: HeapCircularBuffer::with_capacity(alloc, WAITING_LIMIT)?,
+        })
+    }
+
+    /// Lets a message wait. It is never refused, takes no memory and waits for nobody, whether the link is live or not.
+    ///
+    /// A request or an answer goes last among these; where 64 wait, the oldest is overwritten. A statement replaces the one
+    /// of its slot and kind (nomination or ballot) that waits, in its place, where it is newer, and is dropped where it isn't;
+    /// where none of its slot and kind waits it goes last, and over 64 the first is dropped. A statement is compared
+    /// with at most 64 others by slot and kind, and with one by content.
+    pub fn put(&mut self, message: FittingMessage)
+        // How the lists change.
+        ensures puts { Puts self.old message.message self.new }
+        // The limits, and one statement of each slot and kind.
+        ensures known { IsOutbox self.new }
+    {
+        let FittingMessage { message } = message;
+        match message {
+            Message::Envelope(envelope) => self.put_statement(envelope),
+            other => self.put_other(other),
+        }
+    }
+
+    /// Lets a mark wait, which takes effect when it is given. `Fault::Full` just where 16 marks wait; nothing changes then.
+    /// Takes no memory.
+    pub fn mark(&mut self, mark: Mark) -> Result<(), Fault>
+        // It waits where there is room.
+        ensures room { IsOk result ↔ (length self.old.marks < MARK_LIMIT) }
+        // It goes last.
+        ensures ok { OnOk result (self.new ≡ record self.old { marks = self.old.marks ++ mark ∷ [] }) }
+        // A refusal leaves all as it was.
+        ensures err { OnErr result (self.new ≡ self.old) }
+        // There is one reason to refuse.
+        ensures only { IsOkUnless result Fault.Full }
+        // The limits, and one statement of each slot and kind.
+        ensures known { IsOutbox self.new }
+    {
+        match self.marks.try_push_back(mark) {
+            Ok(()) => Ok(()),
+            Err(_) => Err(Fault::Full),
+        }
+    }
+
+    /// What is to be sent next: the first mark; where none waits and the link is live, the oldest request or answer; where
+    /// none of these waits either, the first statement; else `Out::Nothing`. What was given is gone. The mark Opened makes
+    /// the link live, and Closed makes it not live. Takes no memory.
+    pub fn next(&mut self) -> Out
+        // What is given, and what is left.
+        ensures gives { Gives self.old result self.new }
+        // A message that is given fits a link.
+        ensures fits { IfMessage result IsFitting }
+        // The limits, and one statement of each slot and kind.
+        ensures known { IsOutbox self.new }
+    {
+        if let Some(mark) = take_front(&mut self.marks) {
+            self.live = is_live_after(mark, self.live);
+            return Out::Mark(mark);
+        }
+        if !self.live {
+            return Out::Nothing;
+        }
+        if let Some(message) = take_front(&mut self.ring) {
+            return Out::Message(message);
+        }
+        if let Some(envelope) = take_front(&mut self.statements) {
+            return Out::Message(Message::Envelope(envelope));
+        }
+        Out::Nothing
+    }
+
+    /// Lets a request or an answer wait.
+    fn put_other(&mut self, message: Message)
+        requires other { is_statement message ≡ false }
+        requires fits { IsFitting message }
+        ensures puts { Puts self.old message self.new }
+        ensures known { IsOutbox self.new }
+    {
+        self.ring.push_back(message);
+    }
+
+    /// Lets a statement wait.
+    fn put_statement(&mut self, envelope: BoxedEnvelope)
+        requires { IsFitting (Message.Envelope envelope) }
+        ensures puts { StatementsTake self.old envelope self.new }
+        ensures known { IsOutbox self.new }
+    {
+        take_statement(&mut self.statements, envelope);
+    }
+}
+
+/// Takes the first item out, if there is one.
+fn take_front<T>(items: &mut HeapCircularBuffer<T>) -> Option<T>
+    ensures taken { MatchOption result ((items.old.items ≡ []) × (items.new.items ≡ [])) (λ item. items.old.items ≡ item ∷ items.new.items) }
+    ensures capacity { items.new.capacity ≡ items.old.capacity }
+{
+    items.pop_front()
+}
+
+/// Whether the link is live once the mark was given.
+fn is_live_after(mark: Mark, live: bool) -> bool
+    ensures { result ≡ live_after mark live }
+{
+    match mark {
+        Mark::Opened => true,
+        Mark::Closed => false,
+        Mark::Stop => live,
+    }
+}
+
+/// Whether both are of one slot, and both nominations or both ballot statements.
+fn is_alike(left: &Statement, right: &Statement) -> bool
+    ensures { result ≡ are_alike left.now right.now }
+{
+    left.slot.0 == right.slot.0 && is_nomination(&left.pledges) == is_nomination(&right.pledges)
+}
+
+/// Whether it is a nomination, and not a ballot statement.
+fn is_nomination(pledges: &Pledges) -> bool
+    ensures { result ≡ is_nominating pledges.now }
+{
+    matches!(pledges, Pledges::Nominate(_))
+}
+
+/// The place of the statement of the envelope's slot and kind.
+fn place_of(
+    statements: &HeapCircularBuffer<BoxedEnvelope>,
+    envelope: &BoxedEnvelope,
+) -> Option<usize>
+    ensures { result ≡ position (λ held. are_alike held.value.statement envelope.now.value.statement) statements.now.items }
+{
+    statements.iter().position(|held| is_alike(&held.get().statement, &envelope.get().statement))
+}
+
+/// Lets a statement wait among these.
+fn take_statement(statements: &mut HeapCircularBuffer<BoxedEnvelope>, envelope: BoxedEnvelope)
+    requires { statements.old.capacity ≡ WAITING_LIMIT }
+    ensures takes { Takes statements.old.items envelope statements.new.items }
+    ensures capacity { statements.new.capacity ≡ WAITING_LIMIT }
+{
+    match place_of(statements, &envelope) {
+        None => {
+            statements.push_back(envelope);
+        }
+        Some(place) => replace(statements, place, envelope),
+    }
+}
+
+/// Whether the statement is newer than the one at that place.
+fn is_newer_there(
+    statements: &HeapCircularBuffer<BoxedEnvelope>,
+    place: usize,
+    envelope: &BoxedEnvelope,
+) -> bool
+    requires { place < length statements.now.items }
+    ensures { (held : Boxed) × (slice_get statements.now.items place ≡ Some held) × (IsTrue result ↔ IsNewer held.value.statement envelope.now.value.statement) }
+{
+    match statements.get(place) {
+        Some(held) => newer(&held.get().statement, &envelope.get().statement),
+        None => false,
+    }
+}
+
+/// Puts the envelope in that place.
+fn write_there(
+    statements: &mut HeapCircularBuffer<BoxedEnvelope>,
+    place: usize,
+    envelope: BoxedEnvelope,
+)
+    requires { place < length statements.old.items }
+    ensures written { statements.new.items ≡ slice_set statements.old.items place envelope }
+    ensures capacity { statements.new.capacity ≡ statements.old.capacity }
+{
+    if let Some(held) = statements.get_mut(place) {
+        *held = envelope;
+    }
+}
+
+/// Puts the envelope in that place where its statement is newer.
+fn replace(
+    statements: &mut HeapCircularBuffer<BoxedEnvelope>,
+    place: usize,
+    envelope: BoxedEnvelope,
+)
+    requires { place < length statements.old.items }
+    ensures replaces { Replaces statements.old.items place envelope statements.new.items }
+    ensures capacity { statements.new.capacity ≡ statements.old.capacity }
+{
+    if is_newer_there(statements, place, &envelope) {
+        write_there(statements, place, envelope);
+    }
+}
