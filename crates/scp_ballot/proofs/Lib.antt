@@ -1,0 +1,14 @@
+pub mod Adding
+pub mod Gathering
+pub mod Best
+pub mod Primes
+pub mod Stepping
+pub mod Ranges
+pub mod Aheads
+pub mod Settling
+pub mod Emitting
+pub mod Heard
+pub mod Others
+pub mod Advancing
+pub mod Calling
+pub mod Taking

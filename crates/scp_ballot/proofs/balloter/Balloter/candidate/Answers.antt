@@ -1,0 +1,40 @@
+use Rattle.std.proofs.Common.{◌≡◌, false, rules, subst}
+use Rattle.scp_ballot.specs.View.{BalloterView}
+use Rattle.scp_ballot.specs.Balloting.{ballots, Advances, KeepsOthers}
+use Rattle.scp_ballot.specs.Inside.{ballots_of}
+use Rattle.scp_ballot.proofs.Advancing.{advances, gives_rests}
+use Rattle.scp_ballot.proofs.Calling.{others_kept, composite_ballot, composite_phase}
+use Rattle.scp_ballot.proofs.balloter.Balloter.candidate.Goals as goal
+
+pub candidate-requires : goal.candidate-requires
+candidate-requires c = let whole : c.self.inside.failed ≡ false = search rules in record { rest = c.self.invariant whole }
+
+pub returns-clause-advances : goal.returns-clause-advances
+returns-clause-advances c =
+    let whole : c.self.inside.failed ≡ false = search rules in
+    let m = c.self.inside.machine in
+    let n = c.candidate.new.self in
+    let given = c.in_ok-given.given in
+    let takes = c.in_ok-given.ensures.takes in
+    subst (λ (v : BalloterView). Advances (ballots v) (ballots_of n false) given) c.self.view_is
+    (advances m n given takes.first c.self.inside.failed false (c.self.invariant whole) (composite_phase c.args.value m n given takes) takes.gives)
+
+pub returns-clause-ballot : goal.returns-clause-ballot
+returns-clause-ballot c =
+    let whole : c.self.inside.failed ≡ false = search rules in
+    composite_ballot c.args.value c.self.inside.machine c.candidate.new.self c.in_ok-given.given false (c.self.invariant whole) c.in_ok-given.ensures.takes
+
+pub returns-clause-others : goal.returns-clause-others
+returns-clause-others c =
+    let whole : c.self.inside.failed ≡ false = search rules in
+    let m = c.self.inside.machine in
+    let n = c.candidate.new.self in
+    let takes = c.in_ok-given.ensures.takes in
+    subst (λ (v : BalloterView). KeepsOthers (ballots v).board (ballots_of n false).board) c.self.view_is
+    (others_kept m n c.in_ok-given.given takes.first (c.self.invariant whole) takes.gives)
+
+pub invariant_of-self-2 : goal.invariant_of-self-2
+invariant_of-self-2 c _ =
+    let whole : c.self.inside.failed ≡ false = search rules in
+    let takes = c.in_ok-given.ensures.takes in
+    gives_rests c.self.inside.machine c.candidate.new.self c.in_ok-given.given takes.first (c.self.invariant whole) takes.gives

@@ -1,0 +1,13 @@
+use Rattle.std.proofs.Common.{refl}
+use Rattle.scp_ballot.specs.Gives.{IsWorth}
+use Rattle.scp_ballot.proofs.Emitting.{emits_none, emits_some}
+use Rattle.scp_ballot.proofs.Stepping.{refuted}
+use Rattle.scp_ballot.proofs.machine.Machine.emit.Goals as goal
+
+pub returns-then-not-is_worth-clause-emits : goal.returns-then-not-is_worth-clause-emits
+returns-then-not-is_worth-clause-emits c =
+    emits_none c.args.self.now c.in_ok-own.own c.in_ok-own.ensures.own (refuted (IsWorth c.args.self.now.emitted c.in_ok-own.own) c.is_worth.result c.is_worth.ensures c.if-not-is_worth.true)
+
+pub returns-clause-emits : goal.returns-clause-emits
+returns-clause-emits c =
+    emits_some c.args.self.now c.in_ok-own.own c.in_ok-own.ensures.own _ c.in_ok-statement.statement c.unsigned.result refl (c.is_worth.ensures.0 c.if-not-is_worth.false) c.in_ok-statement.ensures.same c.unsigned.ensures.statement c.unsigned.ensures.unsigned

@@ -1,0 +1,5 @@
+use Rattle.scp_ballot.specs.Machine.{IsSettled}
+use Rattle.scp_ballot.proofs.machine.Machine.settle.Given as goal
+
+abbrev pub invariant-loop : goal.invariant-loop
+invariant-loop l = IsSettled l.fn.self l.fn.first l.self

@@ -1,0 +1,9 @@
+pub mod Told
+pub mod Finding
+pub mod Ahead
+pub mod Machine
+pub mod Gives
+pub mod Inputs
+pub mod View
+pub mod Balloting
+pub mod Inside

@@ -1,0 +1,112 @@
+//! The ballots of one node in one slot.
+ghost use Rattle.std.specs.Prelude.{◌≡◌, ◌≢◌, ◌⊎◌, true, false, IfOk, IfErr, OnOk, OnErr, IsOkUnless};
+
+use crate::balloted::Balloted;
+use crate::machine::Machine;
+use scp_envelope::Envelope;
+use scp_quorum::SaneSet;
+use scp_types::{Fault, NodeId, Slot, Value};
+use std::alloc::Global;
+use std::marker::Model;
+use std::sync::Arc;
+
+/// The ballots of one node in one slot (the SCP draft, in this project's profile). After a refusal it is failed, and answers
+/// `Fault::Failed` from then on.
+#[derive(Drop)]
+pub struct Balloter {
+    machine: Machine,
+    failed: bool,
+}
+
+impl Model for Balloter {
+    ghost use Rattle.scp_ballot.specs.View.{BalloterView};
+
+    ghost Value = { BalloterView };
+
+    ghost use Rattle.std.specs.Coded.{codes};
+    ghost use Rattle.scp_vote.specs.contracts.board.Board as board;
+
+    ghost coded = { Prim.hlevel (codes, board.the_row.coded) };
+
+    ghost use Rattle.scp_ballot.specs.Inside.{balloter_view, IsWell};
+
+    ghost view = { balloter_view };
+
+    ghost invariant = { IsWell };
+}
+
+impl Balloter {
+    ghost use Rattle.scp_ballot.specs.Balloting.{ballots, Begins, Advances, HasBallot, KeepsOthers, HearsOnly, RaisesCounter};
+
+    /// A balloter that has heard and said nothing, of this node and its set.
+    pub fn new(alloc: Global, me: NodeId, slot: Slot, local: Arc<SaneSet>) -> Balloter
+        ensures begins { Begins me slot.0 local.value (ballots result) }
+    {
+        Balloter {
+            machine: Machine::new(alloc, me, slot, local),
+            failed: false,
+        }
+    }
+
+    /// A composite of the nomination: it is kept, and makes the first ballot where there is none. Refused by `Failed` once a
+    /// call was refused, else by `NoMemory`.
+    pub fn candidate(&mut self, value: Value) -> Result<Balloted, Fault>
+        ensures advances { IfOk result (λ given. Advances (ballots self.old) (ballots self.new) given) }
+        ensures ballot { OnOk result (HasBallot (ballots self.new)) }
+        ensures others { OnOk result (KeepsOthers (ballots self.old).board (ballots self.new).board) }
+        ensures refused { IfErr result (λ f. ((f ≡ Fault.Failed) × ((ballots self.old).failed ≡ true)) ⊎ ((f ≡ Fault.NoMemory) × ((ballots self.old).failed ≡ false))) }
+        ensures working { OnOk result (((ballots self.old).failed ≡ false) × ((ballots self.new).failed ≡ false)) }
+        ensures failed { OnErr result ((ballots self.new).failed ≡ true) }
+        ensures same { (ballots self.old).failed ≡ true → self.new ≡ self.old }
+    {
+        if self.failed {
+            return Err(Fault::Failed);
+        }
+        self.failed = true;
+        let given = self.machine.candidate(value)?;
+        self.failed = false;
+        Ok(given)
+    }
+
+    /// Another node's fresh ballot statement, with the quorum set that was delivered with it. A statement of this node, of
+    /// another slot or of nomination, or one that comes after the decision, isn't put on the board. Refused by `Failed` once
+    /// a call was refused, else by `NoMemory`.
+    pub fn take(&mut self, envelope: Envelope, delivered: Arc<SaneSet>) -> Result<Balloted, Fault>
+        ensures advances { IfOk result (λ given. Advances (ballots self.old) (ballots self.new) given) }
+        ensures ballot { OnOk result (HasBallot (ballots self.old) → HasBallot (ballots self.new)) }
+        ensures others { OnOk result (HearsOnly (ballots self.old) (ballots self.new) envelope delivered.value) }
+        ensures refused { IfErr result (λ f. ((f ≡ Fault.Failed) × ((ballots self.old).failed ≡ true)) ⊎ ((f ≡ Fault.NoMemory) × ((ballots self.old).failed ≡ false))) }
+        ensures working { OnOk result (((ballots self.old).failed ≡ false) × ((ballots self.new).failed ≡ false)) }
+        ensures failed { OnErr result ((ballots self.new).failed ≡ true) }
+        ensures same { (ballots self.old).failed ≡ true → self.new ≡ self.old }
+    {
+        if self.failed {
+            return Err(Fault::Failed);
+        }
+        self.failed = true;
+        let given = self.machine.take(envelope, delivered)?;
+        self.failed = false;
+        Ok(given)
+    }
+
+    /// A timer: the counter of the ballot is raised by one, where there is a value for it and it isn't at its greatest.
+    /// Refused by `Failed` once a call was refused, else by `NoMemory`.
+    pub fn timer(&mut self) -> Result<Balloted, Fault>
+        ensures advances { IfOk result (λ given. Advances (ballots self.old) (ballots self.new) given) }
+        ensures ballot { OnOk result (HasBallot (ballots self.old) → HasBallot (ballots self.new)) }
+        ensures raises { OnOk result (RaisesCounter (ballots self.old) (ballots self.new)) }
+        ensures others { OnOk result (KeepsOthers (ballots self.old).board (ballots self.new).board) }
+        ensures refused { IfErr result (λ f. ((f ≡ Fault.Failed) × ((ballots self.old).failed ≡ true)) ⊎ ((f ≡ Fault.NoMemory) × ((ballots self.old).failed ≡ false))) }
+        ensures working { OnOk result (((ballots self.old).failed ≡ false) × ((ballots self.new).failed ≡ false)) }
+        ensures failed { OnErr result ((ballots self.new).failed ≡ true) }
+        ensures same { (ballots self.old).failed ≡ true → self.new ≡ self.old }
+    {
+        if self.failed {
+            return Err(Fault::Failed);
+        }
+        self.failed = true;
+        let given = self.machine.timer()?;
+        self.failed = false;
+        Ok(given)
+    }
+}

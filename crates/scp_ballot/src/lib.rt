@@ -1,0 +1,31 @@
+//! The ballot protocol of one slot (the SCP draft, in this project's profile): the five rules, the loop over them, and the
+//! three inputs.
+//!
+//! What it promises of each input of a `Balloter` that isn't refused:
+//! - The own statement after it is licensed from the one before it, and nothing is owed then, unless there is `more`.
+//! - The own statement is emitted exactly where it is sane and newer than the one emitted before.
+//! - A decision is given exactly where the own statement becomes an EXTERNALIZE, with the certificate of its commit, and the
+//!   own statement stays one.
+//! - After a composite there is a ballot, and a timer raises its counter.
+//! - A refusal leaves it failed, and changes nothing from then on.
+#![tactic(auto)]
+
+mod accept_commit;
+mod accept_prepared;
+mod balloted;
+mod balloter;
+mod boundaries;
+mod candidates;
+mod confirm_commit;
+mod confirm_prepared;
+mod finding;
+mod giving;
+mod inputs;
+mod machine;
+mod next;
+mod raise;
+mod range;
+mod told;
+
+pub use balloted::{Balloted, Certified};
+pub use balloter::Balloter;

@@ -1,0 +1,151 @@
+//! The rules in their order.
+ghost use Rattle.std.specs.Prelude.{◌≡◌, ◌⊎◌, IfOk, IfSome, IfNone, IsOkUnless};
+ghost use Rattle.scp_ballot_rules.specs.declared.state.Phase.TheVariants.{Prepare, Confirm, Externalize};
+ghost use Rattle.scp_ballot_rules.specs.Ready.{IsReady, IsConfirming};
+ghost use Rattle.scp_ballot_rules.specs.Rules.{IsStep, AcceptsPrepared, ConfirmsPrepared, AcceptsCommit, Raises, AcceptsMore, Grows, ConfirmsCommit, RaisesMore};
+ghost use Rattle.scp_ballot_rules.specs.Rests.{Rests, RestsInPrepare, RestsInConfirm, CommitsNone, RaisesNone, CommitsNoHigher, ConfirmsNone, AcceptsNoMore, ConfirmsNoMore};
+ghost use Rattle.scp_ballot.specs.Told.{ballots_on};
+
+use crate::accept_commit::{accept_commit, accept_higher};
+use crate::accept_prepared::{accept_more, accept_prepared};
+use crate::boundaries::boundaries;
+use crate::candidates::candidates;
+use crate::confirm_commit::confirm_commit;
+use crate::confirm_prepared::confirm_prepared;
+use crate::raise::{catch_up, catch_up_more};
+use scp_ballot_rules::{Phase, State};
+use scp_types::Fault;
+use scp_vote::Board;
+use std::alloc::Global;
+
+/// The first two rules, in the phase Prepare.
+fn prepare_next(alloc: Global, board: &Board, state: &State) -> Result<Option<State>, Fault>
+    ensures step { IfOk result (λ next. IfSome next (λ next. AcceptsPrepared (ballots_on board.now) state.now next ⊎ ConfirmsPrepared (ballots_on board.now) state.now next)) }
+    ensures rests { IfOk result (λ next. IfNone next (AcceptsNoMore (ballots_on board.now) state.now × ConfirmsNoMore (ballots_on board.now) state.now)) }
+    ensures only_memory { IsOkUnless result Fault.NoMemory }
+{
+    let named = candidates(alloc, board)?;
+    let list = named.as_slice();
+    match accept_prepared(board, state, list)? {
+        Some(next) => Ok(Some(next)),
+        None => match confirm_prepared(board, state, list)? {
+            Some(next) => Ok(Some(next)),
+            None => Ok(None),
+        },
+    }
+}
+
+/// The third rule and the fifth, in the phase Prepare.
+fn commit_next(alloc: Global, board: &Board, state: &State) -> Result<Option<State>, Fault>
+    ensures step { IfOk result (λ next. IfSome next (λ next. AcceptsCommit (ballots_on board.now) state.now next ⊎ Raises state.now next)) }
+    ensures rests { IfOk result (λ next. IfNone next (CommitsNone (ballots_on board.now) × RaisesNone (ballots_on board.now) state.now)) }
+    ensures only_memory { IsOkUnless result Fault.NoMemory }
+{
+    let ends = boundaries(alloc, board)?;
+    let list = ends.as_slice();
+    match accept_commit(board, state, list)? {
+        Some(next) => Ok(Some(next)),
+        None => match catch_up(alloc, board, state)? {
+            Some(next) => Ok(Some(next)),
+            None => Ok(None),
+        },
+    }
+}
+
+/// The rules in the phase Prepare.
+fn next_preparing(alloc: Global, board: &Board, state: &State) -> Result<Option<State>, Fault>
+    requires phase { state.now.phase ≡ Prepare }
+    ensures step { IfOk result (λ next. IfSome next (λ next. IsStep (ballots_on board.now) state.now next)) }
+    ensures rests { IfOk result (λ next. IfNone next (RestsInPrepare (ballots_on board.now) state.now)) }
+    ensures only_memory { IsOkUnless result Fault.NoMemory }
+{
+    match prepare_next(alloc, board, state)? {
+        Some(next) => Ok(Some(next)),
+        None => match commit_next(alloc, board, state)? {
+            Some(next) => Ok(Some(next)),
+            None => Ok(None),
+        },
+    }
+}
+
+/// The first rule, in the phase Confirm.
+fn accept_next(alloc: Global, board: &Board, state: &State) -> Result<Option<State>, Fault>
+    ensures step { IfOk result (λ next. IfSome next (λ next. AcceptsMore (ballots_on board.now) state.now next)) }
+    ensures only_memory { IsOkUnless result Fault.NoMemory }
+{
+    let named = candidates(alloc, board)?;
+    let list = named.as_slice();
+    let next = accept_more(board, state, list)?;
+    Ok(next)
+}
+
+/// The third and the fourth rule, in the phase Confirm.
+fn range_next(alloc: Global, board: &Board, state: &State) -> Result<Option<State>, Fault>
+    requires ready { IsConfirming state.now }
+    ensures step { IfOk result (λ next. IfSome next (λ next. (AcceptsCommit (ballots_on board.now) state.now next × Grows state.now next) ⊎ ConfirmsCommit (ballots_on board.now) state.now next)) }
+    ensures rests { IfOk result (λ next. IfNone next (CommitsNoHigher (ballots_on board.now) state.now × ConfirmsNone (ballots_on board.now) state.now)) }
+    ensures only_memory { IsOkUnless result Fault.NoMemory }
+{
+    let ends = boundaries(alloc, board)?;
+    let list = ends.as_slice();
+    match accept_higher(board, state, list)? {
+        Some(next) => Ok(Some(next)),
+        None => match confirm_commit(board, state, list)? {
+            Some(next) => Ok(Some(next)),
+            None => Ok(None),
+        },
+    }
+}
+
+/// The third, fourth and fifth rule, in the phase Confirm.
+fn later_next(alloc: Global, board: &Board, state: &State) -> Result<Option<State>, Fault>
+    requires ready { IsConfirming state.now }
+    ensures step { IfOk result (λ next. IfSome next (λ next. (AcceptsCommit (ballots_on board.now) state.now next × Grows state.now next) ⊎ ConfirmsCommit (ballots_on board.now) state.now next ⊎ RaisesMore state.now next)) }
+    ensures rests { IfOk result (λ next. IfNone next (RestsInConfirm (ballots_on board.now) state.now)) }
+    ensures only_memory { IsOkUnless result Fault.NoMemory }
+{
+    match range_next(alloc, board, state)? {
+        Some(next) => Ok(Some(next)),
+        None => match catch_up_more(alloc, board, state)? {
+            Some(next) => Ok(Some(next)),
+            None => Ok(None),
+        },
+    }
+}
+
+/// The rules in the phase Confirm.
+fn next_confirming(alloc: Global, board: &Board, state: &State) -> Result<Option<State>, Fault>
+    requires phase { state.now.phase ≡ Confirm }
+    requires ready { IsConfirming state.now }
+    ensures step { IfOk result (λ next. IfSome next (λ next. IsStep (ballots_on board.now) state.now next)) }
+    ensures rests { IfOk result (λ next. IfNone next (RestsInConfirm (ballots_on board.now) state.now)) }
+    ensures only_memory { IsOkUnless result Fault.NoMemory }
+{
+    match accept_next(alloc, board, state)? {
+        Some(next) => Ok(Some(next)),
+        None => match later_next(alloc, board, state)? {
+            Some(next) => Ok(Some(next)),
+            None => Ok(None),
+        },
+    }
+}
+
+/// The state that the first rule which changes it makes of it; `None` where no rule does.
+pub(crate) fn next(alloc: Global, board: &Board, state: &State) -> Result<Option<State>, Fault>
+    requires ready { IsReady state.now }
+    ensures step { IfOk result (λ next. IfSome next (λ next. IsStep (ballots_on board.now) state.now next)) }
+    ensures rests { IfOk result (λ next. IfNone next (Rests (ballots_on board.now) state.now)) }
+    ensures only_memory { IsOkUnless result Fault.NoMemory }
+{
+    match state.phase {
+        Phase::Prepare => match next_preparing(alloc, board, state)? {
+            Some(next) => Ok(Some(next)),
+            None => Ok(None),
+        },
+        Phase::Confirm => match next_confirming(alloc, board, state)? {
+            Some(next) => Ok(Some(next)),
+            None => Ok(None),
+        },
+        Phase::Externalize => Ok(None),
+    }
+}

@@ -1,0 +1,13 @@
+pub mod Options
+pub mod Order
+pub mod Accepting
+pub mod Confirming
+pub mod Raising
+pub mod Committing
+pub mod Following
+pub mod FollowingMore
+pub mod Owing
+pub mod Rising
+pub mod Raised
+pub mod Ahead
+pub mod Certifying

@@ -1,0 +1,107 @@
+-- What each rule of the ballot machine does to its state, over what a node sees.
+use Rattle.std.specs.Prelude.{◌≡◌, ◌≢◌, ◌<◌, ◌≤◌, ◌⊎◌, ℕ, List, Option, Some, None, IsSome, IsSomeAnd}
+use Rattle.std.specs.Option.{ForSome}
+use Rattle.scp_types.specs.declared.ballot.Ballot.{Ballot}
+use Rattle.scp_vote.specs.declared.claim.Claim.TheVariants.{Prepared, Committed}
+use Rattle.scp_vote.specs.Board.{Seen, Accepted, Confirmed}
+use Rattle.scp_ballot_rules.specs.declared.state.State.{State}
+use Rattle.scp_ballot_rules.specs.declared.state.Phase.TheVariants.{Prepare, Confirm, Externalize}
+use Rattle.scp_envelope.specs.Ballots.{IsLess}
+use Rattle.scp_ballot_rules.specs.Order.{AtMost, FitsUnder, IsOver, IsAbove}
+use Rattle.scp_ballot_rules.specs.Own.{counter_of}
+use Rattle.scp_ballot_rules.specs.Ready.{HasValue, NoneOver}
+
+-- the ballot was accepted prepared by the old state, or is Accepted so on the board
+abbrev pub IsHeld : State → Ballot → Type 0
+IsHeld s x = (s.prepared ≡ Some x) ⊎ (s.prime ≡ Some x)
+
+-- Accept prepared, in the phase Prepare.
+pub record AcceptsPrepared (b : Seen) (old next : State) : Type 0 where
+  pub frame : next ≡ record old { prepared = next.prepared; prime = next.prime; low = next.low }
+  pub prepared : (next.prepared ≡ old.prepared) ⊎ IsSomeAnd next.prepared (λ x. Accepted b (Prepared x) × IsAbove x old.prepared)
+  pub prime : ForSome next.prime (λ x. (IsHeld old x ⊎ Accepted b (Prepared x)) × IsSomeAnd next.prepared (λ p. FitsUnder x p))
+  pub kept : (x : Ballot) → IsHeld old x → IsSomeAnd next.prepared (λ p. FitsUnder x p) → IsSomeAnd next.prime (λ y. AtMost x y)
+  pub low : ((next.low ≡ None) × IsSomeAnd old.high (λ h. IsOver next.prepared h ⊎ IsOver next.prime h)) ⊎ ((next.low ≡ old.low) × ForSome old.high (λ h. NoneOver next h))
+
+-- Accept prepared, in the phase Confirm.
+pub record AcceptsMore (b : Seen) (old next : State) : Type 0 where
+  pub frame : next ≡ record old { prepared = next.prepared }
+  pub prepared : IsSomeAnd next.prepared (λ x. Accepted b (Prepared x) × IsAbove x old.prepared × IsSomeAnd old.low (λ c. x.value ≡ c.value) × (x.counter ≢ 0))
+
+-- How a newly confirmed ballot comes into the state.
+abbrev pub Joins : Ballot → State → State → Type 0
+Joins x old next =
+    (ForSome old.present (λ b. IsLess b x) × (next.present ≡ Some x) × (next.high ≡ Some x))
+    ⊎ (IsSomeAnd old.present (λ b. AtMost x b × (x.value ≡ b.value)) × (next.present ≡ old.present) × (next.high ≡ Some x))
+    ⊎ (IsSomeAnd old.present (λ b. AtMost x b × (x.value ≢ b.value)) × (next.present ≡ old.present) × (next.high ≡ old.high))
+
+-- The low end is kept where it is compatible with the present ballot; else the present ballot is voted for where it is
+-- the high end and none is over it; else there is none.
+abbrev pub LowAfter : State → State → Type 0
+LowAfter old next =
+    ((next.low ≡ old.low) × IsSomeAnd old.low (λ c. IsSomeAnd next.present (λ b. c.value ≡ b.value)))
+    ⊎ (ForSome old.low (λ c. ForSome next.present (λ b. c.value ≢ b.value))
+    × IsSomeAnd next.high (λ h. (next.present ≡ Some h) × (next.low ≡ Some h) × NoneOver old h))
+    ⊎ ((next.low ≡ None) × ForSome next.high (λ h. next.present ≡ Some h → IsOver old.prepared h ⊎ IsOver old.prime h) × ForSome old.low (λ c. ForSome next.present (λ b. c.value ≢ b.value)))
+
+-- Confirm prepared, in the phase Prepare.
+pub record ConfirmsPrepared (b : Seen) (old next : State) : Type 0 where
+  pub frame : next ≡ record old { present = next.present; confirmed = next.confirmed; high = next.high; low = next.low }
+  pub confirmed : ((next.confirmed ≡ old.confirmed) × (next.present ≡ old.present) × (next.high ≡ old.high))
+      ⊎ IsSomeAnd next.confirmed (λ x. (x.counter ≢ 0) × Confirmed b (Prepared x) × IsAbove x old.confirmed × Joins x old next)
+  pub low : LowAfter old next
+
+-- Accept commit, in the phases Prepare and Confirm.
+pub record AcceptsCommit (b : Seen) (old next : State) : Type 0 where
+  pub phase : next.phase ≡ Confirm
+  pub range : IsSomeAnd next.low (λ c. IsSomeAnd next.high (λ h. (c.counter ≢ 0) × (c.value ≡ h.value) × (c.counter ≤ h.counter) × Accepted b (Committed c.counter h.counter h.value)
+      × IsSomeAnd next.present (λ p. (h.value ≡ p.value) × (h.counter ≤ p.counter))))
+  pub prepared : ForSome next.prepared (λ x. IsHeld old x × IsSomeAnd next.low (λ c. x.value ≡ c.value))
+  pub prime : next.prime ≡ None
+
+-- Confirm commit, in the phase Confirm.
+pub record ConfirmsCommit (b : Seen) (old next : State) : Type 0 where
+  pub phase : next.phase ≡ Externalize
+  pub range : IsSomeAnd next.low (λ c. IsSomeAnd next.high (λ h. (c.counter ≢ 0) × (c.value ≡ h.value) × (c.counter ≤ h.counter) × Confirmed b (Committed c.counter h.counter h.value)))
+
+-- A higher counter, in the phase Prepare.
+pub record Raises (old next : State) : Type 0 where
+  pub frame : next ≡ record old { present = next.present; high = next.high; low = next.low }
+  pub value : HasValue old
+  pub present : IsSomeAnd next.present (λ b. (counter_of old.present < b.counter) × ForSome old.confirmed (λ w. b.value ≡ w.value))
+  pub high : ForSome old.confirmed (λ w. next.high ≡ Some w)
+  pub no_high : old.confirmed ≡ None → next.high ≡ old.high
+  pub low : (next.low ≡ None) ⊎ ((next.low ≡ old.low) × ForSome old.low (λ c. IsSomeAnd next.present (λ b. c.value ≡ b.value)))
+
+-- A higher counter, in the phase Confirm.
+pub record RaisesMore (old next : State) : Type 0 where
+  pub frame : next ≡ record old { present = next.present }
+  pub present : IsSomeAnd next.present (λ b. (counter_of old.present < b.counter) × IsSomeAnd old.low (λ c. b.value ≡ c.value))
+
+-- A composite comes: it is kept, and a first ballot is made of it.
+pub record Composes (z : List ℕ) (old next : State) : Type 0 where
+  pub frame : next ≡ record old { present = next.present; composite = Some z }
+  pub present : ((next.present ≡ old.present) × IsSome old.present) ⊎ ((old.present ≡ None) × (next.present ≡ Some (record { counter = 1; value = z })))
+
+-- What a further accepted commit does besides, in the phase Confirm.
+pub record Grows (old next : State) : Type 0 where
+  pub prepared : next.prepared ≡ old.prepared
+  pub high : counter_of old.high < counter_of next.high
+  pub present : ForSome old.present (λ b. IsSomeAnd next.present (λ p. AtMost b p))
+
+-- One rule was applied.
+abbrev pub IsStep : Seen → State → State → Type 0
+IsStep b old next =
+    ((old.phase ≡ Prepare) × (AcceptsPrepared b old next ⊎ ConfirmsPrepared b old next ⊎ AcceptsCommit b old next ⊎ Raises old next))
+    ⊎ ((old.phase ≡ Confirm) × (AcceptsMore b old next ⊎ (AcceptsCommit b old next × Grows old next) ⊎ ConfirmsCommit b old next ⊎ RaisesMore old next))
+
+-- An input or a rule changed the state: one rule, or a composite in the phase Prepare.
+abbrev pub IsChange : Seen → State → State → Type 0
+IsChange b old next = IsStep b old next ⊎ ((old.phase ≡ Prepare) × (z : List ℕ) × Composes z old next)
+
+-- the value for a raised ballot, in the phase Prepare: that of w, else z, else that of p
+abbrev pub raised_value : Option Ballot → Option (List ℕ) → Option Ballot → Option (List ℕ)
+raised_value (Some w) z p = Some w.value
+raised_value None (Some z) p = Some z
+raised_value None None (Some p) = Some p.value
+raised_value None None None = None

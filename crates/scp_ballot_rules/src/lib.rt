@@ -1,0 +1,9 @@
+//! The ballots of one slot (the SCP draft, in this project's profile): the state of a node's ballots, what it says in that
+//! state, what each rule may do to it, and what is owed.
+#![tactic(auto)]
+
+mod own;
+mod state;
+
+pub use own::{copy_some, counter, pledges_of};
+pub use state::{Phase, State};
