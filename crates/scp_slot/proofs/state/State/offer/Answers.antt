@@ -1,0 +1,23 @@
+use Rattle.std.proofs.Common.{◌≡◌, ◌≢◌, Bool, true, false, Option, Some, None, refl, sym, ◌∙◌, ap, subst, inl, inr, rules}
+use Rattle.scp_nominate.specs.Nomination as nominate
+use Rattle.scp_ballot.specs.Balloting as ballot
+use Rattle.scp_slot.specs.declared.output.SlotOutput.{SlotOutput}
+use Rattle.scp_slot.specs.declared.output.Verdict.TheVariants.{Fresh, Idle}
+use Rattle.scp_slot.specs.Slot.{SlotView, view_of}
+use Rattle.scp_slot.specs.Takes.{Cases, ballots_given}
+use Rattle.std.specs.Prelude.{IsSome}
+use Rattle.scp_slot.proofs.Making.{after, moves_by, kept_by}
+use Rattle.scp_slot.proofs.state.State.offer.Goals as goal
+
+pub returns-clause-passes : goal.returns-clause-passes
+returns-clause-passes g c =
+    let old : SlotView = view_of c.args.self.now false in
+    let new : SlotView = view_of c.balloted.new.self false in
+    let e = after _ _ c.balloted.ensures.new in
+    let b : ballot.Ballots = ballot.ballots c.candidate.new.self in
+    let is : new.ballots ≡ b = ap (λ (v : SlotView). v.ballots) e in
+    record {
+      ballots = moves_by old b c.balloted.result new c.in_ok-given.given (ap (λ (o : SlotOutput). ballots_given o) c.balloted.ensures.out) is (ap (λ (v : SlotView). v.more) e) (ap (λ (v : SlotView). v.decided) e) c.in_ok-given.ensures.advances (λ had. c.in_ok-given.ensures.ballot) c.in_ok-given.ensures.working.1;
+      has_ballot = subst (λ (x : ballot.Ballots). ballot.HasBallot x) (sym is) c.in_ok-given.ensures.ballot;
+      others = kept_by old.ballots new.ballots b is c.in_ok-given.ensures.others;
+    }

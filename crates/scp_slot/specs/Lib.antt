@@ -1,0 +1,4 @@
+pub mod Newest
+pub mod Judged
+pub mod Slot
+pub mod Takes

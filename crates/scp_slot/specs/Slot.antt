@@ -1,0 +1,88 @@
+-- The machine of one slot as its contracts see it.
+use Rattle.std.specs.Prelude.{◌≡◌, ◌≢◌, ◌↔◌, ◌⊎◌, ℕ, List, [], Bool, true, false, Option, None}
+use Rattle.std.specs.Option.{option_map}
+use Rattle.scp_types.specs.declared.names.NodeId.{NodeId}
+use Rattle.scp_quorum.specs.QuorumTree.{QuorumTree}
+use Rattle.scp_driver.specs.declared.driver.Level.{Level}
+use Rattle.scp_vote.specs.declared.claim.StatementKind.{StatementKind}
+use Rattle.scp_vote.specs.declared.claim.StatementKind.TheVariants.{Nomination as Nominating, Balloting}
+use Rattle.scp_vote.specs.Board.{Seen, counted_of_other}
+use Rattle.scp_nominate.specs.Nomination as nominate
+use Rattle.scp_nominate.specs.Nomination.{Nomination, nomination}
+use Rattle.scp_ballot_rules.specs.Owed.{OwesNothing}
+use Rattle.scp_ballot.specs.Balloting as ballot
+use Rattle.scp_ballot.specs.Balloting.{Ballots, ballots, IsDecided, HasBallot}
+use Rattle.scp_slot.specs.declared.newest.Heard.{Heard}
+use Rattle.scp_slot.specs.declared.state.State.{State}
+use Rattle.scp_slot.specs.declared.machine.SlotMachine.{SlotMachine}
+use Rattle.scp_slot.specs.Newest.{newest_of}
+
+-- What a slot's machine knows: this node and the slot, what nomination and ballots know, with the board of each, the newest
+-- fresh statement of each other node and kind with its set, whether it decided, what `more` the ballots gave last, and whether
+-- it failed.
+pub record SlotView : Type 0 where
+  pub me : NodeId
+  pub slot : ℕ
+  pub nomination : Nomination
+  pub ballots : Ballots
+  pub newest : StatementKind → NodeId → Option Heard
+  pub decided : Bool
+  pub more : Bool
+  pub failed : Bool
+
+abbrev pub view_of : {D : Type 0} → State D → Bool → SlotView
+view_of s failed =
+    record { me = s.me; slot = s.slot.0; nomination = nomination s.nominator; ballots = ballots s.balloter; newest = newest_of s.newest; decided = s.decided; more = s.more; failed = failed }
+
+abbrev pub slot_view : {D : Type 0} → SlotMachine D → SlotView
+slot_view m = view_of m.state m.failed
+
+abbrev pub driver_of : {D : Type 0} → SlotMachine D → D
+driver_of m = nominate.driver_of m.state.nominator
+
+-- the board has the newest fresh statement of each other node, and counts the set that came with it; of an EXTERNALIZE that node
+-- alone is counted
+pub record Shows (b : Seen) (newest : NodeId → Option Heard) : Type 0 where
+  pub statements : (v : NodeId) → v ≢ b.me → b.statement v ≡ option_map (λ (h : Heard). h.statement.pledges) (newest v)
+  pub sets : (v : NodeId) → v ≢ b.me → b.counted v ≡ option_map (λ (h : Heard). counted_of_other v h.statement.pledges h.set.value) (newest v)
+
+-- What holds of a machine that hasn't failed: nomination and ballots are those of this node and slot, with one quorum set; their
+-- boards have the newest fresh statements of the others; it decided where the own ballot statement is an EXTERNALIZE; where there
+-- is a candidate the own ballot statement is no PREPARE of counter 0; and the ballots owe nothing, unless they left their rules at
+-- the limit.
+pub record IsRunning (v : SlotView) : Type 0 where
+  pub nominating : v.nomination.failed ≡ false
+  pub balloting : v.ballots.failed ≡ false
+  pub me : v.nomination.board.me ≡ v.me
+  pub ballots_me : v.ballots.board.me ≡ v.me
+  pub slot : v.nomination.slot ≡ v.slot
+  pub ballots_slot : v.ballots.slot ≡ v.slot
+  pub local : v.ballots.board.local ≡ v.nomination.board.local
+  pub nominations : Shows v.nomination.board (v.newest Nominating)
+  pub statements : Shows v.ballots.board (v.newest Balloting)
+  pub decided : (v.decided ≡ true) ↔ IsDecided v.ballots
+  pub ballot : v.nomination.lists.candidates ≢ [] → HasBallot v.ballots
+  pub owed : v.more ≡ false → OwesNothing v.ballots.hash v.ballots.board
+
+-- by its driver's levels and places, nomination owes nothing
+abbrev pub OwesNoVote : {D : Type 0} → (D → ℕ → List ℕ → Level) → (D → ℕ → ℕ → ℕ → ℕ) → SlotMachine D → Type 0
+OwesNoVote level place m = nominate.IsPaid level place m.state.nominator
+
+-- Between inputs, while it hasn't failed.
+pub record IsWorking {D : Type 0} (level : D → ℕ → List ℕ → Level) (place : D → ℕ → ℕ → ℕ → ℕ) (s : State D) : Type 0 where
+  pub running : IsRunning (view_of s false)
+  pub nominator : nominate.IsSound level place s.nominator
+
+abbrev pub IsSound : {D : Type 0} → (D → ℕ → List ℕ → Level) → (D → ℕ → ℕ → ℕ → ℕ) → SlotMachine D → Type 0
+IsSound level place m = m.failed ≡ false → IsWorking level place m.state
+
+-- A machine that has heard and said nothing.
+pub record Begins (node : NodeId) (number : ℕ) (set : QuorumTree) (v : SlotView) : Type 0 where
+  pub me : v.me ≡ node
+  pub slot : v.slot ≡ number
+  pub nomination : nominate.Begins node number set v.nomination
+  pub ballots : ballot.Begins node number set v.ballots
+  pub newest : (kind : StatementKind) (u : NodeId) → v.newest kind u ≡ None
+  pub decided : v.decided ≡ false
+  pub more : v.more ≡ false
+  pub failed : v.failed ≡ false

@@ -1,0 +1,192 @@
+-- What one input does to the machine of a slot.
+use Rattle.std.specs.Prelude.{◌≡◌, ◌≢◌, ◌<◌, ◌≤◌, ◌+◌, ◌⊎◌, ◌↔◌, ℕ, List, length, Bool, true, false, Option, Some, None, IsSome, is_some}
+use Rattle.std.specs.Option.{ForSome}
+use Rattle.std.specs.declared.sync.Arc.{Arc}
+use Rattle.std.specs.Global.{Global}
+use Rattle.scp_quorum.specs.declared.sane_set.SaneSet.{SaneSet}
+use Rattle.scp_envelope.specs.declared.statement.Statement.{Statement}
+use Rattle.scp_envelope.specs.declared.statement.Envelope.{Envelope as Enveloped}
+use Rattle.scp_envelope.specs.Sane.{IsSane}
+use Rattle.scp_driver.specs.declared.driver.Level.{Level}
+use Rattle.scp_driver.specs.declared.driver.Level.TheVariants.{FullyValidated}
+use Rattle.scp_vote.specs.declared.claim.StatementKind.{StatementKind}
+use Rattle.scp_vote.specs.declared.claim.StatementKind.TheVariants.{Nomination as Nominating, Balloting}
+use Rattle.scp_vote.specs.Board.{kind_of_pledges, counted_of_other}
+use Rattle.scp_nominate.specs.declared.nominated.Nominated.{Nominated}
+use Rattle.scp_nominate.specs.Nomination as nominate
+use Rattle.scp_ballot.specs.declared.balloted.Balloted.{Balloted}
+use Rattle.scp_ballot.specs.Balloting as ballot
+use Rattle.scp_slot.specs.declared.newest.Heard.{Heard}
+use Rattle.scp_slot.specs.declared.output.SlotInput.{SlotInput}
+use Rattle.scp_slot.specs.declared.output.SlotInput.TheVariants.{Propose, Round, Timer, Envelope}
+use Rattle.scp_slot.specs.declared.output.SlotOutput.{SlotOutput}
+use Rattle.scp_slot.specs.declared.output.Verdict.{Verdict}
+use Rattle.scp_slot.specs.declared.output.Verdict.TheVariants.{Fresh, Stale, Own, BadStatement, BadValue, Idle}
+use Rattle.scp_slot.specs.Judged.{HasInvalid, IsBehind}
+use Rattle.scp_slot.specs.Newest.{Puts}
+use Rattle.scp_slot.specs.Slot.{SlotView}
+
+-- nothing but the verdict
+abbrev pub quiet : Verdict → Bool → SlotOutput
+quiet verdict more = record { verdict = verdict; emitted = record { nomination = None; ballot = None }; decided = None; more = more }
+
+-- Nothing changes, and nothing is given but the verdict.
+pub record Rests (verdict : Verdict) (old : SlotView) (out : SlotOutput) (new : SlotView) : Type 0 where
+  pub same : new ≡ old
+  pub quiet : out ≡ quiet verdict old.more
+
+-- A where P holds, else B
+abbrev pub Cases : Type 0 → Type 0 → Type 0 → Type 0
+Cases P A B = (P × A) ⊎ ((¬ P) × B)
+
+-- what the ballots gave of an output
+abbrev pub ballots_given : SlotOutput → Balloted
+ballots_given out = record { statement = out.emitted.ballot; decided = out.decided; more = out.more }
+
+-- The ballots take an input: what they give is given.
+pub record Ballots (old : SlotView) (out : SlotOutput) (new : SlotView) : Type 0 where
+  pub advances : ballot.Advances old.ballots new.ballots (ballots_given out)
+  pub has_ballot : ballot.HasBallot old.ballots → ballot.HasBallot new.ballots
+  pub working : new.ballots.failed ≡ false
+  pub more : new.more ≡ out.more
+  pub settled : new.decided ≡ is_some out.decided
+
+-- The ballots stay, and give nothing.
+pub record BallotsRest (old : SlotView) (out : SlotOutput) (new : SlotView) : Type 0 where
+  pub ballots : new.ballots ≡ old.ballots
+  pub emitted : out.emitted.ballot ≡ None
+  pub decided : out.decided ≡ None
+  pub more : out.more ≡ old.more
+  pub still : new.more ≡ old.more
+  pub settled : new.decided ≡ old.decided
+
+-- A composite goes to the ballots as their candidate.
+pub record Candidate (old : SlotView) (out : SlotOutput) (new : SlotView) : Type 0 where
+  pub ballots : Ballots old out new
+  pub has_ballot : ballot.HasBallot new.ballots
+  pub others : ballot.KeepsOthers old.ballots.board new.ballots.board
+
+abbrev pub PassesOn : Option (List ℕ) → SlotView → SlotOutput → SlotView → Type 0
+PassesOn None old out new = BallotsRest old out new
+PassesOn (Some composite) old out new = Candidate old out new
+
+-- what the nomination gave of an output, beside a composite
+abbrev pub nomination_given : SlotOutput → Option (List ℕ) → Nominated
+nomination_given out composite = record { statement = out.emitted.nomination; composite = composite }
+
+-- The nomination takes an input: what it gives is given, and a composite is passed on.
+pub record Nominates (combined : List (List ℕ) → List ℕ) (old : SlotView) (out : SlotOutput) (new : SlotView) : Type 0 where
+  pub composite : Option (List ℕ)
+  pub advances : nominate.Advances combined (nominate.own old.nomination) old.nomination.lists new.nomination (nomination_given out composite)
+  pub making : nominate.KeepsMaking old.nomination new.nomination
+  pub working : new.nomination.failed ≡ false
+  pub passed : PassesOn composite old out new
+  pub verdict : out.verdict ≡ Fresh
+
+-- Who the machine is stays.
+pub record IsSameMachine (old new : SlotView) : Type 0 where
+  pub me : new.me ≡ old.me
+  pub slot : new.slot ≡ old.slot
+
+-- The first proposal.
+pub record Proposes (combined : List (List ℕ) → List ℕ) (value : List ℕ) (old : SlotView) (out : SlotOutput) (new : SlotView) : Type 0 where
+  pub machine : IsSameMachine old new
+  pub nominates : Nominates combined old out new
+  pub proposal : new.nomination.proposal ≡ Some value
+  pub rounds : new.nomination.rounds ≡ old.nomination.rounds
+  pub others : nominate.KeepsOthers old.nomination.board new.nomination.board
+  pub newest : new.newest ≡ old.newest
+
+-- One round more.
+pub record AddsRound (combined : List (List ℕ) → List ℕ) (old : SlotView) (out : SlotOutput) (new : SlotView) : Type 0 where
+  pub machine : IsSameMachine old new
+  pub nominates : Nominates combined old out new
+  pub proposal : new.nomination.proposal ≡ old.nomination.proposal
+  pub rounds : new.nomination.rounds ≡ old.nomination.rounds + 1
+  pub others : nominate.KeepsOthers old.nomination.board new.nomination.board
+  pub newest : new.newest ≡ old.newest
+
+-- A timer. It is fresh where an own ballot statement is emitted.
+pub record Times (old : SlotView) (out : SlotOutput) (new : SlotView) : Type 0 where
+  pub machine : IsSameMachine old new
+  pub ballots : Ballots old out new
+  pub raises : ballot.RaisesCounter old.ballots new.ballots
+  pub others : ballot.KeepsOthers old.ballots.board new.ballots.board
+  pub nomination : new.nomination ≡ old.nomination
+  pub emitted : out.emitted.nomination ≡ None
+  pub newest : new.newest ≡ old.newest
+  pub verdict : Cases (IsSome out.emitted.ballot) (out.verdict ≡ Fresh) (out.verdict ≡ Idle)
+
+abbrev pub Shared : Type 0
+Shared = Arc SaneSet Global
+
+-- the statement with its set stands in the place of the newest of its node and kind
+pub record Enters (e : Enveloped) (set : Shared) (old new : SlotView) : Type 0 where
+  pub heard : Heard
+  pub statement : heard.statement ≡ e.statement
+  pub with_set : heard.set.value ≡ set.value
+  pub puts : Puts old.newest new.newest heard
+
+-- A fresh NOMINATE.
+pub record HearsNomination (combined : List (List ℕ) → List ℕ) (e : Enveloped) (set : Shared) (old : SlotView) (out : SlotOutput) (new : SlotView) : Type 0 where
+  pub machine : IsSameMachine old new
+  pub nominates : Nominates combined old out new
+  pub proposal : new.nomination.proposal ≡ old.nomination.proposal
+  pub rounds : new.nomination.rounds ≡ old.nomination.rounds
+  pub hears : nominate.Hears old.nomination.board new.nomination.board e.statement.node e.statement.pledges (counted_of_other e.statement.node e.statement.pledges set.value)
+  pub enters : Enters e set old new
+
+-- A fresh ballot statement.
+pub record HearsBallot (e : Enveloped) (set : Shared) (old : SlotView) (out : SlotOutput) (new : SlotView) : Type 0 where
+  pub machine : IsSameMachine old new
+  pub ballots : Ballots old out new
+  pub hears : ballot.Hears old.ballots.board new.ballots.board e.statement.node e.statement.pledges (counted_of_other e.statement.node e.statement.pledges set.value)
+  pub nomination : new.nomination ≡ old.nomination
+  pub emitted : out.emitted.nomination ≡ None
+  pub enters : Enters e set old new
+  pub verdict : out.verdict ≡ Fresh
+
+abbrev pub HearsKind : StatementKind → (List (List ℕ) → List ℕ) → Enveloped → Shared → SlotView → SlotOutput → SlotView → Type 0
+HearsKind Nominating combined e set old out new = HearsNomination combined e set old out new
+HearsKind Balloting combined e set old out new = HearsBallot e set old out new
+
+abbrev pub HearsFresh : (List (List ℕ) → List ℕ) → Enveloped → Shared → SlotView → SlotOutput → SlotView → Type 0
+HearsFresh combined e set old out new = HearsKind (kind_of_pledges e.statement.pledges) combined e set old out new
+
+-- the newest statement of the node and kind
+abbrev pub last_of : SlotView → Statement → Option Heard
+last_of v s = v.newest (kind_of_pledges s.pledges) s.node
+
+-- An envelope: its verdict is the first that fits, and only a fresh one is taken in.
+abbrev pub TakesEnvelope : (List ℕ → Level) → (List (List ℕ) → List ℕ) → Enveloped → Shared → SlotView → SlotOutput → SlotView → Type 0
+TakesEnvelope level combined e set old out new =
+    Cases (e.statement.node ≡ old.me) (Rests Own old out new)
+    (Cases (¬ (IsSane e.statement.pledges)) (Rests BadStatement old out new)
+    (Cases (HasInvalid level e.statement.pledges) (Rests BadValue old out new)
+    (Cases (IsBehind (last_of old e.statement) e.statement) (Rests Stale old out new)
+    (HearsFresh combined e set old out new))))
+
+-- An input before the decision.
+abbrev pub TakesInput : (List ℕ → Level) → (List (List ℕ) → List ℕ) → SlotInput → SlotView → SlotOutput → SlotView → Type 0
+TakesInput level combined (Propose value) old out new =
+    Cases (level value ≢ FullyValidated) (Rests BadValue old out new) (Cases (IsSome old.nomination.proposal) (Rests Idle old out new) (Proposes combined value old out new))
+TakesInput level combined Round old out new = Cases (length old.nomination.nodes ≤ old.nomination.rounds) (Rests Idle old out new) (AddsRound combined old out new)
+TakesInput level combined Timer old out new = Times old out new
+TakesInput level combined (Envelope e set) old out new = TakesEnvelope level combined e set old out new
+
+-- An input; after the decision none changes anything.
+abbrev pub Takes : (List ℕ → Level) → (List (List ℕ) → List ℕ) → SlotInput → SlotView → SlotOutput → SlotView → Type 0
+Takes level combined input old out new = Cases (old.decided ≡ true) (Rests Idle old out new) (TakesInput level combined input old out new)
+
+-- an envelope is given to the machine of its slot
+abbrev pub IsOfSlot : ℕ → SlotInput → Type 0
+IsOfSlot slot (Propose value) = Unit {0}
+IsOfSlot slot Round = Unit {0}
+IsOfSlot slot Timer = Unit {0}
+IsOfSlot slot (Envelope e set) = e.statement.slot.0 ≡ slot
+
+-- A decision is given exactly at the input that makes the own ballot statement an EXTERNALIZE, with its certificate on the board
+-- as it is then.
+pub record Decides (old : SlotView) (out : SlotOutput) (new : SlotView) : Type 0 where
+  pub exactly : IsSome out.decided ↔ ((ballot.IsDecided old.ballots → ⊥) × ballot.IsDecided new.ballots)
+  pub certified : ForSome out.decided (λ d. ballot.IsCertified new.ballots d)

@@ -1,0 +1,46 @@
+//! The verdict on an envelope.
+ghost use Rattle.std.specs.Prelude.{◌≡◌, ◌⊎◌, ◌↔◌, IsTrue, IsSomeAnd};
+ghost use Rattle.std.specs.Option.{ForSome};
+ghost use Rattle.scp_slot.specs.Judged.{IsInvalid, HasInvalid};
+
+use scp_driver::{Driver, Level};
+use scp_envelope::{Pledges, Prepare};
+use scp_types::{Ballot, Slot, Value};
+
+/// Whether the driver calls the value invalid.
+fn is_invalid<D: Driver>(driver: &D, slot: Slot, value: &Value) -> bool
+    ensures { IsTrue result ↔ IsInvalid (D.level driver.now slot.0) value.now }
+{
+    driver.validate(slot, value) == Level::Invalid
+}
+
+/// Whether the ballot, if there is one, has an invalid value.
+fn has_invalid_value<D: Driver>(driver: &D, slot: Slot, ballot: &Option<Ballot>) -> bool
+    ensures { IsTrue result ↔ IsSomeAnd ballot.now (λ b. IsInvalid (D.level driver.now slot.0) b.value) }
+{
+    match ballot {
+        Some(ballot) => is_invalid(driver, slot, &ballot.value),
+        None => false,
+    }
+}
+
+/// Whether a PREPARE has an invalid value.
+fn is_bad_prepare<D: Driver>(driver: &D, slot: Slot, prepare: &Prepare) -> bool
+    ensures { IsTrue result ↔ HasInvalid (D.level driver.now slot.0) (Pledges.Prepare prepare.now) }
+{
+    is_invalid(driver, slot, &prepare.ballot.value)
+        || has_invalid_value(driver, slot, &prepare.prepared)
+        || has_invalid_value(driver, slot, &prepare.prepared_prime)
+}
+
+/// Whether they are of a ballot statement that has an invalid value.
+pub(crate) fn has_invalid<D: Driver>(driver: &D, slot: Slot, pledges: &Pledges) -> bool
+    ensures { IsTrue result ↔ HasInvalid (D.level driver.now slot.0) pledges.now }
+{
+    match pledges {
+        Pledges::Prepare(prepare) => is_bad_prepare(driver, slot, prepare),
+        Pledges::Confirm(confirm) => is_invalid(driver, slot, &confirm.ballot.value),
+        Pledges::Externalize(externalize) => is_invalid(driver, slot, &externalize.commit.value),
+        Pledges::Nominate(_) => false,
+    }
+}

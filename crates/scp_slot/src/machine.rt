@@ -1,0 +1,87 @@
+//! The machine of one slot.
+ghost use Rattle.std.specs.Prelude.{◌≡◌, ◌⊎◌, true, false, IfOk, IfErr, OnOk, OnErr, IsOkUnless};
+
+use crate::output::{SlotInput, SlotOutput};
+use crate::state::State;
+use scp_driver::Driver;
+use scp_quorum::SaneSet;
+use scp_types::{Fault, NodeId, Slot};
+use std::alloc::Global;
+use std::sync::Arc;
+
+/// What a node knows and says of one slot, by its driver. After a refusal it is failed, and answers `Fault::Failed` from then on.
+#[derive(Drop)]
+pub struct SlotMachine<D: Driver + Drop> {
+    state: State<D>,
+    failed: bool,
+}
+
+impl<D: Driver + Drop> SlotMachine<D> {
+    ghost use Rattle.scp_slot.specs.Slot.{slot_view, driver_of, Begins, IsRunning, IsSound, OwesNoVote};
+    ghost use Rattle.scp_slot.specs.Takes.{Takes, Decides, IsOfSlot};
+
+    /// The machine of a slot of which nothing was heard or said. The one refusal is `Fault::NoMemory`.
+    pub fn new(
+        alloc: Global,
+        me: NodeId,
+        slot: Slot,
+        set: Arc<SaneSet>,
+        driver: D,
+    ) -> Result<SlotMachine<D>, Fault>
+        ensures begins { IfOk result (λ made. Begins me slot.0 set.value (slot_view made)) }
+        ensures driver { IfOk result (λ made. driver_of made ≡ driver) }
+        ensures running { IfOk result (λ made. IsRunning (slot_view made)) }
+        ensures sound { IfOk result (λ made. IsSound D.level D.place made) }
+        ensures only_memory { IsOkUnless result Fault.NoMemory }
+    {
+        let state = State::new(alloc, me, slot, set, driver)?;
+        Ok(SlotMachine {
+            state,
+            failed: false,
+        })
+    }
+
+    /// The slot.
+    pub fn slot(&self) -> Slot
+        ensures same { result.0 ≡ (slot_view self.now).slot }
+    {
+        self.state.slot
+    }
+
+    /// Whether the slot is decided by this machine.
+    pub fn is_decided(&self) -> bool
+        ensures same { result ≡ (slot_view self.now).decided }
+    {
+        self.state.decided
+    }
+
+    /// Takes one input: an envelope is one of this slot, with the quorum set that it names. Its verdict is the first that fits of
+    /// those that `Verdict` lists for it; only what is fresh, and a timer, is taken in; after the decision nothing changes any
+    /// more. Refused by `Failed` once a call was refused, else by `NoMemory`.
+    pub fn input(&mut self, input: SlotInput) -> Result<SlotOutput, Fault>
+        requires sound { IsSound D.level D.place self.old }
+        requires of_slot { IsOfSlot (slot_view self.old).slot input }
+        // The verdict, what is taken in, and what is given.
+        ensures takes { IfOk result (λ out. Takes (D.level (driver_of self.old) (slot_view self.old).slot) (D.combined (driver_of self.old) (slot_view self.old).nomination.slot) input (slot_view self.old) out (slot_view self.new)) }
+        // A decision comes once, with its certificate.
+        ensures decides { IfOk result (λ out. Decides (slot_view self.old) out (slot_view self.new)) }
+        // The boards are those of the newest fresh envelopes, and the ballots owe nothing on them.
+        ensures running { OnOk result (IsRunning (slot_view self.new)) }
+        // Nomination owes nothing.
+        ensures owed { OnOk result (OwesNoVote D.level D.place self.new) }
+        ensures driver { OnOk result (driver_of self.new ≡ driver_of self.old) }
+        ensures refused { IfErr result (λ f. ((f ≡ Fault.Failed) × ((slot_view self.old).failed ≡ true)) ⊎ ((f ≡ Fault.NoMemory) × ((slot_view self.old).failed ≡ false))) }
+        ensures whole { OnOk result (((slot_view self.old).failed ≡ false) × ((slot_view self.new).failed ≡ false)) }
+        ensures failed { OnErr result ((slot_view self.new).failed ≡ true) }
+        ensures same { (slot_view self.old).failed ≡ true → self.new ≡ self.old }
+        ensures sound { IsSound D.level D.place self.new }
+    {
+        if self.failed {
+            return Err(Fault::Failed);
+        }
+        self.failed = true;
+        let out = self.state.enter(input)?;
+        self.failed = false;
+        Ok(out)
+    }
+}
