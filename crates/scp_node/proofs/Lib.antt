@@ -1,0 +1,12 @@
+pub mod Queues
+pub mod Links
+pub mod Deciding
+pub mod Steps
+pub mod Holding
+pub mod Starting
+pub mod Accounts
+pub mod Handlers
+pub mod Decided
+pub mod Caused
+pub mod Rooms
+pub mod Zipped

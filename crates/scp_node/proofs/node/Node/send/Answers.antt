@@ -1,0 +1,12 @@
+use Rattle.std.proofs.Common.{◌∙◌, ap, sym, subst}
+use Rattle.scp_types.specs.declared.names.NodeId.{NodeId}
+use Rattle.scp_node.specs.History.{peer_at}
+use Rattle.scp_node.specs.Node.{NodeView}
+use Rattle.scp_node.specs.inside.Links.{Sends, OnLinks}
+use Rattle.scp_node.proofs.Handlers.{send-step}
+use Rattle.scp_node.proofs.node.Node.send.Goals as goal
+
+pub returns : goal.returns
+returns c =
+    let from = c.peer-from.ensures ∙ ap (λ (v : NodeView). peer_at v.config c.args.link) (sym c.self.view_is) in
+    rw (← c.self.view_is) (send-step _ c.args.link c.args.bytes _ _ (ap (λ (v : NodeView). v.failed) c.self.view_is ∙ c.requires) (subst (λ (q : NodeId). OnLinks (Sends q c.self.inside.me c.args.bytes) c.self.inside.links.items c.args.link c.send.result c.send.new.links.items) from c.send.ensures))

@@ -1,0 +1,10 @@
+use Rattle.std.proofs.Common.{rules, ◌≡◌, true}
+use Rattle.std.specs.Prelude.{is_ok}
+use Rattle.scp_node.proofs.Handlers.{on_ok}
+use Rattle.scp_node.proofs.running.run.Goals as goal
+
+pub returns-clause-theorem : goal.returns-clause-theorem
+returns-clause-theorem c = let ok : is_ok c.answer_all.result ≡ true = search rules in on_ok _ c.answer_all.result ok c.answer_all.ensures.theorem
+
+pub returns-clause-count : goal.returns-clause-count
+returns-clause-count c = let ok : is_ok c.answer_all.result ≡ true = search rules in on_ok _ c.answer_all.result ok c.answer_all.ensures.count

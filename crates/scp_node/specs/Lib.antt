@@ -1,0 +1,13 @@
+pub mod Config
+pub mod Stages
+pub mod History
+pub mod Node
+pub mod Flow
+pub mod Theorem
+pub mod Accounts
+pub mod Decisions
+pub mod Applied
+pub mod Settled
+pub mod Causes
+pub mod Room
+pub mod inside

@@ -1,0 +1,219 @@
+-- What clients see of a node, and what one event does to it: the table of replies.
+use Rattle.std.specs.Prelude.{ℕ, ◌+◌, ◌-◌, ◌<◌, ◌≡◌, ◌≢◌, Bool, true, false, List, [], ◌∷◌, ◌++◌, ◌⊎◌, Option, Some, None, IsSome, length, map, slice_get, slice_set, option_to_list}
+use Rattle.scp_types.specs.declared.names.NodeId.{NodeId}
+use Rattle.scp_wire.specs.declared.message.Message.{Message}
+use Rattle.scp_wire.specs.declared.link.LinkItem.{LinkItem}
+use Rattle.scp_wire.specs.declared.link.LinkItem.TheVariants as item
+use Rattle.scp_wire.specs.declared.link.Inbound.{Inbound}
+use Rattle.scp_wire.specs.declared.link.Inbound.TheVariants as inbound
+use Rattle.scp_wire.specs.LinkReading.{ReaderView, unread, reading, after}
+use Rattle.scp_wire.specs.Connections.{conn_at}
+use Rattle.scp_pending.specs.declared.ready.Ready.{Ready}
+use Rattle.scp_pending.specs.Passes.{Passes}
+use Rattle.scp_pending.specs.Rules.{PendingView, taken_in}
+use Rattle.scp_pending.specs.Pends.{Pends, IsSettled}
+use Rattle.scp_ledger.specs.declared.took.Onward.{Onward}
+use Rattle.scp_ledger.specs.declared.took.Took.{Took}
+use Rattle.scp_ledger.specs.Ledger.{LedgerView, IsLedger}
+use Rattle.scp_ledger.specs.Takes.{Takes, adds_entry}
+use Rattle.scp_apply.specs.Applier.{ApplierView, IsApplier, IsRunning}
+use Rattle.scp_apply.specs.Applier.{Takes as Applies}
+use Rattle.scp_node.specs.declared.config.Config.{Config}
+use Rattle.scp_node.specs.declared.event.Event.{Event}
+use Rattle.scp_node.specs.declared.event.Event.TheVariants.{Open, Send, Close, Local, ReaderTake, ReaderPut, PendTake, PendPut, SlotTake, SlotPut, ApplyTake}
+use Rattle.scp_node.specs.declared.event.Reply.{Reply}
+use Rattle.scp_node.specs.declared.event.Reply.TheVariants.{Failed, NoLink, AlreadyOpen, LivesSpent, NotOpen, Full, Accepted, Blocked, Idle, Moved, JournalFull, NoMemory}
+use Rattle.scp_node.specs.History.{peer_at}
+
+pub record LinkView : Type 0 where
+  pub life : ℕ
+  pub is_open : Bool
+  pub queue : List LinkItem
+  pub room : ℕ  -- the most items that the queue holds
+  pub reader : ReaderView
+  pub hand : Option Inbound
+
+-- a link that was never open
+abbrev pub new_link : ℕ → LinkView
+new_link room = record { life = 0; is_open = false; queue = []; room = room; reader = unread; hand = None }
+
+pub record NodeView : Type 0 where
+  pub config : Config
+  pub failed : Bool
+  pub links : List LinkView
+  pub inbox : List Inbound
+  pub inbox_room : ℕ
+  pub pending : PendingView
+  pub pend_hand : Option Ready
+  pub ready : List Ready
+  pub ready_room : ℕ
+  pub ledger : LedgerView
+  pub slot_hand : Option Onward
+  pub decided : List Onward
+  pub decided_room : ℕ
+  pub applier : ApplierView
+
+-- the link is there, and this holds of it
+abbrev pub AtLink : NodeView → ℕ → (LinkView → Type 0) → Type 0
+AtLink v l P = (k : LinkView) × (slice_get v.links l ≡ Some k) × P k
+
+abbrev pub is_full : LinkView → Type 0
+is_full k = length k.queue ≡ k.room
+
+-- one link is new
+abbrev pub with_link : NodeView → ℕ → LinkView → NodeView
+with_link v l k = record v { links = slice_set v.links l k }
+
+-- an accepted event
+abbrev pub Accepts : NodeView → Event → NodeView → Type 0
+Accepts old (Open l) new = AtLink old l (λ k. (k.is_open ≡ false) × (k.life < 65535) × (length k.queue ≢ k.room) × (new ≡ with_link old l (record k { life = k.life + 1; is_open = true; queue = k.queue ++ item.Opened (conn_at (peer_at old.config l) old.config.me (k.life + 1)) ∷ [] })))
+Accepts old (Send l bytes) new = AtLink old l (λ k. (k.is_open ≡ true) × (length k.queue ≢ k.room) × (new ≡ with_link old l (record k { queue = k.queue ++ item.Bytes (conn_at (peer_at old.config l) old.config.me k.life) bytes ∷ [] })))
+Accepts old (Close l) new = AtLink old l (λ k. (k.is_open ≡ true) × (length k.queue ≢ k.room) × (new ≡ with_link old l (record k { is_open = false; queue = k.queue ++ item.Closed (conn_at (peer_at old.config l) old.config.me k.life) ∷ [] })))
+Accepts old (Local command) new = (length old.inbox ≢ old.inbox_room) × (new ≡ record old { inbox = old.inbox ++ inbound.Local command ∷ [] })
+Accepts old event new = ⊥
+
+-- nothing is ready, and what the pending stage holds waits rightly
+abbrev pub IsIdle : PendingView → Type 0
+IsIdle v = (me : NodeId) → (peers : List NodeId) → (taken : List Inbound) → (given : List Ready) → Pends me peers taken given v → IsSettled me peers taken v
+
+-- the pending stage brings what is ready, or takes one item and then brings what is ready, if anything
+pub record PendBrings (old new : NodeView) : Type 0 where
+  pub thing : Ready
+  pub after' : PendingView
+  pub passes : (me : NodeId) → (peers : List NodeId) → Passes (Pends me peers) [] (thing ∷ []) old.pending after'
+  pub same : after' ≡ record old.pending { leaving = after'.leaving }
+  pub is : new ≡ record old { pending = after'; pend_hand = Some thing }
+
+pub record PendTakes (old new : NodeView) : Type 0 where
+  pub x : Inbound
+  pub rest : List Inbound
+  pub inbox : old.inbox ≡ x ∷ rest
+  pub nothing_ready : IsIdle old.pending
+  pub between : PendingView
+  pub after' : PendingView
+  pub thing : Option Ready
+  pub rules : between ≡ taken_in old.pending x
+  pub takes : (me : NodeId) → (peers : List NodeId) → Passes (Pends me peers) (x ∷ []) [] old.pending between
+  pub same : after' ≡ record between { leaving = after'.leaving }
+  pub gives : (me : NodeId) → (peers : List NodeId) → Passes (Pends me peers) [] (option_to_list thing) between after'
+  pub is : new ≡ record old { inbox = rest; pending = after'; pend_hand = thing }
+
+pub record SlotTakes (old new : NodeView) : Type 0 where
+  pub x : Ready
+  pub rest : List Ready
+  pub ready : old.ready ≡ x ∷ rest
+  pub after' : LedgerView
+  pub took : Took
+  pub takes : Takes old.ledger x took after'
+  pub known : IsLedger after'
+  pub is : new ≡ record old { ready = rest; ledger = after'; slot_hand = took.onward }
+
+pub record ApplyTakes (old new : NodeView) : Type 0 where
+  pub x : Onward
+  pub rest : List Onward
+  pub decided : old.decided ≡ x ∷ rest
+  pub after' : ApplierView
+  pub answer : Option (ℕ × Message)
+  pub takes : Applies old.applier x answer after'
+  pub known : IsApplier after'
+  pub running : IsRunning after'
+  pub is : new ≡ record old { decided = rest; applier = after' }
+
+-- an event that moves something
+abbrev pub Moves : NodeView → Event → NodeView → Type 0
+Moves old (ReaderTake l) new = AtLink old l (λ k. (k.hand ≡ None) × (x : LinkItem) × (rest : List LinkItem) × (k.queue ≡ x ∷ rest) × (new ≡ with_link old l (record k { queue = rest; reader = after k.reader x; hand = reading k.reader x })))
+Moves old (ReaderPut l) new = AtLink old l (λ k. (length old.inbox ≢ old.inbox_room) × (x : Inbound) × (k.hand ≡ Some x) × (new ≡ record old { links = slice_set old.links l (record k { hand = None }); inbox = old.inbox ++ x ∷ [] }))
+Moves old PendTake new = (old.pend_hand ≡ None) × (PendBrings old new ⊎ PendTakes old new)
+Moves old PendPut new = (length old.ready ≢ old.ready_room) × (x : Ready) × (old.pend_hand ≡ Some x) × (new ≡ record old { pend_hand = None; ready = old.ready ++ x ∷ [] })
+Moves old SlotTake new = (old.slot_hand ≡ None) × SlotTakes old new
+Moves old SlotPut new = (length old.decided ≢ old.decided_room) × (x : Onward) × (old.slot_hand ≡ Some x) × (new ≡ record old { slot_hand = None; decided = old.decided ++ x ∷ [] })
+Moves old ApplyTake new = ApplyTakes old new
+Moves old event new = ⊥
+
+-- the link that an event names isn't there
+abbrev pub NamesNoLink : NodeView → Event → Type 0
+NamesNoLink v (Open l) = slice_get v.links l ≡ None
+NamesNoLink v (Send l bytes) = slice_get v.links l ≡ None
+NamesNoLink v (Close l) = slice_get v.links l ≡ None
+NamesNoLink v (ReaderTake l) = slice_get v.links l ≡ None
+NamesNoLink v (ReaderPut l) = slice_get v.links l ≡ None
+NamesNoLink v event = ⊥
+
+-- why an event does nothing
+abbrev pub Refuses : NodeView → Event → Reply → Type 0
+Refuses v event NoLink = NamesNoLink v event
+Refuses v (Open l) AlreadyOpen = AtLink v l (λ k. k.is_open ≡ true)
+Refuses v (Open l) LivesSpent = AtLink v l (λ k. (k.is_open ≡ false) × (k.life ≡ 65535))
+Refuses v (Open l) Full = AtLink v l (λ k. (k.is_open ≡ false) × (k.life < 65535) × is_full k)
+Refuses v (Send l bytes) NotOpen = AtLink v l (λ k. k.is_open ≡ false)
+Refuses v (Send l bytes) Full = AtLink v l (λ k. (k.is_open ≡ true) × is_full k)
+Refuses v (Close l) NotOpen = AtLink v l (λ k. k.is_open ≡ false)
+Refuses v (Close l) Full = AtLink v l (λ k. (k.is_open ≡ true) × is_full k)
+Refuses v (Local command) Full = length v.inbox ≡ v.inbox_room
+Refuses v (ReaderTake l) Blocked = AtLink v l (λ k. IsSome k.hand)
+Refuses v (ReaderTake l) Idle = AtLink v l (λ k. (k.hand ≡ None) × (k.queue ≡ []))
+Refuses v (ReaderPut l) Idle = AtLink v l (λ k. k.hand ≡ None)
+Refuses v (ReaderPut l) Blocked = AtLink v l (λ k. IsSome k.hand × (length v.inbox ≡ v.inbox_room))
+Refuses v PendTake Blocked = IsSome v.pend_hand
+Refuses v PendTake Idle = (v.pend_hand ≡ None) × (v.inbox ≡ []) × IsIdle v.pending
+Refuses v PendPut Idle = v.pend_hand ≡ None
+Refuses v PendPut Blocked = IsSome v.pend_hand × (length v.ready ≡ v.ready_room)
+Refuses v SlotTake Blocked = IsSome v.slot_hand
+Refuses v SlotTake Idle = (v.slot_hand ≡ None) × (v.ready ≡ [])
+Refuses v SlotPut Idle = v.slot_hand ≡ None
+Refuses v SlotPut Blocked = IsSome v.slot_hand × (length v.decided ≡ v.decided_room)
+Refuses v ApplyTake Idle = v.decided ≡ []
+Refuses v event reply = ⊥
+
+abbrev pub life_of : LinkView → ℕ
+life_of k = k.life
+
+-- what is left of a node that fails
+pub record Keeps (old new : NodeView) : Type 0 where
+  pub config : new.config ≡ old.config
+  pub journal : new.ledger.journal ≡ old.ledger.journal
+  pub decisions : new.ledger.decisions ≡ old.ledger.decisions
+  pub applied : new.applier.applied ≡ old.applier.applied
+  pub lives : map life_of new.links ≡ map life_of old.links
+
+pub record Fails (old new : NodeView) : Type 0 where
+  pub was : old.failed ≡ false
+  pub failed : new.failed ≡ true
+  pub keeps : Keeps old new
+
+-- an event that can fail for want of memory
+abbrev pub TakesMemory : NodeView → Event → Type 0
+TakesMemory v (ReaderTake l) = AtLink v l (λ k. (k.hand ≡ None) × (k.queue ≢ []))
+TakesMemory v PendTake = (v.pend_hand ≡ None) × (v.inbox ≢ []) × IsIdle v.pending
+TakesMemory v SlotTake = (v.slot_hand ≡ None) × (v.ready ≢ [])
+TakesMemory v ApplyTake = v.decided ≢ []
+TakesMemory v event = ⊥
+
+-- the front of the ready queue would be entry number 1,000,001
+abbrev pub FillsJournal : NodeView → Event → Type 0
+FillsJournal v SlotTake = (v.slot_hand ≡ None) × (x : Ready) × (rest : List Ready) × (v.ready ≡ x ∷ rest) × (adds_entry x ≡ true) × (length v.ledger.journal ≡ 1000000)
+FillsJournal v event = ⊥
+
+-- one event
+abbrev pub Step : NodeView → Event → Reply → NodeView → Type 0
+Step old event Failed new = (old.failed ≡ true) × (new ≡ old)
+Step old event Accepted new = (old.failed ≡ false) × Accepts old event new
+Step old event Moved new = (old.failed ≡ false) × Moves old event new
+Step old event JournalFull new = Fails old new × FillsJournal old event
+Step old event NoMemory new = Fails old new × TakesMemory old event
+Step old event reply new = (old.failed ≡ false) × Refuses old event reply × (new ≡ old)
+
+-- how often a link was opened, and how many items its queue can still take; 0 for a link that isn't there
+abbrev pub lives_of : Option LinkView → ℕ
+lives_of None = 0
+lives_of (Some k) = k.life
+
+abbrev pub lives_at : NodeView → ℕ → ℕ
+lives_at v l = lives_of (slice_get v.links l)
+
+abbrev pub room_of : Option LinkView → ℕ
+room_of None = 0
+room_of (Some k) = k.room - length k.queue
+
+abbrev pub room_at : NodeView → ℕ → ℕ
+room_at v l = room_of (slice_get v.links l)

@@ -1,0 +1,3 @@
+pub mod Links
+pub mod Decider
+pub mod Starting
