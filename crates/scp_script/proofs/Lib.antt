@@ -1,0 +1,4 @@
+pub mod Lines
+pub mod QuorumSets
+pub mod Tables
+pub mod Peers

@@ -1,0 +1,4 @@
+pub mod Words
+pub mod Script
+pub mod Nodes
+pub mod Reading

@@ -1,0 +1,56 @@
+-- A script that is being read.
+use Rattle.std.specs.Prelude.{◌≡◌, ℕ, ◌*◌, ◌+◌, ◌-◌, Bool, true, false, Result, Ok, Err, All, List, ◌++◌, IfSome, option_to_list, get_or}
+use Rattle.scp_script.specs.declared.reading.Reading.{Reading}
+use Rattle.scp_script.specs.declared.links.Links.{Links}
+use Rattle.scp_script.specs.declared.links.Link.{Link}
+use Rattle.scp_script.specs.declared.command.Command.{Command}
+use Rattle.scp_script.specs.Words.{words_of}
+use Rattle.scp_script.specs.Script.{node_count, has_begun, is_open, lives, is_line, Admits, commands_of, command_in}
+use Rattle.scp_script.specs.Nodes.{NamesNodes, IsSmall}
+
+-- the fact where the result says yes
+abbrev pub OnTrueOk : {E : Type 0} → Result Bool E → Type 0 → Type 0
+OnTrueOk (Ok true) fact = fact
+OnTrueOk (Ok false) fact = Unit {0}
+OnTrueOk (Err e) fact = Unit {0}
+
+-- where the link stands in the table
+abbrev pub place : ℕ → ℕ → ℕ
+place from to = (from - 1) * 8 + (to - 1)
+
+abbrev pub no_link : Link
+no_link = record { is_open = false; lives = 0 }
+
+-- what the table says of a link
+abbrev pub at : Links → ℕ → ℕ → Link
+at links from to = get_or links.0 (place from to) no_link
+
+-- the table says of a link what the commands did to it
+pub record KnowsLink (links : Links) (commands : List Command) (from to : ℕ) : Type 0 where
+  pub opened : (at links from to).is_open ≡ is_open from to commands
+  pub lives : (at links from to).lives ≡ lives from to commands
+
+-- and so of each link
+abbrev pub KnowsLinks : Links → List Command → Type 0
+KnowsLinks links commands = (from to : ℕ) → IsSmall from → IsSmall to → KnowsLink links commands from to
+
+-- what may be read so far
+pub record IsReading (r : Reading) : Type 0 where
+  pub count : r.count ≡ node_count r.commands.items
+  pub begun : r.has_begun ≡ has_begun r.commands.items
+  pub links : KnowsLinks r.links r.commands.items
+  pub nodes : All NamesNodes r.commands.items
+
+-- the line may stand behind these commands
+abbrev pub Stands : List Command → List ℕ → Type 0
+Stands before line = (is_line line ≡ true) × IfSome (command_in (words_of line)) (Admits before)
+
+-- the words were taken in
+pub record TakesWords (old : Reading) (words : List (List ℕ)) (new : Reading) : Type 0 where
+  pub commands : new.commands.items ≡ old.commands.items ++ option_to_list (command_in words)
+  pub reading : IsReading new
+
+-- what was read is what the lines say
+pub record HasRead (r : Reading) (lines : List (List ℕ)) : Type 0 where
+  pub reading : IsReading r
+  pub commands : r.commands.items ≡ commands_of lines

@@ -1,0 +1,208 @@
+-- What a script says (this project's profile): the command of each line, which commands may stand behind others, and
+-- which line is bad.
+use Rattle.std.specs.Prelude.{ℕ, ◌-◌, ◌<◌, ◌≤◌, ◌≡◌, ◌≢◌, Bool, true, false, ◌&&◌, ◌||◌, List, [], ◌∷◌, ◌++◌, length, take, flat_map, fold, count_by, Option, Some, None, is_some, option_map, option_to_list, if◌then◌else◌, nat_eq, nat_le, codes}
+use Rattle.std.specs.List.{list_any, list_all}
+use Rattle.scp_types.specs.declared.fault.Fault.{Fault}
+use Rattle.scp_types.specs.declared.fault.Fault.TheVariants.{NoMemory, BadScript}
+use Rattle.scp_quorum.specs.QuorumTree.{QuorumTree}
+use Rattle.scp_quorum.specs.Sane.{IsSane}
+use Rattle.scp_script.specs.declared.command.Command.{Command}
+use Rattle.scp_script.specs.declared.command.Command.TheVariants.{Caps, Nodes, Set, Open, Close, Send, Tick, Ask, Settle, Report}
+use Rattle.scp_script.specs.Words.{lines_of, is_ascii, is_skipped, words_of, same, node_in, link_in, number_in, capacity_in, hex_bytes, set_in}
+
+-- ---- the command of a line
+
+abbrev pub caps_by : Option ℕ → Option ℕ → Option ℕ → Option ℕ → Option Command
+caps_by (Some link) (Some inbox) (Some ready) (Some decided) =
+    Some (Caps (record { link = link; inbox = inbox; ready = ready; decided = decided }))
+caps_by (Some link) (Some inbox) (Some ready) None = None
+caps_by (Some link) (Some inbox) None decided = None
+caps_by (Some link) None ready decided = None
+caps_by None inbox ready decided = None
+
+-- so many nodes, of which at most all make a quorum
+abbrev pub nodes_by : Option ℕ → Option ℕ → Option Command
+nodes_by (Some count) (Some quorum) = if nat_le quorum count then Some (Nodes count quorum) else None
+nodes_by (Some count) None = None
+nodes_by None quorum = None
+
+abbrev pub set_by : Option ℕ → Option QuorumTree → Option Command
+set_by (Some node) (Some set) = Some (Set node set)
+set_by (Some node) None = None
+set_by None set = None
+
+abbrev pub open_by : Option (ℕ × ℕ) → Option Command
+open_by (Some link) = Some (Open link.0 link.1)
+open_by None = None
+
+abbrev pub close_by : Option (ℕ × ℕ) → Option Command
+close_by (Some link) = Some (Close link.0 link.1)
+close_by None = None
+
+abbrev pub send_by : Option (ℕ × ℕ) → Option (List ℕ) → Option Command
+send_by (Some link) (Some bytes) = Some (Send link.0 link.1 bytes)
+send_by (Some link) None = None
+send_by None bytes = None
+
+abbrev pub ask_by : Option (ℕ × ℕ) → Option ℕ → Option Command
+ask_by (Some link) (Some slot) = Some (Ask link.0 link.1 slot)
+ask_by (Some link) None = None
+ask_by None slot = None
+
+-- `settle`; `tick I` and `report I`; `nodes N K`, `set I HEX`, `open I J` and `close I J`; `ask I J SLOT` and `send I J HEX`;
+-- `caps A B C D`
+abbrev pub command_in : List (List ℕ) → Option Command
+command_in [] = None
+command_in (verb ∷ []) = if same verb (codes "settle") then Some Settle else None
+command_in (verb ∷ node ∷ []) =
+    if same verb (codes "tick") then option_map Tick (node_in node)
+    else (if same verb (codes "report") then option_map Report (node_in node) else None)
+command_in (verb ∷ first ∷ second ∷ []) =
+    if same verb (codes "nodes") then nodes_by (node_in first) (node_in second)
+    else (if same verb (codes "set") then set_by (node_in first) (set_in (hex_bytes second))
+    else (if same verb (codes "open") then open_by (link_in first second)
+    else (if same verb (codes "close") then close_by (link_in first second) else None)))
+command_in (verb ∷ from ∷ to ∷ word ∷ []) =
+    if same verb (codes "ask") then ask_by (link_in from to) (number_in word)
+    else (if same verb (codes "send") then send_by (link_in from to) (hex_bytes word) else None)
+command_in (verb ∷ link ∷ inbox ∷ ready ∷ decided ∷ []) =
+    if same verb (codes "caps") then caps_by (capacity_in link) (capacity_in inbox) (capacity_in ready) (capacity_in decided) else None
+command_in (verb ∷ a ∷ b ∷ c ∷ d ∷ more ∷ words) = None
+
+-- the commands of lines, in their order
+abbrev pub commands_of : List (List ℕ) → List Command
+commands_of lines = flat_map (λ line. option_to_list (command_in (words_of line))) lines
+
+-- ---- what commands before a line leave
+
+-- how many nodes there are behind a command, of so many before it
+abbrev pub counted : ℕ → Command → ℕ
+counted before (Caps capacities) = before
+counted before (Nodes count quorum) = count
+counted before (Set node set) = before
+counted before (Open from to) = before
+counted before (Close from to) = before
+counted before (Send from to bytes) = before
+counted before (Tick node) = before
+counted before (Ask from to slot) = before
+counted before Settle = before
+counted before (Report node) = before
+
+-- how many nodes there are: none before the `nodes` line
+abbrev pub node_count : List Command → ℕ
+node_count commands = fold counted 0 commands
+
+abbrev pub begins : Command → Bool
+begins (Caps capacities) = false
+begins (Nodes count quorum) = false
+begins (Set node set) = false
+begins (Open from to) = true
+begins (Close from to) = true
+begins (Send from to bytes) = true
+begins (Tick node) = true
+begins (Ask from to slot) = true
+begins Settle = true
+begins (Report node) = true
+
+-- a command came that is neither a `caps` nor a `nodes` nor a `set` line's
+abbrev pub has_begun : List Command → Bool
+has_begun commands = list_any begins commands
+
+abbrev pub is_link : ℕ → ℕ → ℕ → ℕ → Bool
+is_link from to from2 to2 = nat_eq from from2 && nat_eq to to2
+
+-- the command opens this link
+abbrev pub opens : ℕ → ℕ → Command → Bool
+opens from to (Caps capacities) = false
+opens from to (Nodes count quorum) = false
+opens from to (Set node set) = false
+opens from to (Open from2 to2) = is_link from to from2 to2
+opens from to (Close from2 to2) = false
+opens from to (Send from2 to2 bytes) = false
+opens from to (Tick node) = false
+opens from to (Ask from2 to2 slot) = false
+opens from to Settle = false
+opens from to (Report node) = false
+
+-- the command closes this link
+abbrev pub closes : ℕ → ℕ → Command → Bool
+closes from to (Caps capacities) = false
+closes from to (Nodes count quorum) = false
+closes from to (Set node set) = false
+closes from to (Open from2 to2) = false
+closes from to (Close from2 to2) = is_link from to from2 to2
+closes from to (Send from2 to2 bytes) = false
+closes from to (Tick node) = false
+closes from to (Ask from2 to2 slot) = false
+closes from to Settle = false
+closes from to (Report node) = false
+
+-- the link is open: the last command that opens or closes it opens it
+abbrev pub is_open : ℕ → ℕ → List Command → Bool
+is_open from to commands =
+    fold (λ before command. if opens from to command then true else (if closes from to command then false else before)) false commands
+
+-- how often the link was opened
+abbrev pub lives : ℕ → ℕ → List Command → ℕ
+lives from to commands = count_by (opens from to) commands
+
+-- ---- which commands may stand
+
+-- a number of a node
+abbrev pub IsNode : ℕ → List Command → Type 0
+IsNode node before = (1 ≤ node) × (node ≤ node_count before)
+
+-- a link between two nodes
+abbrev pub IsLink : ℕ → ℕ → List Command → Type 0
+IsLink from to before = IsNode from before × IsNode to before × (from ≢ to)
+
+-- The command may stand behind these: `caps` lines, the `nodes` line, once, then `set` lines, each with a sane quorum set,
+-- and then the others. A link is opened where it isn't open, at most 65,535 times, and closed and sent on where it is open.
+abbrev pub Admits : List Command → Command → Type 0
+Admits before (Caps capacities) = node_count before ≡ 0
+Admits before (Nodes count quorum) = node_count before ≡ 0
+Admits before (Set node set) = IsNode node before × (has_begun before ≡ false) × IsSane set
+Admits before (Open from to) = IsLink from to before × (is_open from to before ≡ false) × (lives from to before < 65535)
+Admits before (Close from to) = is_open from to before ≡ true
+Admits before (Send from to bytes) = is_open from to before ≡ true
+Admits before (Tick node) = IsNode node before
+Admits before (Ask from to slot) = IsLink from to before
+Admits before Settle = 1 ≤ node_count before
+Admits before (Report node) = IsNode node before
+
+-- each of the commands may stand behind those before it
+abbrev pub AreAdmitted : List Command → List Command → Type 0
+AreAdmitted before [] = Unit {0}
+AreAdmitted before (command ∷ commands) = Admits before command × AreAdmitted (before ++ command ∷ []) commands
+
+-- ---- scripts
+
+-- the line is ASCII, and it is empty, a comment, or says a command
+abbrev pub is_line : List ℕ → Bool
+is_line line = is_ascii line && (is_skipped line || is_some (command_in (words_of line)))
+
+-- the lines are a script's: each is one, and each command may stand behind those before it
+pub record AreLines (lines : List (List ℕ)) : Type 0 where
+  pub each : list_all is_line lines ≡ true
+  pub admitted : AreAdmitted [] (commands_of lines)
+
+-- the text is a script
+abbrev pub IsScript : List ℕ → Type 0
+IsScript text = AreLines (lines_of text)
+
+-- the line of this number, from 1 on, is the first that is bad
+pub record IsBadLine (text : List ℕ) (line : ℕ) : Type 0 where
+  pub from_one : 1 ≤ line
+  pub within : line ≤ length (lines_of text)
+  pub good : AreLines (take (line - 1) (lines_of text))
+  pub bad : ¬ (AreLines (take line (lines_of text)))
+
+-- what a script says to do, in its order
+abbrev pub commands_in : List ℕ → List Command
+commands_in text = commands_of (lines_of text)
+
+-- why a text isn't read as a script: want of memory, or its first bad line
+abbrev pub IsScriptFault : List ℕ → Fault → Type 0
+IsScriptFault text NoMemory = Unit {0}
+IsScriptFault text (BadScript line) = IsBadLine text line
+IsScriptFault text fault = ⊥

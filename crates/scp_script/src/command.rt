@@ -1,0 +1,43 @@
+//! What a line of a script says.
+
+use scp_quorum::QuorumSet;
+use scp_wire::Bytes;
+
+/// How many items the queues of a node hold, each from 1 to 1,024.
+#[derive(Clone, Copy, Debug, PartialEq, Eq)]
+pub struct Capacities {
+    /// What travels over one link.
+    pub link: u16,
+    /// What was read and waits for the pending stage.
+    pub inbox: u16,
+    /// What is ready for the slot stage.
+    pub ready: u16,
+    /// Decisions that wait for the applier.
+    pub decided: u16,
+}
+
+/// What a line of a script says. Nodes are named by their numbers, 1 to 8, and a link by the node that it goes from and the
+/// node that it goes to, which is another one.
+#[derive(Debug, Drop)]
+pub enum Command {
+    /// The queues of each node have these capacities.
+    Caps(Capacities),
+    /// There are `count` nodes, and the quorum set of each is `quorum` of all, at most `count`.
+    Nodes { count: u8, quorum: u8 },
+    /// The node of this number has this quorum set.
+    Set { node: u8, set: QuorumSet },
+    /// The link is opened: its next connection begins.
+    Open { from: u8, to: u8 },
+    /// The open link is closed.
+    Close { from: u8, to: u8 },
+    /// These bytes are sent on the open link.
+    Send { from: u8, to: u8, bytes: Bytes },
+    /// Time goes on at the node of this number.
+    Tick(u8),
+    /// A node asks another for the record of a slot. It does nothing yet.
+    Ask { from: u8, to: u8, slot: u64 },
+    /// The nodes come to rest.
+    Settle,
+    /// The report of the node of this number.
+    Report(u8),
+}

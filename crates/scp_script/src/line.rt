@@ -1,0 +1,237 @@
+//! The command that a line's words say.
+ghost use Rattle.std.specs.Prelude.{◌≡◌, ◌∷◌, [], IfOk, IfSome, IsOkUnless, map, option_map};
+ghost use Rattle.scp_script.specs.Words.{node_in, link_in, number_in, capacity_in, hex_bytes, set_in};
+ghost use Rattle.scp_script.specs.Script.{caps_by, nodes_by, set_by, open_by, close_by, send_by, ask_by, command_in};
+ghost use Rattle.scp_script.specs.Nodes.{NamesNodes};
+ghost use Rattle.scp_script.specs.declared.command.Command.TheVariants.{Tick, Report};
+
+use crate::command::{Capacities, Command};
+use crate::words::{bytes_of, capacity, link, node, number, set_of};
+use scp_types::Fault;
+use std::alloc::{AllocError, Global};
+
+/// A `tick` line.
+fn tick(word: &str) -> Option<Command>
+    ensures found { result ≡ option_map Tick (node_in word.now) }
+    ensures nodes { IfSome result NamesNodes }
+{
+    match node(word) {
+        Some(node) => Some(Command::Tick(node)),
+        None => None,
+    }
+}
+
+/// A `report` line.
+fn report(word: &str) -> Option<Command>
+    ensures found { result ≡ option_map Report (node_in word.now) }
+    ensures nodes { IfSome result NamesNodes }
+{
+    match node(word) {
+        Some(node) => Some(Command::Report(node)),
+        None => None,
+    }
+}
+
+/// A `nodes` line.
+fn nodes(count: &str, quorum: &str) -> Option<Command>
+    ensures found { result ≡ nodes_by (node_in count.now) (node_in quorum.now) }
+    ensures nodes { IfSome result NamesNodes }
+{
+    let count = node(count)?;
+    let quorum = node(quorum)?;
+    if quorum <= count {
+        Some(Command::Nodes { count, quorum })
+    } else {
+        None
+    }
+}
+
+/// A `caps` line.
+fn caps(
+    alloc: Global,
+    link: &str,
+    inbox: &str,
+    ready: &str,
+    decided: &str,
+) -> Result<Option<Command>, AllocError>
+    ensures found { IfOk result (λ found. found ≡ caps_by (capacity_in link.now) (capacity_in inbox.now) (capacity_in ready.now) (capacity_in decided.now)) }
+    ensures nodes { IfOk result (λ found. IfSome found NamesNodes) }
+{
+    let Some(link) = capacity(alloc, link)? else {
+        return Ok(None);
+    };
+    let Some(inbox) = capacity(alloc, inbox)? else {
+        return Ok(None);
+    };
+    let Some(ready) = capacity(alloc, ready)? else {
+        return Ok(None);
+    };
+    let Some(decided) = capacity(alloc, decided)? else {
+        return Ok(None);
+    };
+    Ok(Some(Command::Caps(Capacities {
+        link,
+        inbox,
+        ready,
+        decided,
+    })))
+}
+
+/// A `set` line. Whether the set is sane is left open.
+fn set(alloc: Global, word: &str, digits: &str) -> Result<Option<Command>, Fault>
+    ensures found { IfOk result (λ found. found ≡ set_by (node_in word.now) (set_in (hex_bytes digits.now))) }
+    ensures nodes { IfOk result (λ found. IfSome found NamesNodes) }
+    ensures only_memory { IsOkUnless result Fault.NoMemory }
+{
+    let Some(node) = node(word) else {
+        return Ok(None);
+    };
+    let Some(set) = set_of(alloc, digits)? else {
+        return Ok(None);
+    };
+    Ok(Some(Command::Set { node, set }))
+}
+
+/// An `open` line.
+fn open(from: &str, to: &str) -> Option<Command>
+    ensures found { result ≡ open_by (link_in from.now to.now) }
+    ensures nodes { IfSome result NamesNodes }
+{
+    let (from, to) = link(from, to)?;
+    Some(Command::Open { from, to })
+}
+
+/// A `close` line.
+fn close(from: &str, to: &str) -> Option<Command>
+    ensures found { result ≡ close_by (link_in from.now to.now) }
+    ensures nodes { IfSome result NamesNodes }
+{
+    let (from, to) = link(from, to)?;
+    Some(Command::Close { from, to })
+}
+
+/// An `ask` line.
+fn ask(alloc: Global, from: &str, to: &str, slot: &str) -> Result<Option<Command>, AllocError>
+    ensures found { IfOk result (λ found. found ≡ ask_by (link_in from.now to.now) (number_in slot.now)) }
+    ensures nodes { IfOk result (λ found. IfSome found NamesNodes) }
+{
+    let Some((from, to)) = link(from, to) else {
+        return Ok(None);
+    };
+    let Some(slot) = number(alloc, slot)? else {
+        return Ok(None);
+    };
+    Ok(Some(Command::Ask { from, to, slot }))
+}
+
+/// A `send` line.
+fn send(alloc: Global, from: &str, to: &str, bytes: &str) -> Result<Option<Command>, Fault>
+    ensures found { IfOk result (λ found. found ≡ send_by (link_in from.now to.now) (hex_bytes bytes.now)) }
+    ensures nodes { IfOk result (λ found. IfSome found NamesNodes) }
+    ensures only_memory { IsOkUnless result Fault.NoMemory }
+{
+    let Some((from, to)) = link(from, to) else {
+        return Ok(None);
+    };
+    let Some(bytes) = bytes_of(alloc, bytes)? else {
+        return Ok(None);
+    };
+    Ok(Some(Command::Send { from, to, bytes }))
+}
+
+/// The command of one word.
+fn of_one(verb: &str) -> Option<Command>
+    ensures found { result ≡ command_in (verb.now ∷ []) }
+    ensures nodes { IfSome result NamesNodes }
+{
+    if verb == "settle" {
+        Some(Command::Settle)
+    } else {
+        None
+    }
+}
+
+/// The command of two words.
+fn of_two(verb: &str, node: &str) -> Option<Command>
+    ensures found { result ≡ command_in (verb.now ∷ node.now ∷ []) }
+    ensures nodes { IfSome result NamesNodes }
+{
+    match verb {
+        "tick" => tick(node),
+        "report" => report(node),
+        _ => None,
+    }
+}
+
+/// The command of three words.
+fn of_three(alloc: Global, verb: &str, first: &str, second: &str) -> Result<Option<Command>, Fault>
+    ensures found { IfOk result (λ found. found ≡ command_in (verb.now ∷ first.now ∷ second.now ∷ [])) }
+    ensures nodes { IfOk result (λ found. IfSome found NamesNodes) }
+    ensures only_memory { IsOkUnless result Fault.NoMemory }
+{
+    match verb {
+        "nodes" => Ok(nodes(first, second)),
+        "set" => set(alloc, first, second),
+        "open" => Ok(open(first, second)),
+        "close" => Ok(close(first, second)),
+        _ => Ok(None),
+    }
+}
+
+/// The command of four words.
+fn of_four(
+    alloc: Global,
+    verb: &str,
+    from: &str,
+    to: &str,
+    word: &str,
+) -> Result<Option<Command>, Fault>
+    ensures found { IfOk result (λ found. found ≡ command_in (verb.now ∷ from.now ∷ to.now ∷ word.now ∷ [])) }
+    ensures nodes { IfOk result (λ found. IfSome found NamesNodes) }
+    ensures only_memory { IsOkUnless result Fault.NoMemory }
+{
+    if verb == "ask" {
+        return Ok(ask(alloc, from, to, word)?);
+    }
+    if verb == "send" {
+        return send(alloc, from, to, word);
+    }
+    Ok(None)
+}
+
+/// The command of five words.
+fn of_five(
+    alloc: Global,
+    verb: &str,
+    link: &str,
+    inbox: &str,
+    ready: &str,
+    decided: &str,
+) -> Result<Option<Command>, Fault>
+    ensures found { IfOk result (λ found. found ≡ command_in (verb.now ∷ link.now ∷ inbox.now ∷ ready.now ∷ decided.now ∷ [])) }
+    ensures nodes { IfOk result (λ found. IfSome found NamesNodes) }
+    ensures only_memory { IsOkUnless result Fault.NoMemory }
+{
+    if verb == "caps" {
+        return Ok(caps(alloc, link, inbox, ready, decided)?);
+    }
+    Ok(None)
+}
+
+/// The command of a line's words.
+pub fn command_from(alloc: Global, words: &[&str]) -> Result<Option<Command>, Fault>
+    ensures found { IfOk result (λ found. found ≡ command_in (map (λ word. word.now) words.now)) }
+    ensures nodes { IfOk result (λ found. IfSome found NamesNodes) }
+    ensures only_memory { IsOkUnless result Fault.NoMemory }
+{
+    match words {
+        [verb] => Ok(of_one(*verb)),
+        [verb, node] => Ok(of_two(*verb, *node)),
+        [verb, first, second] => of_three(alloc, *verb, *first, *second),
+        [verb, from, to, word] => of_four(alloc, *verb, *from, *to, *word),
+        [verb, link, inbox, ready, decided] => {
+            of_five(alloc, *verb, *link, *inbox, *ready, *decided)
+        }
+        _ => Ok(None),
+    }
+}

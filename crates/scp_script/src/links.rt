@@ -1,0 +1,56 @@
+//! Which links are open, and how often each was opened.
+ghost use Rattle.std.specs.Prelude.{◌≡◌, ◌+◌, ◌∷◌, [], ◌++◌, ℕ, List, false, true, if◌then◌else◌};
+ghost use Rattle.scp_script.specs.declared.links.Link.{Link};
+ghost use Rattle.scp_script.specs.Script.{is_link};
+ghost use Rattle.scp_script.specs.Nodes.{IsSmall};
+ghost use Rattle.scp_script.specs.Reading.{at, place, no_link, KnowsLinks};
+
+/// What is known of a link.
+#[derive(Clone, Copy, Debug)]
+pub struct Link {
+    pub is_open: bool,
+    pub lives: u32,
+}
+
+/// What is known of each link: those from node 1 first, and then those from node 2, and so on.
+#[derive(Clone, Copy, Debug)]
+pub struct Links([Link; 64]);
+
+/// Where the link stands in the table.
+fn place(from: u8, to: u8) -> usize
+    requires from { IsSmall from }
+    requires to { IsSmall to }
+    ensures { result ≡ place from to }
+{
+    usize::from(from - 1) * 8 + usize::from(to - 1)
+}
+
+impl Links {
+    /// No link was opened.
+    pub fn new() -> Links
+        ensures { KnowsLinks result [] }
+    {
+        Links([Link {
+            is_open: false,
+            lives: 0,
+        }; 64])
+    }
+
+    /// What is known of a link.
+    pub fn get(&self, from: u8, to: u8) -> Link
+        requires from { IsSmall from }
+        requires to { IsSmall to }
+        ensures { result ≡ at self.now from to }
+    {
+        self.0[place(from, to)]
+    }
+
+    /// Now this is known of a link.
+    pub fn put(&mut self, from: u8, to: u8, link: Link)
+        requires from { IsSmall from }
+        requires to { IsSmall to }
+        ensures { (from2 to2 : ℕ) → IsSmall from2 → IsSmall to2 → at self.new from2 to2 ≡ (if is_link from2 to2 from to then link else at self.old from2 to2) }
+    {
+        self.0[place(from, to)] = link;
+    }
+}

@@ -1,0 +1,32 @@
+//! Reading a script.
+ghost use Rattle.std.specs.Prelude.{◌≡◌, [], All, IfOk, IfErr, OnOk};
+ghost use Rattle.scp_script.specs.Script.{commands_in, IsScript, IsScriptFault, AreAdmitted};
+ghost use Rattle.scp_script.specs.Nodes.{NamesNodes};
+
+use crate::command::Command;
+use crate::reading::Reading;
+use crate::words::lines;
+use scp_types::Fault;
+use std::alloc::Global;
+
+/// Reads a script, and gives its commands in their order. `BadScript` names the first bad line, from 1 on. It takes time in
+/// proportion to the text.
+pub fn parse(alloc: Global, text: &[u8]) -> Result<Vec<Command>, Fault>
+    // The text is a script.
+    ensures script { OnOk result (IsScript text.now) }
+    // The commands are those that it says.
+    ensures commands { IfOk result (λ commands. commands.items ≡ commands_in text.now) }
+    // Each names nodes from 1 to 8.
+    ensures nodes { IfOk result (λ commands. All NamesNodes commands.items) }
+    // Memory ran out, or a line is the first bad one.
+    ensures cause { IfErr result (IsScriptFault text.now) }
+{
+    let mut reading = Reading::new(alloc);
+    let lines = lines(alloc, text)?;
+    for (index, line) in lines.iter().enumerate() {
+        if !reading.read_line(alloc, *line)? {
+            return Err(Fault::BadScript(index + 1));
+        }
+    }
+    Ok(reading.into_commands())
+}
