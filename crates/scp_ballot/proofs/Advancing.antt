@@ -1,6 +1,7 @@
 -- What the machine gives is what a balloter promises.
-use Rattle.std.proofs.Common.{◌≡◌, ◌≤◌, ◌↔◌, Bool, true, false, [], Option, Some, None, is_some, IsSome, IsSomeAnd, refl, sym, ◌∙◌, ap, subst, inl, inr, arith}
+use Rattle.std.proofs.Common.{◌≡◌, ◌<◌, ◌≤◌, ◌⊎◌, ◌↔◌, Bool, true, false, [], Option, Some, None, is_some, IsSome, IsSomeAnd, refl, sym, ◌∙◌, ap, subst, inl, inr, arith}
 use Rattle.std.specs.Option.{option_map, ForSome}
+use Rattle.scp_types.specs.declared.ballot.Ballot.{Ballot}
 use Rattle.scp_types.specs.declared.names.Hash.{Hash}
 use Rattle.scp_types.specs.declared.names.Slot.{Slot}
 use Rattle.scp_envelope.specs.Kinds.{set_hash_of}
@@ -16,6 +17,7 @@ use Rattle.scp_ballot_rules.specs.declared.state.Phase.TheVariants.{Prepare, Con
 use Rattle.scp_ballot_rules.specs.Own.{own_of, own_in, or_zero, counter_of, StandsFor, IsBlank}
 use Rattle.scp_ballot_rules.specs.Owed.{OwesNothing}
 use Rattle.scp_ballot_rules.specs.Rises.{place, Rises, or_state}
+use Rattle.scp_ballot_rules.proofs.Rising.{rises_trans}
 use Rattle.scp_ballot_rules.proofs.Options.{some_of, some_and, at_some, some_same, none_some}
 use Rattle.scp_ballot.specs.declared.machine.Machine.{Machine}
 use Rattle.scp_ballot.specs.declared.balloted.Balloted.{Balloted}
@@ -24,7 +26,7 @@ use Rattle.scp_ballot.specs.Told.{ballots_on}
 use Rattle.scp_ballot.specs.Machine.{own_at, IsOwnStatement, IsAtRest, IsSettled}
 use Rattle.scp_ballot.specs.Gives.{IsWorth, Emits, IsCertifiedAt, Decides, Gives}
 use Rattle.scp_ballot.specs.Inside.{ballots_of}
-use Rattle.scp_ballot.specs.Balloting.{IsOwnEnvelope, IsWorthTelling, last_emitted, Externalizes, IsCertified, Advances}
+use Rattle.scp_ballot.specs.Balloting.{IsOwnEnvelope, IsWorthTelling, last_emitted, Externalizes, IsCertified, GoesOn, Advances}
 use Rattle.scp_ballot.proofs.Others.{licensed_now}
 
 -- what the own statement of a state says
@@ -48,6 +50,27 @@ place_top Externalize = omega arith
 at_end : (s t : State) → Rises s t → s.phase ≡ Externalize → t.phase ≡ Externalize
 at_end s t (inl later) e = absurd (omega (arith, later, ap place e, place_top t.phase))
 at_end s t (inr same) e = same.0 ∙ e
+
+zero_counted : (o : Option Ballot) → (or_zero o).counter ≡ counter_of o
+zero_counted None = refl
+zero_counted (Some x) = refl
+
+-- a state that rises makes a statement that goes no way back
+goes_in : (ph qh : Phase) (hash other : Hash) (s t : State) → (place ph < place qh) ⊎ ((qh ≡ ph) × (counter_of s.present ≤ counter_of t.present)) → GoesOn (own_in ph hash s) (own_in qh other t)
+goes_in Prepare Prepare hash other s t (inl later) = absurd (omega (arith, later))
+goes_in Prepare Prepare hash other s t (inr same) = omega (arith, same.1, zero_counted s.present, zero_counted t.present)
+goes_in Prepare Confirm hash other s t h = tt
+goes_in Prepare Externalize hash other s t h = tt
+goes_in Confirm Prepare hash other s t (inl later) = absurd (omega (arith, later))
+goes_in Confirm Prepare hash other s t (inr same) = absurd (let k : Prepare ≡ Confirm = same.0 in cc)
+goes_in Confirm Confirm hash other s t (inl later) = absurd (omega (arith, later))
+goes_in Confirm Confirm hash other s t (inr same) = omega (arith, same.1, zero_counted s.present, zero_counted t.present)
+goes_in Confirm Externalize hash other s t h = tt
+goes_in Externalize Prepare hash other s t (inl later) = absurd (omega (arith, later))
+goes_in Externalize Prepare hash other s t (inr same) = absurd (let k : Prepare ≡ Externalize = same.0 in cc)
+goes_in Externalize Confirm hash other s t (inl later) = absurd (omega (arith, later))
+goes_in Externalize Confirm hash other s t (inr same) = absurd (let k : Confirm ≡ Externalize = same.0 in cc)
+goes_in Externalize Externalize hash other s t h = tt
 
 -- the own statement is an EXTERNALIZE just in that phase
 externalize_phase : (ph : Phase) (hash : Hash) (s : State) → IsExternalize (own_in ph hash s) → ph ≡ Externalize
@@ -154,12 +177,23 @@ module _ (old settled new : Machine) (given : Balloted) (first : Option State) (
             (externalizes settled.state.phase settled.hash settled.state d phase (low.2.value ∙ ap (λ o. (or_zero o).value) (sym low.1)) low.2.n);
       }
 
-  advances_settled : (or_state first old.state).phase ≡ old.state.phase → (given.more ≡ false → OwesNothing settled.hash (ballots_on settled.board)) → Decides old.state.phase settled given.decided → Emits settled new given.statement
+  goes : Rises old.state settled.state → ForSome (own_at old) (λ p. ForSome (own_at settled) (λ q. GoesOn p q))
+  goes rises p e q k = elim rest.stands [
+    | inr none ↦ none_some (own_at old) p none.0 e
+    | inl is ↦ elim s.stands [
+      | inr none ↦ none_some (own_at settled) q none.0 k
+      | inl there ↦ subst (λ x. GoesOn x q) (some_same (own_at old) (own_of old.hash old.state) p is e)
+          (subst (λ y. GoesOn (own_of old.hash old.state) y) (some_same (own_at settled) (own_of settled.hash settled.state) q there k) (goes_in old.state.phase settled.state.phase old.hash settled.hash old.state settled.state rises))
+    ]
+  ]
+
+  advances_settled : (or_state first old.state).phase ≡ old.state.phase → Rises old.state (or_state first old.state) → (given.more ≡ false → OwesNothing settled.hash (ballots_on settled.board)) → Decides old.state.phase settled given.decided → Emits settled new given.statement
       → Advances (ballots_of old f) (ballots_of (record settled { emitted = new.emitted }) g) given
-  advances_settled still owed decides emits =
+  advances_settled still up owed decides emits =
       let told = tells given.statement emits in
       record {
         licensed = licensed_now (ballots_on old.board) (own_at old) (ballots_on settled.board) s.chain;
+        rises = goes (rises_trans old.state (or_state first old.state) settled.state up s.rises);
         owed = owed;
         emitted = told.0;
         statement = told.1;
@@ -169,6 +203,7 @@ module _ (old settled new : Machine) (given : Balloted) (first : Option State) (
           λ h. decides.exactly.1 (λ was. h.0 (phase_decided (own_at old) old.hash old.state rest.stands was), decided_phase (own_at settled) settled.hash settled.state s.stands h.1),
         );
         stays = λ was. phase_decided (own_at settled) settled.hash settled.state s.stands (at_end (or_state first old.state) settled.state s.rises (still ∙ decided_phase (own_at old) old.hash old.state rest.stands was));
+        ended = λ was. ap own_at (s.ended (decided_phase (own_at old) old.hash old.state rest.stands was));
         certified = certifies decides;
         making = record { slot = ap (λ (x : Slot). x.0) s.rest.slot; hash = s.rest.hash; me = s.chain.board.me; local = s.chain.board.local };
         counted = s.chain.keeps;
@@ -183,8 +218,8 @@ module _ (old settled new : Machine) (given : Balloted) (first : Option State) (
   pub settled_rests : Emits settled new given.statement → IsAtRest (record settled { emitted = new.emitted })
   settled_rests emits = record { keeps = s.chain.keeps; stands = s.stands; ready = s.ready; emitted = emits_rests given.statement emits }
 
-pub advances : (old new : Machine) (given : Balloted) (first : Option State) (f g : Bool) → IsAtRest old → (or_state first old.state).phase ≡ old.state.phase → Gives old first new given → Advances (ballots_of old f) (ballots_of new g) given
-advances old new given first f g rest still gives = subst (λ m. Advances (ballots_of old f) (ballots_of m g) given) (sym gives.emits.frame) (advances_settled old gives.settled new given first f g rest gives.settles still gives.owed gives.decides gives.emits)
+pub advances : (old new : Machine) (given : Balloted) (first : Option State) (f g : Bool) → IsAtRest old → (or_state first old.state).phase ≡ old.state.phase → Rises old.state (or_state first old.state) → Gives old first new given → Advances (ballots_of old f) (ballots_of new g) given
+advances old new given first f g rest still up gives = subst (λ m. Advances (ballots_of old f) (ballots_of m g) given) (sym gives.emits.frame) (advances_settled old gives.settled new given first f g rest gives.settles still up gives.owed gives.decides gives.emits)
 
 pub gives_rests : (old new : Machine) (given : Balloted) (first : Option State) → IsAtRest old → Gives old first new given → IsAtRest new
 gives_rests old new given first rest gives = subst (λ m. IsAtRest m) (sym gives.emits.frame) (settled_rests old gives.settled new given first false false rest gives.settles gives.emits)

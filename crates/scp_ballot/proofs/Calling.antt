@@ -13,6 +13,7 @@ use Rattle.scp_ballot_rules.specs.Own.{own_of, own_in, or_zero, counter_of, Stan
 use Rattle.scp_ballot_rules.specs.Ready.{IsPreparing, IsConfirming, IsReadyIn, IsReady}
 use Rattle.scp_ballot_rules.specs.Rises.{place, Rises, or_state}
 use Rattle.scp_ballot_rules.specs.Rules.{Composes}
+use Rattle.scp_ballot_rules.proofs.Rising.{rises_itself}
 use Rattle.scp_ballot_rules.proofs.Options.{some_of, some_and, at_some, some_same, none_some, some_or_none}
 use Rattle.scp_ballot.specs.declared.machine.Machine.{Machine}
 use Rattle.scp_ballot.specs.declared.balloted.Balloted.{Balloted}
@@ -124,6 +125,30 @@ or_phase (Some next) s h = h next refl
 pub composite_phase : (z : List ℕ) (old new : Machine) (given : Balloted) → (takes : TakesComposite z old new given) → (or_state takes.first old.state).phase ≡ old.state.phase
 composite_phase z old new given takes =
     or_phase takes.first old.state (λ next e. ap (λ (t : State). t.phase) (at_if (λ next. (old.state.phase ≡ Prepare) × Composes z old.state next) takes.first next e takes.some).1.frame)
+
+-- an input brings no way back
+or_rises : (first : Option State) (s : State) → ((next : State) → first ≡ Some next → Rises s next) → Rises s (or_state first s)
+or_rises None s h = rises_itself s
+or_rises (Some next) s h = h next refl
+
+composes_rises : (z : List ℕ) (s next : State) → Composes z s next → Rises s next
+composes_rises z s next step = inr (
+  ap (λ (t : State). t.phase) step.frame,
+  elim step.present [
+    | inl same ↦ (let e : counter_of next.present ≡ counter_of s.present = ap counter_of same.0 in omega (arith, e))
+    | inr first ↦ (let e : counter_of s.present ≡ 0 = ap counter_of first.0 in omega (arith, e))
+  ],
+)
+
+times_rises : (s next : State) → Times s next → Rises s next
+times_rises s next times = inr (times_phase s next times, omega (arith, times.1))
+
+pub composite_rises : (z : List ℕ) (old new : Machine) (given : Balloted) → (takes : TakesComposite z old new given) → Rises old.state (or_state takes.first old.state)
+composite_rises z old new given takes =
+    or_rises takes.first old.state (λ next e. composes_rises z old.state next (at_if (λ next. (old.state.phase ≡ Prepare) × Composes z old.state next) takes.first next e takes.some).1)
+
+pub timer_rises : (old new : Machine) (given : Balloted) → (takes : TakesTimer old new given) → Rises old.state (or_state takes.first old.state)
+timer_rises old new given takes = or_rises takes.first old.state (λ next e. times_rises old.state next (at_if (λ next. Times old.state next) takes.first next e takes.some))
 
 pub timer_phase : (old new : Machine) (given : Balloted) → (takes : TakesTimer old new given) → (or_state takes.first old.state).phase ≡ old.state.phase
 timer_phase old new given takes = or_phase takes.first old.state (λ next e. times_phase old.state next (at_if (λ next. Times old.state next) takes.first next e takes.some))

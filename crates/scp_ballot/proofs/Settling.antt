@@ -50,6 +50,15 @@ phases_apart p e f = let k : Prepare ≡ Externalize = sym e ∙ f in cc
 phases_part : (p : Phase) → p ≡ Confirm → p ≡ Externalize → ⊥
 phases_part p e f = let k : Confirm ≡ Externalize = sym e ∙ f in cc
 
+-- nothing changes what is externalized
+step_open : (b : Seen) (old next : State) → IsStep b old next → old.phase ≡ Externalize → ⊥
+step_open b old next (inl (phase, step)) e = phases_apart old.phase phase e
+step_open b old next (inr (phase, step)) e = phases_part old.phase phase e
+
+change_open : (b : Seen) (old next : State) → IsChange b old next → old.phase ≡ Externalize → ⊥
+change_open b old next (inl step) e = step_open b old next step e
+change_open b old next (inr (phase, z, step)) e = phases_apart old.phase phase e
+
 -- only the fourth rule externalizes
 change_confirmed : (b new : Seen) (hash : Hash) (old next : State) → KeepsOwn b → Puts b new b.me (own_of hash next) b.local → IsChange b old next → IsConfirmedAt new next
 change_confirmed b new hash old next keeps puts (inl (inl (phase, inl step))) e = absurd (phases_apart next.phase (ap (λ (s : State). s.phase) step.frame ∙ phase) e)
@@ -76,6 +85,7 @@ module _ (first : Machine) (input : Option State) where
         ready = subst (λ x. IsReady x) (sym renews.state) kept.0;
         rises = subst (λ x. Rises (or_state input first.state) x) (sym renews.state) (rises_trans (or_state input first.state) now.state next s.rises (step_rises b now.state next step));
         confirmed = λ before. subst (λ x. IsConfirmedAt (ballots_on new.board) x) (sym renews.state) (change_confirmed b (ballots_on new.board) now.hash now.state next s.chain.keeps renews.board (inl step));
+        ended = λ e. absurd (step_open b now.state next step (ap (λ (m : Machine). m.state.phase) (s.ended e) ∙ e));
       }
 
 pub settled_start : (m : Machine) (input : Option State) → input ≡ None → IsAtRest m → IsSettled m input m
@@ -86,6 +96,7 @@ settled_start m input none rest = record {
   ready = rest.ready;
   rises = subst (λ o. Rises (or_state o m.state) m.state) (sym none) (rises_itself m.state);
   confirmed = λ before e. absurd (before e);
+  ended = λ e. refl;
 }
 
 -- the first change, with which settling begins
@@ -101,4 +112,5 @@ settled_first m new input next is rest change renews =
       ready = subst (λ x. IsReady x) (sym renews.state) kept.0;
       rises = subst (λ o. Rises (or_state o m.state) new.state) (sym is) (subst (λ x. Rises next x) (sym renews.state) (rises_itself next));
       confirmed = λ before. subst (λ x. IsConfirmedAt (ballots_on new.board) x) (sym renews.state) (change_confirmed b (ballots_on new.board) m.hash m.state next rest.keeps renews.board change);
+      ended = λ e. absurd (change_open b m.state next change e);
     }

@@ -1,6 +1,6 @@
 -- What a balloter promises of another node's statement.
 use Rattle.std.proofs.Common.{◌≡◌, ◌↔◌, Bool, ℕ, Some, None, IsSome, IsSomeAnd, cond, refl, sym, ◌∙◌, ap, subst, inl, inr}
-use Rattle.std.specs.Option.{option_map}
+use Rattle.std.specs.Option.{option_map, ForSome}
 use Rattle.std.specs.BTreeMap.{is_at}
 use Rattle.scp_types.specs.declared.names.Slot.{Slot}
 use Rattle.scp_quorum.specs.NodeSet.{node_cmp}
@@ -9,13 +9,14 @@ use Rattle.scp_envelope.specs.declared.statement.Statement.{Statement}
 use Rattle.scp_envelope.specs.declared.statement.Envelope.{Envelope}
 use Rattle.scp_vote.specs.declared.board.Board.{Board}
 use Rattle.scp_vote.specs.Licence.{Licensed, IsExternalize}
+use Rattle.scp_ballot_rules.proofs.Rising.{rises_itself}
 use Rattle.scp_ballot.specs.declared.machine.Machine.{Machine}
 use Rattle.scp_ballot.specs.declared.balloted.Balloted.{Balloted}
 use Rattle.scp_ballot.specs.Told.{ballots_on}
 use Rattle.scp_ballot.specs.Machine.{own_at, IsAtRest}
 use Rattle.scp_ballot.specs.Inputs.{IsHeardBy, HearsOne, TakesStatement}
 use Rattle.scp_ballot.specs.Inside.{ballots_of}
-use Rattle.scp_ballot.specs.Balloting.{Ballots, own, Advances, IsDecided, IsWorthTelling, last_emitted, KeepsOthers, IsHeard, HearsOnly}
+use Rattle.scp_ballot.specs.Balloting.{Ballots, own, Advances, GoesOn, IsDecided, IsWorthTelling, last_emitted, KeepsOthers, IsHeard, HearsOnly}
 use Rattle.scp_ballot.proofs.Heard.{heard_rests, own_heard}
 use Rattle.scp_ballot.proofs.Advancing.{advances, gives_rests, decided_phase, phase_decided}
 use Rattle.scp_ballot.proofs.Calling.{others_kept}
@@ -25,12 +26,14 @@ advances_from : (old mid new : Ballots) (given : Balloted) → own mid ≡ own o
     → Advances mid new given → Advances old new given
 advances_from old mid new given same last slot hash me local a = record {
   licensed = subst (λ o. Licensed new.board o (own new)) same a.licensed;
+  rises = subst (λ o. ForSome o (λ p. ForSome (own new) (λ q. GoesOn p q))) same a.rises;
   owed = a.owed;
   emitted = subst (λ o. IsSome given.statement ↔ IsWorthTelling o (own new)) last a.emitted;
   statement = a.statement;
   last = a.last ∙ ap (last_emitted given.statement) last;
   decided = subst (λ o. IsSome given.decided ↔ ((IsSomeAnd o IsExternalize → ⊥) × IsDecided new)) same a.decided;
   stays = λ was. a.stays (subst (λ o. IsSomeAnd o IsExternalize) (sym same) was);
+  ended = λ was. a.ended (subst (λ o. IsSomeAnd o IsExternalize) (sym same) was) ∙ same;
   certified = a.certified;
   making = record { slot = a.making.slot ∙ slot; hash = a.making.hash ∙ hash; me = a.making.me ∙ me; local = a.making.local ∙ local };
   counted = a.counted;
@@ -54,7 +57,7 @@ module _ (old new : Machine) (given : Balloted) (e : Envelope) (set : QuorumTree
   take_advances =
       advances_from (ballots_of old f) (ballots_of takes.mid f) (ballots_of new g) given (own_heard old takes.mid e set takes.hears) (ap (option_map (λ (s : Statement). s.pledges)) takes.hears.rest.emitted)
       (ap (λ (s : Slot). s.0) takes.hears.rest.slot) takes.hears.rest.hash (me_heard old takes.mid e set takes.hears) (local_heard old takes.mid e set takes.hears)
-      (advances takes.mid new given None f g mid_rests refl takes.gives)
+      (advances takes.mid new given None f g mid_rests refl (rises_itself takes.mid.state) takes.gives)
 
   pub take_rests : IsAtRest new
   take_rests = gives_rests takes.mid new given None mid_rests takes.gives

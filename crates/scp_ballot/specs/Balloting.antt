@@ -1,5 +1,5 @@
 -- A balloter as its contracts see it (the SCP draft, in this project's profile).
-use Rattle.std.specs.Prelude.{◌≡◌, ◌≢◌, ◌<◌, ◌↔◌, ◌⊎◌, ℕ, [], Bool, false, Option, Some, None, IsSome, IsSomeAnd, cond}
+use Rattle.std.specs.Prelude.{◌≡◌, ◌≢◌, ◌<◌, ◌≤◌, ◌↔◌, ◌⊎◌, ℕ, [], Bool, false, Option, Some, None, IsSome, IsSomeAnd, cond}
 use Rattle.std.specs.Option.{ForSome}
 use Rattle.std.specs.BTreeMap.{is_at}
 use Rattle.scp_types.specs.declared.names.NodeId.{NodeId}
@@ -91,17 +91,29 @@ pub record KeepsMaking (old new : Ballots) : Type 0 where
   pub me : new.board.me ≡ old.board.me
   pub local : new.board.local ≡ old.board.local
 
+-- After the first statement the second goes no way back: to no earlier kind, and within PREPARE and within CONFIRM to no smaller
+-- counter.
+abbrev pub GoesOn : Pledges → Pledges → Type 0
+GoesOn (Preparing p) (Preparing q) = p.ballot.counter ≤ q.ballot.counter
+GoesOn (Confirming p) (Preparing q) = ⊥
+GoesOn (Confirming p) (Confirming q) = p.ballot.counter ≤ q.ballot.counter
+GoesOn (Externalizing p) (Preparing q) = ⊥
+GoesOn (Externalizing p) (Confirming q) = ⊥
+GoesOn p q = Unit {0}
+
 -- What an input gives: the own statement is licensed from the one before it, with the others' part of the board as after the
--- input; nothing is owed, unless there is more; the statement is emitted exactly where it is worth telling; a decision is
--- given exactly where the own statement becomes an EXTERNALIZE, which it then stays.
+-- input, and goes no way back; nothing is owed, unless there is more; the statement is emitted exactly where it is worth telling; a decision is
+-- given exactly where the own statement becomes an EXTERNALIZE, which then stays as it is.
 pub record Advances (old new : Ballots) (given : Balloted) : Type 0 where
   pub licensed : Licensed new.board (own old) (own new)
+  pub rises : ForSome (own old) (λ p. ForSome (own new) (λ q. GoesOn p q))
   pub owed : given.more ≡ false → OwesNothing new.hash new.board
   pub emitted : IsSome given.statement ↔ IsWorthTelling old.emitted (own new)
   pub statement : ForSome given.statement (λ e. IsOwnEnvelope new e)
   pub last : new.emitted ≡ last_emitted given.statement old.emitted
   pub decided : IsSome given.decided ↔ ((IsDecided old → ⊥) × IsDecided new)
   pub stays : IsDecided old → IsDecided new
+  pub ended : IsDecided old → own new ≡ own old
   pub certified : ForSome given.decided (λ d. IsCertified new d)
   pub making : KeepsMaking old new
   pub counted : KeepsOwn new.board

@@ -51,7 +51,8 @@ pub record IsAtRest (m : Machine) : Type 0 where
   pub ready : IsReady m.state
   pub emitted : ForSome m.emitted (λ (s : Statement). (s.node ≡ (ballots_on m.board).me) × (s.slot ≡ m.slot))
 
--- What holds while the rules are applied, since the machine was the first one and the input made a state of its state.
+-- What holds while the rules are applied, since the machine was the first one and the input made a state of its state. What is
+-- externalized stays as it is.
 pub record IsSettled (first : Machine) (input : Option State) (now : Machine) : Type 0 where
   pub rest : KeepsRest first now
   pub chain : IsChain (ballots_on first.board) (own_at first) (ballots_on now.board)
@@ -59,6 +60,7 @@ pub record IsSettled (first : Machine) (input : Option State) (now : Machine) : 
   pub ready : IsReady now.state
   pub rises : Rises (or_state input first.state) now.state
   pub confirmed : (first.state.phase ≡ Externalize → ⊥) → IsConfirmedAt (ballots_on now.board) now.state
+  pub ended : first.state.phase ≡ Externalize → now ≡ first
 
 -- Nothing was heard and nothing said.
 pub record MachineBegins (me : NodeId) (set : QuorumTree) (m : Machine) : Type 0 where

@@ -1,5 +1,5 @@
 //! The candidate ballots: those that statements on the board name.
-ghost use Rattle.std.specs.Prelude.{◌≡◌, ◌≢◌, ◌⊎◌, ◌↔◌, Contains, Some, IsSomeAnd, IfOk, OnOk, IsOkUnless};
+ghost use Rattle.std.specs.Prelude.{◌≡◌, ◌≢◌, ◌⊎◌, ◌↔◌, IsTrue, Contains, Some, IsSomeAnd, IfOk, OnOk, IsOkUnless};
 ghost use Rattle.scp_types.specs.declared.ballot.Ballot.{Ballot};
 ghost use Rattle.scp_ballot_rules.specs.Owed.{Names};
 ghost use Rattle.scp_ballot.specs.Told.{ballots_on};
@@ -10,7 +10,7 @@ use scp_types::{Ballot, Fault, Value};
 use scp_vote::{Board, StatementKind};
 use std::alloc::Global;
 
-/// The candidate ballots, in the order of the nodes; a ballot that several statements name stands there as often. Ballots of
+/// The candidate ballots, each once, in the order of the nodes. Each that is named is looked for in the list. Ballots of
 /// counter 0 are left out (this project's profile).
 pub(crate) fn candidates(alloc: Global, board: &Board) -> Result<Vec<Ballot>, Fault>
     ensures all { IfOk result (λ list. AreCandidates (ballots_on board.now) list.items) }
@@ -24,12 +24,27 @@ pub(crate) fn candidates(alloc: Global, board: &Board) -> Result<Vec<Ballot>, Fa
     Ok(list)
 }
 
-/// Adds a copy of the ballot, unless its counter is 0.
+/// Whether it is the ballot of this counter and value.
+fn is_ballot_of(ballot: &Ballot, counter: u32, value: &Value) -> bool
+    ensures { IsTrue result ↔ ((record { counter = counter; value = value.now }) ≡ ballot.now) }
+{
+    ballot.counter == counter && ballot.value == *value
+}
+
+/// Whether the ballot stands in the list.
+fn holds(list: &[Ballot], counter: u32, value: &Value) -> bool
+    ensures { IsTrue result ↔ Contains list.now (record { counter = counter; value = value.now }) }
+{
+    list.iter()
+        .any(|ballot| is_ballot_of(ballot, counter, value))
+}
+
+/// Adds a copy of the ballot, unless its counter is 0 or the list has it.
 pub(crate) fn add(list: &mut Vec<Ballot>, counter: u32, value: &Value) -> Result<(), Fault>
     ensures added { OnOk result (Adds (λ x. ((record { counter = counter; value = value.now }) ≡ x)) list.old.items list.new.items) }
     ensures only_memory { IsOkUnless result Fault.NoMemory }
 {
-    if counter == 0 {
+    if counter == 0 || holds(list.as_slice(), counter, value) {
         return Ok(());
     }
     let value = value.copy()?;

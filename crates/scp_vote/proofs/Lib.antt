@@ -5,3 +5,5 @@ pub mod Picked
 pub mod Putting
 pub mod Kept
 pub mod Seating
+pub mod Single
+pub mod Supporting

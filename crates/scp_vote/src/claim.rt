@@ -1,6 +1,7 @@
 //! Claims, and how a statement stands by them.
 ghost use Rattle.std.specs.Prelude.{◌≡◌, ◌↔◌, IsTrue};
 ghost use Rattle.scp_vote.specs.Claims.{Stands};
+ghost use Rattle.scp_vote.specs.declared.claim.Support.TheVariants.{VotesOrAccepts, Accepts};
 ghost use Rattle.scp_vote.specs.Board.{kind_of_pledges};
 
 use scp_envelope::{Pledges, Statement};
@@ -80,6 +81,18 @@ pub fn stands(support: Support, claim: &Claim, statement: &Statement) -> bool
 }
 
 ghost use Rattle.scp_vote.specs.Claims.{AcceptsCommits, SupportsCommits};
+
+/// Whether the statement votes for the claim or accepts it. Where it accepts it, which is known, its votes aren't looked at.
+#[tactic(auto, using(crate::proofs::Supporting::accepts_supports))]
+pub(crate) fn stands_too(claim: &Claim, statement: &Statement, accepts: bool) -> bool
+    requires { IsTrue accepts ↔ Stands Accepts claim.now statement.now.pledges }
+    ensures { IsTrue result ↔ Stands VotesOrAccepts claim.now statement.now.pledges }
+{
+    if accepts {
+        return true;
+    }
+    stands(Support::VotesOrAccepts, claim, statement)
+}
 
 /// Whether it accepts each commit of the range: its ends are enough.
 fn accepts_range(statement: &Statement, low: u32, high: u32, value: &Value) -> bool

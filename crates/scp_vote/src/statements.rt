@@ -1,7 +1,7 @@
 //! Each node's newest statement of one kind, with the quorum set that is counted for it.
 ghost use Rattle.std.specs.Prelude.{◌≡◌, get_or, false};
 
-use crate::claim::{Claim, Support, stands};
+use crate::claim::{Claim, Support, stands, stands_too};
 use crate::table::{Table, mark};
 use scp_envelope::{Envelope, Pledges};
 use scp_quorum::{Marked, Nodes, SaneSet, greatest_quorum_among};
@@ -40,7 +40,7 @@ impl Side<'_> {
     ghost use Rattle.std.specs.Bool.{OnFalse, OnTrue};
     ghost use Rattle.scp_types.specs.declared.names.NodeId.{NodeId};
     ghost use Rattle.scp_quorum.specs.NodeSet.{is_in};
-    ghost use Rattle.scp_quorum.specs.Satisfies.{Blocks};
+    ghost use Rattle.scp_quorum.specs.Satisfies.{Blocks, Satisfies};
     ghost use Rattle.scp_quorum.specs.Quorum.{IsGreatestQuorum, HasNoQuorum};
     ghost use Rattle.scp_quorum.specs.Places.{marked, only};
     ghost use Rattle.scp_vote.specs.Claims.{Stands};
@@ -67,8 +67,8 @@ impl Side<'_> {
         let mut accepting = self.no_marks()?;
         for (_, entry) in &self.table.entries {
             let statement = &entry.envelope.statement;
-            let supports = stands(Support::VotesOrAccepts, claim, statement);
             let accepts = stands(Support::Accepts, claim, statement);
+            let supports = stands_too(claim, statement, accepts);
             mark(&mut supporting, entry.place, supports);
             mark(&mut accepting, entry.place, accepts);
         }
@@ -91,7 +91,8 @@ impl Side<'_> {
     }
 
     /// Whether the marked nodes contain a quorum at this node: then just those of the greatest stay marked. Refused before any
-    /// group is looked at where this node isn't marked, or the marked nodes don't satisfy the local set.
+    /// group is looked at where this node isn't marked, or the marked nodes don't satisfy the local set; where all nodes share
+    /// one set, that answers it.
     fn has_quorum(&self, marks: &mut [bool]) -> Result<bool, Fault>
         requires { KeepsOwn (side self.now) }
         ensures found { IfOk result (λ yes. OnTrue yes (IsGreatestQuorum (only (marked (place_in self.now.table.now.entries) marks.old) (side self.now).counted) (side self.now).me (marked (place_in self.now.table.now.entries) marks.new))) }
@@ -103,13 +104,17 @@ impl Side<'_> {
             return Ok(false);
         }
         let Table { seats, sets, .. } = self.table;
+        if sets.len() < 2 {
+            return Ok(true);
+        }
         greatest_quorum_among(self.alloc, self.table, seats, sets, &self.me, marks)
     }
 
     /// Whether this node is marked, and the marked nodes satisfy the local set. A quorum at this node needs both.
     fn may_have_quorum(&self, marks: &[bool]) -> bool
         requires { KeepsOwn (side self.now) }
-        ensures { OnFalse result (HasNoQuorum (only (marked (place_in self.now.table.now.entries) marks.now) (side self.now).counted) (side self.now).me) }
+        ensures none { OnFalse result (HasNoQuorum (only (marked (place_in self.now.table.now.entries) marks.now) (side self.now).counted) (side self.now).me) }
+        ensures both { OnTrue result ((marked (place_in self.now.table.now.entries) marks.now self.now.me ≡ true) × Satisfies (marked (place_in self.now.table.now.entries) marks.now) (side self.now).local) }
     {
         let nodes = Marked {
             places: self.table,

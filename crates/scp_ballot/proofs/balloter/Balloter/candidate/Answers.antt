@@ -3,7 +3,7 @@ use Rattle.scp_ballot.specs.View.{BalloterView}
 use Rattle.scp_ballot.specs.Balloting.{ballots, Advances, KeepsOthers}
 use Rattle.scp_ballot.specs.Inside.{ballots_of}
 use Rattle.scp_ballot.proofs.Advancing.{advances, gives_rests}
-use Rattle.scp_ballot.proofs.Calling.{others_kept, composite_ballot, composite_phase}
+use Rattle.scp_ballot.proofs.Calling.{others_kept, composite_ballot, composite_phase, composite_rises}
 use Rattle.scp_ballot.proofs.balloter.Balloter.candidate.Goals as goal
 
 pub candidate-requires : goal.candidate-requires
@@ -17,7 +17,7 @@ returns-clause-advances c =
     let given = c.in_ok-given.given in
     let takes = c.in_ok-given.ensures.takes in
     subst (λ (v : BalloterView). Advances (ballots v) (ballots_of n false) given) c.self.view_is
-    (advances m n given takes.first c.self.inside.failed false (c.self.invariant whole) (composite_phase c.args.value m n given takes) takes.gives)
+    (advances m n given takes.first c.self.inside.failed false (c.self.invariant whole) (composite_phase c.args.value m n given takes) (composite_rises c.args.value m n given takes) takes.gives)
 
 pub returns-clause-ballot : goal.returns-clause-ballot
 returns-clause-ballot c =

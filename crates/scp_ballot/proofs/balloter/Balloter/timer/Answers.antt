@@ -3,7 +3,7 @@ use Rattle.scp_ballot.specs.View.{BalloterView}
 use Rattle.scp_ballot.specs.Balloting.{ballots, Advances, HasBallot, KeepsOthers, RaisesCounter}
 use Rattle.scp_ballot.specs.Inside.{ballots_of}
 use Rattle.scp_ballot.proofs.Advancing.{advances, gives_rests}
-use Rattle.scp_ballot.proofs.Calling.{others_kept, timer_ballot, timer_raises, timer_phase}
+use Rattle.scp_ballot.proofs.Calling.{others_kept, timer_ballot, timer_raises, timer_phase, timer_rises}
 use Rattle.scp_ballot.proofs.balloter.Balloter.timer.Goals as goal
 
 pub timer-requires : goal.timer-requires
@@ -17,7 +17,7 @@ returns-clause-advances c =
     let given = c.in_ok-given.given in
     let takes = c.in_ok-given.ensures.takes in
     subst (λ (v : BalloterView). Advances (ballots v) (ballots_of n false) given) c.self.view_is
-    (advances m n given takes.first c.self.inside.failed false (c.self.invariant whole) (timer_phase m n given takes) takes.gives)
+    (advances m n given takes.first c.self.inside.failed false (c.self.invariant whole) (timer_phase m n given takes) (timer_rises m n given takes) takes.gives)
 
 pub returns-clause-ballot : goal.returns-clause-ballot
 returns-clause-ballot c had =

@@ -9,8 +9,8 @@ use Rattle.scp_vote.proofs.Picked.{own_counted}
 use Rattle.scp_vote.proofs.Seating.{none_without_local}
 use Rattle.scp_vote.proofs.statements.Side.may_have_quorum.Goals as goal
 
-pub returns-then-has : goal.returns-then-has
-returns-then-has c =
+pub returns-then-has-clause-none : goal.returns-then-has-clause-none
+returns-then-has-clause-none c =
     let b = side c.args.self.now in
     let first = marked (place_in c.args.self.now.table.now.entries) c.args.marks.now in
     let q : c.set.result.now ≡ c.args.self.now.local.now.value = search rules in

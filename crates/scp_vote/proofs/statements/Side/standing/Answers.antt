@@ -20,9 +20,9 @@ loop-entry-preserved c =
     All-turn deref_pair (λ e. node_map.get node_cmp es e.0 ≡ Some e.1) _ _ _ _ _ _ _ c.into_iter-entry-iterator.ensures.into_iter_gives.6 c.into_iter-entry-iterator.ensures.into_iter_gives.0 c.loop-entry.yielded_by c.in-Some.is c.next.ensures.steps
     in
     let supporting_now = take c.loop-entry.supporting.len (c.mark.new.marks ++ drop (length c.mark.new.marks) c.loop-entry.supporting.items) in
-    let supporting_same : supporting_now ≡ cond c.stands-supports.result (set c.loop-entry.supporting.items c.in-Some.entry.now.place true) c.loop-entry.supporting.items =
+    let supporting_same : supporting_now ≡ cond c.stands_too-supports.result (set c.loop-entry.supporting.items c.in-Some.entry.now.place true) c.loop-entry.supporting.items =
     written c.loop-entry.supporting.len c.loop-entry.supporting.items c.deref_mut.result.now c.mark.new.marks c.deref_mut.ensures.value c.mark.ensures.len c.loop-entry.supporting.ok.0
-    ∙ c.mark.ensures.marked ∙ ap (λ m. cond c.stands-supports.result (set m c.in-Some.entry.now.place true) m) c.deref_mut.ensures.value
+    ∙ c.mark.ensures.marked ∙ ap (λ m. cond c.stands_too-supports.result (set m c.in-Some.entry.now.place true) m) c.deref_mut.ensures.value
     in
     let supporting_before : Entries → Type 0 = λ rest. IsPicking (Has (side c.args.self.now) (Stands VotesOrAccepts c.args.claim.now)) (marked (place_in es) c.loop-entry.supporting.items) rest in
     let accepting_now = take c.loop-entry.accepting.len (c.mark-in-loop-entry.new.marks ++ drop (length c.mark-in-loop-entry.new.marks) c.loop-entry.accepting.items) in
@@ -32,8 +32,8 @@ loop-entry-preserved c =
     in
     let accepting_before : Entries → Type 0 = λ rest. IsPicking (Has (side c.args.self.now) (Stands Accepts c.args.claim.now)) (marked (place_in es) c.loop-entry.accepting.items) rest in
     record {
-      supporting = walk_step c.args.self.now (Stands VotesOrAccepts c.args.claim.now) c.loop-entry.supporting.items supporting_now c.in-Some.field-0-0.now c.in-Some.entry.now _ c.stands-supports.result item c.stands-supports.ensures supporting_same c.loop-entry.invariant.supporting_len (subst supporting_before c.in-Some.ensures.steps c.loop-entry.invariant.supporting);
-      supporting_len = marked_len c.loop-entry.supporting.items supporting_now c.in-Some.entry.now.place c.stands-supports.result supporting_same ∙ c.loop-entry.invariant.supporting_len;
+      supporting = walk_step c.args.self.now (Stands VotesOrAccepts c.args.claim.now) c.loop-entry.supporting.items supporting_now c.in-Some.field-0-0.now c.in-Some.entry.now _ c.stands_too-supports.result item c.stands_too-supports.ensures supporting_same c.loop-entry.invariant.supporting_len (subst supporting_before c.in-Some.ensures.steps c.loop-entry.invariant.supporting);
+      supporting_len = marked_len c.loop-entry.supporting.items supporting_now c.in-Some.entry.now.place c.stands_too-supports.result supporting_same ∙ c.loop-entry.invariant.supporting_len;
       accepting = walk_step c.args.self.now (Stands Accepts c.args.claim.now) c.loop-entry.accepting.items accepting_now c.in-Some.field-0-0.now c.in-Some.entry.now _ c.stands-accepts.result item c.stands-accepts.ensures accepting_same c.loop-entry.invariant.accepting_len (subst accepting_before c.in-Some.ensures.steps c.loop-entry.invariant.accepting);
       accepting_len = marked_len c.loop-entry.accepting.items accepting_now c.in-Some.entry.now.place c.stands-accepts.result accepting_same ∙ c.loop-entry.invariant.accepting_len;
     }
