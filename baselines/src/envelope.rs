@@ -5,7 +5,7 @@ use crate::xdr::Reader;
 const LIST_LIMIT: u32 = 64;
 const SIGNATURE_LIMIT: u32 = 64;
 
-#[derive(Debug)]
+#[derive(Clone, Debug, PartialEq)]
 pub struct Prepare {
     pub set_hash: Hash,
     pub ballot: Ballot,
@@ -15,7 +15,7 @@ pub struct Prepare {
     pub n_high: u32,
 }
 
-#[derive(Debug)]
+#[derive(Clone, Debug, PartialEq)]
 pub struct Confirm {
     pub ballot: Ballot,
     pub n_prepared: u32,
@@ -24,21 +24,21 @@ pub struct Confirm {
     pub set_hash: Hash,
 }
 
-#[derive(Debug)]
+#[derive(Clone, Debug, PartialEq)]
 pub struct Externalize {
     pub commit: Ballot,
     pub n_high: u32,
     pub set_hash: Hash,
 }
 
-#[derive(Debug)]
+#[derive(Clone, Debug, PartialEq)]
 pub struct Nominate {
     pub set_hash: Hash,
     pub votes: Vec<Value>,
     pub accepted: Vec<Value>,
 }
 
-#[derive(Debug)]
+#[derive(Clone, Debug, PartialEq)]
 pub enum Pledges {
     Prepare(Prepare),
     Confirm(Confirm),
@@ -46,14 +46,14 @@ pub enum Pledges {
     Nominate(Nominate),
 }
 
-#[derive(Debug)]
+#[derive(Clone, Debug, PartialEq)]
 pub struct Statement {
     pub node: NodeId,
     pub slot: Slot,
     pub pledges: Pledges,
 }
 
-#[derive(Debug)]
+#[derive(Clone, Debug, PartialEq)]
 pub struct Envelope {
     pub statement: Statement,
     #[allow(dead_code)]

@@ -1,8 +1,12 @@
 //! The same work as scp_bench's workloads, in plain Rust.
+mod board;
 mod envelope;
+mod hearing;
 mod hex;
 mod kv;
+mod link;
 mod node;
+mod pending;
 mod quorum;
 mod script;
 mod sha256;
@@ -11,54 +15,17 @@ mod votes;
 mod wire;
 mod xdr;
 
-use node::{Config, Event, Fate, Node, Reply, Verdict};
-use quorum::QuorumSet;
 use std::hint::black_box;
 use std::process::ExitCode;
-use types::{Fault, Hash, NodeId};
+use types::Fault;
 use wire::Message;
 
 const DISTINCT: u32 = 4_096;
-const HEARD: u32 = 1_000_000;
-const SLOTS: u32 = 16;
-const ROUNDS: u32 = 16;
 const SENDS: u32 = 11_000;
 const LINE_LEN: usize = 90;
-const ME: NodeId = NodeId([1; 32]);
-const PEER: NodeId = NodeId([2; 32]);
-
-fn record(slot: u64) -> [u8; 40] {
-    let [a, b, c, d, e, f, g, h] = slot.to_be_bytes();
-    [
-        0, 0, 0, 6, a, b, c, d, e, f, g, h, 0, 0, 0, 24, 0, 0, 0, 1, 0, 0, 0, 0, 0, 0, 0, 4, e, f,
-        g, h, 0, 0, 0, 1, b'1', 0, 0, 0,
-    ]
-}
-
-fn prepare(node: &NodeId, slot: u64, set_hash: &Hash, counter: u32) -> Vec<u8> {
-    let mut bytes = Vec::with_capacity(116);
-    bytes.extend_from_slice(&[0, 0, 0, 1, 0, 0, 0, 0]);
-    bytes.extend_from_slice(&node.0);
-    bytes.extend_from_slice(&slot.to_be_bytes());
-    bytes.extend_from_slice(&[0; 4]);
-    bytes.extend_from_slice(&set_hash.0);
-    bytes.extend_from_slice(&counter.to_be_bytes());
-    bytes.extend_from_slice(&[0, 0, 0, 4]);
-    bytes.extend_from_slice(&[0; 24]);
-    bytes
-}
-
-fn slot_at(place: u32) -> u64 {
-    let place = place as u64;
-    if place % 16 < 8 {
-        place + 1
-    } else {
-        place / 8 * 8 + (8 - place % 8)
-    }
-}
 
 fn decode_records(size: u32) -> Result<String, Fault> {
-    let messages: Vec<[u8; 40]> = (1..=DISTINCT as u64).map(record).collect();
+    let messages: Vec<[u8; 40]> = (1..=DISTINCT as u64).map(hearing::record).collect();
     let (mut count, mut slots, mut len) = (0u64, 0u64, 0u64);
     let mut take_all = |messages: &[[u8; 40]]| {
         for bytes in messages {
@@ -80,99 +47,16 @@ fn decode_records(size: u32) -> Result<String, Fault> {
     ))
 }
 
-fn both_nodes() -> QuorumSet {
-    QuorumSet {
-        threshold: 2,
-        validators: vec![ME, PEER],
-        inner_sets: Vec::new(),
-    }
-}
-
-fn hear(node: &mut Node, event: Event) -> Result<(), Fault> {
-    match node.step(event) {
-        Reply::Accepted => Ok(()),
-        _ => Err(Fault::Failed),
-    }
-}
-
-fn new_node() -> Result<Node, Fault> {
-    let mut node = Node::new(Config {
-        me: ME,
-        set: both_nodes(),
-        peers: vec![PEER],
-    })?;
-    hear(&mut node, Event::Open(0))?;
-    Ok(node)
-}
-
-/// As many as a node may hear, one node after the other.
-fn portions(size: u32) -> impl Iterator<Item = u32> {
-    (0..size / HEARD)
-        .map(|_| HEARD)
-        .chain((size % HEARD > 0).then_some(size % HEARD))
-}
-
-fn hear_records(size: u32) -> Result<String, Fault> {
-    let (mut nodes, mut entries, mut decisions, mut applied, mut keys) = (0u64, 0, 0, 0, 0);
-    for records in portions(size) {
-        let mut node = new_node()?;
-        for place in 0..records {
-            hear(&mut node, Event::Send(0, record(slot_at(place)).to_vec()))?;
-        }
-        nodes += 1;
-        entries += node.journal().len();
-        decisions += node.decisions().len();
-        applied += node.applied().len();
-        keys += node.state().map_or(0, |state| state.entries.len());
-    }
-    Ok(format!(
-        "records {size}: nodes {nodes} entries {entries} decisions {decisions} applied {applied} keys {keys}"
-    ))
-}
-
-fn hear_envelopes(size: u32) -> Result<String, Fault> {
-    let hash = both_nodes().hash();
-    let (mut nodes, mut fresh, mut stale, mut others) = (0u64, 0u64, 0u64, 0u64);
-    for envelopes in portions(size) {
-        let mut node = new_node()?;
-        for place in 0..envelopes {
-            let slot = (place % SLOTS) as u64 + 1;
-            let counter = place / (SLOTS * ROUNDS) + 1;
-            hear(
-                &mut node,
-                Event::Send(0, prepare(&PEER, slot, &hash, counter)),
-            )?;
-        }
-        nodes += 1;
-        for fate in node.journal() {
-            match fate {
-                Fate::Taken {
-                    verdict: Verdict::Fresh,
-                    ..
-                } => fresh += 1,
-                Fate::Taken {
-                    verdict: Verdict::Stale,
-                    ..
-                } => stale += 1,
-                _ => others += 1,
-            }
-        }
-    }
-    Ok(format!(
-        "envelopes {size}: nodes {nodes} fresh {fresh} stale {stale} others {others}"
-    ))
-}
-
 fn script(sends: u32) -> String {
     let mut text = String::with_capacity(SENDS as usize * LINE_LEN + 100);
     text.push_str("nodes 2 2\nopen 2 1\n");
     for place in 0..sends {
-        let digits = hex::encode(&record(slot_at(place)));
+        let digits = hex::encode(&hearing::record(hearing::slot_at(place)));
         text.push_str("send 2 1 ");
         text.push_str(&digits);
         text.push('\n');
     }
-    text.push_str("report 1\n");
+    text.push_str("settle\nreport 1\n");
     text
 }
 
@@ -186,7 +70,7 @@ fn play_scripts(size: u32) -> Result<String, Fault> {
         let mut report = Vec::new();
         script::play(text.as_bytes(), &mut report)?;
         scripts += 1;
-        lines += sends as u64 + 3;
+        lines += sends as u64 + 4;
         bytes += black_box(&report).len() as u64;
     }
     Ok(format!(
@@ -197,7 +81,9 @@ fn play_scripts(size: u32) -> Result<String, Fault> {
 fn main() -> ExitCode {
     let words: Vec<String> = std::env::args().collect();
     let [_, workload, size] = &words[..] else {
-        eprintln!("usage: plain decode|records|envelopes|script|votes-one|votes-each SIZE");
+        eprintln!(
+            "usage: plain decode|records|envelopes|flow|parked|script|votes-one|votes-each SIZE"
+        );
         return ExitCode::from(2);
     };
     let Ok(size) = size.parse() else {
@@ -205,8 +91,10 @@ fn main() -> ExitCode {
     };
     let line = match workload.as_str() {
         "decode" => decode_records(size),
-        "records" => hear_records(size),
-        "envelopes" => hear_envelopes(size),
+        "records" => hearing::hear_records(size),
+        "envelopes" => hearing::hear_envelopes(size),
+        "flow" => hearing::hear_flow(size),
+        "parked" => hearing::park_envelopes(size),
         "script" => play_scripts(size),
         "votes-one" => votes::count_votes(votes::Sharing::One, size),
         "votes-each" => votes::count_votes(votes::Sharing::Each, size),

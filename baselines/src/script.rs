@@ -1,37 +1,34 @@
 //! Scripts in, reports out.
 use crate::hex;
-use crate::node::{Cause, Config, Decision, Event, Fate, Node, Origin, Reply, Verdict};
+use crate::link::Cause;
+use crate::node::{Capacities, Config, Decision, Event, Fate, Node, Origin, Reply, Verdict};
+use crate::pending::DropCause;
 use crate::quorum::QuorumSet;
 use crate::types::{ConnId, Fault, NodeId};
 use std::collections::BTreeMap;
 use std::io::{Read, Write};
 
 pub const SCRIPT_LIMIT: usize = 1_048_576;
+const NODES: u8 = 8;
+const LIVES: u32 = 65_535;
+const ROUNDS: u32 = 100_000;
+
+/// What a line says of the link between two nodes.
+enum Act {
+    Open,
+    Send(Vec<u8>),
+    Close,
+}
 
 enum Command {
-    Nodes { quorum: u8 },
+    Caps(Capacities),
+    Nodes { count: u8, quorum: u8 },
     Set { node: u8, set: QuorumSet },
-    Step { node: u8, event: Event },
-    Ask,
+    Link { from: u8, to: u8, act: Act },
+    Tick(u8),
+    Ask { from: u8, to: u8 },
     Settle,
     Report(u8),
-}
-
-fn small_number(word: &str) -> Option<u8> {
-    match word {
-        "1" => Some(1),
-        "2" => Some(2),
-        _ => None,
-    }
-}
-
-/// The node that a link goes to.
-fn link(from: &str, to: &str) -> Option<u8> {
-    match (from, to) {
-        ("1", "2") => Some(2),
-        ("2", "1") => Some(1),
-        _ => None,
-    }
 }
 
 /// A number without sign or leading zero.
@@ -42,6 +39,15 @@ fn number(word: &str) -> Option<u64> {
     word.parse().ok()
 }
 
+fn small_number(word: &str) -> Option<u8> {
+    number(word)?.try_into().ok()
+}
+
+fn capacity(word: &str) -> Option<usize> {
+    let room = number(word)?.try_into().ok()?;
+    (1..=1_024).contains(&room).then_some(room)
+}
+
 fn bytes_of(word: &str) -> Option<Vec<u8>> {
     match word {
         "-" => Some(Vec::new()),
@@ -50,30 +56,43 @@ fn bytes_of(word: &str) -> Option<Vec<u8>> {
     }
 }
 
+fn link(from: &str, to: &str, act: Act) -> Option<Command> {
+    Some(Command::Link {
+        from: small_number(from)?,
+        to: small_number(to)?,
+        act,
+    })
+}
+
 fn command(words: &[&str]) -> Option<Command> {
     match *words {
         ["settle"] => Some(Command::Settle),
         ["report", node] => Some(Command::Report(small_number(node)?)),
-        ["nodes", "2", quorum] => Some(Command::Nodes {
+        ["caps", link, inbox, ready, decided] => Some(Command::Caps(Capacities {
+            link: capacity(link)?,
+            inbox: capacity(inbox)?,
+            ready: capacity(ready)?,
+            decided: capacity(decided)?,
+        })),
+        ["nodes", count, quorum] => Some(Command::Nodes {
+            count: small_number(count)?,
             quorum: small_number(quorum)?,
         }),
         ["set", node, word] => Some(Command::Set {
             node: small_number(node)?,
             set: QuorumSet::decode(&bytes_of(word)?).ok()?,
         }),
-        ["open", from, to] => Some(Command::Step {
-            node: link(from, to)?,
-            event: Event::Open(0),
-        }),
+        ["open", from, to] => link(from, to, Act::Open),
+        ["close", from, to] => link(from, to, Act::Close),
+        ["send", from, to, word] => link(from, to, Act::Send(bytes_of(word)?)),
+        ["tick", node] => Some(Command::Tick(small_number(node)?)),
         ["ask", from, to, slot] => {
-            link(from, to)?;
             number(slot)?;
-            Some(Command::Ask)
+            Some(Command::Ask {
+                from: small_number(from)?,
+                to: small_number(to)?,
+            })
         }
-        ["send", from, to, word] => Some(Command::Step {
-            node: link(from, to)?,
-            event: Event::Send(0, bytes_of(word)?),
-        }),
         _ => None,
     }
 }
@@ -81,22 +100,35 @@ fn command(words: &[&str]) -> Option<Command> {
 #[derive(Default)]
 struct Reading {
     commands: Vec<Command>,
-    is_counted: bool,
+    count: u8,
     has_begun: bool,
-    is_open: [bool; 2],
+    /// Of each link whether it is open, and its lives.
+    links: BTreeMap<(u8, u8), (bool, u32)>,
 }
 
 impl Reading {
+    fn has(&self, node: u8) -> bool {
+        (1..=self.count).contains(&node)
+    }
+
     fn admits(&self, command: &Command) -> bool {
         match command {
-            Command::Nodes { .. } => !self.is_counted,
-            Command::Set { set, .. } => self.is_counted && !self.has_begun && set.is_sane(),
-            Command::Step { node, event } => match event {
-                Event::Open(_) => self.is_counted && !self.is_open[*node as usize - 1],
-                Event::Send(..) => self.is_open[*node as usize - 1],
-                Event::Close(_) => false,
-            },
-            Command::Ask | Command::Settle | Command::Report(_) => self.is_counted,
+            Command::Caps(_) => self.count == 0,
+            Command::Nodes { count, quorum } => {
+                self.count == 0 && (1..=NODES).contains(count) && (1..=*count).contains(quorum)
+            }
+            Command::Set { node, set } => self.has(*node) && !self.has_begun && set.is_sane(),
+            Command::Link { from, to, act } => {
+                let (is_open, lives) = *self.links.get(&(*from, *to)).unwrap_or(&(false, 0));
+                let fits = match act {
+                    Act::Open => !is_open && lives < LIVES,
+                    Act::Send(_) | Act::Close => is_open,
+                };
+                self.has(*from) && self.has(*to) && from != to && fits
+            }
+            Command::Ask { from, to } => self.has(*from) && self.has(*to) && from != to,
+            Command::Tick(node) | Command::Report(node) => self.has(*node),
+            Command::Settle => self.count > 0,
         }
     }
 
@@ -105,15 +137,21 @@ impl Reading {
             return None;
         }
         match &command {
-            Command::Nodes { .. } => self.is_counted = true,
-            Command::Set { .. } => {}
-            Command::Step { node, event } => {
+            Command::Nodes { count, .. } => self.count = *count,
+            Command::Caps(_) | Command::Set { .. } => {}
+            Command::Link { from, to, act } => {
                 self.has_begun = true;
-                if let Event::Open(_) = event {
-                    self.is_open[*node as usize - 1] = true;
+                let (is_open, lives) = self.links.entry((*from, *to)).or_default();
+                match act {
+                    Act::Open => {
+                        *is_open = true;
+                        *lives += 1;
+                    }
+                    Act::Close => *is_open = false,
+                    Act::Send(_) => {}
                 }
             }
-            Command::Ask | Command::Settle | Command::Report(_) => self.has_begun = true,
+            _ => self.has_begun = true,
         }
         self.commands.push(command);
         Some(())
@@ -144,32 +182,89 @@ fn id_from(number: u8) -> NodeId {
     NodeId([number; 32])
 }
 
-fn of_both(quorum: u8) -> QuorumSet {
-    QuorumSet {
-        threshold: u32::from(quorum),
-        validators: vec![id_from(1), id_from(2)],
-        inner_sets: Vec::new(),
-    }
-}
-
-fn set_of_node(commands: &[Command], number: u8) -> QuorumSet {
-    let mut last = of_both(1);
+/// The nodes that a script begins with.
+fn new_nodes(commands: &[Command]) -> Result<Vec<Node>, Fault> {
+    let mut capacities = Capacities {
+        link: 64,
+        inbox: 64,
+        ready: 64,
+        decided: 64,
+    };
+    let mut sets = Vec::new();
     for command in commands {
         match command {
-            Command::Nodes { quorum } => last = of_both(*quorum),
-            Command::Set { node, set } if *node == number => last = set.clone(),
+            Command::Caps(given) => capacities = *given,
+            Command::Nodes { count, quorum } => {
+                let all = QuorumSet {
+                    threshold: u32::from(*quorum),
+                    validators: (1..=*count).map(id_from).collect(),
+                    inner_sets: Vec::new(),
+                };
+                sets = vec![all; *count as usize];
+            }
+            Command::Set { node, set } => sets[*node as usize - 1] = set.clone(),
             _ => {}
         }
     }
-    last
+    let count = sets.len() as u8;
+    let configs = (1..).zip(sets).map(|(number, set)| Config {
+        me: id_from(number),
+        set,
+        peers: (1..=count)
+            .filter(|other| *other != number)
+            .map(id_from)
+            .collect(),
+        capacities,
+    });
+    configs.map(Node::new).collect()
 }
 
-fn new_node(commands: &[Command], number: u8, other: u8) -> Result<Node, Fault> {
-    Node::new(Config {
-        me: id_from(number),
-        set: set_of_node(commands, number),
-        peers: vec![id_from(other)],
-    })
+/// The place of a node among the peers of another.
+fn place(from: u8, to: u8) -> u8 {
+    if from < to { from - 1 } else { from - 2 }
+}
+
+/// One round over the nodes; whether anything moved.
+fn round(nodes: &mut [Node]) -> bool {
+    let mut moved = false;
+    for node in nodes {
+        let links = node.links().len() as u8;
+        let mut step = |event| moved |= node.step(event) == Reply::Moved;
+        for link in 0..links {
+            step(Event::ReaderTake(link));
+            step(Event::ReaderPut(link));
+        }
+        step(Event::PendTake);
+        step(Event::PendPut);
+        step(Event::SlotTake);
+        step(Event::SlotPut);
+        step(Event::ApplyTake);
+    }
+    moved
+}
+
+fn settle(nodes: &mut [Node]) -> Result<(), Fault> {
+    for _ in 0..ROUNDS {
+        if !round(nodes) {
+            break;
+        }
+    }
+    if nodes.iter().any(|node| node.state().is_none()) {
+        return Err(Fault::Failed);
+    }
+    Ok(())
+}
+
+/// Where the queue is full, settles and tries again once.
+fn put(nodes: &mut [Node], to: u8, event: &dyn Fn() -> Event) -> Result<(), Fault> {
+    let place = to as usize - 1;
+    if nodes[place].step(event()) == Reply::Full {
+        settle(nodes)?;
+        if nodes[place].step(event()) != Reply::Accepted {
+            return Err(Fault::Failed);
+        }
+    }
+    Ok(())
 }
 
 fn word_of_verdict(verdict: Verdict) -> &'static str {
@@ -192,6 +287,16 @@ fn word_of_cause(cause: Cause) -> &'static str {
         Cause::Malformed => "malformed",
         Cause::Link => "link",
         Cause::Spent => "spent",
+        Cause::ParkedFull => "parked-full",
+    }
+}
+
+fn word_of_drop(cause: DropCause) -> &'static str {
+    match cause {
+        DropCause::BadSet => "bad-set",
+        DropCause::GaveUp => "gave-up",
+        DropCause::Closed => "closed",
+        DropCause::ParkedFull => "parked-full",
     }
 }
 
@@ -199,6 +304,9 @@ fn write_fate(text: &mut Vec<u8>, fate: &Fate) -> std::io::Result<()> {
     match fate {
         Fate::Taken { seq, verdict, .. } => {
             writeln!(text, "{} taken {}", seq.0, word_of_verdict(*verdict))
+        }
+        Fate::Dropped { seq, cause, .. } => {
+            writeln!(text, "{} dropped {}", seq.0, word_of_drop(*cause))
         }
         Fate::Closed { cause, .. } => writeln!(text, "closed {}", word_of_cause(*cause)),
     }
@@ -224,12 +332,28 @@ fn write_report(text: &mut Vec<u8>, number: u8, node: &Node) -> std::io::Result<
     writeln!(text, "node {number}")?;
     let mut sections: BTreeMap<ConnId, Vec<u8>> = BTreeMap::new();
     for fate in node.journal() {
-        let (Fate::Taken { conn, .. } | Fate::Closed { conn, .. }) = fate;
+        let (Fate::Taken { conn, .. } | Fate::Dropped { conn, .. } | Fate::Closed { conn, .. }) =
+            fate;
         write_fate(sections.entry(*conn).or_default(), fate)?;
+    }
+    for link in node.links() {
+        for life in 1..=link.life {
+            let conn = ConnId {
+                life,
+                ..link.conn()
+            };
+            if node.parked(&conn) > 0 {
+                sections.entry(conn).or_default();
+            }
+        }
     }
     for (conn, lines) in &sections {
         writeln!(text, "conn {} {}", conn.from.0[0], conn.life)?;
         text.extend_from_slice(lines);
+        match node.parked(conn) {
+            0 => {}
+            parked => writeln!(text, "parked {parked}")?,
+        }
     }
     for decision in node.applied() {
         write_applied(text, decision)?;
@@ -249,20 +373,26 @@ fn write_report(text: &mut Vec<u8>, number: u8, node: &Node) -> std::io::Result<
 
 fn played(text: &[u8]) -> Result<Vec<u8>, Fault> {
     let commands = parse(text)?;
-    let mut first = new_node(&commands, 1, 2)?;
-    let mut second = new_node(&commands, 2, 1)?;
+    let mut nodes = new_nodes(&commands)?;
     for command in &commands {
-        if let Command::Step { node, event } = command {
-            let node = if *node == 1 { &mut first } else { &mut second };
-            if node.advance(event) != Reply::Accepted {
-                return Err(Fault::Failed);
+        match command {
+            Command::Link { from, to, act } => {
+                let link = place(*from, *to);
+                put(&mut nodes, *to, &|| match act {
+                    Act::Open => Event::Open(link),
+                    Act::Send(bytes) => Event::Send(link, bytes.clone()),
+                    Act::Close => Event::Close(link),
+                })?;
             }
+            Command::Tick(node) => put(&mut nodes, *node, &|| Event::Tick)?,
+            Command::Settle => settle(&mut nodes)?,
+            _ => {}
         }
     }
     let mut printed = Vec::new();
     for command in &commands {
         if let Command::Report(number) = command {
-            let node = if *number == 1 { &first } else { &second };
+            let node = &nodes[*number as usize - 1];
             write_report(&mut printed, *number, node).map_err(|_| Fault::Device)?;
         }
     }

@@ -17,10 +17,12 @@ pub enum Asked {
     Usage,
 }
 
-static WORKLOADS: [&str; 10] = [
+static WORKLOADS: [&str; 12] = [
     "decode",
     "records",
     "envelopes",
+    "flow",
+    "parked",
     "script",
     "quorum-shared",
     "quorum-own",
@@ -52,6 +54,8 @@ fn one(name: &str, size: Option<&str>) -> Asked {
         "decode" => Workload::Decode,
         "records" => Workload::Records,
         "envelopes" => Workload::Envelopes,
+        "flow" => Workload::Flow,
+        "parked" => Workload::Parked,
         "script" => Workload::Script,
         "quorum-shared" => Workload::Quorum(Shape::Shared),
         "quorum-own" => Workload::Quorum(Shape::Own),

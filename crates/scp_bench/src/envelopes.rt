@@ -1,6 +1,6 @@
-use crate::hearing::{HEARD, PEER, both_nodes, hear, new_node};
+use crate::hearing::{HEARD, both_nodes, new_node, peer, send, settle};
 use crate::messages::prepare;
-use scp_core::{Bytes, Event, Fate, Node, Verdict};
+use scp_core::{Fate, Node, Verdict};
 use scp_types::{Fault, Hash};
 use std::alloc::Global;
 
@@ -21,17 +21,28 @@ pub struct Judged {
 
 /// A node that heard so many envelopes of its peer on one connection.
 fn ledger(alloc: Global, hash: &Hash, envelopes: u32) -> Result<Node, Fault> {
-    let mut node = new_node(alloc)?;
+    let mut node = new_node(alloc, 1)?;
     for place in 0..envelopes {
         let slot = (place % SLOTS) as u64 + 1;
         let counter = place / (SLOTS * ROUNDS) + 1;
-        let bytes = prepare(alloc, &PEER, slot, hash, counter)?;
-        hear(&mut node, Event::Send(0, Bytes::new(bytes)))?;
+        let bytes = prepare(alloc, &peer(0), slot, hash, counter)?;
+        send(&mut node, 1, 0, bytes)?;
     }
+    settle(&mut node, 1)?;
     Ok(node)
 }
 
 impl Judged {
+    /// Nothing was judged.
+    pub fn none() -> Judged {
+        Judged {
+            nodes: 0,
+            fresh: 0,
+            stale: 0,
+            others: 0,
+        }
+    }
+
     /// Counts an entry.
     fn count(&mut self, fate: &Fate) {
         let count = match fate {
@@ -49,7 +60,7 @@ impl Judged {
     }
 
     /// Counts what became of a node's envelopes.
-    fn count_all(&mut self, node: &Node) {
+    pub fn count_all(&mut self, node: &Node) {
         self.nodes = self.nodes.wrapping_add(1);
         for fate in node.journal() {
             self.count(fate);
@@ -60,12 +71,7 @@ impl Judged {
 /// Brings so many envelopes through nodes, each of which hears as many as it may, one node after the other.
 pub fn hear_envelopes(alloc: Global, size: u32) -> Result<Judged, Fault> {
     let hash = both_nodes(alloc)?.hash()?;
-    let mut judged = Judged {
-        nodes: 0,
-        fresh: 0,
-        stale: 0,
-        others: 0,
-    };
+    let mut judged = Judged::none();
     for _ in 0..size / HEARD {
         judged.count_all(&ledger(alloc, &hash, HEARD)?);
     }

@@ -1,4 +1,4 @@
-use scp_core::{Config, Event, Node, Peers, Reply};
+use scp_core::{Bytes, Capacities, Config, Event, Node, Peers, Reply};
 use scp_quorum::QuorumSet;
 use scp_types::{Fault, NodeId};
 use std::alloc::Global;
@@ -6,39 +6,108 @@ use std::alloc::Global;
 /// The node itself.
 const ME: NodeId = NodeId([1; 32]);
 
-/// Its peer.
-pub const PEER: NodeId = NodeId([2; 32]);
+/// What each queue of a node holds.
+const ROOM: u16 = 64;
 
-/// A node hears at most so many messages: its journal is then full, and its connection has carried as many as it may.
+/// A node settles in at most so many rounds.
+const MOST: u32 = 100_000;
+
+/// A node hears at most so many messages: its journal is then full, and a connection has carried as many as it may.
 pub const HEARD: u32 = 1_000_000;
 
-/// 2 of the node and its peer.
+/// The peer from which the link comes.
+pub fn peer(link: u8) -> NodeId {
+    NodeId([link.wrapping_add(2); 32])
+}
+
+/// 2 of the node and its first peer.
 pub fn both_nodes(alloc: Global) -> Result<QuorumSet, Fault> {
-    let nodes = Vec::from_slice(alloc, &[ME, PEER])?;
+    let nodes = Vec::from_slice(alloc, &[ME, peer(0)])?;
     Ok(QuorumSet::of_nodes(2, nodes))
 }
 
-/// A node that has heard nothing, with one peer, whose link is open.
-pub fn new_node(alloc: Global) -> Result<Node, Fault> {
+/// The configuration of a node that has so many links.
+fn config(alloc: Global, links: u8) -> Result<Config, Fault> {
     let mut peers = Vec::new(alloc);
-    peers.push(PEER)?;
-    let mut node = Node::new(
-        alloc,
-        Config {
-            me: ME,
-            set: both_nodes(alloc)?,
-            peers: Peers::new(peers),
+    for link in 0..links {
+        peers.push(peer(link))?;
+    }
+    Ok(Config {
+        me: ME,
+        set: both_nodes(alloc)?,
+        peers: Peers::new(peers),
+        capacities: Capacities {
+            link: ROOM,
+            inbox: ROOM,
+            ready: ROOM,
+            decided: ROOM,
         },
-    )?;
-    hear(&mut node, Event::Open(0))?;
+    })
+}
+
+/// A node that has heard nothing, whose links are open.
+pub fn new_node(alloc: Global, links: u8) -> Result<Node, Fault> {
+    let mut node = Node::new(alloc, config(alloc, links)?)?;
+    for link in 0..links {
+        hear(&mut node, Event::Open(link))?;
+    }
     Ok(node)
 }
 
-/// One event of the node.
-pub fn hear(node: &mut Node, event: Event) -> Result<(), Fault> {
+/// One event at a link's tail.
+fn hear(node: &mut Node, event: Event) -> Result<(), Fault> {
     match node.step(event) {
         Reply::Accepted => Ok(()),
         Reply::NoMemory => Err(Fault::NoMemory),
         _ => Err(Fault::Failed),
     }
+}
+
+/// One event of a stage; whether it did its step.
+fn moves(node: &mut Node, event: Event) -> bool {
+    node.step(event) == Reply::Moved
+}
+
+/// Each stage does one step, first the reader of the link; whether anything moved.
+fn step_all(node: &mut Node, link: u8) -> bool {
+    let read = moves(node, Event::ReaderTake(link));
+    let heard = moves(node, Event::ReaderPut(link));
+    let taken = moves(node, Event::PendTake);
+    let given = moves(node, Event::PendPut);
+    let judged = moves(node, Event::SlotTake);
+    let sent = moves(node, Event::SlotPut);
+    let applied = moves(node, Event::ApplyTake);
+    read || heard || taken || given || judged || sent || applied
+}
+
+/// Goes once round the links; whether anything moved.
+fn go_round(node: &mut Node, links: u8) -> bool {
+    let mut moved = false;
+    for link in 0..links {
+        if step_all(node, link) {
+            moved = true;
+        }
+    }
+    moved
+}
+
+/// Goes round the links until nothing moves.
+pub fn settle(node: &mut Node, links: u8) -> Result<(), Fault> {
+    for _ in 0..MOST {
+        if !go_round(node, links) {
+            break;
+        }
+    }
+    match node.state() {
+        Some(_) => Ok(()),
+        None => Err(Fault::NoMemory),
+    }
+}
+
+/// Sends bytes, and settles first where the link's queue is full.
+pub fn send(node: &mut Node, links: u8, link: u8, bytes: Vec<u8>) -> Result<(), Fault> {
+    if node.room(link) == 0 {
+        settle(node, links)?;
+    }
+    hear(node, Event::Send(link, Bytes::new(bytes)))
 }

@@ -9,6 +9,7 @@ mod decode;
 mod envelopes;
 mod hearing;
 mod messages;
+mod parked;
 mod quorum;
 mod records;
 mod script;
@@ -26,7 +27,7 @@ use std::{env, io};
 
 /// What is printed where no workload is asked for.
 const USAGE: &str =
-    "usage: scp_bench [decode|records|envelopes|script|quorum-shared|quorum-own|quorum-chain|quorum-missing|votes-one|votes-each [SIZE]]\n";
+    "usage: scp_bench [decode|records|envelopes|flow|parked|script|quorum-shared|quorum-own|quorum-chain|quorum-missing|votes-one|votes-each [SIZE]]\n";
 
 /// What is printed where there is no memory for a fault's line.
 const NO_MEMORY: &str = "out of memory\n";

@@ -34,6 +34,15 @@ pub fn prepare(
     Ok(bytes)
 }
 
+/// The message of a quorum set (RFC 4506): kind 3, threshold 1, and this node alone.
+pub fn set_message(alloc: Global, node: &NodeId) -> Result<Vec<u8>, AllocError> {
+    let mut bytes = Vec::with_capacity(alloc, 52)?;
+    bytes.extend_from_slice(&[0, 0, 0, 3, 0, 0, 0, 1, 0, 0, 0, 1, 0, 0, 0, 0])?;
+    bytes.extend_from_slice(&node.0)?;
+    bytes.extend_from_slice(&[0; 4])?;
+    Ok(bytes)
+}
+
 /// The slot of a record by its place in a stream, from 0 on: 1, 2, 3, .. in turn, but every second eight of them in
 /// descending order.
 pub fn slot_at(place: u32) -> u64

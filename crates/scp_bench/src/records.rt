@@ -1,6 +1,6 @@
-use crate::hearing::{HEARD, hear, new_node};
+use crate::hearing::{HEARD, new_node, send, settle};
 use crate::messages::{record, slot_at};
-use scp_core::{Bytes, Event, Node};
+use scp_core::Node;
 use scp_types::Fault;
 use std::alloc::Global;
 
@@ -14,13 +14,22 @@ pub struct Ledgers {
     pub keys: u64,
 }
 
-/// A node that heard so many records on one connection.
-fn ledger(alloc: Global, records: u32) -> Result<Node, Fault> {
-    let mut node = new_node(alloc)?;
+/// The link over which the record at this place comes: they come over one after the other.
+fn link_at(place: u32, links: u8) -> u8 {
+    match place.checked_rem(links as u32) {
+        Some(link) => link as u8,
+        None => 0,
+    }
+}
+
+/// A node that heard so many records over its links.
+fn ledger(alloc: Global, links: u8, records: u32) -> Result<Node, Fault> {
+    let mut node = new_node(alloc, links)?;
     for place in 0..records {
         let bytes = Vec::from_slice(alloc, &record(slot_at(place)))?;
-        hear(&mut node, Event::Send(0, Bytes::new(bytes)))?;
+        send(&mut node, links, link_at(place, links), bytes)?;
     }
+    settle(&mut node, links)?;
     Ok(node)
 }
 
@@ -39,8 +48,8 @@ impl Ledgers {
     }
 }
 
-/// Brings so many records through nodes, each of which hears as many as it may, one node after the other.
-pub fn hear_records(alloc: Global, size: u32) -> Result<Ledgers, Fault> {
+/// Brings so many records through nodes of so many links, each of which hears as many as it may, one node after the other.
+pub fn hear_records(alloc: Global, links: u8, size: u32) -> Result<Ledgers, Fault> {
     let mut ledgers = Ledgers {
         nodes: 0,
         entries: 0,
@@ -49,10 +58,10 @@ pub fn hear_records(alloc: Global, size: u32) -> Result<Ledgers, Fault> {
         keys: 0,
     };
     for _ in 0..size / HEARD {
-        ledgers.count(&ledger(alloc, HEARD)?);
+        ledgers.count(&ledger(alloc, links, HEARD)?);
     }
     if size % HEARD > 0 {
-        ledgers.count(&ledger(alloc, size % HEARD)?);
+        ledgers.count(&ledger(alloc, links, size % HEARD)?);
     }
     Ok(ledgers)
 }

@@ -18,7 +18,7 @@ pub struct Played {
     pub bytes: u64,
 }
 
-/// A script of so many `send` lines, and one report.
+/// A script of so many `send` lines, then it settles, and reports.
 fn script(alloc: Global, sends: u32) -> Result<String, AllocError> {
     let mut text = String::with_capacity(alloc, SENDS as usize * LINE_LEN + 100)?;
     text.push_str("nodes 2 2\nopen 2 1\n")?;
@@ -28,7 +28,7 @@ fn script(alloc: Global, sends: u32) -> Result<String, AllocError> {
         text.push_str(digits.as_str())?;
         text.push_str("\n")?;
     }
-    text.push_str("report 1\n")?;
+    text.push_str("settle\nreport 1\n")?;
     Ok(text)
 }
 
@@ -41,7 +41,7 @@ impl Played {
         // A text in memory fails where there is no memory for it, and so do the nodes of a good script of this length.
         play(alloc, Mode::Serial, &mut reader, &mut writer).map_err(|_| Fault::NoMemory)?;
         self.scripts = self.scripts.wrapping_add(1);
-        self.lines = self.lines.wrapping_add(sends as u64 + 3);
+        self.lines = self.lines.wrapping_add(sends as u64 + 4);
         self.bytes = self.bytes.wrapping_add(writer.text().len() as u64);
         Ok(())
     }

@@ -1,5 +1,6 @@
 use crate::decode::{Decoded, decode_records};
 use crate::envelopes::{Judged, hear_envelopes};
+use crate::parked::park_envelopes;
 use crate::quorum::{Quorums, Shape, find_quorums};
 use crate::records::{Ledgers, hear_records};
 use crate::script::{Played, play_scripts};
@@ -19,10 +20,14 @@ const FEW: u32 = 30;
 pub enum Workload {
     /// Messages are decoded.
     Decode,
-    /// Records go through a node.
+    /// Records go through a node of one link.
     Records,
     /// Envelopes go through a node.
     Envelopes,
+    /// Records go through a node of seven links.
+    Flow,
+    /// Envelopes wait for their quorum sets.
+    Parked,
     /// Scripts are played.
     Script,
     /// The greatest quorum is asked for, 1,000 times.
@@ -74,6 +79,43 @@ fn tell_votes(alloc: Global, sharing: Sharing, size: u32, text: &mut String) -> 
     Ok(())
 }
 
+/// Brings records through nodes of so many links, and adds what these have.
+fn tell_records(
+    alloc: Global,
+    name: &str,
+    links: u8,
+    size: u32,
+    text: &mut String,
+) -> Result<(), Fault> {
+    let Ledgers {
+        nodes,
+        entries,
+        decisions,
+        applied,
+        keys,
+    } = hear_records(alloc, links, size)?;
+    writeln!(
+        text,
+        "{name} {size}: nodes {nodes} entries {entries} decisions {decisions} applied {applied} keys {keys}"
+    )?;
+    Ok(())
+}
+
+/// Adds what became of envelopes.
+fn tell_judged(name: &str, judged: Judged, size: u32, text: &mut String) -> Result<(), Fault> {
+    let Judged {
+        nodes,
+        fresh,
+        stale,
+        others,
+    } = judged;
+    writeln!(
+        text,
+        "{name} {size}: nodes {nodes} fresh {fresh} stale {stale} others {others}"
+    )?;
+    Ok(())
+}
+
 /// Runs a workload, and tells what was done in one line.
 fn run(alloc: Global, workload: Workload, size: u32) -> Result<String, Fault> {
     let mut text = String::new(alloc);
@@ -89,31 +131,15 @@ fn run(alloc: Global, workload: Workload, size: u32) -> Result<String, Fault> {
                 "decode {size}: messages {messages} slots {slots} bytes {bytes}"
             )?;
         }
-        Workload::Records => {
-            let Ledgers {
-                nodes,
-                entries,
-                decisions,
-                applied,
-                keys,
-            } = hear_records(alloc, size)?;
-            writeln!(
-                &mut text,
-                "records {size}: nodes {nodes} entries {entries} decisions {decisions} applied {applied} keys {keys}"
-            )?;
-        }
-        Workload::Envelopes => {
-            let Judged {
-                nodes,
-                fresh,
-                stale,
-                others,
-            } = hear_envelopes(alloc, size)?;
-            writeln!(
-                &mut text,
-                "envelopes {size}: nodes {nodes} fresh {fresh} stale {stale} others {others}"
-            )?;
-        }
+        Workload::Records => tell_records(alloc, "records", 1, size, &mut text)?,
+        Workload::Flow => tell_records(alloc, "flow", 7, size, &mut text)?,
+        Workload::Envelopes => tell_judged(
+            "envelopes",
+            hear_envelopes(alloc, size)?,
+            size,
+            &mut text,
+        )?,
+        Workload::Parked => tell_judged("parked", park_envelopes(alloc, size)?, size, &mut text)?,
         Workload::Script => {
             let Played {
                 scripts,
@@ -147,6 +173,8 @@ pub fn write_all<W: ReportOut>(alloc: Global, writer: &mut W) -> Result<(), Faul
     write_one(alloc, Workload::Decode, SMALL, writer)?;
     write_one(alloc, Workload::Records, SMALL, writer)?;
     write_one(alloc, Workload::Envelopes, SMALL, writer)?;
+    write_one(alloc, Workload::Flow, SMALL, writer)?;
+    write_one(alloc, Workload::Parked, FEW, writer)?;
     write_one(alloc, Workload::Script, SMALL, writer)?;
     for shape in [Shape::Shared, Shape::Own, Shape::Chain, Shape::Missing] {
         write_one(alloc, Workload::Quorum(shape), FEW, writer)?;

@@ -1,296 +1,424 @@
--- One event and its reply more.
-use Rattle.std.proofs.Common.{◌≡◌, ◌≢◌, ℕ, ◌+◌, ◌<◌, Bool, true, false, List, [], ◌∷◌, ◌++◌, length, take, get_or, refl, sym, ◌∙◌, ap, subst, arith, eq-eqb, nat_eq}
-use Rattle.std.specs.Prelude.{zip, if◌then◌else◌, fold, ◌||◌, Option, Some, None, option_to_list, is_some, IsSome}
-use Rattle.std.proofs.lemmas.List.{append-nil, take_more, length-take-le}
-use Rattle.std.proofs.lemmas.Bool.Decides.{nat_tests}
-use Rattle.std.proofs.lemmas.Bool.{eqb-true}
+-- One step more.
+use Rattle.std.proofs.Common.{◌≡◌, ◌≢◌, ℕ, ◌+◌, Bool, true, false, cond, List, [], ◌∷◌, ◌++◌, refl, sym, ◌∙◌, ap, subst, arith, append_assoc, length, length-append, take, drop, inl, inr}
+use Rattle.std.specs.Prelude.{Option, Some, None, slice_get, slice_set, option_to_list}
+use Rattle.std.proofs.lemmas.List.{append-nil, length-set, take-append-drop}
+use Rattle.scp_pending.specs.Passes.{Passes}
+use Rattle.std.proofs.lemmas.List.Elements.{filter-append}
+use Rattle.std.proofs.lemmas.Cmp.{nat_list_eq_equiv}
+use Rattle.std.specs.Cmp.Lexicographic.{same_text}
+use Rattle.scp_types.specs.declared.names.NodeId.{NodeId}
 use Rattle.scp_types.specs.declared.names.ConnId.{ConnId}
+use Rattle.scp_wire.specs.declared.link.LinkItem.{LinkItem}
+use Rattle.scp_wire.specs.declared.link.LinkItem.TheVariants as item
+use Rattle.scp_wire.specs.declared.link.Inbound.{Inbound}
+use Rattle.scp_wire.specs.declared.link.Inbound.TheVariants as inbound
+use Rattle.scp_wire.specs.LinkReading.{reading, readings, after}
+use Rattle.scp_wire.specs.Connections.{conn_at, same_node}
+use Rattle.scp_wire.specs.Shape.{Tail, goes, MayGo, Come, comes, MayCome, AreInOrder, nothing_came, of_peer, is_from}
+use Rattle.scp_pending.specs.declared.ready.Ready.{Ready}
+use Rattle.scp_pending.specs.Pends.{Pends}
+use Rattle.scp_pending.specs.Rules.{PendingView, taken_in}
+use Rattle.scp_pending.proofs.Sound.{local_step}
+use Rattle.scp_ledger.specs.declared.took.Took.{Took}
+use Rattle.scp_ledger.specs.Ledger.{LedgerView, IsLedger}
+use Rattle.scp_ledger.specs.Takes.{Takes}
 use Rattle.scp_wire.specs.declared.message.Message.{Message}
-use Rattle.scp_wire.specs.Carried.{is_side}
-use Rattle.scp_wire.specs.declared.link.Cause.{Cause}
-use Rattle.scp_wire.specs.declared.link.Cause.TheVariants.{Link, Spent}
-use Rattle.scp_core.specs.declared.journal.Fate.{Fate}
-use Rattle.scp_core.specs.declared.journal.Fate.TheVariants.{Taken, Closed}
-use Rattle.scp_core.specs.declared.journal.Verdict.{Verdict}
+use Rattle.scp_apply.specs.Applier.{ApplierView, IsApplier, IsRunning}
+use Rattle.scp_apply.specs.Applier.{Takes as ApplierTakes}
+use Rattle.scp_ledger.specs.declared.took.Onward.{Onward}
 use Rattle.scp_core.specs.declared.event.Event.{Event}
-use Rattle.scp_core.specs.declared.event.Event.TheVariants.{Open, Send, Close}
-use Rattle.scp_core.specs.declared.event.Reply.{Reply}
-use Rattle.scp_core.specs.declared.event.Reply.TheVariants.{NoLink, AlreadyOpen, LivesSpent, NotOpen, Accepted, JournalFull, NoMemory, Failed}
-use Rattle.scp_types.specs.declared.names.Hash.{Hash}
-use Rattle.scp_core.specs.Sets.{SharedSet, hash_of, reading_at}
-use Rattle.scp_core.specs.Link.{conn_at}
-use Rattle.scp_core.specs.Journal.{same_conn, of_conn, conn_of, messages_in, causes_in}
-use Rattle.scp_core.specs.History.{Exchange, Heard, nothing_heard, heard, hears, end_of}
-use Rattle.scp_core.specs.Node.{NodeView, Step, Keeps, Receives, Closes, Fails, conn_now, line_of, has_ended, any_cause, fate_of, local_hash}
-use Rattle.scp_core.specs.Theorem.{Accounts, IsLive, IsReply, AreReplies, Knows, Stands, LedgerTheorem}
-use Rattle.scp_core.proofs.Applying.{fold-push}
-use Rattle.scp_core.proofs.Lines.{same_conn-at, of_conn-mine, of_conn-other}
-use Rattle.scp_core.proofs.Sent.{fates_of, Accounts-receives, Accounts-closes}
+use Rattle.scp_core.specs.declared.event.Event.TheVariants.{Open, Send, Close, Local, ReaderTake, ReaderPut, PendTake, PendPut, SlotTake, SlotPut, ApplyTake}
+use Rattle.scp_core.proofs.Deciding.{journals_step, applies_step}
+use Rattle.scp_core.specs.History.{OnLink, Past, accepts, moves, tail_of, readings_of, changed, peer_at}
+use Rattle.scp_core.specs.Node.{LinkView, NodeView, with_link, Accepts, Moves}
+use Rattle.scp_core.specs.Flow.{LinkFlows, Flows}
+use Rattle.scp_core.proofs.Queues.{way-fill, way-put, way-take, get_set, at_changed, peer_is, within, there_is}
+use Rattle.scp_core.proofs.Links.{link-put, put_same, link-take, link-give, give_more, hand_cut, in_order, more}
 
-fold-keeps : {A B : Type 0} (P : B → Type 0) (f : B → A → B) → ((b : B) (x : A) → P b → P (f b x)) → (a : B) (xs : List A) → P a → P (fold f a xs)
-fold-keeps P f step a [] h = h
-fold-keeps P f step a (x ∷ xs) h = fold-keeps P f step (f a x) xs (step a x h)
+-- ---- which link an item is of
 
-heard-push : (life : ℕ) (past : List Exchange) (x : Exchange) → heard life (past ++ x ∷ []) ≡ hears life (heard life past) x.0 x.1
-heard-push life past x = fold-push (λ h y. hears life h y.0 y.1) nothing_heard past x
+from_one : (peer me q : NodeId) (h : Come) (x : Inbound) → MayCome peer me h x → is_from q x ≡ same_node peer q
+from_one peer me q h (inbound.Opened conn) m = ap (λ (c : ConnId). same_node c.from q) m.1
+from_one peer me q h (inbound.Carried x) m = ap (λ (c : ConnId). same_node c.from q) m.1
+from_one peer me q h (inbound.Side conn message) m = ap (λ (c : ConnId). same_node c.from q) m.1
+from_one peer me q h (inbound.Closed conn cause) m = ap (λ (c : ConnId). same_node c.from q) m.1
+from_one peer me q h (inbound.Local command) m = absurd m
 
--- ---- facts of the past alone
+from_is : (peer me q : NodeId) (h : Come) (xs : List Inbound) (x : Inbound) (rest : List Inbound) → AreInOrder peer me h (xs ++ x ∷ rest) → is_from q x ≡ same_node peer q
+from_is peer me q h [] x rest a = from_one peer me q h x a.0
+from_is peer me q h (y ∷ ys) x rest a = from_is peer me q (comes h y) ys x rest a.1
 
--- nothing was sent in a life that is to come, and an open one is not closed
-pub record IsTimely (life : ℕ) (h : Heard) : Type 0 where
-  pub later : h.life < life → (h.sent ≡ []) × (h.closed ≡ false)
-  pub current : h.is_open ≡ true → h.life ≡ life → h.closed ≡ false
+pub same_node-refl : (p : NodeId) → same_node p p ≡ true
+same_node-refl p = nat_list_eq_equiv.refl p.0
 
-other_life : (a life : ℕ) → a < life → nat_eq a life ≡ false
-other_life a life lt = grind (arith, nat_tests)
+pub same_node-is : (p q : NodeId) → same_node p q ≡ true → p ≡ q
+same_node-is p q e = ap (λ (bytes : List ℕ). record { 0 = bytes }) (same_text p.0 q.0 (sym e))
 
-or_both : (b c : Bool) → b ≡ false → c ≡ false → (b || c) ≡ false
-or_both b c p q = rw (p, q) refl
-
-timely-fails : (life : ℕ) (h : Heard) (reply : Reply) → IsTimely life h → IsTimely life (record { failed = Some reply; life = h.life; is_open = h.is_open; sent = h.sent; closed = h.closed })
-timely-fails life h reply t = record { later = t.later; current = t.current }
-
-IsTimely-step : (life : ℕ) (h : Heard) (event : Event) (reply : Reply) → IsTimely life h → IsTimely life (hears life h event reply)
-IsTimely-step life h event NoLink t = t
-IsTimely-step life h event AlreadyOpen t = t
-IsTimely-step life h event LivesSpent t = t
-IsTimely-step life h event NotOpen t = t
-IsTimely-step life h event JournalFull t = timely-fails life h JournalFull t
-IsTimely-step life h event NoMemory t = timely-fails life h NoMemory t
-IsTimely-step life h event Failed t = t
-IsTimely-step life h (Open link) Accepted t = record { later = λ l. t.later (omega arith); current = λ _ e. (t.later (omega arith)).1 }
-IsTimely-step life h (Send link bytes) Accepted t = record { later = λ l. (rw (other_life h.life life l) (t.later l).0, (t.later l).1); current = t.current }
-IsTimely-step life h (Close link) Accepted t = record { later = λ l. ((t.later l).0, or_both h.closed _ (t.later l).1 (other_life h.life life l)); current = λ e _. cc }
-
-timely : (life : ℕ) (past : List Exchange) → IsTimely life (heard life past)
-timely life past = fold-keeps (IsTimely life) (λ h y. hears life h y.0 y.1) (λ h y t. IsTimely-step life h y.0 y.1 t) nothing_heard past (record { later = λ _. (refl, refl); current = λ _ _. refl })
-
--- ---- the node knows the past
-
-Knows-same : (h : Heard) (old new : NodeView) → new ≡ old → Knows h old → Knows h new
-Knows-same h old new e k = let P : NodeView → Type 0 = λ v. Knows h v in subst P (sym e) k
-
-none_is_not : (o : Option Reply) (r : Reply) → is_some o ≡ false → o ≡ Some r → ⊥
-none_is_not None r p q = cc
-none_is_not (Some x) r p q = cc
-
-pub Knows-step : (life : ℕ) (h : Heard) (old new : NodeView) (event : Event) (reply : Reply) → Knows h old → Step old event reply new → Knows (hears life h event reply) new
-Knows-step life h old new event NoLink k s = Knows-same h old new s.2 k
-Knows-step life h old new event AlreadyOpen k s = Knows-same h old new s.same k
-Knows-step life h old new event LivesSpent k s = Knows-same h old new s.same k
-Knows-step life h old new event NotOpen k s = Knows-same h old new s.same k
-Knows-step life h old new event Failed k s = Knows-same h old new s.1 k
-Knows-step life h old new event JournalFull k s = record { failed = s.0.failed; life = s.0.kept.life ∙ k.life; is_open = s.0.kept.is_open ∙ k.is_open; full = λ _. ap length s.0.kept.journal ∙ s.1; not_full = λ e. absurd cc }
-Knows-step life h old new event NoMemory k s = record { failed = s.0.failed; life = s.0.kept.life ∙ k.life; is_open = s.0.kept.is_open ∙ k.is_open; full = λ e. absurd cc; not_full = λ _. rw s.0.kept.journal s.1 }
-Knows-step life h old new (Open link) Accepted k s = record { failed = s.1.failed ∙ sym s.1.was ∙ k.failed; life = s.1.life ∙ ap (λ n. n + 1) k.life; is_open = s.1.is_open; full = λ e. absurd (none_is_not h.failed JournalFull (sym k.failed ∙ s.1.was) e); not_full = λ e. absurd (none_is_not h.failed NoMemory (sym k.failed ∙ s.1.was) e) }
-Knows-step life h old new (Send link bytes) Accepted k s = record { failed = s.1.adds.failed ∙ k.failed; life = s.1.adds.life ∙ k.life; is_open = s.1.adds.is_open ∙ k.is_open; full = λ e. absurd (none_is_not h.failed JournalFull (sym k.failed ∙ s.1.was) e); not_full = λ e. absurd (none_is_not h.failed NoMemory (sym k.failed ∙ s.1.was) e) }
-Knows-step life h old new (Close link) Accepted k s = record { failed = s.1.failed ∙ sym s.1.was ∙ k.failed; life = s.1.life ∙ k.life; is_open = s.1.shut; full = λ e. absurd (none_is_not h.failed JournalFull (sym k.failed ∙ s.1.was) e); not_full = λ e. absurd (none_is_not h.failed NoMemory (sym k.failed ∙ s.1.was) e) }
-
--- ---- the reply is the table's
-
-is_none : (o : Option Reply) → is_some o ≡ false → o ≡ None
-is_none None e = refl
-is_none (Some r) e = absurd cc
-
-is_there : (o : Option Reply) → is_some o ≡ true → IsSome o
-is_there None e = absurd cc
-is_there (Some r) e = refl
-
-runs : (h : Heard) (old : NodeView) → Knows h old → old.failed ≡ false → h.failed ≡ None
-runs h old k was = is_none h.failed (sym k.failed ∙ was)
-
--- a connection whose line has no Closed has not ended
-no_end : (o : Option Cause) (cs : List Cause) → cs ≡ option_to_list o → any_cause cs ≡ false → o ≡ None
-no_end None cs e f = refl
-no_end (Some c) cs e f = absurd (let g : any_cause (c ∷ []) ≡ false = subst (λ (xs : List Cause). any_cause xs ≡ false) e f in cc)
-
-live : (life : ℕ) (h : Heard) (old new : NodeView) (event : Event) → Knows h old → Accounts (local_hash old) h.sent h.closed (of_conn (conn_at old.peer old.me life) old.journal) → Fails old event new → IsLive (local_hash old) life h event
-live life h old new event k a s = record {
-  here = (runs h old k s.was, s.link);
-  is_open = sym k.is_open ∙ s.is_open;
-  goes_on = λ e. no_end (end_of (local_hash old) h.sent h.closed) (causes_in (of_conn (conn_at old.peer old.me life) old.journal)) a.cause (subst (λ (n : ℕ). any_cause (causes_in (of_conn (conn_at old.peer old.me n) old.journal)) ≡ false) (k.life ∙ e) s.live);
-}
-
-IsReply-step : (life : ℕ) (h : Heard) (old new : NodeView) (event : Event) (reply : Reply) → Knows h old → Accounts (local_hash old) h.sent h.closed (of_conn (conn_at old.peer old.me life) old.journal) → Step old event reply new → IsReply (local_hash old) life h event reply
-IsReply-step life h old new event Failed k a s = is_there h.failed (sym k.failed ∙ s.0)
-IsReply-step life h old new event NoLink k a s = (runs h old k s.0, s.1)
-IsReply-step life h old new (Open link) NoMemory k a s = s.0.adds
-IsReply-step life h old new (Send link bytes) NoMemory k a s = (live life h old new (Send link bytes) k a s.0, s.0.adds)
-IsReply-step life h old new (Close link) NoMemory k a s = live life h old new (Close link) k a s.0
-IsReply-step life h old new (Open link) JournalFull k a s = s.0.adds
-IsReply-step life h old new (Send link bytes) JournalFull k a s = (live life h old new (Send link bytes) k a s.0, s.0.adds)
-IsReply-step life h old new (Close link) JournalFull k a s = live life h old new (Close link) k a s.0
-IsReply-step life h old new (Open link) AlreadyOpen k a s = ((runs h old k s.was, s.link), sym k.is_open ∙ s.refuses)
-IsReply-step life h old new (Send link bytes) AlreadyOpen k a s = s.refuses
-IsReply-step life h old new (Close link) AlreadyOpen k a s = s.refuses
-IsReply-step life h old new (Open link) LivesSpent k a s = ((runs h old k s.was, s.link), sym k.is_open ∙ s.refuses.0, sym k.life ∙ s.refuses.1)
-IsReply-step life h old new (Send link bytes) LivesSpent k a s = s.refuses
-IsReply-step life h old new (Close link) LivesSpent k a s = s.refuses
-IsReply-step life h old new (Open link) NotOpen k a s = s.refuses
-IsReply-step life h old new (Send link bytes) NotOpen k a s = ((runs h old k s.was, s.link), sym k.is_open ∙ s.refuses)
-IsReply-step life h old new (Close link) NotOpen k a s = ((runs h old k s.was, s.link), sym k.is_open ∙ s.refuses)
-IsReply-step life h old new (Open link) Accepted k a s = ((runs h old k s.1.was, s.0), sym k.is_open ∙ s.1.shut, rw (← k.life) s.1.left)
-IsReply-step life h old new (Send link bytes) Accepted k a s = ((runs h old k s.1.was, s.0), sym k.is_open ∙ s.1.is_open)
-IsReply-step life h old new (Close link) Accepted k a s = ((runs h old k s.1.was, s.0), sym k.is_open ∙ s.1.is_open)
-
-AreReplies-push : (local : Hash) (life : ℕ) (h : Heard) (past : List Exchange) (x : Exchange) → AreReplies local life h past → IsReply local life (fold (λ g y. hears life g y.0 y.1) h past) x.0 x.1 → AreReplies local life h (past ++ x ∷ [])
-AreReplies-push local life h [] x a r = (r, tt)
-AreReplies-push local life h (y ∷ ys) x a r = (a.0, AreReplies-push local life (hears life h y.0 y.1) ys x a.1 r)
-
--- ---- one fate more on a connection
-
-conn_of-fate_of : (c : ConnId) (n : ℕ) (r : Option Message) (set : Option SharedSet) (v : Verdict) → conn_of (fate_of c n r set v) ≡ c
-conn_of-fate_of c n None set v = refl
-conn_of-fate_of c n (Some m) set v = by_test (nat_eq n 1000000)
+not_same : (p q : NodeId) → p ≢ q → same_node p q ≡ false
+not_same p q ne = by_test (same_node p q) refl
   where
-    by_test : (b : Bool) → conn_of (if b then Closed c Spent else Taken c (record { 0 = n }) m set v) ≡ c
-    by_test true = refl
-    by_test false = refl
+    by_test : (b : Bool) → same_node p q ≡ b → b ≡ false
+    by_test true e = absurd (ne (same_node-is p q e))
+    by_test false e = refl
 
-of_conn-mine_if : (c : ConnId) (journal : List Fate) (b : Bool) (fate : Fate) → same_conn (conn_of fate) c ≡ true → of_conn c (journal ++ (if b then [] else fate ∷ [])) ≡ of_conn c journal ++ (if b then [] else fate ∷ [])
-of_conn-mine_if c journal true fate same = ap (of_conn c) (append-nil journal) ∙ sym (append-nil (of_conn c journal))
-of_conn-mine_if c journal false fate same = of_conn-mine c journal fate same
+of_peer-push : (q : NodeId) (xs : List Inbound) (x : Inbound) (b : Bool) → is_from q x ≡ b → of_peer q (xs ++ x ∷ []) ≡ of_peer q xs ++ cond b (x ∷ []) []
+of_peer-push q xs x b e = filter-append (is_from q) xs (x ∷ []) ∙ ap (λ (t : Bool). of_peer q xs ++ cond t (x ∷ []) []) e
 
-of_conn-other_if : (c : ConnId) (journal : List Fate) (b : Bool) (fate : Fate) → same_conn (conn_of fate) c ≡ false → of_conn c (journal ++ (if b then [] else fate ∷ [])) ≡ of_conn c journal
-of_conn-other_if c journal true fate other = ap (of_conn c) (append-nil journal)
-of_conn-other_if c journal false fate other = of_conn-other c journal fate other
+-- ---- a link changes
 
--- what a Close adds to its connection's line
-abbrev closes_of : ConnId → List Fate → List Fate
-closes_of c line = if any_cause (causes_in line) then [] else Closed c Link ∷ []
+-- what holds of each link of a node
+abbrev AllLinks : NodeId → List NodeId → ℕ → (ℕ → OnLink) → List LinkView → Type 0
+AllLinks me peers room on links = (l : ℕ) → (k : LinkView) → slice_get links l ≡ Some k → (peer : NodeId) → slice_get peers l ≡ Some peer → LinkFlows me peer room (on l) k
 
-abbrev at : NodeView → ℕ → ConnId
-at v life = conn_at v.peer v.me life
+links-set : (me : NodeId) (peers : List NodeId) (room : ℕ) (on : ℕ → OnLink) (links : List LinkView) (l : ℕ) (o : OnLink) (k : LinkView) → ((peer : NodeId) → slice_get peers l ≡ Some peer → LinkFlows me peer room o k) → AllLinks me peers room on links → AllLinks me peers room (changed on l o) (slice_set links l k)
+links-set me peers room on links l o k new all m z at peer there = elim (get_set links l k m z at) [
+  | inl h ↦ at_changed (λ (x : OnLink). LinkFlows me peer room x z) on l o m (λ e. subst (λ (w : LinkView). LinkFlows me peer room o w) h.1 (new peer (subst (λ n. slice_get peers n ≡ Some peer) e there))) (λ ne. absurd (ne h.0))
+  | inr h ↦ at_changed (λ (x : OnLink). LinkFlows me peer room x z) on l o m (λ e. absurd (h.0 e)) (λ _. all m z h.1 peer there)
+]
 
-Accounts-send : (life : ℕ) (h : Heard) (old new : NodeView) (bytes : List ℕ) (mine : Bool) → nat_eq h.life life ≡ mine → IsTimely life h → Knows h old → Receives old bytes new → Accounts (local_hash old) h.sent h.closed (of_conn (at old life) old.journal) → Accounts (local_hash old) (if mine then h.sent ++ bytes ∷ [] else h.sent) h.closed (of_conn (at old life) new.journal)
-Accounts-send life h old new bytes true is t k s a =
-    let c = at old life in
-    let now : old.life ≡ life = k.life ∙ eqb-true _ _ is in
-    let open' : h.closed ≡ false = t.current (sym k.is_open ∙ s.is_open) (eqb-true _ _ is) in
-    let line = of_conn c old.journal in
-    let fate = fate_of c (length (messages_in line)) (reading_at (local_hash old) bytes) s.set s.verdict in
-    let P : ℕ → Type 0 = λ n. new.journal ≡ old.journal ++ fates_of (local_hash old) (at old n) bytes s.set s.verdict (of_conn (at old n) old.journal) in
-    let added : new.journal ≡ old.journal ++ fates_of (local_hash old) c bytes s.set s.verdict line = subst P now s.adds.journal in
-    let same : same_conn (conn_of fate) c ≡ true = ap (λ (d : ConnId). same_conn d c) (conn_of-fate_of c (length (messages_in line)) (reading_at (local_hash old) bytes) s.set s.verdict) ∙ same_conn-at old.peer old.me life life ∙ eq-eqb life life refl in
-    let whole : of_conn c new.journal ≡ line ++ fates_of (local_hash old) c bytes s.set s.verdict line = ap (of_conn c) added ∙ of_conn-mine_if c old.journal (any_cause (causes_in line) || is_side (reading_at (local_hash old) bytes)) fate same in
-    rw (whole, open') (Accounts-receives (local_hash old) h.sent bytes c s.set s.verdict line (rw open' at a))
-Accounts-send life h old new bytes false is t k s a =
-    let c = at old life in
-    let fate = fate_of (conn_now old) (length (messages_in (line_of old))) (reading_at (local_hash old) bytes) s.set s.verdict in
-    let other : same_conn (conn_of fate) c ≡ false = ap (λ (d : ConnId). same_conn d c) (conn_of-fate_of (conn_now old) (length (messages_in (line_of old))) (reading_at (local_hash old) bytes) s.set s.verdict) ∙ same_conn-at old.peer old.me old.life life ∙ ap (λ n. nat_eq n life) k.life ∙ is in
-    rw (s.adds.journal, of_conn-other_if c old.journal (has_ended old || is_side (reading_at (local_hash old) bytes)) fate other) a
-
-or_nothing : (b : Bool) → (b || false) ≡ b
-or_nothing true = refl
-or_nothing false = refl
-
-Accounts-close : (life : ℕ) (h : Heard) (old new : NodeView) (mine : Bool) → nat_eq h.life life ≡ mine → IsTimely life h → Knows h old → Closes old new → Accounts (local_hash old) h.sent h.closed (of_conn (at old life) old.journal) → Accounts (local_hash old) h.sent (h.closed || mine) (of_conn (at old life) new.journal)
-Accounts-close life h old new true is t k s a =
-    let c = at old life in
-    let now : old.life ≡ life = k.life ∙ eqb-true _ _ is in
-    let open' : h.closed ≡ false = t.current (sym k.is_open ∙ s.is_open) (eqb-true _ _ is) in
-    let line = of_conn c old.journal in
-    let P : ℕ → Type 0 = λ n. new.journal ≡ old.journal ++ closes_of (at old n) (of_conn (at old n) old.journal) in
-    let added : new.journal ≡ old.journal ++ closes_of c line = subst P now s.journal in
-    let same : same_conn c c ≡ true = same_conn-at old.peer old.me life life ∙ eq-eqb life life refl in
-    let whole : of_conn c new.journal ≡ line ++ closes_of c line = ap (of_conn c) added ∙ of_conn-mine_if c old.journal (any_cause (causes_in line)) (Closed c Link) same in
-    rw (whole, open') (Accounts-closes (local_hash old) h.sent c line (rw open' at a))
-Accounts-close life h old new false is t k s a =
-    let c = at old life in
-    let other : same_conn (conn_now old) c ≡ false = same_conn-at old.peer old.me old.life life ∙ ap (λ n. nat_eq n life) k.life ∙ is in
-    rw (s.journal, of_conn-other_if c old.journal (has_ended old) (Closed (conn_now old) Link) other, or_nothing h.closed) a
-
--- the connection of a life is the same one after the event
-same_place : (life : ℕ) (old new : NodeView) (sent : List (List ℕ)) (closed : Bool) → new.me ≡ old.me → new.peer ≡ old.peer → new.set ≡ old.set → Accounts (local_hash old) sent closed (of_conn (at old life) new.journal) → Accounts (local_hash new) sent closed (of_conn (at new life) new.journal)
-same_place life old new sent closed me peer set a = rw (me, peer, set) a
-
-as_before : (life : ℕ) (old new : NodeView) (sent : List (List ℕ)) (closed : Bool) → new ≡ old → Accounts (local_hash old) sent closed (of_conn (at old life) old.journal) → Accounts (local_hash new) sent closed (of_conn (at new life) new.journal)
-as_before life old new sent closed e a = let P : NodeView → Type 0 = λ v. Accounts (local_hash v) sent closed (of_conn (at v life) v.journal) in subst P (sym e) a
-
-kept : (life : ℕ) (old new : NodeView) (sent : List (List ℕ)) (closed : Bool) → Keeps old new → Accounts (local_hash old) sent closed (of_conn (at old life) old.journal) → Accounts (local_hash new) sent closed (of_conn (at new life) new.journal)
-kept life old new sent closed s a = rw (s.me, s.peer, s.set, s.journal) a
-
-Accounts-step : (life : ℕ) (h : Heard) (old new : NodeView) (event : Event) (reply : Reply) → IsTimely life h → Knows h old → Step old event reply new → Accounts (local_hash old) h.sent h.closed (of_conn (at old life) old.journal) → Accounts (local_hash new) (hears life h event reply).sent (hears life h event reply).closed (of_conn (at new life) new.journal)
-Accounts-step life h old new event NoLink t k s a = as_before life old new h.sent h.closed s.2 a
-Accounts-step life h old new event AlreadyOpen t k s a = as_before life old new h.sent h.closed s.same a
-Accounts-step life h old new event LivesSpent t k s a = as_before life old new h.sent h.closed s.same a
-Accounts-step life h old new event NotOpen t k s a = as_before life old new h.sent h.closed s.same a
-Accounts-step life h old new event Failed t k s a = as_before life old new h.sent h.closed s.1 a
-Accounts-step life h old new event JournalFull t k s a = kept life old new h.sent h.closed s.0.kept a
-Accounts-step life h old new event NoMemory t k s a = kept life old new h.sent h.closed s.0.kept a
-Accounts-step life h old new (Open link) Accepted t k s a = rw (s.1.me, s.1.peer, s.1.set, s.1.journal) a
-Accounts-step life h old new (Send link bytes) Accepted t k s a = same_place life old new _ _ s.1.adds.me s.1.adds.peer s.1.adds.set (Accounts-send life h old new bytes _ refl t k s.1 a)
-Accounts-step life h old new (Close link) Accepted t k s a = same_place life old new _ _ s.1.me s.1.peer s.1.set (Accounts-close life h old new _ refl t k s.1 a)
-
--- ---- what a step keeps
-
-step_keeps : (old new : NodeView) → new ≡ old → Keeps old new
-step_keeps old new e = let P : NodeView → Type 0 = λ v. Keeps old v in subst P (sym e) (record { me = refl; peer = refl; set = refl; journal = refl; decisions = refl; applied = refl; life = refl; is_open = refl })
-
-pub Keeps-step : (old new : NodeView) (event : Event) (reply : Reply) → Step old event reply new → reply ≢ Accepted → Keeps old new
-Keeps-step old new event NoLink s ne = step_keeps old new s.2
-Keeps-step old new event AlreadyOpen s ne = step_keeps old new s.same
-Keeps-step old new event LivesSpent s ne = step_keeps old new s.same
-Keeps-step old new event NotOpen s ne = step_keeps old new s.same
-Keeps-step old new event Failed s ne = step_keeps old new s.1
-Keeps-step old new event JournalFull s ne = s.0.kept
-Keeps-step old new event NoMemory s ne = s.0.kept
-Keeps-step old new event Accepted s ne = absurd (ne refl)
-
--- a reply that neither accepts nor fails leaves the node
-pub Same-step : (old new : NodeView) (event : Event) (reply : Reply) → Step old event reply new → reply ≢ Accepted → reply ≢ JournalFull → reply ≢ NoMemory → new ≡ old
-Same-step old new event NoLink s na nj nm = s.2
-Same-step old new event AlreadyOpen s na nj nm = s.same
-Same-step old new event LivesSpent s na nj nm = s.same
-Same-step old new event NotOpen s na nj nm = s.same
-Same-step old new event Failed s na nj nm = s.1
-Same-step old new event JournalFull s na nj nm = absurd (nj refl)
-Same-step old new event NoMemory s na nj nm = absurd (nm refl)
-Same-step old new event Accepted s na nj nm = absurd (na refl)
-
--- the journal grows at its end, and the node stays who it is
-pub record Grows (old new : NodeView) : Type 0 where
-  pub me : new.me ≡ old.me
-  pub peer : new.peer ≡ old.peer
-  pub set : new.set ≡ old.set
-  pub more : List Fate
-  pub journal : new.journal ≡ old.journal ++ more
-
-grows_not : (old new : NodeView) → Keeps old new → Grows old new
-grows_not old new k = record { me = k.me; peer = k.peer; set = k.set; more = []; journal = k.journal ∙ sym (append-nil old.journal) }
-
-pub Grows-step : (old new : NodeView) (event : Event) (reply : Reply) → Step old event reply new → Grows old new
-Grows-step old new event NoLink s = grows_not old new (step_keeps old new s.2)
-Grows-step old new event AlreadyOpen s = grows_not old new (step_keeps old new s.same)
-Grows-step old new event LivesSpent s = grows_not old new (step_keeps old new s.same)
-Grows-step old new event NotOpen s = grows_not old new (step_keeps old new s.same)
-Grows-step old new event Failed s = grows_not old new (step_keeps old new s.1)
-Grows-step old new event JournalFull s = grows_not old new s.0.kept
-Grows-step old new event NoMemory s = grows_not old new s.0.kept
-Grows-step old new (Open link) Accepted s = record { me = s.1.me; peer = s.1.peer; set = s.1.set; more = []; journal = s.1.journal ∙ sym (append-nil old.journal) }
-Grows-step old new (Send link bytes) Accepted s = record { me = s.1.adds.me; peer = s.1.adds.peer; set = s.1.adds.set; more = if has_ended old || is_side (reading_at (local_hash old) bytes) then [] else fate_of (conn_now old) (length (messages_in (line_of old))) (reading_at (local_hash old) bytes) s.1.set s.1.verdict ∷ []; journal = s.1.adds.journal }
-Grows-step old new (Close link) Accepted s = record { me = s.1.me; peer = s.1.peer; set = s.1.set; more = if has_ended old then [] else Closed (conn_now old) Link ∷ []; journal = s.1.journal }
-
--- ---- the theorem
-
--- what holds of a list of exchanges holds of the list with one more
-pub LedgerTheorem-step : (past : List Exchange) (old new : NodeView) (event : Event) (reply : Reply) → Step old event reply new → Stands new → LedgerTheorem past old → LedgerTheorem (past ++ (event, reply) ∷ []) new
-LedgerTheorem-step past old new event reply s stands h = record {
-  replies = λ life. subst (λ (local : Hash). AreReplies local life nothing_heard (past ++ (event, reply) ∷ [])) (sym (ap hash_of (Grows-step old new event reply s).set)) (AreReplies-push (local_hash old) life nothing_heard past (event, reply) (h.replies life) (IsReply-step life (heard life past) old new event reply (h.knows life) (h.accounts life) s));
-  knows = λ life. rw (heard-push life past (event, reply)) (Knows-step life (heard life past) old new event reply (h.knows life) s);
-  accounts = λ life. rw (heard-push life past (event, reply)) (Accounts-step life (heard life past) old new event reply (timely life past) (h.knows life) s (h.accounts life));
-  stands = stands;
+pub Flows-failed : (p : Past) (v : NodeView) → Flows p v → Flows (record p { failed = true }) v
+Flows-failed p v f = record {
+  runs = f.runs;
+  rooms = f.rooms;
+  count = f.count;
+  apart = f.apart;
+  links = f.links;
+  came = f.came;
+  local = f.local;
+  arrived = f.arrived;
+  inbox = f.inbox;
+  given = f.given;
+  pending = f.pending;
+  took = f.took;
+  ready = f.ready;
+  onwards = f.onwards;
+  journal = f.journal;
+  applied = f.applied;
+  decided = f.decided;
+  applier = f.applier;
+  ready_count = f.ready_count;
+  decided_count = f.decided_count;
 }
 
--- ---- a list of events and its replies with one more
+-- one link changes, and nothing is put into the inbox
+on-link : (p : Past) (v : NodeView) (l : ℕ) (k : LinkView) (o2 : OnLink) (k2 : LinkView) → slice_get v.links l ≡ Some k
+    → ((peer : NodeId) → slice_get v.config.peers l ≡ Some peer → LinkFlows v.config.me peer v.config.capacities.link (p.links l) k → LinkFlows v.config.me peer v.config.capacities.link o2 k2)
+    → ((peer : NodeId) → slice_get v.config.peers l ≡ Some peer → LinkFlows v.config.me peer v.config.capacities.link (p.links l) k → take o2.given (readings_of o2) ≡ take (p.links l).given (readings_of (p.links l)))
+    → Flows p v → Flows (record p { links = changed p.links l o2 }) (with_link v l k2)
+on-link p v l k o2 k2 there new same f = record {
+  runs = f.runs;
+  rooms = f.rooms;
+  count = length-set v.links l k2 ∙ f.count;
+  apart = f.apart;
+  links = links-set v.config.me v.config.peers v.config.capacities.link p.links v.links l o2 k2 (λ peer at. new peer at (f.links l k there peer at)) f.links;
+  came = λ m peer at. at_changed (λ (x : OnLink). of_peer peer p.came ≡ take x.given (readings_of x)) p.links l o2 m
+      (λ e. let at2 : slice_get v.config.peers l ≡ Some peer = subst (λ n. slice_get v.config.peers n ≡ Some peer) e at in f.came l peer at2 ∙ sym (same peer at2 (f.links l k there peer at2)))
+      (λ _. f.came m peer at);
+  local = f.local;
+  arrived = f.arrived;
+  inbox = f.inbox;
+  given = f.given;
+  pending = f.pending;
+  took = f.took;
+  ready = f.ready;
+  onwards = f.onwards;
+  journal = f.journal;
+  applied = f.applied;
+  decided = f.decided;
+  applier = f.applier;
+  ready_count = f.ready_count;
+  decided_count = f.decided_count;
+}
 
-zip-push : {X Y : Type 0} (xs : List X) (ys : List Y) (x : X) (y : Y) → length xs ≡ length ys → zip (xs ++ x ∷ []) (ys ++ y ∷ []) ≡ zip xs ys ++ (x, y) ∷ []
-zip-push [] [] x y e = refl
-zip-push [] (b ∷ bs) x y e = absurd (omega arith)
-zip-push (a ∷ as') [] x y e = absurd (omega arith)
-zip-push (a ∷ as') (b ∷ bs) x y e = ap (λ ps. (a, b) ∷ ps) (zip-push as' bs x y (omega arith))
+-- an item more at the tail of a link
+tail-put : (p : Past) (v : NodeView) (l : ℕ) (k : LinkView) (x : LinkItem) (k2 : LinkView) → slice_get v.links l ≡ Some k
+    → ((peer : NodeId) → slice_get v.config.peers l ≡ Some peer → tail_of (p.links l) ≡ record { life = k.life; is_open = k.is_open } → MayGo peer v.config.me (tail_of (p.links l)) x)
+    → (tail_of (p.links l) ≡ record { life = k.life; is_open = k.is_open } → goes (tail_of (p.links l)) x ≡ record { life = k2.life; is_open = k2.is_open })
+    → k2.queue ≡ k.queue ++ x ∷ [] → k2.room ≡ k.room → k2.reader ≡ k.reader → k2.hand ≡ k.hand
+    → Flows p v → Flows (record p { links = changed p.links l (more (p.links l) x) }) (with_link v l k2)
+tail-put p v l k x k2 there may tail queue room reader hand f =
+    on-link p v l k (more (p.links l) x) k2 there
+    (λ peer at g. link-put v.config.me peer v.config.capacities.link (p.links l) k x k2 (may peer at g.tail) (tail g.tail) queue room reader hand g)
+    (λ peer at g. put_same v.config.me peer v.config.capacities.link (p.links l) k x g)
+    f
 
-pub zip-more : (events : List Event) (replies : List Reply) (i : ℕ) (event : Event) (reply : Reply) → i < length events → event ≡ get_or events i event → length replies ≡ i → zip (take (i + 1) events) (replies ++ reply ∷ []) ≡ zip (take i events) replies ++ (event, reply) ∷ []
-zip-more events replies i event reply below is count =
-    let more : take (i + 1) events ≡ take i events ++ event ∷ [] = take_more events i event below ∙ ap (λ x. take i events ++ x ∷ []) (sym is) in
-    rw more (zip-push (take i events) replies event reply (length-take-le i events (omega arith) ∙ sym count))
+-- the tail of a link that is there
+the_tail : (p : Past) (v : NodeView) (l : ℕ) (k : LinkView) → Flows p v → slice_get v.links l ≡ Some k → tail_of (p.links l) ≡ record { life = k.life; is_open = k.is_open }
+the_tail p v l k f there = let peer = there_is v.config.peers l (rw (← f.count) (within v.links l k there)) in (f.links l k there peer.0 peer.1).tail
+
+-- ---- accepted events
+
+life_is : (t : Tail) (life : ℕ) (is_open : Bool) → t ≡ record { life = life; is_open = is_open } → life ≡ t.life
+life_is t life is_open e = sym (ap (λ (u : Tail). u.life) e)
+
+Flows-open : (p : Past) (v : NodeView) (l : ℕ) (k : LinkView) → slice_get v.links l ≡ Some k → k.is_open ≡ false → Flows p v → Flows (accepts v.config p (Open l)) (with_link v l (record k { life = k.life + 1; is_open = true; queue = k.queue ++ item.Opened (conn_at (peer_at v.config l) v.config.me (k.life + 1)) ∷ [] }))
+Flows-open p v l k there shut f =
+    let o = p.links l in
+    let t = the_tail p v l k f there in
+    tail-put p v l k (item.Opened (conn_at (peer_at v.config l) v.config.me ((tail_of o).life + 1))) _ there
+    (λ peer at t. (ap (λ (u : Tail). u.is_open) t ∙ shut, ap (λ (q : NodeId). conn_at q v.config.me ((tail_of o).life + 1)) (peer_is v.config.peers l v.config.me peer at)))
+    (λ t. ap (λ (u : Tail). record { life = u.life + 1; is_open = true }) t)
+    (ap (λ n. k.queue ++ item.Opened (conn_at (peer_at v.config l) v.config.me (n + 1)) ∷ []) (life_is (tail_of o) k.life k.is_open t)) refl refl refl f
+
+Flows-send : (p : Past) (v : NodeView) (l : ℕ) (bytes : List ℕ) (k : LinkView) → slice_get v.links l ≡ Some k → k.is_open ≡ true → Flows p v → Flows (accepts v.config p (Send l bytes)) (with_link v l (record k { queue = k.queue ++ item.Bytes (conn_at (peer_at v.config l) v.config.me k.life) bytes ∷ [] }))
+Flows-send p v l bytes k there open' f =
+    let o = p.links l in
+    let t = the_tail p v l k f there in
+    tail-put p v l k (item.Bytes (conn_at (peer_at v.config l) v.config.me (tail_of o).life) bytes) _ there
+    (λ peer at t. (ap (λ (u : Tail). u.is_open) t ∙ open', ap (λ (q : NodeId). conn_at q v.config.me (tail_of o).life) (peer_is v.config.peers l v.config.me peer at)))
+    (λ t. t)
+    (ap (λ n. k.queue ++ item.Bytes (conn_at (peer_at v.config l) v.config.me n) bytes ∷ []) (life_is (tail_of o) k.life k.is_open t)) refl refl refl f
+
+Flows-close : (p : Past) (v : NodeView) (l : ℕ) (k : LinkView) → slice_get v.links l ≡ Some k → k.is_open ≡ true → Flows p v → Flows (accepts v.config p (Close l)) (with_link v l (record k { is_open = false; queue = k.queue ++ item.Closed (conn_at (peer_at v.config l) v.config.me k.life) ∷ [] }))
+Flows-close p v l k there open' f =
+    let o = p.links l in
+    let t = the_tail p v l k f there in
+    tail-put p v l k (item.Closed (conn_at (peer_at v.config l) v.config.me (tail_of o).life)) _ there
+    (λ peer at t. (ap (λ (u : Tail). u.is_open) t ∙ open', ap (λ (q : NodeId). conn_at q v.config.me (tail_of o).life) (peer_is v.config.peers l v.config.me peer at)))
+    (λ t. ap (λ (u : Tail). record { life = u.life; is_open = false }) t)
+    (ap (λ n. k.queue ++ item.Closed (conn_at (peer_at v.config l) v.config.me n) ∷ []) (life_is (tail_of o) k.life k.is_open t)) refl refl refl f
+
+Flows-local : (p : Past) (v : NodeView) (x : Inbound) → ((peer : NodeId) → is_from peer x ≡ false) → Flows p v → Flows (record p { came = p.came ++ x ∷ [] }) (record v { inbox = v.inbox ++ x ∷ [] })
+Flows-local p v x none f = record {
+  runs = f.runs;
+  rooms = f.rooms;
+  count = f.count;
+  apart = f.apart;
+  links = f.links;
+  came = λ m peer at. of_peer-push peer p.came x false (none peer) ∙ append-nil (of_peer peer p.came) ∙ f.came m peer at;
+  local = f.local;
+  arrived = f.arrived;
+  inbox = ap (λ xs. xs ++ x ∷ []) f.inbox ∙ append_assoc f.arrived v.inbox (x ∷ []);
+  given = f.given;
+  pending = f.pending;
+  took = f.took;
+  ready = f.ready;
+  onwards = f.onwards;
+  journal = f.journal;
+  applied = f.applied;
+  decided = f.decided;
+  applier = f.applier;
+  ready_count = f.ready_count;
+  decided_count = f.decided_count;
+}
+
+pub Flows-accepts : (p : Past) (old new : NodeView) (event : Event) → Accepts old event new → Flows p old → Flows (accepts old.config p event) new
+Flows-accepts p old new (Open l) a f = subst (λ (v : NodeView). Flows (accepts old.config p (Open l)) v) (sym a.2.3) (Flows-open p old l a.0 a.1 a.2.0 f)
+Flows-accepts p old new (Send l bytes) a f = subst (λ (v : NodeView). Flows (accepts old.config p (Send l bytes)) v) (sym a.2.2) (Flows-send p old l bytes a.0 a.1 a.2.0 f)
+Flows-accepts p old new (Close l) a f = subst (λ (v : NodeView). Flows (accepts old.config p (Close l)) v) (sym a.2.2) (Flows-close p old l a.0 a.1 a.2.0 f)
+Flows-accepts p old new (Local command) a f = subst (λ (v : NodeView). Flows (accepts old.config p (Local command)) v) (sym a.1) (Flows-local p old (inbound.Local command) (λ peer. refl) f)
+Flows-accepts p old new event a f = absurd a
+
+-- ---- moves
+
+Flows-reader-take : (p : Past) (v : NodeView) (l : ℕ) (k : LinkView) (x : LinkItem) (rest : List LinkItem) → slice_get v.links l ≡ Some k → k.hand ≡ None → k.queue ≡ x ∷ rest → Flows p v → Flows (moves p (ReaderTake l)) (with_link v l (record k { queue = rest; reader = after k.reader x; hand = reading k.reader x }))
+Flows-reader-take p v l k x rest there empty queue f =
+    on-link p v l k (record (p.links l) { taken = (p.links l).taken + 1 }) _ there
+    (λ peer at g. link-take v.config.me peer v.config.capacities.link (p.links l) k x rest empty queue g)
+    (λ peer at g. refl)
+    f
+
+-- the hand's item brings one reading more
+Flows-reader-put : (p : Past) (v : NodeView) (l : ℕ) (k : LinkView) (x : Inbound) → slice_get v.links l ≡ Some k → k.hand ≡ Some x → Flows p v → Flows (moves p (ReaderPut l)) (record v { links = slice_set v.links l (record k { hand = None }); inbox = v.inbox ++ x ∷ [] })
+Flows-reader-put p v l k x there some f =
+    let o = p.links l in
+    let o2 = record o { given = o.given + 1 } in
+    let at_l = there_is v.config.peers l (rw (← f.count) (within v.links l k there)) in
+    let g = f.links l k there at_l.0 at_l.1 in
+    let next : take 1 (drop o.given (readings_of o)) ≡ x ∷ [] = ap (take 1) (hand_cut v.config.me at_l.0 v.config.capacities.link o k x some g) in
+    let whole' : readings_of o ≡ take o.given (readings_of o) ++ x ∷ readings k.reader k.queue = sym (take-append-drop o.given (readings_of o)) ∙ ap (λ xs. take o.given (readings_of o) ++ xs) (hand_cut v.config.me at_l.0 v.config.capacities.link o k x some g) in
+    let from : (q : NodeId) → is_from q x ≡ same_node at_l.0 q = λ q. from_is at_l.0 v.config.me q nothing_came (take o.given (readings_of o)) x (readings k.reader k.queue) (subst (λ (xs : List Inbound). AreInOrder at_l.0 v.config.me nothing_came xs) whole' (in_order v.config.me at_l.0 v.config.capacities.link o k g)) in
+    let came' : (m : ℕ) → (peer : NodeId) → slice_get v.config.peers m ≡ Some peer → of_peer peer (p.came ++ x ∷ []) ≡ take (changed p.links l o2 m).given (readings_of (changed p.links l o2 m)) = λ m peer at.
+    at_changed (λ (y : OnLink). of_peer peer (p.came ++ x ∷ []) ≡ take y.given (readings_of y)) p.links l o2 m
+    (λ e.
+    let at2 : slice_get v.config.peers l ≡ Some peer = subst (λ n. slice_get v.config.peers n ≡ Some peer) e at in
+    let same : at_l.0 ≡ peer = some_is at_l.0 peer (sym at_l.1 ∙ at2) in
+    of_peer-push peer p.came x true (from peer ∙ ap (λ (q : NodeId). same_node q peer) same ∙ same_node-refl peer) ∙ ap (λ xs. xs ++ x ∷ []) (f.came l peer at2) ∙ sym (give_more v.config.me at_l.0 v.config.capacities.link o k x some g))
+    (λ ne.
+    let other : at_l.0 ≢ peer = λ e. ne (f.apart m l peer at (at_l.1 ∙ ap (λ (q : NodeId). Some q) e)) in
+    of_peer-push peer p.came x false (from peer ∙ not_same at_l.0 peer other) ∙ append-nil (of_peer peer p.came) ∙ f.came m peer at) in
+    record {
+      runs = f.runs;
+      rooms = f.rooms;
+      count = length-set v.links l (record k { hand = None }) ∙ f.count;
+      apart = f.apart;
+      links = links-set v.config.me v.config.peers v.config.capacities.link p.links v.links l o2 (record k { hand = None }) (λ peer at. link-give v.config.me peer v.config.capacities.link o k x some (f.links l k there peer at)) f.links;
+      came = λ m peer at. rw next (came' m peer at);
+      local = f.local;
+      arrived = f.arrived;
+      inbox = rw next (ap (λ xs. xs ++ x ∷ []) f.inbox ∙ append_assoc f.arrived v.inbox (x ∷ []));
+      given = f.given;
+      pending = f.pending;
+      took = f.took;
+      ready = f.ready;
+      onwards = f.onwards;
+      journal = f.journal;
+      applied = f.applied;
+      decided = f.decided;
+      applier = f.applier;
+      ready_count = f.ready_count;
+      decided_count = f.decided_count;
+    }
+  where
+    some_is : (a b : NodeId) → Some a ≡ Some b → a ≡ b
+    some_is a b e = cc
+
+Flows-brings : (p : Past) (v : NodeView) (thing : Ready) (after' : PendingView) → v.pend_hand ≡ None → ((me : NodeId) → (peers : List NodeId) → Passes (Pends me peers) [] (thing ∷ []) v.pending after') → after' ≡ record v.pending { leaving = after'.leaving } → Flows p v → Flows p (record v { pending = after'; pend_hand = Some thing })
+Flows-brings p v thing after' empty passes same f = record {
+  runs = f.runs;
+  rooms = f.rooms;
+  count = f.count;
+  apart = f.apart;
+  links = f.links;
+  came = f.came;
+  local = ap (λ (w : PendingView). w.settled.store.local) same ∙ f.local;
+  arrived = f.arrived;
+  inbox = f.inbox;
+  given = f.given ++ thing ∷ [];
+  pending = subst (λ (xs : List Inbound). Pends v.config.me v.config.peers xs (f.given ++ thing ∷ []) after') (append-nil f.arrived) (passes v.config.me v.config.peers f.arrived f.given f.pending);
+  took = f.took;
+  ready = way-fill f.given f.took v.ready v.pend_hand (Some thing) empty f.ready;
+  onwards = f.onwards;
+  journal = f.journal;
+  applied = f.applied;
+  decided = f.decided;
+  applier = f.applier;
+  ready_count = f.ready_count;
+  decided_count = f.decided_count;
+}
+
+Flows-pend-take : (p : Past) (v : NodeView) (x : Inbound) (rest : List Inbound) (between after' : PendingView) (thing : Option Ready) → v.pend_hand ≡ None → v.inbox ≡ x ∷ rest → between ≡ taken_in v.pending x → after' ≡ record between { leaving = after'.leaving } → ((me : NodeId) → (peers : List NodeId) → Passes (Pends me peers) (x ∷ []) [] v.pending between) → ((me : NodeId) → (peers : List NodeId) → Passes (Pends me peers) [] (option_to_list thing) between after') → Flows p v → Flows p (record v { inbox = rest; pending = after'; pend_hand = thing })
+Flows-pend-take p v x rest between after' thing empty inbox by_rules same takes gives f =
+    let local : after'.settled.store.local ≡ v.config.set = ap (λ (w : PendingView). w.settled.store.local) same ∙ ap (λ (w : PendingView). w.settled.store.local) by_rules ∙ local_step v.pending.settled x ∙ f.local in
+    let one : Pends v.config.me v.config.peers (f.arrived ++ x ∷ []) f.given between = subst (λ (ys : List Ready). Pends v.config.me v.config.peers (f.arrived ++ x ∷ []) ys between) (append-nil f.given) (takes v.config.me v.config.peers f.arrived f.given f.pending) in
+    record {
+      runs = f.runs;
+      rooms = f.rooms;
+      count = f.count;
+      apart = f.apart;
+      links = f.links;
+      came = f.came;
+      local = local;
+      arrived = f.arrived ++ x ∷ [];
+      inbox = f.inbox ∙ ap (λ xs. f.arrived ++ xs) inbox ∙ sym (append_assoc f.arrived (x ∷ []) rest);
+      given = f.given ++ option_to_list thing;
+      pending = subst (λ (xs : List Inbound). Pends v.config.me v.config.peers xs (f.given ++ option_to_list thing) after') (append-nil (f.arrived ++ x ∷ [])) (gives v.config.me v.config.peers (f.arrived ++ x ∷ []) f.given one);
+      took = f.took;
+      ready = way-fill f.given f.took v.ready v.pend_hand thing empty f.ready;
+      onwards = f.onwards;
+      journal = f.journal;
+      applied = f.applied;
+      decided = f.decided;
+      applier = f.applier;
+      ready_count = f.ready_count;
+      decided_count = f.decided_count;
+    }
+
+Flows-pend-put : (p : Past) (v : NodeView) (x : Ready) → v.pend_hand ≡ Some x → Flows p v → Flows (moves p PendPut) (record v { pend_hand = None; ready = v.ready ++ x ∷ [] })
+Flows-pend-put p v x some f = record {
+  runs = f.runs;
+  rooms = f.rooms;
+  count = f.count;
+  apart = f.apart;
+  links = f.links;
+  came = f.came;
+  local = f.local;
+  arrived = f.arrived;
+  inbox = f.inbox;
+  given = f.given;
+  pending = f.pending;
+  took = f.took;
+  ready = way-put f.given f.took v.ready v.pend_hand x some f.ready;
+  onwards = f.onwards;
+  journal = f.journal;
+  applied = f.applied;
+  decided = f.decided;
+  applier = f.applier;
+  ready_count = omega (arith, f.ready_count, length-append v.ready (x ∷ []));
+  decided_count = f.decided_count;
+}
+
+Flows-slot-take : (p : Past) (v : NodeView) (x : Ready) (rest : List Ready) (after' : LedgerView) (took : Took) → v.slot_hand ≡ None → v.ready ≡ x ∷ rest → Takes v.ledger x took after' → IsLedger after' → Flows p v → Flows (moves p SlotTake) (record v { ready = rest; ledger = after'; slot_hand = took.onward })
+Flows-slot-take p v x rest after' took empty queue takes known f = record {
+  runs = f.runs;
+  rooms = f.rooms;
+  count = f.count;
+  apart = f.apart;
+  links = f.links;
+  came = f.came;
+  local = f.local;
+  arrived = f.arrived;
+  inbox = f.inbox;
+  given = f.given;
+  pending = f.pending;
+  took = f.took ++ x ∷ [];
+  ready = way-take f.given f.took v.ready rest v.pend_hand x queue f.ready;
+  onwards = f.onwards ++ option_to_list took.onward;
+  journal = journals_step v.config.me v.config.peers f.took f.onwards v.ledger x took after' takes known f.journal;
+  applied = f.applied;
+  decided = way-fill f.onwards f.applied v.decided v.slot_hand took.onward empty f.decided;
+  applier = f.applier;
+  ready_count = omega (arith, f.ready_count, ap length queue);
+  decided_count = f.decided_count;
+}
+
+Flows-slot-put : (p : Past) (v : NodeView) (x : Onward) → v.slot_hand ≡ Some x → Flows p v → Flows (moves p SlotPut) (record v { slot_hand = None; decided = v.decided ++ x ∷ [] })
+Flows-slot-put p v x some f = record {
+  runs = f.runs;
+  rooms = f.rooms;
+  count = f.count;
+  apart = f.apart;
+  links = f.links;
+  came = f.came;
+  local = f.local;
+  arrived = f.arrived;
+  inbox = f.inbox;
+  given = f.given;
+  pending = f.pending;
+  took = f.took;
+  ready = f.ready;
+  onwards = f.onwards;
+  journal = f.journal;
+  applied = f.applied;
+  decided = way-put f.onwards f.applied v.decided v.slot_hand x some f.decided;
+  applier = f.applier;
+  ready_count = f.ready_count;
+  decided_count = omega (arith, f.decided_count, length-append v.decided (x ∷ []));
+}
+
+Flows-apply-take : (p : Past) (v : NodeView) (x : Onward) (rest : List Onward) (after' : ApplierView) (answer : Option (ℕ × Message)) → v.decided ≡ x ∷ rest → ApplierTakes v.applier x answer after' → IsApplier after' → IsRunning after' → Flows p v → Flows (moves p ApplyTake) (record v { decided = rest; applier = after' })
+Flows-apply-take p v x rest after' answer queue takes known running f = record {
+  runs = f.runs;
+  rooms = f.rooms;
+  count = f.count;
+  apart = f.apart;
+  links = f.links;
+  came = f.came;
+  local = f.local;
+  arrived = f.arrived;
+  inbox = f.inbox;
+  given = f.given;
+  pending = f.pending;
+  took = f.took;
+  ready = f.ready;
+  onwards = f.onwards;
+  journal = f.journal;
+  applied = f.applied ++ x ∷ [];
+  decided = way-take f.onwards f.applied v.decided rest v.slot_hand x queue f.decided;
+  applier = applies_step f.applied v.applier x answer after' takes known running f.applier;
+  ready_count = f.ready_count;
+  decided_count = omega (arith, f.decided_count, ap length queue);
+}
+
+pub Flows-moves : (p : Past) (old new : NodeView) (event : Event) → Moves old event new → Flows p old → Flows (moves p event) new
+Flows-moves p old new (ReaderTake l) a f = subst (λ (v : NodeView). Flows (moves p (ReaderTake l)) v) (sym a.2.4) (Flows-reader-take p old l a.0 a.2.1 a.2.2 a.1 a.2.0 a.2.3 f)
+Flows-moves p old new (ReaderPut l) a f = subst (λ (v : NodeView). Flows (moves p (ReaderPut l)) v) (sym a.2.3) (Flows-reader-put p old l a.0 a.2.1 a.1 a.2.2 f)
+Flows-moves p old new PendTake a f = elim a.1 [
+  | inl b ↦ subst (λ (v : NodeView). Flows p v) (sym b.is) (Flows-brings p old b.thing b.after' a.0 b.passes b.same f)
+  | inr b ↦ subst (λ (v : NodeView). Flows p v) (sym b.is) (Flows-pend-take p old b.x b.rest b.between b.after' b.thing a.0 b.inbox b.rules b.same b.takes b.gives f)
+]
+Flows-moves p old new PendPut a f = subst (λ (v : NodeView). Flows (moves p PendPut) v) (sym a.3) (Flows-pend-put p old a.1 a.2 f)
+Flows-moves p old new SlotTake a f = let b = a.1 in subst (λ (v : NodeView). Flows (moves p SlotTake) v) (sym b.is) (Flows-slot-take p old b.x b.rest b.after' b.took a.0 b.ready b.takes b.known f)
+Flows-moves p old new SlotPut a f = subst (λ (v : NodeView). Flows (moves p SlotPut) v) (sym a.3) (Flows-slot-put p old a.1 a.2 f)
+Flows-moves p old new ApplyTake b f = subst (λ (v : NodeView). Flows (moves p ApplyTake) v) (sym b.is) (Flows-apply-take p old b.x b.rest b.after' b.answer b.decided b.takes b.known b.running f)
+Flows-moves p old new event a f = absurd a

@@ -1,9 +1,34 @@
 -- Which configurations a node can have.
-use Rattle.std.specs.Prelude.{◌≡◌, ◌≢◌, List, [], ◌∷◌}
+use Rattle.std.specs.Prelude.{ℕ, ◌≤◌, ◌≡◌, Bool, true, false, not, ◌&&◌, List, [], ◌∷◌, length}
+use Rattle.std.specs.List.{list_any}
 use Rattle.scp_types.specs.declared.names.NodeId.{NodeId}
-use Rattle.scp_quorum.specs.QuorumTree.{QuorumTree}
 use Rattle.scp_quorum.specs.Sane.{IsSane}
+use Rattle.scp_wire.specs.Connections.{same_node}
+use Rattle.scp_core.specs.declared.config.Capacities.{Capacities}
+use Rattle.scp_core.specs.declared.config.Config.{Config}
 
--- a sane quorum set, exactly one peer, and another node than itself
-abbrev pub IsConfig : NodeId → QuorumTree → List NodeId → Type 0
-IsConfig me set peers = (peer : NodeId) × (peers ≡ peer ∷ []) × (peer ≢ me) × IsSane set
+abbrev pub is_among : NodeId → List NodeId → Bool
+is_among node peers = list_any (λ peer. same_node peer node) peers
+
+-- none stands there twice
+abbrev pub are_apart : List NodeId → Bool
+are_apart [] = true
+are_apart (peer ∷ peers) = not (is_among peer peers) && are_apart peers
+
+abbrev pub IsInRange : ℕ → Type 0
+IsInRange capacity = (1 ≤ capacity) × (capacity ≤ 1024)
+
+abbrev pub AreInRange : Capacities → Type 0
+AreInRange c = IsInRange c.link × IsInRange c.inbox × IsInRange c.ready × IsInRange c.decided
+
+-- at most seven peers, none twice and not the node itself, and capacities from 1 to 1,024
+pub record IsFit (me : NodeId) (peers : List NodeId) (capacities : Capacities) : Type 0 where
+  pub few : length peers ≤ 7
+  pub apart : are_apart peers ≡ true
+  pub others : is_among me peers ≡ false
+  pub in_range : AreInRange capacities
+
+-- and a sane quorum set
+pub record IsConfig (c : Config) : Type 0 where
+  pub sane : IsSane c.set
+  pub fit : IsFit c.me c.peers c.capacities

@@ -1,77 +1,90 @@
--- What was sent on a connection: a list of events and their replies, and nothing else, says it.
-use Rattle.std.specs.Prelude.{ℕ, ◌+◌, Bool, true, false, ◌||◌, not, List, [], ◌∷◌, ◌++◌, Option, Some, None, nat_eq, nat_lt, if◌then◌else◌, length, filter, fold, take, is_some}
-use Rattle.scp_wire.specs.declared.message.Message.{Message}
-use Rattle.scp_wire.specs.Carried.{is_carried}
-use Rattle.scp_types.specs.declared.names.Hash.{Hash}
-use Rattle.scp_core.specs.Sets.{reading_at}
-use Rattle.scp_wire.specs.declared.link.Cause.{Cause}
-use Rattle.scp_wire.specs.declared.link.Cause.TheVariants.{Malformed, Link, Spent}
+-- What a list of events and their replies says.
+use Rattle.std.specs.Prelude.{ℕ, ◌+◌, Bool, true, false, List, [], ◌∷◌, ◌++◌, nat_eq, if◌then◌else◌, fold, take, drop, slice_index_or}
+use Rattle.scp_types.specs.declared.names.NodeId.{NodeId}
+use Rattle.scp_wire.specs.declared.link.LinkItem.{LinkItem}
+use Rattle.scp_wire.specs.declared.link.LinkItem.TheVariants as item
+use Rattle.scp_wire.specs.declared.link.Inbound.{Inbound}
+use Rattle.scp_wire.specs.declared.link.Inbound.TheVariants as inbound
+use Rattle.scp_wire.specs.LinkReading.{unread, readings}
+use Rattle.scp_wire.specs.Connections.{conn_at}
+use Rattle.scp_wire.specs.Shape.{Tail, never_open, goes}
+use Rattle.scp_core.specs.declared.config.Config.{Config}
 use Rattle.scp_core.specs.declared.event.Event.{Event}
-use Rattle.scp_core.specs.declared.event.Event.TheVariants.{Open, Send, Close}
+use Rattle.scp_core.specs.declared.event.Event.TheVariants.{Open, Send, Close, Local, ReaderTake, ReaderPut, PendPut, SlotTake, SlotPut, ApplyTake}
 use Rattle.scp_core.specs.declared.event.Reply.{Reply}
-use Rattle.scp_core.specs.declared.event.Reply.TheVariants.{NoLink, AlreadyOpen, LivesSpent, NotOpen, Accepted, JournalFull, NoMemory, Failed}
+use Rattle.scp_core.specs.declared.event.Reply.TheVariants.{Accepted, Moved, JournalFull, NoMemory}
 
 -- an event and its reply
 abbrev pub Exchange : Type 0
 Exchange = Event × Reply
 
--- the node's one link as the exchanges leave it, and what was sent in one of its lives
-pub record Heard : Type 0 where
-  pub failed : Option Reply  -- the reply that failed the node
-  pub life : ℕ  -- how often the link was opened
-  pub is_open : Bool
-  pub sent : List (List ℕ)  -- the bytes that were accepted in that life, in order
-  pub closed : Bool  -- that life's close was accepted
+-- what the exchanges say of one link
+pub record OnLink : Type 0 where
+  pub items : List LinkItem  -- what was accepted at its tail, each stamped with its life
+  pub taken : ℕ  -- Moved replies of ReaderTake
+  pub given : ℕ  -- Moved replies of ReaderPut
 
-abbrev pub nothing_heard : Heard
-nothing_heard = record { failed = None; life = 0; is_open = false; sent = []; closed = false }
+abbrev pub unused : OnLink
+unused = record { items = []; taken = 0; given = 0 }
 
--- an accepted event; only link 0 accepts any
-abbrev pub accepts : ℕ → Heard → Event → Heard
-accepts life h (Open link) = record { failed = h.failed; life = h.life + 1; is_open = true; sent = h.sent; closed = h.closed }
-accepts life h (Send link bytes) = record { failed = h.failed; life = h.life; is_open = h.is_open; sent = if nat_eq h.life life then h.sent ++ bytes ∷ [] else h.sent; closed = h.closed }
-accepts life h (Close link) = record { failed = h.failed; life = h.life; is_open = false; sent = h.sent; closed = h.closed || nat_eq h.life life }
+-- how often it was opened, and whether it is open
+abbrev pub tail_of : OnLink → Tail
+tail_of o = fold goes never_open o.items
 
-abbrev pub fails : Heard → Reply → Heard
-fails h reply = record { failed = Some reply; life = h.life; is_open = h.is_open; sent = h.sent; closed = h.closed }
+-- what the reader makes of it: of all, and of what it took
+abbrev pub readings_of : OnLink → List Inbound
+readings_of o = readings unread o.items
 
-abbrev pub hears : ℕ → Heard → Event → Reply → Heard
-hears life h event NoLink = h
-hears life h event AlreadyOpen = h
-hears life h event LivesSpent = h
-hears life h event NotOpen = h
-hears life h event Accepted = accepts life h event
-hears life h event JournalFull = fails h JournalFull
-hears life h event NoMemory = fails h NoMemory
-hears life h event Failed = h
+abbrev pub read_so_far : OnLink → List Inbound
+read_so_far o = readings unread (take o.taken o.items)
 
--- what the exchanges say of the link, and of its life of this number
-abbrev pub heard : ℕ → List Exchange → Heard
-heard life past = fold (λ h x. hears life h x.0 x.1) nothing_heard past
+pub record Past : Type 0 where
+  pub failed : Bool  -- a step answered NoMemory or JournalFull
+  pub links : ℕ → OnLink
+  pub came : List Inbound  -- what was put into the inbox: the readings of all links, and the local commands
+  pub ready_put : ℕ
+  pub ready_taken : ℕ
+  pub decided_put : ℕ
+  pub decided_taken : ℕ
 
--- the messages up to the first bytes that have no reading, at a node whose own quorum set has this hash
-abbrev pub readable_from : Option Message → List Message → List Message
-readable_from None rest = []
-readable_from (Some message) rest = message ∷ rest
+abbrev pub nothing_heard : Past
+nothing_heard = record { failed = false; links = λ l. unused; came = []; ready_put = 0; ready_taken = 0; decided_put = 0; decided_taken = 0 }
 
-abbrev pub readable : Hash → List (List ℕ) → List Message
-readable local [] = []
-readable local (bytes ∷ sent) = readable_from (reading_at local bytes) (readable local sent)
+-- one link changes
+abbrev pub changed : (ℕ → OnLink) → ℕ → OnLink → ℕ → OnLink
+changed links l o m = if nat_eq m l then o else links m
 
-abbrev pub all_readable : Hash → List (List ℕ) → Bool
-all_readable local [] = true
-all_readable local (bytes ∷ sent) = if is_some (reading_at local bytes) then all_readable local sent else false
+abbrev pub goes_in : Past → ℕ → LinkItem → Past
+goes_in p l x = record p { links = changed p.links l (record (p.links l) { items = (p.links l).items ++ x ∷ [] }) }
 
--- those of them that are carried
-abbrev pub all_carried : Hash → List (List ℕ) → List Message
-all_carried local sent = filter is_carried (readable local sent)
+-- the node that link l comes from
+abbrev pub peer_at : Config → ℕ → NodeId
+peer_at c l = slice_index_or c.peers l c.me
 
--- the carried messages of a connection on which this was sent
-abbrev pub carried : Hash → List (List ℕ) → List Message
-carried local sent = take 1000000 (all_carried local sent)
+abbrev pub accepts : Config → Past → Event → Past
+accepts c p (Open l) = goes_in p l (item.Opened (conn_at (peer_at c l) c.me ((tail_of (p.links l)).life + 1)))
+accepts c p (Send l bytes) = goes_in p l (item.Bytes (conn_at (peer_at c l) c.me (tail_of (p.links l)).life) bytes)
+accepts c p (Close l) = goes_in p l (item.Closed (conn_at (peer_at c l) c.me (tail_of (p.links l)).life))
+accepts c p (Local command) = record p { came = p.came ++ inbound.Local command ∷ [] }
+accepts c p event = p
 
--- why the connection ends, if it does
-abbrev pub end_of : Hash → List (List ℕ) → Bool → Option Cause
-end_of local sent closed =
-    if nat_lt 1000000 (length (all_carried local sent)) then Some Spent
-    else (if not (all_readable local sent) then Some Malformed else (if closed then Some Link else None))
+-- the j-th Moved of ReaderPut(l) brings the j-th reading of link l
+abbrev pub moves : Past → Event → Past
+moves p (ReaderTake l) = record p { links = changed p.links l (record (p.links l) { taken = (p.links l).taken + 1 }) }
+moves p (ReaderPut l) = record p { links = changed p.links l (record (p.links l) { given = (p.links l).given + 1 }); came = p.came ++ take 1 (drop (p.links l).given (readings_of (p.links l))) }
+moves p PendPut = record p { ready_put = p.ready_put + 1 }
+moves p SlotTake = record p { ready_taken = p.ready_taken + 1 }
+moves p SlotPut = record p { decided_put = p.decided_put + 1 }
+moves p ApplyTake = record p { decided_taken = p.decided_taken + 1 }
+moves p event = p
+
+abbrev pub hears : Config → Past → Event → Reply → Past
+hears c p event Accepted = accepts c p event
+hears c p event Moved = moves p event
+hears c p event JournalFull = record p { failed = true }
+hears c p event NoMemory = record p { failed = true }
+hears c p event reply = p
+
+-- what the exchanges say together, at a node of this configuration
+abbrev pub past_of : Config → List Exchange → Past
+past_of c past = fold (λ p x. hears c p x.0 x.1) nothing_heard past

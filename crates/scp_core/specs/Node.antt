@@ -1,179 +1,220 @@
--- What clients see of a node, and what one event does to it.
-use Rattle.std.specs.Prelude.{ℕ, ◌+◌, ◌<◌, ◌≡◌, ◌≢◌, Bool, true, false, ◌||◌, List, [], ◌∷◌, ◌++◌, Option, Some, None, nat_eq, if◌then◌else◌, length}
-use Rattle.scp_types.specs.declared.names.ConnId.{ConnId}
+-- What clients see of a node, and what one event does to it: the table of replies.
+use Rattle.std.specs.Prelude.{ℕ, ◌+◌, ◌-◌, ◌<◌, ◌≡◌, ◌≢◌, Bool, true, false, List, [], ◌∷◌, ◌++◌, ◌⊎◌, Option, Some, None, IsSome, length, map, slice_get, slice_set, option_to_list}
 use Rattle.scp_types.specs.declared.names.NodeId.{NodeId}
-use Rattle.scp_types.specs.declared.names.Hash.{Hash}
-use Rattle.scp_quorum.specs.QuorumTree.{QuorumTree}
 use Rattle.scp_wire.specs.declared.message.Message.{Message}
-use Rattle.scp_wire.specs.Carried.{is_side}
-use Rattle.scp_wire.specs.Reading.{reading_of}
-use Rattle.scp_core.specs.declared.journal.Fate.{Fate}
-use Rattle.scp_core.specs.declared.journal.Fate.TheVariants.{Taken, Closed}
-use Rattle.scp_core.specs.declared.journal.Verdict.{Verdict}
-use Rattle.scp_wire.specs.declared.link.Cause.{Cause}
-use Rattle.scp_wire.specs.declared.link.Cause.TheVariants.{Malformed, Link, Spent}
-use Rattle.scp_core.specs.declared.journal.Decision.{Decision}
+use Rattle.scp_wire.specs.declared.link.LinkItem.{LinkItem}
+use Rattle.scp_wire.specs.declared.link.LinkItem.TheVariants as item
+use Rattle.scp_wire.specs.declared.link.Inbound.{Inbound}
+use Rattle.scp_wire.specs.declared.link.Inbound.TheVariants as inbound
+use Rattle.scp_wire.specs.LinkReading.{ReaderView, unread, reading, after}
+use Rattle.scp_wire.specs.Connections.{conn_at}
+use Rattle.scp_pending.specs.declared.ready.Ready.{Ready}
+use Rattle.scp_pending.specs.Passes.{Passes}
+use Rattle.scp_pending.specs.Rules.{PendingView, taken_in}
+use Rattle.scp_pending.specs.Pends.{Pends, IsSettled}
+use Rattle.scp_ledger.specs.declared.took.Onward.{Onward}
+use Rattle.scp_ledger.specs.declared.took.Took.{Took}
+use Rattle.scp_ledger.specs.Ledger.{LedgerView, IsLedger}
+use Rattle.scp_ledger.specs.Takes.{Takes, adds_entry}
+use Rattle.scp_apply.specs.Applier.{ApplierView, IsApplier, IsRunning}
+use Rattle.scp_apply.specs.Applier.{Takes as Applies}
+use Rattle.scp_core.specs.declared.config.Config.{Config}
 use Rattle.scp_core.specs.declared.event.Event.{Event}
-use Rattle.scp_core.specs.declared.event.Event.TheVariants.{Open, Send, Close}
+use Rattle.scp_core.specs.declared.event.Event.TheVariants.{Open, Send, Close, Local, ReaderTake, ReaderPut, PendTake, PendPut, SlotTake, SlotPut, ApplyTake}
 use Rattle.scp_core.specs.declared.event.Reply.{Reply}
-use Rattle.scp_core.specs.declared.event.Reply.TheVariants.{NoLink, AlreadyOpen, LivesSpent, NotOpen, Accepted, JournalFull, NoMemory, Failed}
-use Rattle.scp_core.specs.Sets.{SharedSet, hash_of, reading_at}
-use Rattle.scp_core.specs.Link.{conn_at}
-use Rattle.scp_core.specs.Journal.{of_conn, messages_in, causes_in}
+use Rattle.scp_core.specs.declared.event.Reply.TheVariants.{Failed, NoLink, AlreadyOpen, LivesSpent, NotOpen, Full, Accepted, Blocked, Idle, Moved, JournalFull, NoMemory}
+use Rattle.scp_core.specs.History.{peer_at}
 
--- what clients see of a node
-pub record NodeView : Type 0 where
-  pub me : NodeId
-  pub peer : NodeId
-  pub set : QuorumTree  -- its own quorum set
-  pub failed : Bool
-  pub life : ℕ  -- how often the link was opened
+pub record LinkView : Type 0 where
+  pub life : ℕ
   pub is_open : Bool
-  pub journal : List Fate
-  pub decisions : List Decision
-  pub applied : List Decision
-  pub waiting : List Decision  -- the decisions that aren't applied yet
-  -- the keys with their values, ascending by key; None once failed
-  pub state : Option (List (List ℕ × List ℕ))
+  pub queue : List LinkItem
+  pub room : ℕ  -- the most items that the queue holds
+  pub reader : ReaderView
+  pub hand : Option Inbound
 
--- the hash of its own quorum set
-abbrev pub local_hash : NodeView → Hash
-local_hash v = hash_of v.set
+-- a link that was never open
+abbrev pub new_link : ℕ → LinkView
+new_link room = record { life = 0; is_open = false; queue = []; room = room; reader = unread; hand = None }
 
--- the link's last connection
-abbrev pub conn_now : NodeView → ConnId
-conn_now v = conn_at v.peer v.me v.life
+pub record NodeView : Type 0 where
+  pub config : Config
+  pub failed : Bool
+  pub links : List LinkView
+  pub inbox : List Inbound
+  pub inbox_room : ℕ
+  pub pending : PendingView
+  pub pend_hand : Option Ready
+  pub ready : List Ready
+  pub ready_room : ℕ
+  pub ledger : LedgerView
+  pub slot_hand : Option Onward
+  pub decided : List Onward
+  pub decided_room : ℕ
+  pub applier : ApplierView
 
--- its entries
-abbrev pub line_of : NodeView → List Fate
-line_of v = of_conn (conn_now v) v.journal
+-- the link is there, and this holds of it
+abbrev pub AtLink : NodeView → ℕ → (LinkView → Type 0) → Type 0
+AtLink v l P = (k : LinkView) × (slice_get v.links l ≡ Some k) × P k
 
-abbrev pub any_cause : List Cause → Bool
-any_cause [] = false
-any_cause (cause ∷ causes) = true
+abbrev pub is_full : LinkView → Type 0
+is_full k = length k.queue ≡ k.room
 
--- it has its Closed
-abbrev pub has_ended : NodeView → Bool
-has_ended v = any_cause (causes_in (line_of v))
-
--- the fate of the next bytes on a connection that carried n messages, unless they are a side message
-abbrev pub fate_of : ConnId → ℕ → Option Message → Option SharedSet → Verdict → Fate
-fate_of conn n None set verdict = Closed conn Malformed
-fate_of conn n (Some message) set verdict = if nat_eq n 1000000 then Closed conn Spent else Taken conn (record { 0 = n }) message set verdict
-
--- these entries more, and the link as before
-pub record Adds (old : NodeView) (fates : List Fate) (new : NodeView) : Type 0 where
-  pub me : new.me ≡ old.me
-  pub peer : new.peer ≡ old.peer
-  pub set : new.set ≡ old.set
-  pub journal : new.journal ≡ old.journal ++ fates
-  pub life : new.life ≡ old.life
-  pub is_open : new.is_open ≡ old.is_open
-  pub failed : new.failed ≡ old.failed
-
--- the fate of a message more
-pub record EntersMessage (old : NodeView) (message : Message) (new : NodeView) : Type 0 where
-  pub set : Option SharedSet
-  pub verdict : Verdict
-  pub adds : Adds old (Taken (conn_now old) (record { 0 = length (messages_in (line_of old)) }) message set verdict ∷ []) new
-
--- the fate of what was read more
-pub record Enters (old : NodeView) (read : Option Message) (new : NodeView) : Type 0 where
-  pub set : Option SharedSet
-  pub verdict : Verdict
-  pub adds : Adds old (fate_of (conn_now old) (length (messages_in (line_of old))) read set verdict ∷ []) new
-
--- what is left of a node that fails is as before
-pub record Keeps (old new : NodeView) : Type 0 where
-  pub me : new.me ≡ old.me
-  pub peer : new.peer ≡ old.peer
-  pub set : new.set ≡ old.set
-  pub journal : new.journal ≡ old.journal
-  pub decisions : new.decisions ≡ old.decisions
-  pub applied : new.applied ≡ old.applied
-  pub life : new.life ≡ old.life
-  pub is_open : new.is_open ≡ old.is_open
-
--- the link that an event names
-abbrev pub link_of : Event → ℕ
-link_of (Open link) = link
-link_of (Send link bytes) = link
-link_of (Close link) = link
-
--- an event that adds an entry where its connection is live
-abbrev pub AddsAnEntry : Event → Type 0
-AddsAnEntry (Open link) = ⊥
-AddsAnEntry (Send link bytes) = is_side (reading_of bytes) ≡ false
-AddsAnEntry (Close link) = Unit {0}
-
--- the event fails the node where it would have added an entry
-pub record Fails (old : NodeView) (event : Event) (new : NodeView) : Type 0 where
-  pub kept : Keeps old new
-  pub was : old.failed ≡ false
-  pub failed : new.failed ≡ true
-  pub link : link_of event ≡ 0
-  pub adds : AddsAnEntry event
-  pub is_open : old.is_open ≡ true
-  pub live : has_ended old ≡ false
-
-pub record Opens (old new : NodeView) : Type 0 where
-  pub me : new.me ≡ old.me
-  pub peer : new.peer ≡ old.peer
-  pub set : new.set ≡ old.set
-  pub was : old.failed ≡ false
-  pub shut : old.is_open ≡ false
-  pub left : old.life < 65535
-  pub life : new.life ≡ old.life + 1
-  pub is_open : new.is_open ≡ true
-  pub failed : new.failed ≡ false
-  pub journal : new.journal ≡ old.journal
-
-pub record Receives (old : NodeView) (bytes : List ℕ) (new : NodeView) : Type 0 where
-  pub was : old.failed ≡ false
-  pub is_open : old.is_open ≡ true
-  pub set : Option SharedSet
-  pub verdict : Verdict
-  pub adds : Adds old (if has_ended old || is_side (reading_at (local_hash old) bytes) then [] else fate_of (conn_now old) (length (messages_in (line_of old))) (reading_at (local_hash old) bytes) set verdict ∷ []) new
-
-pub record Closes (old new : NodeView) : Type 0 where
-  pub me : new.me ≡ old.me
-  pub peer : new.peer ≡ old.peer
-  pub set : new.set ≡ old.set
-  pub was : old.failed ≡ false
-  pub is_open : old.is_open ≡ true
-  pub shut : new.is_open ≡ false
-  pub life : new.life ≡ old.life
-  pub failed : new.failed ≡ false
-  pub journal : new.journal ≡ old.journal ++ (if has_ended old then [] else Closed (conn_now old) Link ∷ [])
+-- one link is new
+abbrev pub with_link : NodeView → ℕ → LinkView → NodeView
+with_link v l k = record v { links = slice_set v.links l k }
 
 -- an accepted event
 abbrev pub Accepts : NodeView → Event → NodeView → Type 0
-Accepts old (Open link) new = Opens old new
-Accepts old (Send link bytes) new = Receives old bytes new
-Accepts old (Close link) new = Closes old new
+Accepts old (Open l) new = AtLink old l (λ k. (k.is_open ≡ false) × (k.life < 65535) × (length k.queue ≢ k.room) × (new ≡ with_link old l (record k { life = k.life + 1; is_open = true; queue = k.queue ++ item.Opened (conn_at (peer_at old.config l) old.config.me (k.life + 1)) ∷ [] })))
+Accepts old (Send l bytes) new = AtLink old l (λ k. (k.is_open ≡ true) × (length k.queue ≢ k.room) × (new ≡ with_link old l (record k { queue = k.queue ++ item.Bytes (conn_at (peer_at old.config l) old.config.me k.life) bytes ∷ [] })))
+Accepts old (Close l) new = AtLink old l (λ k. (k.is_open ≡ true) × (length k.queue ≢ k.room) × (new ≡ with_link old l (record k { is_open = false; queue = k.queue ++ item.Closed (conn_at (peer_at old.config l) old.config.me k.life) ∷ [] })))
+Accepts old (Local command) new = (length old.inbox ≢ old.inbox_room) × (new ≡ record old { inbox = old.inbox ++ inbound.Local command ∷ [] })
+Accepts old event new = ⊥
 
--- why an event of link 0 is refused
+-- nothing is ready, and what the pending stage holds waits rightly
+abbrev pub IsIdle : PendingView → Type 0
+IsIdle v = (me : NodeId) → (peers : List NodeId) → (taken : List Inbound) → (given : List Ready) → Pends me peers taken given v → IsSettled me peers taken v
+
+-- the pending stage brings what is ready, or takes one item and then brings what is ready, if anything
+pub record PendBrings (old new : NodeView) : Type 0 where
+  pub thing : Ready
+  pub after' : PendingView
+  pub passes : (me : NodeId) → (peers : List NodeId) → Passes (Pends me peers) [] (thing ∷ []) old.pending after'
+  pub same : after' ≡ record old.pending { leaving = after'.leaving }
+  pub is : new ≡ record old { pending = after'; pend_hand = Some thing }
+
+pub record PendTakes (old new : NodeView) : Type 0 where
+  pub x : Inbound
+  pub rest : List Inbound
+  pub inbox : old.inbox ≡ x ∷ rest
+  pub nothing_ready : IsIdle old.pending
+  pub between : PendingView
+  pub after' : PendingView
+  pub thing : Option Ready
+  pub rules : between ≡ taken_in old.pending x
+  pub takes : (me : NodeId) → (peers : List NodeId) → Passes (Pends me peers) (x ∷ []) [] old.pending between
+  pub same : after' ≡ record between { leaving = after'.leaving }
+  pub gives : (me : NodeId) → (peers : List NodeId) → Passes (Pends me peers) [] (option_to_list thing) between after'
+  pub no_thing : thing ≡ None → IsIdle after'
+  pub is : new ≡ record old { inbox = rest; pending = after'; pend_hand = thing }
+
+pub record SlotTakes (old new : NodeView) : Type 0 where
+  pub x : Ready
+  pub rest : List Ready
+  pub ready : old.ready ≡ x ∷ rest
+  pub after' : LedgerView
+  pub took : Took
+  pub takes : Takes old.ledger x took after'
+  pub known : IsLedger after'
+  pub is : new ≡ record old { ready = rest; ledger = after'; slot_hand = took.onward }
+
+pub record ApplyTakes (old new : NodeView) : Type 0 where
+  pub x : Onward
+  pub rest : List Onward
+  pub decided : old.decided ≡ x ∷ rest
+  pub after' : ApplierView
+  pub answer : Option (ℕ × Message)
+  pub takes : Applies old.applier x answer after'
+  pub known : IsApplier after'
+  pub running : IsRunning after'
+  pub is : new ≡ record old { decided = rest; applier = after' }
+
+-- an event that moves something
+abbrev pub Moves : NodeView → Event → NodeView → Type 0
+Moves old (ReaderTake l) new = AtLink old l (λ k. (k.hand ≡ None) × (x : LinkItem) × (rest : List LinkItem) × (k.queue ≡ x ∷ rest) × (new ≡ with_link old l (record k { queue = rest; reader = after k.reader x; hand = reading k.reader x })))
+Moves old (ReaderPut l) new = AtLink old l (λ k. (length old.inbox ≢ old.inbox_room) × (x : Inbound) × (k.hand ≡ Some x) × (new ≡ record old { links = slice_set old.links l (record k { hand = None }); inbox = old.inbox ++ x ∷ [] }))
+Moves old PendTake new = (old.pend_hand ≡ None) × (PendBrings old new ⊎ PendTakes old new)
+Moves old PendPut new = (length old.ready ≢ old.ready_room) × (x : Ready) × (old.pend_hand ≡ Some x) × (new ≡ record old { pend_hand = None; ready = old.ready ++ x ∷ [] })
+Moves old SlotTake new = (old.slot_hand ≡ None) × SlotTakes old new
+Moves old SlotPut new = (length old.decided ≢ old.decided_room) × (x : Onward) × (old.slot_hand ≡ Some x) × (new ≡ record old { slot_hand = None; decided = old.decided ++ x ∷ [] })
+Moves old ApplyTake new = ApplyTakes old new
+Moves old event new = ⊥
+
+-- the link that an event names isn't there
+abbrev pub NamesNoLink : NodeView → Event → Type 0
+NamesNoLink v (Open l) = slice_get v.links l ≡ None
+NamesNoLink v (Send l bytes) = slice_get v.links l ≡ None
+NamesNoLink v (Close l) = slice_get v.links l ≡ None
+NamesNoLink v (ReaderTake l) = slice_get v.links l ≡ None
+NamesNoLink v (ReaderPut l) = slice_get v.links l ≡ None
+NamesNoLink v event = ⊥
+
+-- why an event does nothing
 abbrev pub Refuses : NodeView → Event → Reply → Type 0
-Refuses v (Open link) AlreadyOpen = v.is_open ≡ true
-Refuses v (Open link) LivesSpent = (v.is_open ≡ false) × (v.life ≡ 65535)
-Refuses v (Send link bytes) NotOpen = v.is_open ≡ false
-Refuses v (Close link) NotOpen = v.is_open ≡ false
+Refuses v event NoLink = NamesNoLink v event
+Refuses v (Open l) AlreadyOpen = AtLink v l (λ k. k.is_open ≡ true)
+Refuses v (Open l) LivesSpent = AtLink v l (λ k. (k.is_open ≡ false) × (k.life ≡ 65535))
+Refuses v (Open l) Full = AtLink v l (λ k. (k.is_open ≡ false) × (k.life < 65535) × is_full k)
+Refuses v (Send l bytes) NotOpen = AtLink v l (λ k. k.is_open ≡ false)
+Refuses v (Send l bytes) Full = AtLink v l (λ k. (k.is_open ≡ true) × is_full k)
+Refuses v (Close l) NotOpen = AtLink v l (λ k. k.is_open ≡ false)
+Refuses v (Close l) Full = AtLink v l (λ k. (k.is_open ≡ true) × is_full k)
+Refuses v (Local command) Full = length v.inbox ≡ v.inbox_room
+Refuses v (ReaderTake l) Blocked = AtLink v l (λ k. IsSome k.hand)
+Refuses v (ReaderTake l) Idle = AtLink v l (λ k. (k.hand ≡ None) × (k.queue ≡ []))
+Refuses v (ReaderPut l) Idle = AtLink v l (λ k. k.hand ≡ None)
+Refuses v (ReaderPut l) Blocked = AtLink v l (λ k. IsSome k.hand × (length v.inbox ≡ v.inbox_room))
+Refuses v PendTake Blocked = IsSome v.pend_hand
+Refuses v PendTake Idle = (v.pend_hand ≡ None) × (v.inbox ≡ []) × IsIdle v.pending
+Refuses v PendPut Idle = v.pend_hand ≡ None
+Refuses v PendPut Blocked = IsSome v.pend_hand × (length v.ready ≡ v.ready_room)
+Refuses v SlotTake Blocked = IsSome v.slot_hand
+Refuses v SlotTake Idle = (v.slot_hand ≡ None) × (v.ready ≡ [])
+Refuses v SlotPut Idle = v.slot_hand ≡ None
+Refuses v SlotPut Blocked = IsSome v.slot_hand × (length v.decided ≡ v.decided_room)
+Refuses v ApplyTake Idle = v.decided ≡ []
 Refuses v event reply = ⊥
 
--- a refusal of link 0 leaves the node
-pub record Stays (old : NodeView) (event : Event) (reply : Reply) (new : NodeView) : Type 0 where
+abbrev pub life_of : LinkView → ℕ
+life_of k = k.life
+
+-- what is left of a node that fails
+pub record Keeps (old new : NodeView) : Type 0 where
+  pub config : new.config ≡ old.config
+  pub journal : new.ledger.journal ≡ old.ledger.journal
+  pub decisions : new.ledger.decisions ≡ old.ledger.decisions
+  pub applied : new.applier.applied ≡ old.applier.applied
+  pub lives : map life_of new.links ≡ map life_of old.links
+
+pub record Fails (old new : NodeView) : Type 0 where
   pub was : old.failed ≡ false
-  pub link : link_of event ≡ 0
-  pub refuses : Refuses old event reply
-  pub same : new ≡ old
+  pub failed : new.failed ≡ true
+  pub keeps : Keeps old new
+
+-- the front of the ready queue would be entry number 1,000,001
+abbrev pub FillsJournal : NodeView → Event → Type 0
+FillsJournal v SlotTake = (v.slot_hand ≡ None) × (x : Ready) × (rest : List Ready) × (v.ready ≡ x ∷ rest) × (adds_entry x ≡ true) × (length v.ledger.journal ≡ 1000000)
+FillsJournal v event = ⊥
+
+-- an event that can fail for want of memory: no other reply fits
+abbrev pub TakesMemory : NodeView → Event → Type 0
+TakesMemory v (ReaderTake l) = AtLink v l (λ k. (k.hand ≡ None) × (k.queue ≢ []))
+TakesMemory v PendTake = (v.pend_hand ≡ None) × (v.inbox ≢ []) × IsIdle v.pending
+TakesMemory v SlotTake = (v.slot_hand ≡ None) × (v.ready ≢ []) × (¬ (FillsJournal v SlotTake))
+TakesMemory v ApplyTake = v.decided ≢ []
+TakesMemory v event = ⊥
 
 -- one event
 abbrev pub Step : NodeView → Event → Reply → NodeView → Type 0
 Step old event Failed new = (old.failed ≡ true) × (new ≡ old)
-Step old event NoLink new = (old.failed ≡ false) × (link_of event ≢ 0) × (new ≡ old)
-Step old event Accepted new = (link_of event ≡ 0) × Accepts old event new
-Step old event NoMemory new = Fails old event new × (length old.journal < 1000000)
-Step old event JournalFull new = Fails old event new × (length old.journal ≡ 1000000)
-Step old event AlreadyOpen new = Stays old event AlreadyOpen new
-Step old event LivesSpent new = Stays old event LivesSpent new
-Step old event NotOpen new = Stays old event NotOpen new
+Step old event Accepted new = (old.failed ≡ false) × Accepts old event new
+Step old event Moved new = (old.failed ≡ false) × Moves old event new
+Step old event JournalFull new = Fails old new × FillsJournal old event
+Step old event NoMemory new = Fails old new × TakesMemory old event
+Step old event reply new = (old.failed ≡ false) × Refuses old event reply × (new ≡ old)
+
+-- how often a link was opened, and how many items its queue can still take; 0 for a link that isn't there
+abbrev pub lives_of : Option LinkView → ℕ
+lives_of None = 0
+lives_of (Some k) = k.life
+
+abbrev pub lives_at : NodeView → ℕ → ℕ
+lives_at v l = lives_of (slice_get v.links l)
+
+abbrev pub room_of : Option LinkView → ℕ
+room_of None = 0
+room_of (Some k) = k.room - length k.queue
+
+abbrev pub room_at : NodeView → ℕ → ℕ
+room_at v l = room_of (slice_get v.links l)

@@ -1,9 +1,13 @@
 //! What a node is made of.
-ghost use Rattle.std.specs.Prelude.{◌≡◌};
+ghost use Rattle.std.specs.Prelude.{◌≡◌, ◌≤◌, ◌↔◌, IsTrue};
+ghost use Rattle.scp_core.specs.Config.{are_apart, is_among, AreInRange};
 
 use scp_quorum::QuorumSet;
 use scp_types::NodeId;
 use std::marker::Model;
+
+/// The most items that a queue may hold (this project's profile).
+pub const CAPACITY_LIMIT: u16 = 1_024;
 
 /// The nodes at the other ends of a node's links, in the order of the links.
 #[derive(Debug, Drop)]
@@ -34,13 +38,59 @@ impl Peers {
     }
 }
 
-/// Who a node is, and whom it is linked to.
+/// The most items that each queue holds: of each link, the inbox, the ready and the decided queue; each 1 to 1,024.
+#[derive(Clone, Copy, Debug, PartialEq, Eq)]
+pub struct Capacities {
+    pub link: u16,
+    pub inbox: u16,
+    pub ready: u16,
+    pub decided: u16,
+}
+
+impl Capacities {
+    /// Whether each is 1 to 1,024.
+    pub(crate) fn are_in_range(&self) -> bool
+        ensures { IsTrue result ↔ AreInRange self.now }
+    {
+        is_in_range(self.link)
+            && is_in_range(self.inbox)
+            && is_in_range(self.ready)
+            && is_in_range(self.decided)
+    }
+}
+
+fn is_in_range(capacity: u16) -> bool
+    ensures { IsTrue result ↔ ((1 ≤ capacity) × (capacity ≤ 1024)) }
+{
+    capacity >= 1 && capacity <= CAPACITY_LIMIT
+}
+
+/// Who a node is, whom it is linked to, and what its queues hold.
 #[derive(Debug, Drop)]
 pub struct Config {
     /// The node itself.
     pub me: NodeId,
     /// Its quorum set: a sane one.
     pub set: QuorumSet,
-    /// Its peers: exactly one, and another node than itself.
+    /// Its peers: at most seven other nodes, none twice.
     pub peers: Peers,
+    /// What its queues hold.
+    pub capacities: Capacities,
+}
+
+/// Whether no peer stands there twice.
+pub fn are_peers_apart(peers: &[NodeId]) -> bool
+    ensures { result ≡ are_apart peers.now }
+{
+    match peers.split_first() {
+        None => true,
+        Some((first, rest)) => !has_peer(rest, first) && are_peers_apart(rest),
+    }
+}
+
+/// Whether the node is among the peers.
+pub fn has_peer(peers: &[NodeId], node: &NodeId) -> bool
+    ensures { result ≡ is_among node.now peers.now }
+{
+    peers.iter().any(|peer| *peer == *node)
 }

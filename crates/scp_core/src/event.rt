@@ -1,8 +1,10 @@
 //! What happens at a node, and what it answers.
+ghost use Rattle.std.specs.Prelude.{◌≡◌, IfOk, IsOkUnless};
 
-use scp_wire::Bytes;
+use scp_types::Fault;
+use scp_wire::{Bytes, Command};
 
-/// What happens at a node: each names one of its links, which come from its peers in their order.
+/// What happens at a node: one step of one link's tail, or of one stage. Links are numbered as the peers they come from.
 #[derive(Debug, Drop)]
 pub enum Event {
     /// The peer opens the link: its next life, a new connection, begins.
@@ -11,39 +13,73 @@ pub enum Event {
     Send(u8, Bytes),
     /// The peer closes the open link.
     Close(u8),
+    /// A local command enters the inbox.
+    Local(Command),
+    /// The link's reader takes the next item of the link's queue, and what it reads comes to its hand.
+    ReaderTake(u8),
+    /// What is in the reader's hand goes into the inbox.
+    ReaderPut(u8),
+    /// The next ready thing of the pending stage comes to its hand; where there is none, the stage takes the next item of
+    /// the inbox first.
+    PendTake,
+    /// What is in the pending stage's hand goes into the ready queue.
+    PendPut,
+    /// The slot stage takes the next ready thing, and what goes on to the applier comes to its hand.
+    SlotTake,
+    /// What is in the slot stage's hand goes into the decided queue.
+    SlotPut,
+    /// The applier takes what is next in the decided queue.
+    ApplyTake,
 }
 
 impl Event {
-    ghost use Rattle.std.specs.Prelude.{◌≡◌};
-    ghost use Rattle.scp_core.specs.Node.{link_of};
-
-    /// The link that the event names.
-    pub fn link(&self) -> u8
-        ensures { result ≡ link_of self.now }
+    /// An event that equals this one. It copies a send's bytes; the one refusal is `Fault::NoMemory`.
+    pub fn copy(&self) -> Result<Event, Fault>
+        ensures same { IfOk result (λ copied. copied ≡ self.now) }
+        ensures only_memory { IsOkUnless result Fault.NoMemory }
     {
-        match self {
-            Event::Open(link) | Event::Send(link, _) | Event::Close(link) => *link,
-        }
+        Ok(match self {
+            Event::Open(link) => Event::Open(*link),
+            Event::Send(link, bytes) => Event::Send(*link, bytes.copy()?),
+            Event::Close(link) => Event::Close(*link),
+            Event::Local(command) => Event::Local(*command),
+            Event::ReaderTake(link) => Event::ReaderTake(*link),
+            Event::ReaderPut(link) => Event::ReaderPut(*link),
+            Event::PendTake => Event::PendTake,
+            Event::PendPut => Event::PendPut,
+            Event::SlotTake => Event::SlotTake,
+            Event::SlotPut => Event::SlotPut,
+            Event::ApplyTake => Event::ApplyTake,
+        })
     }
 }
 
-/// What a node answers to an event.
+/// What a node answers to an event. Of several that fit, the first in this order: `Failed`, `NoLink`, those of the event's
+/// own in the order of the stages' documentation, and last `NoMemory`.
 #[derive(Clone, Copy, Debug, PartialEq, Eq)]
 pub enum Reply {
-    /// There is no such link.
-    NoLink,
+    /// The event was taken at the tail of a link, or into the inbox.
+    Accepted,
+    /// The stage did its step.
+    Moved,
+    /// There is nothing to take, or nothing in the hand to put.
+    Idle,
+    /// The hand is in use, or the next queue is full.
+    Blocked,
+    /// The queue of the link, or the inbox, is full.
+    Full,
+    /// The link isn't open.
+    NotOpen,
     /// The link is open.
     AlreadyOpen,
     /// The link was opened 65,535 times.
     LivesSpent,
-    /// The link isn't open.
-    NotOpen,
-    /// The event was taken.
-    Accepted,
+    /// There is no such link.
+    NoLink,
+    /// The node failed before.
+    Failed,
     /// The journal has 1,000,000 entries; the node is failed.
     JournalFull,
     /// A growth was refused; the node is failed.
     NoMemory,
-    /// The node failed before.
-    Failed,
 }

@@ -1,12 +1,47 @@
-//! Laws of the definitions, each the contract of a function that does nothing.
-ghost use Rattle.scp_core.specs.Lives.{SentIsBetweenOpens, NothingIsSentBehindAClose, NothingIsSentBeforeAnOpen, LivesAreOpens};
+//! Laws of the definitions, each the contract of a function that does nothing: what the ledger theorem gives.
+ghost use Rattle.scp_core.specs.Theorem.{StepsKeep};
+ghost use Rattle.scp_core.specs.Accounts.{TheoremGivesFates};
+ghost use Rattle.scp_core.specs.Applied.{TheoremGivesApplied};
+ghost use Rattle.scp_core.specs.Causes.{TheoremGivesCauses};
+ghost use Rattle.scp_core.specs.Decisions.{TheoremGivesDecisions};
+ghost use Rattle.scp_core.specs.Room.{TheoremGivesRoom};
+ghost use Rattle.scp_core.specs.Settled.{IdleIsSettled};
 
-/// What was sent on a connection is what was accepted between its open and its close: of each life of the link all that
-/// was accepted from its open up to the next, of which nothing stands behind a close; nothing in a life that is to come;
-/// and lives are counted by the opens.
-pub fn what_was_sent_is_between_open_and_close()
-    ensures between { SentIsBetweenOpens }
-    ensures behind { NothingIsSentBehindAClose }
-    ensures before { NothingIsSentBeforeAnOpen }
-    ensures lives { LivesAreOpens }
+/// What holds of a list of exchanges and the node holds of the list with one step more.
+pub fn what_holds_of_a_past_holds_with_one_step_more()
+    ensures { StepsKeep }
+{}
+
+/// Each entry is of a connection of one of the links; each connection's carried messages have one fate each, from the first, in
+/// the order sent, none after its end; and while the node runs, nothing that was sent on it is lost.
+pub fn each_message_has_its_fate()
+    ensures fates { TheoremGivesFates }
+{}
+
+/// The decisions are those that the entries make, at most one a slot, and every verdict is the first that fits.
+pub fn each_decision_is_named_by_its_entry()
+    ensures decisions { TheoremGivesDecisions }
+{}
+
+/// Slots 1 to n are applied once each, in order; while the node runs, each other decision is in a queue, a hand or the
+/// applier's buffer, and the state is the fold of the applied values.
+pub fn decisions_are_applied_in_order()
+    ensures applied { TheoremGivesApplied }
+{}
+
+/// Each fate has its cause among what came, each connection ends by its cause, and each local command other than Tick is given
+/// once, in order.
+pub fn each_fate_has_its_cause()
+    ensures causes { TheoremGivesCauses }
+{}
+
+/// Where the pending stage answers Idle, the head of each of its queues is an envelope that waits for its quorum set.
+pub fn what_is_idle_is_settled()
+    ensures settled { IdleIsSettled }
+{}
+
+/// The length of each queue is what was put into it less what was taken; its room is its capacity less that; and the lives of
+/// a link are its accepted opens.
+pub fn queues_hold_what_was_put_and_not_taken()
+    ensures room { TheoremGivesRoom }
 {}

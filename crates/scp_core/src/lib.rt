@@ -1,37 +1,39 @@
-//! One node of a ledger pipeline: events in; replies, a journal, decisions, applied slots and a state out.
+//! One node of a ledger pipeline: up to seven links with their readers, an inbox, a pending stage, a slot stage and an
+//! applier, with bounded queues between them. One event is one step of one stage.
 //!
 //! What it promises, for every list of events (`LedgerTheorem` in `specs/Theorem.antt`, by `run` and `Node::step`):
-//! - each connection's carried messages have one fate each, from the first, in the order sent, none after its close, and
-//!   none is without a fate; each close has its cause, which for an envelope that names another quorum set is Malformed;
-//! - beside each taken envelope stands a sane quorum set with the hash that it names;
+//! - each connection's carried messages have one fate each, from the first, in the order sent, none after its close; and
+//!   while the node runs nothing that was sent is without its place: in the journal, a queue, a hand or the pending stage;
+//! - each fate has its cause, and beside each taken envelope stands a sane quorum set with the hash that it names;
 //! - at most one decision per slot, each named by a taken record of just that slot and value; every verdict is the first
 //!   that fits;
-//! - slots 1 to n are applied once each, in order, each with its decision, and the state is the fold of their values;
-//! - every reply is that of the table of replies (`IsReply` in `specs/Theorem.antt`);
+//! - slots 1 to n are applied once each, in order, each with its decision; each other decision lies in the slot stage's
+//!   hand, in the queue behind it or in the applier's buffer; and the state is the fold of the applied values;
+//! - every reply is that of the table of replies, and a queue is full exactly at its capacity;
 //! - a failed node keeps its journal, decisions and applied slots.
 #![tactic(auto)]
 
-mod applier;
 mod config;
-mod entering;
+mod decider;
 mod event;
-mod journal;
-mod latest;
 mod laws;
-mod ledger;
 mod link;
 mod node;
 mod outcome;
+mod queue;
 mod running;
-mod shared;
-mod verdicts;
 
-pub use config::{Config, Peers};
+pub use config::{Capacities, Config, Peers};
 pub use event::{Event, Reply};
-pub use journal::{Decision, Fate, Origin, Verdict};
-pub use laws::what_was_sent_is_between_open_and_close;
+pub use laws::{
+    decisions_are_applied_in_order, each_decision_is_named_by_its_entry, each_fate_has_its_cause,
+    each_message_has_its_fate, queues_hold_what_was_put_and_not_taken,
+    what_holds_of_a_past_holds_with_one_step_more, what_is_idle_is_settled,
+};
+pub use link::LIVES;
 pub use node::Node;
 pub use outcome::Run;
 pub use running::run;
-pub use scp_wire::{Bytes, Cause};
-pub use shared::SharedDecision;
+pub use scp_ledger::{Decision, Fate, Origin, SharedDecision, Verdict};
+pub use scp_pending::DropCause;
+pub use scp_wire::{Bytes, Cause, Command};

@@ -1,13 +1,215 @@
-//! The link of a node, as the node keeps it.
+//! The links of a node, at their receiving ends.
+ghost use Rattle.std.specs.Prelude.{◌≡◌, ◌≢◌, ◌-◌, ◌∷◌, [], ◌⊎◌, length, Some, None, IsSome, false, true, IfOk, slice_get, slice_set, replicate, IsOkUnless, MatchOption};
+ghost use Rattle.scp_core.specs.Node.{new_link};
+ghost use Rattle.scp_core.specs.inside.Links.{Opens, Sends, Closes, Reads, OnLinks, Gives, Puts};
 
-/// What the node keeps of its one link, at the receiving end.
-#[derive(Clone, Copy)]
+use crate::event::Reply;
+use crate::queue;
+use circular_buffer::HeapCircularBuffer;
+use scp_types::{ConnId, Fault, NodeId};
+use scp_wire::{Bytes, Inbound, LinkItem, LinkReader};
+use std::alloc::Global;
+use std::marker::Model;
+
+/// The most times that a link is opened (this project's profile).
+pub const LIVES: u32 = 65_535;
+
+#[derive(Drop)]
 pub struct Link {
+    life: u32,
+    is_open: bool,
+    queue: HeapCircularBuffer<LinkItem>,
+    reader: LinkReader,
+    hand: Option<Inbound>,
+}
+
+impl Model for Link {
+    ghost use Rattle.scp_core.specs.Node.{LinkView};
+
+    ghost Value = { LinkView };
+
+    ghost use Rattle.std.specs.Coded.{codes};
+    ghost use Rattle.scp_xdr.specs.TreeModel.{coded_row};
+    ghost use Rattle.scp_quorum.specs.QuorumTree.{coded_level};
+
+    ghost coded = { Prim.hlevel (codes, coded_row coded_level) };
+
+    ghost view = { λ a. record { life = a.life; is_open = a.is_open; queue = a.queue.items; room = a.queue.capacity; reader = a.reader; hand = a.hand } };
+
+    ghost use Rattle.std.specs.Prelude.{◌≤◌};
+
+    ghost invariant = { λ a. a.life ≤ 65535 };
+}
+
+impl Link {
+    pub fn new(alloc: Global, room: usize) -> Result<Link, Fault>
+        ensures new { IfOk result (λ k. k ≡ new_link room) }
+        ensures only_memory { IsOkUnless result Fault.NoMemory }
+    {
+        Ok(Link {
+            life: 0,
+            is_open: false,
+            queue: HeapCircularBuffer::with_capacity(alloc, room)?,
+            reader: LinkReader::new(),
+            hand: None,
+        })
+    }
+
     /// How often it was opened.
-    pub life: u32,
-    pub is_open: bool,
-    /// The connection has its Closed entry.
-    pub has_ended: bool,
-    /// The number of the connection's next carried message.
-    pub next: u64,
+    pub fn life(&self) -> u32
+        ensures { result ≡ self.now.life }
+    {
+        self.life
+    }
+
+    /// How many items its queue can still take.
+    pub fn room(&self) -> usize
+        ensures { result ≡ self.now.room - length self.now.queue }
+    {
+        self.queue.capacity() - self.queue.len()
+    }
+
+    fn open(&mut self, from: NodeId, to: NodeId) -> Reply
+        ensures { Opens from to self.old result self.new }
+    {
+        if self.is_open {
+            return Reply::AlreadyOpen;
+        }
+        if self.life == LIVES {
+            return Reply::LivesSpent;
+        }
+        if queue::is_full(&self.queue) {
+            return Reply::Full;
+        }
+        self.life += 1;
+        self.is_open = true;
+        let life = self.life;
+        queue::put(&mut self.queue, LinkItem::Opened(ConnId { from, to, life }));
+        Reply::Accepted
+    }
+
+    fn send(&mut self, from: NodeId, to: NodeId, bytes: Bytes) -> Reply
+        ensures { Sends from to bytes self.old result self.new }
+    {
+        if !self.is_open {
+            return Reply::NotOpen;
+        }
+        if queue::is_full(&self.queue) {
+            return Reply::Full;
+        }
+        let life = self.life;
+        queue::put(
+            &mut self.queue,
+            LinkItem::Bytes(ConnId { from, to, life }, bytes),
+        );
+        Reply::Accepted
+    }
+
+    fn close(&mut self, from: NodeId, to: NodeId) -> Reply
+        ensures { Closes from to self.old result self.new }
+    {
+        if !self.is_open {
+            return Reply::NotOpen;
+        }
+        if queue::is_full(&self.queue) {
+            return Reply::Full;
+        }
+        self.is_open = false;
+        let life = self.life;
+        queue::put(&mut self.queue, LinkItem::Closed(ConnId { from, to, life }));
+        Reply::Accepted
+    }
+
+    fn read(&mut self, alloc: Global) -> Reply
+        ensures { Reads self.old result self.new }
+    {
+        if self.hand.is_some() {
+            return Reply::Blocked;
+        }
+        let Some(item) = queue::next(&mut self.queue) else {
+            return Reply::Idle;
+        };
+        match self.reader.take(alloc, item) {
+            Ok(got) => {
+                self.hand = got;
+                Reply::Moved
+            }
+            Err(_) => Reply::NoMemory,
+        }
+    }
+
+    /// What is in the reader's hand, out of it where there is room for it.
+    fn give(&mut self, is_full: bool) -> Result<Inbound, Reply>
+        ensures { Gives self.old is_full result self.new }
+    {
+        if self.hand.is_none() {
+            return Err(Reply::Idle);
+        }
+        if is_full {
+            return Err(Reply::Blocked);
+        }
+        match self.hand.take() {
+            Some(item) => Ok(item),
+            None => Err(Reply::Idle),
+        }
+    }
+}
+
+pub fn open(links: &mut Vec<Link>, link: u8, from: NodeId, to: NodeId) -> Reply
+    ensures { OnLinks (Opens from to) links.old.items link result links.new.items }
+{
+    match links.get_mut(link as usize) {
+        None => Reply::NoLink,
+        Some(link) => link.open(from, to),
+    }
+}
+
+pub fn send(links: &mut Vec<Link>, link: u8, from: NodeId, to: NodeId, bytes: Bytes) -> Reply
+    ensures { OnLinks (Sends from to bytes) links.old.items link result links.new.items }
+{
+    match links.get_mut(link as usize) {
+        None => Reply::NoLink,
+        Some(link) => link.send(from, to, bytes),
+    }
+}
+
+pub fn close(links: &mut Vec<Link>, link: u8, from: NodeId, to: NodeId) -> Reply
+    ensures { OnLinks (Closes from to) links.old.items link result links.new.items }
+{
+    match links.get_mut(link as usize) {
+        None => Reply::NoLink,
+        Some(link) => link.close(from, to),
+    }
+}
+
+/// The link's reader takes an item. Where memory is wanting, the item is gone.
+pub fn read(alloc: Global, links: &mut Vec<Link>, link: u8) -> Reply
+    ensures { OnLinks Reads links.old.items link result links.new.items }
+{
+    match links.get_mut(link as usize) {
+        None => Reply::NoLink,
+        Some(link) => link.read(alloc),
+    }
+}
+
+/// What is in the reader's hand, out of it, unless there is no such link, nothing in the hand, or no room for it.
+pub fn give(links: &mut Vec<Link>, link: u8, is_full: bool) -> Result<Inbound, Reply>
+    ensures { Puts links.old.items link is_full result links.new.items }
+{
+    match links.get_mut(link as usize) {
+        None => Err(Reply::NoLink),
+        Some(link) => link.give(is_full),
+    }
+}
+
+/// So many links that were never open.
+pub fn new_links(alloc: Global, count: usize, room: usize) -> Result<Vec<Link>, Fault>
+    ensures new { IfOk result (λ links. links.items ≡ replicate count (new_link room)) }
+    ensures only_memory { IsOkUnless result Fault.NoMemory }
+{
+    let mut links = Vec::new(alloc);
+    for _ in 0..count {
+        links.push(Link::new(alloc, room)?)?;
+    }
+    Ok(links)
 }

@@ -1,49 +1,47 @@
-//! A node: one event goes the whole way, from its bytes to the state.
-ghost use Rattle.std.specs.Prelude.{◌≡◌, ◌≢◌, ◌∷◌, ◌++◌, [], ◌+◌, ◌<◌, ◌↔◌, ◌⊎◌, ℕ, IsTrue, true, false, length, OnOk, OnErr, IfOk, IfErr, List, Some, None, Ok, Err, IsOkUnless, MatchOption, option_map, not, if◌then◌else◌, ◌==◌};
-ghost use Rattle.std.specs.FinMap as map;
-ghost use Rattle.scp_wire.specs.Carried.{is_side, IsCarried};
-ghost use Rattle.scp_wire.specs.Reading.{reading_of};
-ghost use Rattle.scp_core.specs.Node.{Step, Adds, Keeps, line_of, has_ended, conn_now, link_of, local_hash, Enters, EntersMessage};
-ghost use Rattle.scp_core.specs.Sets.{reading_at, names_no_other};
+//! A node: one event is one step of one stage.
+ghost use Rattle.std.specs.Prelude.{◌≡◌, ◌≢◌, ◌∷◌, [], ◌++◌, ◌-◌, ◌<◌, ◌≤◌, ◌⊎◌, ◌↔◌, ℕ, List, length, Some, None, IsSome, false, true, IfOk, OnOk, OnErr, IfErr, IsOkUnless, Ok, Err, IsTrue, slice_get, option_copied, if◌then◌else◌, MatchOption};
+ghost use Rattle.scp_types.specs.declared.names.NodeId.{NodeId};
+ghost use Rattle.scp_ledger.specs.declared.journal.Fate.{Fate};
+ghost use Rattle.scp_pending.specs.Passes.{Passes};
+ghost use Rattle.scp_pending.specs.Pends.{Pends};
+ghost use Rattle.scp_pending.specs.Rules.{taken_in};
+ghost use Rattle.scp_pending.specs.Line.{count_held};
+ghost use Rattle.scp_core.specs.Config.{IsConfig, IsFit};
+ghost use Rattle.scp_core.specs.History.{peer_at, Exchange};
+ghost use Rattle.scp_core.specs.Node.{Step, Keeps, lives_at, room_at};
 ghost use Rattle.scp_core.specs.Theorem.{LedgerTheorem};
-ghost use Rattle.scp_core.specs.History.{Exchange};
-ghost use Rattle.scp_core.specs.Journal.{messages_in};
-ghost use Rattle.scp_core.specs.Config.{IsConfig};
-ghost use Rattle.scp_core.specs.declared.journal.Fate.TheVariants.{Closed};
+ghost use Rattle.scp_core.specs.inside.Starting.{IsNew};
 
-use crate::applier::Applier;
-use crate::config::Config;
-use crate::entering::enter;
+use crate::config::{Capacities, Config, Peers, are_peers_apart, has_peer};
+use crate::decider::Decider;
 use crate::event::{Event, Reply};
-use crate::journal::Fate;
-use crate::ledger::{JOURNAL_LIMIT, Ledger};
-use crate::link::Link;
-use crate::shared::SharedDecision;
+use crate::link::{self, Link};
+use crate::queue;
+use circular_buffer::HeapCircularBuffer;
 use scp_kv::KvState;
+use scp_ledger::{Fate, SharedDecision};
+use scp_pending::{PEER_LIMIT, Pending, Ready};
 use scp_quorum::SaneSet;
-use scp_types::{ConnId, Fault, Hash, NodeId, Seq};
-use scp_wire::{Carried, Cause, Message, decode, is_side_message};
+use scp_types::{ConnId, Fault, NodeId};
+use scp_wire::{Bytes, Command, Inbound};
 use std::alloc::Global;
 use std::marker::Model;
 use std::sync::Arc;
 
-/// The most messages that one connection carries (this project's profile).
-pub const CARRIED_LIMIT: u64 = 1_000_000;
-
-/// The most times that a link is opened (this project's profile).
-pub const LIVES: u32 = 65_535;
-
-/// A node with one link: link 0, which comes from its one peer.
+/// A node whose links come from its peers, in their order.
 #[derive(Drop)]
 pub struct Node {
     alloc: Global,
     me: NodeId,
-    peer: NodeId,
     set: Arc<SaneSet>,
-    link: Link,
-    ledger: Ledger,
-    applier: Applier,
-    failed: bool,
+    peers: Peers,
+    capacities: Capacities,
+    links: Vec<Link>,
+    inbox: HeapCircularBuffer<Inbound>,
+    pending: Pending,
+    pend_hand: Option<Ready>,
+    ready: HeapCircularBuffer<Ready>,
+    decider: Decider,
 }
 
 impl Model for Node {
@@ -51,323 +49,356 @@ impl Model for Node {
 
     ghost Value = { NodeView };
 
-    ghost use Rattle.std.specs.Coded.{codes};
+    ghost use Rattle.std.specs.FinMap as map;
+    ghost use Rattle.std.specs.Ordering.{nat_cmp};
+    ghost use Rattle.std.specs.Cmp.Lexicographic.{slice_cmp};
+    ghost use Rattle.std.specs.Coded.{codes, coded_ℕ, coded_list};
     ghost use Rattle.scp_xdr.specs.TreeModel.{coded_row};
     ghost use Rattle.scp_quorum.specs.QuorumTree.{coded_level};
 
-    ghost coded = { Prim.hlevel (codes, coded_row coded_level) };
+    ghost coded = { Prim.hlevel (codes, coded_row coded_level, map.code {R = slice_cmp nat_cmp} (coded_list coded_ℕ) (coded_list coded_ℕ)) };
 
-    ghost use Rattle.scp_core.specs.Inside.{node_view, IsSound};
-
-    ghost view = { node_view };
-
-    ghost invariant = { IsSound };
+    ghost view = { λ a. record {
+      config = record { me = a.me; set = a.set.value; peers = a.peers; capacities = a.capacities };
+      failed = a.decider.failed;
+      links = a.links.items;
+      inbox = a.inbox.items;
+      inbox_room = a.inbox.capacity;
+      pending = a.pending;
+      pend_hand = a.pend_hand;
+      ready = a.ready.items;
+      ready_room = a.ready.capacity;
+      ledger = a.decider.ledger;
+      slot_hand = a.decider.hand;
+      decided = a.decider.queue;
+      decided_room = a.decider.room;
+      applier = a.decider.applier;
+    } };
 }
 
 impl Node {
-    /// A node that has heard nothing. Refused by `BadConfig` where there isn't exactly one peer, where it is the node
-    /// itself, or where the quorum set isn't sane; then by `NoMemory`.
+    /// A node that has heard nothing, with a link for each of its peers; it takes all the room that its queues will need.
+    /// Refused by `BadConfig` where the quorum set isn't sane, where there are more than seven peers, a peer twice, or the
+    /// node among its peers, and where a capacity isn't 1 to 1,024; else by `NoMemory`.
     pub fn new(alloc: Global, config: Config) -> Result<Node, Fault>
+        // What holds of a list of events holds of the empty list.
         ensures theorem { IfOk result (λ node. LedgerTheorem [] node) }
-        ensures config { IfOk result (λ node. (node.me ≡ config.me) × (node.set ≡ config.set) × (config.peers ≡ node.peer ∷ [])) }
-        ensures refused { result ≡ Err Fault.BadConfig ↔ ¬ (IsConfig config.me config.set config.peers) }
+        // The node is of this configuration.
+        ensures config { IfOk result (λ node. node.config ≡ config) }
+        // When each refusal comes.
+        ensures refused { result ≡ Err Fault.BadConfig ↔ ¬ (IsConfig config) }
         ensures only { IfErr result (λ f. (f ≡ Fault.BadConfig) ⊎ (f ≡ Fault.NoMemory)) }
     {
-        let Some(peer) = only_peer(config.peers.as_slice()) else {
-            return Err(Fault::BadConfig);
-        };
-        if is_same(&peer, &config.me) {
+        let Config {
+            me,
+            set,
+            peers,
+            capacities,
+        } = config;
+        if !is_fit(&me, peers.as_slice(), capacities) {
             return Err(Fault::BadConfig);
         }
-        let set = match config.set.into_sane() {
+        let set = match set.into_sane() {
             Ok(set) => set,
             Err((Fault::Insane, _)) => return Err(Fault::BadConfig),
             Err(_) => return Err(Fault::NoMemory),
         };
+        Node::with_set(alloc, me, set, peers, capacities)
+    }
+
+    /// A node of a configuration that is fit.
+    fn with_set(
+        alloc: Global,
+        me: NodeId,
+        set: SaneSet,
+        peers: Peers,
+        capacities: Capacities,
+    ) -> Result<Node, Fault>
+        requires fit { IsFit me peers capacities }
+        ensures new { IfOk result (λ node. IsNew node) }
+        ensures config { IfOk result (λ node. node.config ≡ record { me = me; set = set; peers = peers; capacities = capacities }) }
+        ensures only_memory { IsOkUnless result Fault.NoMemory }
+    {
+        let count = peers.as_slice().len();
+        let links = link::new_links(alloc, count, capacities.link as usize)?;
+        let inbox = HeapCircularBuffer::with_capacity(alloc, capacities.inbox as usize)?;
+        let ready = HeapCircularBuffer::with_capacity(alloc, capacities.ready as usize)?;
+        let ledger_peers = Vec::from_slice(alloc, peers.as_slice())?;
+        let decider = Decider::new(alloc, me, ledger_peers, capacities.decided as usize)?;
+        let pending_peers = Vec::from_slice(alloc, peers.as_slice())?;
+        let set = Arc::new(alloc, set)?;
+        let pending = Pending::new(alloc, me, pending_peers, Arc::try_clone(&set)?);
         Ok(Node {
             alloc,
-            me: config.me,
-            peer,
-            set: Arc::new(alloc, set)?,
-            link: Link {
-                life: 0,
-                is_open: false,
-                has_ended: false,
-                next: 0,
-            },
-            ledger: Ledger::new(alloc),
-            applier: Applier::new(alloc),
-            failed: false,
+            me,
+            set,
+            peers,
+            capacities,
+            links,
+            inbox,
+            pending,
+            pend_hand: None,
+            ready,
+            decider,
         })
     }
 
-    /// Every fate so far, in the order in which they fell.
+    /// Every fate so far, in the order in which they fell; of a failed node, those of before the step that failed it.
     pub fn journal(&self) -> &[Fate]
-        ensures { result.now ≡ self.now.journal }
+        ensures { result.now ≡ self.now.ledger.journal }
     {
-        self.ledger.journal()
+        self.decider.journal()
     }
 
-    /// Every decision so far, in the order in which they were made.
+    /// Every decision so far, in the order in which they were made; of a failed node as `journal`.
     pub fn decisions(&self) -> &[SharedDecision]
-        ensures { result.now ≡ self.now.decisions }
+        ensures { result.now ≡ self.now.ledger.decisions }
     {
-        self.ledger.decisions()
+        self.decider.decisions()
     }
 
-    /// The decisions of slots 1 to n, which were applied.
+    /// The decisions of slots 1 to n, which were applied; of a failed node as `journal`.
     pub fn applied(&self) -> &[SharedDecision]
-        ensures { result.now ≡ self.now.applied }
+        ensures { result.now ≡ self.now.applier.applied }
     {
-        self.applier.applied()
+        self.decider.applied()
     }
 
     /// The state that the applied values make; `None` once the node is failed.
     pub fn state(&self) -> Option<&KvState>
-        ensures { option_map (λ state. map.entries state.now) result ≡ self.now.state }
+        ensures { option_copied result ≡ (if self.now.failed then None else self.now.applier.state) }
     {
-        if !self.failed {
-            Some(self.applier.state())
-        } else {
-            None
-        }
+        self.decider.state()
     }
 
     /// How often the link was opened; 0 for a link that isn't there.
     pub fn lives(&self, link: u8) -> u32
-        ensures { result ≡ (if link == 0 then self.now.life else 0) }
+        ensures { result ≡ lives_at self.now link }
     {
-        if link == 0 { self.link.life } else { 0 }
+        match self.links.get(link as usize) {
+            Some(link) => link.life(),
+            None => 0,
+        }
     }
 
-    /// One event goes the whole way. What holds of a list of events, their replies and the node holds of the list with
-    /// one more. Costs, on average, the message's length; for an envelope also the logarithm of the number of nodes and
-    /// slots, and for two nominations the product of their lengths; for a record also the logarithm of the number of keys
-    /// for each operation of the values that can now be applied, at most 16 of them.
+    /// How many items the link's queue can still take: its capacity less its length; 0 for a link that isn't there. Of a
+    /// failed node it says nothing.
+    pub fn room(&self, link: u8) -> usize
+        ensures { result ≡ room_at self.now link }
+    {
+        match self.links.get(link as usize) {
+            Some(link) => link.room(),
+            None => 0,
+        }
+    }
+
+    /// How many messages of the connection the pending stage holds: those that are ready, and those that are parked.
+    pub fn parked(&self, conn: &ConnId) -> usize
+        ensures { result ≡ count_held conn.now self.now.pending }
+    {
+        self.pending.parked(conn)
+    }
+
+    /// One event. What holds of a list of events, their replies and the node holds of the list with one more.
+    ///
+    /// A reader's take costs the message's length; a take of the pending stage what `Pending::take` costs, one of the slot
+    /// stage what `Ledger::take`, and one of the applier what `Applier::take` costs; all else is constant. Only the takes of
+    /// the reader, the pending stage, the slot stage and the applier can lack memory.
     pub fn step(&mut self, event: Event) -> Reply
+        // What holds of every list of events, their replies and the node.
         ensures theorem { (past : List Exchange) → LedgerTheorem past self.old → LedgerTheorem (past ++ (event, result) ∷ []) self.new }
-        ensures kept { result ≢ Reply.Accepted → Keeps self.old self.new }
-        ensures same { result ≢ Reply.Accepted → result ≢ Reply.JournalFull → result ≢ Reply.NoMemory → self.new ≡ self.old }
-        ensures grows { (more : List Fate) × (self.new.journal ≡ self.old.journal ++ more) }
-        ensures config { (self.new.me ≡ self.old.me) × (self.new.set ≡ self.old.set) × (self.new.peer ≡ self.old.peer) }
+        // A refusal leaves the node as it was.
+        ensures same { result ≢ Reply.Accepted → result ≢ Reply.Moved → result ≢ Reply.JournalFull → result ≢ Reply.NoMemory → self.new ≡ self.old }
+        // A node that fails keeps its journal, its decisions, what is applied, and how often each link was opened.
+        ensures kept { (result ≡ Reply.NoMemory) ⊎ (result ≡ Reply.JournalFull) → Keeps self.old self.new }
+        ensures fails { (result ≡ Reply.NoMemory) ⊎ (result ≡ Reply.JournalFull) → self.new.failed ≡ true }
+        // A failed node answers so, and no other does.
+        ensures failed { result ≡ Reply.Failed ↔ (self.old.failed ≡ true) }
+        // The journal grows at its end alone.
+        ensures grows { (more : List Fate) × (self.new.ledger.journal ≡ self.old.ledger.journal ++ more) }
+        ensures config { self.new.config ≡ self.old.config }
     {
-        self.advance(&event)
+        self.perform(event)
     }
 
-    /// `step` of an event that is lent.
-    pub fn advance(&mut self, event: &Event) -> Reply
-        ensures theorem { (past : List Exchange) → LedgerTheorem past self.old → LedgerTheorem (past ++ (event.now, result) ∷ []) self.new }
-        ensures kept { result ≢ Reply.Accepted → Keeps self.old self.new }
-        ensures same { result ≢ Reply.Accepted → result ≢ Reply.JournalFull → result ≢ Reply.NoMemory → self.new ≡ self.old }
-        ensures grows { (more : List Fate) × (self.new.journal ≡ self.old.journal ++ more) }
-        ensures config { (self.new.me ≡ self.old.me) × (self.new.set ≡ self.old.set) × (self.new.peer ≡ self.old.peer) }
+    fn perform(&mut self, event: Event) -> Reply
+        ensures { Step self.old event result self.new }
     {
-        let reply = self.perform(event);
-        // opens the node, so that its invariant is at hand for the proof
-        let _ = &self.failed;
-        reply
-    }
-
-    fn perform(&mut self, event: &Event) -> Reply
-        ensures { Step self.old event.now result self.new }
-    {
-        if self.failed {
+        if self.decider.has_failed() {
             return Reply::Failed;
         }
-        if event.link() != 0 {
-            return Reply::NoLink;
-        }
         match event {
-            Event::Open(_) => self.open(),
-            Event::Send(_, bytes) => self.send(bytes.as_slice()),
-            Event::Close(_) => self.close(),
+            Event::Open(link) => self.open(link),
+            Event::Send(link, bytes) => self.send(link, bytes),
+            Event::Close(link) => self.close(link),
+            Event::Local(command) => self.local(command),
+            Event::ReaderTake(link) => self.reader_take(link),
+            Event::ReaderPut(link) => self.reader_put(link),
+            Event::PendTake => self.pend_take(),
+            Event::PendPut => self.pend_put(),
+            Event::SlotTake => self.slot_take(),
+            Event::SlotPut => self.slot_put(),
+            Event::ApplyTake => self.apply_take(),
         }
     }
 
-    fn open(&mut self) -> Reply
-        requires { self.old.failed ≡ false }
-        ensures { Step self.old (Event.Open 0) result self.new }
+    /// The node that the link comes from.
+    fn peer(&self, link: u8) -> NodeId
+        ensures { result ≡ peer_at self.now.config link }
     {
-        if self.link.is_open {
-            return Reply::AlreadyOpen;
+        match self.peers.as_slice().get(link as usize) {
+            Some(peer) => *peer,
+            None => self.me,
         }
-        if self.link.life == LIVES {
-            return Reply::LivesSpent;
+    }
+
+    fn open(&mut self, link: u8) -> Reply
+        requires { self.old.failed ≡ false }
+        ensures { Step self.old (Event.Open link) result self.new }
+    {
+        let from = self.peer(link);
+        link::open(&mut self.links, link, from, self.me)
+    }
+
+    fn send(&mut self, link: u8, bytes: Bytes) -> Reply
+        requires { self.old.failed ≡ false }
+        ensures { Step self.old (Event.Send link bytes) result self.new }
+    {
+        let from = self.peer(link);
+        link::send(&mut self.links, link, from, self.me, bytes)
+    }
+
+    fn close(&mut self, link: u8) -> Reply
+        requires { self.old.failed ≡ false }
+        ensures { Step self.old (Event.Close link) result self.new }
+    {
+        let from = self.peer(link);
+        link::close(&mut self.links, link, from, self.me)
+    }
+
+    fn local(&mut self, command: Command) -> Reply
+        requires { self.old.failed ≡ false }
+        ensures { Step self.old (Event.Local command) result self.new }
+    {
+        if queue::is_full(&self.inbox) {
+            return Reply::Full;
         }
-        self.link = Link {
-            life: self.link.life + 1,
-            is_open: true,
-            has_ended: false,
-            next: 0,
-        };
+        queue::put(&mut self.inbox, Inbound::Local(command));
         Reply::Accepted
     }
 
-    fn send(&mut self, bytes: &[u8]) -> Reply
+    fn reader_take(&mut self, link: u8) -> Reply
         requires { self.old.failed ≡ false }
-        ensures { Step self.old (Event.Send 0 bytes.now) result self.new }
+        ensures { Step self.old (Event.ReaderTake link) result self.new }
     {
-        if !self.link.is_open {
-            return Reply::NotOpen;
+        let reply = link::read(self.alloc, &mut self.links, link);
+        if is_no_memory(reply) {
+            self.decider.fail();
         }
-        if self.link.has_ended {
-            return Reply::Accepted;
-        }
-        if is_side_message(bytes) {
-            return Reply::Accepted;
-        }
-        if self.ledger.is_full() {
-            return self.fail(Reply::JournalFull);
-        }
-        match self.receive(bytes) {
-            Ok(()) => Reply::Accepted,
-            Err(_) => self.fail(Reply::NoMemory),
-        }
-    }
-
-    fn close(&mut self) -> Reply
-        requires { self.old.failed ≡ false }
-        ensures { Step self.old (Event.Close 0) result self.new }
-    {
-        if !self.link.is_open {
-            return Reply::NotOpen;
-        }
-        if !self.link.has_ended {
-            if self.ledger.is_full() {
-                return self.fail(Reply::JournalFull);
-            }
-            if self.end(Cause::Link).is_err() {
-                return self.fail(Reply::NoMemory);
-            }
-        }
-        self.link.is_open = false;
-        Reply::Accepted
-    }
-
-    /// Fails the node, and answers so.
-    fn fail(&mut self, reply: Reply) -> Reply
-        ensures after { self.new ≡ record self.old { failed = true; state = None } }
-        ensures reply { result ≡ reply }
-    {
-        self.failed = true;
         reply
     }
 
-    /// The connection that the link is in, or was in last.
-    fn conn(&self) -> ConnId
-        ensures { result ≡ conn_now self.now }
+    fn reader_put(&mut self, link: u8) -> Reply
+        requires { self.old.failed ≡ false }
+        ensures { Step self.old (Event.ReaderPut link) result self.new }
     {
-        ConnId {
-            from: self.peer,
-            to: self.me,
-            life: self.link.life,
+        match link::give(&mut self.links, link, queue::is_full(&self.inbox)) {
+            Ok(item) => {
+                queue::put(&mut self.inbox, item);
+                Reply::Moved
+            }
+            Err(reply) => reply,
         }
     }
 
-    /// Reads bytes that are no side message, and gives them their entry.
-    fn receive(&mut self, bytes: &[u8]) -> Result<(), Fault>
-        requires running { self.old.failed ≡ false }
-        requires is_open { self.old.is_open ≡ true }
-        requires live { has_ended self.old ≡ false }
-        requires short { length self.old.journal < JOURNAL_LIMIT }
-        requires no_side { is_side (reading_of bytes.now) ≡ false }
-        ensures ok { OnOk result (Enters self.old (reading_at (local_hash self.old) bytes.now) self.new) }
-        ensures err { OnErr result (Keeps self.old self.new) }
+    fn pend_take(&mut self) -> Reply
+        requires { self.old.failed ≡ false }
+        ensures { Step self.old Event.PendTake result self.new }
     {
-        match decode(self.alloc, bytes) {
-            Ok(message) => {
-                if names_another_set(&message, self.set.hash()) {
-                    self.end(Cause::Malformed)
-                } else if self.link.next == CARRIED_LIMIT {
-                    self.end(Cause::Spent)
-                } else {
-                    self.take(message)
-                }
-            }
-            Err(fault) => {
-                if is_no_memory(fault) {
-                    Err(fault)
-                } else {
-                    self.end(Cause::Malformed)
-                }
-            }
+        if self.pend_hand.is_some() {
+            return Reply::Blocked;
         }
+        if let Some(ready) = self.pending.next_ready() {
+            self.pend_hand = Some(ready);
+            return Reply::Moved;
+        }
+        let Some(item) = queue::next(&mut self.inbox) else {
+            return Reply::Idle;
+        };
+        if take_in(&mut self.pending, item).is_err() {
+            self.decider.fail();
+            return Reply::NoMemory;
+        }
+        self.pend_hand = self.pending.next_ready();
+        Reply::Moved
     }
 
-    /// Ends the connection.
-    fn end(&mut self, cause: Cause) -> Result<(), Fault>
-        requires is_open { self.old.is_open ≡ true }
-        requires live { has_ended self.old ≡ false }
-        requires short { length self.old.journal < JOURNAL_LIMIT }
-        ensures ok { OnOk result (Adds self.old (Closed (conn_now self.old) cause ∷ []) self.new) }
-        ensures err { OnErr result (Keeps self.old self.new) }
+    fn pend_put(&mut self) -> Reply
+        requires { self.old.failed ≡ false }
+        ensures { Step self.old Event.PendPut result self.new }
     {
-        self.ledger.reserve()?;
-        let conn = self.conn();
-        self.ledger.add(Fate::Closed { conn, cause });
-        self.link.has_ended = true;
-        Ok(())
+        if self.pend_hand.is_none() {
+            return Reply::Idle;
+        }
+        if queue::is_full(&self.ready) {
+            return Reply::Blocked;
+        }
+        if let Some(ready) = self.pend_hand.take() {
+            queue::put(&mut self.ready, ready);
+        }
+        Reply::Moved
     }
 
-    /// Takes a carried message.
-    fn take(&mut self, message: Message) -> Result<(), Fault>
-        requires running { self.old.failed ≡ false }
-        requires is_open { self.old.is_open ≡ true }
-        requires live { has_ended self.old ≡ false }
-        requires short { length self.old.journal < JOURNAL_LIMIT }
-        requires few { length (messages_in (line_of self.old)) < CARRIED_LIMIT }
-        requires carried { IsCarried message }
-        requires named { names_no_other (local_hash self.old) message ≡ true }
-        ensures ok { OnOk result (EntersMessage self.old message self.new) }
-        ensures err { OnErr result (Keeps self.old self.new) }
+    fn slot_take(&mut self) -> Reply
+        requires { self.old.failed ≡ false }
+        ensures { Step self.old Event.SlotTake result self.new }
     {
-        self.ledger.reserve()?;
-        let conn = self.conn();
-        let seq = Seq(self.link.next);
-        // Until all of it stands, the state may be that of a failed node.
-        self.failed = true;
-        enter(
-            self.alloc,
-            &self.me,
-            &self.set,
-            &mut self.ledger,
-            &mut self.applier,
-            Carried { conn, seq, message },
-        )?;
-        self.failed = false;
-        self.link.next += 1;
-        Ok(())
+        if self.decider.has_hand() {
+            return Reply::Blocked;
+        }
+        let Some(ready) = queue::next(&mut self.ready) else {
+            return Reply::Idle;
+        };
+        self.decider.take(ready)
+    }
+
+    fn slot_put(&mut self) -> Reply
+        requires { self.old.failed ≡ false }
+        ensures { Step self.old Event.SlotPut result self.new }
+    {
+        self.decider.put()
+    }
+
+    fn apply_take(&mut self) -> Reply
+        requires { self.old.failed ≡ false }
+        ensures { Step self.old Event.ApplyTake result self.new }
+    {
+        self.decider.apply()
     }
 }
 
-/// The peer, where there is exactly one.
-fn only_peer(peers: &[NodeId]) -> Option<NodeId>
-    ensures { MatchOption result (length peers.now ≢ 1) (λ peer. peers.now ≡ peer ∷ []) }
+/// Whether peers and capacities are those of a configuration.
+fn is_fit(me: &NodeId, peers: &[NodeId], capacities: Capacities) -> bool
+    ensures { IsTrue result ↔ IsFit me.now peers.now capacities }
 {
-    match peers {
-        [peer] => Some(*peer),
-        _ => None,
-    }
+    peers.len() <= PEER_LIMIT
+        && are_peers_apart(peers)
+        && !has_peer(peers, me)
+        && capacities.are_in_range()
 }
 
-fn is_same(left: &NodeId, right: &NodeId) -> bool
-    ensures { IsTrue result ↔ (left.now ≡ right.now) }
+/// One item more for the pending stage. Its message for a link is given up.
+fn take_in(pending: &mut Pending, item: Inbound) -> Result<(), Fault>
+    requires { pending.old.failed ≡ false → pending.old.leaving ≡ [] }
+    ensures rules { OnOk result (pending.new ≡ taken_in pending.old item) }
+    ensures passes { OnOk result ((me : NodeId) → (peers : List NodeId) → Passes (Pends me peers) (item ∷ []) [] pending.old pending.new) }
 {
-    left == right
+    let _message = pending.take(item)?;
+    Ok(())
 }
 
-/// Whether the message is an envelope that names another quorum set than the one of this hash.
-fn names_another_set(message: &Message, local: Hash) -> bool
-    ensures { result ≡ not (names_no_other local message.now) }
+fn is_no_memory(reply: Reply) -> bool
+    ensures { IsTrue result ↔ (reply ≡ Reply.NoMemory) }
 {
-    match message {
-        Message::Envelope(envelope) => envelope.set_hash() != local,
-        _ => false,
-    }
-}
-
-fn is_no_memory(fault: Fault) -> bool
-    ensures { IsTrue result ↔ (fault ≡ Fault.NoMemory) }
-{
-    matches!(fault, Fault::NoMemory)
+    matches!(reply, Reply::NoMemory)
 }

@@ -1,9 +1,9 @@
-//! What `run` leaves. `Run` has a module of its own, since the prover doesn't tell it from `run` in one.
+//! What a run leaves.
 
 use crate::event::Reply;
 use crate::node::Node;
 
-/// What a list of events leaves: a reply to each, in their order, and the node.
+/// The replies to a list of events, in their order, and the node that they left.
 #[derive(Drop)]
 pub struct Run {
     pub replies: Vec<Reply>,

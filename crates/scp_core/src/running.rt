@@ -1,27 +1,64 @@
 //! A list of events on a new node.
-ghost use Rattle.std.specs.Prelude.{◌≡◌, ◌≢◌, ◌∷◌, [], ◌↔◌, ◌⊎◌, IfOk, IfErr, zip, length, Err};
+ghost use Rattle.std.specs.Prelude.{◌≡◌, ◌↔◌, ◌⊎◌, [], IfOk, IfErr, OnOk, IsOkUnless, zip, length, Err};
 ghost use Rattle.scp_core.specs.Theorem.{LedgerTheorem};
 ghost use Rattle.scp_core.specs.Config.{IsConfig};
+ghost use Rattle.scp_core.specs.inside.Starting.{Answers};
 
 use crate::config::Config;
-use crate::event::Event;
+use crate::event::{Event, Reply};
 use crate::node::Node;
 use crate::outcome::Run;
 use scp_types::Fault;
 use std::alloc::Global;
 
-/// Runs the events in order on a new node. Refused by BadConfig as `Node::new`, else by want of memory for the replies.
+/// Runs the events in order on a new node; each is copied. Refused by `BadConfig` as `Node::new`, else by want of memory for
+/// the node, the copies and the replies. A refusal within a step is that step's reply.
 pub fn run(alloc: Global, config: Config, events: &[Event]) -> Result<Run, Fault>
+    // What holds of every list of events, their replies and the node.
     ensures theorem { IfOk result (λ run. LedgerTheorem (zip events.now run.replies.items) run.node) }
+    // One reply for each event.
     ensures count { IfOk result (λ run. length run.replies.items ≡ length events.now) }
-    ensures config { IfOk result (λ run. (run.node.me ≡ config.me) × (run.node.set ≡ config.set) × (config.peers ≡ run.node.peer ∷ [])) }
-    ensures refused { result ≡ Err Fault.BadConfig ↔ ¬ (IsConfig config.me config.set config.peers) }
+    // The node is of this configuration.
+    ensures config { IfOk result (λ run. run.node.config ≡ config) }
+    // When each refusal comes.
+    ensures refused { result ≡ Err Fault.BadConfig ↔ ¬ (IsConfig config) }
     ensures only { IfErr result (λ f. (f ≡ Fault.BadConfig) ⊎ (f ≡ Fault.NoMemory)) }
 {
-    let mut node = Node::new(alloc, config)?;
-    let mut replies = Vec::with_capacity(alloc, events.len())?;
-    for event in events {
-        replies.push(node.advance(event))?;
+    let node = Node::new(alloc, config)?;
+    let mut run = Run {
+        replies: Vec::new(alloc),
+        node,
+    };
+    if answer_all(&mut run.node, &mut run.replies, events).is_err() {
+        return Err(Fault::NoMemory);
     }
-    Ok(Run { replies, node })
+    Ok(run)
+}
+
+/// Plays each event, and adds its reply.
+fn answer_all(node: &mut Node, replies: &mut Vec<Reply>, events: &[Event]) -> Result<(), Fault>
+    requires theorem { LedgerTheorem [] node.old }
+    requires none { replies.old.items ≡ [] }
+    ensures theorem { OnOk result (LedgerTheorem (zip events.now replies.new.items) node.new) }
+    ensures count { OnOk result (length replies.new.items ≡ length events.now) }
+    ensures config { node.new.config ≡ node.old.config }
+    ensures only_memory { IsOkUnless result Fault.NoMemory }
+{
+    replies.reserve(events.len())?;
+    for event in events {
+        answer(node, replies, event)?;
+    }
+    Ok(())
+}
+
+/// Plays a copy of the event, and adds its reply.
+fn answer(node: &mut Node, replies: &mut Vec<Reply>, event: &Event) -> Result<(), Fault>
+    ensures theorem { OnOk result (Answers event.now node.old replies.old.items node.new replies.new.items) }
+    ensures config { node.new.config ≡ node.old.config }
+    ensures only_memory { IsOkUnless result Fault.NoMemory }
+{
+    let event = event.copy()?;
+    let reply = node.step(event);
+    replies.push(reply)?;
+    Ok(())
 }

@@ -1,419 +1,613 @@
-use scp_core::*;
+use Act::*;
+use Seen::*;
+use scp_core::{
+    Bytes, Capacities, Cause, Command, Config, DropCause, Event, Fate, Node, Peers, Reply, Verdict,
+    run,
+};
+use scp_envelope::{Envelope, Nominate, Pledges, Signature, Statement, ValueList};
 use scp_quorum::QuorumSet;
-use scp_types::{ConnId, Fault, NodeId, Seq, Slot, Value};
-use scp_wire::{Message, encode};
+use scp_types::{ConnId, Fault, Hash, NodeId, Slot, Value};
+use scp_wire::{BoxedEnvelope, Message, encode};
 use std::alloc::Global;
 use std::process::Abort;
-use std::test::Fail;
+use std::test::*;
 
-mod again;
-mod envelopes;
-mod long;
-mod said;
-mod sets;
+mod refused;
 
-use said::{Said, envelope, request};
+/// What happens at node 1, whose link 0 is from node 2. A quorum set goes by its number: 1 is the node's own, 2 of both nodes;
+/// 2 is 1 of node 2; and 0 isn't sane, 0 of node 2.
+#[derive(Clone, Copy)]
+enum Act {
+    Open(u8),
+    Close(u8),
+    /// A record of this slot, that puts a 1.
+    Record(u64),
+    GetRecord,
+    /// A nomination of node 2 for slot 1 that names this set.
+    Names(u8),
+    Set(u8),
+    Tick,
+    ReaderTake(u8),
+    ReaderPut(u8),
+    PendTake,
+    PendPut,
+    SlotTake,
+    SlotPut,
+    ApplyTake,
+}
+
+/// What became of a message, by its number, or of a connection.
+#[derive(Clone, Copy, PartialEq, Eq)]
+enum Seen {
+    Taken(u64, Verdict),
+    Dropped(u64, DropCause),
+    Closed(Cause),
+}
 
 const ME: NodeId = NodeId([1; 32]);
 
 const PEER: NodeId = NodeId([2; 32]);
 
-/// A node that is no peer.
-const THIRD: NodeId = NodeId([3; 32]);
+/// The first life of link 0.
+const CONN: ConnId = ConnId {
+    from: PEER,
+    to: ME,
+    life: 1,
+};
 
 /// One operation: put a 1.
 const PUT_A: [u8; 24] = [
     0, 0, 0, 1, 0, 0, 0, 0, 0, 0, 0, 1, 97, 0, 0, 0, 0, 0, 0, 1, 49, 0, 0, 0,
 ];
 
-/// One operation: put b 2.
-const PUT_B: [u8; 24] = [
-    0, 0, 0, 1, 0, 0, 0, 0, 0, 0, 0, 1, 98, 0, 0, 0, 0, 0, 0, 1, 50, 0, 0, 0,
+const ONE: Capacities = Capacities {
+    link: 1,
+    inbox: 1,
+    ready: 1,
+    decided: 1,
+};
+
+const MANY: Capacities = Capacities {
+    link: 64,
+    inbox: 64,
+    ready: 64,
+    decided: 64,
+};
+
+const MOST: Capacities = Capacities {
+    link: 1_024,
+    inbox: 1_024,
+    ready: 1_024,
+    decided: 1_024,
+};
+
+/// Each stage, in the pipeline's order.
+const STAGES: [Act; 7] = [
+    ReaderTake(0),
+    ReaderPut(0),
+    PendTake,
+    PendPut,
+    SlotTake,
+    SlotPut,
+    ApplyTake,
 ];
 
-/// One operation: del a.
-const DEL_A: [u8; 16] = [0, 0, 0, 1, 0, 0, 0, 1, 0, 0, 0, 1, 97, 0, 0, 0];
-
-/// A quorum set of no entries, as a message.
-const SET: [u8; 16] = [0, 0, 0, 3, 0, 0, 0, 0, 0, 0, 0, 0, 0, 0, 0, 0];
-
-/// Asks for a quorum set.
-const GET_SET: [u8; 36] = [
-    0, 0, 0, 2, 7, 7, 7, 7, 7, 7, 7, 7, 7, 7, 7, 7, 7, 7, 7, 7, 7, 7, 7, 7, 7, 7, 7, 7, 7, 7, 7, 7,
-    7, 7, 7, 7,
-];
-
-/// Answers that there is none.
-const NO_SET: [u8; 36] = [
-    0, 0, 0, 4, 7, 7, 7, 7, 7, 7, 7, 7, 7, 7, 7, 7, 7, 7, 7, 7, 7, 7, 7, 7, 7, 7, 7, 7, 7, 7, 7, 7,
-    7, 7, 7, 7,
-];
-
-/// What a peer does.
-#[derive(Clone, Copy)]
-enum Act<'a> {
-    Open(u8),
-    Close(u8),
-    Send(&'a [u8]),
-    Record(u64, &'a [u8]),
-    Envelope(NodeId, u64, Said<'a>),
-    GetRecord(u64),
-}
-
-/// An entry of the journal: the life of its connection, the message's number and what became of it.
-#[derive(Clone, Copy, Debug, PartialEq, Eq)]
-enum Entry {
-    Taken(u32, u64, Verdict),
-    Closed(u32, Cause),
-}
-
-fn peers(alloc: Global, nodes: &[NodeId]) -> Result<Peers, Fault> {
-    Ok(Peers::new(Vec::from_slice(alloc, nodes)?))
-}
-
-/// 2 of the node and its peer.
-fn both_nodes(alloc: Global) -> Result<QuorumSet, Fault> {
-    let nodes = Vec::from_slice(alloc, &[ME, PEER])?;
-    Ok(QuorumSet::of_nodes(2, nodes))
-}
-
-/// The configuration of a node of this set.
-fn config_of(alloc: Global, set: QuorumSet) -> Result<Config, Fault> {
-    let peers = peers(alloc, &[PEER])?;
-    Ok(Config { me: ME, set, peers })
-}
-
-fn config(alloc: Global) -> Result<Config, Fault> {
-    config_of(alloc, both_nodes(alloc)?)
-}
-
-fn new_node(alloc: Global) -> Result<Node, Fault> {
-    Node::new(alloc, config(alloc)?)
-}
-
-fn record(alloc: Global, slot: u64, value: &[u8]) -> Result<Vec<u8>, Fault> {
-    let value = Value::new(Vec::from_slice(alloc, value)?);
-    encode(alloc, &Message::Record(Slot(slot), value))
-}
-
-fn event_of(alloc: Global, act: &Act<'_>) -> Result<Event, Fault> {
-    Ok(match act {
-        Act::Open(link) => Event::Open(*link),
-        Act::Close(link) => Event::Close(*link),
-        Act::Send(bytes) => Event::Send(0, Bytes::new(Vec::from_slice(alloc, bytes)?)),
-        Act::Record(slot, value) => Event::Send(0, Bytes::new(record(alloc, *slot, value)?)),
-        Act::Envelope(node, slot, said) => {
-            Event::Send(0, Bytes::new(envelope(alloc, *node, *slot, said)?))
-        }
-        Act::GetRecord(slot) => Event::Send(0, Bytes::new(request(alloc, *slot)?)),
+/// The set of this number.
+fn set(alloc: Global, number: u8) -> Result<QuorumSet, Fault> {
+    Ok(match number {
+        0 => QuorumSet::of_nodes(0, Vec::from_slice(alloc, &[PEER])?),
+        1 => QuorumSet::of_nodes(2, Vec::from_slice(alloc, &[ME, PEER])?),
+        _ => QuorumSet::of_nodes(1, Vec::from_slice(alloc, &[PEER])?),
     })
 }
 
-fn reply_to(node: &mut Node, event: &Event) -> Reply {
-    node.advance(event)
-}
-
-fn act_on(alloc: Global, node: &mut Node, act: &Act<'_>) -> Result<Reply, Fault> {
-    let event = event_of(alloc, act)?;
-    Ok(reply_to(node, &event))
-}
-
-/// Whether the node gives this reply to each of the acts.
-fn all_reply(
+fn config(
     alloc: Global,
-    node: &mut Node,
-    acts: &[Act<'_>],
-    reply: Reply,
+    number: u8,
+    peers: &[NodeId],
+    capacities: Capacities,
+) -> Result<Config, Fault> {
+    let peers = Peers::new(Vec::from_slice(alloc, peers)?);
+    Ok(Config {
+        me: ME,
+        set: set(alloc, number)?,
+        peers,
+        capacities,
+    })
+}
+
+fn new_node(alloc: Global, capacities: Capacities) -> Result<Node, Fault> {
+    Node::new(alloc, config(alloc, 1, &[PEER], capacities)?)
+}
+
+/// A nomination of node 2 for slot 1.
+fn nomination(alloc: Global, set_hash: Hash) -> Result<Message, Fault> {
+    let mut votes = Vec::new(alloc);
+    votes.push(Value::new(Vec::from_slice(alloc, &PUT_A)?))?;
+    let pledges = Pledges::Nominate(Nominate {
+        set_hash,
+        votes: ValueList::new(votes),
+        accepted: ValueList::new(Vec::new(alloc)),
+    });
+    let envelope = Envelope {
+        statement: Statement {
+            node: PEER,
+            slot: Slot(1),
+            pledges,
+        },
+        signature: Signature::new(Vec::new(alloc)),
+    };
+    Ok(Message::Envelope(BoxedEnvelope::new(alloc, envelope)?))
+}
+
+/// The message is sent on link 0.
+fn sends(alloc: Global, message: &Message) -> Result<Event, Fault> {
+    Ok(Event::Send(0, Bytes::new(encode(alloc, message)?)))
+}
+
+impl Act {
+    fn event(self, alloc: Global) -> Result<Event, Fault> {
+        Ok(match self {
+            Open(link) => Event::Open(link),
+            Close(link) => Event::Close(link),
+            Record(slot) => {
+                let value = Value::new(Vec::from_slice(alloc, &PUT_A)?);
+                return sends(alloc, &Message::Record(Slot(slot), value));
+            }
+            GetRecord => return sends(alloc, &Message::GetRecord(Slot(1))),
+            Names(number) => {
+                let hash = set(alloc, number)?.hash()?;
+                return sends(alloc, &nomination(alloc, hash)?);
+            }
+            Set(number) => return sends(alloc, &Message::Set(set(alloc, number)?)),
+            Tick => Event::Local(Command::Tick),
+            ReaderTake(link) => Event::ReaderTake(link),
+            ReaderPut(link) => Event::ReaderPut(link),
+            PendTake => Event::PendTake,
+            PendPut => Event::PendPut,
+            SlotTake => Event::SlotTake,
+            SlotPut => Event::SlotPut,
+            ApplyTake => Event::ApplyTake,
+        })
+    }
+}
+
+fn reply(alloc: Global, node: &mut Node, act: Act) -> Result<Reply, Fault> {
+    Ok(node.step(act.event(alloc)?))
+}
+
+/// Each stage once. The reply of a failed one, else whether something moved.
+fn round(alloc: Global, node: &mut Node) -> Result<Reply, Fault> {
+    let mut last = Reply::Idle;
+    for act in STAGES {
+        match reply(alloc, node, act)? {
+            Reply::Moved => last = Reply::Moved,
+            Reply::Idle | Reply::Blocked => {}
+            other => return Ok(other),
+        }
+    }
+    Ok(last)
+}
+
+/// Rounds until nothing moves.
+fn settle(alloc: Global, node: &mut Node) -> Result<Reply, Fault> {
+    for _ in 0..200 {
+        let last = round(alloc, node)?;
+        if last != Reply::Moved {
+            return Ok(last);
+        }
+    }
+    Ok(Reply::Moved)
+}
+
+/// The act, and then the stages until nothing moves. The first reply that is neither `Accepted` nor `Idle` in the end.
+fn play(alloc: Global, node: &mut Node, act: Act) -> Result<Reply, Fault> {
+    let first = reply(alloc, node, act)?;
+    if first != Reply::Accepted {
+        return Ok(first);
+    }
+    settle(alloc, node)
+}
+
+/// All these; `Idle` where each was accepted and came to rest.
+fn play_all(alloc: Global, node: &mut Node, acts: &[(u32, Act)]) -> Result<Reply, Fault> {
+    for (times, act) in acts {
+        for _ in 0..*times {
+            let last = play(alloc, node, *act)?;
+            if last != Reply::Idle {
+                return Ok(last);
+            }
+        }
+    }
+    Ok(Reply::Idle)
+}
+
+fn outcome(fate: &Fate) -> Seen {
+    match fate {
+        Fate::Taken { seq, verdict, .. } => Taken(seq.0, *verdict),
+        Fate::Dropped { seq, cause, .. } => Dropped(seq.0, *cause),
+        Fate::Closed { cause, .. } => Closed(*cause),
+    }
+}
+
+/// Whether the journal begins with these, or is a beginning of them.
+fn agrees(journal: &[Fate], wanted: &[Seen]) -> bool {
+    journal
+        .iter()
+        .zip(wanted)
+        .all(|(fate, wanted)| outcome(fate) == *wanted)
+}
+
+/// Whether the node's journal is just this.
+fn shows(node: &Node, wanted: &[Seen]) -> bool {
+    node.journal().len() == wanted.len() && agrees(node.journal(), wanted)
+}
+
+/// All these happen, each is accepted, and the node comes to rest after it. `NoMemory` where a step lacked it.
+fn bring(alloc: Global, node: &mut Node, acts: &[(u32, Act)]) -> Result<(), Fault> {
+    match play_all(alloc, node, acts)? {
+        Reply::Idle => Ok(()),
+        Reply::NoMemory => Err(Fault::NoMemory),
+        _ => Err(Fault::Failed),
+    }
+}
+
+/// Whether a new node, where these happen and each comes to rest, has this journal.
+fn becomes(alloc: Global, acts: &[(u32, Act)], wanted: &[Seen]) -> Result<bool, Fault> {
+    let mut node = new_node(alloc, MANY)?;
+    bring(alloc, &mut node, acts)?;
+    Ok(shows(&node, wanted))
+}
+
+/// Whether the node replies so to each.
+fn replies(alloc: Global, node: &mut Node, table: &[(Act, Reply)]) -> Result<bool, Fault> {
+    for (act, wanted) in table {
+        match reply(alloc, node, *act)? {
+            Reply::NoMemory => return Err(Fault::NoMemory),
+            given if given == *wanted => {}
+            _ => return Ok(false),
+        }
+    }
+    Ok(true)
+}
+
+/// Whether a new node does.
+fn answers(alloc: Global, capacities: Capacities, table: &[(Act, Reply)]) -> Result<bool, Fault> {
+    let mut node = new_node(alloc, capacities)?;
+    replies(alloc, &mut node, table)
+}
+
+#[test]
+fn at_capacities_of_one(rt: HostRuntime) -> Result<(), Fail> {
+    assert!(rt;
+        answers(
+            rt.alloc(),
+            ONE,
+            &[
+                (Open(1), Reply::NoLink),
+                (Record(1), Reply::NotOpen),
+                (Close(0), Reply::NotOpen),
+                (ReaderTake(0), Reply::Idle),
+                (Open(0), Reply::Accepted),
+                (Open(0), Reply::AlreadyOpen),
+                (Record(1), Reply::Full),
+                (ReaderTake(0), Reply::Moved),
+                (Record(1), Reply::Accepted),
+                (Record(2), Reply::Full),
+                (Close(0), Reply::Full),
+                (ReaderTake(0), Reply::Blocked),
+                (ReaderPut(0), Reply::Moved),
+                (ReaderPut(0), Reply::Idle),
+                (ReaderTake(0), Reply::Moved),
+                (ReaderPut(0), Reply::Blocked),
+                (Tick, Reply::Full),
+            ],
+        )?
+    );
+    Ok(())
+}
+
+#[test]
+fn a_hand_blocks_until_the_next_queue_has_room(rt: HostRuntime) -> Result<(), Fail> {
+    assert!(rt;
+        answers(
+            rt.alloc(),
+            ONE,
+            &[
+                (PendTake, Reply::Idle),
+                (Open(0), Reply::Accepted),
+                (ReaderTake(0), Reply::Moved),
+                (ReaderPut(0), Reply::Moved),
+                (PendTake, Reply::Moved),
+                (PendPut, Reply::Idle),
+                (GetRecord, Reply::Accepted),
+                (ReaderTake(0), Reply::Moved),
+                (ReaderPut(0), Reply::Moved),
+                (PendTake, Reply::Moved),
+                (PendTake, Reply::Blocked),
+                (PendPut, Reply::Moved),
+                (Record(1), Reply::Accepted),
+                (ReaderTake(0), Reply::Moved),
+                (ReaderPut(0), Reply::Moved),
+                (PendTake, Reply::Moved),
+                (PendPut, Reply::Blocked),
+                (SlotPut, Reply::Idle),
+                (SlotTake, Reply::Moved),
+                (SlotTake, Reply::Blocked),
+                (SlotPut, Reply::Moved),
+                (SlotTake, Reply::Idle),
+                (PendPut, Reply::Moved),
+                (SlotTake, Reply::Moved),
+                (SlotPut, Reply::Blocked),
+                (ApplyTake, Reply::Moved),
+                (ApplyTake, Reply::Idle),
+                (SlotPut, Reply::Moved),
+                (ApplyTake, Reply::Moved),
+            ],
+        )?
+    );
+    Ok(())
+}
+
+/// Whether the node is refused, for its configuration.
+fn is_refused(
+    alloc: Global,
+    number: u8,
+    peers: &[NodeId],
+    capacities: Capacities,
 ) -> Result<bool, Fault> {
-    for act in acts {
-        if act_on(alloc, node, act)? != reply {
+    match Node::new(alloc, config(alloc, number, peers, capacities)?) {
+        Ok(_) => Ok(false),
+        Err(Fault::BadConfig) => Ok(true),
+        Err(fault) => Err(fault),
+    }
+}
+
+/// Nodes 2 to 9.
+const OTHERS: [NodeId; 8] = [
+    PEER,
+    NodeId([3; 32]),
+    NodeId([4; 32]),
+    NodeId([5; 32]),
+    NodeId([6; 32]),
+    NodeId([7; 32]),
+    NodeId([8; 32]),
+    NodeId([9; 32]),
+];
+
+/// Whether each is refused where it is said.
+fn are_refused(alloc: Global, table: &[(u8, &[NodeId], Capacities, bool)]) -> Result<bool, Fault> {
+    for (number, peers, capacities, wanted) in table {
+        if is_refused(alloc, *number, peers, *capacities)? != *wanted {
             return Ok(false);
         }
     }
     Ok(true)
 }
 
-/// The node after these acts, each of which it accepts.
-fn after(alloc: Global, acts: &[Act<'_>]) -> Result<Node, Fault> {
-    let mut node = new_node(alloc)?;
-    if all_reply(alloc, &mut node, acts, Reply::Accepted)? {
-        Ok(node)
-    } else {
-        Err(Fault::Failed)
-    }
+#[test]
+fn configurations_are_refused(rt: HostRuntime) -> Result<(), Fail> {
+    let table: [(u8, &[NodeId], Capacities, bool); 10] = [
+        (1, &[], ONE, false),
+        (1, &OTHERS[..7], MOST, false),
+        (1, &OTHERS, MANY, true),
+        (1, &[PEER, OTHERS[1], PEER], MANY, true),
+        (1, &[PEER, ME], MANY, true),
+        (0, &[PEER], MANY, true),
+        (1, &[PEER], Capacities { link: 0, ..MANY }, true),
+        (
+            1,
+            &[PEER],
+            Capacities {
+                inbox: 1_025,
+                ..MANY
+            },
+            true,
+        ),
+        (1, &[PEER], Capacities { ready: 0, ..MANY }, true),
+        (
+            1,
+            &[PEER],
+            Capacities {
+                decided: 1_025,
+                ..MANY
+            },
+            true,
+        ),
+    ];
+    assert!(rt; are_refused(rt.alloc(), &table)?);
+    Ok(())
 }
 
-/// The same event so often; whether it was accepted each time.
-fn repeated(node: &mut Node, event: &Event, count: u32) -> bool {
+fn events(alloc: Global, acts: &[Act]) -> Result<Vec<Event>, Fault> {
+    let mut events = Vec::new(alloc);
+    for act in acts {
+        events.push(act.event(alloc)?)?;
+    }
+    Ok(events)
+}
+
+/// Whether a run of these events answers so, and leaves so many entries.
+fn runs(alloc: Global, events: &[Event], wanted: &[Reply], entries: usize) -> Result<bool, Fault> {
+    let run = run(alloc, config(alloc, 1, &[PEER], ONE)?, events)?;
+    if run.replies.iter().any(|reply| *reply == Reply::NoMemory) {
+        return Err(Fault::NoMemory);
+    }
+    Ok(run.replies.as_slice() == wanted && run.node.journal().len() == entries)
+}
+
+#[test]
+fn a_run_answers_each_event(rt: HostRuntime) -> Result<(), Fail> {
+    let acts = [
+        Open(0),
+        GetRecord,
+        ReaderTake(0),
+        GetRecord,
+        ReaderPut(0),
+        ReaderTake(0),
+        PendTake,
+        ReaderPut(0),
+        PendTake,
+        PendPut,
+        SlotTake,
+    ];
+    let wanted = [
+        Reply::Accepted,
+        Reply::Full,
+        Reply::Moved,
+        Reply::Accepted,
+        Reply::Moved,
+        Reply::Moved,
+        Reply::Moved,
+        Reply::Moved,
+        Reply::Moved,
+        Reply::Moved,
+        Reply::Moved,
+    ];
+    assert!(rt; runs(rt.alloc(), &[], &[], 0)?);
+    let events = events(rt.alloc(), &acts)?;
+    assert!(rt; runs(rt.alloc(), events.as_slice(), &wanted, 1)?);
+    Ok(())
+}
+
+/// Whether so many messages are parked of the connection, and the link has been opened so often and has this room left.
+fn holds(node: &Node, conn: &ConnId, parked: usize, link: u8, lives: u32, room: usize) -> bool {
+    node.parked(conn) == parked && node.lives(link) == lives && node.room(link) == room
+}
+
+/// Whether the node holds two messages until the set of the first comes, and then none.
+fn waits_for_the_set(alloc: Global, node: &mut Node) -> Result<bool, Fault> {
+    bring(alloc, node, &[(1, Open(0)), (1, Names(2)), (1, Names(1))])?;
+    let is_parked = holds(node, &CONN, 2, 0, 1, 64) && shows(node, &[]);
+    bring(alloc, node, &[(1, Set(2))])?;
+    let wanted = [Taken(0, Verdict::Fresh), Taken(1, Verdict::Stale)];
+    Ok(is_parked && holds(node, &CONN, 0, 1, 0, 0) && shows(node, &wanted))
+}
+
+#[test]
+fn parked_until_the_set_comes(rt: HostRuntime) -> Result<(), Fail> {
+    let mut node = new_node(rt.alloc(), MANY)?;
+    let waits = waits_for_the_set(rt.alloc(), &mut node)?;
+    assert!(rt; waits);
+    Ok(())
+}
+
+#[test]
+fn dropped_by_the_close(rt: HostRuntime) -> Result<(), Fail> {
+    assert!(rt;
+        becomes(
+            rt.alloc(),
+            &[
+                (1, Open(0)),
+                (1, Names(2)),
+                (1, Names(1)),
+                (1, Close(0)),
+                (1, Open(0)),
+                (1, Names(1)),
+                (1, Set(2)),
+            ],
+            &[
+                Dropped(0, DropCause::Closed),
+                Dropped(1, DropCause::Closed),
+                Closed(Cause::Link),
+                Taken(0, Verdict::Fresh),
+            ],
+        )?
+    );
+    Ok(())
+}
+
+/// Whether nothing leaves the node at eleven ticks, and the twelfth gives the set up.
+fn gives_up(alloc: Global, node: &mut Node) -> Result<bool, Fault> {
+    bring(
+        alloc,
+        node,
+        &[(1, Open(0)), (1, Names(2)), (1, Names(1)), (11, Tick)],
+    )?;
+    let waits = shows(node, &[]);
+    bring(alloc, node, &[(1, Tick), (1, Set(2))])?;
+    let wanted = [Dropped(0, DropCause::GaveUp), Taken(1, Verdict::Fresh)];
+    Ok(waits && shows(node, &wanted))
+}
+
+#[test]
+fn given_up_at_the_twelfth_tick(rt: HostRuntime) -> Result<(), Fail> {
+    let mut node = new_node(rt.alloc(), MANY)?;
+    let is_given_up = gives_up(rt.alloc(), &mut node)?;
+    assert!(rt; is_given_up);
+    Ok(())
+}
+
+/// Whether 65 messages were dropped as parked-full, from the first on, and then the connection ended so.
+fn is_cut_off(journal: &[Fate]) -> bool {
+    let Some((last, messages)) = journal.split_last() else {
+        return false;
+    };
+    messages.len() == 65
+        && messages.iter().zip(0u64..65).all(|(fate, seq)| outcome(fate)
+            == Dropped(seq, DropCause::ParkedFull))
+        && outcome(last) == Closed(Cause::ParkedFull)
+}
+
+#[test]
+fn one_message_too_many_ends_the_connection(rt: HostRuntime) -> Result<(), Fail> {
+    let mut node = new_node(rt.alloc(), MANY)?;
+    bring(rt.alloc(), &mut node, &[(1, Open(0)), (66, Names(2))])?;
+    assert!(rt; is_cut_off(node.journal()));
+    Ok(())
+}
+
+/// Opens and closes link 0 so often, and then opens it once more.
+fn reopen(alloc: Global, node: &mut Node, count: u32) -> Result<Reply, Fault> {
     for _ in 0..count {
-        if reply_to(node, event) != Reply::Accepted {
-            return false;
+        bring(alloc, node, &[(1, Open(0)), (1, Close(0))])?;
+    }
+    reply(alloc, node, Open(0))
+}
+
+#[test]
+fn lives_are_spent(rt: HostRuntime) -> Result<(), Fail> {
+    let mut node = new_node(rt.alloc(), ONE)?;
+    let last = reopen(rt.alloc(), &mut node, 65_535)?;
+    assert!(rt; last == Reply::LivesSpent && node.lives(0) == 65_535);
+    Ok(())
+}
+
+/// Whether the node is failed: it answers so whatever comes, and has no state.
+fn is_failed(node: &mut Node) -> bool {
+    let first = node.step(Event::Close(0));
+    let second = node.step(Event::Open(7));
+    first == Reply::Failed && second == Reply::Failed && node.state().is_none()
+}
+
+/// Sends so many requests, each of which goes through every stage.
+fn fill(alloc: Global, node: &mut Node, count: u32) -> Result<(), Fault> {
+    for _ in 0..count {
+        let _ = reply(alloc, node, GetRecord)?;
+        match round(alloc, node)? {
+            Reply::Moved => {}
+            Reply::NoMemory => return Err(Fault::NoMemory),
+            _ => return Err(Fault::Failed),
         }
     }
-    true
+    Ok(())
 }
 
-fn entry_of(fate: &Fate) -> Entry {
-    match fate {
-        Fate::Taken {
-            conn,
-            seq,
-            verdict,
-            ..
-        } => Entry::Taken(conn.life, seq.0, *verdict),
-        Fate::Closed { conn, cause } => Entry::Closed(conn.life, *cause),
+/// Whether the next entry is refused, and the node is failed from then on.
+fn is_full(alloc: Global, node: &mut Node, entries: usize) -> Result<bool, Fault> {
+    match play(alloc, node, GetRecord)? {
+        Reply::JournalFull => Ok(node.journal().len() == entries && is_failed(node)),
+        Reply::NoMemory => Err(Fault::NoMemory),
+        _ => Ok(false),
     }
 }
 
-fn entries_of(alloc: Global, journal: &[Fate]) -> Result<Vec<Entry>, Fault> {
-    let mut entries = Vec::new(alloc);
-    for fate in journal {
-        entries.push(entry_of(fate))?;
-    }
-    Ok(entries)
-}
-
-fn entries(alloc: Global, node: &Node) -> Result<Vec<Entry>, Fault> {
-    entries_of(alloc, node.journal())
-}
-
-/// The node has just these entries.
-fn expect_entries(
-    rt: &impl Abort,
-    alloc: Global,
-    node: &Node,
-    want: &[Entry],
-) -> Result<(), Fault> {
-    assert_eq!(rt; entries(alloc, node)?.as_slice(), want);
-    Ok(())
-}
-
-/// The entries after these acts, each of which the node accepts.
-fn entries_after(alloc: Global, acts: &[Act<'_>]) -> Result<Vec<Entry>, Fault> {
-    let node = after(alloc, acts)?;
-    entries(alloc, &node)
-}
-
-fn entry_count(node: &Node) -> usize {
-    node.journal().len()
-}
-
-/// Whether these are the decisions of these slots, in this order.
-fn has_slots(decisions: &[SharedDecision], slots: &[u64]) -> bool {
-    for (decision, slot) in decisions.iter().zip(slots) {
-        if decision.get().slot.0 != *slot {
-            return false;
-        }
-    }
-    decisions.len() == slots.len()
-}
-
-fn first_byte_at(node: &Node, key: &Value) -> Option<u8> {
-    let value = node.state()?.get(key)?;
-    value.as_slice().first().copied()
-}
-
-/// The first byte that the state has for the key.
-fn value_of(alloc: Global, node: &Node, key: &[u8]) -> Result<Option<u8>, Fault> {
-    let key = Value::new(Vec::from_slice(alloc, key)?);
-    Ok(first_byte_at(node, &key))
-}
-
-/// The node has applied these slots, and its state begins so at a and at b.
-fn expect_applied(
-    rt: &impl Abort,
-    alloc: Global,
-    node: &Node,
-    slots: &[u64],
-    of_keys: [Option<u8>; 2],
-) -> Result<(), Fault> {
-    assert!(rt; has_slots(node.applied(), slots));
-    let found = [value_of(alloc, node, b"a")?, value_of(alloc, node, b"b")?];
-    assert_eq!(rt; found, of_keys);
-    Ok(())
-}
-
 #[test]
-fn nothing_happens_without_events(rt: HostRuntime) -> Result<(), Fail> {
-    let ran = run(rt.alloc(), config(rt.alloc())?, &[])?;
-    assert_eq!(rt; ran.replies.len(), 0);
-    assert_eq!(rt; entry_count(&ran.node), 0);
-    assert!(rt; ran.node.applied().is_empty());
-    assert!(rt; matches!(ran.node.state(), Some(state) if state.is_empty()));
-    Ok(())
-}
-
-#[test]
-fn run_replies_to_each_event(rt: HostRuntime) -> Result<(), Fail> {
-    let events = [Event::Open(0), Event::Open(0), Event::Close(0)];
-    let ran = run(rt.alloc(), config(rt.alloc())?, &events)?;
-    assert_eq!(rt;
-        ran.replies.as_slice(),
-        [Reply::Accepted, Reply::AlreadyOpen, Reply::Accepted].as_slice()
-    );
-    Ok(())
-}
-
-#[test]
-fn a_config_has_one_other_peer(rt: HostRuntime) -> Result<(), Fail> {
-    let alloc = rt.alloc();
-    for nodes in [[].as_slice(), &[ME], &[PEER, THIRD]] {
-        let peers = peers(alloc, nodes)?;
-        let set = both_nodes(alloc)?;
-        let ran = run(alloc, Config { me: ME, set, peers }, &[]);
-        assert!(rt; matches!(ran, Err(Fault::BadConfig)));
-    }
-    Ok(())
-}
-
-/// The decision is for "put a 1", by the first message of the link's first life.
-fn expect_named(rt: &impl Abort, decision: &SharedDecision) {
-    assert_eq!(rt; decision.get().value.as_slice(), PUT_A.as_slice());
-    let conn = ConnId {
-        from: PEER,
-        to: ME,
-        life: 1,
-    };
-    assert_eq!(rt; decision.origin, Origin::Named { conn, seq: Seq(0) });
-}
-
-#[test]
-fn a_decision_is_shared(rt: HostRuntime) -> Result<(), Fail> {
-    let conn = ConnId {
-        from: PEER,
-        to: ME,
-        life: 1,
-    };
-    let decision = Decision {
-        slot: Slot(1),
-        value: Value::new(Vec::from_slice(rt.alloc(), &PUT_A)?),
-        origin: Origin::Named { conn, seq: Seq(0) },
-    };
-    expect_named(&rt, &SharedDecision::new(rt.alloc(), decision)?);
-    Ok(())
-}
-
-#[test]
-fn a_record_decides_its_slot(rt: HostRuntime) -> Result<(), Fail> {
-    let node = after(rt.alloc(), &[Act::Open(0), Act::Record(1, &PUT_A)])?;
-    let [decision] = node.decisions() else {
-        return Err("not one decision".into());
-    };
-    expect_named(&rt, decision);
-    expect_named(&rt, &decision.share()?);
-    Ok(())
-}
-
-/// A new node's link is opened once, and its other links never.
-fn expect_one_link(rt: &impl Abort, alloc: Global, node: &mut Node) -> Result<(), Fault> {
-    let acts = [Act::Close(0), Act::Send(&[]), Act::Send(&SET)];
-    assert!(rt; all_reply(alloc, node, &acts, Reply::NotOpen)?);
-    let of_others = [Act::Open(1), Act::Close(1)];
-    assert!(rt; all_reply(alloc, node, &of_others, Reply::NoLink)?);
-    assert_eq!(rt; node.step(Event::Open(0)), Reply::Accepted);
-    assert_eq!(rt; reply_to(node, &Event::Open(0)), Reply::AlreadyOpen);
-    assert_eq!(rt; [node.lives(0), node.lives(1)], [1, 0]);
-    Ok(())
-}
-
-#[test]
-fn a_link_is_opened_once(rt: HostRuntime) -> Result<(), Fail> {
-    let mut node = new_node(rt.alloc())?;
-    expect_one_link(&rt, rt.alloc(), &mut node)?;
-    Ok(())
-}
-
-#[test]
-fn a_connection_ends_once(rt: HostRuntime) -> Result<(), Fail> {
-    let acts = [
-        Act::Open(0),
-        Act::Record(1, &PUT_A),
-        Act::Send(&[0; 5]),
-        Act::Record(2, &PUT_B),
-        Act::Close(0),
-        Act::Open(0),
-        Act::Record(2, &PUT_B),
-        Act::Close(0),
-    ];
-    assert_eq!(rt;
-        entries_after(rt.alloc(), &acts)?.as_slice(),
-        [
-            Entry::Taken(1, 0, Verdict::Decided),
-            Entry::Closed(1, Cause::Malformed),
-            Entry::Taken(2, 0, Verdict::Decided),
-            Entry::Closed(2, Cause::Link),
-        ]
-        .as_slice()
-    );
-    Ok(())
-}
-
-#[test]
-fn side_messages_have_no_number_and_no_entry(rt: HostRuntime) -> Result<(), Fail> {
-    let acts = [
-        Act::Open(0),
-        Act::Send(&GET_SET),
-        Act::Record(1, &PUT_A),
-        Act::Send(&SET),
-        Act::Send(&NO_SET),
-        Act::Record(2, &PUT_B),
-        Act::Send(&SET),
-        Act::Close(0),
-    ];
-    assert_eq!(rt;
-        entries_after(rt.alloc(), &acts)?.as_slice(),
-        [
-            Entry::Taken(1, 0, Verdict::Decided),
-            Entry::Taken(1, 1, Verdict::Decided),
-            Entry::Closed(1, Cause::Link),
-        ]
-        .as_slice()
-    );
-    Ok(())
-}
-
-#[test]
-fn lives_are_spent_after_65_535(rt: HostRuntime) -> Result<(), Fail> {
-    let mut node = new_node(rt.alloc())?;
-    for _ in 0..65_535u32 {
-        assert_eq!(rt; reply_to(&mut node, &Event::Open(0)), Reply::Accepted);
-        assert_eq!(rt; reply_to(&mut node, &Event::Close(0)), Reply::Accepted);
-    }
-    assert_eq!(rt; reply_to(&mut node, &Event::Open(0)), Reply::LivesSpent);
-    assert_eq!(rt;
-        [entry_count(&node), node.lives(0) as usize],
-        [65_535, 65_535]
-    );
-    Ok(())
-}
-
-/// A node with a full journal: 1,000,000 records for a slot that is too far, on one connection.
-fn full(alloc: Global) -> Result<Node, Fault> {
-    let mut node = after(alloc, &[Act::Open(0)])?;
-    let far = event_of(alloc, &Act::Record(u64::MAX, &[]))?;
-    if repeated(&mut node, &far, 1_000_000) {
-        Ok(node)
-    } else {
-        Err(Fault::JournalFull)
-    }
-}
-
-/// A node with a full journal takes side messages, and is failed by a record.
-fn expect_full(rt: &impl Abort, alloc: Global, node: &mut Node) -> Result<(), Fault> {
-    let side = [Act::Send(&GET_SET), Act::Send(&SET), Act::Send(&NO_SET)];
-    assert!(rt; all_reply(alloc, node, &side, Reply::Accepted)?);
-    assert!(rt; node.state().is_some());
-    let reply = act_on(alloc, node, &Act::Record(1, &PUT_A))?;
-    assert_eq!(rt; reply, Reply::JournalFull);
-    assert!(rt; all_reply(alloc, node, &side, Reply::Failed)?);
-    assert_eq!(rt; entry_count(node), 1_000_000);
-    assert!(rt; node.state().is_none());
-    Ok(())
-}
-
-#[test]
-fn a_full_journal_takes_side_messages_alone(rt: HostRuntime) -> Result<(), Fail> {
-    let mut node = full(rt.alloc())?;
-    expect_full(&rt, rt.alloc(), &mut node)?;
+fn a_full_journal_fails_the_node(rt: HostRuntime) -> Result<(), Fail> {
+    let mut node = new_node(rt.alloc(), ONE)?;
+    bring(rt.alloc(), &mut node, &[(1, Open(0))])?;
+    fill(rt.alloc(), &mut node, 1_000_000)?;
+    let is_full = is_full(rt.alloc(), &mut node, 1_000_000)?;
+    assert!(rt; is_full);
     Ok(())
 }

@@ -8,9 +8,10 @@ use Rattle.std.specs.Cmp.{IsTotalOrder}
 use Rattle.std.proofs.lemmas.Cmp.{nat_cmp_total, nat_list_cmp_total, on_total, then_total}
 use Rattle.std.specs.BTreeSet.{insert_key}
 use Rattle.scp_types.specs.declared.names.ConnId.{ConnId}
-use Rattle.scp_core.specs.declared.journal.Fate.{Fate}
-use Rattle.scp_core.specs.Journal.{conn_of, same_conn}
-use Rattle.scp_line.specs.Report.{conn_cmp, conns_of, AreConnections}
+use Rattle.scp_ledger.specs.declared.journal.Fate.{Fate}
+use Rattle.scp_wire.specs.Connections.{same_conn}
+use Rattle.scp_line.specs.declared.report.Parked.{Parked}
+use Rattle.scp_line.specs.Report.{conn_cmp, conn_of, conn_parked, conns_of, AreConnections}
 use Rattle.scp_line.proofs.Sections.{ties, same_is_equal}
 
 conn_cmp_total : IsTotalOrder conn_cmp
@@ -39,9 +40,13 @@ insert_ascending (x ∷ xs) k sorted =
       | Greater ↦ λ e. (all_insert (λ y. conn_cmp x y ≡ Less) xs k sorted.0 (conn_cmp_total.antisymm x k ∙ ap ordering_reverse e), insert_ascending xs k sorted.1)
     ] refl
 
-fold_ascending : (conns : List ConnId) (journal : List Fate) → IsStrictlySortedBy conn_cmp conns → IsStrictlySortedBy conn_cmp (fold (λ conns fate. insert_key conn_cmp conns (conn_of fate)) conns journal)
-fold_ascending conns [] sorted = sorted
-fold_ascending conns (fate ∷ journal) sorted = fold_ascending (insert_key conn_cmp conns (conn_of fate)) journal (insert_ascending conns (conn_of fate) sorted)
+-- items whose connections are put in
+abbrev put_in : {X : Type 0} → (X → ConnId) → List ConnId → List X → List ConnId
+put_in key conns items = fold (λ conns item. insert_key conn_cmp conns (key item)) conns items
+
+fold_ascending : {X : Type 0} (key : X → ConnId) (conns : List ConnId) (items : List X) → IsStrictlySortedBy conn_cmp conns → IsStrictlySortedBy conn_cmp (put_in key conns items)
+fold_ascending key conns [] sorted = sorted
+fold_ascending key conns (item ∷ items) sorted = fold_ascending key (insert_key conn_cmp conns (key item)) items (insert_ascending conns (key item) sorted)
 
 or_last : (a b c : Bool) → (a || (b || c)) ≡ ((b || c) || a)
 or_last true true c = refl
@@ -69,19 +74,19 @@ any_insert test (x ∷ xs) k =
       | Greater ↦ λ e. ap (λ b. test x || b) (any_insert test xs k) ∙ or_deep (test x) (list_any test xs) (test k)
     ] refl
 
-fold_any : (test : ConnId → Bool) (conns : List ConnId) (journal : List Fate) → list_any test (fold (λ conns fate. insert_key conn_cmp conns (conn_of fate)) conns journal) ≡ (list_any test conns || list_any (λ fate. test (conn_of fate)) journal)
-fold_any test conns [] = elim (list_any test conns) as (λ b. b ≡ (b || false)) [ true ↦ refl | false ↦ refl ]
-fold_any test conns (fate ∷ journal) =
-    fold_any test (insert_key conn_cmp conns (conn_of fate)) journal
-    ∙ ap (λ b. b || list_any (λ f. test (conn_of f)) journal) (any_insert test conns (conn_of fate))
-    ∙ sym (or_deep (list_any test conns) (test (conn_of fate)) (list_any (λ f. test (conn_of f)) journal))
+fold_any : {X : Type 0} (key : X → ConnId) (test : ConnId → Bool) (conns : List ConnId) (items : List X) → list_any test (put_in key conns items) ≡ (list_any test conns || list_any (λ item. test (key item)) items)
+fold_any key test conns [] = elim (list_any test conns) as (λ b. b ≡ (b || false)) [ true ↦ refl | false ↦ refl ]
+fold_any key test conns (item ∷ items) =
+    fold_any key test (insert_key conn_cmp conns (key item)) items
+    ∙ ap (λ b. b || list_any (λ f. test (key f)) items) (any_insert test conns (key item))
+    ∙ sym (or_deep (list_any test conns) (test (key item)) (list_any (λ f. test (key f)) items))
 
 none_ascending : IsStrictlySortedBy conn_cmp []
 unfolding IsStrictlySortedBy
 none_ascending = tt
 
-pub are_connections : (journal : List Fate) → AreConnections journal (conns_of journal)
-are_connections journal = record {
-  ascending = fold_ascending [] journal none_ascending;
-  with_entries = λ conn. fold_any (λ c. same_conn c conn) [] journal;
+pub are_connections : (journal : List Fate) (parked : List Parked) → AreConnections journal parked (conns_of journal parked)
+are_connections journal parked = record {
+  ascending = fold_ascending conn_parked (put_in conn_of [] journal) parked (fold_ascending conn_of [] journal none_ascending);
+  those = λ conn. fold_any conn_parked (λ c. same_conn c conn) (put_in conn_of [] journal) parked ∙ ap (λ b. b || list_any (λ waiting. same_conn (conn_parked waiting) conn) parked) (fold_any conn_of (λ c. same_conn c conn) [] journal);
 }

@@ -1,7 +1,5 @@
-pub mod Lines
 pub mod Sections
 pub mod Connections
-pub mod QuorumSets
-pub mod Played
-pub mod Admitted
-pub mod Taken
+pub mod MoreLives
+pub mod Going
+pub mod Fits

@@ -1,5 +1,6 @@
 -- The lines of connections in a map.
-use Rattle.std.proofs.Common.{◌≡◌, ℕ, Bool, true, false, ◌&&◌, cond, List, [], ◌∷◌, ◌++◌, String, string_bytes, Option, Some, None, refl, sym, ◌∙◌, ap, append_assoc, append-nil, nat_eq, arith}
+use Rattle.std.proofs.Common.{◌≡◌, ℕ, Bool, true, false, ◌&&◌, cond, List, [], ◌∷◌, ◌++◌, String, string_bytes, Option, Some, None, refl, sym, ◌∙◌, ap, append_assoc, append-nil, nat_eq, arith, ◌<◌, ◌+◌, length, get_or, take}
+use Rattle.std.proofs.lemmas.List.{take_more}
 use Rattle.std.specs.Prelude.{if◌then◌else◌}
 use Rattle.std.specs.Ordering.{nat_cmp, is_eq, ordering_then}
 use Rattle.std.specs.declared.cmp.Ordering.{Ordering}
@@ -8,9 +9,8 @@ use Rattle.std.specs.Cmp.Lexicographic.{slice_cmp, texts_ties, bytes_decides}
 use Rattle.std.specs.Cmp.{unsigned_ties}
 use Rattle.std.proofs.lemmas.Bool.Decides.{nat_tests}
 use Rattle.scp_types.specs.declared.names.ConnId.{ConnId}
-use Rattle.scp_core.specs.declared.journal.Fate.{Fate}
-use Rattle.scp_core.specs.Journal.{conn_of, same_conn, same_node}
-use Rattle.scp_line.specs.Report.{conn_cmp, fate_line, fate_lines}
+use Rattle.scp_wire.specs.Connections.{same_conn, same_node}
+use Rattle.scp_line.specs.Report.{conn_cmp, lines_in}
 use Rattle.scp_line.specs.Parts.{text_of}
 
 -- in place of what was taken out stands what was put in, with a line more
@@ -59,43 +59,44 @@ same_is_equal a b h =
     let life : a.life ≡ b.life = grind (arith, nat_tests, outer.1) in
     λ i. record { from = record { 0 = from i }; to = record { 0 = to i }; life = life i }
 
--- an entry of the connection adds its line
-line_more : (done : List Fate) (fate : Fate) (conn : ConnId) → same_conn (conn_of fate) conn ≡ true → fate_lines (done ++ fate ∷ []) conn ≡ fate_lines done conn ++ fate_line fate
-line_more [] fate conn h = rw h (append-nil (fate_line fate))
-line_more (x ∷ done) fate conn h = by (same_conn (conn_of x) conn) refl (line_more done fate conn h)
+-- an item of the connection adds its line
+line_more : {X : Type 0} (key : X → ConnId) (line : X → List ℕ) (done : List X) (item : X) (conn : ConnId) → same_conn (key item) conn ≡ true → lines_in key line (done ++ item ∷ []) conn ≡ lines_in key line done conn ++ line item
+line_more key line [] item conn h = rw h (append-nil (line item))
+line_more key line (x ∷ done) item conn h = by (same_conn (key x) conn) refl (line_more key line done item conn h)
   where
-    by : (b : Bool) → same_conn (conn_of x) conn ≡ b → fate_lines (done ++ fate ∷ []) conn ≡ fate_lines done conn ++ fate_line fate → fate_lines (x ∷ (done ++ fate ∷ [])) conn ≡ fate_lines (x ∷ done) conn ++ fate_line fate
-    by true e more = rw e (ap (λ l. fate_line x ++ l) more ∙ sym (append_assoc (fate_line x) (fate_lines done conn) (fate_line fate)))
+    by : (b : Bool) → same_conn (key x) conn ≡ b → lines_in key line (done ++ item ∷ []) conn ≡ lines_in key line done conn ++ line item → lines_in key line (x ∷ (done ++ item ∷ [])) conn ≡ lines_in key line (x ∷ done) conn ++ line item
+    by true e more = rw e (ap (λ l. line x ++ l) more ∙ sym (append_assoc (line x) (lines_in key line done conn) (line item)))
     by false e more = rw e more
 
--- an entry of another connection adds none
-line_same : (done : List Fate) (fate : Fate) (conn : ConnId) → same_conn (conn_of fate) conn ≡ false → fate_lines (done ++ fate ∷ []) conn ≡ fate_lines done conn
-line_same [] fate conn h = rw h refl
-line_same (x ∷ done) fate conn h = by (same_conn (conn_of x) conn) refl (line_same done fate conn h)
+-- an item of another connection adds none
+line_same : {X : Type 0} (key : X → ConnId) (line : X → List ℕ) (done : List X) (item : X) (conn : ConnId) → same_conn (key item) conn ≡ false → lines_in key line (done ++ item ∷ []) conn ≡ lines_in key line done conn
+line_same key line [] item conn h = rw h refl
+line_same key line (x ∷ done) item conn h = by (same_conn (key x) conn) refl (line_same key line done item conn h)
   where
-    by : (b : Bool) → same_conn (conn_of x) conn ≡ b → fate_lines (done ++ fate ∷ []) conn ≡ fate_lines done conn → fate_lines (x ∷ (done ++ fate ∷ [])) conn ≡ fate_lines (x ∷ done) conn
-    by true e more = rw e (ap (λ l. fate_line x ++ l) more)
+    by : (b : Bool) → same_conn (key x) conn ≡ b → lines_in key line (done ++ item ∷ []) conn ≡ lines_in key line done conn → lines_in key line (x ∷ (done ++ item ∷ [])) conn ≡ lines_in key line (x ∷ done) conn
+    by true e more = rw e (ap (λ l. line x ++ l) more)
     by false e more = rw e more
 
--- a connection's lines with an entry more
-pub fate_lines-more : (done : List Fate) (fate : Fate) (conn : ConnId) → fate_lines (done ++ fate ∷ []) conn ≡ (if is_eq (conn_cmp (conn_of fate) conn) then fate_lines done (conn_of fate) ++ fate_line fate else fate_lines done conn)
-fate_lines-more done fate conn = by (same_conn (conn_of fate) conn) refl
+-- texts that hold the lines so far, behind those that they held before, hold those with an item more
+pub sections-more : {X : Type 0} (key : X → ConnId) (line : X → List ℕ) (base : ConnId → List ℕ) (done : List X) (item : X) (new old : ConnId → List ℕ) → ((q : ConnId) → new q ≡ (if is_eq (conn_cmp (key item) q) then old (key item) ++ line item else old q)) → ((q : ConnId) → old q ≡ base q ++ lines_in key line done q) → (q : ConnId) → new q ≡ base q ++ lines_in key line (done ++ item ∷ []) q
+sections-more key line base done item new old step is q = by (same_conn (key item) q) refl
   where
-    by : (b : Bool) → same_conn (conn_of fate) conn ≡ b → fate_lines (done ++ fate ∷ []) conn ≡ (if is_eq (conn_cmp (conn_of fate) conn) then fate_lines done (conn_of fate) ++ fate_line fate else fate_lines done conn)
+    by : (b : Bool) → same_conn (key item) q ≡ b → new q ≡ base q ++ lines_in key line (done ++ item ∷ []) q
     by true e =
-        let at : is_eq (conn_cmp (conn_of fate) conn) ≡ true = ties (conn_of fate) conn ∙ e in
-        let same = same_is_equal (conn_of fate) conn e in
-        line_more done fate conn e ∙ ap (λ c. fate_lines done c ++ fate_line fate) (sym same)
-        ∙ ap (λ b. if b then fate_lines done (conn_of fate) ++ fate_line fate else fate_lines done conn) (sym at)
+        let at : is_eq (conn_cmp (key item) q) ≡ true = ties (key item) q ∙ e in
+        let same = same_is_equal (key item) q e in
+        step q
+        ∙ ap (λ b. if b then old (key item) ++ line item else old q) at
+        ∙ ap (λ l. l ++ line item) (ap old same ∙ is q)
+        ∙ append_assoc (base q) (lines_in key line done q) (line item)
+        ∙ ap (λ l. base q ++ l) (sym (line_more key line done item q e))
     by false e =
-        let at : is_eq (conn_cmp (conn_of fate) conn) ≡ false = ties (conn_of fate) conn ∙ e in
-        line_same done fate conn e
-        ∙ ap (λ b. if b then fate_lines done (conn_of fate) ++ fate_line fate else fate_lines done conn) (sym at)
+        let at : is_eq (conn_cmp (key item) q) ≡ false = ties (key item) q ∙ e in
+        step q
+        ∙ ap (λ b. if b then old (key item) ++ line item else old q) at
+        ∙ is q
+        ∙ ap (λ l. base q ++ l) (sym (line_same key line done item q e))
 
--- texts that hold the lines so far hold those with an entry more
-pub sections-more : (done : List Fate) (fate : Fate) (new old : ConnId → List ℕ) → ((q : ConnId) → new q ≡ (if is_eq (conn_cmp (conn_of fate) q) then old (conn_of fate) ++ fate_line fate else old q)) → ((q : ConnId) → old q ≡ fate_lines done q) → (q : ConnId) → new q ≡ fate_lines (done ++ fate ∷ []) q
-sections-more done fate new old step is q =
-    step q
-    ∙ ap (λ l. if is_eq (conn_cmp (conn_of fate) q) then l ++ fate_line fate else old q) (is (conn_of fate))
-    ∙ ap (λ l. if is_eq (conn_cmp (conn_of fate) q) then fate_lines done (conn_of fate) ++ fate_line fate else l) (is q)
-    ∙ sym (fate_lines-more done fate q)
+-- the same of the next of the items that lie there
+pub sections-next : {X : Type 0} (key : X → ConnId) (line : X → List ℕ) (base : ConnId → List ℕ) (items : List X) (i : ℕ) (d : X) (new old : ConnId → List ℕ) → i < length items → ((q : ConnId) → new q ≡ (if is_eq (conn_cmp (key (get_or items i d)) q) then old (key (get_or items i d)) ++ line (get_or items i d) else old q)) → ((q : ConnId) → old q ≡ base q ++ lines_in key line (take i items) q) → (q : ConnId) → new q ≡ base q ++ lines_in key line (take (i + 1) items) q
+sections-next key line base items i d new old lt step is = rw (take_more items i d lt) (sections-more key line base (take i items) (get_or items i d) new old step is)

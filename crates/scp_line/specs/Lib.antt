@@ -1,5 +1,3 @@
-pub mod Script
-pub mod Reading
 pub mod Outcome
 pub mod Report
 pub mod Parts

@@ -1,49 +1,43 @@
--- The two nodes of a script.
-use Rattle.std.specs.Prelude.{◌≡◌, ℕ, ◌<◌, true, false, None, List, [], ◌∷◌, ◌++◌}
+-- What a node heard more, while a script is played.
+use Rattle.std.specs.Prelude.{ℕ, ◌+◌, ◌<◌, ◌≡◌, Bool, true, false, List, [], ◌∷◌, ◌++◌, length, get_or, Option, Some, None, nat_eq, if◌then◌else◌}
 use Rattle.scp_core.specs.declared.event.Event.{Event}
-use Rattle.scp_core.specs.declared.event.Event.TheVariants.{Open, Send, Close}
-use Rattle.scp_core.specs.declared.event.Reply.{Reply}
-use Rattle.scp_core.specs.History.{Heard}
+use Rattle.scp_core.specs.History.{Exchange}
 use Rattle.scp_core.specs.Node.{NodeView}
 use Rattle.scp_core.specs.Theorem.{LedgerTheorem}
-use Rattle.scp_line.specs.declared.script.Command.{Command}
-use Rattle.scp_line.specs.declared.nodes.Nodes.{Nodes}
-use Rattle.scp_line.specs.Script.{event_at, events_at, id_of, set_at}
-use Rattle.scp_line.specs.Play.{IsNode, accepted}
+use Rattle.scp_script.specs.declared.command.Command.{Command}
+use Rattle.scp_core.specs.Config.{AreInRange}
+use Rattle.scp_line.specs.Play.{Nodes, accepted, event_at, config_of}
 
--- both nodes of a script as these of its commands left them
-pub record Played (script commands : List Command) (nodes : Nodes) : Type 0 where
-  pub first : IsNode script commands 1 2 nodes.first
-  pub second : IsNode script commands 2 1 nodes.second
+-- what a list of exchanges more, of which these events were accepted, makes of a past
+pub record Longer (past : List Exchange) (new : NodeView) (entered : List Event) : Type 0 where
+  pub more : List Exchange
+  pub theorem : LedgerTheorem (past ++ more) new
+  pub accepts : accepted more ≡ entered
 
--- who the node is, whom it is linked to, and its quorum set are as before
-pub record SameConfig (old new : NodeView) : Type 0 where
-  pub me : new.me ≡ old.me
-  pub peer : new.peer ≡ old.peer
-  pub set : new.set ≡ old.set
+-- the node heard more, and accepted just these events of it
+pub record Goes (old new : NodeView) (entered : List Event) : Type 0 where
+  pub config : new.config ≡ old.config
+  pub longer : (past : List Exchange) → LedgerTheorem past old → Longer past new entered
 
--- a node that heard this takes the event, unless memory or the journal's room runs out
-abbrev pub IsTaken : Heard → Event → Type 0
-IsTaken h (Open link) = (link ≡ 0) × (h.failed ≡ None) × (h.is_open ≡ false) × (h.life < 65535)
-IsTaken h (Send link bytes) = (link ≡ 0) × (h.failed ≡ None) × (h.is_open ≡ true)
-IsTaken h (Close link) = ⊥
+-- each node heard more, and accepted of it what a function of its number says
+pub record AllGo (old new : Nodes) (entered : ℕ → List Event) : Type 0 where
+  pub count : length new ≡ length old
+  pub each : (i : ℕ) → (d : NodeView) → i < length old → Goes (get_or old i d) (get_or new i d) (entered (i + 1))
 
--- the node of this number in a script failed at the command: it has the quorum set that the script gives it, and the
--- ledger theorem holds of it for the events before, which it accepted, and for the command's, at which it failed
-pub record StopsAt (script before : List Command) (command : Command) (number : ℕ) : Type 0 where
-  pub event : Event
-  pub is : event_at number command ≡ event ∷ []
-  pub reply : Reply
-  pub node : NodeView
-  pub me : node.me ≡ id_of number
-  pub set : node.set ≡ set_at number script
-  pub theorem : LedgerTheorem (accepted (events_at number before) ++ (event, reply) ∷ []) node
-  pub failed : node.failed ≡ true
+-- the event that a node is offered, and its number
+abbrev pub event_for : ℕ → Option (ℕ × Event) → List Event
+event_for node None = []
+event_for node (Some offered) = if nat_eq offered.0 node then offered.1 ∷ [] else []
 
--- the node of this number failed at one of the commands of a script
-pub record Stops (commands : List Command) (number : ℕ) : Type 0 where
-  pub before : List Command
-  pub command : Command
-  pub after : List Command
-  pub split : commands ≡ before ++ command ∷ after
-  pub at : StopsAt commands before command number
+-- no node accepted anything
+abbrev pub nothing : ℕ → List Event
+nothing node = []
+
+-- after an offer: what was offered, or nothing where there was no room
+abbrev pub offered_or : Bool → Command → ℕ → List Event
+offered_or true command node = event_at node command
+offered_or false command node = []
+
+-- the capacities that commands say are in range
+abbrev pub HaveRoom : List Command → Type 0
+HaveRoom commands = AreInRange (config_of commands 1).capacities

@@ -1,12 +1,13 @@
 -- How a call that failed is told, and what it may fail for.
-use Rattle.std.specs.Prelude.{ℕ, List, ◌++◌, codes}
+use Rattle.std.specs.Prelude.{ℕ, ◌≡◌, ◌⊎◌, List, ◌++◌, codes}
+use Rattle.scp_line.specs.declared.playing.PlayFault.{PlayFault}
+use Rattle.scp_script.specs.Nodes.{IsSmall}
 use Rattle.std.specs.Fmt.{decimal}
 use Rattle.scp_types.specs.declared.fault.Fault.{Fault}
-use Rattle.scp_types.specs.declared.fault.Fault.TheVariants.{NoMemory, Malformed, TooLong, Failed, BadScript, Refused, Device}
+use Rattle.scp_types.specs.declared.fault.Fault.TheVariants.{NoMemory, Malformed, TooLong, Full, Failed, BadScript, Refused, Device}
 use Rattle.scp_types.specs.declared.fault.Stage.{Stage}
 use Rattle.scp_types.specs.declared.fault.Stage.TheVariants.{Reader, Pend, Slot, Apply}
 use Rattle.scp_types.specs.Fault.{number_of}
-use Rattle.scp_line.specs.Script.{IsBadLine}
 
 abbrev pub stage_word : Stage → List ℕ
 stage_word Reader = codes "reader"
@@ -28,12 +29,6 @@ status_of TooLong = 1
 status_of (BadScript line) = 1
 status_of fault = 3
 
--- why a text isn't read as a script: want of memory, or its first bad line
-abbrev pub IsScriptFault : List ℕ → Fault → Type 0
-IsScriptFault text NoMemory = Unit {0}
-IsScriptFault text (BadScript line) = IsBadLine text line
-IsScriptFault text fault = ⊥
-
 -- why a script isn't found to be one
 abbrev pub IsCheckFault : Fault → Type 0
 IsCheckFault NoMemory = Unit {0}
@@ -42,11 +37,16 @@ IsCheckFault Device = Unit {0}
 IsCheckFault (BadScript line) = Unit {0}
 IsCheckFault fault = ⊥
 
--- why a script isn't played: it can't be read, a line is bad, a node failed, or the reports had no memory or no taker
+-- why a script isn't played: it can't be read, a line is bad, a node failed, a queue was full also after a settle, or the reports had no memory or no taker
 abbrev pub IsPlayFault : Fault → Type 0
 IsPlayFault NoMemory = Unit {0}
 IsPlayFault TooLong = Unit {0}
 IsPlayFault Device = Unit {0}
 IsPlayFault (BadScript line) = Unit {0}
 IsPlayFault Failed = Unit {0}
+IsPlayFault Full = Unit {0}
 IsPlayFault fault = ⊥
+
+-- why a line of a script isn't done: a node failed, a queue was full also after a settle, or want of memory
+abbrev pub IsActFault : PlayFault → Type 0
+IsActFault e = ((e.fault ≡ Failed) × IsSmall e.node) ⊎ ((e.fault ≡ Full) × (e.node ≡ 0)) ⊎ ((e.fault ≡ NoMemory) × (e.node ≡ 0))

@@ -13,10 +13,16 @@ abbrev pub state_of : Option (Bor KvMap) → List (List ℕ × List ℕ)
 state_of (Some state) = map.entries state.now
 state_of None = []
 
+-- the same of a state that a definition names
+abbrev pub entries_of : Option KvMap → List (List ℕ × List ℕ)
+entries_of (Some state) = map.entries state
+entries_of None = []
+
 abbrev pub view_of : ReportParts → ReportView
 view_of parts = record {
   node = parts.node;
   journal = parts.journal.now;
+  parked = parts.parked.now;
   applied = parts.applied.now;
   state = state_of parts.state;
 }

@@ -1,6 +1,7 @@
 -- What is played and shown.
-use Rattle.std.specs.Prelude.{ℕ, ◌≡◌, List, [], ◌++◌, Option, Some, None, Err, flat_map, map, codes, nat_eq, if◌then◌else◌, unwrap_or}
+use Rattle.std.specs.Prelude.{ℕ, ◌+◌, ◌-◌, ◌<◌, ◌≤◌, ◌≡◌, List, [], ◌∷◌, ◌++◌, Option, Some, None, Err, flat_map, length, codes, nat_eq, nat_lt, slice_get, get_or, option_to_list, if◌then◌else◌}
 use Rattle.std.specs.Fmt.{decimal}
+use Rattle.scp_types.specs.declared.names.ConnId.{ConnId}
 use Rattle.scp_types.specs.declared.fault.Fault.{Fault}
 use Rattle.scp_types.specs.declared.fault.Fault.TheVariants.{Malformed, Failed}
 use Rattle.scp_quorum.specs.QuorumKind.{set_hash}
@@ -9,48 +10,121 @@ use Rattle.scp_envelope.specs.declared.statement.Pledges.{Pledges}
 use Rattle.scp_envelope.specs.declared.statement.Pledges.TheVariants.{Prepare, Confirm, Externalize, Nominate}
 use Rattle.scp_wire.specs.declared.message.Message.{Message}
 use Rattle.scp_wire.specs.declared.message.Message.TheVariants.{Envelope, GetSet, Set, NoSet, GetRecord, Record}
+use Rattle.scp_wire.specs.declared.link.Command.TheVariants.{Tick}
 use Rattle.scp_wire.specs.Message.{message_reading}
 use Rattle.scp_wire.specs.Reading.{reading_of}
+use Rattle.scp_wire.specs.Connections.{conn_at}
+use Rattle.scp_kv.specs.Map.{KvMap}
+use Rattle.scp_pending.specs.Line.{count_held}
+use Rattle.scp_core.specs.declared.config.Config.{Config}
 use Rattle.scp_core.specs.declared.event.Event.{Event}
+use Rattle.scp_core.specs.declared.event.Event.TheVariants as event
+use Rattle.scp_core.specs.declared.event.Reply.{Reply}
 use Rattle.scp_core.specs.declared.event.Reply.TheVariants.{Accepted}
 use Rattle.scp_core.specs.History.{Exchange}
-use Rattle.scp_core.specs.Node.{NodeView}
+use Rattle.scp_core.specs.Node.{NodeView, lives_at}
 use Rattle.scp_core.specs.Theorem.{LedgerTheorem}
-use Rattle.scp_line.specs.declared.script.Command.{Command}
-use Rattle.scp_line.specs.Script.{IsNodeNumber, hex_bytes, commands_in, events_at, reports_in, id_of, set_at}
+use Rattle.scp_script.specs.declared.command.Command.{Command}
+use Rattle.scp_script.specs.declared.command.Command.TheVariants as script
+use Rattle.scp_script.specs.Words.{hex_bytes}
+use Rattle.scp_script.specs.Script.{commands_in, node_count}
+use Rattle.scp_script.specs.Nodes.{id_of, numbers, peers_of, set_at, capacities_in, reports_in}
+use Rattle.scp_line.specs.declared.report.Parked.{Parked}
 use Rattle.scp_line.specs.Report.{report_of, hex_word}
+use Rattle.scp_line.specs.Parts.{entries_of}
 
--- each event was accepted
-abbrev pub accepted : List Event → List Exchange
-accepted events = map (λ event. (event, Accepted)) events
+-- which link of a node comes from another: the place of that one among its peers, which ascend
+abbrev pub link_of : ℕ → ℕ → ℕ
+link_of from to = if nat_lt from to then from - 1 else from - 2
 
--- the node of this number in a script, linked to the other, as these of the script's commands left it: it has the quorum
--- set that the script gives it, and the ledger theorem holds of it for the events that the commands say, each of which it
--- accepted
-pub record IsNode (script commands : List Command) (number other : ℕ) (node : NodeView) : Type 0 where
-  pub me : node.me ≡ id_of number
-  pub peer : node.peer ≡ id_of other
-  pub set : node.set ≡ set_at number script
-  pub theorem : LedgerTheorem (accepted (events_at number commands)) node
+-- the event that a command is to a node
+abbrev pub event_at : ℕ → Command → List Event
+event_at node (script.Caps capacities) = []
+event_at node (script.Nodes count quorum) = []
+event_at node (script.Set at set) = []
+event_at node (script.Open from to) = if nat_eq to node then event.Open (link_of from to) ∷ [] else []
+event_at node (script.Close from to) = if nat_eq to node then event.Close (link_of from to) ∷ [] else []
+event_at node (script.Send from to bytes) = if nat_eq to node then event.Send (link_of from to) bytes ∷ [] else []
+event_at node (script.Tick at) = if nat_eq at node then event.Local Tick ∷ [] else []
+event_at node (script.Ask from to slot) = []
+event_at node script.Settle = []
+event_at node (script.Report at) = []
 
-abbrev pub report_of_node : ℕ → NodeView → List ℕ
-report_of_node number node = report_of (record {
+-- the events of a node, in their order
+abbrev pub events_at : ℕ → List Command → List Event
+events_at node commands = flat_map (event_at node) commands
+
+abbrev pub accepted_of : Event → Reply → List Event
+accepted_of event Accepted = event ∷ []
+accepted_of event reply = []
+
+-- the events that were accepted
+abbrev pub accepted : List Exchange → List Event
+accepted past = flat_map (λ x. accepted_of x.0 x.1) past
+
+-- who the node of this number is, and what its queues hold
+abbrev pub config_of : List Command → ℕ → Config
+config_of commands number = record {
+  me = id_of number;
+  set = set_at number commands;
+  peers = peers_of (node_count commands) number;
+  capacities = record {
+    link = (capacities_in commands).link;
+    inbox = (capacities_in commands).inbox;
+    ready = (capacities_in commands).ready;
+    decided = (capacities_in commands).decided;
+  };
+}
+
+-- the node of this number in a script as these of the script's commands left it: it is who the script says, and the ledger
+-- theorem holds of it for a past whose accepted events are those that the commands say
+pub record IsNode (commands done : List Command) (number : ℕ) (node : NodeView) : Type 0 where
+  pub config : node.config ≡ config_of commands number
+  pub past : List Exchange
+  pub theorem : LedgerTheorem past node
+  pub accepts : accepted past ≡ events_at number done
+
+abbrev pub parked_of : NodeView → ConnId → List Parked
+parked_of v conn = if nat_lt 0 (count_held conn v.pending) then record { conn = conn; count = count_held conn v.pending } ∷ [] else []
+
+-- the connections from a node to another of which messages are parked
+abbrev pub parked_from : NodeView → ℕ → ℕ → List Parked
+parked_from v to from = if nat_eq from to then [] else flat_map (λ life. parked_of v (conn_at (id_of from) (id_of to) life)) (numbers (lives_at v (link_of from to)))
+
+-- the connections of a node of this number, of so many, of which messages are parked
+abbrev pub parked_in : ℕ → ℕ → NodeView → List Parked
+parked_in count number v = flat_map (parked_from v number) (numbers count)
+
+abbrev pub running_state : NodeView → Option KvMap
+running_state node = if node.failed then None else node.applier.state
+
+abbrev pub report_of_node : ℕ → ℕ → NodeView → List ℕ
+report_of_node count number node = report_of (record {
   node = number;
-  journal = node.journal;
-  applied = node.applied;
-  state = unwrap_or node.state [];
+  journal = node.ledger.journal;
+  parked = parked_in count number node;
+  applied = node.applier.applied;
+  state = entries_of (running_state node);
 })
 
-abbrev pub report_at : NodeView → NodeView → ℕ → List ℕ
-report_at first second number = if nat_eq number 1 then report_of_node 1 first else report_of_node 2 second
+-- nodes, the first first
+abbrev pub Nodes : Type 0
+Nodes = List NodeView
+
+-- the report of the node of this number
+abbrev pub report_at : Nodes → ℕ → List ℕ
+report_at nodes number = flat_map (report_of_node (length nodes) number) (option_to_list (slice_get nodes (number - 1)))
+
+-- the nodes of a script as these of its commands left them, the first first
+pub record AreNodes (commands done : List Command) (nodes : Nodes) : Type 0 where
+  pub count : length nodes ≡ node_count commands
+  pub each : (i : ℕ) → (d : NodeView) → i < length nodes → IsNode commands done (i + 1) (get_or nodes i d)
 
 -- the text is the reports that the script asks for, one for each `report` line, in their order
 pub record AreReports (script text : List ℕ) : Type 0 where
-  pub first : NodeView
-  pub second : NodeView
-  pub is_first : IsNode (commands_in script) (commands_in script) 1 2 first
-  pub is_second : IsNode (commands_in script) (commands_in script) 2 1 second
-  pub reports : text ≡ flat_map (report_at first second) (reports_in (commands_in script))
+  pub nodes : Nodes
+  pub are : AreNodes (commands_in script) (commands_in script) nodes
+  pub reports : text ≡ flat_map (report_at nodes) (reports_in (commands_in script))
 
 abbrev pub pledges_word : Pledges → List ℕ
 pledges_word (Prepare p) = codes "prepare"
@@ -90,5 +164,5 @@ IsUnread digits fault = IsUnreadBytes (hex_bytes digits) fault
 
 -- only a node's failure has a node
 abbrev pub IsNamed : ℕ → Fault → Type 0
-IsNamed node Failed = IsNodeNumber node
+IsNamed node Failed = (1 ≤ node) × (node ≤ 8)
 IsNamed node fault = node ≡ 0

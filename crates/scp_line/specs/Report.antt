@@ -1,5 +1,5 @@
 -- The text of a report (this project's profile).
-use Rattle.std.specs.Prelude.{ℕ, ◌≡◌, List, [], ◌∷◌, ◌++◌, codes, flat_map, fold, slice_index}
+use Rattle.std.specs.Prelude.{ℕ, ◌≡◌, List, [], ◌∷◌, ◌++◌, codes, flat_map, filter, fold, slice_index, ◌||◌}
 use Rattle.std.specs.Fmt.{decimal}
 use Rattle.std.specs.Ordering.{nat_cmp, ordering_then}
 use Rattle.std.specs.Cmp.Lexicographic.{slice_cmp}
@@ -10,16 +10,19 @@ use Rattle.std.specs.BTreeSet.{insert_key}
 use Rattle.hex.specs.Hex.{encode_lower}
 use Rattle.scp_types.specs.declared.names.ConnId.{ConnId}
 use Rattle.scp_types.specs.declared.names.NodeId.{NodeId}
-use Rattle.scp_core.specs.declared.journal.Verdict.{Verdict}
-use Rattle.scp_core.specs.declared.journal.Verdict.TheVariants.{OldSlot, FarSlot, Already, Own, BadStatement, BadValue, Stale, Fresh, Forwarded, Decided}
+use Rattle.scp_ledger.specs.declared.journal.Verdict.{Verdict}
+use Rattle.scp_ledger.specs.declared.journal.Verdict.TheVariants.{OldSlot, FarSlot, Already, Own, BadStatement, BadValue, Stale, Fresh, Forwarded, Decided}
 use Rattle.scp_wire.specs.declared.link.Cause.{Cause}
 use Rattle.scp_wire.specs.declared.link.Cause.TheVariants.{Malformed, Link, Spent, ParkedFull}
-use Rattle.scp_core.specs.declared.journal.Fate.{Fate}
-use Rattle.scp_core.specs.declared.journal.Fate.TheVariants.{Taken, Closed}
-use Rattle.scp_core.specs.declared.journal.Origin.{Origin}
-use Rattle.scp_core.specs.declared.journal.Origin.TheVariants.{Named}
-use Rattle.scp_core.specs.declared.journal.Decision.{Decision}
-use Rattle.scp_core.specs.Journal.{conn_of, of_conn, same_conn}
+use Rattle.scp_ledger.specs.declared.journal.Fate.{Fate}
+use Rattle.scp_ledger.specs.declared.journal.Fate.TheVariants.{Taken, Dropped, Closed}
+use Rattle.scp_ledger.specs.declared.journal.Origin.{Origin}
+use Rattle.scp_ledger.specs.declared.journal.Origin.TheVariants.{Named}
+use Rattle.scp_ledger.specs.declared.journal.Decision.{Decision}
+use Rattle.scp_wire.specs.Connections.{same_conn}
+use Rattle.scp_pending.specs.declared.ready.DropCause.{DropCause}
+use Rattle.scp_pending.specs.declared.ready.DropCause.TheVariants as drop
+use Rattle.scp_line.specs.declared.report.Parked.{Parked}
 
 abbrev pub verdict_word : Verdict → List ℕ
 verdict_word OldSlot = codes "old-slot"
@@ -39,9 +42,22 @@ cause_word Link = codes "link"
 cause_word Spent = codes "spent"
 cause_word ParkedFull = codes "parked-full"
 
+abbrev pub drop_word : DropCause → List ℕ
+drop_word drop.BadSet = codes "bad-set"
+drop_word drop.GaveUp = codes "gave-up"
+drop_word drop.Closed = codes "closed"
+drop_word drop.ParkedFull = codes "parked-full"
+
+-- the connection of an entry
+abbrev pub conn_of : Fate → ConnId
+conn_of (Taken conn seq message set verdict) = conn
+conn_of (Dropped conn seq cause) = conn
+conn_of (Closed conn cause) = conn
+
 -- an entry's line
 abbrev pub fate_line : Fate → List ℕ
 fate_line (Taken conn seq message set verdict) = decimal seq.0 ++ codes " taken " ++ verdict_word verdict ++ codes "\n"
+fate_line (Dropped conn seq cause) = decimal seq.0 ++ codes " dropped " ++ drop_word cause ++ codes "\n"
 fate_line (Closed conn cause) = codes "closed " ++ cause_word cause ++ codes "\n"
 
 -- bytes in lower-case hexadecimal digits, or a dash for none
@@ -68,37 +84,57 @@ state_line entry = codes "state " ++ hex_word entry.0 ++ codes "=" ++ hex_word e
 abbrev pub conn_cmp : ConnId → ConnId → Ordering
 conn_cmp a b = ordering_then (slice_cmp nat_cmp a.from.0 b.from.0) (ordering_then (slice_cmp nat_cmp a.to.0 b.to.0) (nat_cmp a.life b.life))
 
--- the connections with entries, ascending
-abbrev pub conns_of : List Fate → List ConnId
-conns_of journal = fold (λ conns fate. insert_key conn_cmp conns (conn_of fate)) [] journal
+-- the connection of which messages are parked
+abbrev pub conn_parked : Parked → ConnId
+conn_parked parked = parked.conn
 
--- the law of the connections: each once, ascending, and just those with entries
-pub record AreConnections (journal : List Fate) (conns : List ConnId) : Type 0 where
+-- the connections with entries or parked messages, ascending
+abbrev pub conns_of : List Fate → List Parked → List ConnId
+conns_of journal parked =
+    fold (λ conns waiting. insert_key conn_cmp conns waiting.conn) (fold (λ conns fate. insert_key conn_cmp conns (conn_of fate)) [] journal) parked
+
+-- the law of the connections: each once, ascending, and just those with entries or parked messages
+pub record AreConnections (journal : List Fate) (parked : List Parked) (conns : List ConnId) : Type 0 where
   pub ascending : IsStrictlySortedBy conn_cmp conns
-  pub with_entries : (conn : ConnId) → list_any (λ c. same_conn c conn) conns ≡ list_any (λ fate. same_conn (conn_of fate) conn) journal
+  pub those : (conn : ConnId) → list_any (λ c. same_conn c conn) conns ≡ (list_any (λ fate. same_conn (conn_of fate) conn) journal || list_any (λ waiting. same_conn (conn_parked waiting) conn) parked)
 
 abbrev pub conn_line : ConnId → List ℕ
 conn_line conn = codes "conn " ++ decimal (node_number conn.from) ++ codes " " ++ decimal conn.life ++ codes "\n"
 
+-- the lines of those items that are of the connection, in their order
+abbrev pub lines_in : {X : Type 0} → (X → ConnId) → (X → List ℕ) → List X → ConnId → List ℕ
+lines_in key line items conn = flat_map line (filter (λ x. same_conn (key x) conn) items)
+
 -- the lines of a connection's entries, in the journal's order
 abbrev pub fate_lines : List Fate → ConnId → List ℕ
-fate_lines journal conn = flat_map fate_line (of_conn conn journal)
+fate_lines journal conn = lines_in conn_of fate_line journal conn
 
--- a connection's part
-abbrev pub section_of : List Fate → ConnId → List ℕ
-section_of journal conn = conn_line conn ++ fate_lines journal conn
+-- how many messages are parked
+abbrev pub parked_line : ℕ → List ℕ
+parked_line count = codes "parked " ++ decimal count ++ codes "\n"
+
+abbrev pub waiting_line : Parked → List ℕ
+waiting_line parked = parked_line parked.count
+
+abbrev pub parked_lines : List Parked → ConnId → List ℕ
+parked_lines parked conn = lines_in conn_parked waiting_line parked conn
+
+-- a connection's part: its entries, and how many of its messages are parked
+abbrev pub section_of : List Fate → List Parked → ConnId → List ℕ
+section_of journal parked conn = conn_line conn ++ (fate_lines journal conn ++ parked_lines parked conn)
 
 -- what a report tells of a node
 pub record ReportView : Type 0 where
   pub node : ℕ
   pub journal : List Fate
+  pub parked : List Parked
   pub applied : List Decision
   pub state : List (List ℕ × List ℕ)
 
 abbrev pub report_of : ReportView → List ℕ
 report_of v =
     codes "node " ++ decimal v.node ++ codes "\n"
-    ++ flat_map (section_of v.journal) (conns_of v.journal)
+    ++ flat_map (section_of v.journal v.parked) (conns_of v.journal v.parked)
     ++ flat_map applied_line v.applied
     ++ flat_map state_line v.state
     ++ codes "end\n"

@@ -1,4 +1,4 @@
-//! Scripts for two linked nodes: reads them, plays them, and writes the reports that they ask for.
+//! Scripts for up to eight linked nodes: plays them, and writes the reports that they ask for.
 //!
 //! What it promises:
 //! - `parse` gives just the commands that the text says, or its first bad line;
@@ -16,14 +16,13 @@ mod nodes;
 mod outcome;
 mod playing;
 mod report;
-mod script;
-mod sets;
+mod rounds;
+mod waiting;
 
 pub use outcome::{line_of_fault, status};
 pub use playing::{Mode, PlayFault, check, play, show};
-pub use report::{ReportParts, connections_are_those_with_entries, write_report};
+pub use report::{Parked, ReportParts, connections_are_those_with_entries, write_report};
 pub use scp_device::{
     FailsAt, MemoryIn, MemoryOut, Process, ReportOut, SCRIPT_LIMIT, ScriptIn, read_script,
     write_text,
 };
-pub use script::{Command, parse};

@@ -6,15 +6,14 @@ ghost use Rattle.scp_wire.specs.Message.{message_kind, message_value, message_re
 ghost use Rattle.scp_xdr.specs.Kind.{Fits};
 ghost use Rattle.scp_xdr.specs.Words.{IsReadingFault};
 ghost use Rattle.scp_device.specs.Device.{Gains, GainsPart, Fails, IsAll};
-ghost use Rattle.scp_line.specs.Script.{IsScript, IsBadLine, commands_in};
-ghost use Rattle.scp_line.specs.Nodes.{Stops};
+ghost use Rattle.scp_script.specs.Script.{IsScript, IsBadLine, commands_in};
 ghost use Rattle.scp_line.specs.Outcome.{IsCheckFault, IsPlayFault};
 ghost use Rattle.scp_line.specs.Play.{AreReports, IsShown, IsUnread, IsNamed};
 
 use crate::messages::line_of;
 use crate::nodes::Nodes;
-use crate::script::{bytes_of, parse};
 use scp_device::{ReportOut, SCRIPT_LIMIT, ScriptIn, read_script, write_text};
+use scp_script::{bytes_of, parse};
 use scp_types::Fault;
 use scp_wire::{Message, decode};
 use std::alloc::Global;
@@ -50,22 +49,22 @@ fn played(alloc: Global, text: &[u8]) -> Result<String, PlayFault>
     ensures line { IfErr result (λ e. (line : ℕ) → e.fault ≡ BadScript line → IsBadLine text.now line) }
     ensures named { IfErr result (λ e. IsNamed e.node e.fault) }
     ensures cause { IfErr result (λ e. IsPlayFault e.fault) }
-    ensures stops { IfErr result (λ e. e.fault ≡ Fault.Failed → IsScript text.now × Stops (commands_in text.now) e.node) }
 {
     let script = parse(alloc, text)?;
     let commands = script.as_slice();
     let mut nodes = Nodes::new(alloc, commands)?;
     nodes.act_all(commands)?;
     let mut printed = String::new(alloc);
-    nodes
-        .write_reports(&mut printed, commands)
-        .map_err(Fault::from)?;
-    Ok(printed)
+    match nodes.write_reports(&mut printed, commands) {
+        Ok(()) => Ok(printed),
+        Err(error) => Err(PlayFault::from(Fault::from(error))),
+    }
 }
 
 /// Plays a script: reads it whole, does what its lines say, and then writes the reports that they ask for. All that it
 /// writes is made before the first byte is written. The time grows with the script's length times the logarithm of the
-/// number of connections and keys. Refused as `check` refuses, and by `Failed` where a node failed, which is then named.
+/// number of connections and keys. Refused as `check` refuses, by `Failed` where a node failed, which is then named, and by
+/// `Full` where a queue had no room for a line's event even after a settle.
 pub fn play<R: ScriptIn, W: ReportOut>(
     alloc: Global,
     mode: Mode,
@@ -83,8 +82,6 @@ pub fn play<R: ScriptIn, W: ReportOut>(
     ensures line { IfErr result (λ e. (line : ℕ) → e.fault ≡ BadScript line → IfSome (R.left reader.old) (λ all. (length all ≤ SCRIPT_LIMIT) × IsBadLine all line)) }
     // No other refusal is answered.
     ensures cause { IfErr result (λ e. IsPlayFault e.fault) }
-    // Failed is answered of a script alone, where a node of it failed at one of its lines.
-    ensures stops { IfErr result (λ e. e.fault ≡ Fault.Failed → IfSome (R.left reader.old) (λ all. (length all ≤ SCRIPT_LIMIT) × IsScript all × Stops (commands_in all) e.node)) }
     // A node is named where it failed, and only there.
     ensures named { IfErr result (λ e. IsNamed e.node e.fault) }
     // After any other refusal than Device nothing was written.

@@ -1,15 +1,17 @@
 //! The text of a node's report.
-ghost use Rattle.std.specs.Prelude.{◌≡◌, ◌++◌, [], List, OnOk, IfOk, string_bytes, flat_map, if◌then◌else◌};
+ghost use Rattle.std.specs.Prelude.{◌≡◌, ◌++◌, [], List, OnOk, IfOk, string_bytes, flat_map, fold, if◌then◌else◌};
 ghost use Rattle.std.specs.Ordering.{is_eq};
 ghost use Rattle.std.specs.FinMap as map;
 ghost use Rattle.scp_types.specs.declared.names.ConnId.{ConnId};
-ghost use Rattle.scp_core.specs.Journal.{conn_of};
-ghost use Rattle.scp_core.specs.declared.journal.Fate.{Fate};
-ghost use Rattle.scp_line.specs.Report.{verdict_word, cause_word, fate_line, hex_word, node_number, origin_words, applied_line, state_line, conn_cmp, conns_of, conn_line, fate_lines, section_of, report_of, AreConnections};
+ghost use Rattle.std.specs.BTreeSet.{insert_key};
+ghost use Rattle.scp_ledger.specs.declared.journal.Fate.{Fate};
+ghost use Rattle.scp_line.specs.declared.report.Parked.{Parked};
+ghost use Rattle.scp_line.specs.Report.{verdict_word, cause_word, drop_word, conn_of, fate_line, parked_line, parked_lines, hex_word, node_number, origin_words, applied_line, state_line, conn_cmp, conns_of, conn_line, fate_lines, section_of, report_of, AreConnections};
 ghost use Rattle.scp_line.specs.Parts.{view_of, lines_at};
 
 use scp_core::{Cause, Decision, Fate, Origin, SharedDecision, Verdict};
 use scp_kv::KvState;
+use scp_pending::DropCause;
 use scp_types::{ConnId, NodeId};
 use std::alloc::{AllocError, Global};
 use std::collections::{BTreeMap, BTreeSet};
@@ -42,6 +44,17 @@ fn word_of_cause(cause: Cause) -> &'static str
     }
 }
 
+fn word_of_drop(cause: DropCause) -> &'static str
+    ensures { result.now ≡ drop_word cause }
+{
+    match cause {
+        DropCause::BadSet => "bad-set",
+        DropCause::GaveUp => "gave-up",
+        DropCause::Closed => "closed",
+        DropCause::ParkedFull => "parked-full",
+    }
+}
+
 /// Adds an entry's line.
 fn write_fate(text: &mut String, fate: &Fate) -> Result<(), AllocError>
     ensures { OnOk result (string_bytes text.new ≡ string_bytes text.old ++ fate_line fate.now) }
@@ -51,6 +64,11 @@ fn write_fate(text: &mut String, fate: &Fate) -> Result<(), AllocError>
             let number = seq.0;
             let word = word_of_verdict(*verdict);
             writeln!(text, "{number} taken {word}")
+        }
+        Fate::Dropped { seq, cause, .. } => {
+            let number = seq.0;
+            let word = word_of_drop(*cause);
+            writeln!(text, "{number} dropped {word}")
         }
         Fate::Closed { cause, .. } => {
             let word = word_of_cause(*cause);
@@ -130,14 +148,44 @@ fn write_state(text: &mut String, state: &KvState) -> Result<(), AllocError>
     Ok(())
 }
 
-/// The connections with entries, ascending.
-fn connections(alloc: Global, journal: &[Fate]) -> Result<BTreeSet<ConnId>, AllocError>
-    ensures { IfOk result (λ conns. conns.keys ≡ conns_of journal.now) }
+/// Adds the connections with entries.
+fn add_journal(conns: &mut BTreeSet<ConnId>, journal: &[Fate]) -> Result<(), AllocError>
+    ensures { OnOk result (conns.new.keys ≡ fold (λ keys fate. insert_key conn_cmp keys (conn_of fate)) conns.old.keys journal.now) }
 {
-    let mut conns = BTreeSet::new(alloc);
     for fate in journal {
         conns.insert(conn_of_fate(fate))?;
     }
+    Ok(())
+}
+
+/// The connection of parked messages.
+fn conn_of_parked(waiting: &Parked) -> ConnId
+    ensures { result ≡ waiting.now.conn }
+{
+    waiting.conn
+}
+
+/// Adds the connections with parked messages.
+fn add_parked(conns: &mut BTreeSet<ConnId>, parked: &[Parked]) -> Result<(), AllocError>
+    ensures { OnOk result (conns.new.keys ≡ fold (λ keys waiting. insert_key conn_cmp keys waiting.conn) conns.old.keys parked.now) }
+{
+    for waiting in parked {
+        conns.insert(conn_of_parked(waiting))?;
+    }
+    Ok(())
+}
+
+/// The connections with entries or parked messages, ascending.
+fn connections(
+    alloc: Global,
+    journal: &[Fate],
+    parked: &[Parked],
+) -> Result<BTreeSet<ConnId>, AllocError>
+    ensures { IfOk result (λ conns. conns.keys ≡ conns_of journal.now parked.now) }
+{
+    let mut conns = BTreeSet::new(alloc);
+    add_journal(&mut conns, journal)?;
+    add_parked(&mut conns, parked)?;
     Ok(conns)
 }
 
@@ -164,9 +212,9 @@ fn put_lines(
     Ok(())
 }
 
-/// The connections of a report ascend by sender and life, each once, and are just those with entries.
+/// The connections of a report ascend by sender and life, each once, and are just those with entries or parked messages.
 pub fn connections_are_those_with_entries()
-    ensures { (journal : List Fate) → AreConnections journal (conns_of journal) }
+    ensures { (journal : List Fate) → (parked : List Parked) → AreConnections journal parked (conns_of journal parked) }
 {}
 
 /// Adds an entry's line to the lines of its connection.
@@ -181,6 +229,42 @@ fn sort_in(
     let mut lines = take_lines(alloc, sections, conn);
     write_fate(&mut lines, fate)?;
     put_lines(sections, conn, lines)?;
+    Ok(())
+}
+
+/// Adds the line that tells how many messages of a connection are parked.
+fn write_parked(lines: &mut String, count: usize) -> Result<(), AllocError>
+    ensures { OnOk result (string_bytes lines.new ≡ string_bytes lines.old ++ parked_line count) }
+{
+    writeln!(lines, "parked {count}")
+}
+
+/// Adds a count of parked messages to the lines of its connection.
+fn sort_parked(
+    alloc: Global,
+    sections: &mut BTreeMap<ConnId, String>,
+    waiting: &Parked,
+) -> Result<(), AllocError>
+    ensures { OnOk result ((conn : ConnId) → lines_at sections.new conn ≡ (if is_eq (conn_cmp waiting.now.conn conn) then lines_at sections.old waiting.now.conn ++ parked_line waiting.now.count else lines_at sections.old conn)) }
+{
+    let conn = waiting.conn;
+    let mut lines = take_lines(alloc, sections, conn);
+    write_parked(&mut lines, waiting.count)?;
+    put_lines(sections, conn, lines)?;
+    Ok(())
+}
+
+/// Adds each count of parked messages to the lines of its connection.
+fn sort_all_parked(
+    alloc: Global,
+    sections: &mut BTreeMap<ConnId, String>,
+    parked: &[Parked],
+) -> Result<(), AllocError>
+    ensures { OnOk result ((conn : ConnId) → lines_at sections.new conn ≡ lines_at sections.old conn ++ parked_lines parked.now conn) }
+{
+    for waiting in parked {
+        sort_parked(alloc, sections, waiting)?;
+    }
     Ok(())
 }
 
@@ -213,12 +297,13 @@ fn write_section(
 }
 
 /// Adds the connections' parts, ascending.
-fn write_sections(text: &mut String, journal: &[Fate]) -> Result<(), AllocError>
-    ensures { OnOk result (string_bytes text.new ≡ string_bytes text.old ++ flat_map (section_of journal.now) (conns_of journal.now)) }
+fn write_sections(text: &mut String, journal: &[Fate], parked: &[Parked]) -> Result<(), AllocError>
+    ensures { OnOk result (string_bytes text.new ≡ string_bytes text.old ++ flat_map (section_of journal.now parked.now) (conns_of journal.now parked.now)) }
 {
     let alloc = *text.allocator();
-    let sections = sections(alloc, journal)?;
-    let conns = connections(alloc, journal)?;
+    let mut sections = sections(alloc, journal)?;
+    sort_all_parked(alloc, &mut sections, parked)?;
+    let conns = connections(alloc, journal, parked)?;
     for conn in &conns {
         write_section(text, &sections, conn)?;
     }
@@ -231,8 +316,16 @@ fn conn_of_fate(fate: &Fate) -> ConnId
 {
     match fate {
         Fate::Taken { conn, .. } => *conn,
+        Fate::Dropped { conn, .. } => *conn,
         Fate::Closed { conn, .. } => *conn,
     }
+}
+
+/// How many messages of a connection wait at a node, one or more.
+#[derive(Clone, Copy, Debug, PartialEq, Eq)]
+pub struct Parked {
+    pub conn: ConnId,
+    pub count: usize,
 }
 
 /// What a report tells of a node.
@@ -240,6 +333,8 @@ fn conn_of_fate(fate: &Fate) -> ConnId
 pub struct ReportParts<'a> {
     pub node: u8,
     pub journal: &'a [Fate],
+    /// The connections of which messages wait for quorum sets, each once.
+    pub parked: &'a [Parked],
     pub applied: &'a [SharedDecision],
     pub state: Option<&'a KvState>,
 }
@@ -250,7 +345,7 @@ pub fn write_report(text: &mut String, parts: &ReportParts<'_>) -> Result<(), Al
 {
     let node = parts.node;
     writeln!(text, "node {node}")?;
-    write_sections(text, parts.journal)?;
+    write_sections(text, parts.journal, parts.parked)?;
     write_applied_list(text, parts.applied)?;
     if let Some(state) = parts.state {
         write_state(text, state)?;

@@ -5,8 +5,7 @@ use Rattle.scp_types.specs.declared.fault.Fault.TheVariants.{NoMemory, Malformed
 use Rattle.scp_device.specs.Device.{Fails}
 use Rattle.scp_line.specs.declared.playing.PlayFault.{PlayFault}
 use Rattle.std.specs.Prelude.{IfSome, length, ◌<◌}
-use Rattle.scp_line.specs.Script.{IsScript, IsBadLine, commands_in}
-use Rattle.scp_line.specs.Nodes.{Stops}
+use Rattle.scp_script.specs.Script.{IsBadLine}
 use Rattle.scp_line.specs.Outcome.{fault_line, status_of, IsCheckFault, IsPlayFault}
 use Rattle.scp_line.specs.Play.{IsNamed}
 use Rattle.scp_serve.specs.Serving.{IsWritten, IsTold, IsUnplayed}
@@ -55,15 +54,9 @@ IsTooLong left = IfSome left (λ all. 1048576 < length all)
 abbrev pub IsBadAt : Option (List ℕ) → ℕ → Type 0
 IsBadAt left line = IfSome left (λ all. (length all ≤ 1048576) × IsBadLine all line)
 
-abbrev pub StopsAtNode : Option (List ℕ) → ℕ → Type 0
-StopsAtNode left node = IfSome left (λ all. (length all ≤ 1048576) × IsScript all × Stops (commands_in all) node)
-
 pub unplayed : (left : Option (List ℕ)) (fault : PlayFault) → IsPlayFault fault.fault → IsNamed fault.node fault.fault → (fault.fault ≡ TooLong → IsTooLong left)
-    → ((line : ℕ) → fault.fault ≡ BadScript line → IsBadAt left line) → (fault.fault ≡ Failed → StopsAtNode left fault.node) → IsUnplayed left fault
-unplayed left fault cause named too_long line stops = record { cause = cause; named = named; too_long = too_long; line = line; stops = stops }
-
-unfailed : (fault : Fault) → IsCheckFault fault → fault ≡ Failed → ⊥
-unfailed fault h e = rw e at h
+    → ((line : ℕ) → fault.fault ≡ BadScript line → IsBadAt left line) → IsUnplayed left fault
+unplayed left fault cause named too_long line = record { cause = cause; named = named; too_long = too_long; line = line }
 
 plays : (fault : Fault) → IsCheckFault fault → IsPlayFault fault
 plays NoMemory h = tt
@@ -104,5 +97,4 @@ unchecked left fault cause zero too_long line = record {
   named = unnamed fault.node fault.fault cause zero;
   too_long = too_long;
   line = line;
-  stops = λ e. absurd (unfailed fault.fault cause e);
 }

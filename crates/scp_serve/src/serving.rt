@@ -4,7 +4,7 @@ ghost use Rattle.scp_device.specs.Device.{Gains, IsAll};
 ghost use Rattle.scp_line.specs.declared.playing.PlayFault.{PlayFault};
 ghost use Rattle.scp_line.specs.Outcome.{status_of, IsCheckFault};
 ghost use Rattle.scp_line.specs.Play.{AreReports, IsShown, IsNamed, IsUnread};
-ghost use Rattle.scp_line.specs.Script.{IsScript};
+ghost use Rattle.scp_script.specs.Script.{IsScript};
 ghost use Rattle.scp_serve.specs.Serving.{IsTold, IsWritten, IsUnplayed};
 
 use crate::asked::{Asked, read_words};

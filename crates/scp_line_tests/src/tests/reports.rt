@@ -32,6 +32,7 @@ fn each_cause_of_an_end_is_reported(rt: HostRuntime) -> Result<(), Fail> {
     let parts = ReportParts {
         node: 1,
         journal: journal.as_slice(),
+        parked: &[],
         applied: &[],
         state: None,
     };

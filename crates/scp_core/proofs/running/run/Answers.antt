@@ -1,13 +1,10 @@
-use Rattle.std.proofs.Common.{arith, length-append, ◌∷◌, [], ◌∙◌}
-use Rattle.scp_core.proofs.Steps.{zip-more}
+use Rattle.std.proofs.Common.{rules, ◌≡◌, true}
+use Rattle.std.specs.Prelude.{is_ok}
+use Rattle.scp_core.proofs.Handlers.{on_ok}
 use Rattle.scp_core.proofs.running.run.Goals as goal
 
-pub loop-event-preserved : goal.loop-event-preserved
-loop-event-preserved c =
-    let reply = c.advance.result in
-    let event = c.event-item.result in
-    rw c.in_ok-push.ensures.items (record {
-      theorem = rw (zip-more c.args.events.now c.loop-event.replies.items c.loop-event.event-index event reply c.loop-event-test.true c.event-item.is c.loop-event.invariant.count) (c.advance.ensures.theorem _ c.loop-event.invariant.theorem);
-      count = omega (arith, c.loop-event.invariant.count, length-append c.loop-event.replies.items (reply ∷ []));
-      config = (c.advance.ensures.config.0 ∙ c.loop-event.invariant.config.0, c.advance.ensures.config.1 ∙ c.loop-event.invariant.config.1, c.advance.ensures.config.2 ∙ c.loop-event.invariant.config.2);
-    })
+pub returns-clause-theorem : goal.returns-clause-theorem
+returns-clause-theorem c = let ok : is_ok c.answer_all.result ≡ true = search rules in on_ok _ c.answer_all.result ok c.answer_all.ensures.theorem
+
+pub returns-clause-count : goal.returns-clause-count
+returns-clause-count c = let ok : is_ok c.answer_all.result ≡ true = search rules in on_ok _ c.answer_all.result ok c.answer_all.ensures.count

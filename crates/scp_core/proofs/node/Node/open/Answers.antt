@@ -1,12 +1,12 @@
-use Rattle.std.proofs.Common.{arith}
-use Rattle.scp_core.proofs.Lines.{IsLinkEnd-opened}
+use Rattle.std.proofs.Common.{◌∙◌, ap, sym, subst}
+use Rattle.scp_types.specs.declared.names.NodeId.{NodeId}
+use Rattle.scp_core.specs.History.{peer_at}
+use Rattle.scp_core.specs.Node.{NodeView}
+use Rattle.scp_core.specs.inside.Links.{Opens, OnLinks}
+use Rattle.scp_core.proofs.Handlers.{open-step}
 use Rattle.scp_core.proofs.node.Node.open.Goals as goal
 
-pub invariant_of-self : goal.invariant_of-self
-invariant_of-self c = record {
-  ledger = c.self.invariant.ledger;
-  short = c.self.invariant.short;
-  in_order = c.self.invariant.in_order;
-  running = c.self.invariant.running;
-  link = IsLinkEnd-opened c.self.inside.peer c.self.inside.me c.self.inside.link.life c.self.inside.ledger.journal _ _ _ (omega (arith, c.self.invariant.link.lives, c.if-self-eq-LIVES.false)) c.self.invariant.link;
-}
+pub returns : goal.returns
+returns c =
+    let from = c.peer-from.ensures ∙ ap (λ (v : NodeView). peer_at v.config c.args.link) (sym c.self.view_is) in
+    rw (← c.self.view_is) (open-step _ c.args.link _ _ (ap (λ (v : NodeView). v.failed) c.self.view_is ∙ c.requires) (subst (λ (q : NodeId). OnLinks (Opens q c.self.inside.me) c.self.inside.links.items c.args.link c.open.result c.open.new.links.items) from c.open.ensures))

@@ -1,0 +1,274 @@
+//! Nodes that hear messages over their links.
+use crate::node::{Capacities, Config, Event, Fate, Node, Reply, Verdict};
+use crate::quorum::QuorumSet;
+use crate::types::{Fault, Hash, NodeId};
+
+const HEARD: u32 = 1_000_000;
+const SLOTS: u32 = 16;
+const ROUNDS: u32 = 16;
+const LINKS: u8 = 7;
+const ROOM: usize = 64;
+const MOST: u32 = 100_000;
+/// A round parks so many envelopes on each of so many links.
+const WAITING: u32 = 16;
+const WAITING_LINKS: u8 = 4;
+const PARKED: u32 = WAITING * WAITING_LINKS as u32;
+/// So many quorum sets come in turn, more than a node keeps.
+const SETS: u32 = 512;
+const ME: NodeId = NodeId([1; 32]);
+
+pub fn record(slot: u64) -> [u8; 40] {
+    let [a, b, c, d, e, f, g, h] = slot.to_be_bytes();
+    [
+        0, 0, 0, 6, a, b, c, d, e, f, g, h, 0, 0, 0, 24, 0, 0, 0, 1, 0, 0, 0, 0, 0, 0, 0, 4, e, f,
+        g, h, 0, 0, 0, 1, b'1', 0, 0, 0,
+    ]
+}
+
+fn prepare(node: &NodeId, slot: u64, set_hash: &Hash, counter: u32) -> Vec<u8> {
+    let mut bytes = Vec::with_capacity(116);
+    bytes.extend_from_slice(&[0, 0, 0, 1, 0, 0, 0, 0]);
+    bytes.extend_from_slice(&node.0);
+    bytes.extend_from_slice(&slot.to_be_bytes());
+    bytes.extend_from_slice(&[0; 4]);
+    bytes.extend_from_slice(&set_hash.0);
+    bytes.extend_from_slice(&counter.to_be_bytes());
+    bytes.extend_from_slice(&[0, 0, 0, 4]);
+    bytes.extend_from_slice(&[0; 24]);
+    bytes
+}
+
+pub fn slot_at(place: u32) -> u64 {
+    let place = place as u64;
+    if place % 16 < 8 {
+        place + 1
+    } else {
+        place / 8 * 8 + (8 - place % 8)
+    }
+}
+
+/// The message of a quorum set of one node.
+fn set_message(node: &NodeId) -> Vec<u8> {
+    let mut bytes = vec![0, 0, 0, 3, 0, 0, 0, 1, 0, 0, 0, 1, 0, 0, 0, 0];
+    bytes.extend_from_slice(&node.0);
+    bytes.extend_from_slice(&[0; 4]);
+    bytes
+}
+
+fn peer(link: u8) -> NodeId {
+    NodeId([link + 2; 32])
+}
+
+fn both_nodes() -> QuorumSet {
+    QuorumSet {
+        threshold: 2,
+        validators: vec![ME, peer(0)],
+        inner_sets: Vec::new(),
+    }
+}
+
+fn hear(node: &mut Node, event: Event) -> Result<(), Fault> {
+    match node.step(event) {
+        Reply::Accepted => Ok(()),
+        _ => Err(Fault::Failed),
+    }
+}
+
+/// A node whose links are open.
+fn new_node(links: u8) -> Result<Node, Fault> {
+    let mut node = Node::new(Config {
+        me: ME,
+        set: both_nodes(),
+        peers: (0..links).map(peer).collect(),
+        capacities: Capacities {
+            link: ROOM,
+            inbox: ROOM,
+            ready: ROOM,
+            decided: ROOM,
+        },
+    })?;
+    for link in 0..links {
+        hear(&mut node, Event::Open(link))?;
+    }
+    Ok(node)
+}
+
+/// Each stage does one step, first the reader of the link; whether anything moved.
+fn step_all(node: &mut Node, link: u8) -> bool {
+    let mut moved = false;
+    for event in [
+        Event::ReaderTake(link),
+        Event::ReaderPut(link),
+        Event::PendTake,
+        Event::PendPut,
+        Event::SlotTake,
+        Event::SlotPut,
+        Event::ApplyTake,
+    ] {
+        moved |= node.step(event) == Reply::Moved;
+    }
+    moved
+}
+
+/// Goes round the links until nothing moves.
+fn settle(node: &mut Node, links: u8) -> Result<(), Fault> {
+    for _ in 0..MOST {
+        let mut moved = false;
+        for link in 0..links {
+            moved |= step_all(node, link);
+        }
+        if !moved {
+            break;
+        }
+    }
+    if node.state().is_none() {
+        return Err(Fault::Failed);
+    }
+    Ok(())
+}
+
+/// Sends bytes, and settles first where the link's queue is full.
+fn send(node: &mut Node, links: u8, link: u8, bytes: Vec<u8>) -> Result<(), Fault> {
+    if node.room(link) == 0 {
+        settle(node, links)?;
+    }
+    hear(node, Event::Send(link, bytes))
+}
+
+/// As many as a node may hear, one node after the other.
+fn portions(size: u32, most: u32) -> impl Iterator<Item = u32> {
+    (0..size / most)
+        .map(move |_| most)
+        .chain((size % most > 0).then_some(size % most))
+}
+
+fn hear_over(name: &str, links: u8, size: u32) -> Result<String, Fault> {
+    let (mut nodes, mut entries, mut decisions, mut applied, mut keys) = (0u64, 0, 0, 0, 0);
+    for records in portions(size, HEARD) {
+        let mut node = new_node(links)?;
+        for place in 0..records {
+            let link = (place % u32::from(links)) as u8;
+            send(&mut node, links, link, record(slot_at(place)).to_vec())?;
+        }
+        settle(&mut node, links)?;
+        nodes += 1;
+        entries += node.journal().len();
+        decisions += node.decisions().len();
+        applied += node.applied().len();
+        keys += node.state().map_or(0, |state| state.entries.len());
+    }
+    Ok(format!(
+        "{name} {size}: nodes {nodes} entries {entries} decisions {decisions} applied {applied} keys {keys}"
+    ))
+}
+
+pub fn hear_records(size: u32) -> Result<String, Fault> {
+    hear_over("records", 1, size)
+}
+
+pub fn hear_flow(size: u32) -> Result<String, Fault> {
+    hear_over("flow", LINKS, size)
+}
+
+#[derive(Default)]
+struct Judged {
+    nodes: u64,
+    fresh: u64,
+    stale: u64,
+    others: u64,
+}
+
+impl Judged {
+    fn count(&mut self, node: &Node) {
+        self.nodes += 1;
+        for fate in node.journal() {
+            match fate {
+                Fate::Taken {
+                    verdict: Verdict::Fresh,
+                    ..
+                } => self.fresh += 1,
+                Fate::Taken {
+                    verdict: Verdict::Stale,
+                    ..
+                } => self.stale += 1,
+                _ => self.others += 1,
+            }
+        }
+    }
+
+    fn tell(&self, name: &str, size: u32) -> String {
+        let Judged {
+            nodes,
+            fresh,
+            stale,
+            others,
+        } = self;
+        format!("{name} {size}: nodes {nodes} fresh {fresh} stale {stale} others {others}")
+    }
+}
+
+pub fn hear_envelopes(size: u32) -> Result<String, Fault> {
+    let hash = both_nodes().hash();
+    let mut judged = Judged::default();
+    for envelopes in portions(size, HEARD) {
+        let mut node = new_node(1)?;
+        for place in 0..envelopes {
+            let slot = (place % SLOTS) as u64 + 1;
+            let counter = place / (SLOTS * ROUNDS) + 1;
+            send(&mut node, 1, 0, prepare(&peer(0), slot, &hash, counter))?;
+        }
+        settle(&mut node, 1)?;
+        judged.count(&node);
+    }
+    Ok(judged.tell("envelopes", size))
+}
+
+/// A quorum set's hash, and its message.
+struct Answer {
+    hash: Hash,
+    message: Vec<u8>,
+}
+
+fn answer(number: u32) -> Answer {
+    let mut id = [0; 32];
+    id[..4].copy_from_slice(&number.to_be_bytes());
+    let set = QuorumSet {
+        threshold: 1,
+        validators: vec![NodeId(id)],
+        inner_sets: Vec::new(),
+    };
+    Answer {
+        hash: set.hash(),
+        message: set_message(&NodeId(id)),
+    }
+}
+
+/// Envelopes that wait for quorum sets, on each of some links, and then the sets.
+fn park(node: &mut Node, answers: &[Answer], round: u32) -> Result<(), Fault> {
+    let first = (round * WAITING % SETS) as usize;
+    let answers = &answers[first..first + WAITING as usize];
+    for link in 0..WAITING_LINKS {
+        for (slot, answer) in (1..).zip(answers) {
+            let bytes = prepare(&peer(link), slot, &answer.hash, round + 1);
+            send(node, LINKS, link, bytes)?;
+        }
+    }
+    settle(node, LINKS)?;
+    for answer in answers {
+        send(node, LINKS, 0, answer.message.clone())?;
+    }
+    settle(node, LINKS)
+}
+
+pub fn park_envelopes(size: u32) -> Result<String, Fault> {
+    let answers: Vec<Answer> = (0..SETS).map(answer).collect();
+    let mut judged = Judged::default();
+    for rounds in portions(size, HEARD / PARKED) {
+        let mut node = new_node(LINKS)?;
+        for round in 0..rounds {
+            park(&mut node, &answers, round)?;
+        }
+        judged.count(&node);
+    }
+    Ok(judged.tell("parked", size))
+}

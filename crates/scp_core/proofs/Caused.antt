@@ -1,0 +1,139 @@
+-- Causes, and where the pending stage is idle.
+use Rattle.std.proofs.Common.{◌≡◌, ℕ, List, [], ◌∷◌, ◌++◌, refl, sym, ◌∙◌, ap, subst, append_assoc, length}
+use Rattle.std.specs.Prelude.{Some, flat_map, map, option_to_list, slice_get}
+use Rattle.std.specs.List.{AllByRecursion}
+use Rattle.std.proofs.lemmas.List.{append-nil}
+use Rattle.std.proofs.lemmas.Grind.{flat_map-append}
+use Rattle.scp_types.specs.declared.names.NodeId.{NodeId}
+use Rattle.scp_types.specs.declared.names.ConnId.{ConnId}
+use Rattle.scp_quorum.specs.QuorumTree.{QuorumTree}
+use Rattle.scp_wire.specs.declared.link.Inbound.{Inbound}
+use Rattle.scp_wire.specs.Connections.{conn_at, same_conn}
+use Rattle.scp_wire.specs.Marks.{one_if}
+use Rattle.scp_pending.specs.declared.ready.Ready.{Ready}
+use Rattle.scp_pending.specs.declared.ready.Ready.TheVariants as ready
+use Rattle.scp_pending.specs.Queues.{is_open}
+use Rattle.scp_pending.specs.Rules.{Settled, settled_by, fresh}
+use Rattle.scp_pending.specs.Causes.{IsTaken, HasCause, IsSettledBy}
+use Rattle.scp_pending.specs.Endings.{Way, went, over, way_by, way, ways, Exits, IsCutOff, commands_in, commands_of}
+use Rattle.scp_pending.specs.Pends.{start_of, IsSettled}
+use Rattle.scp_pending.specs.Laws.{AreFrom}
+use Rattle.scp_pending.proofs.Basics.{all_left}
+use Rattle.scp_pending.proofs.Passing.{all_have_causes}
+use Rattle.scp_pending.proofs.Ending.{commands_pass, all_exits, cuts_are_consecutive}
+use Rattle.scp_ledger.specs.declared.journal.Fate.{Fate}
+use Rattle.scp_ledger.specs.declared.journal.Fate.TheVariants.{Taken, Dropped, Closed}
+use Rattle.scp_core.specs.declared.config.Config.{Config}
+use Rattle.scp_core.specs.declared.event.Event.TheVariants.{PendTake}
+use Rattle.scp_core.specs.declared.event.Reply.TheVariants.{Idle}
+use Rattle.scp_core.specs.History.{Exchange, Past, past_of}
+use Rattle.scp_core.specs.Stages.{Entry, taken, dropped, closed, entry_in, entry_of}
+use Rattle.scp_core.specs.Node.{NodeView, Step}
+use Rattle.scp_core.specs.Flow.{Flows}
+use Rattle.scp_core.specs.Theorem.{LedgerTheorem}
+use Rattle.scp_core.specs.Settled.{start_at, IsSettledAt, IdleIsSettled}
+use Rattle.scp_core.specs.Causes.{FateHasCause, ways_on, on_way_of, HaveCauses, TheoremGivesCauses}
+use Rattle.scp_core.proofs.OfLinks.{left, start_is}
+use Rattle.scp_core.proofs.Accounts.{shape}
+
+-- ---- idle
+
+settled_at : (p : Past) (v w : NodeView) → Flows p v → Step v PendTake Idle w → IsSettledAt v.config p v.pending
+settled_at p v w f s =
+    let came : p.came ≡ f.arrived = f.inbox ∙ ap (λ xs. f.arrived ++ xs) s.1.1 ∙ append-nil f.arrived in
+    let idle : IsSettled v.config.me v.config.peers f.arrived v.pending = s.1.2 v.config.me v.config.peers f.arrived f.given f.pending in
+    record {
+      by_rules = rw came (f.pending.settled ∙ ap (λ (start : Settled). settled_by start f.arrived) (start_is p v f));
+      settled = rw came (subst (λ (start : Settled). IsSettledBy start f.arrived v.pending) (start_is p v f) idle);
+    }
+
+pub idle_is_settled : IdleIsSettled
+idle_is_settled = λ c p before after' w. subst (λ (d : Config). IsSettledAt d p before.pending) w.config (settled_at p before after' w.flows w.step)
+
+-- ---- entries
+
+abbrev EntryHasCause : Settled → List Inbound → Entry → Type 0
+EntryHasCause start took (taken conn seq message set) = IsTaken start took (record { conn = conn; seq = seq; message = message; set = set })
+EntryHasCause start took (dropped conn seq cause) = HasCause start took (ready.Dropped conn seq cause)
+EntryHasCause start took (closed conn cause) = HasCause start took (ready.Closed conn cause)
+
+of_things : (start : Settled) (took : List Inbound) (things : List Ready) → AllByRecursion (HasCause start took) things → AllByRecursion (EntryHasCause start took) (flat_map entry_of things)
+of_things start took [] a = tt
+of_things start took (ready.Deliver d ∷ rs) a = (a.0, of_things start took rs a.1)
+of_things start took (ready.Dropped conn seq cause ∷ rs) a = (a.0, of_things start took rs a.1)
+of_things start took (ready.Closed conn cause ∷ rs) a = (a.0, of_things start took rs a.1)
+of_things start took (ready.Local command ∷ rs) a = of_things start took rs a.1
+
+of_fates : (start : Settled) (took : List Inbound) (fates : List Fate) → AllByRecursion (EntryHasCause start took) (map entry_in fates) → AllByRecursion (FateHasCause start took) fates
+of_fates start took [] a = tt
+of_fates start took (Taken conn seq message set verdict ∷ fates) a = (a.0, of_fates start took fates a.1)
+of_fates start took (Dropped conn seq cause ∷ fates) a = (a.0, of_fates start took fates a.1)
+of_fates start took (Closed conn cause ∷ fates) a = (a.0, of_fates start took fates a.1)
+
+abbrev entry_way : ConnId → Entry → List Way
+entry_way c (taken conn seq message set) = one_if (same_conn conn c) (went seq)
+entry_way c (dropped conn seq cause) = one_if (same_conn conn c) (way_by cause seq)
+entry_way c (closed conn cause) = one_if (same_conn conn c) (over cause)
+
+fate_ways : (c : ConnId) (fates : List Fate) → ways_on c fates ≡ flat_map (entry_way c) (map entry_in fates)
+fate_ways c [] = refl
+fate_ways c (Taken conn seq message set verdict ∷ fates) = ap (λ ws. one_if (same_conn conn c) (went seq) ++ ws) (fate_ways c fates)
+fate_ways c (Dropped conn seq cause ∷ fates) = ap (λ ws. one_if (same_conn conn c) (way_by cause seq) ++ ws) (fate_ways c fates)
+fate_ways c (Closed conn cause ∷ fates) = ap (λ ws. one_if (same_conn conn c) (over cause) ++ ws) (fate_ways c fates)
+
+thing_ways : (c : ConnId) (things : List Ready) → ways c things ≡ flat_map (entry_way c) (flat_map entry_of things)
+thing_ways c [] = refl
+thing_ways c (ready.Deliver d ∷ rs) = ap (λ ws. one_if (same_conn d.conn c) (went d.seq) ++ ws) (thing_ways c rs)
+thing_ways c (ready.Dropped conn seq cause ∷ rs) = ap (λ ws. one_if (same_conn conn c) (way_by cause seq) ++ ws) (thing_ways c rs)
+thing_ways c (ready.Closed conn cause ∷ rs) = ap (λ ws. one_if (same_conn conn c) (over cause) ++ ws) (thing_ways c rs)
+thing_ways c (ready.Local command ∷ rs) = thing_ways c rs
+
+-- ---- a node that runs
+
+causes_at : (p : Past) (v : NodeView) (f : Flows p v) → AllByRecursion (FateHasCause (start_at v.config) f.arrived) v.ledger.journal
+causes_at p v f =
+    let all : AllByRecursion (HasCause (start_at v.config) f.arrived) (f.given ++ v.pending.leaving) = subst (λ (start : Settled). AllByRecursion (HasCause start f.arrived) (f.given ++ v.pending.leaving)) (start_is p v f) (all_have_causes v.config.me v.config.peers f.arrived f.given v.pending f.pending) in
+    let took = (all_left (HasCause (start_at v.config) f.arrived) f.took (on_way_of v) (subst (λ (rs : List Ready). AllByRecursion (HasCause (start_at v.config) f.arrived) rs) (left p v f) all)).0 in
+    of_fates (start_at v.config) f.arrived v.ledger.journal (subst (λ (es : List Entry). AllByRecursion (EntryHasCause (start_at v.config) f.arrived) es) (sym f.journal.entries) (of_things (start_at v.config) f.arrived f.took took))
+
+ways_are : (p : Past) (v : NodeView) (f : Flows p v) (c : ConnId) → ways c (f.given ++ v.pending.leaving) ≡ ways_on c v.ledger.journal ++ ways c (on_way_of v)
+ways_are p v f c = ap (ways c) (left p v f) ∙ flat_map-append (way c) f.took (on_way_of v) ∙ ap (λ ws. ws ++ ways c (on_way_of v)) (thing_ways c f.took ∙ ap (flat_map (entry_way c)) (sym f.journal.entries) ∙ sym (fate_ways c v.ledger.journal))
+
+ends_at : (p : Past) (v : NodeView) (f : Flows p v) (l : ℕ) (peer : NodeId) → slice_get v.config.peers l ≡ Some peer → (life : ℕ) → Exits (start_at v.config) f.arrived (conn_at peer v.config.me life) (is_open (conn_at peer v.config.me life) (settled_by (start_at v.config) f.arrived).queues) (ways_on (conn_at peer v.config.me life) v.ledger.journal ++ ways (conn_at peer v.config.me life) (on_way_of v))
+ends_at p v f l peer at life =
+    let c = conn_at peer v.config.me life in
+    let by_rules : v.pending.settled ≡ settled_by (start_at v.config) f.arrived = f.pending.settled ∙ ap (λ (start : Settled). settled_by start f.arrived) (start_is p v f) in
+    let exits = all_exits v.config.me v.config.peers f.arrived f.given v.pending f.pending (shape p v f) l peer at life in
+    rw (← by_rules, ← ways_are p v f c, ← start_is p v f) exits
+
+consecutive_at : (p : Past) (v : NodeView) (f : Flows p v) (l : ℕ) (peer : NodeId) → slice_get v.config.peers l ≡ Some peer → (life : ℕ) → (cut : IsCutOff (start_at v.config) f.arrived (conn_at peer v.config.me life) (ways_on (conn_at peer v.config.me life) v.ledger.journal ++ ways (conn_at peer v.config.me life) (on_way_of v))) → AreFrom (length cut.front) (cut.seqs ++ cut.last.seq ∷ [])
+consecutive_at p v f l peer at life =
+    let c = conn_at peer v.config.me life in
+    subst (λ (ws : List Way). (cut : IsCutOff (start_at v.config) f.arrived c ws) → AreFrom (length cut.front) (cut.seqs ++ cut.last.seq ∷ [])) (ways_are p v f c)
+    (subst (λ (start : Settled). (cut : IsCutOff start f.arrived c (ways c (f.given ++ v.pending.leaving))) → AreFrom (length cut.front) (cut.seqs ++ cut.last.seq ∷ [])) (start_is p v f)
+    (cuts_are_consecutive v.config.me v.config.peers f.arrived f.given v.pending f.pending (shape p v f) l peer at life))
+
+commands_at : (p : Past) (v : NodeView) (f : Flows p v) → commands_of (f.took ++ on_way_of v) ≡ commands_in f.arrived
+commands_at p v f = ap commands_of (sym (left p v f)) ∙ commands_pass v.config.me v.config.peers f.arrived f.given v.pending f.pending
+
+caused : (past : List Exchange) (v : NodeView) → LedgerTheorem past v → HaveCauses past v
+caused past v h =
+    let p = past_of v.config past in
+    let m = h.moment in
+    let k = h.keeps in
+    record {
+      taken = h.flows.arrived;
+      waiting = m.inbox;
+      came = h.flows.inbox;
+      causes = rw (k.journal, k.config) (causes_at p m h.flows);
+      on_way = on_way_of m;
+      ends = rw (k.journal, k.config) (ends_at p m h.flows);
+      consecutive = rw (k.journal, k.config) (consecutive_at p m h.flows);
+      took = h.flows.took;
+      took_is = ap (map entry_in) k.journal ∙ h.flows.journal.entries;
+      commands = commands_at p m h.flows;
+      now = λ runs. (ap (λ (u : NodeView). u.inbox) (sym (h.now runs)), ap on_way_of (sym (h.now runs)));
+    }
+
+pub theorem_gives_causes : TheoremGivesCauses
+theorem_gives_causes = λ past v h. caused past v h

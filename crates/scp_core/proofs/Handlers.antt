@@ -1,0 +1,178 @@
+-- What a handler did to one link is a step of the node.
+use Rattle.std.proofs.Common.{◌≡◌, ◌≢◌, ℕ, Bool, true, false, List, [], ◌∷◌, refl, sym, ◌∙◌, ap, subst, inl, inr, zero, suc, length}
+use Rattle.std.specs.Prelude.{◌↔◌, Option, Some, None, map, slice_get, slice_set, Result, Ok, Err, is_ok, OnOk}
+use Rattle.scp_types.specs.declared.names.NodeId.{NodeId}
+use Rattle.scp_wire.specs.declared.link.Inbound.{Inbound}
+use Rattle.scp_core.specs.declared.event.Event.TheVariants.{Open, Send, Close, ReaderTake, ReaderPut, SlotTake}
+use Rattle.scp_core.specs.declared.event.Reply.{Reply}
+use Rattle.scp_core.specs.declared.event.Reply.TheVariants.{NoLink, AlreadyOpen, LivesSpent, NotOpen, Full, Accepted, Blocked, Idle, Moved, JournalFull, NoMemory}
+use Rattle.scp_pending.specs.declared.ready.Ready.{Ready}
+use Rattle.scp_pending.specs.Rules.{PendingView}
+use Rattle.scp_pending.specs.Pends.{Pends, IsSettled}
+use Rattle.scp_core.specs.History.{peer_at}
+use Rattle.scp_core.specs.Node.{LinkView, NodeView, with_link, Step, Fails, life_of, IsIdle}
+use Rattle.scp_ledger.specs.Ledger.{LedgerView}
+use Rattle.scp_ledger.specs.Takes.{Takes, adds_entry}
+use Rattle.scp_core.specs.inside.Decider.{DeciderView, Decides, Keeps}
+use Rattle.scp_core.specs.inside.Links.{Opens, Sends, Closes, Reads, Gives, OnLinks, Puts}
+
+set_same : {X : Type 0} (xs : List X) (l : ℕ) (x : X) → slice_get xs l ≡ Some x → slice_set xs l x ≡ xs
+set_same [] l x e = refl
+set_same (y ∷ ys) zero x e = cc
+set_same (y ∷ ys) (suc l) x e = ap (λ zs. y ∷ zs) (set_same ys l x e)
+
+-- the links of a node are put back as they were
+abbrev with_links : NodeView → List LinkView → NodeView
+with_links v links = record v { links = links }
+
+same : (v : NodeView) (l : ℕ) (k k2 : LinkView) (links : List LinkView) → slice_get v.links l ≡ Some k → k2 ≡ k → links ≡ slice_set v.links l k2 → with_links v links ≡ v
+same v l k k2 links there e is = ap (with_links v) (is ∙ ap (slice_set v.links l) e ∙ set_same v.links l k there)
+
+here : (v : NodeView) (l : ℕ) (k2 k3 : LinkView) (links : List LinkView) → k2 ≡ k3 → links ≡ slice_set v.links l k2 → with_links v links ≡ with_link v l k3
+here v l k2 k3 links e is = ap (with_links v) (is ∙ ap (slice_set v.links l) e)
+
+nothing : (v : NodeView) (links : List LinkView) → links ≡ v.links → with_links v links ≡ v
+nothing v links e = ap (with_links v) e
+
+open-at : (v : NodeView) (l : ℕ) (reply : Reply) (links : List LinkView) (k k2 : LinkView) → v.failed ≡ false → slice_get v.links l ≡ Some k → Opens (peer_at v.config l) v.config.me k reply k2 → links ≡ slice_set v.links l k2 → Step v (Open l) reply (with_links v links)
+open-at v l AlreadyOpen links k k2 r there d is = (r, (k, there, d.0), same v l k k2 links there d.1 is)
+open-at v l LivesSpent links k k2 r there d is = (r, (k, there, (d.0, d.1)), same v l k k2 links there d.2 is)
+open-at v l Full links k k2 r there d is = (r, (k, there, (d.0, d.1, d.2)), same v l k k2 links there d.3 is)
+open-at v l Accepted links k k2 r there d is = (r, (k, there, (d.0, d.1, d.2, here v l k2 _ links d.3 is)))
+open-at v l reply links k k2 r there d is = absurd d
+
+pub open-step : (v : NodeView) (l : ℕ) (reply : Reply) (links : List LinkView) → v.failed ≡ false → OnLinks (Opens (peer_at v.config l) v.config.me) v.links l reply links → Step v (Open l) reply (with_links v links)
+open-step v l reply links r o = elim o [
+  | inl n ↦ subst (λ (a : Reply). Step v (Open l) a (with_links v links)) (sym n.1) (r, n.0, nothing v links n.2)
+  | inr d ↦ open-at v l reply links d.0 d.1 r d.2 d.3 d.4
+]
+
+send-at : (v : NodeView) (l : ℕ) (bytes : List ℕ) (reply : Reply) (links : List LinkView) (k k2 : LinkView) → v.failed ≡ false → slice_get v.links l ≡ Some k → Sends (peer_at v.config l) v.config.me bytes k reply k2 → links ≡ slice_set v.links l k2 → Step v (Send l bytes) reply (with_links v links)
+send-at v l bytes NotOpen links k k2 r there d is = (r, (k, there, d.0), same v l k k2 links there d.1 is)
+send-at v l bytes Full links k k2 r there d is = (r, (k, there, (d.0, d.1)), same v l k k2 links there d.2 is)
+send-at v l bytes Accepted links k k2 r there d is = (r, (k, there, (d.0, d.1, here v l k2 _ links d.2 is)))
+send-at v l bytes reply links k k2 r there d is = absurd d
+
+pub send-step : (v : NodeView) (l : ℕ) (bytes : List ℕ) (reply : Reply) (links : List LinkView) → v.failed ≡ false → OnLinks (Sends (peer_at v.config l) v.config.me bytes) v.links l reply links → Step v (Send l bytes) reply (with_links v links)
+send-step v l bytes reply links r o = elim o [
+  | inl n ↦ subst (λ (a : Reply). Step v (Send l bytes) a (with_links v links)) (sym n.1) (r, n.0, nothing v links n.2)
+  | inr d ↦ send-at v l bytes reply links d.0 d.1 r d.2 d.3 d.4
+]
+
+close-at : (v : NodeView) (l : ℕ) (reply : Reply) (links : List LinkView) (k k2 : LinkView) → v.failed ≡ false → slice_get v.links l ≡ Some k → Closes (peer_at v.config l) v.config.me k reply k2 → links ≡ slice_set v.links l k2 → Step v (Close l) reply (with_links v links)
+close-at v l NotOpen links k k2 r there d is = (r, (k, there, d.0), same v l k k2 links there d.1 is)
+close-at v l Full links k k2 r there d is = (r, (k, there, (d.0, d.1)), same v l k k2 links there d.2 is)
+close-at v l Accepted links k k2 r there d is = (r, (k, there, (d.0, d.1, here v l k2 _ links d.2 is)))
+close-at v l reply links k k2 r there d is = absurd d
+
+pub close-step : (v : NodeView) (l : ℕ) (reply : Reply) (links : List LinkView) → v.failed ≡ false → OnLinks (Closes (peer_at v.config l) v.config.me) v.links l reply links → Step v (Close l) reply (with_links v links)
+close-step v l reply links r o = elim o [
+  | inl n ↦ subst (λ (a : Reply). Step v (Close l) a (with_links v links)) (sym n.1) (r, n.0, nothing v links n.2)
+  | inr d ↦ close-at v l reply links d.0 d.1 r d.2 d.3 d.4
+]
+
+lives_same : (xs : List LinkView) (l : ℕ) (k k2 : LinkView) → slice_get xs l ≡ Some k → k2.life ≡ k.life → map life_of (slice_set xs l k2) ≡ map life_of xs
+lives_same [] l k k2 there e = refl
+lives_same (x ∷ xs) zero k k2 there e = ap (λ n. n ∷ map life_of xs) (e ∙ sym (ap life_of (the_first x k there)))
+  where
+    the_first : (a b : LinkView) → Some a ≡ Some b → a ≡ b
+    the_first a b e = cc
+lives_same (x ∷ xs) (suc l) k k2 there e = ap (λ ns. x.life ∷ ns) (lives_same xs l k k2 there e)
+
+-- a reader's take; for want of memory the node fails
+abbrev failing : NodeView → Reply → NodeView
+failing v NoMemory = record v { failed = true }
+failing v reply = v
+
+read-at : (v : NodeView) (l : ℕ) (reply : Reply) (links : List LinkView) (k k2 : LinkView) → v.failed ≡ false → slice_get v.links l ≡ Some k → Reads k reply k2 → links ≡ slice_set v.links l k2 → Step v (ReaderTake l) reply (failing (with_links v links) reply)
+read-at v l Blocked links k k2 r there d is = (r, (k, there, d.0), same v l k k2 links there d.1 is)
+read-at v l Idle links k k2 r there d is = (r, (k, there, (d.0, d.1)), same v l k k2 links there d.2 is)
+read-at v l Moved links k k2 r there d is = (r, (k, there, (d.0, d.1, d.2, d.3, here v l k2 _ links d.4 is)))
+read-at v l NoMemory links k k2 r there d is = (record { was = r; failed = refl; keeps = record { config = refl; journal = refl; decisions = refl; applied = refl; lives = ap (map life_of) is ∙ lives_same v.links l k k2 there d.2 } }, (k, there, (d.0, d.1)))
+read-at v l reply links k k2 r there d is = absurd d
+
+pub read-step : (v : NodeView) (l : ℕ) (reply : Reply) (links : List LinkView) → v.failed ≡ false → OnLinks Reads v.links l reply links → Step v (ReaderTake l) reply (failing (with_links v links) reply)
+read-step v l reply links r o = elim o [
+  | inl n ↦ subst (λ (a : Reply). Step v (ReaderTake l) a (failing (with_links v links) a)) (sym n.1) (r, n.0, nothing v links n.2)
+  | inr d ↦ read-at v l reply links d.0 d.1 r d.2 d.3 d.4
+]
+
+failing-not : (v : NodeView) (reply : Reply) → reply ≢ NoMemory → failing v reply ≡ v
+failing-not v NoMemory ne = absurd (ne refl)
+failing-not v reply ne = refl
+
+pub read-kept : (v : NodeView) (l : ℕ) (reply : Reply) (links : List LinkView) → reply ≢ NoMemory → v.failed ≡ false → OnLinks Reads v.links l reply links → Step v (ReaderTake l) reply (with_links v links)
+read-kept v l reply links ne r o = subst (λ (w : NodeView). Step v (ReaderTake l) reply w) (failing-not (with_links v links) reply ne) (read-step v l reply links r o)
+
+pub read-failed : (v w : NodeView) (l : ℕ) (reply : Reply) (links : List LinkView) → reply ≡ NoMemory → v.failed ≡ false → OnLinks Reads v.links l reply links → w ≡ record v { links = links; failed = true } → Step v (ReaderTake l) reply w
+read-failed v w l reply links e r o is = subst (λ (u : NodeView). Step v (ReaderTake l) reply u) (ap (failing (with_links v links)) e ∙ sym is) (read-step v l reply links r o)
+
+put-at : (v : NodeView) (l : ℕ) (full : Bool) (reply : Reply) (links : List LinkView) (k k2 : LinkView) → (full ≡ true → length v.inbox ≡ v.inbox_room) → v.failed ≡ false → slice_get v.links l ≡ Some k → Gives k full (Err reply) k2 → links ≡ slice_set v.links l k2 → Step v (ReaderPut l) reply (with_links v links)
+put-at v l full Idle links k k2 b r there d is = (r, (k, there, d.0), same v l k k2 links there d.1 is)
+put-at v l full Blocked links k k2 b r there d is = (r, (k, there, (d.0, b d.1)), same v l k k2 links there d.2 is)
+put-at v l full reply links k k2 b r there d is = absurd d
+
+abbrev refused : Reply → Result Inbound Reply
+refused a = Err a
+
+same_err : (a b : Reply) → refused a ≡ refused b → a ≡ b
+same_err a b e = cc
+
+pub put-refused : (v : NodeView) (l : ℕ) (full : Bool) (reply : Reply) (links : List LinkView) → (full ≡ true → length v.inbox ≡ v.inbox_room) → v.failed ≡ false → Puts v.links l full (Err reply) links → Step v (ReaderPut l) reply (with_links v links)
+put-refused v l full reply links b r o = elim o [
+  | inl n ↦ subst (λ (a : Reply). Step v (ReaderPut l) a (with_links v links)) (sym (same_err reply NoLink n.1)) (r, n.0, nothing v links n.2)
+  | inr d ↦ put-at v l full reply links d.0 d.1 b r d.2 d.3 d.4
+]
+
+pub on_ok : {X Y : Type 0} (P : Type 0) (r : Result X Y) → is_ok r ≡ true → OnOk r P → P
+on_ok P (Ok x) e h = h
+on_ok P (Err y) e h = absurd cc
+
+-- nothing was ready
+pub is_idle : (v : PendingView) (thing : Option Ready) → thing ≡ None → ((me : NodeId) → (peers : List NodeId) → (taken : List Inbound) → (given : List Ready) → Pends me peers taken given v → (thing ≡ None ↔ IsSettled me peers taken v)) → IsIdle v
+is_idle v thing none settled = λ me peers taken given p. (settled me peers taken given p).0 none
+
+-- ---- the slot stage
+
+abbrev with_decider : NodeView → DeciderView → NodeView
+with_decider v d = record v { failed = d.failed; ledger = d.ledger; slot_hand = d.hand; decided = d.queue; decided_room = d.room; applier = d.applier }
+
+isnt_empty : {X : Type 0} (x : X) (rest : List X) → x ∷ rest ≡ [] → ⊥
+isnt_empty x rest e = cc
+
+same_first : {X : Type 0} (x y : X) (xs ys : List X) → x ∷ xs ≡ y ∷ ys → x ≡ y
+same_first x y xs ys e = cc
+
+slot-fails : (v w : NodeView) (d d2 : DeciderView) (rest : List Ready) → v ≡ with_decider v d → w ≡ with_decider (record v { ready = rest }) d2 → v.failed ≡ false → Keeps d d2 → Fails v w
+slot-fails v w d d2 rest e is runs k = record {
+  was = runs;
+  failed = ap (λ (u : NodeView). u.failed) is ∙ k.failed;
+  keeps = record {
+    config = ap (λ (u : NodeView). u.config) is;
+    journal = ap (λ (u : NodeView). u.ledger.journal) is ∙ k.journal ∙ sym (ap (λ (u : NodeView). u.ledger.journal) e);
+    decisions = ap (λ (u : NodeView). u.ledger.decisions) is ∙ k.decisions ∙ sym (ap (λ (u : NodeView). u.ledger.decisions) e);
+    applied = ap (λ (u : NodeView). u.applier.applied) is ∙ k.applied ∙ sym (ap (λ (u : NodeView). u.applier.applied) e);
+    lives = ap (λ (u : NodeView). map life_of u.links) is;
+  };
+}
+
+pub slot-step : (v w : NodeView) (d d2 : DeciderView) (x : Ready) (rest : List Ready) (reply : Reply) → v ≡ with_decider v d → w ≡ with_decider (record v { ready = rest }) d2 → v.failed ≡ false → v.slot_hand ≡ None → v.ready ≡ x ∷ rest → Decides d x reply d2 → Step v SlotTake reply w
+slot-step v w d d2 x rest Moved e is runs empty q h = (
+  runs,
+  (
+    empty,
+    record {
+      x = x;
+      rest = rest;
+      ready = q;
+      after' = d2.ledger;
+      took = h.0;
+      takes = subst (λ (l : LedgerView). Takes l x h.0 d2.ledger) (sym (ap (λ (u : NodeView). u.ledger) e)) h.1;
+      known = h.2;
+      is = is ∙ ap (with_decider (record v { ready = rest })) h.3 ∙ ap (λ (u : NodeView). record u { ready = rest; ledger = d2.ledger; slot_hand = h.0.onward }) (sym e);
+    },
+  ),
+)
+slot-step v w d d2 x rest JournalFull e is runs empty q h = (slot-fails v w d d2 rest e is runs h.2, (empty, x, rest, q, h.0, ap (λ (u : NodeView). length u.ledger.journal) e ∙ h.1))
+slot-step v w d d2 x rest NoMemory e is runs empty q h = (slot-fails v w d d2 rest e is runs h.1, (empty, (λ none. isnt_empty x rest (sym q ∙ none)), λ fills. h.0 (subst (λ (y : Ready). adds_entry y ≡ true) (sym (same_first x fills.1 rest fills.2 (sym q ∙ fills.3))) fills.4, sym (ap (λ (u : NodeView). length u.ledger.journal) e) ∙ fills.5)))
+slot-step v w d d2 x rest reply e is runs empty q h = absurd h

@@ -1,0 +1,213 @@
+-- Each entry is of a connection of some link.
+use Rattle.std.proofs.Common.{◌≡◌, ℕ, ◌+◌, ◌<◌, Bool, true, false, cond, not, List, [], ◌∷◌, ◌++◌, length, refl, sym, ◌∙◌, ap, subst, arith, append_assoc, map, inl, inr, ◌⊎◌}
+use Rattle.std.specs.Prelude.{◌&&◌, ◌||◌, nat_lt, Option, Some, None, is_some, position, flat_map, option_to_list}
+use Rattle.std.specs.List.{list_any, position_or_len, AllByRecursion}
+use Rattle.std.proofs.lemmas.Bool.{ltb-true}
+use Rattle.scp_types.specs.declared.names.ConnId.{ConnId}
+use Rattle.scp_types.specs.declared.names.Hash.{Hash}
+use Rattle.scp_types.specs.declared.names.NodeId.{NodeId}
+use Rattle.scp_quorum.specs.QuorumTree.{QuorumTree}
+use Rattle.scp_wire.specs.declared.carried.Carried.{Carried}
+use Rattle.scp_wire.specs.declared.side.SideMessage.{SideMessage}
+use Rattle.scp_wire.specs.declared.side.SideMessage.TheVariants.{GetSet, Set, NoSet}
+use Rattle.scp_wire.specs.declared.link.Cause.TheVariants.{ParkedFull}
+use Rattle.scp_wire.specs.declared.link.Command.TheVariants.{Tick}
+use Rattle.scp_wire.specs.declared.link.Inbound.{Inbound}
+use Rattle.scp_wire.specs.declared.link.Inbound.TheVariants as inbound
+use Rattle.scp_wire.specs.Connections.{same_node, same_conn}
+use Rattle.scp_fetch.specs.declared.want.Miss.TheVariants.{One}
+use Rattle.scp_fetch.specs.Wants.{gives_up, last_missed}
+use Rattle.scp_pending.specs.declared.parked.Parked.{Parked}
+use Rattle.scp_pending.specs.declared.parked.Parked.TheVariants.{Waits, Free, Lost}
+use Rattle.scp_pending.specs.declared.ready.DropCause.{DropCause}
+use Rattle.scp_pending.specs.declared.ready.DropCause.TheVariants.{GaveUp, Closed as ByClose, ParkedFull as ByFull}
+use Rattle.scp_pending.specs.declared.ready.Ready.{Ready}
+use Rattle.scp_pending.specs.declared.ready.Ready.TheVariants as ready
+use Rattle.scp_pending.specs.Queues.{QueueView, is_of, is_open, is_link_open, parked_of, leaves_of, leaving_of, in_order_of, is_hash, hash_of, resolved, resolved_in, lost_by, dropped as fallen}
+use Rattle.scp_pending.specs.Rules.{Settled, fresh, link_of, opens, rules, releases, is_full, goes_through, entering, by_answer, is_answer, is_given_up, heard_out, settled_by, released_by}
+use Rattle.scp_pending.specs.Causes.{HasCause, IsTaken}
+use Rattle.scp_pending.specs.Pends.{start_of}
+use Rattle.scp_pending.proofs.Basics.{or_none, same_conn-true, all_step, all_append, all_left}
+use Rattle.scp_pending.proofs.Passing.{all_have_causes}
+use Rattle.scp_pending.proofs.Serving.{all_in_order}
+use Rattle.scp_pending.proofs.Following.{AllConns, conns_step, frame_step}
+use Rattle.scp_ledger.specs.declared.journal.Fate.{Fate}
+use Rattle.scp_ledger.specs.declared.journal.Fate.TheVariants.{Taken, Dropped, Closed}
+use Rattle.scp_core.specs.declared.config.Config.{Config}
+use Rattle.scp_core.specs.Config.{is_among}
+use Rattle.scp_core.specs.Stages.{Entry, taken, dropped, closed, entry_in, entry_of}
+use Rattle.scp_core.specs.Settled.{start_at}
+use Rattle.scp_core.specs.Causes.{on_way_of}
+use Rattle.scp_core.specs.Flow.{Flows}
+use Rattle.scp_core.specs.History.{Past}
+use Rattle.scp_core.specs.Node.{NodeView}
+use Rattle.scp_core.specs.Accounts.{IsOfLink, conn_of}
+use Rattle.scp_core.proofs.Steps.{same_node-is}
+
+-- ---- a connection that opens
+
+first : (a b c : Bool) → (a && b && c) ≡ true → a ≡ true
+first true b c e = refl
+first false b c e = absurd cc
+
+second : (a b c : Bool) → (a && b && c) ≡ true → b ≡ true
+second true true c e = refl
+second true false c e = absurd cc
+second false b c e = absurd cc
+
+none_len : (p : NodeId → Bool) (xs : List NodeId) → list_any p xs ≡ false → position_or_len p xs ≡ length xs
+none_len p [] e = refl
+none_len p (x ∷ xs) e = (let both = or_none (p x) (list_any p xs) e in rw both.0 (omega (arith, none_len p xs both.1)))
+
+not_below : (n : ℕ) → is_some (cond (nat_lt n n) (Some n) None) ≡ true → ⊥
+not_below n e = by_test (nat_lt n n) refl
+  where
+    by_test : (b : Bool) → nat_lt n n ≡ b → ⊥
+    by_test true k = omega (arith, ltb-true n n k)
+    by_test false k = clash (subst (λ (b : Bool). is_some (cond b (Some n) None) ≡ true) k e)
+      where
+        clash : false ≡ true → ⊥
+        clash c = cc
+
+there_is_one : (p : NodeId → Bool) (xs : List NodeId) → is_some (position p xs) ≡ true → list_any p xs ≡ true
+there_is_one p xs e = by_test (list_any p xs) refl
+  where
+    by_test : (b : Bool) → list_any p xs ≡ b → list_any p xs ≡ true
+    by_test true k = k
+    by_test false k = absurd (not_below (length xs) (subst (λ n. is_some (cond (nat_lt n (length xs)) (Some n) None) ≡ true) (none_len p xs k) e))
+
+new_conn : (c : Config) (s : Settled) (d : ConnId) → s.me ≡ c.me → s.peers ≡ c.peers → opens d s ≡ true → IsOfLink c d
+new_conn c s d m q e = record {
+  from = ap (λ (peers : List NodeId). is_among d.from peers) (sym q) ∙ there_is_one (λ peer. same_node peer d.from) s.peers (first (is_some (link_of d.from s)) (same_node d.to s.me) (not (is_link_open d.from s.queues)) e);
+  to = same_node-is d.to s.me (second (is_some (link_of d.from s)) (same_node d.to s.me) (not (is_link_open d.from s.queues)) e) ∙ m;
+}
+
+-- ---- what leaves
+
+if_any : (a b : Bool) → (a || b) ≡ true → (a ≡ true) ⊎ (b ≡ true)
+if_any true b e = inl refl
+if_any false b e = inr e
+
+open_conn : (P : ConnId → Type 0) (c : ConnId) (qs : List QueueView) → is_open c qs ≡ true → AllConns P qs → P c
+open_conn P c [] e a = absurd cc
+open_conn P c (q ∷ qs) e a = elim (if_any (is_of c q) (is_open c qs) e) as (λ _. P c) [ inl l ↦ subst P (same_conn-true q.conn c l) a.0 | inr r ↦ open_conn P c qs r a.1 ]
+
+-- what is dropped, and what ends, is so; what is delivered was taken live
+abbrev IsOn : (ConnId → Type 0) → Ready → Type 0
+IsOn P (ready.Deliver d) = Unit {0}
+IsOn P (ready.Dropped conn seq cause) = P conn
+IsOn P (ready.Closed conn cause) = P conn
+IsOn P (ready.Local command) = Unit {0}
+
+all_end : (P : ConnId → Type 0) (c : ConnId) (cause : DropCause) (ps : List Parked) (end : List Ready) → P c → AllByRecursion (IsOn P) end → AllByRecursion (IsOn P) (map (fallen c cause) ps ++ end)
+all_end P c cause [] end k a = a
+all_end P c cause (p ∷ ps) end k a = (k, all_end P c cause ps end k a)
+
+all_leave : (P : ConnId → Type 0) (c : ConnId) (ps : List Parked) → P c → AllByRecursion (IsOn P) (leaves_of c ps)
+all_leave P c [] k = tt
+all_leave P c (Waits x ∷ ps) k = tt
+all_leave P c (Free delivery ∷ ps) k = (tt, all_leave P c ps k)
+all_leave P c (Lost seq cause ∷ ps) k = (k, all_leave P c ps k)
+
+all_served : (P : ConnId → Type 0) (qs : List QueueView) → AllConns P qs → AllByRecursion (IsOn P) (leaving_of qs)
+all_served P [] a = tt
+all_served P (q ∷ qs) a = all_append (IsOn P) (leaves_of q.conn q.parked) (leaving_of qs) (all_leave P q.conn q.parked a.0) (all_served P qs a.1)
+
+all_resolved : (P : ConnId → Type 0) (test : Option Hash → Bool) (f : Carried → Parked) (qs : List QueueView) → AllConns P qs → AllByRecursion (IsOn P) (leaving_of (resolved test f qs))
+all_resolved P test f qs a = all_served P (resolved test f qs) (all_step (λ (q : QueueView). P q.conn) (λ (q : QueueView). P q.conn) (resolved_in test f) qs (λ q h. h) a)
+
+released : (P : ConnId → Type 0) (s : Settled) (item : Inbound) → AllConns P s.queues → AllByRecursion (IsOn P) (releases s item)
+released P s (inbound.Opened d) a = tt
+released P s (inbound.Carried x) a = by_tests (is_open x.conn s.queues) (is_full x.conn s.queues) (goes_through x.conn (entering s.store x) s.queues) refl
+  where
+    by_tests : (o f g : Bool) → is_open x.conn s.queues ≡ o → AllByRecursion (IsOn P) (cond o (cond f (map (fallen x.conn ByFull) (parked_of x.conn s.queues) ++ ready.Dropped x.conn x.seq ByFull ∷ ready.Closed x.conn ParkedFull ∷ []) (cond g (leaves_of x.conn (entering s.store x ∷ [])) [])) [])
+    by_tests true true g o = (let k = open_conn P x.conn s.queues o a in all_end P x.conn ByFull (parked_of x.conn s.queues) (ready.Dropped x.conn x.seq ByFull ∷ ready.Closed x.conn ParkedFull ∷ []) k (k, (k, tt)))
+    by_tests true false true o = all_leave P x.conn (entering s.store x ∷ []) (open_conn P x.conn s.queues o a)
+    by_tests true false false o = tt
+    by_tests false f g o = tt
+released P s (inbound.Side d m) a = by_open (is_open d s.queues) m
+  where
+    by_set : (set : QuorumTree) (b : Bool) → AllByRecursion (IsOn P) (cond b (leaving_of (resolved (is_hash (hash_of set)) (by_answer set) s.queues)) [])
+    by_set set true = all_resolved P (is_hash (hash_of set)) (by_answer set) s.queues a
+    by_set set false = tt
+
+    by_miss : (hash : Hash) (b : Bool) → AllByRecursion (IsOn P) (cond b (leaving_of (resolved (is_hash hash) (lost_by GaveUp) s.queues)) [])
+    by_miss hash true = all_resolved P (is_hash hash) (lost_by GaveUp) s.queues a
+    by_miss hash false = tt
+
+    by_message : (m : SideMessage) → AllByRecursion (IsOn P) (heard_out m s)
+    by_message (GetSet hash) = tt
+    by_message (Set set) = by_set set (is_answer set s)
+    by_message (NoSet hash) = by_miss hash (gives_up (One hash) s.wanted hash)
+
+    by_open : (b : Bool) (m : SideMessage) → AllByRecursion (IsOn P) (cond b (heard_out m s) [])
+    by_open true m = by_message m
+    by_open false m = tt
+released P s (inbound.Closed d cause) a = by_test (is_open d s.queues) refl
+  where
+    by_test : (b : Bool) → is_open d s.queues ≡ b → AllByRecursion (IsOn P) (cond b (map (fallen d ByClose) (parked_of d s.queues) ++ ready.Closed d cause ∷ []) [])
+    by_test true o = (let k = open_conn P d s.queues o a in all_end P d ByClose (parked_of d s.queues) (ready.Closed d cause ∷ []) k (k, tt))
+    by_test false o = tt
+released P s (inbound.Local Tick) a = all_resolved P (is_given_up s.wanted) (lost_by GaveUp) (in_order_of (last_missed s.wanted) s.queues) (all_in_order (λ (q : QueueView). P q.conn) (last_missed s.wanted) s.queues a)
+
+-- ---- along a list of items
+
+along : (c : Config) (items : List Inbound) (s : Settled) → s.me ≡ c.me → s.peers ≡ c.peers → AllConns (IsOfLink c) s.queues → AllConns (IsOfLink c) (settled_by s items).queues × AllByRecursion (IsOn (IsOfLink c)) (released_by s items)
+along c [] s m q a = (a, tt)
+along c (item ∷ items) s m q a =
+    let step : AllConns (IsOfLink c) (rules s item).queues = conns_step (IsOfLink c) s item (λ d e. new_conn c s d m q e) a in
+    let rest = along c items (rules s item) (frame_step (λ n ps. n ≡ c.me) s item m) (frame_step (λ n ps. ps ≡ c.peers) s item q) step in
+    (rest.0, all_append (IsOn (IsOfLink c)) (releases s item) (released_by (rules s item) items) (released (IsOfLink c) s item a) rest.1)
+
+from_start : (c : Config) (items : List Inbound) → AllConns (IsOfLink c) (settled_by (start_at c) items).queues × AllByRecursion (IsOn (IsOfLink c)) (released_by (start_at c) items)
+from_start c items = along c items (start_at c) refl refl tt
+
+-- ---- entries
+
+abbrev IsOf : (ConnId → Type 0) → Ready → Type 0
+IsOf P (ready.Deliver d) = P d.conn
+IsOf P (ready.Dropped conn seq cause) = P conn
+IsOf P (ready.Closed conn cause) = P conn
+IsOf P (ready.Local command) = Unit {0}
+
+is_of_link : (c : Config) (came : List Inbound) (r : Ready) → HasCause (start_at c) came r → IsOn (IsOfLink c) r → IsOf (IsOfLink c) r
+is_of_link c came (ready.Deliver d) k h = subst (IsOfLink c) k.conn (open_conn (IsOfLink c) k.x.conn (settled_by (start_at c) k.place.before).queues k.place.live (from_start c k.place.before).0)
+is_of_link c came (ready.Dropped conn seq cause) k h = h
+is_of_link c came (ready.Closed conn cause) k h = h
+is_of_link c came (ready.Local command) k h = tt
+
+are_of_links : (c : Config) (came : List Inbound) (things : List Ready) → AllByRecursion (HasCause (start_at c) came) things → AllByRecursion (IsOn (IsOfLink c)) things → AllByRecursion (IsOf (IsOfLink c)) things
+are_of_links c came [] k h = tt
+are_of_links c came (x ∷ xs) k h = (is_of_link c came x k.0 h.0, are_of_links c came xs k.1 h.1)
+
+abbrev EntryIsOf : (ConnId → Type 0) → Entry → Type 0
+EntryIsOf P (taken conn seq message set) = P conn
+EntryIsOf P (dropped conn seq cause) = P conn
+EntryIsOf P (closed conn cause) = P conn
+
+of_things : (P : ConnId → Type 0) (things : List Ready) → AllByRecursion (IsOf P) things → AllByRecursion (EntryIsOf P) (flat_map entry_of things)
+of_things P [] a = tt
+of_things P (ready.Deliver d ∷ rs) a = (a.0, of_things P rs a.1)
+of_things P (ready.Dropped conn seq cause ∷ rs) a = (a.0, of_things P rs a.1)
+of_things P (ready.Closed conn cause ∷ rs) a = (a.0, of_things P rs a.1)
+of_things P (ready.Local command ∷ rs) a = of_things P rs a.1
+
+of_fates : (P : ConnId → Type 0) (fates : List Fate) → AllByRecursion (EntryIsOf P) (map entry_in fates) → AllByRecursion (λ fate. P (conn_of fate)) fates
+of_fates P [] a = tt
+of_fates P (Taken conn seq message set verdict ∷ fates) a = (a.0, of_fates P fates a.1)
+of_fates P (Dropped conn seq cause ∷ fates) a = (a.0, of_fates P fates a.1)
+of_fates P (Closed conn cause ∷ fates) a = (a.0, of_fates P fates a.1)
+
+pub left : (p : Past) (v : NodeView) (f : Flows p v) → f.given ++ v.pending.leaving ≡ f.took ++ on_way_of v
+left p v f = ap (λ xs. xs ++ v.pending.leaving) f.ready ∙ append_assoc f.took (v.ready ++ option_to_list v.pend_hand) v.pending.leaving
+
+pub start_is : (p : Past) (v : NodeView) → Flows p v → start_of v.config.me v.config.peers v.pending ≡ start_at v.config
+start_is p v f = ap (λ (set : QuorumTree). fresh v.config.me v.config.peers set) f.local
+
+pub of_links_at : (p : Past) (v : NodeView) (f : Flows p v) → AllByRecursion (λ fate. IsOfLink v.config (conn_of fate)) v.ledger.journal
+of_links_at p v f =
+    let c = v.config in
+    let caused : AllByRecursion (HasCause (start_at c) f.arrived) (f.given ++ v.pending.leaving) = subst (λ (start : Settled). AllByRecursion (HasCause start f.arrived) (f.given ++ v.pending.leaving)) (start_is p v f) (all_have_causes c.me c.peers f.arrived f.given v.pending f.pending) in
+    let on : AllByRecursion (IsOn (IsOfLink c)) (f.given ++ v.pending.leaving) = subst (λ (rs : List Ready). AllByRecursion (IsOn (IsOfLink c)) rs) (sym (f.pending.left ∙ ap (λ (start : Settled). released_by start f.arrived) (start_is p v f))) (from_start c f.arrived).1 in
+    let all : AllByRecursion (IsOf (IsOfLink c)) (f.took ++ on_way_of v) = subst (λ (rs : List Ready). AllByRecursion (IsOf (IsOfLink c)) rs) (left p v f) (are_of_links c f.arrived (f.given ++ v.pending.leaving) caused on) in
+    of_fates (IsOfLink c) v.ledger.journal (subst (λ (es : List Entry). AllByRecursion (EntryIsOf (IsOfLink c)) es) (sym f.journal.entries) (of_things (IsOfLink c) f.took (all_left (IsOf (IsOfLink c)) f.took (on_way_of v) all).0))

@@ -1,0 +1,79 @@
+-- Lengths of queues, and lives.
+use Rattle.std.proofs.Common.{◌≡◌, ℕ, ◌+◌, List, [], ◌∷◌, refl, sym, ◌∙◌, ap, subst, arith, length, length-append, length-drop, zero, suc}
+use Rattle.std.specs.Prelude.{Some, map, slice_get, fold, ◌-◌}
+use Rattle.scp_types.specs.declared.names.NodeId.{NodeId}
+use Rattle.scp_wire.specs.declared.link.LinkItem.{LinkItem}
+use Rattle.scp_wire.specs.declared.link.LinkItem.TheVariants.{Opened, Bytes, Closed}
+use Rattle.scp_wire.specs.Shape.{Tail, goes, never_open}
+use Rattle.scp_core.specs.History.{Exchange, Past, past_of, tail_of}
+use Rattle.scp_core.specs.Node.{NodeView, LinkView, life_of, lives_of, room_of}
+use Rattle.scp_core.specs.Flow.{Flows, LinkFlows}
+use Rattle.scp_core.specs.Theorem.{LedgerTheorem}
+use Rattle.scp_core.specs.Room.{opens_in, LinkHasRoom, RunningHasRoom, HasRoom, TheoremGivesRoom}
+use Rattle.scp_core.proofs.Queues.{within, there_is}
+
+lives_from : (t : Tail) (items : List LinkItem) → (fold goes t items).life ≡ t.life + opens_in items
+lives_from t [] = omega arith
+lives_from t (Opened conn ∷ xs) = let rest = lives_from (goes t (Opened conn)) xs in omega (arith, rest)
+lives_from t (Bytes conn bytes ∷ xs) = let rest = lives_from t xs in omega (arith, rest)
+lives_from t (Closed conn ∷ xs) = let rest = lives_from (goes t (Closed conn)) xs in omega (arith, rest)
+
+-- the link of a node that runs
+at_link : (p : Past) (v : NodeView) (f : Flows p v) (l : ℕ) (k : LinkView) → slice_get v.links l ≡ Some k → (peer : NodeId) × LinkFlows v.config.me peer v.config.capacities.link (p.links l) k
+at_link p v f l k there =
+    let peer = there_is v.config.peers l (rw (← f.count) (within v.links l k there)) in
+    (peer.0, f.links l k there peer.0 peer.1)
+
+lives_of_link : (p : Past) (v : NodeView) (f : Flows p v) (l : ℕ) (k : LinkView) → slice_get v.links l ≡ Some k → k.life ≡ opens_in (p.links l).items
+lives_of_link p v f l k there =
+    let flows = (at_link p v f l k there).1 in
+    let tail : (tail_of (p.links l)).life ≡ k.life = ap (λ (t : Tail). t.life) flows.tail in
+    let opens = lives_from never_open (p.links l).items in
+    omega (arith, tail, opens)
+
+-- a link of the same life stands there
+same_place : (xs ys : List LinkView) (l : ℕ) (k : LinkView) → map life_of xs ≡ map life_of ys → slice_get xs l ≡ Some k → (k2 : LinkView) × (slice_get ys l ≡ Some k2) × (k.life ≡ k2.life)
+same_place [] ys l k e there = absurd cc
+same_place (x ∷ xs) [] l k e there = absurd cc
+same_place (x ∷ xs) (y ∷ ys) zero k e there = (y, refl, sym (ap life_of (some_is x k there)) ∙ first x.life y.life (map life_of xs) (map life_of ys) e)
+  where
+    some_is : (a b : LinkView) → Some a ≡ Some b → a ≡ b
+    some_is a b e = cc
+
+    first : (a b : ℕ) (ms ns : List ℕ) → a ∷ ms ≡ b ∷ ns → a ≡ b
+    first a b ms ns e = cc
+same_place (x ∷ xs) (y ∷ ys) (suc l) k e there = same_place xs ys l k (rest x.life y.life (map life_of xs) (map life_of ys) e) there
+  where
+    rest : (a b : ℕ) (ms ns : List ℕ) → a ∷ ms ≡ b ∷ ns → ms ≡ ns
+    rest a b ms ns e = cc
+
+link_room : (p : Past) (v : NodeView) (f : Flows p v) (l : ℕ) (k : LinkView) → slice_get v.links l ≡ Some k → LinkHasRoom v p l k
+link_room p v f l k there =
+    let flows = (at_link p v f l k there).1 in
+    let held : length k.queue ≡ length (p.links l).items - (p.links l).taken = ap length flows.queue ∙ length-drop (p.links l).taken (p.links l).items in
+    let some_fit = flows.within in
+    record {
+      room = flows.room_is;
+      held = omega (arith, held, some_fit);
+      left = ap room_of there ∙ ap (λ n. n - length k.queue) flows.room_is;
+    }
+
+running : (p : Past) (v : NodeView) → Flows p v → RunningHasRoom v p
+running p v f = record {
+  links = λ l k there. link_room p v f l k there;
+  rooms = f.rooms;
+  ready = f.ready_count;
+  decided = f.decided_count;
+  inbox = omega (arith, ap length f.inbox, length-append f.arrived v.inbox);
+}
+
+rooms : (past : List Exchange) (v : NodeView) → LedgerTheorem past v → HasRoom past v
+rooms past v h =
+    let p = past_of v.config past in
+    record {
+      lives = λ l k there. let other = same_place v.links h.moment.links l k h.keeps.lives there in ap lives_of there ∙ other.2 ∙ lives_of_link p h.moment h.flows l other.0 other.1;
+      running = λ runs. running p v (subst (λ (w : NodeView). Flows p w) (sym (h.now runs)) h.flows);
+    }
+
+pub theorem_gives_room : TheoremGivesRoom
+theorem_gives_room = λ past v h. rooms past v h

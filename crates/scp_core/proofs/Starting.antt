@@ -1,0 +1,96 @@
+-- A node that has heard nothing.
+use Rattle.std.proofs.Common.{◌≡◌, ℕ, Bool, true, false, List, [], ◌∷◌, ◌++◌, refl, sym, ◌∙◌, ap, subst, arith, length, zero, suc}
+use Rattle.std.specs.Prelude.{Result, Ok, Err, IfOk, Some, slice_get, replicate, not, ◌&&◌, ◌||◌}
+use Rattle.scp_types.specs.declared.names.NodeId.{NodeId}
+use Rattle.scp_wire.specs.Connections.{same_node}
+use Rattle.scp_core.specs.Config.{is_among, are_apart}
+use Rattle.scp_core.specs.History.{nothing_heard, unused}
+use Rattle.scp_core.specs.Node.{LinkView, NodeView, new_link}
+use Rattle.scp_core.specs.Flow.{LinkFlows, Flows, AreApart}
+use Rattle.scp_core.specs.Theorem.{LedgerTheorem}
+use Rattle.scp_core.specs.inside.Starting.{IsNew}
+use Rattle.scp_core.proofs.Steps.{same_node-refl}
+
+pub replicate-push : {X : Type 0} (n : ℕ) (x : X) → replicate n x ++ x ∷ [] ≡ replicate (suc n) x
+replicate-push zero x = refl
+replicate-push (suc n) x = ap (λ xs. x ∷ xs) (replicate-push n x)
+
+in_replicate : {X : Type 0} (n : ℕ) (x : X) (l : ℕ) (y : X) → slice_get (replicate n x) l ≡ Some y → y ≡ x
+in_replicate zero x l y e = absurd cc
+in_replicate (suc n) x zero y e = cc
+in_replicate (suc n) x (suc l) y e = in_replicate n x l y e
+
+length-replicate' : {X : Type 0} (n : ℕ) (x : X) → length (replicate n x) ≡ n
+length-replicate' zero x = refl
+length-replicate' (suc n) x = omega (arith, length-replicate' n x)
+
+new-flows : (me peer : NodeId) (room : ℕ) → LinkFlows me peer room unused (new_link room)
+new-flows me peer room = record { tail = refl; shape = tt; room_is = refl; within = omega arith; queue = refl; reader = refl; given = omega arith; hand = refl }
+
+some_is : (a b : NodeId) → Some a ≡ Some b → a ≡ b
+some_is a b e = cc
+
+or_true : (b : Bool) → (b || true) ≡ true
+or_true true = refl
+or_true false = refl
+
+among : (peers : List NodeId) (m : ℕ) (peer : NodeId) → slice_get peers m ≡ Some peer → is_among peer peers ≡ true
+among [] m peer e = absurd cc
+among (p ∷ ps) zero peer e = rw (ap (λ (q : NodeId). same_node q peer) (some_is p peer e) ∙ same_node-refl peer) refl
+among (p ∷ ps) (suc m) peer e = rw (among ps m peer e) (or_true (same_node p peer))
+
+first_and : (a b : Bool) → (a && b) ≡ true → a ≡ true
+first_and true b e = refl
+first_and false b e = absurd cc
+
+last_and : (a b : Bool) → (a && b) ≡ true → b ≡ true
+last_and true b e = e
+last_and false b e = absurd cc
+
+never : (a : Bool) → not a ≡ true → a ≡ true → ⊥
+never true n y = cc
+never false n y = cc
+
+twice : (p : NodeId) (ps : List NodeId) (m : ℕ) (peer : NodeId) → are_apart (p ∷ ps) ≡ true → Some p ≡ Some peer → slice_get ps m ≡ Some peer → ⊥
+twice p ps m peer e here there = never (is_among p ps) (first_and (not (is_among p ps)) (are_apart ps) e) (subst (λ (q : NodeId). is_among q ps ≡ true) (sym (some_is p peer here)) (among ps m peer there))
+
+by_places : (p : NodeId) (ps : List NodeId) → are_apart (p ∷ ps) ≡ true → AreApart ps → AreApart (p ∷ ps)
+by_places p ps e rest zero zero peer a b = refl
+by_places p ps e rest zero (suc m) peer a b = absurd (twice p ps m peer e a b)
+by_places p ps e rest (suc l) zero peer a b = absurd (twice p ps l peer e b a)
+by_places p ps e rest (suc l) (suc m) peer a b = ap suc (rest l m peer a b)
+
+apart : (peers : List NodeId) → are_apart peers ≡ true → AreApart peers
+apart [] e = λ l m peer a b. absurd cc
+apart (p ∷ ps) e = λ l m peer a b. by_places p ps e (apart ps (last_and (not (is_among p ps)) (are_apart ps) e)) l m peer a b
+
+starts : (v : NodeView) → IsNew v → Flows nothing_heard v
+starts v n = record {
+  runs = n.runs;
+  rooms = (n.inbox.1, n.ready.1, n.decided.1);
+  count = ap length n.links ∙ length-replicate' (length v.config.peers) (new_link v.config.capacities.link);
+  apart = apart v.config.peers n.fit.apart;
+  links = λ l k there peer at. subst (λ (w : LinkView). LinkFlows v.config.me peer v.config.capacities.link unused w) (sym (in_replicate (length v.config.peers) (new_link v.config.capacities.link) l k (rw (← n.links) there))) (new-flows v.config.me peer v.config.capacities.link);
+  came = λ l peer at. refl;
+  local = n.local;
+  arrived = [];
+  inbox = sym n.inbox.0;
+  given = [];
+  pending = n.pending;
+  took = [];
+  ready = rw (n.ready.0, n.hands.0) refl;
+  onwards = [];
+  journal = n.ledger;
+  applied = [];
+  decided = rw (n.decided.0, n.hands.1) refl;
+  applier = n.applier;
+  ready_count = omega (arith, ap length n.ready.0);
+  decided_count = omega (arith, ap length n.decided.0);
+}
+
+pub new_holds : (v : NodeView) → IsNew v → LedgerTheorem [] v
+new_holds v n = record { first = v; replies = refl; failed = n.runs; moment = v; flows = starts v n; now = λ _. refl; keeps = record { config = refl; journal = refl; decisions = refl; applied = refl; lives = refl } }
+
+pub if_ok : {X Y : Type 0} (P Q : X → Type 0) (r : Result X Y) → ((x : X) → P x → Q x) → IfOk r P → IfOk r Q
+if_ok P Q (Ok x) f h = f x h
+if_ok P Q (Err y) f h = tt

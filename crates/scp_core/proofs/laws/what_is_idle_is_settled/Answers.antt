@@ -1,0 +1,5 @@
+use Rattle.scp_core.proofs.Caused.{idle_is_settled}
+use Rattle.scp_core.proofs.laws.what_is_idle_is_settled.Goals as goal
+
+pub returns : goal.returns
+returns c = record { settled = idle_is_settled }

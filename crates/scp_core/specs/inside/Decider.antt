@@ -1,0 +1,90 @@
+-- The slot stage, the queue behind it and the applier, as the code keeps them; nothing here need be believed.
+use Rattle.std.specs.Prelude.{ℕ, ◌≡◌, ◌≢◌, Bool, true, false, List, [], ◌∷◌, ◌++◌, Option, Some, None, length, option_to_list}
+use Rattle.std.specs.FinMap as map
+use Rattle.std.specs.List.Sorted.{IsPermutation}
+use Rattle.scp_types.specs.declared.names.NodeId.{NodeId}
+use Rattle.scp_wire.specs.declared.message.Message.{Message}
+use Rattle.scp_pending.specs.declared.ready.Ready.{Ready}
+use Rattle.scp_ledger.specs.declared.journal.Decision.{Decision}
+use Rattle.scp_ledger.specs.declared.took.Onward.{Onward}
+use Rattle.scp_ledger.specs.declared.took.Took.{Took}
+use Rattle.scp_ledger.specs.Ledger.{LedgerView, IsLedger}
+use Rattle.scp_ledger.specs.Takes.{Takes, adds_entry}
+use Rattle.scp_apply.specs.Applier.{ApplierView, IsApplier, IsRunning}
+use Rattle.scp_apply.specs.Applier.{Takes as ApplierTakes}
+use Rattle.scp_core.specs.declared.event.Reply.{Reply}
+use Rattle.scp_core.specs.declared.event.Reply.TheVariants.{Blocked, Idle, Moved, JournalFull, NoMemory}
+use Rattle.scp_core.specs.Stages.{decisions_on}
+
+pub record DeciderView : Type 0 where
+  pub failed : Bool
+  pub ledger : LedgerView
+  pub hand : Option Onward
+  pub queue : List Onward
+  pub room : ℕ
+  pub applier : ApplierView
+
+abbrev pub new_decider : NodeId → List NodeId → ℕ → DeciderView
+new_decider me peers room = record {
+  failed = false;
+  ledger = record { me = me; peers = peers; failed = false; journal = []; decisions = []; lowest = 1 };
+  hand = None;
+  queue = [];
+  room = room;
+  applier = record { failed = false; applied = []; buffer = []; state = Some map.empty };
+}
+
+abbrev pub fail : DeciderView → DeciderView
+fail v = record v { failed = true }
+
+-- while it runs: what was decided is what the applier took, then what waits in the queue, then the hand
+pub record IsSound (v : DeciderView) : Type 0 where
+  pub ledger_runs : v.ledger.failed ≡ false
+  pub applier_runs : v.applier.failed ≡ false
+  pub ledger : IsLedger v.ledger
+  pub applier : IsApplier v.applier
+  pub running : IsRunning v.applier
+  pub taken : List Decision
+  pub decided : v.ledger.decisions ≡ taken ++ decisions_on (v.queue ++ option_to_list v.hand)
+  pub shared_out : IsPermutation taken (v.applier.applied ++ v.applier.buffer)
+
+abbrev pub IsWell : DeciderView → Type 0
+IsWell v = v.failed ≡ false → IsSound v
+
+-- what a failure leaves
+pub record Keeps (old new : DeciderView) : Type 0 where
+  pub failed : new.failed ≡ true
+  pub journal : new.ledger.journal ≡ old.ledger.journal
+  pub decisions : new.ledger.decisions ≡ old.ledger.decisions
+  pub applied : new.applier.applied ≡ old.applier.applied
+
+-- the slot stage takes a thing
+abbrev pub Decides : DeciderView → Ready → Reply → DeciderView → Type 0
+Decides old x Moved new = (took : Took) × Takes old.ledger x took new.ledger × IsLedger new.ledger × (new ≡ record old { ledger = new.ledger; hand = took.onward })
+Decides old x JournalFull new = (adds_entry x ≡ true) × (length old.ledger.journal ≡ 1000000) × Keeps old new
+Decides old x NoMemory new = (¬ ((adds_entry x ≡ true) × (length old.ledger.journal ≡ 1000000))) × Keeps old new
+Decides old x reply new = ⊥
+
+-- the hand goes into the queue
+abbrev pub PutsOn : DeciderView → Reply → DeciderView → Type 0
+PutsOn old Idle new = (old.hand ≡ None) × (new ≡ old)
+PutsOn old Blocked new = (x : Onward) × (old.hand ≡ Some x) × (length old.queue ≡ old.room) × (new ≡ old)
+PutsOn old Moved new = (length old.queue ≢ old.room) × (x : Onward) × (old.hand ≡ Some x) × (new ≡ record old { hand = None; queue = old.queue ++ x ∷ [] })
+PutsOn old reply new = ⊥
+
+-- the applier takes what is next
+pub record AppliesNext (old new : DeciderView) : Type 0 where
+  pub x : Onward
+  pub rest : List Onward
+  pub queue : old.queue ≡ x ∷ rest
+  pub answer : Option (ℕ × Message)
+  pub takes : ApplierTakes old.applier x answer new.applier
+  pub known : IsApplier new.applier
+  pub running : IsRunning new.applier
+  pub is : new ≡ record old { queue = rest; applier = new.applier }
+
+abbrev pub Applies : DeciderView → Reply → DeciderView → Type 0
+Applies old Idle new = (old.queue ≡ []) × (new ≡ old)
+Applies old Moved new = AppliesNext old new
+Applies old NoMemory new = (old.queue ≢ []) × Keeps old new
+Applies old reply new = ⊥

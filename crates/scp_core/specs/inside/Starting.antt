@@ -1,0 +1,29 @@
+-- What a new node is, and what one event of a run does; nothing here need be believed.
+use Rattle.std.specs.Prelude.{◌≡◌, false, List, [], ◌∷◌, ◌++◌, None, length, replicate}
+use Rattle.scp_pending.specs.Pends.{Pends}
+use Rattle.scp_core.specs.declared.event.Event.{Event}
+use Rattle.scp_core.specs.declared.event.Reply.{Reply}
+use Rattle.scp_core.specs.Config.{IsFit}
+use Rattle.scp_core.specs.History.{Exchange}
+use Rattle.scp_core.specs.Theorem.{LedgerTheorem}
+use Rattle.scp_core.specs.Stages.{Journals, Applies}
+use Rattle.scp_core.specs.Node.{NodeView, new_link}
+
+pub record IsNew (v : NodeView) : Type 0 where
+  pub fit : IsFit v.config.me v.config.peers v.config.capacities
+  pub runs : v.failed ≡ false
+  pub links : v.links ≡ replicate (length v.config.peers) (new_link v.config.capacities.link)
+  pub inbox : (v.inbox ≡ []) × (v.inbox_room ≡ v.config.capacities.inbox)
+  pub ready : (v.ready ≡ []) × (v.ready_room ≡ v.config.capacities.ready)
+  pub decided : (v.decided ≡ []) × (v.decided_room ≡ v.config.capacities.decided)
+  pub hands : (v.pend_hand ≡ None) × (v.slot_hand ≡ None)
+  pub local : v.pending.settled.store.local ≡ v.config.set
+  pub pending : Pends v.config.me v.config.peers [] [] v.pending
+  pub ledger : Journals v.config.me v.config.peers [] [] v.ledger
+  pub applier : Applies [] v.applier
+
+-- one event more was played, and its reply was added
+pub record Answers (event : Event) (old : NodeView) (before : List Reply) (new : NodeView) (after' : List Reply) : Type 0 where
+  pub reply : Reply
+  pub added : after' ≡ before ++ reply ∷ []
+  pub theorem : (past : List Exchange) → LedgerTheorem past old → LedgerTheorem (past ++ (event, reply) ∷ []) new

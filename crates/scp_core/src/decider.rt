@@ -1,0 +1,178 @@
+//! The slot stage, the queue behind it, and the applier.
+ghost use Rattle.std.specs.Prelude.{◌≡◌, ◌≢◌, ◌≤◌, ◌∷◌, [], ◌<◌, false, true, length, None, Some, IfOk, IsOkUnless, OnOk, OnErr, Option, ℕ, option_copied, if◌then◌else◌};
+ghost use Rattle.scp_types.specs.declared.names.NodeId.{NodeId};
+ghost use Rattle.scp_wire.specs.declared.message.Message.{Message};
+ghost use Rattle.scp_apply.specs.Applier.{CanTake, Takes, IsApplier, IsRunning};
+ghost use Rattle.scp_core.specs.inside.Decider.{new_decider, Decides, Applies, PutsOn, fail as failed_now};
+
+use crate::event::Reply;
+use crate::queue;
+use circular_buffer::HeapCircularBuffer;
+use scp_apply::{Applier, the_next_decision_can_be_taken};
+use scp_kv::KvState;
+use scp_ledger::{Fate, Ledger, Onward, SharedDecision};
+use scp_pending::Ready;
+use scp_types::{Fault, NodeId};
+use std::alloc::Global;
+use std::marker::Model;
+
+/// What decides and applies. While it hasn't failed, what the ledger decided was taken by the applier, waits in the queue,
+/// or is in the slot stage's hand: so the applier can take what is next.
+#[derive(Drop)]
+pub struct Decider {
+    failed: bool,
+    ledger: Ledger,
+    hand: Option<Onward>,
+    queue: HeapCircularBuffer<Onward>,
+    applier: Applier,
+}
+
+impl Model for Decider {
+    ghost use Rattle.std.specs.FinMap as map;
+    ghost use Rattle.std.specs.Ordering.{nat_cmp};
+    ghost use Rattle.std.specs.Cmp.Lexicographic.{slice_cmp};
+    ghost use Rattle.std.specs.Coded.{codes, coded_ℕ, coded_list};
+    ghost use Rattle.scp_xdr.specs.TreeModel.{coded_row};
+    ghost use Rattle.scp_quorum.specs.QuorumTree.{coded_level};
+    ghost use Rattle.scp_core.specs.inside.Decider.{DeciderView, IsWell};
+
+    ghost Value = { DeciderView };
+
+    ghost coded = { Prim.hlevel (codes, coded_row coded_level, map.code {R = slice_cmp nat_cmp} (coded_list coded_ℕ) (coded_list coded_ℕ)) };
+
+    ghost view = { λ a. record { failed = a.failed; ledger = a.ledger; hand = a.hand; queue = a.queue.items; room = a.queue.capacity; applier = a.applier } };
+
+    ghost invariant = { λ a. IsWell (record { failed = a.failed; ledger = a.ledger; hand = a.hand; queue = a.queue.items; room = a.queue.capacity; applier = a.applier }) };
+}
+
+impl Decider {
+    /// One that took nothing.
+    pub fn new(alloc: Global, me: NodeId, peers: Vec<NodeId>, room: usize) -> Result<Decider, Fault>
+        requires few { length peers.items ≤ 255 }
+        ensures new { IfOk result (λ d. d ≡ new_decider me peers.items room) }
+        ensures only_memory { IsOkUnless result Fault.NoMemory }
+    {
+        Ok(Decider {
+            failed: false,
+            ledger: Ledger::new(alloc, me, peers),
+            hand: None,
+            queue: HeapCircularBuffer::with_capacity(alloc, room)?,
+            applier: Applier::new(alloc),
+        })
+    }
+
+    pub fn has_failed(&self) -> bool
+        ensures { result ≡ self.now.failed }
+    {
+        self.failed
+    }
+
+    pub fn has_hand(&self) -> bool
+        ensures full { result ≡ true → self.now.hand ≢ None }
+        ensures empty { result ≡ false → self.now.hand ≡ None }
+    {
+        self.hand.is_some()
+    }
+
+    pub fn journal(&self) -> &[Fate]
+        ensures { result.now ≡ self.now.ledger.journal }
+    {
+        self.ledger.journal()
+    }
+
+    pub fn decisions(&self) -> &[SharedDecision]
+        ensures { result.now ≡ self.now.ledger.decisions }
+    {
+        self.ledger.decisions()
+    }
+
+    pub fn applied(&self) -> &[SharedDecision]
+        ensures { result.now ≡ self.now.applier.applied }
+    {
+        self.applier.applied()
+    }
+
+    /// The state; `None` once failed.
+    pub fn state(&self) -> Option<&KvState>
+        ensures { option_copied result ≡ (if self.now.failed then None else self.now.applier.state) }
+    {
+        if self.failed {
+            return None;
+        }
+        self.applier.state()
+    }
+
+    /// It is failed from now on.
+    pub fn fail(&mut self)
+        ensures { self.new ≡ failed_now self.old }
+    {
+        self.failed = true;
+    }
+
+    /// The slot stage takes a ready thing.
+    pub fn take(&mut self, ready: Ready) -> Reply
+        requires runs { self.old.failed ≡ false }
+        requires empty { self.old.hand ≡ None }
+        ensures { Decides self.old ready result self.new }
+    {
+        match self.ledger.take(ready) {
+            Ok(took) => {
+                self.hand = took.onward;
+                Reply::Moved
+            }
+            Err(Fault::JournalFull) => {
+                self.failed = true;
+                Reply::JournalFull
+            }
+            Err(_) => {
+                self.failed = true;
+                Reply::NoMemory
+            }
+        }
+    }
+
+    /// What is in the hand goes into the queue.
+    pub fn put(&mut self) -> Reply
+        requires runs { self.old.failed ≡ false }
+        ensures { PutsOn self.old result self.new }
+    {
+        if self.hand.is_none() {
+            return Reply::Idle;
+        }
+        if queue::is_full(&self.queue) {
+            return Reply::Blocked;
+        }
+        if let Some(onward) = self.hand.take() {
+            queue::put(&mut self.queue, onward);
+        }
+        Reply::Moved
+    }
+
+    /// The applier takes what is next. What it answers for a link is given up.
+    pub fn apply(&mut self) -> Reply
+        requires runs { self.old.failed ≡ false }
+        ensures { Applies self.old result self.new }
+    {
+        let Some(onward) = queue::next(&mut self.queue) else {
+            return Reply::Idle;
+        };
+        the_next_decision_can_be_taken();
+        if take_in(&mut self.applier, onward).is_err() {
+            self.failed = true;
+            return Reply::NoMemory;
+        }
+        Reply::Moved
+    }
+}
+
+/// One thing more for the applier. Its message for a link is given up.
+fn take_in(applier: &mut Applier, onward: Onward) -> Result<(), Fault>
+    requires next { applier.old.failed ≡ false → CanTake applier.old onward }
+    ensures takes { OnOk result ((answer : Option (ℕ × Message)) × Takes applier.old onward answer applier.new) }
+    ensures known { IsApplier applier.new }
+    ensures running { applier.new.failed ≡ false → IsRunning applier.new }
+    ensures read { OnErr result (applier.new.applied ≡ applier.old.applied) }
+{
+    let _message = applier.take(onward)?;
+    Ok(())
+}

@@ -1,8 +1,0 @@
-use Rattle.std.proofs.Common.{◌≡◌, None, drop, flat_map}
-use Rattle.std.specs.List.{last_or}
-use Rattle.scp_line.specs.Script.{set_given}
-use Rattle.scp_line.proofs.sets.set_of_node.Given as goal
-
--- with what is left it is the last of all
-abbrev pub invariant-loop-command : goal.invariant-loop-command
-invariant-loop-command l = last_or l.last (flat_map (set_given l.number) (drop l.command-index l.commands)) ≡ last_or None (flat_map (set_given l.number) l.commands)

@@ -1,5 +1,0 @@
-use Rattle.scp_node.proofs.Decided.{theorem_gives_decisions}
-use Rattle.scp_node.proofs.laws.each_decision_is_named_by_its_entry.Goals as goal
-
-pub returns : goal.returns
-returns c = record { decisions = theorem_gives_decisions }

@@ -1,5 +1,0 @@
-use Rattle.scp_node.proofs.Rooms.{theorem_gives_room}
-use Rattle.scp_node.proofs.laws.queues_hold_what_was_put_and_not_taken.Goals as goal
-
-pub returns : goal.returns
-returns c = record { room = theorem_gives_room }

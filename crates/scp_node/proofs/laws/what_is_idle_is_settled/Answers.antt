@@ -1,5 +1,0 @@
-use Rattle.scp_node.proofs.Caused.{idle_is_settled}
-use Rattle.scp_node.proofs.laws.what_is_idle_is_settled.Goals as goal
-
-pub returns : goal.returns
-returns c = record { settled = idle_is_settled }

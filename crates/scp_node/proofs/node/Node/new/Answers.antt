@@ -1,8 +1,0 @@
-use Rattle.std.specs.Prelude.{[]}
-use Rattle.scp_node.specs.Theorem.{LedgerTheorem}
-use Rattle.scp_node.specs.inside.Starting.{IsNew}
-use Rattle.scp_node.proofs.Starting.{new_holds, if_ok}
-use Rattle.scp_node.proofs.node.Node.new.Goals as goal
-
-pub returns-clause-theorem : goal.returns-clause-theorem
-returns-clause-theorem c = if_ok IsNew (LedgerTheorem []) c.with_set.result (λ v n. new_holds v n) c.with_set.ensures.new
