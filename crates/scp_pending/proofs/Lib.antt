@@ -16,3 +16,4 @@ pub mod Accounting
 pub mod Hearing
 pub mod Exiting
 pub mod Ending
+pub mod Living

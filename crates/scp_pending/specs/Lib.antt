@@ -8,4 +8,5 @@ pub mod Causes
 pub mod Endings
 pub mod Pends
 pub mod Passes
+pub mod Living
 pub mod Laws

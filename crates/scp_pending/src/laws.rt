@@ -1,4 +1,5 @@
 //! What follows of the rules, for every list of takes: each law is the contract of a function that does nothing.
+ghost use Rattle.scp_pending.specs.Living.{OpenByPlace};
 ghost use Rattle.scp_pending.specs.Laws.{AllAccounts, AllExits, AllHaveCauses, CommandsPass, CutsAreConsecutive, FewAreParked};
 
 /// All that was given, and all that is ready, has its cause among what was taken.
@@ -30,4 +31,11 @@ pub fn each_connection_ends_by_its_cause()
 /// Each local command other than Tick is given once, in order, and no other.
 pub fn each_command_passes_once()
     ensures commands { CommandsPass }
+{}
+
+/// Where the items of each link have that shape: a connection is open in what is parked, so that its items are live, exactly
+/// where it was opened and not closed in what was taken, and wasn't cut off by one message too many in what was given or is
+/// on its way.
+pub fn what_is_live_is_so_by_its_place()
+    ensures live { OpenByPlace }
 {}

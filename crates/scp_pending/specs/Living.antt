@@ -1,0 +1,40 @@
+-- When a connection is open in what is parked, by what was taken of it and how it ended.
+use Rattle.std.specs.Prelude.{ℕ, ◌≡◌, Bool, true, false, not, ◌&&◌, List, ◌++◌, Some, slice_get, nat_eq, fold}
+use Rattle.std.specs.List.{list_any}
+use Rattle.scp_types.specs.declared.names.ConnId.{ConnId}
+use Rattle.scp_types.specs.declared.names.NodeId.{NodeId}
+use Rattle.scp_wire.specs.declared.link.Cause.{Cause}
+use Rattle.scp_wire.specs.declared.link.Cause.TheVariants.{Malformed, Spent, Link, ParkedFull}
+use Rattle.scp_wire.specs.declared.link.Inbound.{Inbound}
+use Rattle.scp_wire.specs.Connections.{conn_at, same_conn}
+use Rattle.scp_wire.specs.Shape.{Come, nothing_came, comes, of_peer, HasShape}
+use Rattle.scp_pending.specs.declared.ready.Ready.{Ready}
+use Rattle.scp_pending.specs.declared.ready.Ready.TheVariants.{Deliver, Dropped, Closed, Local}
+use Rattle.scp_pending.specs.Queues.{is_open}
+use Rattle.scp_pending.specs.Rules.{PendingView}
+use Rattle.scp_pending.specs.Pends.{Pends}
+
+-- of what came of a link: its last life is this one, and is open
+abbrev pub stands : ℕ → Come → Bool
+stands life came = came.is_open && nat_eq came.life life
+
+-- the end of a connection of which one message too many came; it stands just after the 65 that were dropped
+abbrev pub is_too_many : Cause → Bool
+is_too_many Malformed = false
+is_too_many Spent = false
+is_too_many Link = false
+is_too_many ParkedFull = true
+
+abbrev pub cuts_off : ConnId → Ready → Bool
+cuts_off c (Deliver delivery) = false
+cuts_off c (Dropped conn seq cause) = false
+cuts_off c (Closed conn cause) = same_conn conn c && is_too_many cause
+cuts_off c (Local command) = false
+
+abbrev pub is_cut_off : ConnId → List Ready → Bool
+is_cut_off c readies = list_any (cuts_off c) readies
+
+-- A connection is open in what is parked, so that its items are live, exactly where it was opened and not closed in what
+-- was taken, and wasn't cut off in what was given or is on its way.
+abbrev pub OpenByPlace : Type 0
+OpenByPlace = (me : NodeId) (peers : List NodeId) (taken : List Inbound) (given : List Ready) (v : PendingView) → Pends me peers taken given v → HasShape me peers taken → (link : ℕ) (peer : NodeId) → slice_get peers link ≡ Some peer → (life : ℕ) → is_open (conn_at peer me life) v.settled.queues ≡ (stands life (fold comes nothing_came (of_peer peer taken)) && not (is_cut_off (conn_at peer me life) (given ++ v.leaving)))
