@@ -28,6 +28,7 @@ use Rattle.scp_ballot.specs.Gives.{IsWorth, Emits, IsCertifiedAt, Decides, Gives
 use Rattle.scp_ballot.specs.Inside.{ballots_of}
 use Rattle.scp_ballot.specs.Balloting.{IsOwnEnvelope, IsWorthTelling, last_emitted, Externalizes, IsCertified, GoesOn, Advances}
 use Rattle.scp_ballot.proofs.Others.{licensed_now}
+use Rattle.scp_ballot.proofs.Valuing.{Enters, values_kept}
 
 -- what the own statement of a state says
 hash_of_own : (ph : Phase) (hash : Hash) (s : State) → set_hash_of (own_in ph hash s) ≡ hash
@@ -187,13 +188,14 @@ module _ (old settled new : Machine) (given : Balloted) (first : Option State) (
     ]
   ]
 
-  advances_settled : (or_state first old.state).phase ≡ old.state.phase → Rises old.state (or_state first old.state) → (given.more ≡ false → OwesNothing settled.hash (ballots_on settled.board)) → Decides old.state.phase settled given.decided → Emits settled new given.statement
+  advances_settled : (or_state first old.state).phase ≡ old.state.phase → Rises old.state (or_state first old.state) → Enters old.state (or_state first old.state) → (given.more ≡ false → OwesNothing settled.hash (ballots_on settled.board)) → Decides old.state.phase settled given.decided → Emits settled new given.statement
       → Advances (ballots_of old f) (ballots_of (record settled { emitted = new.emitted }) g) given
-  advances_settled still up owed decides emits =
+  advances_settled still up enters owed decides emits =
       let told = tells given.statement emits in
       record {
         licensed = licensed_now (ballots_on old.board) (own_at old) (ballots_on settled.board) s.chain;
         rises = goes (rises_trans old.state (or_state first old.state) settled.state up s.rises);
+        value = values_kept (ballots_on old.board) (own_at old) (own_at settled) old.hash settled.hash old.state (or_state first old.state) settled.state rest.stands s.stands still enters s.rises s.composite s.moves;
         owed = owed;
         emitted = told.0;
         statement = told.1;
@@ -218,8 +220,8 @@ module _ (old settled new : Machine) (given : Balloted) (first : Option State) (
   pub settled_rests : Emits settled new given.statement → IsAtRest (record settled { emitted = new.emitted })
   settled_rests emits = record { keeps = s.chain.keeps; stands = s.stands; ready = s.ready; emitted = emits_rests given.statement emits }
 
-pub advances : (old new : Machine) (given : Balloted) (first : Option State) (f g : Bool) → IsAtRest old → (or_state first old.state).phase ≡ old.state.phase → Rises old.state (or_state first old.state) → Gives old first new given → Advances (ballots_of old f) (ballots_of new g) given
-advances old new given first f g rest still up gives = subst (λ m. Advances (ballots_of old f) (ballots_of m g) given) (sym gives.emits.frame) (advances_settled old gives.settled new given first f g rest gives.settles still up gives.owed gives.decides gives.emits)
+pub advances : (old new : Machine) (given : Balloted) (first : Option State) (f g : Bool) → IsAtRest old → (or_state first old.state).phase ≡ old.state.phase → Rises old.state (or_state first old.state) → Enters old.state (or_state first old.state) → Gives old first new given → Advances (ballots_of old f) (ballots_of new g) given
+advances old new given first f g rest still up enters gives = subst (λ m. Advances (ballots_of old f) (ballots_of m g) given) (sym gives.emits.frame) (advances_settled old gives.settled new given first f g rest gives.settles still up enters gives.owed gives.decides gives.emits)
 
 pub gives_rests : (old new : Machine) (given : Balloted) (first : Option State) → IsAtRest old → Gives old first new given → IsAtRest new
 gives_rests old new given first rest gives = subst (λ m. IsAtRest m) (sym gives.emits.frame) (settled_rests old gives.settled new given first false false rest gives.settles gives.emits)

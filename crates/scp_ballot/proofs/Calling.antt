@@ -31,10 +31,10 @@ zero_counter None = refl
 zero_counter (Some x) = refl
 
 -- a statement in the phase Prepare has a counter
-abbrev CountsIn : State → Type 0
+abbrev pub CountsIn : State → Type 0
 CountsIn s = s.phase ≡ Prepare → counter_of s.present ≢ 0
 
-counts_in : (ph : Phase) (hash : Hash) (s : State) → (ph ≡ Prepare → counter_of s.present ≢ 0) → HasCounter (own_in ph hash s)
+pub counts_in : (ph : Phase) (hash : Hash) (s : State) → (ph ≡ Prepare → counter_of s.present ≢ 0) → HasCounter (own_in ph hash s)
 counts_in Prepare hash s h = λ zero. h refl (sym (zero_counter s.present) ∙ zero)
 counts_in Confirm hash s h = tt
 counts_in Externalize hash s h = tt
@@ -45,7 +45,7 @@ in_counts Confirm hash s h e zero = let k : Confirm ≡ Prepare = e in cc
 in_counts Externalize hash s h e zero = let k : Externalize ≡ Prepare = e in cc
 
 module _ (own : Option Pledges) (hash : Hash) (s : State) (stands : StandsFor own hash s) where
-  has_counter : CountsIn s → IsSomeAnd own HasCounter
+  pub has_counter : CountsIn s → IsSomeAnd own HasCounter
   has_counter counts = elim stands [
     | inl e ↦ some_and HasCounter own (own_of hash s) e (counts_in s.phase hash s counts)
     | inr none ↦ absurd (counts none.1.phase (ap counter_of none.1.present))
@@ -76,10 +76,10 @@ module _ (old new : Machine) (given : Balloted) (first : Option State) (rest : I
     | inr e ↦ ballot_from (subst (λ (o : Option State). CountsIn (or_state o old.state)) (sym e) (none e))
   ]
 
-at_if : {A : Type 0} (P : A → Type 0) (o : Option A) (x : A) → o ≡ Some x → IfSome o P → P x
+pub at_if : {A : Type 0} (P : A → Type 0) (o : Option A) (x : A) → o ≡ Some x → IfSome o P → P x
 at_if {A} P o x e h = let Q : Option A → Type 0 = λ o. IfSome o P in subst Q e h
 
-at_none : {A : Type 0} (P : Type 0) (o : Option A) → o ≡ None → IfNone o P → P
+pub at_none : {A : Type 0} (P : Type 0) (o : Option A) → o ≡ None → IfNone o P → P
 at_none {A} P o e h = let Q : Option A → Type 0 = λ o. IfNone o P in subst Q e h
 
 composed_counts : (z : List ℕ) (s next : State) → IsReady s → s.phase ≡ Prepare → Composes z s next → CountsIn next
@@ -100,7 +100,7 @@ composite_ballot z old new given f rest takes =
     (λ next e. let h = at_if (λ next. (old.state.phase ≡ Prepare) × Composes z old.state next) takes.first next e takes.some in composed_counts z old.state next rest.ready h.0 h.1)
     (λ e phase. absurd (at_none (old.state.phase ≡ Prepare → ⊥) takes.first e takes.none phase))
 
-times_phase : (s next : State) → Times s next → next.phase ≡ s.phase
+pub times_phase : (s next : State) → Times s next → next.phase ≡ s.phase
 times_phase s next (inl (phase, step), up) = ap (λ (t : State). t.phase) step.frame
 times_phase s next (inr (phase, step), up) = ap (λ (t : State). t.phase) step.frame
 

@@ -62,7 +62,7 @@ own_heard old new e set h = elim h.board [
 
 -- the inputs' changes
 pub times_change : (b : Seen) (s next : State) → Times s next → IsChange b s next
-times_change b s next (inl (phase, step), up) = inl (inl (phase, inr (inr (inr step))))
+times_change b s next (inl (phase, step), up) = inr (inr (phase, step))
 times_change b s next (inr (phase, step), up) = inl (inr (phase, inr (inr (inr step))))
 
 pub all_change : (P Q : State → Type 0) (o : Option State) → ((s : State) → P s → Q s) → IfSome o P → IfSome o Q

@@ -9,6 +9,8 @@ pub mod Settling
 pub mod Emitting
 pub mod Heard
 pub mod Others
+pub mod Valuing
 pub mod Advancing
 pub mod Calling
+pub mod Composing
 pub mod Taking

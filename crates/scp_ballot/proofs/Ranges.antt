@@ -48,6 +48,7 @@ module _ (b : Seen) (old next : State) (range : Range) (held : Option Ballot) (r
             let was = keeps x (sym (ap (λ (s : State). s.prepared) is) ∙ e) in
             (was.0, some_and (λ c. x.value ≡ c.value) next.low range.low low_is (was.1 ∙ sym reached.compatible));
         prime = ap (λ (s : State). s.prime) is;
+        composite = ap (λ (s : State). s.composite) is;
       }
 
   module _ (ready : IsConfirming old) (same : held ≡ old.prepared) (c : Ballot) (low : old.low ≡ Some c) (above : counter_of old.high < range.high.counter) (value : range.high.value ≡ c.value) where
@@ -110,4 +111,5 @@ confirms_commit b old next range reached is = record {
   range = some_and (λ c. IsSomeAnd next.high (λ h. (c.counter ≢ 0) × (c.value ≡ h.value) × (c.counter ≤ h.counter) × Confirmed b (Committed c.counter h.counter h.value))) next.low range.low (ap (λ (s : State). s.low) is)
       (some_and (λ h. (range.low.counter ≢ 0) × (range.low.value ≡ h.value) × (range.low.counter ≤ h.counter) × Confirmed b (Committed range.low.counter h.counter h.value)) next.high range.high (ap (λ (s : State). s.high) is)
       (reached.counted, reached.compatible, reached.ascends, reached.reached));
+  composite = ap (λ (s : State). s.composite) is;
 }

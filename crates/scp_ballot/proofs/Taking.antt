@@ -16,7 +16,7 @@ use Rattle.scp_ballot.specs.Told.{ballots_on}
 use Rattle.scp_ballot.specs.Machine.{own_at, IsAtRest}
 use Rattle.scp_ballot.specs.Inputs.{IsHeardBy, HearsOne, TakesStatement}
 use Rattle.scp_ballot.specs.Inside.{ballots_of}
-use Rattle.scp_ballot.specs.Balloting.{Ballots, own, Advances, GoesOn, IsDecided, IsWorthTelling, last_emitted, KeepsOthers, IsHeard, HearsOnly}
+use Rattle.scp_ballot.specs.Balloting.{Ballots, own, Advances, KeepsValue, GoesOn, IsDecided, IsWorthTelling, last_emitted, KeepsOthers, IsHeard, HearsOnly}
 use Rattle.scp_ballot.proofs.Heard.{heard_rests, own_heard}
 use Rattle.scp_ballot.proofs.Advancing.{advances, gives_rests, decided_phase, phase_decided}
 use Rattle.scp_ballot.proofs.Calling.{others_kept}
@@ -27,6 +27,7 @@ advances_from : (old mid new : Ballots) (given : Balloted) → own mid ≡ own o
 advances_from old mid new given same last slot hash me local a = record {
   licensed = subst (λ o. Licensed new.board o (own new)) same a.licensed;
   rises = subst (λ o. ForSome o (λ p. ForSome (own new) (λ q. GoesOn p q))) same a.rises;
+  value = λ q e. subst (λ o. KeepsValue o new.composite q) same (a.value q e);
   owed = a.owed;
   emitted = subst (λ o. IsSome given.statement ↔ IsWorthTelling o (own new)) last a.emitted;
   statement = a.statement;
@@ -57,7 +58,7 @@ module _ (old new : Machine) (given : Balloted) (e : Envelope) (set : QuorumTree
   take_advances =
       advances_from (ballots_of old f) (ballots_of takes.mid f) (ballots_of new g) given (own_heard old takes.mid e set takes.hears) (ap (option_map (λ (s : Statement). s.pledges)) takes.hears.rest.emitted)
       (ap (λ (s : Slot). s.0) takes.hears.rest.slot) takes.hears.rest.hash (me_heard old takes.mid e set takes.hears) (local_heard old takes.mid e set takes.hears)
-      (advances takes.mid new given None f g mid_rests refl (rises_itself takes.mid.state) takes.gives)
+      (advances takes.mid new given None f g mid_rests refl (rises_itself takes.mid.state) (λ _. inl refl) takes.gives)
 
   pub take_rests : IsAtRest new
   take_rests = gives_rests takes.mid new given None mid_rests takes.gives

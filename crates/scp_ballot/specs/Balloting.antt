@@ -1,7 +1,8 @@
 -- A balloter as its contracts see it (the SCP draft, in this project's profile).
-use Rattle.std.specs.Prelude.{◌≡◌, ◌≢◌, ◌<◌, ◌≤◌, ◌↔◌, ◌⊎◌, ℕ, [], Bool, false, Option, Some, None, IsSome, IsSomeAnd, cond}
+use Rattle.std.specs.Prelude.{◌≡◌, ◌≢◌, ◌<◌, ◌≤◌, ◌↔◌, ◌⊎◌, ℕ, List, [], Bool, false, Option, Some, None, IsSome, IsSomeAnd, cond}
 use Rattle.std.specs.Option.{ForSome}
 use Rattle.std.specs.BTreeMap.{is_at}
+use Rattle.scp_types.specs.declared.ballot.Ballot.{Ballot}
 use Rattle.scp_types.specs.declared.names.NodeId.{NodeId}
 use Rattle.scp_types.specs.declared.names.Hash.{Hash}
 use Rattle.scp_quorum.specs.NodeSet.{node_cmp, is_in}
@@ -18,23 +19,24 @@ use Rattle.scp_vote.specs.declared.claim.StatementKind.TheVariants.{Balloting}
 use Rattle.scp_vote.specs.declared.claim.Claim.TheVariants.{Committed}
 use Rattle.scp_vote.specs.Board.{Seen, Certificate, KeepsOwn, kind_of_pledges, counted_of_other}
 use Rattle.scp_vote.specs.Licence.{Licensed, IsExternalize}
-use Rattle.scp_ballot_rules.specs.Owed.{OwesNothing}
+use Rattle.scp_ballot_rules.specs.Owed.{OwesNothing, AreAheadOf}
 use Rattle.scp_ballot.specs.Told.{ballots_on}
 use Rattle.scp_ballot.specs.View.{BalloterView}
 use Rattle.scp_ballot.specs.declared.balloted.Balloted.{Balloted}
 use Rattle.scp_ballot.specs.declared.balloted.Certified.{Certified}
 
--- What a balloter knows: its slot, the hash of its set, what it sees of ballots, the statement that was emitted last, and
--- whether it failed.
+-- What a balloter knows: its slot, the hash of its set, what it sees of ballots, the composite that is kept, the statement that
+-- was emitted last, and whether it failed.
 pub record Ballots : Type 0 where
   pub slot : ℕ
   pub hash : Hash
   pub board : Seen
+  pub composite : Option (List ℕ)
   pub emitted : Option Pledges
   pub failed : Bool
 
 abbrev pub ballots : BalloterView → Ballots
-ballots v = record { slot = v.slot; hash = v.hash; board = ballots_on v.board; emitted = v.emitted; failed = v.failed }
+ballots v = record { slot = v.slot; hash = v.hash; board = ballots_on v.board; composite = v.composite; emitted = v.emitted; failed = v.failed }
 
 -- the own ballot statement on the board
 abbrev pub own : Ballots → Option Pledges
@@ -101,12 +103,30 @@ GoesOn (Externalizing p) (Preparing q) = ⊥
 GoesOn (Externalizing p) (Confirming q) = ⊥
 GoesOn p q = Unit {0}
 
+-- the ballot of the own PREPARE; where nothing was said, counter 0 and no bytes
+abbrev pub HasPresent : Option Pledges → Ballot → Type 0
+HasPresent None x = x ≡ record { counter = 0; value = [] }
+HasPresent (Some (Preparing p)) x = x ≡ p.ballot
+HasPresent (Some (Confirming p)) x = ⊥
+HasPresent (Some (Externalizing p)) x = ⊥
+HasPresent (Some (Nominating p)) x = ⊥
+
+-- A PREPARE has the ballot of the one before, or a ballot of its value is confirmed prepared (nH isn't 0), or it has the value of
+-- the composite, where there is one.
+abbrev pub KeepsValue : Option Pledges → Option (List ℕ) → Pledges → Type 0
+KeepsValue before composite (Preparing q) = HasPresent before q.ballot ⊎ (q.n_high ≢ 0) ⊎ ForSome composite (λ z. q.ballot.value ≡ z)
+KeepsValue before composite (Confirming q) = Unit {0}
+KeepsValue before composite (Externalizing q) = Unit {0}
+KeepsValue before composite (Nominating q) = Unit {0}
+
 -- What an input gives: the own statement is licensed from the one before it, with the others' part of the board as after the
--- input, and goes no way back; nothing is owed, unless there is more; the statement is emitted exactly where it is worth telling; a decision is
--- given exactly where the own statement becomes an EXTERNALIZE, which then stays as it is.
+-- input, and goes no way back; a new ballot of a PREPARE has the composite's value, unless one is confirmed prepared; nothing is
+-- owed, unless there is more; the statement is emitted exactly where it is worth telling; a decision is given exactly where the
+-- own statement becomes an EXTERNALIZE, which then stays as it is.
 pub record Advances (old new : Ballots) (given : Balloted) : Type 0 where
   pub licensed : Licensed new.board (own old) (own new)
   pub rises : ForSome (own old) (λ p. ForSome (own new) (λ q. GoesOn p q))
+  pub value : ForSome (own new) (λ q. KeepsValue (own old) new.composite q)
   pub owed : given.more ≡ false → OwesNothing new.hash new.board
   pub emitted : IsSome given.statement ↔ IsWorthTelling old.emitted (own new)
   pub statement : ForSome given.statement (λ e. IsOwnEnvelope new e)
@@ -117,6 +137,28 @@ pub record Advances (old new : Ballots) (given : Balloted) : Type 0 where
   pub certified : ForSome given.decided (λ d. IsCertified new d)
   pub making : KeepsMaking old new
   pub counted : KeepsOwn new.board
+
+abbrev pub IsPrepare : Pledges → Type 0
+IsPrepare (Preparing p) = Unit {0}
+IsPrepare (Confirming p) = ⊥
+IsPrepare (Externalizing p) = ⊥
+IsPrepare (Nominating p) = ⊥
+
+-- The value is kept as the composite while the own statement is a PREPARE or nothing was said; later the composite stays.
+abbrev pub TakesValue : List ℕ → Ballots → Ballots → Type 0
+TakesValue value old new = (ForSome (own old) IsPrepare × (new.composite ≡ Some value)) ⊎ ((ForSome (own old) IsPrepare → ⊥) × (new.composite ≡ old.composite))
+
+-- A PREPARE has the ballot (1, value); or a ballot of its value is confirmed prepared; or the others were ahead of counter 1, and
+-- it has a higher counter and this value.
+abbrev pub IsFirst : List ℕ → Seen → Pledges → Type 0
+IsFirst value b (Preparing q) = (q.ballot ≡ record { counter = 1; value = value }) ⊎ (q.n_high ≢ 0) ⊎ (AreAheadOf b 1 × (q.ballot.value ≡ value))
+IsFirst value b (Confirming q) = Unit {0}
+IsFirst value b (Externalizing q) = Unit {0}
+IsFirst value b (Nominating q) = Unit {0}
+
+-- Where there was no ballot, the first one is made of the value.
+abbrev pub MakesFirst : List ℕ → Ballots → Ballots → Type 0
+MakesFirst value old new = (HasBallot old → ⊥) → ForSome (own new) (λ q. IsFirst value old.board q)
 
 -- The other nodes have the same statements and sets.
 pub record KeepsOthers (old new : Seen) : Type 0 where
@@ -155,5 +197,6 @@ pub record Begins (node : NodeId) (number : ℕ) (set : QuorumTree) (b : Ballots
   pub sets : (v : NodeId) → b.board.counted v ≡ None
   pub slot : b.slot ≡ number
   pub hash : b.hash.0 ≡ sha256 (set_spelling set)
+  pub composite : b.composite ≡ None
   pub emitted : b.emitted ≡ None
   pub failed : b.failed ≡ false

@@ -14,7 +14,7 @@ use Rattle.scp_ballot_rules.specs.declared.state.State.{State}
 use Rattle.scp_ballot_rules.specs.declared.state.Phase.TheVariants.{Externalize}
 use Rattle.scp_ballot_rules.specs.Own.{own_of, or_zero, counter_of, StandsFor, IsBlank}
 use Rattle.scp_ballot_rules.specs.Ready.{IsReady}
-use Rattle.scp_ballot_rules.specs.Rises.{Rises, or_state}
+use Rattle.scp_ballot_rules.specs.Rises.{Rises, Moves, or_state}
 use Rattle.scp_ballot.specs.Told.{ballots_on}
 use Rattle.scp_ballot.specs.declared.machine.Machine.{Machine}
 
@@ -59,6 +59,8 @@ pub record IsSettled (first : Machine) (input : Option State) (now : Machine) : 
   pub stands : StandsFor (own_at now) now.hash now.state
   pub ready : IsReady now.state
   pub rises : Rises (or_state input first.state) now.state
+  pub composite : now.state.composite ≡ (or_state input first.state).composite
+  pub moves : Moves (ballots_on first.board) (or_state input first.state) now.state
   pub confirmed : (first.state.phase ≡ Externalize → ⊥) → IsConfirmedAt (ballots_on now.board) now.state
   pub ended : first.state.phase ≡ Externalize → now ≡ first
 
@@ -67,4 +69,5 @@ pub record MachineBegins (me : NodeId) (set : QuorumTree) (m : Machine) : Type 0
   pub board : IsNewBoard me set (ballots_on m.board)
   pub hash : m.hash.0 ≡ sha256 (set_spelling set)
   pub state : IsBlank m.state
+  pub composite : m.state.composite ≡ None
   pub emitted : m.emitted ≡ None

@@ -36,7 +36,7 @@ impl Model for Balloter {
 }
 
 impl Balloter {
-    ghost use Rattle.scp_ballot.specs.Balloting.{ballots, Begins, Advances, HasBallot, KeepsOthers, HearsOnly, RaisesCounter};
+    ghost use Rattle.scp_ballot.specs.Balloting.{ballots, Begins, Advances, TakesValue, MakesFirst, HasBallot, KeepsOthers, HearsOnly, RaisesCounter};
 
     /// A balloter that has heard and said nothing, of this node and its set.
     pub fn new(alloc: Global, me: NodeId, slot: Slot, local: Arc<SaneSet>) -> Balloter
@@ -48,10 +48,12 @@ impl Balloter {
         }
     }
 
-    /// A composite of the nomination: it is kept, and makes the first ballot where there is none. Refused by `Failed` once a
-    /// call was refused, else by `NoMemory`.
+    /// A composite of the nomination: while the own statement is a PREPARE it is kept, and makes the first ballot where there
+    /// is none. Refused by `Failed` once a call was refused, else by `NoMemory`.
     pub fn candidate(&mut self, value: Value) -> Result<Balloted, Fault>
         ensures advances { IfOk result (λ given. Advances (ballots self.old) (ballots self.new) given) }
+        ensures composite { OnOk result (TakesValue value (ballots self.old) (ballots self.new)) }
+        ensures first { OnOk result (MakesFirst value (ballots self.old) (ballots self.new)) }
         ensures ballot { OnOk result (HasBallot (ballots self.new)) }
         ensures others { OnOk result (KeepsOthers (ballots self.old).board (ballots self.new).board) }
         ensures refused { IfErr result (λ f. ((f ≡ Fault.Failed) × ((ballots self.old).failed ≡ true)) ⊎ ((f ≡ Fault.NoMemory) × ((ballots self.old).failed ≡ false))) }
@@ -74,6 +76,7 @@ impl Balloter {
     pub fn take(&mut self, envelope: Envelope, delivered: Arc<SaneSet>) -> Result<Balloted, Fault>
         ensures advances { IfOk result (λ given. Advances (ballots self.old) (ballots self.new) given) }
         ensures ballot { OnOk result (HasBallot (ballots self.old) → HasBallot (ballots self.new)) }
+        ensures composite { OnOk result ((ballots self.new).composite ≡ (ballots self.old).composite) }
         ensures others { OnOk result (HearsOnly (ballots self.old) (ballots self.new) envelope delivered.value) }
         ensures refused { IfErr result (λ f. ((f ≡ Fault.Failed) × ((ballots self.old).failed ≡ true)) ⊎ ((f ≡ Fault.NoMemory) × ((ballots self.old).failed ≡ false))) }
         ensures working { OnOk result (((ballots self.old).failed ≡ false) × ((ballots self.new).failed ≡ false)) }
@@ -94,6 +97,7 @@ impl Balloter {
     pub fn timer(&mut self) -> Result<Balloted, Fault>
         ensures advances { IfOk result (λ given. Advances (ballots self.old) (ballots self.new) given) }
         ensures ballot { OnOk result (HasBallot (ballots self.old) → HasBallot (ballots self.new)) }
+        ensures composite { OnOk result ((ballots self.new).composite ≡ (ballots self.old).composite) }
         ensures raises { OnOk result (RaisesCounter (ballots self.old) (ballots self.new)) }
         ensures others { OnOk result (KeepsOthers (ballots self.old).board (ballots self.new).board) }
         ensures refused { IfErr result (λ f. ((f ≡ Fault.Failed) × ((ballots self.old).failed ≡ true)) ⊎ ((f ≡ Fault.NoMemory) × ((ballots self.old).failed ≡ false))) }

@@ -2,7 +2,7 @@
 ghost use Rattle.std.specs.Prelude.{◌≡◌, ◌⊎◌, IfOk, IfSome, IfNone, IsOkUnless};
 ghost use Rattle.scp_ballot_rules.specs.declared.state.Phase.TheVariants.{Prepare, Confirm, Externalize};
 ghost use Rattle.scp_ballot_rules.specs.Ready.{IsReady, IsConfirming};
-ghost use Rattle.scp_ballot_rules.specs.Rules.{IsStep, AcceptsPrepared, ConfirmsPrepared, AcceptsCommit, Raises, AcceptsMore, Grows, ConfirmsCommit, RaisesMore};
+ghost use Rattle.scp_ballot_rules.specs.Rules.{IsStep, AcceptsPrepared, ConfirmsPrepared, AcceptsCommit, CatchesUp, AcceptsMore, Grows, ConfirmsCommit, RaisesMore};
 ghost use Rattle.scp_ballot_rules.specs.Rests.{Rests, RestsInPrepare, RestsInConfirm, CommitsNone, RaisesNone, CommitsNoHigher, ConfirmsNone, AcceptsNoMore, ConfirmsNoMore};
 ghost use Rattle.scp_ballot.specs.Told.{ballots_on};
 
@@ -37,7 +37,7 @@ fn prepare_next(alloc: Global, board: &Board, state: &State) -> Result<Option<St
 
 /// The third rule and the fifth, in the phase Prepare.
 fn commit_next(alloc: Global, board: &Board, state: &State) -> Result<Option<State>, Fault>
-    ensures step { IfOk result (λ next. IfSome next (λ next. AcceptsCommit (ballots_on board.now) state.now next ⊎ Raises state.now next)) }
+    ensures step { IfOk result (λ next. IfSome next (λ next. AcceptsCommit (ballots_on board.now) state.now next ⊎ CatchesUp (ballots_on board.now) state.now next)) }
     ensures rests { IfOk result (λ next. IfNone next (CommitsNone (ballots_on board.now) × RaisesNone (ballots_on board.now) state.now)) }
     ensures only_memory { IsOkUnless result Fault.NoMemory }
 {

@@ -5,7 +5,7 @@ ghost use Rattle.scp_types.specs.declared.names.NodeId.{NodeId};
 ghost use Rattle.scp_quorum.specs.NodeSet.{is_in};
 ghost use Rattle.scp_ballot_rules.specs.Own.{counter_of};
 ghost use Rattle.scp_ballot_rules.specs.Ready.{HasValue};
-ghost use Rattle.scp_ballot_rules.specs.Rules.{Raises, RaisesMore, raised_value};
+ghost use Rattle.scp_ballot_rules.specs.Rules.{Raises, CatchesUp, RaisesMore, raised_value};
 ghost use Rattle.scp_ballot_rules.specs.Rests.{RaisesNone};
 ghost use Rattle.scp_ballot_rules.specs.Owed.{AreAheadOf, counter_in};
 ghost use Rattle.scp_ballot.specs.Told.{ballots_on};
@@ -130,6 +130,7 @@ fn least_counter(alloc: Global, board: &Board, n: u32, top: u32) -> Result<u32, 
 /// above it don't.
 fn raised_counter(alloc: Global, board: &Board, n: u32) -> Result<Option<u32>, Fault>
     ensures above { IfOk result (λ found. IfSome found (λ new. n < new)) }
+    ensures ahead { IfOk result (λ found. IfSome found (λ _. AreAheadOf (ballots_on board.now) n)) }
     ensures none { IfOk result (λ found. IfNone found (AreAheadOf (ballots_on board.now) n → ⊥)) }
     ensures only_memory { IsOkUnless result Fault.NoMemory }
 {
@@ -239,7 +240,7 @@ pub(crate) fn raise_confirming(state: &State, counter: u32) -> Result<Option<Sta
 
 /// In the phase Prepare: the state raised above where the others are ahead, if they are and there is a value.
 pub(crate) fn catch_up(alloc: Global, board: &Board, state: &State) -> Result<Option<State>, Fault>
-    ensures step { IfOk result (λ next. IfSome next (λ next. Raises state.now next)) }
+    ensures step { IfOk result (λ next. IfSome next (λ next. CatchesUp (ballots_on board.now) state.now next)) }
     ensures rests { IfOk result (λ next. IfNone next (RaisesNone (ballots_on board.now) state.now)) }
     ensures only_memory { IsOkUnless result Fault.NoMemory }
 {

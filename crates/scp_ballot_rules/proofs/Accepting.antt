@@ -77,6 +77,7 @@ module _ (b : Seen) (old next : State) (ready : IsPreparing old) (step : Accepts
           same_some_and (λ p. AtMost w p) old.present next.present (sym same_present) was.0,
           some_and (λ p. AtMost w p) next.prepared y.0 y.1 (at_most_trans w p.0 y.0 p.2 y.2),
         );
+    counted = λ w e. ready.counted w (sym same_confirmed ∙ e);
     settled = λ w e p f same. same_high ∙ ready.settled w (sym same_confirmed ∙ e) p (sym same_present ∙ f) same;
     high = λ h e.
         let was = ready.high h (sym same_high ∙ e) in

@@ -103,6 +103,7 @@ module _ (b : Seen) (old next : State) (ready : IsPreparing old) (step : Confirm
       confirmed = λ w e.
           let was = ready.confirmed w (sym same_confirmed ∙ e) in
           (same_some_and (λ p. AtMost w p) old.present next.present (sym same_present) was.0, same_some_and (λ p. AtMost w p) old.prepared next.prepared (sym same_prepared) was.1);
+      counted = λ w e. ready.counted w (sym same_confirmed ∙ e);
       settled = λ w e p f same. same_high ∙ ready.settled w (sym same_confirmed ∙ e) p (sym same_present ∙ f) same;
       high = λ h e.
           let was = ready.high h (sym same_high ∙ e) in
@@ -177,6 +178,7 @@ module _ (b : Seen) (old next : State) (ready : IsPreparing old) (step : Confirm
       present = λ p e. ((present_next joins p e).0, inl (is_some_and (λ w. AtMost w x) next.confirmed (some_and (λ w. AtMost w x) next.confirmed x is (inl refl))));
       confirmed = for_some (λ w. IsSomeAnd next.present (λ p. AtMost w p) × IsSomeAnd next.prepared (λ p. AtMost w p)) next.confirmed x is
           (present_there joins, same_some_and (λ p. AtMost x p) old.prepared next.prepared (sym same_prepared) (covered_prepared old ready x (covers x confirmed)));
+      counted = for_some (λ w. w.counter ≢ 0) next.confirmed x is counted;
       settled = for_some (λ w. ForSome next.present (λ p. w.value ≡ p.value → next.high ≡ Some w)) next.confirmed x is (settled_next joins);
       high = high_next joins;
       low = low_next joins step.low;

@@ -16,7 +16,7 @@ use Rattle.scp_ballot_rules.specs.declared.state.Phase.TheVariants.{Prepare, Con
 use Rattle.scp_ballot_rules.specs.Order.{IsAbove}
 use Rattle.scp_ballot_rules.specs.Own.{counter_of, or_zero, confirm_of, own_in, own_of, StandsFor}
 use Rattle.scp_ballot_rules.specs.Ready.{IsLowUnder, IsPreparing, IsConfirming, IsReadyIn, IsReady}
-use Rattle.scp_ballot_rules.specs.Rules.{IsHeld, AcceptsPrepared, ConfirmsPrepared, Raises, ConfirmsCommit, AcceptsMore, AcceptsCommit, RaisesMore, Grows, IsStep}
+use Rattle.scp_ballot_rules.specs.Rules.{IsHeld, AcceptsPrepared, ConfirmsPrepared, Raises, CatchesUp, ConfirmsCommit, AcceptsMore, AcceptsCommit, RaisesMore, Grows, IsStep}
 use Rattle.scp_ballot_rules.proofs.Options.{some_of, some_and, at_some, none_some, some_same, some_or_none}
 use Rattle.scp_ballot_rules.proofs.Accepting.{accepting_keeps}
 use Rattle.scp_ballot_rules.proofs.Confirming.{confirming_keeps}
@@ -70,7 +70,12 @@ module _ (b : Seen) (hash : Hash) (own : Option Pledges) (old : State) (ready : 
         subst P (sym phase) here
 
 module _ (b : Seen) (hash : Hash) (own : Option Pledges) (old next : State) (is : b.statement b.me ≡ own) (stands : StandsFor own hash old) where
-  first_link : IsPreparing old → old.phase ≡ Prepare → AcceptsPrepared b old next ⊎ ConfirmsPrepared b old next ⊎ AcceptsCommit b old next ⊎ Raises old next
+  -- a raised counter, by the rule or by a timer
+  pub raised_link : IsPreparing old → old.phase ≡ Prepare → Raises old next → IsReady next × Follows b own (own_of hash next)
+  raised_link ready phase step =
+      (subst (λ ph. IsReadyIn ph next) (sym (ap (λ (s : State). s.phase) step.frame ∙ phase)) (raising_keeps old next ready step), raising_follows b hash own old next is ready phase stands step)
+
+  first_link : IsPreparing old → old.phase ≡ Prepare → AcceptsPrepared b old next ⊎ ConfirmsPrepared b old next ⊎ AcceptsCommit b old next ⊎ CatchesUp b old next
       → IsReady next × Follows b own (own_of hash next)
   first_link ready phase (inl step) =
       (subst (λ ph. IsReadyIn ph next) (sym (ap (λ (s : State). s.phase) step.frame ∙ phase)) (accepting_keeps b old next ready step), accepting_follows b hash own old next is ready phase stands step)
@@ -80,8 +85,7 @@ module _ (b : Seen) (hash : Hash) (own : Option Pledges) (old next : State) (is 
   )
   first_link ready phase (inr (inr (inl step))) =
       (subst (λ ph. IsReadyIn ph next) (sym step.phase) (committing_keeps b old next step), commit_follows b hash own old next (held_first b hash own old next is ready phase stands) step)
-  first_link ready phase (inr (inr (inr step))) =
-      (subst (λ ph. IsReadyIn ph next) (sym (ap (λ (s : State). s.phase) step.frame ∙ phase)) (raising_keeps old next ready step), raising_follows b hash own old next is ready phase stands step)
+  first_link ready phase (inr (inr (inr step))) = raised_link ready phase step.raises
 
   later_link : IsConfirming old → old.phase ≡ Confirm → AcceptsMore b old next ⊎ (AcceptsCommit b old next × Grows old next) ⊎ ConfirmsCommit b old next ⊎ RaisesMore old next
       → IsReady next × Follows b own (own_of hash next)

@@ -11,3 +11,4 @@ pub mod Rising
 pub mod Raised
 pub mod Ahead
 pub mod Certifying
+pub mod Moving

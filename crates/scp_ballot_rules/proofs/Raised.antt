@@ -40,6 +40,7 @@ raised s n v high low up value highs lows = record {
   frame = refl;
   value = value_there s.confirmed s.composite s.prepared v value;
   present = (up, value_of_confirmed s.confirmed s.composite s.prepared v value);
+  raised = value;
   high = high_from s.confirmed high highs.0;
   no_high = highs.1;
   low = lows;

@@ -85,6 +85,7 @@ module _ (old next : State) (ready : IsPreparing old) (step : Raises old next) w
           some_and (λ p. AtMost w p) next.present p.0 p.1 (inr (counter_less w p.0 (raised_from w (sym same_confirmed ∙ e) was.0 p.0 p.1))),
           same_some_and (λ p. AtMost w p) old.prepared next.prepared (sym same_prepared) was.1,
         );
+    counted = λ w e. ready.counted w (sym same_confirmed ∙ e);
     settled = λ w e p f same. step.high w (sym same_confirmed ∙ e);
     high = λ h e.
         let from = high_from h e in
@@ -129,6 +130,7 @@ module _ (z : List ℕ) (old next : State) (ready : IsPreparing old) (step : Com
         let was = ready.confirmed w (sym composite_confirmed ∙ e) in
         let p = some_of (λ p. AtMost w p) old.present was.0 in
         (some_and (λ p. AtMost w p) next.present p.0 (stays p.0 p.1) p.2, same_some_and (λ p. AtMost w p) old.prepared next.prepared (sym composite_prepared) was.1);
+    counted = λ w e. ready.counted w (sym composite_confirmed ∙ e);
     settled = λ w e p f same.
         let was = some_of (λ p. AtMost w p) old.present (ready.confirmed w (sym composite_confirmed ∙ e)).0 in
         composite_high ∙ ready.settled w (sym composite_confirmed ∙ e) was.0 was.1 (same ∙ ap (λ (b : Ballot). b.value) (some_same next.present p was.0 f (stays was.0 was.1)));

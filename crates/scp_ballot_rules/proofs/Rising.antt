@@ -55,8 +55,8 @@ step_rises b old next (inl (phase, inl step)) = same_present old next (ap (λ (s
 step_rises b old next (inl (phase, inr (inl step))) = confirming_rises b old next step
 step_rises b old next (inl (phase, inr (inr (inl step)))) = later old next 0 1 (ap place phase) (ap place step.phase) (omega arith)
 step_rises b old next (inl (phase, inr (inr (inr step)))) =
-    let p = some_of (λ b. (counter_of old.present < b.counter) × ForSome old.confirmed (λ w. b.value ≡ w.value)) next.present step.present in
-    inr (ap (λ (s : State). s.phase) step.frame, omega (arith, p.2.0, ap counter_of p.1))
+    let p = some_of (λ b. (counter_of old.present < b.counter) × ForSome old.confirmed (λ w. b.value ≡ w.value)) next.present step.raises.present in
+    inr (ap (λ (s : State). s.phase) step.raises.frame, omega (arith, p.2.0, ap counter_of p.1))
 step_rises b old next (inr (phase, inl step)) = same_present old next (ap (λ (s : State). s.phase) step.frame) (ap (λ (s : State). s.present) step.frame)
 step_rises b old next (inr (phase, inr (inl step))) = inr (step.0.phase ∙ sym phase, grown old.present next.present step.1.present)
 step_rises b old next (inr (phase, inr (inr (inl step)))) = later old next 1 2 (ap place phase) (ap place step.phase) (omega arith)

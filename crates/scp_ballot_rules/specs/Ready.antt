@@ -23,6 +23,7 @@ pub record IsPreparing (s : State) : Type 0 where
   pub prime : ForSome s.prime (λ x. IsSomeAnd s.prepared (λ p. FitsUnder x p))
   pub present : ForSome s.present (λ b. (b.counter ≢ 0) × HasValue s)
   pub confirmed : ForSome s.confirmed (λ w. IsSomeAnd s.present (λ b. AtMost w b) × IsSomeAnd s.prepared (λ p. AtMost w p))
+  pub counted : ForSome s.confirmed (λ w. w.counter ≢ 0)
   pub settled : ForSome s.confirmed (λ w. ForSome s.present (λ b. w.value ≡ b.value → s.high ≡ Some w))
   pub high : ForSome s.high (λ h. IsSomeAnd s.confirmed (λ w. AtMost h w) × IsSomeAnd s.present (λ b. h.value ≡ b.value))
   pub low : ForSome s.low (λ c. IsSomeAnd s.high (λ h. IsLowUnder c h × NoneOver s h))

@@ -10,6 +10,7 @@ use Rattle.scp_envelope.specs.Ballots.{IsLess}
 use Rattle.scp_ballot_rules.specs.Order.{AtMost, FitsUnder, IsOver, IsAbove}
 use Rattle.scp_ballot_rules.specs.Own.{counter_of}
 use Rattle.scp_ballot_rules.specs.Ready.{HasValue, NoneOver}
+use Rattle.scp_ballot_rules.specs.Owed.{AreAheadOf}
 
 -- the ballot was accepted prepared by the old state, or is Accepted so on the board
 abbrev pub IsHeld : State → Ballot → Type 0
@@ -58,20 +59,35 @@ pub record AcceptsCommit (b : Seen) (old next : State) : Type 0 where
       × IsSomeAnd next.present (λ p. (h.value ≡ p.value) × (h.counter ≤ p.counter))))
   pub prepared : ForSome next.prepared (λ x. IsHeld old x × IsSomeAnd next.low (λ c. x.value ≡ c.value))
   pub prime : next.prime ≡ None
+  pub composite : next.composite ≡ old.composite
 
 -- Confirm commit, in the phase Confirm.
 pub record ConfirmsCommit (b : Seen) (old next : State) : Type 0 where
   pub phase : next.phase ≡ Externalize
   pub range : IsSomeAnd next.low (λ c. IsSomeAnd next.high (λ h. (c.counter ≢ 0) × (c.value ≡ h.value) × (c.counter ≤ h.counter) × Confirmed b (Committed c.counter h.counter h.value)))
+  pub composite : next.composite ≡ old.composite
+
+-- the value for a raised ballot, in the phase Prepare: that of w, else z, else that of p
+abbrev pub raised_value : Option Ballot → Option (List ℕ) → Option Ballot → Option (List ℕ)
+raised_value (Some w) z p = Some w.value
+raised_value None (Some z) p = Some z
+raised_value None None (Some p) = Some p.value
+raised_value None None None = None
 
 -- A higher counter, in the phase Prepare.
 pub record Raises (old next : State) : Type 0 where
   pub frame : next ≡ record old { present = next.present; high = next.high; low = next.low }
   pub value : HasValue old
   pub present : IsSomeAnd next.present (λ b. (counter_of old.present < b.counter) × ForSome old.confirmed (λ w. b.value ≡ w.value))
+  pub raised : IsSomeAnd next.present (λ b. raised_value old.confirmed old.composite old.prepared ≡ Some b.value)
   pub high : ForSome old.confirmed (λ w. next.high ≡ Some w)
   pub no_high : old.confirmed ≡ None → next.high ≡ old.high
   pub low : (next.low ≡ None) ⊎ ((next.low ≡ old.low) × ForSome old.low (λ c. IsSomeAnd next.present (λ b. c.value ≡ b.value)))
+
+-- A higher counter where the others are ahead, in the phase Prepare.
+pub record CatchesUp (b : Seen) (old next : State) : Type 0 where
+  pub raises : Raises old next
+  pub ahead : AreAheadOf b (counter_of old.present)
 
 -- A higher counter, in the phase Confirm.
 pub record RaisesMore (old next : State) : Type 0 where
@@ -92,16 +108,9 @@ pub record Grows (old next : State) : Type 0 where
 -- One rule was applied.
 abbrev pub IsStep : Seen → State → State → Type 0
 IsStep b old next =
-    ((old.phase ≡ Prepare) × (AcceptsPrepared b old next ⊎ ConfirmsPrepared b old next ⊎ AcceptsCommit b old next ⊎ Raises old next))
+    ((old.phase ≡ Prepare) × (AcceptsPrepared b old next ⊎ ConfirmsPrepared b old next ⊎ AcceptsCommit b old next ⊎ CatchesUp b old next))
     ⊎ ((old.phase ≡ Confirm) × (AcceptsMore b old next ⊎ (AcceptsCommit b old next × Grows old next) ⊎ ConfirmsCommit b old next ⊎ RaisesMore old next))
 
--- An input or a rule changed the state: one rule, or a composite in the phase Prepare.
+-- An input or a rule changed the state: one rule, or a composite or a timer in the phase Prepare.
 abbrev pub IsChange : Seen → State → State → Type 0
-IsChange b old next = IsStep b old next ⊎ ((old.phase ≡ Prepare) × (z : List ℕ) × Composes z old next)
-
--- the value for a raised ballot, in the phase Prepare: that of w, else z, else that of p
-abbrev pub raised_value : Option Ballot → Option (List ℕ) → Option Ballot → Option (List ℕ)
-raised_value (Some w) z p = Some w.value
-raised_value None (Some z) p = Some z
-raised_value None None (Some p) = Some p.value
-raised_value None None None = None
+IsChange b old next = IsStep b old next ⊎ ((old.phase ≡ Prepare) × (z : List ℕ) × Composes z old next) ⊎ ((old.phase ≡ Prepare) × Raises old next)

@@ -1,9 +1,10 @@
 use Rattle.std.proofs.Common.{◌≡◌, false, rules, subst}
 use Rattle.scp_ballot.specs.View.{BalloterView}
-use Rattle.scp_ballot.specs.Balloting.{ballots, Advances, KeepsOthers}
+use Rattle.scp_ballot.specs.Balloting.{ballots, Advances, TakesValue, MakesFirst, KeepsOthers}
 use Rattle.scp_ballot.specs.Inside.{ballots_of}
 use Rattle.scp_ballot.proofs.Advancing.{advances, gives_rests}
 use Rattle.scp_ballot.proofs.Calling.{others_kept, composite_ballot, composite_phase, composite_rises}
+use Rattle.scp_ballot.proofs.Composing.{composite_enters, composite_taken, composite_first}
 use Rattle.scp_ballot.proofs.balloter.Balloter.candidate.Goals as goal
 
 pub candidate-requires : goal.candidate-requires
@@ -17,7 +18,23 @@ returns-clause-advances c =
     let given = c.in_ok-given.given in
     let takes = c.in_ok-given.ensures.takes in
     subst (λ (v : BalloterView). Advances (ballots v) (ballots_of n false) given) c.self.view_is
-    (advances m n given takes.first c.self.inside.failed false (c.self.invariant whole) (composite_phase c.args.value m n given takes) (composite_rises c.args.value m n given takes) takes.gives)
+    (advances m n given takes.first c.self.inside.failed false (c.self.invariant whole) (composite_phase c.args.value m n given takes) (composite_rises c.args.value m n given takes) (composite_enters c.args.value m n given takes) takes.gives)
+
+pub returns-clause-composite : goal.returns-clause-composite
+returns-clause-composite c =
+    let whole : c.self.inside.failed ≡ false = search rules in
+    let m = c.self.inside.machine in
+    let n = c.candidate.new.self in
+    subst (λ (v : BalloterView). TakesValue c.args.value (ballots v) (ballots_of n false)) c.self.view_is
+    (composite_taken c.args.value m n c.in_ok-given.given c.self.inside.failed false (c.self.invariant whole) c.in_ok-given.ensures.takes)
+
+pub returns-clause-first : goal.returns-clause-first
+returns-clause-first c =
+    let whole : c.self.inside.failed ≡ false = search rules in
+    let m = c.self.inside.machine in
+    let n = c.candidate.new.self in
+    subst (λ (v : BalloterView). MakesFirst c.args.value (ballots v) (ballots_of n false)) c.self.view_is
+    (composite_first c.args.value m n c.in_ok-given.given c.self.inside.failed false (c.self.invariant whole) c.in_ok-given.ensures.takes)
 
 pub returns-clause-ballot : goal.returns-clause-ballot
 returns-clause-ballot c =

@@ -3,6 +3,7 @@ use Rattle.scp_ballot.specs.View.{BalloterView}
 use Rattle.scp_ballot.specs.Balloting.{ballots, Advances, HasBallot, HearsOnly}
 use Rattle.scp_ballot.specs.Inside.{ballots_of}
 use Rattle.scp_ballot.proofs.Calling.{take_ballot}
+use Rattle.scp_ballot.proofs.Composing.{take_composite}
 use Rattle.scp_ballot.proofs.Taking.{take_advances, take_rests, take_hears}
 use Rattle.scp_ballot.proofs.balloter.Balloter.take.Goals as goal
 
@@ -25,6 +26,12 @@ returns-clause-ballot c had =
     let n = c.take.new.self in
     let before = subst (λ (v : BalloterView). HasBallot (ballots v)) (sym c.self.view_is) had in
     take_ballot m n c.in_ok-given.given c.args.envelope c.args.delivered.value c.self.inside.failed false (c.self.invariant whole) c.in_ok-given.ensures.takes before
+
+pub returns-clause-composite : goal.returns-clause-composite
+returns-clause-composite c =
+    let n = c.take.new.self in
+    subst (λ (v : BalloterView). (ballots_of n false).composite ≡ (ballots v).composite) c.self.view_is
+    (take_composite c.self.inside.machine n c.in_ok-given.given c.args.envelope c.args.delivered.value c.in_ok-given.ensures.takes)
 
 pub returns-clause-others : goal.returns-clause-others
 returns-clause-others c =

@@ -4,6 +4,7 @@ use Rattle.scp_ballot.specs.Balloting.{ballots, Advances, HasBallot, KeepsOthers
 use Rattle.scp_ballot.specs.Inside.{ballots_of}
 use Rattle.scp_ballot.proofs.Advancing.{advances, gives_rests}
 use Rattle.scp_ballot.proofs.Calling.{others_kept, timer_ballot, timer_raises, timer_phase, timer_rises}
+use Rattle.scp_ballot.proofs.Composing.{timer_enters, timer_composite}
 use Rattle.scp_ballot.proofs.balloter.Balloter.timer.Goals as goal
 
 pub timer-requires : goal.timer-requires
@@ -17,7 +18,7 @@ returns-clause-advances c =
     let given = c.in_ok-given.given in
     let takes = c.in_ok-given.ensures.takes in
     subst (λ (v : BalloterView). Advances (ballots v) (ballots_of n false) given) c.self.view_is
-    (advances m n given takes.first c.self.inside.failed false (c.self.invariant whole) (timer_phase m n given takes) (timer_rises m n given takes) takes.gives)
+    (advances m n given takes.first c.self.inside.failed false (c.self.invariant whole) (timer_phase m n given takes) (timer_rises m n given takes) (timer_enters m n given (c.self.invariant whole) takes) takes.gives)
 
 pub returns-clause-ballot : goal.returns-clause-ballot
 returns-clause-ballot c had =
@@ -26,6 +27,11 @@ returns-clause-ballot c had =
     let n = c.timer.new.self in
     let before = subst (λ (v : BalloterView). HasBallot (ballots v)) (sym c.self.view_is) had in
     timer_ballot m n c.in_ok-given.given c.self.inside.failed false (c.self.invariant whole) c.in_ok-given.ensures.takes before
+
+pub returns-clause-composite : goal.returns-clause-composite
+returns-clause-composite c =
+    let n = c.timer.new.self in
+    subst (λ (v : BalloterView). (ballots_of n false).composite ≡ (ballots v).composite) c.self.view_is (timer_composite c.self.inside.machine n c.in_ok-given.given c.in_ok-given.ensures.takes)
 
 pub returns-clause-raises : goal.returns-clause-raises
 returns-clause-raises c =

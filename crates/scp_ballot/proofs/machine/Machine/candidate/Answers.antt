@@ -1,4 +1,4 @@
-use Rattle.std.proofs.Common.{◌≡◌, inr}
+use Rattle.std.proofs.Common.{◌≡◌, inl, inr}
 use Rattle.scp_ballot_rules.specs.declared.state.Phase.TheVariants.{Prepare}
 use Rattle.scp_ballot_rules.specs.Rules.{Composes, IsChange}
 use Rattle.scp_ballot.specs.Told.{ballots_on}
@@ -9,7 +9,7 @@ pub advance-requires : goal.advance-requires
 advance-requires c = record {
   rest = c.requires.rest;
   first = all_change (λ next. (c.args.self.now.state.phase ≡ Prepare) × Composes c.args.value c.args.self.now.state next) (λ next. IsChange (ballots_on c.args.self.now.board) c.args.self.now.state next)
-      c.in_ok-first.first (λ next h. inr (h.0, c.args.value, h.1)) c.in_ok-first.ensures.composes;
+      c.in_ok-first.first (λ next h. inr (inl (h.0, c.args.value, h.1))) c.in_ok-first.ensures.composes;
 }
 
 pub returns-clause-takes : goal.returns-clause-takes
