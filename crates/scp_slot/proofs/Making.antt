@@ -59,6 +59,8 @@ passes_as (Some v) old mid out new b m d passes = record {
     more = passes.ballots.more;
     settled = passes.ballots.settled;
   };
+  composite = subst (λ (x : ballot.Ballots). ballot.TakesValue v x new.ballots) b passes.composite;
+  first = subst (λ (x : ballot.Ballots). ballot.MakesFirst v x new.ballots) b passes.first;
   has_ballot = passes.has_ballot;
   others = subst (λ (x : ballot.Ballots). ballot.KeepsOthers x.board new.ballots.board) b passes.others;
 }
@@ -138,10 +140,11 @@ pub heard_by : (e : Enveloped) (set : Shared) (old mid : SlotView) (b : ballot.B
     → mid.me ≡ old.me → mid.slot ≡ old.slot → mid.nomination ≡ old.nomination → mid.ballots ≡ old.ballots → Enters e set old mid
     → new.me ≡ mid.me → new.slot ≡ mid.slot → new.nomination ≡ mid.nomination → new.newest ≡ mid.newest → new.ballots ≡ b → new.more ≡ given.more → new.decided ≡ is_some given.decided
     → ballots_given out ≡ given → out.emitted.nomination ≡ None → out.verdict ≡ Fresh
-    → ballot.Advances mid.ballots b given → (ballot.HasBallot mid.ballots → ballot.HasBallot b) → b.failed ≡ false → ballot.HearsOnly mid.ballots b e set.value → HearsBallot e set old out new
-heard_by e set old mid b out new given runs undecided other slot kind m_me m_slot m_nomination m_ballots enters n_me n_slot n_nomination n_newest n_ballots n_more n_decided gives silent fresh advances has working hears = record {
+    → ballot.Advances mid.ballots b given → (ballot.HasBallot mid.ballots → ballot.HasBallot b) → b.failed ≡ false → b.composite ≡ mid.ballots.composite → ballot.HearsOnly mid.ballots b e set.value → HearsBallot e set old out new
+heard_by e set old mid b out new given runs undecided other slot kind m_me m_slot m_nomination m_ballots enters n_me n_slot n_nomination n_newest n_ballots n_more n_decided gives silent fresh advances has working composite hears = record {
   machine = record { me = n_me ∙ m_me; slot = n_slot ∙ m_slot };
   ballots = moves_by old b out new given gives n_ballots n_more n_decided (subst (λ (x : ballot.Ballots). ballot.Advances x b given) m_ballots advances) (subst (λ (x : ballot.Ballots). ballot.HasBallot x → ballot.HasBallot b) m_ballots has) working;
+  composite = ap (λ (x : ballot.Ballots). x.composite) n_ballots ∙ composite ∙ ap (λ (x : ballot.Ballots). x.composite) m_ballots;
   hears = subst (λ (x : ballot.Ballots). ballot.Hears old.ballots.board x.board e.statement.node e.statement.pledges (counted_of_other e.statement.node e.statement.pledges set.value)) (sym n_ballots)
       (hears_ballot old.ballots b e set.value (λ is. other (is ∙ runs.ballots_me)) (slot ∙ sym runs.ballots_slot) kind (λ was. let t : true ≡ false = sym (runs.decided.1 was) ∙ undecided in absurd cc) (subst (λ (x : ballot.Ballots). ballot.HearsOnly x b e set.value) m_ballots hears));
   nomination = n_nomination ∙ m_nomination;

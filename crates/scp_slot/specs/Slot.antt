@@ -68,6 +68,11 @@ pub record IsRunning (v : SlotView) : Type 0 where
 abbrev pub OwesNoVote : {D : Type 0} → (D → ℕ → List ℕ → Level) → (D → ℕ → ℕ → ℕ → ℕ) → SlotMachine D → Type 0
 OwesNoVote level place m = nominate.IsPaid level place m.state.nominator
 
+-- By its driver's levels, what that extracts, and its places, each vote that is new since the old view has its reason: it is
+-- accepted too, or there was no candidate and it is the proposal of this node, where it leads, or named by another leader.
+abbrev pub VotesWell : {D : Type 0} → (D → ℕ → List ℕ → Level) → (D → ℕ → List ℕ → Option (List ℕ)) → (D → ℕ → ℕ → ℕ → ℕ) → SlotView → SlotMachine D → Type 0
+VotesWell level extracted place old m = nominate.VotesWell level extracted place old.nomination.lists m.state.nominator
+
 -- Between inputs, while it hasn't failed.
 pub record IsWorking {D : Type 0} (level : D → ℕ → List ℕ → Level) (place : D → ℕ → ℕ → ℕ → ℕ) (s : State D) : Type 0 where
   pub running : IsRunning (view_of s false)

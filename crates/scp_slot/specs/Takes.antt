@@ -60,21 +60,23 @@ pub record BallotsRest (old : SlotView) (out : SlotOutput) (new : SlotView) : Ty
   pub still : new.more ≡ old.more
   pub settled : new.decided ≡ old.decided
 
--- A composite goes to the ballots as their candidate.
-pub record Candidate (old : SlotView) (out : SlotOutput) (new : SlotView) : Type 0 where
+-- This composite goes to the ballots as their candidate: it is kept, and makes the first ballot.
+pub record Candidate (value : List ℕ) (old : SlotView) (out : SlotOutput) (new : SlotView) : Type 0 where
   pub ballots : Ballots old out new
+  pub composite : ballot.TakesValue value old.ballots new.ballots
+  pub first : ballot.MakesFirst value old.ballots new.ballots
   pub has_ballot : ballot.HasBallot new.ballots
   pub others : ballot.KeepsOthers old.ballots.board new.ballots.board
 
 abbrev pub PassesOn : Option (List ℕ) → SlotView → SlotOutput → SlotView → Type 0
 PassesOn None old out new = BallotsRest old out new
-PassesOn (Some composite) old out new = Candidate old out new
+PassesOn (Some composite) old out new = Candidate composite old out new
 
 -- what the nomination gave of an output, beside a composite
 abbrev pub nomination_given : SlotOutput → Option (List ℕ) → Nominated
 nomination_given out composite = record { statement = out.emitted.nomination; composite = composite }
 
--- The nomination takes an input: what it gives is given, and a composite is passed on.
+-- The nomination takes an input: what it gives is given, and the composite that it gives is passed on.
 pub record Nominates (combined : List (List ℕ) → List ℕ) (old : SlotView) (out : SlotOutput) (new : SlotView) : Type 0 where
   pub composite : Option (List ℕ)
   pub advances : nominate.Advances combined (nominate.own old.nomination) old.nomination.lists new.nomination (nomination_given out composite)
@@ -110,6 +112,7 @@ pub record AddsRound (combined : List (List ℕ) → List ℕ) (old : SlotView) 
 pub record Times (old : SlotView) (out : SlotOutput) (new : SlotView) : Type 0 where
   pub machine : IsSameMachine old new
   pub ballots : Ballots old out new
+  pub composite : new.ballots.composite ≡ old.ballots.composite
   pub raises : ballot.RaisesCounter old.ballots new.ballots
   pub others : ballot.KeepsOthers old.ballots.board new.ballots.board
   pub nomination : new.nomination ≡ old.nomination
@@ -140,6 +143,7 @@ pub record HearsNomination (combined : List (List ℕ) → List ℕ) (e : Envelo
 pub record HearsBallot (e : Enveloped) (set : Shared) (old : SlotView) (out : SlotOutput) (new : SlotView) : Type 0 where
   pub machine : IsSameMachine old new
   pub ballots : Ballots old out new
+  pub composite : new.ballots.composite ≡ old.ballots.composite
   pub hears : ballot.Hears old.ballots.board new.ballots.board e.statement.node e.statement.pledges (counted_of_other e.statement.node e.statement.pledges set.value)
   pub nomination : new.nomination ≡ old.nomination
   pub emitted : out.emitted.nomination ≡ None

@@ -17,7 +17,7 @@ pub struct SlotMachine<D: Driver + Drop> {
 }
 
 impl<D: Driver + Drop> SlotMachine<D> {
-    ghost use Rattle.scp_slot.specs.Slot.{slot_view, driver_of, Begins, IsRunning, IsSound, OwesNoVote};
+    ghost use Rattle.scp_slot.specs.Slot.{slot_view, driver_of, Begins, IsRunning, IsSound, OwesNoVote, VotesWell};
     ghost use Rattle.scp_slot.specs.Takes.{Takes, Decides, IsOfSlot};
 
     /// The machine of a slot of which nothing was heard or said. The one refusal is `Fault::NoMemory`.
@@ -67,6 +67,8 @@ impl<D: Driver + Drop> SlotMachine<D> {
         ensures decides { IfOk result (λ out. Decides (slot_view self.old) out (slot_view self.new)) }
         // The boards are those of the newest fresh envelopes, and the ballots owe nothing on them.
         ensures running { OnOk result (IsRunning (slot_view self.new)) }
+        // Each new vote has its reason.
+        ensures votes { OnOk result (VotesWell D.level D.extracted D.place (slot_view self.old) self.new) }
         // Nomination owes nothing.
         ensures owed { OnOk result (OwesNoVote D.level D.place self.new) }
         ensures driver { OnOk result (driver_of self.new ≡ driver_of self.old) }

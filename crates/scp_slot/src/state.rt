@@ -152,7 +152,7 @@ impl<D: Driver + Drop> State<D> {
     /// Gives a composite to the ballots.
     fn offer(&mut self, nomination: Option<Envelope>, value: Value) -> Result<SlotOutput, Fault>
         requires working { (ballot.ballots self.old.balloter).failed ≡ false }
-        ensures passes { IfOk result (λ out. Candidate (view_of self.old false) out (view_of self.new false)) }
+        ensures passes { IfOk result (λ out. Candidate value (view_of self.old false) out (view_of self.new false)) }
         ensures emitted { IfOk result (λ out. out.emitted.nomination ≡ nomination) }
         ensures verdict { IfOk result (λ out. out.verdict ≡ Verdict.Fresh) }
         ensures rest { OnOk result (self.new ≡ record self.old { balloter = self.new.balloter; more = self.new.more; decided = self.new.decided }) }
@@ -198,6 +198,7 @@ impl<D: Driver + Drop> State<D> {
         ensures takes { IfOk result (λ out. TakesInput (D.level (nominate.driver_of self.old.nominator) self.old.slot.0) (D.combined (nominate.driver_of self.old.nominator) (nominate.nomination self.old.nominator).slot) (Propose value) (view_of self.old false) out (view_of self.new false)) }
         ensures driver { OnOk result (nominate.driver_of self.new.nominator ≡ nominate.driver_of self.old.nominator) }
         ensures sound { OnOk result (nominate.IsSound D.level D.place self.new.nominator) }
+        ensures votes { OnOk result (nominate.VotesWell D.level D.extracted D.place (nominate.nomination self.old.nominator).lists self.new.nominator) }
         ensures only_memory { IsOkUnless result Fault.NoMemory }
     {
         if !self.is_full(&value) {
@@ -217,6 +218,7 @@ impl<D: Driver + Drop> State<D> {
         ensures takes { IfOk result (λ out. TakesInput (D.level (nominate.driver_of self.old.nominator) self.old.slot.0) (D.combined (nominate.driver_of self.old.nominator) (nominate.nomination self.old.nominator).slot) (Round) (view_of self.old false) out (view_of self.new false)) }
         ensures driver { OnOk result (nominate.driver_of self.new.nominator ≡ nominate.driver_of self.old.nominator) }
         ensures sound { OnOk result (nominate.IsSound D.level D.place self.new.nominator) }
+        ensures votes { OnOk result (nominate.VotesWell D.level D.extracted D.place (nominate.nomination self.old.nominator).lists self.new.nominator) }
         ensures only_memory { IsOkUnless result Fault.NoMemory }
     {
         if self.nominator.is_last_round() {
@@ -233,6 +235,7 @@ impl<D: Driver + Drop> State<D> {
         ensures takes { IfOk result (λ out. TakesInput (D.level (nominate.driver_of self.old.nominator) self.old.slot.0) (D.combined (nominate.driver_of self.old.nominator) (nominate.nomination self.old.nominator).slot) (Timer) (view_of self.old false) out (view_of self.new false)) }
         ensures driver { OnOk result (nominate.driver_of self.new.nominator ≡ nominate.driver_of self.old.nominator) }
         ensures sound { OnOk result (nominate.IsSound D.level D.place self.new.nominator) }
+        ensures votes { OnOk result (nominate.VotesWell D.level D.extracted D.place (nominate.nomination self.old.nominator).lists self.new.nominator) }
         ensures only_memory { IsOkUnless result Fault.NoMemory }
     {
         let given = self.balloter.timer()?;
@@ -267,6 +270,7 @@ impl<D: Driver + Drop> State<D> {
         ensures takes { IfOk result (λ out. HearsNomination (D.combined (nominate.driver_of self.old.nominator) (nominate.nomination self.old.nominator).slot) envelope set (view_of self.old false) out (view_of self.new false)) }
         ensures driver { OnOk result (nominate.driver_of self.new.nominator ≡ nominate.driver_of self.old.nominator) }
         ensures sound { OnOk result (nominate.IsSound D.level D.place self.new.nominator) }
+        ensures votes { OnOk result (nominate.VotesWell D.level D.extracted D.place (nominate.nomination self.old.nominator).lists self.new.nominator) }
         ensures only_memory { IsOkUnless result Fault.NoMemory }
     {
         self.note(&envelope, &set)?;
@@ -285,6 +289,7 @@ impl<D: Driver + Drop> State<D> {
         ensures takes { IfOk result (λ out. HearsBallot envelope set (view_of self.old false) out (view_of self.new false)) }
         ensures driver { OnOk result (nominate.driver_of self.new.nominator ≡ nominate.driver_of self.old.nominator) }
         ensures sound { OnOk result (nominate.IsSound D.level D.place self.new.nominator) }
+        ensures votes { OnOk result (nominate.VotesWell D.level D.extracted D.place (nominate.nomination self.old.nominator).lists self.new.nominator) }
         ensures only_memory { IsOkUnless result Fault.NoMemory }
     {
         self.note(&envelope, &set)?;
@@ -301,6 +306,7 @@ impl<D: Driver + Drop> State<D> {
         ensures takes { IfOk result (λ out. HearsFresh (D.combined (nominate.driver_of self.old.nominator) (nominate.nomination self.old.nominator).slot) envelope set (view_of self.old false) out (view_of self.new false)) }
         ensures driver { OnOk result (nominate.driver_of self.new.nominator ≡ nominate.driver_of self.old.nominator) }
         ensures sound { OnOk result (nominate.IsSound D.level D.place self.new.nominator) }
+        ensures votes { OnOk result (nominate.VotesWell D.level D.extracted D.place (nominate.nomination self.old.nominator).lists self.new.nominator) }
         ensures only_memory { IsOkUnless result Fault.NoMemory }
     {
         match kind_of_pledges(&envelope.statement.pledges) {
@@ -323,6 +329,7 @@ impl<D: Driver + Drop> State<D> {
         ensures takes { IfOk result (λ out. TakesInput (D.level (nominate.driver_of self.old.nominator) self.old.slot.0) (D.combined (nominate.driver_of self.old.nominator) (nominate.nomination self.old.nominator).slot) (Enveloped envelope set) (view_of self.old false) out (view_of self.new false)) }
         ensures driver { OnOk result (nominate.driver_of self.new.nominator ≡ nominate.driver_of self.old.nominator) }
         ensures sound { OnOk result (nominate.IsSound D.level D.place self.new.nominator) }
+        ensures votes { OnOk result (nominate.VotesWell D.level D.extracted D.place (nominate.nomination self.old.nominator).lists self.new.nominator) }
         ensures only_memory { IsOkUnless result Fault.NoMemory }
     {
         let verdict = self.judge(&envelope.statement);
@@ -341,6 +348,7 @@ impl<D: Driver + Drop> State<D> {
         ensures takes { IfOk result (λ out. TakesInput (D.level (nominate.driver_of self.old.nominator) self.old.slot.0) (D.combined (nominate.driver_of self.old.nominator) (nominate.nomination self.old.nominator).slot) (input) (view_of self.old false) out (view_of self.new false)) }
         ensures driver { OnOk result (nominate.driver_of self.new.nominator ≡ nominate.driver_of self.old.nominator) }
         ensures sound { OnOk result (nominate.IsSound D.level D.place self.new.nominator) }
+        ensures votes { OnOk result (nominate.VotesWell D.level D.extracted D.place (nominate.nomination self.old.nominator).lists self.new.nominator) }
         ensures only_memory { IsOkUnless result Fault.NoMemory }
     {
         match input {
@@ -358,6 +366,7 @@ impl<D: Driver + Drop> State<D> {
         ensures takes { IfOk result (λ out. Takes (D.level (nominate.driver_of self.old.nominator) self.old.slot.0) (D.combined (nominate.driver_of self.old.nominator) (nominate.nomination self.old.nominator).slot) (input) (view_of self.old false) out (view_of self.new false)) }
         ensures driver { OnOk result (nominate.driver_of self.new.nominator ≡ nominate.driver_of self.old.nominator) }
         ensures working { OnOk result (IsWorking D.level D.place self.new) }
+        ensures votes { OnOk result (nominate.VotesWell D.level D.extracted D.place (nominate.nomination self.old.nominator).lists self.new.nominator) }
         ensures only_memory { IsOkUnless result Fault.NoMemory }
     {
         if self.decided {

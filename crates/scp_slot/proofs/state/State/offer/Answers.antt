@@ -18,6 +18,8 @@ returns-clause-passes g c =
     let is : new.ballots ≡ b = ap (λ (v : SlotView). v.ballots) e in
     record {
       ballots = moves_by old b c.balloted.result new c.in_ok-given.given (ap (λ (o : SlotOutput). ballots_given o) c.balloted.ensures.out) is (ap (λ (v : SlotView). v.more) e) (ap (λ (v : SlotView). v.decided) e) c.in_ok-given.ensures.advances (λ had. c.in_ok-given.ensures.ballot) c.in_ok-given.ensures.working.1;
+      composite = subst (λ (x : ballot.Ballots). ballot.TakesValue c.args.value old.ballots x) (sym is) c.in_ok-given.ensures.composite;
+      first = subst (λ (x : ballot.Ballots). ballot.MakesFirst c.args.value old.ballots x) (sym is) c.in_ok-given.ensures.first;
       has_ballot = subst (λ (x : ballot.Ballots). ballot.HasBallot x) (sym is) c.in_ok-given.ensures.ballot;
       others = kept_by old.ballots new.ballots b is c.in_ok-given.ensures.others;
     }

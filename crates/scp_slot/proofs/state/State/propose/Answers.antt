@@ -3,6 +3,7 @@ use Rattle.scp_nominate.specs.Nomination as nominate
 use Rattle.scp_ballot.specs.Balloting as ballot
 use Rattle.scp_slot.specs.declared.output.SlotOutput.{SlotOutput}
 use Rattle.scp_slot.specs.declared.output.Verdict.TheVariants.{Fresh, Idle}
+use Rattle.scp_slot.specs.declared.state.State.{State}
 use Rattle.scp_slot.specs.Slot.{SlotView, view_of}
 use Rattle.scp_slot.specs.Takes.{Cases, ballots_given}
 use Rattle.std.specs.Prelude.{IsSome}
@@ -31,3 +32,6 @@ returns-clause-takes g c =
         },
       ),
     )
+
+pub returns-clause-votes : goal.returns-clause-votes
+returns-clause-votes g c = subst (λ m. nominate.VotesWell g.D.Driver.level g.D.Driver.extracted g.D.Driver.place (nominate.nomination c.args.self.now.nominator).lists m) (sym (ap (λ (s : State _). s.nominator) c.in_ok-out.ensures.rest)) c.in_ok-given.ensures.votes

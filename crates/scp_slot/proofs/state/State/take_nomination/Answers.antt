@@ -3,6 +3,7 @@ use Rattle.scp_nominate.specs.Nomination as nominate
 use Rattle.scp_ballot.specs.Balloting as ballot
 use Rattle.scp_slot.specs.declared.output.SlotOutput.{SlotOutput}
 use Rattle.scp_slot.specs.declared.output.Verdict.TheVariants.{Fresh, Idle}
+use Rattle.scp_slot.specs.declared.state.State.{State}
 use Rattle.scp_slot.specs.Slot.{SlotView, view_of}
 use Rattle.scp_slot.specs.Takes.{Cases, ballots_given}
 use Rattle.std.specs.Prelude.{IsSome}
@@ -23,3 +24,8 @@ returns-clause-takes g c =
     (ap (λ (v : SlotView). v.me) e) (ap (λ (v : SlotView). v.slot) e) is (ap (λ (v : SlotView). v.newest) e)
     (subst (λ x. nominate.Advances (g.D.Driver.combined (nominate.driver_of x) (nominate.nomination x).slot) (nominate.own noted.nomination) noted.nomination.lists mid.nomination c.in_ok-given.given) (same_nominator _ _ c.in_ok-note.ensures.rest) c.in_ok-given.ensures.advances)
     c.in_ok-given.ensures.making c.in_ok-given.ensures.working.1 c.in_ok-given.ensures.proposal c.in_ok-given.ensures.rounds c.in_ok-given.ensures.others c.in_ok-out.ensures.passes c.in_ok-out.ensures.emitted c.in_ok-out.ensures.verdict
+
+pub returns-clause-votes : goal.returns-clause-votes
+returns-clause-votes g c =
+    subst (λ m. nominate.VotesWell g.D.Driver.level g.D.Driver.extracted g.D.Driver.place (nominate.nomination c.args.self.now.nominator).lists m) (sym (ap (λ (s : State _). s.nominator) c.in_ok-out.ensures.rest))
+    (subst (λ m. nominate.VotesWell g.D.Driver.level g.D.Driver.extracted g.D.Driver.place (nominate.nomination m).lists c.take.new.self) (ap (λ (s : State _). s.nominator) c.in_ok-note.ensures.rest) c.in_ok-given.ensures.votes)

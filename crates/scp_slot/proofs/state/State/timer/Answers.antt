@@ -19,6 +19,7 @@ returns-clause-takes g c =
     record {
       machine = record { me = ap (λ (v : SlotView). v.me) e; slot = ap (λ (v : SlotView). v.slot) e };
       ballots = moves_by old b c.balloted.result new c.in_ok-given.given (ap (λ (o : SlotOutput). ballots_given o) c.balloted.ensures.out) is (ap (λ (v : SlotView). v.more) e) (ap (λ (v : SlotView). v.decided) e) c.in_ok-given.ensures.advances c.in_ok-given.ensures.ballot c.in_ok-given.ensures.working.1;
+      composite = ap (λ (x : ballot.Ballots). x.composite) is ∙ c.in_ok-given.ensures.composite;
       raises = subst (λ (x : ballot.Ballots). ballot.RaisesCounter old.ballots x) (sym is) c.in_ok-given.ensures.raises;
       others = kept_by old.ballots new.ballots b is c.in_ok-given.ensures.others;
       nomination = ap (λ (v : SlotView). v.nomination) e;
