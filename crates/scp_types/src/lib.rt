@@ -9,6 +9,7 @@
 #![tactic(auto)]
 
 mod ballot;
+mod bytes;
 mod fault;
 mod laws;
 mod names;

@@ -2,6 +2,7 @@ ghost use Rattle.std.specs.Prelude.{◌≡◌, IfOk, IsOkUnless};
 ghost use Rattle.std.specs.Ordering.{nat_cmp};
 ghost use Rattle.std.specs.Cmp.Lexicographic.{pointwise, slice_cmp};
 
+use crate::bytes::same_bytes;
 use crate::fault::Fault;
 use std::cmp::Ordering;
 use std::marker::Model;
@@ -63,7 +64,7 @@ impl PartialEq for Value {
     ghost laws = { Prim.search (comparing, rules) };
 
     fn eq(&self, other: &Value) -> bool {
-        self.0 == other.0
+        same_bytes(self.0.as_slice(), other.0.as_slice())
     }
 }
 
