@@ -58,8 +58,7 @@ pub enum LinkItem {
 /// Why a connection ended.
 #[derive(Clone, Copy, Debug, PartialEq, Eq)]
 pub enum Cause {
-    /// Bytes came that are no message, or an envelope that names another quorum set than the receiver's, which can't be
-    /// fetched yet.
+    /// Bytes came that are no message.
     Malformed,
     /// The link was closed.
     Link,
