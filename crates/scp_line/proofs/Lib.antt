@@ -1,5 +1,13 @@
 pub mod Sections
 pub mod Connections
 pub mod MoreLives
+pub mod Steps
 pub mod Going
+pub mod Settling
 pub mod Fits
+pub mod Tails
+pub mod Refusing
+pub mod Failing
+pub mod Standing
+pub mod Answering
+pub mod Lines
