@@ -7,7 +7,6 @@ pub mod Settling
 pub mod Fits
 pub mod Tails
 pub mod Refusing
-pub mod Failing
 pub mod Standing
 pub mod Answering
 pub mod Lines
