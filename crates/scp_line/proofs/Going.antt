@@ -1,40 +1,52 @@
 -- A node that heard more, and then more again.
-use Rattle.std.proofs.Common.{◌≡◌, ◌≢◌, ◌<◌, ◌≤◌, ◌+◌, ℕ, zero, suc, Bool, true, false, List, [], ◌∷◌, ◌++◌, take, Option, Some, None, length, get_or, set, nat_eq, refl, sym, ◌∙◌, ap, subst, append_assoc, append-nil, arith, ⊎_elim}
-use Rattle.std.specs.Prelude.{Result, Ok, Err, IfOk, OnOk, flat_map, slice_get, option_to_list, ◌-◌, if◌then◌else◌}
-use Rattle.scp_script.specs.Script.{commands_in}
-use Rattle.scp_script.specs.Nodes.{reports_in}
-use Rattle.scp_types.specs.declared.fault.Fault.{Fault}
-use Rattle.scp_core.specs.declared.config.Config.{Config}
-use Rattle.scp_line.specs.declared.playing.PlayFault.{PlayFault}
+use Rattle.std.proofs.Common.{◌≡◌, ◌≢◌, ◌<◌, ◌≤◌, ◌+◌, ℕ, zero, suc, Bool, true, false, List, [], ◌∷◌, ◌++◌, Option, Some, None, length, get_or, set, nat_eq, refl, sym, ◌∙◌, ap, subst, append_assoc, append-nil, arith, ⊎_elim}
+use Rattle.std.specs.Prelude.{Result, Ok, Err, IfOk, flat_map, slice_get, option_to_list, ◌-◌, ◌||◌, if◌then◌else◌}
+use Rattle.std.specs.List.{AllByRecursion}
 use Rattle.std.proofs.lemmas.Bool.{cases_eq}
 use Rattle.std.proofs.lemmas.Bool.Decides.{nat_tests}
-use Rattle.std.proofs.lemmas.Grind.{flat_map-append}
 use Rattle.std.proofs.lemmas.Option.{slice_get_read, slice_get_past}
-use Rattle.std.proofs.lemmas.List.{take_more, length-set, length-append, get_or-set_same, get_or-set_other, get_or_push, get_or_append_left}
+use Rattle.std.proofs.lemmas.List.{map-append, length-set, length-append, get_or-set_same, get_or-set_other, get_or_push, get_or_append_left}
+use Rattle.scp_types.specs.declared.fault.Fault.{Fault}
+use Rattle.scp_core.specs.declared.config.Config.{Config}
 use Rattle.scp_core.specs.declared.event.Event.{Event}
+use Rattle.scp_core.specs.declared.event.Event.TheVariants.{ReaderTake, ReaderPut}
 use Rattle.scp_core.specs.declared.event.Reply.{Reply}
+use Rattle.scp_core.specs.declared.event.Reply.TheVariants.{Accepted, Moved}
 use Rattle.scp_core.specs.History.{Exchange}
 use Rattle.scp_core.specs.Node.{NodeView}
 use Rattle.scp_core.specs.Theorem.{LedgerTheorem}
 use Rattle.scp_script.specs.declared.command.Command.{Command}
-use Rattle.scp_line.specs.Play.{Nodes, AreReports, report_at, report_of_node, config_of, IsNode, AreNodes, accepted, accepted_of, event_at, events_at}
-use Rattle.scp_line.specs.Nodes.{Goes, AllGo, event_for, nothing, offered_or}
+use Rattle.scp_script.specs.declared.command.Command.TheVariants as script
+use Rattle.scp_script.specs.Nodes.{numbers}
+use Rattle.scp_line.specs.Settle.{reader_events, events_in, IsQuiet}
+use Rattle.scp_line.specs.Play.{Nodes, report_at, report_of_node, config_of, event_at, replied}
+use Rattle.scp_line.specs.Nodes.{Goes, AllGo, Heard, IsStage, IsNew, event_for, event_by}
+use Rattle.scp_line.proofs.MoreLives.{one_more}
+use Rattle.scp_line.proofs.Steps.{not_accepted}
 
-pub goes_nowhere : (v : NodeView) → Goes v v []
-goes_nowhere v = record {
+-- ---- one node
+
+pub goes_nowhere : (v : NodeView) (Is : List Exchange → Type 0) → Is [] → Goes v v Is
+goes_nowhere v Is is = record {
   config = refl;
-  longer = λ past t. record { more = []; theorem = subst (λ (p : List Exchange). LedgerTheorem p v) (sym (append-nil past)) t; accepts = refl };
+  longer = λ past t. record { more = []; theorem = subst (λ (p : List Exchange). LedgerTheorem p v) (sym (append-nil past)) t; is = is };
 }
 
 -- one step
-pub goes_once : (old new : NodeView) (event : Event) (reply : Reply) → new.config ≡ old.config → ((past : List Exchange) → LedgerTheorem past old → LedgerTheorem (past ++ (event, reply) ∷ []) new) → Goes old new (accepted_of event reply)
+pub goes_once : (old new : NodeView) (event : Event) (reply : Reply) → new.config ≡ old.config → ((past : List Exchange) → LedgerTheorem past old → LedgerTheorem (past ++ (event, reply) ∷ []) new) → Goes old new (λ more. more ≡ (event, reply) ∷ [])
 goes_once old new event reply config step = record {
   config = config;
-  longer = λ past t. record { more = (event, reply) ∷ []; theorem = step past t; accepts = append-nil (accepted_of event reply) };
+  longer = λ past t. record { more = (event, reply) ∷ []; theorem = step past t; is = refl };
 }
 
-pub goes_on : (a b c : NodeView) (first second : List Event) → Goes a b first → Goes b c second → Goes a c (first ++ second)
-goes_on a b c first second f s = record {
+pub goes_as : (a b : NodeView) (P Q : List Exchange → Type 0) → ((x : List Exchange) → P x → Q x) → Goes a b P → Goes a b Q
+goes_as a b P Q f g = record {
+  config = g.config;
+  longer = λ past t. let l = g.longer past t in record { more = l.more; theorem = l.theorem; is = f l.more l.is };
+}
+
+pub goes_on : (a b c : NodeView) (P Q R : List Exchange → Type 0) → ((x y : List Exchange) → P x → Q y → R (x ++ y)) → Goes a b P → Goes b c Q → Goes a c R
+goes_on a b c P Q R both f s = record {
   config = s.config ∙ f.config;
   longer = λ past t.
       let one = f.longer past t in
@@ -42,113 +54,155 @@ goes_on a b c first second f s = record {
       record {
         more = one.more ++ two.more;
         theorem = subst (λ (p : List Exchange). LedgerTheorem p c) (append_assoc past one.more two.more) two.theorem;
-        accepts = flat_map-append (λ (x : Exchange). accepted_of x.0 x.1) one.more two.more ∙ ap (λ l. l ++ accepted two.more) one.accepts ∙ ap (λ l. first ++ l) two.accepts;
+        is = both one.more two.more one.is two.is;
       };
 }
 
--- steps that accept nothing
-pub goes_quietly : (a b c : NodeView) → Goes a b [] → Goes b c [] → Goes a c []
-goes_quietly a b c f s = goes_on a b c [] [] f s
+-- ---- what it heard in a round
+
+pub all_on : {X : Type 0} (P : X → Type 0) (xs ys : List X) → AllByRecursion P xs → AllByRecursion P ys → AllByRecursion P (xs ++ ys)
+all_on P [] ys p q = q
+all_on P (x ∷ xs) ys p q = (p.0, all_on P xs ys p.1 q)
+
+pub quiet_on : (x y : List Exchange) → IsQuiet x → IsQuiet y → IsQuiet (x ++ y)
+quiet_on x y p q = all_on (λ (z : Exchange). z.1 ≢ Accepted) x y p q
+
+pub events_on : (es fs : List Event) (x y : List Exchange) → events_in x ≡ es → events_in y ≡ fs → events_in (x ++ y) ≡ es ++ fs
+events_on es fs x y p q = map-append (λ (z : Exchange). z.0) x y ∙ ap (λ (l : List Event). l ++ events_in y) p ∙ ap (λ (l : List Event). es ++ l) q
+
+pub none_heard : (moved : Bool) → Heard [] moved []
+none_heard moved = record { are = refl; quiet = tt; still = λ e. tt }
+
+pub heard_on : (es fs : List Event) (a b r : Bool) → (r ≡ false → a ≡ false) → (r ≡ false → b ≡ false) → (x y : List Exchange) → Heard es a x → Heard fs b y → Heard (es ++ fs) r (x ++ y)
+heard_on es fs a b r p q x y h k = record {
+  are = events_on es fs x y h.are k.are;
+  quiet = quiet_on x y h.quiet k.quiet;
+  still = λ e. all_on (λ (z : Exchange). z.1 ≢ Moved) x y (h.still (p e)) (k.still (q e));
+}
+
+pub or_first : (a b r : Bool) → r ≡ (a || b) → r ≡ false → a ≡ false
+or_first true b r e h = sym e ∙ h
+or_first false b r e h = refl
+
+pub or_second : (a b r : Bool) → r ≡ (a || b) → r ≡ false → b ≡ false
+or_second true b r e h = absurd cc
+or_second false b r e h = sym e ∙ h
+
+-- first these events, then those; what moved, moved in one of them
+pub goes_heard : (v m w : NodeView) (es fs : List Event) (a b r : Bool) → r ≡ (a || b) → Goes v m (Heard es a) → Goes m w (Heard fs b) → Goes v w (Heard (es ++ fs) r)
+goes_heard v m w es fs a b r is f s = goes_on v m w (Heard es a) (Heard fs b) (Heard (es ++ fs) r) (heard_on es fs a b r (or_first a b r is) (or_second a b r is)) f s
+
+-- one event of a stage
+pub goes_turn : (old new : NodeView) (event : Event) (reply : Reply) (moved : Bool) → IsStage event → (moved ≡ false → reply ≢ Moved) → Goes old new (λ more. more ≡ (event, reply) ∷ []) → Goes old new (Heard (event ∷ []) moved)
+goes_turn old new event reply moved stage still g = record {
+  config = g.config;
+  longer = λ past t.
+      let l = g.longer past t in
+      let theorem : LedgerTheorem (past ++ (event, reply) ∷ []) new = subst (λ (m : List Exchange). LedgerTheorem (past ++ m) new) l.is l.theorem in
+      record {
+        more = (event, reply) ∷ [];
+        theorem = theorem;
+        is = record { are = refl; quiet = (not_accepted past event reply new stage theorem, tt); still = λ e. (still e, tt) };
+      };
+}
+
+-- one link more
+pub read_more : (v m w : NodeView) (link : ℕ) (a b r : Bool) → r ≡ (a || b) → Goes v m (Heard (flat_map reader_events (numbers link)) a) → Goes m w (Heard (ReaderTake link ∷ ReaderPut link ∷ []) b) → Goes v w (Heard (flat_map reader_events (numbers (link + 1))) r)
+read_more v m w link a b r is f s =
+    let same : link + 1 - 1 ≡ link = omega arith in
+    subst (λ (es : List Event). Goes v w (Heard es r)) (sym (one_more reader_events link ∙ ap (λ (k : ℕ). flat_map reader_events (numbers link) ++ ReaderTake k ∷ ReaderPut k ∷ []) same))
+    (goes_heard v m w (flat_map reader_events (numbers link)) (ReaderTake link ∷ ReaderPut link ∷ []) a b r is f s)
 
 -- ---- all nodes
 
-pub all_go_nowhere : (nodes : Nodes) → AllGo nodes nodes nothing
-all_go_nowhere nodes = record { count = refl; each = λ i d lt. goes_nowhere (get_or nodes i d) }
+pub all_go_nowhere : (nodes : Nodes) (Is : ℕ → List Exchange → Type 0) → ((number : ℕ) → Is number []) → AllGo nodes nodes Is
+all_go_nowhere nodes Is is = record { count = refl; each = λ i d lt. goes_nowhere (get_or nodes i d) (Is (i + 1)) (is (i + 1)) }
 
--- first this, then that
-pub all_go_on : (a b c : Nodes) (first second both : ℕ → List Event) → ((node : ℕ) → first node ++ second node ≡ both node) → AllGo a b first → AllGo b c second → AllGo a c both
-all_go_on a b c first second both together f s = record {
-  count = s.count ∙ f.count;
-  each = λ i d lt.
-      subst (λ (es : List Event). Goes (get_or a i d) (get_or c i d) es) (together (i + 1))
-      (goes_on (get_or a i d) (get_or b i d) (get_or c i d) (first (i + 1)) (second (i + 1)) (f.each i d lt) (s.each i d (omega (arith, f.count, lt))));
+pub all_go_as : (a b : Nodes) (P Q : ℕ → List Exchange → Type 0) → ((number : ℕ) (x : List Exchange) → P number x → Q number x) → AllGo a b P → AllGo a b Q
+all_go_as a b P Q f g = record {
+  count = g.count;
+  each = λ i d lt. goes_as (get_or a i d) (get_or b i d) (P (i + 1)) (Q (i + 1)) (f (i + 1)) (g.each i d lt);
 }
 
-pub all_go_quietly : (a b c : Nodes) → AllGo a b nothing → AllGo b c nothing → AllGo a c nothing
-all_go_quietly a b c f s = all_go_on a b c nothing nothing nothing (λ node. refl) f s
+-- first this, then that
+pub all_go_on : (a b c : Nodes) (P Q R : ℕ → List Exchange → Type 0) → ((number : ℕ) (x y : List Exchange) → P number x → Q number y → R number (x ++ y)) → AllGo a b P → AllGo b c Q → AllGo a c R
+all_go_on a b c P Q R both f s = record {
+  count = s.count ∙ f.count;
+  each = λ i d lt. goes_on (get_or a i d) (get_or b i d) (get_or c i d) (P (i + 1)) (Q (i + 1)) (R (i + 1)) (both (i + 1)) (f.each i d lt) (s.each i d (omega (arith, f.count, lt)));
+}
 
 -- one node goes, and the others stay
-pub one_goes : (nodes : Nodes) (k : ℕ) (node : NodeView) (entered : ℕ → List Event) → k < length nodes → ((d : NodeView) → Goes (get_or nodes k d) node (entered (k + 1))) → ((other : ℕ) → other ≢ k + 1 → entered other ≡ []) → AllGo nodes (set nodes k node) entered
-one_goes nodes k node entered within goes others = record {
+pub one_goes : (nodes : Nodes) (k : ℕ) (node : NodeView) (Is : ℕ → List Exchange → Type 0) → k < length nodes → ((d : NodeView) → Goes (get_or nodes k d) node (Is (k + 1))) → ((other : ℕ) → other ≢ k + 1 → Is other []) → AllGo nodes (set nodes k node) Is
+one_goes nodes k node Is within goes others = record {
   count = length-set nodes k node;
   each = λ i d lt. ⊎_elim
-      (λ e. subst (λ (j : ℕ). Goes (get_or nodes j d) (get_or (set nodes k node) j d) (entered (j + 1))) (sym e)
-      (subst (λ (v : NodeView). Goes (get_or nodes k d) v (entered (k + 1))) (sym (get_or-set_same nodes k node d within)) (goes d)))
-      (λ apart. subst (λ (v : NodeView). Goes (get_or nodes i d) v (entered (i + 1))) (sym (get_or-set_other nodes k i node d apart))
-      (subst (λ (es : List Event). Goes (get_or nodes i d) (get_or nodes i d) es) (sym (others (i + 1) (λ e. apart (omega arith)))) (goes_nowhere (get_or nodes i d))))
+      (λ e. subst (λ (j : ℕ). Goes (get_or nodes j d) (get_or (set nodes k node) j d) (Is (j + 1))) (sym e)
+      (subst (λ (v : NodeView). Goes (get_or nodes k d) v (Is (k + 1))) (sym (get_or-set_same nodes k node d within)) (goes d)))
+      (λ apart. subst (λ (v : NodeView). Goes (get_or nodes i d) v (Is (i + 1))) (sym (get_or-set_other nodes k i node d apart))
+      (goes_nowhere (get_or nodes i d) (Is (i + 1)) (others (i + 1) (λ e. apart (omega (arith, e))))))
       (cases_eq i k);
 }
 
--- a node that is offered an event, and takes it
-pub offered : (nodes : Nodes) (k : ℕ) (node : NodeView) (number : ℕ) (event : Event) → number ≡ k + 1 → k < length nodes → ((d : NodeView) → Goes (get_or nodes k d) node (event ∷ [])) → AllGo nodes (set nodes k node) (λ n. event_for n (Some (number, event)))
-offered nodes k node number event is within goes = one_goes nodes k node (λ n. event_for n (Some (number, event))) within
-    (λ d. subst (λ (es : List Event). Goes (get_or nodes k d) node es) (sym here) (goes d))
-    (λ other apart. elsewhere other (λ e. apart (sym e ∙ is)))
+-- a node of this number is offered an event, and answers
+pub offered : (nodes : Nodes) (k : ℕ) (node : NodeView) (number : ℕ) (event : Event) (reply : Reply) → number ≡ k + 1 → k < length nodes → ((d : NodeView) → Goes (get_or nodes k d) node (λ more. more ≡ (event, reply) ∷ [])) → AllGo nodes (set nodes k node) (λ n more. more ≡ replied reply (event_for n (Some (number, event))))
+offered nodes k node number event reply is within goes = one_goes nodes k node (λ n more. more ≡ replied reply (event_for n (Some (number, event)))) within
+    (λ d. goes_as (get_or nodes k d) node (λ more. more ≡ (event, reply) ∷ []) (λ more. more ≡ replied reply (event_for (k + 1) (Some (number, event)))) (λ x e. e ∙ sym here) (goes d))
+    (λ other apart. sym (elsewhere other (λ e. apart (sym e ∙ is))))
   where
-    here : event_for (k + 1) (Some (number, event)) ≡ event ∷ []
-    here = let same : nat_eq number (k + 1) ≡ true = grind (arith, nat_tests) in ap (λ (b : Bool). if b then event ∷ [] else []) same
+    here : replied reply (event_for (k + 1) (Some (number, event))) ≡ (event, reply) ∷ []
+    here = let same : nat_eq number (k + 1) ≡ true = grind (arith, nat_tests) in ap (λ (b : Bool). replied reply (if b then event ∷ [] else [])) same
 
-    elsewhere : (other : ℕ) → number ≢ other → event_for other (Some (number, event)) ≡ []
-    elsewhere other apart = let not_same : nat_eq number other ≡ false = grind (arith, nat_tests) in ap (λ (b : Bool). if b then event ∷ [] else []) not_same
+    elsewhere : (other : ℕ) → number ≢ other → replied reply (event_for other (Some (number, event))) ≡ []
+    elsewhere other apart = let not_same : nat_eq number other ≡ false = grind (arith, nat_tests) in ap (λ (b : Bool). replied reply (if b then event ∷ [] else [])) not_same
 
-events_at-more : (node : ℕ) (commands : List Command) (command : Command) → events_at node (commands ++ command ∷ []) ≡ events_at node commands ++ event_at node command
-events_at-more node commands command = flat_map-append (event_at node) commands (command ∷ []) ∙ ap (λ es. events_at node commands ++ es) (append-nil (event_at node command))
+event_at_by : (n : ℕ) (command : Command) → event_at n command ≡ event_for n (event_by command)
+event_at_by n (script.Caps capacities) = refl
+event_at_by n (script.Nodes count quorum) = refl
+event_at_by n (script.Set at set) = refl
+event_at_by n (script.Open from to) = refl
+event_at_by n (script.Close from to) = refl
+event_at_by n (script.Send from to bytes) = refl
+event_at_by n (script.Tick at) = refl
+event_at_by n (script.Ask from to slot) = refl
+event_at_by n script.Settle = refl
+event_at_by n (script.Report at) = refl
 
--- one command more
-pub all_go_more : (a b c : Nodes) (done : List Command) (command : Command) → AllGo a b (λ node. events_at node done) → AllGo b c (λ node. event_at node command) → AllGo a c (λ node. events_at node (done ++ command ∷ []))
-all_go_more a b c done command f s = all_go_on a b c (λ node. events_at node done) (λ node. event_at node command) (λ node. events_at node (done ++ command ∷ [])) (λ node. sym (events_at-more node done command)) f s
+-- the same, said of its command
+pub command_offered : (nodes : Nodes) (k : ℕ) (node : NodeView) (number : ℕ) (event : Event) (reply : Reply) (command : Command) → event_by command ≡ Some (number, event) → number ≡ k + 1 → k < length nodes → ((d : NodeView) → Goes (get_or nodes k d) node (λ more. more ≡ (event, reply) ∷ [])) → AllGo nodes (set nodes k node) (λ n more. more ≡ replied reply (event_at n command))
+command_offered nodes k node number event reply command is place within goes =
+    all_go_as nodes (set nodes k node) (λ n more. more ≡ replied reply (event_for n (Some (number, event)))) (λ n more. more ≡ replied reply (event_at n command))
+    (λ n x e. e ∙ ap (replied reply) (sym (event_at_by n command ∙ ap (event_for n) is))) (offered nodes k node number event reply place within goes)
 
--- new nodes that did what commands say
-pub are_after : (commands : List Command) (old new : Nodes) → AreNodes commands [] old → AllGo old new (λ node. events_at node commands) → AreNodes commands commands new
-are_after commands old new are go = record {
-  count = go.count ∙ are.count;
-  each = λ i d lt.
-      let within : i < length old = omega (arith, go.count, lt) in
-      let was = are.each i d within in
-      let went = go.each i d within in
-      let longer = went.longer was.past was.theorem in
-      record {
-        config = went.config ∙ was.config;
-        past = was.past ++ longer.more;
-        theorem = longer.theorem;
-        accepts = flat_map-append (λ (x : Exchange). accepted_of x.0 x.1) was.past longer.more ∙ ap (λ l. l ++ accepted longer.more) was.accepts ∙ longer.accepts;
-      };
+-- a command that is no event
+pub none_offered : (nodes : Nodes) (command : Command) (reply : Reply) → event_by command ≡ None → AllGo nodes nodes (λ n more. more ≡ replied reply (event_at n command))
+none_offered nodes command reply none = all_go_nowhere nodes (λ n more. more ≡ replied reply (event_at n command)) (λ n. sym (ap (replied reply) (event_at_by n command ∙ ap (event_for n) none)))
+
+elsewhere : (nodes : Nodes) (number : ℕ) (event : Event) (i : ℕ) → length nodes < number → i < length nodes → event_for (i + 1) (Some (number, event)) ≡ []
+elsewhere nodes number event i past lt = let not_same : nat_eq number (i + 1) ≡ false = grind (arith, nat_tests) in ap (λ (b : Bool). if b then event ∷ [] else []) not_same
+
+-- a command whose node isn't there
+pub offered_past : (nodes : Nodes) (number : ℕ) (event : Event) (command : Command) (reply : Reply) → event_by command ≡ Some (number, event) → length nodes < number → AllGo nodes nodes (λ n more. more ≡ replied reply (event_at n command))
+offered_past nodes number event command reply is past = record {
+  count = refl;
+  each = λ i d lt. goes_nowhere (get_or nodes i d) (λ more. more ≡ replied reply (event_at (i + 1) command)) (sym (ap (replied reply) (event_at_by (i + 1) command ∙ ap (event_for (i + 1)) is ∙ elsewhere nodes number event i past lt)));
 }
 
+-- ---- new nodes
+
 -- one node more
-pub one_node_more : (commands : List Command) (nodes : Nodes) (node : NodeView) → ((i : ℕ) (d : NodeView) → i < length nodes → IsNode commands [] (i + 1) (get_or nodes i d)) → IsNode commands [] (length nodes + 1) node → (i : ℕ) (d : NodeView) → i < length (nodes ++ node ∷ []) → IsNode commands [] (i + 1) (get_or (nodes ++ node ∷ []) i d)
+pub one_node_more : (commands : List Command) (nodes : Nodes) (node : NodeView) → ((i : ℕ) (d : NodeView) → i < length nodes → IsNew commands (i + 1) (get_or nodes i d)) → IsNew commands (length nodes + 1) node → (i : ℕ) (d : NodeView) → i < length (nodes ++ node ∷ []) → IsNew commands (i + 1) (get_or (nodes ++ node ∷ []) i d)
 one_node_more commands [] node each is zero d lt = is
 one_node_more commands [] node each is (suc i) d lt = absurd (omega arith)
 one_node_more commands (v ∷ nodes) node each is i d lt = ⊎_elim
-    (λ e. subst (λ (j : ℕ). IsNode commands [] (j + 1) (get_or ((v ∷ nodes) ++ node ∷ []) j d)) (sym e) (subst (λ (w : NodeView). IsNode commands [] (length (v ∷ nodes) + 1) w) (sym (get_or_push (v ∷ nodes) node d (length (v ∷ nodes)) refl)) is))
+    (λ e. subst (λ (j : ℕ). IsNew commands (j + 1) (get_or ((v ∷ nodes) ++ node ∷ []) j d)) (sym e) (subst (λ (w : NodeView). IsNew commands (length (v ∷ nodes) + 1) w) (sym (get_or_push (v ∷ nodes) node d (length (v ∷ nodes)) refl)) is))
     (λ apart. let within : i < length (v ∷ nodes) = omega (arith, length-append (v ∷ nodes) (node ∷ []), lt, apart) in
-    subst (λ (w : NodeView). IsNode commands [] (i + 1) w) (sym (get_or_append_left (v ∷ nodes) (node ∷ []) d i within)) (each i d within))
+    subst (λ (w : NodeView). IsNew commands (i + 1) w) (sym (get_or_append_left (v ∷ nodes) (node ∷ []) d i within)) (each i d within))
     (cases_eq i (length (v ∷ nodes)))
 
 -- a new node
-pub new_is : (r : Result NodeView Fault) (commands : List Command) (number : ℕ) (config : Config) → IfOk r (λ node. LedgerTheorem [] node) → IfOk r (λ node. node.config ≡ config) → config ≡ config_of commands number → IfOk r (λ node. IsNode commands [] number node)
-new_is (Ok node) commands number config theorem is same = record { config = is ∙ same; past = []; theorem = theorem; accepts = refl }
+pub new_is : (r : Result NodeView Fault) (commands : List Command) (number : ℕ) (config : Config) → IfOk r (λ node. LedgerTheorem [] node) → IfOk r (λ node. node.config ≡ config) → config ≡ config_of commands number → IfOk r (λ node. IsNew commands number node)
+new_is (Ok node) commands number config theorem is same = record { config = is ∙ same; theorem = theorem }
 new_is (Err fault) commands number config theorem is same = tt
-
--- one command more of those that lie there
-pub all_go_next : (a b c : Nodes) (commands : List Command) (i : ℕ) (d : Command) → i < length commands → AllGo a b (λ node. events_at node (take i commands)) → AllGo b c (λ node. event_at node (get_or commands i d)) → AllGo a c (λ node. events_at node (take (i + 1) commands))
-all_go_next a b c commands i d lt f s = rw (take_more commands i d lt) (all_go_more a b c (take i commands) (get_or commands i d) f s)
-
--- a command that is no event
-pub none_offered : (nodes : Nodes) (command : Command) (found : Option (ℕ × Event)) → found ≡ None → ((node : ℕ) → event_at node command ≡ event_for node found) → AllGo nodes nodes (offered_or true command)
-none_offered nodes command found none event = record {
-  count = refl;
-  each = λ i d lt. subst (λ (es : List Event). Goes (get_or nodes i d) (get_or nodes i d) es) (sym (event (i + 1) ∙ ap (event_for (i + 1)) none)) (goes_nowhere (get_or nodes i d));
-}
-
--- a command whose event was accepted
-pub offer_taken : (nodes : Nodes) (k : ℕ) (node : NodeView) (number : ℕ) (event : Event) (command : Command) (found : Option (ℕ × Event)) → found ≡ Some (number, event) → ((n : ℕ) → event_at n command ≡ event_for n found) → number ≡ k + 1 → k < length nodes → ((d : NodeView) → Goes (get_or nodes k d) node (event ∷ [])) → AllGo nodes (set nodes k node) (offered_or true command)
-offer_taken nodes k node number event command found is at place within goes =
-    let all = offered nodes k node number event place within goes in
-    record {
-      count = all.count;
-      each = λ i d lt. subst (λ (es : List Event). Goes (get_or nodes i d) (get_or (set nodes k node) i d) es) (sym (at (i + 1) ∙ ap (event_for (i + 1)) is)) (all.each i d lt);
-    }
 
 -- ---- reports
 
@@ -170,14 +224,6 @@ report_past nodes k number is past =
     let place : k ≡ number - 1 = omega (arith, is) in
     report_absent nodes number (subst (λ (i : ℕ). slice_get nodes i ≡ None) place (slice_get_past nodes k past))
 
--- what is written are the reports of a script's nodes
-pub are_reports : (script text : List ℕ) (commands : List Command) (made new : Nodes) → commands ≡ commands_in script → AreNodes commands [] made → AllGo made new (λ node. events_at node commands) → text ≡ flat_map (report_at new) (reports_in commands) → AreReports script text
-are_reports script text commands made new same are go reports = record {
-  nodes = new;
-  are = subst (λ (l : List Command). AreNodes l l new) same (are_after commands made new are go);
-  reports = reports ∙ ap (λ (l : List Command). flat_map (report_at new) (reports_in l)) same;
-}
-
 -- ---- what a place holds
 
 same_default : (nodes : Nodes) (k : ℕ) (d e : NodeView) → k < length nodes → get_or nodes k d ≡ get_or nodes k e
@@ -187,8 +233,3 @@ same_default (v ∷ nodes) (suc k) d e lt = same_default nodes k d e (omega arit
 
 pub read_at : (nodes : Nodes) (k : ℕ) (x : NodeView) → k < length nodes → x ≡ get_or nodes k x → (d : NodeView) → x ≡ get_or nodes k d
 read_at nodes k x lt e d = e ∙ same_default nodes k x d lt
-
--- what follows where the call behind it is Ok
-pub quietly_then : (r : Result (Unit {0}) PlayFault) (a b c : Nodes) (entered : ℕ → List Event) → AllGo a b nothing → OnOk r (AllGo b c entered) → OnOk r (AllGo a c entered)
-quietly_then (Ok done) a b c entered f s = all_go_on a b c nothing entered entered (λ node. refl) f s
-quietly_then (Err fault) a b c entered f s = tt

@@ -1,5 +1,12 @@
 pub mod Sections
 pub mod Connections
 pub mod MoreLives
+pub mod Steps
 pub mod Going
+pub mod Settling
 pub mod Fits
+pub mod Tails
+pub mod Refusing
+pub mod Standing
+pub mod Answering
+pub mod Lines

@@ -1,7 +1,5 @@
 -- How a call that failed is told, and what it may fail for.
-use Rattle.std.specs.Prelude.{ℕ, ◌≡◌, ◌⊎◌, List, ◌++◌, codes}
-use Rattle.scp_line.specs.declared.playing.PlayFault.{PlayFault}
-use Rattle.scp_script.specs.Nodes.{IsSmall}
+use Rattle.std.specs.Prelude.{ℕ, List, ◌++◌, codes}
 use Rattle.std.specs.Fmt.{decimal}
 use Rattle.scp_types.specs.declared.fault.Fault.{Fault}
 use Rattle.scp_types.specs.declared.fault.Fault.TheVariants.{NoMemory, Malformed, TooLong, Full, Failed, BadScript, Refused, Device}
@@ -46,7 +44,3 @@ IsPlayFault (BadScript line) = Unit {0}
 IsPlayFault Failed = Unit {0}
 IsPlayFault Full = Unit {0}
 IsPlayFault fault = ⊥
-
--- why a line of a script isn't done: a node failed, a queue was full also after a settle, or want of memory
-abbrev pub IsActFault : PlayFault → Type 0
-IsActFault e = ((e.fault ≡ Failed) × IsSmall e.node) ⊎ ((e.fault ≡ Full) × (e.node ≡ 0)) ⊎ ((e.fault ≡ NoMemory) × (e.node ≡ 0))

@@ -1,5 +1,5 @@
 -- What is played and shown.
-use Rattle.std.specs.Prelude.{ℕ, ◌+◌, ◌-◌, ◌<◌, ◌≤◌, ◌≡◌, List, [], ◌∷◌, ◌++◌, Option, Some, None, Err, flat_map, length, codes, nat_eq, nat_lt, slice_get, get_or, option_to_list, if◌then◌else◌}
+use Rattle.std.specs.Prelude.{ℕ, ◌+◌, ◌-◌, ◌<◌, ◌≤◌, ◌≡◌, ◌⊎◌, true, List, [], ◌∷◌, ◌++◌, Option, Some, None, Err, map, flat_map, length, codes, nat_eq, nat_lt, slice_get, get_or, option_to_list, if◌then◌else◌}
 use Rattle.std.specs.Fmt.{decimal}
 use Rattle.scp_types.specs.declared.names.ConnId.{ConnId}
 use Rattle.scp_types.specs.declared.fault.Fault.{Fault}
@@ -20,9 +20,9 @@ use Rattle.scp_core.specs.declared.config.Config.{Config}
 use Rattle.scp_core.specs.declared.event.Event.{Event}
 use Rattle.scp_core.specs.declared.event.Event.TheVariants as event
 use Rattle.scp_core.specs.declared.event.Reply.{Reply}
-use Rattle.scp_core.specs.declared.event.Reply.TheVariants.{Accepted}
+use Rattle.scp_core.specs.declared.event.Reply.TheVariants.{Accepted, Full}
 use Rattle.scp_core.specs.History.{Exchange}
-use Rattle.scp_core.specs.Node.{NodeView, lives_at}
+use Rattle.scp_core.specs.Node.{NodeView, LinkView, is_full, lives_at}
 use Rattle.scp_core.specs.Theorem.{LedgerTheorem}
 use Rattle.scp_script.specs.declared.command.Command.{Command}
 use Rattle.scp_script.specs.declared.command.Command.TheVariants as script
@@ -32,6 +32,7 @@ use Rattle.scp_script.specs.Nodes.{id_of, numbers, peers_of, set_at, capacities_
 use Rattle.scp_line.specs.declared.report.Parked.{Parked}
 use Rattle.scp_line.specs.Report.{report_of, hex_word}
 use Rattle.scp_line.specs.Parts.{entries_of}
+use Rattle.scp_line.specs.Settle.{Settles}
 
 -- which link of a node comes from another: the place of that one among its peers, which ascend
 abbrev pub link_of : ℕ → ℕ → ℕ
@@ -61,6 +62,32 @@ accepted_of event reply = []
 -- the events that were accepted
 abbrev pub accepted : List Exchange → List Event
 accepted past = flat_map (λ x. accepted_of x.0 x.1) past
+
+-- the events, each with this reply
+abbrev pub replied : Reply → List Event → List Exchange
+replied reply events = map (λ event. (event, reply)) events
+
+-- a line's event was accepted by its node, at once, or after a settle where there was no room; other nodes heard no event of it
+abbrev pub IsOffered : ℕ → List Event → List Exchange → Type 0
+IsOffered links events exchanges = (exchanges ≡ replied Accepted events) ⊎ ((settle : List Exchange) × Settles links settle × (exchanges ≡ replied Full events ++ (settle ++ replied Accepted events)))
+
+-- what a node of this number, with so many links, heard of a line
+abbrev pub Hears : ℕ → ℕ → Command → List Exchange → Type 0
+Hears links node (script.Caps capacities) exchanges = exchanges ≡ []
+Hears links node (script.Nodes count quorum) exchanges = exchanges ≡ []
+Hears links node (script.Set at set) exchanges = exchanges ≡ []
+Hears links node (script.Open from to) exchanges = IsOffered links (event_at node (script.Open from to)) exchanges
+Hears links node (script.Close from to) exchanges = IsOffered links (event_at node (script.Close from to)) exchanges
+Hears links node (script.Send from to bytes) exchanges = IsOffered links (event_at node (script.Send from to bytes)) exchanges
+Hears links node (script.Tick at) exchanges = IsOffered links (event_at node (script.Tick at)) exchanges
+Hears links node (script.Ask from to slot) exchanges = exchanges ≡ []
+Hears links node script.Settle exchanges = Settles links exchanges
+Hears links node (script.Report at) exchanges = exchanges ≡ []
+
+-- what it heard of lines, one after the other
+abbrev pub Played : ℕ → ℕ → List Command → List Exchange → Type 0
+Played links node [] exchanges = exchanges ≡ []
+Played links node (command ∷ commands) exchanges = (first : List Exchange) × (rest : List Exchange) × Hears links node command first × Played links node commands rest × (exchanges ≡ first ++ rest)
 
 -- who the node of this number is, and what its queues hold
 abbrev pub config_of : List Command → ℕ → Config
@@ -120,10 +147,62 @@ pub record AreNodes (commands done : List Command) (nodes : Nodes) : Type 0 wher
   pub count : length nodes ≡ node_count commands
   pub each : (i : ℕ) → (d : NodeView) → i < length nodes → IsNode commands done (i + 1) (get_or nodes i d)
 
--- the text is the reports that the script asks for, one for each `report` line, in their order
+-- the node of this number is there, and it failed
+pub record HasFailed (nodes : Nodes) (number : ℕ) : Type 0 where
+  pub from_one : 1 ≤ number
+  pub node : NodeView
+  pub is : slice_get nodes (number - 1) ≡ Some node
+  pub failed : node.failed ≡ true
+
+-- a node of a script failed at one of its lines: all before it was done, and nothing of it was accepted
+pub record Stops (commands : List Command) (number : ℕ) : Type 0 where
+  pub before : List Command
+  pub command : Command
+  pub after' : List Command
+  pub split : commands ≡ before ++ command ∷ after'
+  pub nodes : Nodes
+  pub are : AreNodes commands before nodes
+  pub failed : HasFailed nodes number
+
+-- the queue of this link to the node of this number is full
+abbrev pub IsLinkFull : Nodes → ℕ → ℕ → Type 0
+IsLinkFull nodes number link = (node : NodeView) × (slice_get nodes (number - 1) ≡ Some node) × (k : LinkView) × (slice_get node.links link ≡ Some k) × is_full k
+
+-- the queue that a line's event goes to is full: the link's, or the node's inbox
+abbrev pub HasNoRoom : Nodes → Command → Type 0
+HasNoRoom nodes (script.Caps capacities) = ⊥
+HasNoRoom nodes (script.Nodes count quorum) = ⊥
+HasNoRoom nodes (script.Set at set) = ⊥
+HasNoRoom nodes (script.Open from to) = IsLinkFull nodes to (link_of from to)
+HasNoRoom nodes (script.Close from to) = IsLinkFull nodes to (link_of from to)
+HasNoRoom nodes (script.Send from to bytes) = IsLinkFull nodes to (link_of from to)
+HasNoRoom nodes (script.Tick at) = (node : NodeView) × (slice_get nodes (at - 1) ≡ Some node) × (length node.inbox ≡ node.inbox_room)
+HasNoRoom nodes (script.Ask from to slot) = ⊥
+HasNoRoom nodes script.Settle = ⊥
+HasNoRoom nodes (script.Report at) = ⊥
+
+-- a line's event that its node had no room for, also after a settle
+abbrev pub IsRefused : ℕ → List Event → List Exchange → Type 0
+IsRefused links events exchanges = (settle : List Exchange) × Settles links settle × (exchanges ≡ replied Full events ++ (settle ++ replied Full events))
+
+-- one of a script's lines found no room: all before it was done, its event was offered, the nodes came to rest, and then the queue
+-- that it goes to was full still
+pub record Overflows (commands : List Command) : Type 0 where
+  pub before : List Command
+  pub command : Command
+  pub after' : List Command
+  pub split : commands ≡ before ++ command ∷ after'
+  pub nodes : Nodes
+  pub are : AreNodes commands before nodes
+  pub heard : (i : ℕ) → (d : NodeView) → (lt : i < length nodes) → (first : List Exchange) × (rest : List Exchange) × Played (length nodes - 1) (i + 1) before first × IsRefused (length nodes - 1) (event_at (i + 1) command) rest × ((are.each i d lt).past ≡ first ++ rest)
+  pub full : HasNoRoom nodes command
+
+-- The text is the reports that the script asks for, one for each `report` line, in their order. At each `settle` line, and
+-- wherever a line's event found no room at first, the nodes came to rest.
 pub record AreReports (script text : List ℕ) : Type 0 where
   pub nodes : Nodes
   pub are : AreNodes (commands_in script) (commands_in script) nodes
+  pub played : (i : ℕ) → (d : NodeView) → (lt : i < length nodes) → Played (length nodes - 1) (i + 1) (commands_in script) (are.each i d lt).past
   pub reports : text ≡ flat_map (report_at nodes) (reports_in (commands_in script))
 
 abbrev pub pledges_word : Pledges → List ℕ

@@ -5,6 +5,8 @@
 //! - `play` writes one report for each `report` line, in the order of the lines, of nodes that have the quorum sets that
 //!   the script gives them, and that the ledger theorem holds of for the very events that the script says, each accepted;
 //!   all is made before the first byte is written;
+//! - at each `settle`, and where a line's event finds no room, each node does whole rounds until one moves nothing, or 100,000;
+//! - `Failed` names a node that failed at a line, and `Full` comes only where a line's queue was full also after a settle;
 //! - `check` refuses the scripts that `play` can't read, at the same line, and `show` writes the line of the message that
 //!   the digits spell;
 //! - a failure of the reader or the writer is told as one, and nothing else is;

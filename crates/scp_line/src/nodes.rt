@@ -1,15 +1,16 @@
 //! The nodes of a script, and what its lines do to them.
-ghost use Rattle.std.specs.Prelude.{◌≡◌, ◌⊎◌, ◌≤◌, ◌++◌, [], ℕ, All, OnOk, IfOk, IfErr, IfSome, IsOkUnless, string_bytes, flat_map, length};
+ghost use Rattle.std.specs.Prelude.{◌≡◌, ◌≢◌, ◌⊎◌, ◌≤◌, ◌-◌, ◌++◌, [], ℕ, List, All, OnOk, IfOk, IfErr, IfSome, IsOkUnless, string_bytes, flat_map, length};
+ghost use Rattle.scp_script.specs.declared.command.Command.{Command};
 ghost use Rattle.scp_script.specs.Script.{AreAdmitted, node_count};
 ghost use Rattle.scp_script.specs.Nodes.{NamesNodes, IsSmall, reports_in};
 ghost use Rattle.scp_core.specs.Config.{IsConfig};
-ghost use Rattle.scp_line.specs.Play.{config_of, IsNode, AreNodes, event_at, events_at, report_of_node, report_at};
-ghost use Rattle.scp_line.specs.Nodes.{AllGo, HaveRoom, event_for, nothing, offered_or};
-ghost use Rattle.scp_line.specs.Outcome.{IsActFault};
+ghost use Rattle.scp_line.specs.Settle.{round_events};
+ghost use Rattle.scp_line.specs.Play.{config_of, AreNodes, HasFailed, Played, report_of_node, report_at};
+ghost use Rattle.scp_line.specs.Nodes.{AllGo, Heard, IsNew, AreNew, HaveRoom, Rests, Acts, ActsAgain, Answers, IsStopped, event_by, number_of};
 
 use crate::playing::PlayFault;
 use crate::report::{ReportParts, write_report};
-use crate::rounds::{hear, round};
+use crate::rounds::{either, hear, round};
 use crate::waiting::{link_from, parked_at};
 use scp_core::{Capacities, Command as LocalCommand, Config, Event, Node, Peers, Reply};
 use scp_script::{Command, capacities_of, count_of_nodes, id_from, peers_of_node, set_of_node};
@@ -57,7 +58,7 @@ fn new_node(alloc: Global, commands: &[Command], count: u8, number: u8) -> Resul
     requires few { count ≤ 8 }
     requires number { (1 ≤ number) × (number ≤ count) }
     requires room { HaveRoom commands.now }
-    ensures node { IfOk result (λ node. IsNode commands.now [] number node) }
+    ensures node { IfOk result (λ node. IsNew commands.now number node) }
     ensures only_memory { IsOkUnless result Fault.NoMemory }
 {
     let config = config_from(alloc, commands, count, number)?;
@@ -67,7 +68,7 @@ fn new_node(alloc: Global, commands: &[Command], count: u8, number: u8) -> Resul
 /// The event of a command, and its node. It copies the bytes of a send; the one refusal is `NoMemory`.
 fn event_of(command: &Command) -> Result<Option<(u8, Event)>, Fault>
     requires names { NamesNodes command.now }
-    ensures event { IfOk result (λ found. (node : ℕ) → event_at node command.now ≡ event_for node found) }
+    ensures event { IfOk result (λ found. found ≡ event_by command.now) }
     ensures small { IfOk result (λ found. IfSome found (λ offered. IsSmall offered.0)) }
     ensures only_memory { IsOkUnless result Fault.NoMemory }
 {
@@ -82,13 +83,34 @@ fn event_of(command: &Command) -> Result<Option<(u8, Event)>, Fault>
     })
 }
 
+/// The number of the node whose event a command is; 0 where it is none.
+fn node_of(command: &Command) -> u8
+    ensures { result ≡ number_of command.now }
+{
+    match command {
+        Command::Open { to, .. } | Command::Close { to, .. } | Command::Send { to, .. } => *to,
+        Command::Tick(node) => *node,
+        _ => 0,
+    }
+}
+
+/// That the node of a command failed.
+fn failed_at(command: &Command) -> PlayFault
+    ensures { result ≡ record { fault = Fault.Failed; node = number_of command.now } }
+{
+    PlayFault {
+        fault: Fault::Failed,
+        node: node_of(command),
+    }
+}
+
 impl Nodes {
     /// The nodes of a script, which have heard nothing.
     pub fn new(alloc: Global, commands: &[Command]) -> Result<Nodes, Fault>
         requires names { All NamesNodes commands.now }
         requires admitted { AreAdmitted [] commands.now }
         requires room { HaveRoom commands.now }
-        ensures nodes { IfOk result (λ nodes. AreNodes commands.now [] nodes.0.items) }
+        ensures nodes { IfOk result (λ nodes. AreNew commands.now nodes.0.items) }
         ensures few { IfOk result (λ nodes. length nodes.0.items ≤ 8) }
         ensures only_memory { IsOkUnless result Fault.NoMemory }
     {
@@ -102,72 +124,82 @@ impl Nodes {
     }
 
     /// One round of all nodes. Whether anything moved.
-    fn round(&mut self) -> Result<bool, PlayFault>
+    fn round(&mut self) -> bool
         requires few { length self.old.0.items ≤ 8 }
-        ensures goes { OnOk result (AllGo self.old.0.items self.new.0.items nothing) }
-        ensures refused { IfErr result (λ e. (e.fault ≡ Fault.Failed) × IsSmall e.node) }
+        ensures { AllGo self.old.0.items self.new.0.items (λ number more. Heard (round_events (length self.old.0.items - 1)) result more) }
     {
         let count = self.0.len();
         let mut moved = false;
         for index in 0..count {
-            let links = (count - 1) as u8;
-            if round(&mut self.0[index], index as u8 + 1, links)? {
-                moved = true;
-            }
+            let goes = round(&mut self.0[index], (count - 1) as u8);
+            moved = either(moved, goes);
         }
-        Ok(moved)
+        moved
     }
 
-    /// Brings the nodes to rest: rounds, until one moves nothing, or 100,000.
+    /// The number of the first node that failed, if one did.
+    fn failed(&self) -> Option<u8>
+        requires few { length self.now.0.items ≤ 8 }
+        ensures small { IfSome result IsSmall }
+        ensures failed { IfSome result (λ number. (commands : List Command) → (done : List Command) → AreNodes commands done self.now.0.items → HasFailed self.now.0.items number) }
+    {
+        for index in 0..self.0.len() {
+            if self.0[index].state().is_none() {
+                return Some(index as u8 + 1);
+            }
+        }
+        None
+    }
+
+    /// Brings the nodes to rest: rounds, until one moves nothing, or 100,000. Refused by `Failed` where a node failed.
     fn settle(&mut self) -> Result<(), PlayFault>
         requires few { length self.old.0.items ≤ 8 }
-        ensures goes { OnOk result (AllGo self.old.0.items self.new.0.items nothing) }
-        ensures refused { IfErr result (λ e. (e.fault ≡ Fault.Failed) × IsSmall e.node) }
+        ensures { Rests self.old.0.items self.new.0.items result }
     {
-        for _ in 0..MOST_ROUNDS {
-            if !self.round()? {
+        for _round in 0..MOST_ROUNDS {
+            let moved = self.round();
+            if let Some(node) = self.failed() {
+                return Err(PlayFault {
+                    fault: Fault::Failed,
+                    node,
+                });
+            }
+            if !moved {
                 return Ok(());
             }
         }
         Ok(())
     }
 
-    /// Offers the event of a command to its node. Whether there was room for it.
-    fn offer(&mut self, command: &Command) -> Result<bool, PlayFault>
+    /// Offers the event of a command to its node, and answers its reply; `Accepted` where the command is no event. The one
+    /// refusal is `NoMemory`, and then nothing was offered.
+    fn offer(&mut self, command: &Command) -> Result<Reply, Fault>
         requires names { NamesNodes command.now }
-        ensures goes { IfOk result (λ taken. AllGo self.old.0.items self.new.0.items (offered_or taken command.now)) }
-        ensures refused { IfErr result IsActFault }
+        ensures answers { IfOk result (λ reply. Answers self.old.0.items command.now self.new.0.items reply) }
+        ensures same { IfErr result (λ fault. self.new.0.items ≡ self.old.0.items) }
+        ensures only_memory { IsOkUnless result Fault.NoMemory }
     {
         let Some((number, event)) = event_of(command)? else {
-            return Ok(true);
-        };
-        let failed = PlayFault {
-            fault: Fault::Failed,
-            node: number,
+            return Ok(Reply::Accepted);
         };
         let index = usize::from(number - 1);
         if index >= self.0.len() {
-            return Err(failed);
+            return Ok(Reply::Failed);
         }
-        match hear(&mut self.0[index], event) {
-            Reply::Accepted => Ok(true),
-            Reply::Full => Ok(false),
-            _ => Err(failed),
-        }
+        Ok(hear(&mut self.0[index], event))
     }
 
-    /// Offers the event of a command again after a settle.
-    fn offer_again(&mut self, command: &Command) -> Result<(), PlayFault>
+    /// Does what a line says where its event found no room: the nodes come to rest, and it is offered once again.
+    fn act_again(&mut self, command: &Command) -> Result<(), PlayFault>
         requires names { NamesNodes command.now }
         requires few { length self.old.0.items ≤ 8 }
-        ensures goes { OnOk result (AllGo self.old.0.items self.new.0.items (λ node. event_at node command.now)) }
-        ensures refused { IfErr result IsActFault }
+        ensures { ActsAgain self.old.0.items command.now self.new.0.items result }
     {
         self.settle()?;
-        if self.offer(command)? {
-            Ok(())
-        } else {
-            Err(PlayFault::from(Fault::Full))
+        match self.offer(command)? {
+            Reply::Accepted => Ok(()),
+            Reply::Full => Err(PlayFault::from(Fault::Full)),
+            _ => Err(failed_at(command)),
         }
     }
 
@@ -175,24 +207,27 @@ impl Nodes {
     fn act(&mut self, command: &Command) -> Result<(), PlayFault>
         requires names { NamesNodes command.now }
         requires few { length self.old.0.items ≤ 8 }
-        ensures goes { OnOk result (AllGo self.old.0.items self.new.0.items (λ node. event_at node command.now)) }
-        ensures refused { IfErr result IsActFault }
+        ensures { Acts self.old.0.items command.now self.new.0.items result }
     {
         if let Command::Settle = command {
             return self.settle();
         }
-        if self.offer(command)? {
-            return Ok(());
+        match self.offer(command)? {
+            Reply::Accepted => Ok(()),
+            Reply::Full => self.act_again(command),
+            _ => Err(failed_at(command)),
         }
-        self.offer_again(command)
     }
 
-    /// Does what the lines say, in their order.
+    /// Does what the lines say, in their order. Refused by `Failed` where a node failed, which is named, by `Full` where a
+    /// queue had no room for a line's event even after a settle, and by `NoMemory`.
     pub fn act_all(&mut self, commands: &[Command]) -> Result<(), PlayFault>
         requires names { All NamesNodes commands.now }
+        requires admitted { AreAdmitted [] commands.now }
+        requires new { AreNew commands.now self.old.0.items }
         requires few { length self.old.0.items ≤ 8 }
-        ensures goes { OnOk result (AllGo self.old.0.items self.new.0.items (λ node. events_at node commands.now)) }
-        ensures refused { IfErr result IsActFault }
+        ensures goes { OnOk result (AllGo self.old.0.items self.new.0.items (λ number more. Played (length self.old.0.items - 1) number commands.now more)) }
+        ensures stopped { IfErr result (IsStopped commands.now) }
     {
         for command in commands {
             self.act(command)?;

@@ -8,7 +8,7 @@ ghost use Rattle.scp_xdr.specs.Words.{IsReadingFault};
 ghost use Rattle.scp_device.specs.Device.{Gains, GainsPart, Fails, IsAll};
 ghost use Rattle.scp_script.specs.Script.{IsScript, IsBadLine, commands_in};
 ghost use Rattle.scp_line.specs.Outcome.{IsCheckFault, IsPlayFault};
-ghost use Rattle.scp_line.specs.Play.{AreReports, IsShown, IsUnread, IsNamed};
+ghost use Rattle.scp_line.specs.Play.{AreReports, Stops, Overflows, IsShown, IsUnread, IsNamed};
 
 use crate::messages::line_of;
 use crate::nodes::Nodes;
@@ -48,6 +48,8 @@ fn played(alloc: Global, text: &[u8]) -> Result<String, PlayFault>
     ensures short { IfErr result (λ e. e.fault ≢ Fault.TooLong) }
     ensures line { IfErr result (λ e. (line : ℕ) → e.fault ≡ BadScript line → IsBadLine text.now line) }
     ensures named { IfErr result (λ e. IsNamed e.node e.fault) }
+    ensures stops { IfErr result (λ e. e.fault ≡ Fault.Failed → IsScript text.now × Stops (commands_in text.now) e.node) }
+    ensures full { IfErr result (λ e. e.fault ≡ Fault.Full → IsScript text.now × Overflows (commands_in text.now)) }
     ensures cause { IfErr result (λ e. IsPlayFault e.fault) }
 {
     let script = parse(alloc, text)?;
@@ -84,6 +86,10 @@ pub fn play<R: ScriptIn, W: ReportOut>(
     ensures cause { IfErr result (λ e. IsPlayFault e.fault) }
     // A node is named where it failed, and only there.
     ensures named { IfErr result (λ e. IsNamed e.node e.fault) }
+    // Failed is answered only where that node failed at a line of a script, after those before it were done.
+    ensures stops { IfErr result (λ e. e.fault ≡ Fault.Failed → IfSome (R.left reader.old) (λ all. (length all ≤ SCRIPT_LIMIT) × IsScript all × Stops (commands_in all) e.node)) }
+    // Full is answered only where a line's event found no room, and the queue that it goes to was full also after a settle.
+    ensures full { IfErr result (λ e. e.fault ≡ Fault.Full → IfSome (R.left reader.old) (λ all. (length all ≤ SCRIPT_LIMIT) × IsScript all × Overflows (commands_in all))) }
     // After any other refusal than Device nothing was written.
     ensures untouched { IfErr result (λ e. e.fault ≢ Fault.Device → writer.new ≡ writer.old) }
     // After a refusal nothing was written, or a part of the reports, from the first byte on.

@@ -5,9 +5,9 @@ use Rattle.scp_types.specs.declared.fault.Fault.TheVariants.{NoMemory, Malformed
 use Rattle.scp_device.specs.Device.{Fails}
 use Rattle.scp_line.specs.declared.playing.PlayFault.{PlayFault}
 use Rattle.std.specs.Prelude.{IfSome, length, ◌<◌}
-use Rattle.scp_script.specs.Script.{IsBadLine}
+use Rattle.scp_script.specs.Script.{IsScript, IsBadLine, commands_in}
 use Rattle.scp_line.specs.Outcome.{fault_line, status_of, IsCheckFault, IsPlayFault}
-use Rattle.scp_line.specs.Play.{IsNamed}
+use Rattle.scp_line.specs.Play.{IsNamed, Stops, Overflows}
 use Rattle.scp_serve.specs.Serving.{IsWritten, IsTold, IsUnplayed}
 
 pub status_is : (fault : Fault) → (status_of fault ≡ 1) ⊎ (status_of fault ≡ 3)
@@ -54,9 +54,15 @@ IsTooLong left = IfSome left (λ all. 1048576 < length all)
 abbrev pub IsBadAt : Option (List ℕ) → ℕ → Type 0
 IsBadAt left line = IfSome left (λ all. (length all ≤ 1048576) × IsBadLine all line)
 
+abbrev pub IsStoppedAt : Option (List ℕ) → ℕ → Type 0
+IsStoppedAt left node = IfSome left (λ all. (length all ≤ 1048576) × IsScript all × Stops (commands_in all) node)
+
+abbrev pub IsOverfull : Option (List ℕ) → Type 0
+IsOverfull left = IfSome left (λ all. (length all ≤ 1048576) × IsScript all × Overflows (commands_in all))
+
 pub unplayed : (left : Option (List ℕ)) (fault : PlayFault) → IsPlayFault fault.fault → IsNamed fault.node fault.fault → (fault.fault ≡ TooLong → IsTooLong left)
-    → ((line : ℕ) → fault.fault ≡ BadScript line → IsBadAt left line) → IsUnplayed left fault
-unplayed left fault cause named too_long line = record { cause = cause; named = named; too_long = too_long; line = line }
+    → ((line : ℕ) → fault.fault ≡ BadScript line → IsBadAt left line) → (fault.fault ≡ Failed → IsStoppedAt left fault.node) → (fault.fault ≡ Full → IsOverfull left) → IsUnplayed left fault
+unplayed left fault cause named too_long line stops full = record { cause = cause; named = named; too_long = too_long; line = line; stops = stops; full = full }
 
 plays : (fault : Fault) → IsCheckFault fault → IsPlayFault fault
 plays NoMemory h = tt
@@ -97,4 +103,6 @@ unchecked left fault cause zero too_long line = record {
   named = unnamed fault.node fault.fault cause zero;
   too_long = too_long;
   line = line;
+  stops = λ e. absurd (subst (λ (f : Fault). IsCheckFault f) e cause);
+  full = λ e. absurd (subst (λ (f : Fault). IsCheckFault f) e cause);
 }

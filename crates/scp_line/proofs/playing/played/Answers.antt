@@ -2,7 +2,7 @@ use Rattle.std.proofs.Common.{◌≡◌, ◌++◌, ◌∙◌, ℕ, List, string_
 use Rattle.scp_script.specs.Script.{commands_in}
 use Rattle.scp_script.specs.Nodes.{reports_in}
 use Rattle.scp_line.specs.Play.{report_at}
-use Rattle.scp_line.proofs.Going.{are_reports}
+use Rattle.scp_line.proofs.Lines.{are_reports}
 use Rattle.scp_line.proofs.Fits.{script_has_room}
 use Rattle.scp_line.proofs.playing.played.Goals as goal
 

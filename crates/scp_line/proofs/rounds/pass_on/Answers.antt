@@ -1,8 +1,7 @@
-use Rattle.scp_line.proofs.Going.{goes_quietly}
+use Rattle.std.proofs.Common.{[], ◌∷◌}
+use Rattle.scp_core.specs.declared.event.Event.TheVariants.{PendTake, PendPut, SlotTake, SlotPut, ApplyTake}
+use Rattle.scp_line.proofs.Going.{goes_heard}
 use Rattle.scp_line.proofs.rounds.pass_on.Goals as goal
 
-pub returns-then-has_decided-clause-goes : goal.returns-then-has_decided-clause-goes
-returns-then-has_decided-clause-goes c = goes_quietly c.args.node.now c.take_and_put-2.new.node c.turn.new.node (goes_quietly c.args.node.now c.take_and_put.new.node c.take_and_put-2.new.node c.in_ok-has_pended.ensures.goes c.in_ok-has_decided.ensures.goes) c.in_ok-has_applied.ensures.goes
-
-pub returns-else-has_decided-clause-goes : goal.returns-else-has_decided-clause-goes
-returns-else-has_decided-clause-goes c = goes_quietly c.args.node.now c.take_and_put-2.new.node c.turn.new.node (goes_quietly c.args.node.now c.take_and_put.new.node c.take_and_put-2.new.node c.in_ok-has_pended.ensures.goes c.in_ok-has_decided.ensures.goes) c.in_ok-has_applied.ensures.goes
+pub returns : goal.returns
+returns c = goes_heard c.args.node.now c.decide-has_decided.new.node c.turn-has_applied.new.node (PendTake ∷ PendPut ∷ SlotTake ∷ SlotPut ∷ []) (ApplyTake ∷ []) c.decide-has_decided.result c.turn-has_applied.result c.either.result c.either.ensures c.decide-has_decided.ensures c.turn-has_applied.ensures
