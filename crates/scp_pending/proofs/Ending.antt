@@ -13,7 +13,7 @@ use Rattle.scp_wire.specs.declared.side.SideMessage.{SideMessage}
 use Rattle.scp_wire.specs.declared.side.SideMessage.TheVariants.{GetSet, Set, NoSet}
 use Rattle.scp_wire.specs.declared.link.Cause.TheVariants.{ParkedFull}
 use Rattle.scp_wire.specs.declared.link.Command.{Command}
-use Rattle.scp_wire.specs.declared.link.Command.TheVariants.{Tick}
+use Rattle.scp_wire.specs.declared.link.Command.TheVariants.{Tick, Propose, Round, Timer, Ask}
 use Rattle.scp_wire.specs.declared.link.Inbound.{Inbound}
 use Rattle.scp_wire.specs.declared.link.Inbound.TheVariants as inbound
 use Rattle.scp_wire.specs.Connections.{conn_at, same_node, same_conn}
@@ -224,6 +224,10 @@ passed_at s (inbound.Closed c cause) = by_test (is_open c s.queues)
     by_test true = none_dropped c ByClose (parked_of c s.queues) (Closed c cause ∷ [])
     by_test false = refl
 passed_at s (inbound.Local Tick) = none_leaving (resolved (is_given_up s.wanted) (lost_by GaveUp) (in_order_of (last_missed s.wanted) s.queues))
+passed_at s (inbound.Local (Propose slot value)) = refl
+passed_at s (inbound.Local (Round slot)) = refl
+passed_at s (inbound.Local (Timer slot)) = refl
+passed_at s (inbound.Local (Ask link slot)) = refl
 
 passed_along : (s : Settled) (items : List Inbound) → commands_of (released_by s items) ≡ commands_in items
 passed_along s [] = refl

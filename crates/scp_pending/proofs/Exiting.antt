@@ -13,7 +13,7 @@ use Rattle.scp_wire.specs.declared.side.SideMessage.{SideMessage}
 use Rattle.scp_wire.specs.declared.side.SideMessage.TheVariants.{GetSet, Set, NoSet}
 use Rattle.scp_wire.specs.declared.link.Cause.{Cause}
 use Rattle.scp_wire.specs.declared.link.Cause.TheVariants.{ParkedFull}
-use Rattle.scp_wire.specs.declared.link.Command.TheVariants.{Tick}
+use Rattle.scp_wire.specs.declared.link.Command.TheVariants.{Tick, Propose, Round, Timer, Ask}
 use Rattle.scp_wire.specs.declared.link.Inbound.{Inbound}
 use Rattle.scp_wire.specs.declared.link.Inbound.TheVariants as inbound
 use Rattle.scp_wire.specs.Connections.{same_conn}
@@ -417,6 +417,10 @@ pub exits_item : (start : Settled) (taken : List Inbound) (c : ConnId) (s : Sett
 exits_item start taken c s (inbound.Opened d) ws k begins outside known = exits_on start taken c (inbound.Opened d) _ _ ws [] tt (λ e. refl) (λ e. opened_by c s (inbound.Opened d) ws begins (sym (open_step c s (inbound.Opened d) k.single) ∙ e)) known
 exits_item start taken c s (inbound.Side d m) ws k begins outside known = exits_on start taken c (inbound.Side d m) _ _ ws _ (heard_went c s d m (own_queues start taken s.wanted s.queues k.fits)) (λ e. shut_nothing c s (inbound.Side d m) k.single k.mine (sym (open_step c s (inbound.Side d m) k.single) ∙ e)) (λ e. inl (sym (open_step c s (inbound.Side d m) k.single) ∙ e)) known
 exits_item start taken c s (inbound.Local Tick) ws k begins outside known = exits_on start taken c (inbound.Local Tick) _ _ ws _ (leaving_went c (resolved (is_given_up s.wanted) (lost_by GaveUp) (in_order_of (last_missed s.wanted) s.queues)) (resolved_own (is_given_up s.wanted) (lost_by GaveUp) (λ x. tt) (in_order_of (last_missed s.wanted) s.queues) (all_in_order HaveOwnFates (last_missed s.wanted) s.queues (own_queues start taken s.wanted s.queues k.fits)))) (λ e. shut_nothing c s (inbound.Local Tick) k.single k.mine (sym (open_step c s (inbound.Local Tick) k.single) ∙ e)) (λ e. inl (sym (open_step c s (inbound.Local Tick) k.single) ∙ e)) known
+exits_item start taken c s (inbound.Local (Propose slot value)) ws k begins outside known = exits_on start taken c (inbound.Local (Propose slot value)) _ _ ws [] tt (λ e. refl) (λ e. inl (sym (open_step c s (inbound.Local (Propose slot value)) k.single) ∙ e)) known
+exits_item start taken c s (inbound.Local (Round slot)) ws k begins outside known = exits_on start taken c (inbound.Local (Round slot)) _ _ ws [] tt (λ e. refl) (λ e. inl (sym (open_step c s (inbound.Local (Round slot)) k.single) ∙ e)) known
+exits_item start taken c s (inbound.Local (Timer slot)) ws k begins outside known = exits_on start taken c (inbound.Local (Timer slot)) _ _ ws [] tt (λ e. refl) (λ e. inl (sym (open_step c s (inbound.Local (Timer slot)) k.single) ∙ e)) known
+exits_item start taken c s (inbound.Local (Ask link slot)) ws k begins outside known = exits_on start taken c (inbound.Local (Ask link slot)) _ _ ws [] tt (λ e. refl) (λ e. inl (sym (open_step c s (inbound.Local (Ask link slot)) k.single) ∙ e)) known
 exits_item start taken c s (inbound.Carried x) ws k begins outside known = by_cut (is_open x.conn s.queues && (is_full x.conn s.queues && same_conn x.conn c)) refl
   where
     kept : (o f k oc : Bool) → (o && (f && k)) ≡ false → cond (o && f) (oc && not k) oc ≡ false → oc ≡ false

@@ -12,7 +12,7 @@ use Rattle.scp_wire.specs.declared.side.SideMessage.{SideMessage}
 use Rattle.scp_wire.specs.declared.side.SideMessage.TheVariants.{GetSet, Set, NoSet}
 use Rattle.scp_wire.specs.declared.link.Cause.{Cause}
 use Rattle.scp_wire.specs.declared.link.Cause.TheVariants.{ParkedFull}
-use Rattle.scp_wire.specs.declared.link.Command.TheVariants.{Tick}
+use Rattle.scp_wire.specs.declared.link.Command.TheVariants.{Tick, Propose, Round, Timer, Ask}
 use Rattle.scp_wire.specs.declared.link.Inbound.{Inbound}
 use Rattle.scp_wire.specs.declared.link.Inbound.TheVariants as inbound
 use Rattle.scp_wire.specs.Connections.{conn_at, same_node, same_conn}
@@ -68,6 +68,10 @@ frame_step P s (inbound.Side d m) k = by_open (is_open d s.queues) m
     by_open false m = k
 frame_step P s (inbound.Closed d cause) k = elim (is_open d s.queues) as (λ b. P (cond b (closed_off d s) s).me (cond b (closed_off d s) s).peers) [ true ↦ k | false ↦ k ]
 frame_step P s (inbound.Local Tick) k = k
+frame_step P s (inbound.Local (Propose slot value)) k = k
+frame_step P s (inbound.Local (Round slot)) k = k
+frame_step P s (inbound.Local (Timer slot)) k = k
+frame_step P s (inbound.Local (Ask link slot)) k = k
 
 -- of the connections of the queues
 abbrev pub AllConns : (ConnId → Type 0) → List QueueView → Type 0
@@ -136,6 +140,10 @@ conns_step P s (inbound.Closed d cause) new a = by_test (is_open d s.queues)
     by_test true = conns_others P d s.queues a
     by_test false = a
 conns_step P s (inbound.Local Tick) new a = conns_served P (is_given_up s.wanted) (lost_by GaveUp) (in_order_of (last_missed s.wanted) s.queues) (all_in_order (λ (q : QueueView). P q.conn) (last_missed s.wanted) s.queues a)
+conns_step P s (inbound.Local (Propose slot value)) new a = a
+conns_step P s (inbound.Local (Round slot)) new a = a
+conns_step P s (inbound.Local (Timer slot)) new a = a
+conns_step P s (inbound.Local (Ask link slot)) new a = a
 
 -- ---- one item of the link
 

@@ -17,3 +17,4 @@ pub mod Hearing
 pub mod Exiting
 pub mod Ending
 pub mod Living
+pub mod Settling

@@ -10,7 +10,7 @@ use Rattle.scp_wire.specs.declared.side.SideMessage.{SideMessage}
 use Rattle.scp_wire.specs.declared.side.SideMessage.TheVariants.{GetSet, Set, NoSet}
 use Rattle.scp_wire.specs.declared.link.Cause.{Cause}
 use Rattle.scp_wire.specs.declared.link.Cause.TheVariants.{ParkedFull}
-use Rattle.scp_wire.specs.declared.link.Command.TheVariants.{Tick}
+use Rattle.scp_wire.specs.declared.link.Command.TheVariants.{Tick, Propose, Round, Timer, Ask}
 use Rattle.scp_wire.specs.declared.link.Inbound.{Inbound}
 use Rattle.scp_wire.specs.declared.link.Inbound.TheVariants as inbound
 use Rattle.scp_wire.specs.Connections.{same_conn}
@@ -204,6 +204,10 @@ line_step d s (inbound.Closed c cause) single a = by_open (is_open c s.queues)
 line_step d s (inbound.Local Tick) single a =
     let hashes = last_missed s.wanted in
     serving d (is_given_up s.wanted) (lost_by GaveUp) (in_order_of hashes s.queues) (λ x. refl) (λ k x e. tt) (single-in_order hashes s.queues single) (all_in_order AreMine hashes s.queues a) ∙ ap (λ ps. map parked_mark ps ++ []) (parked-in_order d hashes s.queues (single d))
+line_step d s (inbound.Local (Propose slot value)) single a = sym (append_nil (marks_parked d s.queues))
+line_step d s (inbound.Local (Round slot)) single a = sym (append_nil (marks_parked d s.queues))
+line_step d s (inbound.Local (Timer slot)) single a = sym (append_nil (marks_parked d s.queues))
+line_step d s (inbound.Local (Ask link slot)) single a = sym (append_nil (marks_parked d s.queues))
 
 -- ---- whether it is open
 
@@ -281,3 +285,7 @@ open_step c s (inbound.Closed d cause) single = by_open (is_open d s.queues) ref
     by_open true e = open-others c d s.queues single e
     by_open false e = refl
 open_step c s (inbound.Local Tick) single = open-served c (is_given_up s.wanted) (lost_by GaveUp) (in_order_of (last_missed s.wanted) s.queues) ∙ open_as c (in_order_of (last_missed s.wanted) s.queues) s.queues (how_many-in_order c (last_missed s.wanted) s.queues)
+open_step c s (inbound.Local (Propose slot value)) single = refl
+open_step c s (inbound.Local (Round slot)) single = refl
+open_step c s (inbound.Local (Timer slot)) single = refl
+open_step c s (inbound.Local (Ask link slot)) single = refl

@@ -14,7 +14,7 @@ use Rattle.scp_wire.specs.declared.side.SideMessage.{SideMessage}
 use Rattle.scp_wire.specs.declared.side.SideMessage.TheVariants.{GetSet, Set, NoSet}
 use Rattle.scp_wire.specs.declared.link.Cause.{Cause}
 use Rattle.scp_wire.specs.declared.link.Cause.TheVariants.{ParkedFull}
-use Rattle.scp_wire.specs.declared.link.Command.TheVariants.{Tick}
+use Rattle.scp_wire.specs.declared.link.Command.TheVariants.{Tick, Propose, Round, Timer, Ask}
 use Rattle.scp_wire.specs.declared.link.Inbound.{Inbound}
 use Rattle.scp_wire.specs.declared.link.Inbound.TheVariants as inbound
 use Rattle.scp_wire.specs.Connections.{same_node, same_conn}
@@ -115,6 +115,10 @@ single_step s (inbound.Closed d cause) a = by_test (is_open d s.queues)
     by_test true = closed_single d s a
     by_test false = a
 single_step s (inbound.Local Tick) a = served_single (is_given_up s.wanted) (lost_by GaveUp) (in_order_of (last_missed s.wanted) s.queues) (single-in_order (last_missed s.wanted) s.queues a)
+single_step s (inbound.Local (Propose slot value)) a = a
+single_step s (inbound.Local (Round slot)) a = a
+single_step s (inbound.Local (Timer slot)) a = a
+single_step s (inbound.Local (Ask link slot)) a = a
 
 -- ---- what is stored is sane
 
@@ -170,6 +174,10 @@ store_step P s (inbound.Side d m) more k = by_test (is_open d s.queues) m
     by_test false m = k
 store_step P s (inbound.Closed d cause) more k = elim (is_open d s.queues) as (λ b. P (cond b (closed_off d s) s).store) [ true ↦ k | false ↦ k ]
 store_step P s (inbound.Local Tick) more k = k
+store_step P s (inbound.Local (Propose slot value)) more k = k
+store_step P s (inbound.Local (Round slot)) more k = k
+store_step P s (inbound.Local (Timer slot)) more k = k
+store_step P s (inbound.Local (Ask link slot)) more k = k
 
 -- the local set stays
 pub local_step : (s : Settled) (item : Inbound) → (rules s item).store.local ≡ s.store.local
@@ -332,6 +340,10 @@ fits_step start taken s (inbound.Closed d cause) e sane ws a = by_test (is_open 
     by_test true = (closed_fit start taken s d item e (λ hash. (refl, refl)) a, all_dropped start (taken ++ item ∷ []) d ByClose (parked_of d s.queues) (Closed d cause ∷ []) (λ seq. tt) (tt, tt))
     by_test false = (quiet start taken s s.wanted item s.queues e (λ hash is. (refl, is, λ n l. l)) a, tt)
 fits_step start taken s (inbound.Local Tick) e sane ws a = served_fit start (taken ++ inbound.Local Tick ∷ []) (missed_by All s.wanted) (resolved (is_given_up s.wanted) (lost_by GaveUp) (in_order_of (last_missed s.wanted) s.queues)) (resolved_fit start taken (taken ++ inbound.Local Tick ∷ []) s.wanted (missed_by All s.wanted) (is_given_up s.wanted) (lost_by GaveUp) (in_order_of (last_missed s.wanted) s.queues) (miss_stands start taken s All (inbound.Local Tick) (is_given_up s.wanted) e (λ hash. (refl, refl)) (λ hash is. refl) ws) (all_in_order (Fits start taken s.wanted) (last_missed s.wanted) s.queues a))
+fits_step start taken s (inbound.Local (Propose slot value)) e sane ws a = (quiet start taken s s.wanted (inbound.Local (Propose slot value)) s.queues e (λ hash is. (refl, is, λ m l. l)) a, (tt, tt))
+fits_step start taken s (inbound.Local (Round slot)) e sane ws a = (quiet start taken s s.wanted (inbound.Local (Round slot)) s.queues e (λ hash is. (refl, is, λ m l. l)) a, (tt, tt))
+fits_step start taken s (inbound.Local (Timer slot)) e sane ws a = (quiet start taken s s.wanted (inbound.Local (Timer slot)) s.queues e (λ hash is. (refl, is, λ m l. l)) a, (tt, tt))
+fits_step start taken s (inbound.Local (Ask link slot)) e sane ws a = (quiet start taken s s.wanted (inbound.Local (Ask link slot)) s.queues e (λ hash is. (refl, is, λ m l. l)) a, (tt, tt))
 
 -- ---- the wants
 
@@ -426,6 +438,10 @@ wants_step start taken s (inbound.Closed d cause) e a = by_test (is_open d s.que
     by_test true = all_filter (IsWant start (taken ++ inbound.Closed d cause ∷ [])) (still_wanted (parked_of d s.queues) (others d s.queues)) s.wanted (wants_later start taken s (inbound.Closed d cause) e (λ h. (refl, refl)) a)
     by_test false = wants_later start taken s (inbound.Closed d cause) e (λ h. (refl, refl)) a
 wants_step start taken s (inbound.Local Tick) e a = wants_missed start taken s All (inbound.Local Tick) e (λ h. (refl, refl)) a
+wants_step start taken s (inbound.Local (Propose slot value)) e a = wants_later start taken s (inbound.Local (Propose slot value)) e (λ h. (refl, refl)) a
+wants_step start taken s (inbound.Local (Round slot)) e a = wants_later start taken s (inbound.Local (Round slot)) e (λ h. (refl, refl)) a
+wants_step start taken s (inbound.Local (Timer slot)) e a = wants_later start taken s (inbound.Local (Timer slot)) e (λ h. (refl, refl)) a
+wants_step start taken s (inbound.Local (Ask link slot)) e a = wants_later start taken s (inbound.Local (Ask link slot)) e (λ h. (refl, refl)) a
 
 -- ---- along a list of takes
 

@@ -6,7 +6,7 @@ use Rattle.scp_types.specs.declared.names.Hash.{Hash}
 use Rattle.scp_types.specs.declared.names.Seq.{Seq}
 use Rattle.scp_wire.specs.declared.carried.Carried.{Carried}
 use Rattle.scp_wire.specs.declared.side.SideMessage.TheVariants.{GetSet, Set, NoSet}
-use Rattle.scp_wire.specs.declared.link.Command.TheVariants.{Tick}
+use Rattle.scp_wire.specs.declared.link.Command.TheVariants.{Tick, Propose, Round, Timer, Ask}
 use Rattle.scp_wire.specs.declared.link.Inbound.{Inbound}
 use Rattle.scp_wire.specs.declared.link.Inbound.TheVariants as inbound
 use Rattle.scp_wire.specs.Sets.{IsSetOf}
@@ -54,6 +54,10 @@ is_miss hash s (inbound.Side c (Set set)) = false
 is_miss hash s (inbound.Side c (NoSet h)) = is_open c s.queues && same_hash h hash
 is_miss hash s (inbound.Closed c cause) = false
 is_miss hash s (inbound.Local Tick) = true
+is_miss hash s (inbound.Local (Propose slot value)) = false
+is_miss hash s (inbound.Local (Round slot)) = false
+is_miss hash s (inbound.Local (Timer slot)) = false
+is_miss hash s (inbound.Local (Ask link slot)) = false
 
 -- whether there is such an item, and how many there are, in a list that comes after s
 abbrev pub has : (Settled → Inbound → Bool) → Settled → List Inbound → Bool

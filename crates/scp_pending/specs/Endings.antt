@@ -7,7 +7,7 @@ use Rattle.scp_wire.specs.declared.carried.Carried.{Carried}
 use Rattle.scp_wire.specs.declared.link.Cause.{Cause}
 use Rattle.scp_wire.specs.declared.link.Cause.TheVariants.{ParkedFull}
 use Rattle.scp_wire.specs.declared.link.Command.{Command}
-use Rattle.scp_wire.specs.declared.link.Command.TheVariants.{Tick}
+use Rattle.scp_wire.specs.declared.link.Command.TheVariants.{Tick, Propose, Round, Timer, Ask}
 use Rattle.scp_wire.specs.declared.link.Inbound.{Inbound}
 use Rattle.scp_wire.specs.declared.link.Inbound.TheVariants as inbound
 use Rattle.scp_wire.specs.Connections.{same_conn}
@@ -92,6 +92,10 @@ pub record Exits (start : Settled) (taken : List Inbound) (c : ConnId) (open' : 
 -- the local commands that pass: all but Tick
 abbrev pub passing_command : Command → List Command
 passing_command Tick = []
+passing_command (Propose slot value) = (Propose slot value) ∷ []
+passing_command (Round slot) = (Round slot) ∷ []
+passing_command (Timer slot) = (Timer slot) ∷ []
+passing_command (Ask link slot) = (Ask link slot) ∷ []
 
 abbrev pub passing : Inbound → List Command
 passing (inbound.Opened c) = []

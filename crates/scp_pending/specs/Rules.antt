@@ -13,7 +13,7 @@ use Rattle.scp_wire.specs.declared.message.Message.TheVariants as message
 use Rattle.scp_wire.specs.declared.side.SideMessage.{SideMessage}
 use Rattle.scp_wire.specs.declared.side.SideMessage.TheVariants.{GetSet, Set, NoSet}
 use Rattle.scp_wire.specs.declared.link.Cause.TheVariants.{ParkedFull}
-use Rattle.scp_wire.specs.declared.link.Command.TheVariants.{Tick}
+use Rattle.scp_wire.specs.declared.link.Command.TheVariants.{Tick, Propose, Round, Timer, Ask}
 use Rattle.scp_wire.specs.declared.link.Inbound.{Inbound}
 use Rattle.scp_wire.specs.declared.link.Inbound.TheVariants as inbound
 use Rattle.scp_wire.specs.Connections.{same_node}
@@ -27,7 +27,7 @@ use Rattle.scp_pending.specs.declared.parked.Parked.{Parked}
 use Rattle.scp_pending.specs.declared.parked.Parked.TheVariants.{Waits, Free, Lost}
 use Rattle.scp_pending.specs.declared.ready.DropCause.TheVariants.{BadSet, GaveUp, Closed as ByClose, ParkedFull as ByFull}
 use Rattle.scp_pending.specs.declared.ready.Ready.{Ready}
-use Rattle.scp_pending.specs.declared.ready.Ready.TheVariants.{Dropped, Closed}
+use Rattle.scp_pending.specs.declared.ready.Ready.TheVariants.{Dropped, Closed, Local}
 
 -- what the items that were taken determine
 pub record Settled : Type 0 where
@@ -147,6 +147,10 @@ rules s (inbound.Carried x) = if is_open x.conn s.queues then brings x s else s
 rules s (inbound.Side c message) = if is_open c s.queues then hears message s else s
 rules s (inbound.Closed c cause) = if is_open c s.queues then closed_off c s else s
 rules s (inbound.Local Tick) = missed_all s
+rules s (inbound.Local (Propose slot value)) = s
+rules s (inbound.Local (Round slot)) = s
+rules s (inbound.Local (Timer slot)) = s
+rules s (inbound.Local (Ask link slot)) = s
 
 abbrev pub brought : Carried → Settled → List Ready
 brought x s = if is_full x.conn s.queues then map (dropped x.conn ByFull) (parked_of x.conn s.queues) ++ Dropped x.conn x.seq ByFull ∷ Closed x.conn ParkedFull ∷ [] else (if goes_through x.conn (entering s.store x) s.queues then leaves_of x.conn (entering s.store x ∷ []) else [])
@@ -163,6 +167,10 @@ releases s (inbound.Carried x) = if is_open x.conn s.queues then brought x s els
 releases s (inbound.Side c message) = if is_open c s.queues then heard_out message s else []
 releases s (inbound.Closed c cause) = if is_open c s.queues then map (dropped c ByClose) (parked_of c s.queues) ++ Closed c cause ∷ [] else []
 releases s (inbound.Local Tick) = leaving_of (resolved (is_given_up s.wanted) (lost_by GaveUp) (in_order_of (last_missed s.wanted) s.queues))
+releases s (inbound.Local (Propose slot value)) = Local (Propose slot value) ∷ []
+releases s (inbound.Local (Round slot)) = Local (Round slot) ∷ []
+releases s (inbound.Local (Timer slot)) = Local (Timer slot) ∷ []
+releases s (inbound.Local (Ask link slot)) = Local (Ask link slot) ∷ []
 
 abbrev pub asks_named : ℕ → Option Hash → List Want → Option (ℕ × Message)
 asks_named link None wanted = None
@@ -186,7 +194,7 @@ reply s (inbound.Opened c) = None
 reply s (inbound.Carried x) = if is_open x.conn s.queues && not (is_full x.conn s.queues) then asks (link_number x.conn.from s) (entering s.store x) s.wanted else None
 reply s (inbound.Side c message) = if is_open c s.queues then replies c message s else None
 reply s (inbound.Closed c cause) = None
-reply s (inbound.Local Tick) = None
+reply s (inbound.Local command) = None
 
 -- ---- a list of items
 

@@ -158,8 +158,8 @@ impl Pending {
                 self.close(conn, cause)?;
                 Ok(None)
             }
-            Inbound::Local(Command::Tick) => {
-                self.tick()?;
+            Inbound::Local(command) => {
+                self.command(command)?;
                 Ok(None)
             }
         }
@@ -377,6 +377,26 @@ impl Pending {
     {
         settle_all(&mut self.queues, hash, &outcome)?;
         serve_all(self.alloc, &mut self.queues, &mut self.leaving)
+    }
+
+    /// A Tick is a miss of all that is wanted; every other command passes at once.
+    fn command(&mut self, command: Command) -> Result<(), Fault>
+        ensures { OnOk result (self.new ≡ taken_in self.old (Inbound.Local command)) }
+    {
+        match command {
+            Command::Tick => self.tick(),
+            Command::Propose(slot, value) => self.pass(Command::Propose(slot, value)),
+            Command::Round(slot) => self.pass(Command::Round(slot)),
+            Command::Timer(slot) => self.pass(Command::Timer(slot)),
+            Command::Ask(link, slot) => self.pass(Command::Ask(link, slot)),
+        }
+    }
+
+    fn pass(&mut self, command: Command) -> Result<(), Fault>
+        ensures { OnOk result (self.new ≡ record self.old { leaving = self.old.leaving ++ Ready.Local command ∷ [] }) }
+    {
+        self.leaving.push_back(Ready::Local(command))?;
+        Ok(())
     }
 
     fn tick(&mut self) -> Result<(), Fault>

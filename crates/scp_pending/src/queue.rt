@@ -1,16 +1,17 @@
 //! The queue of an open connection.
-ghost use Rattle.std.specs.Prelude.{◌≡◌, ◌+◌, ◌<◌, ◌^◌, ◌++◌, ◌∷◌, [], IfOk, OnOk, IfSome, IsSomeAnd, IfNone, is_some, Some, None, true, false, length, map, filter, take, drop, position, option_to_list, remove, slice_get};
+ghost use Rattle.std.specs.Prelude.{◌≡◌, ◌+◌, ◌<◌, ◌^◌, ◌++◌, ◌∷◌, [], IfOk, OnOk, IfSome, IsSomeAnd, IfNone, is_some, Some, None, true, false, length, map, filter, take, drop, position, option_to_list, remove, slice_get, slice_set as set, get_or};
 ghost use Rattle.std.specs.List.{list_any};
 ghost use Rattle.scp_wire.specs.Connections.{same_conn};
 ghost use Rattle.scp_fetch.specs.Wants.{last_missed, without};
 ghost use Rattle.scp_pending.specs.Queues.{is_of, is_open, is_link_open as link_open, parked_of, others, parked_in, resolved, served, leaving_of, is_hash, waits_for as waits, is_waited as waited, is_empty as none_parked, may_leave as head_may_leave, leaves_of, stays_of, stays_in, leaves_in, is_head_waiting as has_waiting_head, with_first, in_order_of, resolved_one, resolved_in, dropped, lost_by, with_parked};
 ghost use Rattle.scp_pending.specs.Rules.{is_given_up, still_wanted};
 ghost use Rattle.scp_pending.specs.Outcome.{outcome_of, HasHash, IsPlace};
+ghost use Rattle.scp_pending.specs.declared.parked.Parked.{Parked};
 
 use crate::parked::{Outcome, Parked, named};
 use crate::ready::{DropCause, Ready};
 use scp_fetch::Fetcher;
-use scp_types::{ConnId, Fault, Hash, NodeId};
+use scp_types::{ConnId, Fault, Hash, NodeId, Seq};
 use std::alloc::Global;
 use std::collections::VecDeque;
 use std::marker::Model;
@@ -185,12 +186,26 @@ fn settle_each(parked: &mut VecDeque<Parked>, hash: &Hash, outcome: &Outcome) ->
     ensures { OnOk result (parked.new.items ≡ map (resolved_one (is_hash hash.now) (outcome_of outcome.now)) parked.old.items) }
 {
     for i in 0..parked.len() {
-        let Some(p) = parked.pop_front() else {
-            return Ok(());
-        };
-        let settled = p.settled(hash, outcome)?;
-        parked.push_back(settled)?;
+        if parked[i].waits_for(hash) {
+            settle_at(parked, i, hash, outcome)?;
+        }
     }
+    Ok(())
+}
+
+/// What stands at a place has its outcome, where it waits for the hash; the others aren't moved.
+fn settle_at(
+    parked: &mut VecDeque<Parked>,
+    place: usize,
+    hash: &Hash,
+    outcome: &Outcome,
+) -> Result<(), Fault>
+    requires hash { HasHash (Some hash.now) outcome.now }
+    requires place { place < length parked.old.items }
+    ensures { OnOk result ((d : Parked) → parked.new.items ≡ set parked.old.items place (resolved_one (is_hash hash.now) (outcome_of outcome.now) (get_or parked.old.items place d))) }
+{
+    let waiting = mem::replace(&mut parked[place], Parked::Lost(Seq(0), DropCause::Closed));
+    parked[place] = waiting.settled(hash, outcome)?;
     Ok(())
 }
 

@@ -2,7 +2,7 @@
 
 use crate::carried::Carried;
 use crate::side::SideMessage;
-use scp_types::{ConnId, Fault};
+use scp_types::{ConnId, Fault, Slot, Value};
 use std::marker::Model;
 
 /// Bytes as they came over a link; nothing is known of them.
@@ -69,10 +69,36 @@ pub enum Cause {
 }
 
 /// What a node is told by itself, and not over a link.
-#[derive(Clone, Copy, Debug, PartialEq, Eq)]
+#[derive(Debug, Drop)]
 pub enum Command {
     /// Time went on: one miss of each quorum set that is wanted.
     Tick,
+    /// A value for the nomination of the slot.
+    Propose(Slot, Value),
+    /// One more round of the slot's nomination.
+    Round(Slot),
+    /// The slot's ballot timer ran out.
+    Timer(Slot),
+    /// The slot's record is to be asked of the link of this number.
+    Ask(u8, Slot),
+}
+
+impl Command {
+    ghost use Rattle.std.specs.Prelude.{◌≡◌, IfOk, IsOkUnless};
+
+    /// Another command that equals this one. It copies a proposal's bytes; the one refusal is `Fault::NoMemory`.
+    pub fn copy(&self) -> Result<Command, Fault>
+        ensures same { IfOk result (λ copied. copied ≡ self.now) }
+        ensures only_memory { IsOkUnless result Fault.NoMemory }
+    {
+        match self {
+            Command::Tick => Ok(Command::Tick),
+            Command::Propose(slot, value) => Ok(Command::Propose(*slot, value.copy()?)),
+            Command::Round(slot) => Ok(Command::Round(*slot)),
+            Command::Timer(slot) => Ok(Command::Timer(*slot)),
+            Command::Ask(link, slot) => Ok(Command::Ask(*link, *slot)),
+        }
+    }
 }
 
 /// What reaches a node's inbox: what a reader makes of the items of a link, and local commands.
