@@ -1,4 +1,9 @@
-pub mod Good
-pub mod Freshest
 pub mod Windows
-pub mod Entries
+pub mod Newest
+pub mod Boards
+pub mod Certified
+pub mod Kept
+pub mod Ran
+pub mod Standing
+pub mod Stated
+pub mod Outcomes

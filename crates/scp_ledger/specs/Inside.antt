@@ -1,62 +1,86 @@
 -- What a ledger keeps; nothing here need be believed.
-use Rattle.std.specs.Prelude.{◌≤◌, ◌≡◌, ◌∷◌, [], ◌++◌, Bool, false, length, Option, option_map, option_to_list}
-use Rattle.scp_ledger.specs.declared.journal.Fate.{Fate}
+use Rattle.std.specs.Prelude.{ℕ, ◌≤◌, ◌≡◌, Bool, true, false, cond, List, Option, Some, None, is_some, length}
+use Rattle.std.specs.BTreeMap as tree
+use Rattle.std.specs.Ordering.{nat_cmp}
+use Rattle.scp_types.specs.declared.names.Slot.{Slot}
+use Rattle.scp_driver.specs.declared.driver.Level.{Level}
+use Rattle.scp_slot.specs.declared.machine.SlotMachine.{SlotMachine}
+use Rattle.scp_slot.specs.declared.output.SlotInput.{SlotInput}
+use Rattle.scp_slot.specs.declared.output.SlotOutput.{SlotOutput}
+use Rattle.scp_slot.specs.Slot.{slot_view, driver_of, Begins, IsSound as IsSlotSound, IsRunning as IsSlotRunning}
+use Rattle.scp_slot.specs.Takes as slot
 use Rattle.scp_ledger.specs.declared.state.State.{State}
 use Rattle.scp_ledger.specs.declared.ledger.Ledger.TheInside as ledger
-use Rattle.scp_ledger.specs.declared.journal.Fate.TheVariants.{Taken}
-use Rattle.scp_ledger.specs.declared.journal.Verdict.{Verdict}
-use Rattle.scp_quorum.specs.SharedSet.{SharedSet}
-use Rattle.scp_pending.specs.Delivery.{DeliveryView}
-use Rattle.scp_ledger.specs.Decisions.{decision_by}
-use Rattle.scp_ledger.specs.Verdicts.{IsVerdict, HasItsSet}
-use Rattle.scp_ledger.specs.Ledger.{LedgerView, IsLedger}
-use Rattle.scp_ledger.specs.Latest.{KnowsLatest}
+use Rattle.scp_ledger.specs.Seen.{LedgerView, machine_at}
+use Rattle.scp_ledger.specs.Ledger.{IsLedger, HasMachines}
 use Rattle.scp_ledger.specs.Window.{IsWindow}
 
-abbrev pub state_view : Bool → State → LedgerView
+abbrev pub state_view : {D : Type 0} → Bool → State D → LedgerView D
 state_view failed s = record {
   me = s.me;
+  local = s.local.value;
+  driver = s.driver;
   peers = s.peers.items;
   failed = failed;
   journal = s.journal.items;
   decisions = s.decisions.items;
   lowest = s.window.lowest;
+  asked = s.asked.keys;
+  machines = s.machines.entries;
 }
 
 -- what a ledger that runs keeps
-pub record IsSound (s : State) : Type 0 where
+pub record IsSound {D : Type 0} (level : D → ℕ → List ℕ → Level) (place : D → ℕ → ℕ → ℕ → ℕ) (s : State D) : Type 0 where
   pub ledger : IsLedger (state_view false s)
   pub window : IsWindow s.decisions.items s.window
-  pub latest : KnowsLatest s.latest.places s.journal.items
+  pub machines : HasMachines level place (state_view false s)
   pub few_peers : length s.peers.items ≤ 255
 
--- the entry of what was delivered, with the right verdict
-pub record Judges (v : LedgerView) (d : DeliveryView) (fate : Fate) : Type 0 where
-  pub set : Option SharedSet
-  pub verdict : Verdict
-  pub its_set : option_map (λ s. s.value) set ≡ d.set
-  pub right : IsVerdict v.me v.journal v.decisions d.message verdict
-  pub is : fate ≡ Taken d.conn d.seq d.message set verdict
-  pub has_its_set : HasItsSet fate
+-- a machine that was taken out, or made where there was none
+pub record IsMade {D : Type 0} (level : D → ℕ → List ℕ → Level) (place : D → ℕ → ℕ → ℕ → ℕ) (s : State D) (at : Slot) (m : SlotMachine D) : Type 0 where
+  pub begins : Begins s.me at.0 s.local.value (slot_view m)
+  pub its_driver : driver_of m ≡ s.driver
+  pub running : IsSlotRunning (slot_view m)
+  pub sound : IsSlotSound level place m
 
--- what can be seen of it but for the lowest slot is as before
-pub record Leaves (old new : State) : Type 0 where
+abbrev pub IsTakenOut : {D : Type 0} → (D → ℕ → List ℕ → Level) → (D → ℕ → ℕ → ℕ → ℕ) → State D → Slot → Option (SlotMachine D) → SlotMachine D → Type 0
+IsTakenOut level place s at None m = IsMade level place s at m
+IsTakenOut level place s at (Some there) m = m ≡ there
+
+-- the machine of a slot ran on an input, and is kept where it didn't decide
+pub record Ran {D : Type 0} (level : D → ℕ → List ℕ → Level) (combined : D → ℕ → List (List ℕ) → List ℕ) (place : D → ℕ → ℕ → ℕ → ℕ) (old : State D) (at : Slot) (given : SlotInput) (out : SlotOutput) (new : State D) : Type 0 where
+  pub before : SlotMachine D
+  pub taken : IsTakenOut level place old at (machine_at old.machines.entries at.0) before
+  pub after : SlotMachine D
+  pub takes : slot.Takes (level (driver_of before) (slot_view before).slot) (combined (driver_of before) (slot_view before).nomination.slot) given (slot_view before) out (slot_view after)
+  pub decides : slot.Decides (slot_view before) out (slot_view after)
+  pub running : IsSlotRunning (slot_view after)
+  pub sound : IsSlotSound level place after
+  pub its_driver : driver_of after ≡ driver_of before
+  pub machines : (s : ℕ) → machine_at new.machines.entries s ≡ cond (tree.is_at (nat_cmp at.0) s) (cond (is_some out.decided) None (Some after)) (machine_at old.machines.entries s)
+
+-- these are as before
+pub record KeepsRest {D : Type 0} (old new : State D) : Type 0 where
   pub me : new.me ≡ old.me
-  pub peers : new.peers.items ≡ old.peers.items
+  pub local : new.local ≡ old.local
+  pub driver : new.driver ≡ old.driver
+  pub peers : new.peers ≡ old.peers
+  pub machines : new.machines ≡ old.machines
+  pub asked : new.asked ≡ old.asked
+
+-- a refusal leaves what can be read of a failed ledger, and what its decisions rest on
+pub record Leaves {D : Type 0} (old new : State D) : Type 0 where
+  pub me : new.me ≡ old.me
+  pub local : new.local ≡ old.local
+  pub peers : new.peers ≡ old.peers
   pub journal : new.journal.items ≡ old.journal.items
   pub decisions : new.decisions.items ≡ old.decisions.items
+  pub asked : new.asked ≡ old.asked
 
--- one entry more, and the decision that it makes
-pub record Enters (old : State) (fate : Fate) (new : State) : Type 0 where
-  pub me : new.me ≡ old.me
-  pub peers : new.peers.items ≡ old.peers.items
-  pub journal : new.journal.items ≡ old.journal.items ++ fate ∷ []
-  pub decisions : new.decisions.items ≡ old.decisions.items ++ option_to_list (decision_by fate)
-  pub sound : IsSound new
-
-abbrev pub ledger_view : ledger.Inside → LedgerView
+abbrev pub ledger_view : {D : Type 0} → ledger.Inside D → LedgerView D
 ledger_view a = state_view a.failed a.state
 
-pub record IsWell (a : ledger.Inside) : Type 0 where
+-- what can be read of it holds, failed or not
+pub record IsWell {D : Type 0} (level : D → ℕ → List ℕ → Level) (place : D → ℕ → ℕ → ℕ → ℕ) (a : ledger.Inside D) : Type 0 where
   pub known : IsLedger (ledger_view a)
-  pub sound : a.failed ≡ false → IsSound a.state
+  pub sound : a.failed ≡ false → IsSound level place a.state

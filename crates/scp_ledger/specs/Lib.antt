@@ -1,10 +1,13 @@
+pub mod Seen
+pub mod Journal
+pub mod Certificate
 pub mod Decisions
-pub mod Fresh
 pub mod Verdicts
 pub mod Marks
 pub mod Ledger
 pub mod Takes
 pub mod Laws
-pub mod Latest
 pub mod Window
+pub mod Entering
 pub mod Inside
+pub mod Coding

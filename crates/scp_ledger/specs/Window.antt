@@ -5,9 +5,6 @@ use Rattle.std.specs.Ordering.{nat_cmp}
 use Rattle.scp_ledger.specs.declared.journal.Decision.{Decision}
 use Rattle.scp_ledger.specs.declared.window.Window.{Window}
 use Rattle.scp_ledger.specs.Decisions.{is_decided, IsLowest}
-use Rattle.scp_ledger.specs.declared.journal.Verdict.{Verdict}
-use Rattle.scp_ledger.specs.declared.journal.Verdict.TheVariants.{OldSlot, FarSlot, Already}
-use Rattle.scp_ledger.specs.Verdicts.{FirstOf, IsFar}
 
 abbrev pub is_ahead : Window → ℕ → Bool
 is_ahead w slot = tree_set.contains nat_cmp w.ahead slot
@@ -29,17 +26,3 @@ pub record Passes (old new : Window) : Type 0 where
   pub passed : (slot : ℕ) → old.lowest ≤ slot → slot < new.lowest → is_ahead old slot ≡ true
   pub ahead : (slot : ℕ) → new.lowest ≤ slot → is_ahead new slot ≡ is_ahead old slot
   pub bounded : IsBounded new
-
--- a slot from the lowest undecided one on, in the window, without a decision
-pub record IsOpen (lowest : ℕ) (decisions : List Decision) (slot : ℕ) : Type 0 where
-  pub not_old : lowest ≤ slot
-  pub not_far : ¬ (IsFar lowest slot)
-  pub undecided : is_decided slot decisions ≡ false
-
--- the verdict on a statement of a slot that isn't open
-abbrev pub IsShutToStatements : ℕ → List Decision → ℕ → Verdict → Type 0
-IsShutToStatements lowest decisions slot =
-    FirstOf (slot < lowest) OldSlot
-    (FirstOf (IsFar lowest slot) FarSlot
-    (FirstOf (is_decided slot decisions ≡ true) Already
-    (λ verdict. ⊥)))

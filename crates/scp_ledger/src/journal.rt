@@ -1,29 +1,36 @@
 //! The journal's entries, and the decisions that they make.
 
+use crate::quorum::Quorum;
+use scp_envelope::Envelope;
 use scp_pending::DropCause;
 use scp_quorum::SaneSet;
 use scp_types::{ConnId, Seq, Slot, Value};
 use scp_wire::{Cause, Message};
 use std::sync::Arc;
 
-/// What was found of a message that was taken.
+/// What was found of a message or a command that was taken.
 #[derive(Clone, Copy, Debug, PartialEq, Eq)]
 pub enum Verdict {
-    /// An envelope's slot is below the lowest undecided one.
+    /// The slot of an envelope or a command is below the lowest undecided one.
     OldSlot,
-    /// Its slot is above 4,294,967,295, or 16 or more above the lowest undecided one.
+    /// The slot is above 4,294,967,295, or 16 or more above the lowest undecided one.
     FarSlot,
-    /// Its slot has a decision; for a record also: its slot is below the lowest undecided one.
+    /// The slot has a decision; for a record or an ask also: it is below the lowest undecided one.
     Already,
+    /// A record came over a link that wasn't asked for its slot.
+    Unasked,
     /// An envelope is of the node itself.
     Own,
     /// An envelope's statement isn't sane.
     BadStatement,
-    /// A ballot statement holds a value that is no operation list.
+    /// A ballot statement holds an invalid value, or a proposal isn't fully validated.
     BadValue,
     /// An envelope isn't newer than the last fresh one of its node, slot and kind.
     Stale,
-    /// An envelope is newer than all fresh ones before it of its node, slot and kind.
+    /// A command changed nothing, or the link was asked for the slot before.
+    Idle,
+    /// An envelope is newer than all fresh ones before it of its node, slot and kind; a command changed something; a link is
+    /// asked for a slot.
     Fresh,
     /// A request for a record goes on to the applier.
     Forwarded,
@@ -57,10 +64,19 @@ pub enum Fate {
 }
 
 /// Who says what was decided.
-#[derive(Clone, Copy, Debug, PartialEq, Eq)]
+#[derive(Debug, Drop)]
 pub enum Origin {
+    /// This node's machine of the slot: the number of the commit, a quorum that accepts it, and the own EXTERNALIZE.
+    Machine {
+        n: u32,
+        quorum: Quorum,
+        own: Envelope,
+    },
     /// The record of this number on this connection named it.
-    Named { conn: ConnId, seq: Seq },
+    Named {
+        conn: ConnId,
+        seq: Seq,
+    },
 }
 
 /// The value of a slot, and who says so.
@@ -69,4 +85,11 @@ pub struct Decision {
     pub slot: Slot,
     pub value: Value,
     pub origin: Origin,
+}
+
+/// A link that was asked for the record of a slot.
+#[derive(Clone, Copy, Debug, PartialEq, Eq, PartialOrd, Ord)]
+pub struct Asking {
+    pub link: u8,
+    pub slot: Slot,
 }

@@ -2,8 +2,7 @@
 ghost use Rattle.std.specs.Prelude.{◌≡◌, ◌↔◌, ◌≤◌, ◌⊎◌, ◌++◌, [], true, false, length, OnOk, OnErr, IfOk, IfErr, IsErrOf};
 ghost use Rattle.scp_types.specs.declared.names.ConnId.{ConnId};
 ghost use Rattle.scp_pending.specs.Line.{ready_mark};
-ghost use Rattle.scp_ledger.specs.Decisions.{IsLowest};
-ghost use Rattle.scp_ledger.specs.Ledger.{IsLedger};
+ghost use Rattle.scp_ledger.specs.Ledger.{IsLedger, IsRunning};
 ghost use Rattle.scp_ledger.specs.Marks.{marks_of};
 ghost use Rattle.scp_ledger.specs.Takes.{Takes, adds_entry};
 
@@ -11,48 +10,60 @@ use crate::journal::Fate;
 use crate::shared::SharedDecision;
 use crate::state::State;
 use crate::took::Took;
+use scp_driver::Driver;
 use scp_pending::Ready;
+use scp_quorum::SaneSet;
 use scp_types::{Fault, NodeId};
 use std::alloc::Global;
 use std::marker::Model;
+use std::sync::Arc;
 
 /// The most entries that a journal may have (this project's profile).
 pub const JOURNAL_LIMIT: usize = 1_000_000;
 
-/// The slot stage of a node: the journal and the decisions, which grow at their ends alone.
+/// The slot stage of a node: the journal and the decisions, which grow at their ends alone, and a machine for each undecided
+/// slot that had an input, at most 16. Machines check and combine values by the driver.
 #[derive(Drop)]
-pub struct Ledger {
-    state: State,
+pub struct Ledger<D: Driver + Drop + Copy> {
+    state: State<D>,
     failed: bool,
 }
 
-impl Model for Ledger {
+impl<D: Driver + Drop + Copy> Model for Ledger<D> {
     ghost use Rattle.std.specs.Coded.{codes};
     ghost use Rattle.scp_xdr.specs.TreeModel.{coded_row};
     ghost use Rattle.scp_quorum.specs.QuorumTree.{coded_level};
-    ghost use Rattle.scp_ledger.specs.Ledger.{LedgerView};
+    ghost use Rattle.scp_ledger.specs.Seen.{LedgerView};
+    ghost use Rattle.scp_ledger.specs.Coding.{machine_code};
 
-    ghost Value = { LedgerView };
+    ghost Value = { LedgerView D };
 
-    ghost coded = { Prim.hlevel (codes, coded_row coded_level) };
+    ghost coded = { Prim.hlevel (codes, D.code, machine_code D.code, coded_row coded_level) };
 
     ghost use Rattle.scp_ledger.specs.Inside.{ledger_view, IsWell};
 
     ghost view = { ledger_view };
 
-    ghost invariant = { IsWell };
+    ghost invariant = { IsWell D.level D.place };
 }
 
-impl Ledger {
-    /// An empty ledger of the node `me`. `peers[l]` is the sender of link l, and a link's number is a byte. Takes no memory.
-    pub fn new(alloc: Global, me: NodeId, peers: Vec<NodeId>) -> Ledger
+impl<D: Driver + Drop + Copy> Ledger<D> {
+    /// An empty ledger of the node `me`, whose own quorum set is `local`. `peers[l]` is the sender of link l, and a link's
+    /// number is a byte. Takes no memory.
+    pub fn new(
+        alloc: Global,
+        me: NodeId,
+        local: Arc<SaneSet>,
+        driver: D,
+        peers: Vec<NodeId>,
+    ) -> Ledger<D>
         requires few { length peers.items ≤ 255 }
-        ensures empty { result ≡ record { me = me; peers = peers.items; failed = false; journal = []; decisions = []; lowest = 1 } }
+        ensures empty { result ≡ record { me = me; local = local.value; driver = driver; peers = peers.items; failed = false; journal = []; decisions = []; lowest = 1; asked = []; machines = [] } }
         ensures known { IsLedger result }
-        ensures running { IsLowest result.decisions result.lowest }
+        ensures running { IsRunning D.level D.place result }
     {
         Ledger {
-            state: State::new(alloc, me, peers),
+            state: State::new(alloc, me, local, driver, peers),
             failed: false,
         }
     }
@@ -76,30 +87,31 @@ impl Ledger {
     /// The lowest slot from 1 on that has no decision. Of a ledger that failed it says nothing.
     pub fn lowest(&self) -> u64
         ensures same { result ≡ self.now.lowest }
-        ensures running { self.now.failed ≡ false → IsLowest self.now.decisions self.now.lowest }
+        ensures running { self.now.failed ≡ false → IsRunning D.level D.place self.now }
     {
         self.state.window.lowest
     }
 
-    /// Takes one thing: adds its entry, with the verdict on a message, and gives what goes on to the applier. Refused by
-    /// `JournalFull` where an entry more would be one above the limit, which leaves the ledger as it was; by `NoMemory`,
-    /// after which it is failed; and a failed one by `Failed`, and it stays as it is. The time grows with the message's
-    /// length and the logarithm of the number of entries.
+    /// Takes one thing: adds its entry, with the verdict on a message, runs the machine of an open slot, and gives what goes on
+    /// to the applier and out to peers. Refused by `JournalFull` where an entry more would be one above the limit, which leaves
+    /// the ledger as it was; by `NoMemory`, after which it is failed; and a failed one by `Failed`, and it stays as it is. The
+    /// time grows with the message's length, the work of the slot's machine, and the logarithm of what was asked for.
     pub fn take(&mut self, ready: Ready) -> Result<Took, Fault>
-        // The entry, the verdict, the decision and the answer are these.
-        ensures takes { IfOk result (λ took. Takes self.old ready took self.new) }
+        // The entry, the verdict, the machine, the decision and the answer are these.
+        ensures takes { IfOk result (λ took. Takes D.level D.combined self.old ready took self.new) }
         // Of each connection the journal says what the things said that were taken.
         ensures marks { OnOk result ((c : ConnId) → marks_of c self.new.journal ≡ marks_of c self.old.journal ++ ready_mark c ready) }
-        // The decisions are those that the entries make, and each entry is right where it stands, failed or not.
+        // At most one decision per slot, and each has its certificate over the journal, or the record that named it, failed or not.
         ensures known { IsLedger self.new }
-        ensures running { self.new.failed ≡ false → IsLowest self.new.decisions self.new.lowest }
+        // The lowest slot is the least without a decision, and each machine's board is that of the journal.
+        ensures running { self.new.failed ≡ false → IsRunning D.level D.place self.new }
         // When each refusal comes, and what it leaves.
         ensures failed { IsErrOf result Fault.Failed ↔ (self.old.failed ≡ true) }
         ensures same { self.old.failed ≡ true → self.new ≡ self.old }
         ensures full { IsErrOf result Fault.JournalFull ↔ ((self.old.failed ≡ false) × (adds_entry ready ≡ true) × (length self.old.journal ≡ JOURNAL_LIMIT)) }
         ensures kept { IsErrOf result Fault.JournalFull → self.new ≡ self.old }
         ensures no_memory { IsErrOf result Fault.NoMemory → self.new.failed ≡ true }
-        ensures read { OnErr result ((self.new.journal ≡ self.old.journal) × (self.new.decisions ≡ self.old.decisions)) }
+        ensures read { OnErr result ((self.new.journal ≡ self.old.journal) × (self.new.decisions ≡ self.old.decisions) × (self.new.asked ≡ self.old.asked)) }
         ensures only { IfErr result (λ f. (f ≡ Fault.NoMemory) ⊎ ((f ≡ Fault.Failed) ⊎ (f ≡ Fault.JournalFull))) }
     {
         if self.failed {
@@ -108,11 +120,13 @@ impl Ledger {
         if is_entry(&ready) && self.state.journal.len() == JOURNAL_LIMIT {
             return Err(Fault::JournalFull);
         }
-        let taken = self.state.take(ready);
-        if taken.is_err() {
-            self.failed = true;
+        match self.state.take(ready) {
+            Ok(took) => Ok(took),
+            Err(_) => {
+                self.failed = true;
+                Err(Fault::NoMemory)
+            }
         }
-        taken
     }
 }
 

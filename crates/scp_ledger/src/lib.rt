@@ -2,29 +2,32 @@
 //!
 //! What it promises, of each `Ledger::take`:
 //! - what was delivered, dropped or closed adds just one entry to the journal, and nothing else does;
-//! - the verdict beside a taken message is the first that fits, over the journal and the decisions as they were before;
-//! - a record that is taken as Decided decides its slot, and nothing else does: at most one decision a slot, each of the slot
-//!   and the value of the record that its origin names;
+//! - the verdict on a message or a command is the first that fits, over the journal, the decisions and the asked slots as they
+//!   were before;
+//! - an open slot's machine runs on its envelopes and commands, over a board of the last fresh statements in the journal; it is
+//!   given up once its slot has a decision;
+//! - a machine's decision has its certificate over the journal; a record decides its slot where its link was asked for it; and
+//!   no slot has two decisions;
 //! - each decision is of one of the 16 slots from the lowest that had none, so that an applier can take them in their order;
-//! - a decision goes on to the applier as it was made, and so does each request for a record;
+//! - a decision goes on to the applier as it was made, and so does each request for a record; what a machine emits goes to all
+//!   peers, and the request of a fresh ask to its link;
 //! - a ledger that failed keeps its journal and its decisions.
-//!
-//! No votes are counted yet: an envelope decides nothing, and each record counts as asked for.
 #![tactic(auto)]
 
 mod journal;
-mod latest;
 mod laws;
 mod ledger;
+mod lists;
+mod quorum;
 mod shared;
 mod state;
 mod took;
-mod verdicts;
 mod window;
 
-pub use journal::{Decision, Fate, Origin, Verdict};
+pub use journal::{Asking, Decision, Fate, Origin, Verdict};
 pub use laws::the_journal_stands_for_what_was_taken;
 pub use ledger::{JOURNAL_LIMIT, Ledger};
+pub use quorum::Quorum;
 pub use shared::SharedDecision;
-pub use took::{Onward, Took};
+pub use took::{Onward, Outgoing, OutgoingList, Took};
 pub use window::{LAST_SLOT, WINDOW};

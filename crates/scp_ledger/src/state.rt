@@ -1,125 +1,89 @@
 //! What a ledger keeps, and what it does while it runs.
-ghost use Rattle.std.specs.Prelude.{◌≡◌, ◌↔◌, ◌<◌, ◌≤◌, [], true, false, IsTrue, OnOk, OnErr, IfOk, IfSome, IfNone, IsOkUnless, Some, None, length, position};
+ghost use Rattle.std.specs.Prelude.{◌≡◌, ◌↔◌, ◌<◌, ◌≤◌, ◌+◌, ◌++◌, ◌∷◌, [], ℕ, true, false, cond, IsTrue, OnOk, OnErr, IfOk, IfSome, IfNone, IsOkUnless, Some, None, option_to_list, option_map, length};
+ghost use Rattle.std.specs.BTreeMap as tree;
+ghost use Rattle.std.specs.Ordering.{nat_cmp};
 ghost use Rattle.scp_wire.specs.Carried.{is_carried};
-ghost use Rattle.scp_wire.specs.Connections.{same_node};
-ghost use Rattle.scp_ledger.specs.Decisions.{decision_by};
-ghost use Rattle.scp_ledger.specs.Fresh.{IsStale};
-ghost use Rattle.scp_ledger.specs.Verdicts.{IsHeardAs, IsStatementVerdict, IsRecordVerdict, IsVerdict, HasVerdict, HasItsSet};
-ghost use Rattle.scp_ledger.specs.Takes.{Takes, Adds, adds_entry, link_of, verdict_of, onward_by};
-ghost use Rattle.scp_ledger.specs.Latest.{KnowsLatest};
-ghost use Rattle.scp_ledger.specs.Window.{IsWindow, IsOpen, IsShutToStatements};
-ghost use Rattle.scp_ledger.specs.Inside.{state_view, IsSound, Judges, Leaves, Enters};
+ghost use Rattle.scp_wire.specs.Sets.{IsSetOf};
+ghost use Rattle.scp_slot.specs.Slot.{slot_view, driver_of, IsSound as IsSlotSound, IsRunning as IsSlotRunning};
+ghost use Rattle.scp_slot.specs.Takes.{IsOfSlot, Takes as SlotTakes, Decides as SlotDecides};
+ghost use Rattle.scp_ledger.specs.Seen.{machine_at, is_asked};
+ghost use Rattle.scp_ledger.specs.Decisions.{is_decided, named_by};
+ghost use Rattle.scp_ledger.specs.Verdicts.{IsOpen, BehindGate, BehindAlready, IsRecordVerdict, IsAskVerdict, link_of as place_of_link};
+ghost use Rattle.scp_ledger.specs.Window.{IsWindow};
+ghost use Rattle.scp_ledger.specs.Entering.{entries_of as entries_with};
+ghost use Rattle.scp_ledger.specs.Takes.{verdict_from as verdict_as, decision_of as decided_by};
 
-use crate::journal::{Decision, Fate, Origin, Verdict};
-use crate::latest::Latest;
+use crate::journal::{Asking, Decision, Fate, Origin, Verdict};
+use crate::lists::{add, link_of, to_all_peers};
+use crate::quorum::Quorum;
 use crate::shared::SharedDecision;
-use crate::took::{Onward, Took};
-use crate::verdicts::{has_good_values, is_of};
+use crate::took::{Onward, Outgoing, OutgoingList, Took};
 use crate::window::Window;
-use scp_envelope::{Statement, newer};
+use scp_driver::Driver;
+use scp_envelope::Envelope;
 use scp_pending::{Delivery, Ready};
+use scp_quorum::SaneSet;
+use scp_slot::{Certified, SlotInput, SlotMachine, SlotOutput, Verdict as Found};
 use scp_types::{ConnId, Fault, NodeId, Seq, Slot, Value};
-use scp_wire::Message;
+use scp_wire::{BoxedEnvelope, Command, Message};
 use std::alloc::Global;
+use std::collections::{BTreeMap, BTreeSet};
+use std::sync::Arc;
 
-/// The journal and the decisions, which grow at their ends alone, and what is looked up in their place.
+/// The journal and the decisions, which grow at their ends alone, the machines of undecided slots, and what was asked for.
 #[derive(Drop)]
-pub struct State {
+pub struct State<D: Driver + Drop + Copy> {
     pub alloc: Global,
     pub me: NodeId,
+    pub local: Arc<SaneSet>,
+    pub driver: D,
     pub peers: Vec<NodeId>,
     pub journal: Vec<Fate>,
     pub decisions: Vec<SharedDecision>,
     pub window: Window,
-    pub latest: Latest,
+    pub machines: BTreeMap<u64, SlotMachine<D>>,
+    pub asked: BTreeSet<Asking>,
 }
 
-impl State {
-    pub fn new(alloc: Global, me: NodeId, peers: Vec<NodeId>) -> State
+impl<D: Driver + Drop + Copy> State<D> {
+    ghost use Rattle.scp_ledger.specs.Takes.{Takes, TakesMessage, TakesCommand, adds_entry, RunsAt, Passes, TakesEnvelope, TakesRecord, TakesAsk, Asks, Forwards, Decides, Commands, decided_onward, to_peers};
+    ghost use Rattle.scp_ledger.specs.Entering.{Enters, IsQuiet};
+    ghost use Rattle.scp_ledger.specs.Inside.{state_view, IsSound, IsTakenOut, Ran, KeepsRest, Leaves, IsMade};
+    ghost use Rattle.scp_ledger.specs.Ledger.{HasMachines};
+
+    /// Of nothing.
+    pub fn new(
+        alloc: Global,
+        me: NodeId,
+        local: Arc<SaneSet>,
+        driver: D,
+        peers: Vec<NodeId>,
+    ) -> State<D>
         requires few { length peers.items ≤ 255 }
-        ensures new { state_view false result ≡ record { me = me; peers = peers.items; failed = false; journal = []; decisions = []; lowest = 1 } }
-        ensures sound { IsSound result }
+        ensures empty { state_view false result ≡ record { me = me; local = local.value; driver = driver; peers = peers.items; failed = false; journal = []; decisions = []; lowest = 1; asked = []; machines = [] } }
+        ensures sound { IsSound D.level D.place result }
     {
         State {
             alloc,
             me,
+            local,
+            driver,
             peers,
             journal: Vec::new(alloc),
             decisions: Vec::new(alloc),
             window: Window::new(alloc),
-            latest: Latest::new(alloc),
+            machines: BTreeMap::new(alloc),
+            asked: BTreeSet::new(alloc),
         }
     }
 
-    /// Takes one thing. A refusal leaves the journal and the decisions, and nothing else may be used after it.
-    pub fn take(&mut self, ready: Ready) -> Result<Took, Fault>
-        requires sound { IsSound self.old }
-        requires room { adds_entry ready ≡ true → length self.old.journal.items < 1000000 }
-        ensures takes { IfOk result (λ took. Takes (state_view false self.old) ready took (state_view false self.new)) }
-        ensures sound { OnOk result (IsSound self.new) }
-        ensures err { OnErr result (Leaves self.old self.new) }
-        ensures only_memory { IsOkUnless result Fault.NoMemory }
-    {
-        match ready {
-            Ready::Deliver(delivery) => {
-                let fate = self.judge(delivery);
-                self.enter(fate)
-            }
-            Ready::Dropped { conn, seq, cause } => self.enter(Fate::Dropped { conn, seq, cause }),
-            Ready::Closed { conn, cause } => self.enter(Fate::Closed { conn, cause }),
-            Ready::Local(_) => Ok(Took {
-                verdict: None,
-                onward: None,
-            }),
-        }
-    }
+    // ---- which slots are open
 
-    /// The entry of a delivered message, with the verdict on it.
-    fn judge(&self, delivery: Delivery) -> Fate
-        requires sound { IsSound self.now }
-        ensures { Judges (state_view false self.now) delivery result }
-    {
-        let (conn, seq, message, set) = delivery.into_parts();
-        let verdict = self.verdict(&message);
-        Fate::Taken {
-            conn,
-            seq,
-            message,
-            set,
-            verdict,
-        }
-    }
-
-    /// The verdict on a carried message: the first that fits. Its time grows with the message's length and the logarithm of
-    /// the number of nodes and slots; it takes no memory.
-    fn verdict(&self, message: &Message) -> Verdict
-        requires sound { IsSound self.now }
-        requires carried { is_carried message.now ≡ true }
-        ensures { IsVerdict self.now.me self.now.journal.items self.now.decisions.items message.now result }
-    {
-        match message {
-            Message::Envelope(envelope) => self.statement_verdict(&envelope.statement),
-            Message::Record(slot, _) => self.record_verdict(*slot),
-            // the last three aren't reached, since they aren't carried
-            Message::GetRecord(_) | Message::GetSet(_) | Message::Set(_) | Message::NoSet(_) =>
-                Verdict::Forwarded,
-        }
-    }
-
-    fn statement_verdict(&self, statement: &Statement) -> Verdict
-        requires sound { IsSound self.now }
-        ensures { IsStatementVerdict self.now.me self.now.window.lowest self.now.journal.items self.now.decisions.items statement.now result }
-    {
-        match self.shut_to_statements(statement.slot) {
-            Some(verdict) => verdict,
-            None => self.heard_as(statement),
-        }
-    }
-
-    /// Why a slot isn't open to statements, if it isn't.
-    fn shut_to_statements(&self, slot: Slot) -> Option<Verdict>
+    /// Why a slot isn't open to envelopes and commands, if it isn't.
+    fn gate(&self, slot: Slot) -> Option<Verdict>
         requires window { IsWindow self.now.decisions.items self.now.window }
-        ensures shut { IfSome result (IsShutToStatements self.now.window.lowest self.now.decisions.items slot.0) }
+        ensures shut { IfSome result (BehindGate self.now.window.lowest self.now.decisions.items slot.0 (λ _. ⊥)) }
+        ensures not_open { IfSome result (λ _. ¬ (IsOpen self.now.window.lowest self.now.decisions.items slot.0)) }
         ensures is_open { IfNone result (IsOpen self.now.window.lowest self.now.decisions.items slot.0) }
     {
         if slot.0 < self.window.lowest {
@@ -133,225 +97,664 @@ impl State {
         }
     }
 
-    /// The verdict on a statement of an open slot.
-    fn heard_as(&self, statement: &Statement) -> Verdict
-        requires latest { KnowsLatest self.now.latest.places self.now.journal.items }
-        ensures { IsHeardAs self.now.me self.now.journal.items statement.now result }
+    /// Why a slot isn't open to records and asks, if it isn't.
+    fn gate_of_records(&self, slot: Slot) -> Option<Verdict>
+        requires window { IsWindow self.now.decisions.items self.now.window }
+        ensures shut { IfSome result (BehindAlready self.now.window.lowest self.now.decisions.items slot.0 (λ _. ⊥)) }
+        ensures is_open { IfNone result (IsOpen self.now.window.lowest self.now.decisions.items slot.0) }
     {
-        if is_of(&self.me, statement) {
-            Verdict::Own
-        } else if !statement.sane() {
-            Verdict::BadStatement
-        } else if !has_good_values(&statement.pledges) {
-            Verdict::BadValue
-        } else if self.is_stale(statement) {
-            Verdict::Stale
+        if slot.0 < self.window.lowest || self.window.is_ahead(slot) {
+            Some(Verdict::Already)
+        } else if self.window.is_far(slot) {
+            Some(Verdict::FarSlot)
+        } else {
+            None
+        }
+    }
+
+    fn was_asked(&self, link: u8, slot: Slot) -> bool
+        ensures { result ≡ is_asked self.now.asked.keys (record { link = link; slot = slot }) }
+    {
+        self.asked.contains(&Asking { link, slot })
+    }
+
+    /// The verdict on a record of a slot that came over a link.
+    fn record_verdict(&self, link: u8, slot: Slot) -> Verdict
+        requires window { IsWindow self.now.decisions.items self.now.window }
+        ensures right { IsRecordVerdict (state_view false self.now) link slot result }
+        ensures is_open { result ≡ Verdict.Decided → IsOpen self.now.window.lowest self.now.decisions.items slot.0 }
+        ensures not_fresh { ¬ (result ≡ Verdict.Fresh) }
+    {
+        if let Some(verdict) = self.gate_of_records(slot) {
+            verdict
+        } else if self.was_asked(link, slot) {
+            Verdict::Decided
+        } else {
+            Verdict::Unasked
+        }
+    }
+
+    /// The verdict on a command to ask a link for a slot.
+    fn ask_verdict(&self, link: u8, slot: Slot) -> Verdict
+        requires window { IsWindow self.now.decisions.items self.now.window }
+        ensures right { IsAskVerdict (state_view false self.now) link slot result }
+    {
+        if let Some(verdict) = self.gate_of_records(slot) {
+            verdict
+        } else if self.was_asked(link, slot) {
+            Verdict::Idle
         } else {
             Verdict::Fresh
         }
     }
 
-    /// Whether the statement isn't newer than the last fresh one of its node, slot and kind, which is looked up.
-    fn is_stale(&self, statement: &Statement) -> bool
-        requires latest { KnowsLatest self.now.latest.places self.now.journal.items }
-        ensures { IsTrue result ↔ IsStale self.now.journal.items statement.now }
+    // ---- the machine of a slot
+
+    /// A machine that has heard and said nothing.
+    fn new_machine(&self, slot: Slot) -> Result<SlotMachine<D>, Fault>
+        ensures made { IfOk result (IsMade D.level D.place self.now slot) }
+        ensures only_memory { IsOkUnless result Fault.NoMemory }
     {
-        let Some(place) = self.latest.place(statement) else {
-            return false;
+        let local = Arc::try_clone(&self.local)?;
+        let machine = SlotMachine::new(self.alloc, self.me, slot, local, self.driver)?;
+        Ok(machine)
+    }
+
+    /// Runs the slot's machine on an input where it lies, and gives it up where it decides. A machine isn't moved by it.
+    fn run(&mut self, slot: Slot, input: SlotInput) -> Result<SlotOutput, Fault>
+        requires sound { IsSound D.level D.place self.old }
+        requires is_open { IsOpen self.old.window.lowest self.old.decisions.items slot.0 }
+        requires of_slot { IsOfSlot slot.0 input }
+        ensures ran { IfOk result (λ out. Ran D.level D.combined D.place self.old slot input out self.new) }
+        ensures same { self.new ≡ record self.old { machines = self.new.machines } }
+        ensures only_memory { IsOkUnless result Fault.NoMemory }
+    {
+        let out = match self.machines.get_mut(&slot.0) {
+            Some(machine) => enter(machine, input)?,
+            None => return self.start(slot, input),
         };
-        match self.journal.get(place) {
-            Some(
-                Fate::Taken {
-                    message: Message::Envelope(last),
-                    ..
-                },
-            ) => !newer(&last.statement, statement),
-            _ => false,
+        if out.decided.is_some() {
+            self.give_up(slot);
         }
+        Ok(out)
     }
 
-    /// The verdict on a record of a slot.
-    fn record_verdict(&self, slot: Slot) -> Verdict
-        requires window { IsWindow self.now.decisions.items self.now.window }
-        ensures { IsRecordVerdict self.now.window.lowest self.now.decisions.items slot.0 result }
+    /// Makes the slot's machine and runs it on its first input.
+    fn start(&mut self, slot: Slot, input: SlotInput) -> Result<SlotOutput, Fault>
+        requires sound { IsSound D.level D.place self.old }
+        requires is_open { IsOpen self.old.window.lowest self.old.decisions.items slot.0 }
+        requires of_slot { IsOfSlot slot.0 input }
+        requires none { machine_at self.old.machines.entries slot.0 ≡ None }
+        ensures ran { IfOk result (λ out. Ran D.level D.combined D.place self.old slot input out self.new) }
+        ensures same { self.new ≡ record self.old { machines = self.new.machines } }
+        ensures only_memory { IsOkUnless result Fault.NoMemory }
     {
-        if slot.0 < self.window.lowest || self.window.is_ahead(slot) {
-            Verdict::Already
-        } else if self.window.is_far(slot) {
-            Verdict::FarSlot
-        } else {
-            Verdict::Decided
-        }
+        let mut machine = self.new_machine(slot)?;
+        let out = enter(&mut machine, input)?;
+        self.keep(slot, machine, out.decided.is_some())?;
+        Ok(out)
     }
 
-    /// Adds an entry, and the decision that it makes.
-    fn enter(&mut self, fate: Fate) -> Result<Took, Fault>
-        requires sound { IsSound self.old }
+    /// Keeps the machine of a slot that isn't decided.
+    fn keep(&mut self, slot: Slot, machine: SlotMachine<D>, is_done: bool) -> Result<(), Fault>
+        ensures put { OnOk result ((s : ℕ) → machine_at self.new.machines.entries s ≡ cond (cond is_done false (tree.is_at (nat_cmp slot.0) s)) (Some machine) (machine_at self.old.machines.entries s)) }
+        ensures same { self.new ≡ record self.old { machines = self.new.machines } }
+        ensures only_memory { IsOkUnless result Fault.NoMemory }
+    {
+        if is_done {
+            return Ok(());
+        }
+        self.put_back(slot, machine)
+    }
+
+    fn put_back(&mut self, slot: Slot, machine: SlotMachine<D>) -> Result<(), Fault>
+        ensures put { OnOk result (tree.Updates nat_cmp self.old.machines self.new.machines slot.0 (Some machine)) }
+        ensures same { self.new ≡ record self.old { machines = self.new.machines } }
+        ensures only_memory { IsOkUnless result Fault.NoMemory }
+    {
+        let old = self.machines.insert(slot.0, machine)?;
+        drop(old);
+        Ok(())
+    }
+
+    fn give_up(&mut self, slot: Slot)
+        ensures machines { (s : ℕ) → machine_at self.new.machines.entries s ≡ cond (tree.is_at (nat_cmp slot.0) s) None (machine_at self.old.machines.entries s) }
+        ensures same { self.new ≡ record self.old { machines = self.new.machines } }
+    {
+        let old = self.machines.remove(&slot.0);
+        drop(old);
+    }
+
+    // ---- entries and decisions
+
+    /// Adds nothing but an entry.
+    fn pass(&mut self, verdict: Option<Verdict>, fate: Fate) -> Result<Took, Fault>
+        ensures verdict { IfOk result (λ took. took.verdict ≡ verdict) }
+        ensures onward { IfOk result (λ took. took.onward ≡ None) }
+        ensures outgoing { IfOk result (λ took. took.outgoing ≡ []) }
+        ensures journal { OnOk result (self.new.journal.items ≡ self.old.journal.items ++ fate ∷ []) }
+        ensures decisions { self.new.decisions.items ≡ self.old.decisions.items }
+        ensures rest { KeepsRest self.old self.new }
+        ensures window { self.new.window ≡ self.old.window }
+        ensures err { OnErr result (self.new.journal.items ≡ self.old.journal.items) }
+        ensures only_memory { IsOkUnless result Fault.NoMemory }
+    {
+        let outgoing = OutgoingList::new(Vec::new(self.alloc));
+        add(&mut self.journal, &mut self.decisions, Some(fate), None)?;
+        Ok(Took {
+            verdict,
+            onward: None,
+            outgoing,
+        })
+    }
+
+    /// Adds an entry that is of nothing fresh and decides nothing.
+    fn pass_entry(&mut self, verdict: Option<Verdict>, fate: Fate) -> Result<Took, Fault>
+        requires sound { IsSound D.level D.place self.old }
         requires room { length self.old.journal.items < 1000000 }
-        requires right { HasVerdict self.old.me self.old.journal.items fate }
-        requires its_set { HasItsSet fate }
-        ensures adds { IfOk result (λ took. Adds (state_view false self.old) fate took (state_view false self.new)) }
-        ensures sound { OnOk result (IsSound self.new) }
+        requires quiet { IsQuiet fate }
+        ensures passes { IfOk result (λ took. Passes (state_view false self.old) verdict (fate ∷ []) took (state_view false self.new)) }
+        ensures sound { OnOk result (IsSound D.level D.place self.new) }
         ensures err { OnErr result (Leaves self.old self.new) }
         ensures only_memory { IsOkUnless result Fault.NoMemory }
     {
-        match decision_by(self.alloc, &fate)? {
-            Some(decision) => self.decide(fate, decision),
-            None => self.add(fate),
+        self.pass(verdict, fate)
+    }
+
+    /// Answers a command that does nothing.
+    fn pass_command(&self, verdict: Option<Verdict>) -> Took
+        ensures { Passes (state_view false self.now) verdict [] result (state_view false self.now) }
+    {
+        Took {
+            verdict,
+            onward: None,
+            outgoing: OutgoingList::new(Vec::new(self.alloc)),
         }
     }
 
-    /// Adds an entry that makes no decision.
-    fn add(&mut self, fate: Fate) -> Result<Took, Fault>
-        requires sound { IsSound self.old }
-        requires room { length self.old.journal.items < 1000000 }
-        requires right { HasVerdict self.old.me self.old.journal.items fate }
-        requires its_set { HasItsSet fate }
-        requires quiet { decision_by fate ≡ None }
-        ensures adds { IfOk result (λ took. Adds (state_view false self.old) fate took (state_view false self.new)) }
-        ensures sound { OnOk result (IsSound self.new) }
+    /// Takes what came of an input of a slot's machine: the decision, if there is one, and the entry, if there is one.
+    fn settle(&mut self, slot: Slot, out: SlotOutput, fate: Option<Fate>) -> Result<Took, Fault>
+        requires window { IsWindow self.old.decisions.items self.old.window }
+        requires is_open { IsOpen self.old.window.lowest self.old.decisions.items slot.0 }
+        ensures verdict { IfOk result (λ took. took.verdict ≡ Some (verdict_as out.verdict)) }
+        ensures onward { IfOk result (λ took. took.onward ≡ option_map decided_onward (decided_by slot out.decided)) }
+        ensures outgoing { IfOk result (λ took. took.outgoing ≡ to_peers out.emitted) }
+        ensures journal { OnOk result (self.new.journal.items ≡ self.old.journal.items ++ option_to_list fate) }
+        ensures decisions { OnOk result (self.new.decisions.items ≡ self.old.decisions.items ++ option_to_list (decided_by slot out.decided)) }
+        ensures window { OnOk result (IsWindow self.new.decisions.items self.new.window) }
+        ensures rest { KeepsRest self.old self.new }
         ensures err { OnErr result (Leaves self.old self.new) }
         ensures only_memory { IsOkUnless result Fault.NoMemory }
     {
-        let verdict = verdict_of(&fate);
-        let onward = self.asked_by(&fate);
-        self.push(fate)?;
-        Ok(Took { verdict, onward })
+        let SlotOutput {
+            verdict,
+            emitted,
+            decided,
+            ..
+        } = out;
+        let outgoing = to_all_peers(self.alloc, emitted)?;
+        let onward = self.conclude_some(slot, decided, fate)?;
+        Ok(Took {
+            verdict: Some(verdict_from(verdict)),
+            onward,
+            outgoing,
+        })
     }
 
-    /// Adds an entry and the decision that it makes.
-    fn decide(&mut self, fate: Fate, decision: SharedDecision) -> Result<Took, Fault>
-        requires sound { IsSound self.old }
-        requires room { length self.old.journal.items < 1000000 }
-        requires right { HasVerdict self.old.me self.old.journal.items fate }
-        requires its_set { HasItsSet fate }
-        requires decides { decision_by fate ≡ Some decision }
-        ensures adds { IfOk result (λ took. Adds (state_view false self.old) fate took (state_view false self.new)) }
-        ensures sound { OnOk result (IsSound self.new) }
+    fn conclude_some(
+        &mut self,
+        slot: Slot,
+        decided: Option<Certified>,
+        fate: Option<Fate>,
+    ) -> Result<Option<Onward>, Fault>
+        requires window { IsWindow self.old.decisions.items self.old.window }
+        requires is_open { IsOpen self.old.window.lowest self.old.decisions.items slot.0 }
+        ensures onward { IfOk result (λ onward. onward ≡ option_map decided_onward (decided_by slot decided)) }
+        ensures journal { OnOk result (self.new.journal.items ≡ self.old.journal.items ++ option_to_list fate) }
+        ensures decisions { OnOk result (self.new.decisions.items ≡ self.old.decisions.items ++ option_to_list (decided_by slot decided)) }
+        ensures window { OnOk result (IsWindow self.new.decisions.items self.new.window) }
+        ensures rest { KeepsRest self.old self.new }
+        ensures err { OnErr result (Leaves self.old self.new) }
+        ensures only_memory { IsOkUnless result Fault.NoMemory }
+    {
+        match decided {
+            Some(certified) => {
+                let decision = certified_decision(self.alloc, slot, certified)?;
+                Ok(Some(self.conclude(decision, fate)?))
+            }
+            None => self.conclude_none(fate),
+        }
+    }
+
+    fn conclude_none(&mut self, fate: Option<Fate>) -> Result<Option<Onward>, Fault>
+        requires window { IsWindow self.old.decisions.items self.old.window }
+        ensures onward { IfOk result (λ onward. onward ≡ None) }
+        ensures journal { OnOk result (self.new.journal.items ≡ self.old.journal.items ++ option_to_list fate) }
+        ensures decisions { self.new.decisions.items ≡ self.old.decisions.items }
+        ensures window { IsWindow self.new.decisions.items self.new.window }
+        ensures rest { KeepsRest self.old self.new }
+        ensures err { OnErr result (Leaves self.old self.new) }
+        ensures only_memory { IsOkUnless result Fault.NoMemory }
+    {
+        add(&mut self.journal, &mut self.decisions, fate, None)?;
+        Ok(None)
+    }
+
+    /// Adds a decision of an open slot, with the entry, and finds the lowest slot without one.
+    fn conclude(&mut self, decision: SharedDecision, fate: Option<Fate>) -> Result<Onward, Fault>
+        requires window { IsWindow self.old.decisions.items self.old.window }
+        requires is_open { IsOpen self.old.window.lowest self.old.decisions.items decision.slot.0 }
+        ensures onward { IfOk result (λ onward. onward ≡ decided_onward decision) }
+        ensures journal { OnOk result (self.new.journal.items ≡ self.old.journal.items ++ option_to_list fate) }
+        ensures decisions { OnOk result (self.new.decisions.items ≡ self.old.decisions.items ++ decision ∷ []) }
+        ensures window { OnOk result (IsWindow self.new.decisions.items self.new.window) }
+        ensures rest { KeepsRest self.old self.new }
         ensures err { OnErr result (Leaves self.old self.new) }
         ensures only_memory { IsOkUnless result Fault.NoMemory }
     {
         let onward = decision.share()?;
-        self.push_both(fate, decision)?;
+        self.window.decide(decision.get().slot)?;
+        add(&mut self.journal, &mut self.decisions, fate, Some(decision))?;
+        Ok(Onward::Decided(onward))
+    }
+
+    // ---- what is taken
+
+    /// An input of an open slot, with the entry that its verdict gives.
+    fn take_input(
+        &mut self,
+        slot: Slot,
+        input: SlotInput,
+        entering: Option<Entering>,
+    ) -> Result<Took, Fault>
+        requires sound { IsSound D.level D.place self.old }
+        requires room { length self.old.journal.items + length (option_to_list entering) ≤ 1000000 }
+        requires is_open { IsOpen self.old.window.lowest self.old.decisions.items slot.0 }
+        requires of_slot { IsOfSlot slot.0 input }
+        requires entry { Enters input entering }
+        ensures ran { IfOk result (λ took. (verdict : Verdict) × RunsAt D.level D.combined (state_view false self.old) slot input (entries_with entering verdict) took (state_view false self.new) × (took.verdict ≡ Some verdict)) }
+        ensures sound { OnOk result (IsSound D.level D.place self.new) }
+        ensures err { OnErr result (Leaves self.old self.new) }
+        ensures only_memory { IsOkUnless result Fault.NoMemory }
+    {
+        let out = self.run(slot, input)?;
+        let verdict = verdict_from(out.verdict);
+        let fate = entry_with(entering, verdict);
+        self.settle(slot, out, fate)
+    }
+
+    fn take_envelope(
+        &mut self,
+        conn: ConnId,
+        seq: Seq,
+        envelope: BoxedEnvelope,
+        set: Arc<SaneSet>,
+    ) -> Result<Took, Fault>
+        requires sound { IsSound D.level D.place self.old }
+        requires room { length self.old.journal.items < 1000000 }
+        requires its_set { IsSetOf (Message.Envelope envelope) (Some set.value) }
+        ensures takes { IfOk result (λ took. TakesEnvelope D.level D.combined (state_view false self.old) conn seq envelope (Some set.value) took (state_view false self.new)) }
+        ensures sound { OnOk result (IsSound D.level D.place self.new) }
+        ensures err { OnErr result (Leaves self.old self.new) }
+        ensures only_memory { IsOkUnless result Fault.NoMemory }
+    {
+        let slot = slot_of(&envelope);
+        if let Some(verdict) = self.gate(slot) {
+            return self.pass_entry(
+                Some(verdict),
+                Fate::Taken {
+                    conn,
+                    seq,
+                    message: Message::Envelope(envelope),
+                    set: Some(set),
+                    verdict,
+                },
+            );
+        }
+        let input = SlotInput::Envelope(copy_of(&envelope)?, Arc::try_clone(&set)?);
+        let entering = Entering {
+            conn,
+            seq,
+            envelope,
+            set,
+        };
+        self.take_input(slot, input, Some(entering))
+    }
+
+    fn take_request(
+        &mut self,
+        conn: ConnId,
+        seq: Seq,
+        slot: Slot,
+        set: Option<Arc<SaneSet>>,
+    ) -> Result<Took, Fault>
+        requires sound { IsSound D.level D.place self.old }
+        requires room { length self.old.journal.items < 1000000 }
+        requires its_set { IsSetOf (Message.GetRecord slot) (option_map (λ s. s.value) set) }
+        ensures takes { IfOk result (λ took. Forwards (state_view false self.old) conn seq slot set took (state_view false self.new)) }
+        ensures sound { OnOk result (IsSound D.level D.place self.new) }
+        ensures err { OnErr result (Leaves self.old self.new) }
+        ensures only_memory { IsOkUnless result Fault.NoMemory }
+    {
+        let link = link_of(self.peers.as_slice(), &conn);
+        let took = self.pass_entry(
+            Some(Verdict::Forwarded),
+            Fate::Taken {
+                conn,
+                seq,
+                message: Message::GetRecord(slot),
+                set,
+                verdict: Verdict::Forwarded,
+            },
+        )?;
         Ok(Took {
-            verdict: Some(Verdict::Decided),
-            onward: Some(Onward::Decided(onward)),
+            verdict: took.verdict,
+            onward: Some(Onward::Asked { link, slot }),
+            outgoing: took.outgoing,
         })
     }
 
-    fn push(&mut self, fate: Fate) -> Result<(), Fault>
-        requires sound { IsSound self.old }
+    fn take_record(
+        &mut self,
+        conn: ConnId,
+        seq: Seq,
+        slot: Slot,
+        value: Value,
+        set: Option<Arc<SaneSet>>,
+    ) -> Result<Took, Fault>
+        requires sound { IsSound D.level D.place self.old }
         requires room { length self.old.journal.items < 1000000 }
-        requires right { HasVerdict self.old.me self.old.journal.items fate }
-        requires its_set { HasItsSet fate }
-        requires quiet { decision_by fate ≡ None }
-        ensures ok { OnOk result (Enters self.old fate self.new) }
+        requires its_set { IsSetOf (Message.Record slot value) (option_map (λ s. s.value) set) }
+        ensures takes { IfOk result (λ took. TakesRecord (state_view false self.old) conn seq slot value set took (state_view false self.new)) }
+        ensures sound { OnOk result (IsSound D.level D.place self.new) }
         ensures err { OnErr result (Leaves self.old self.new) }
         ensures only_memory { IsOkUnless result Fault.NoMemory }
     {
-        let place = self.journal.as_slice().len();
-        self.journal.reserve(1)?;
-        self.latest.note(&fate, place)?;
-        self.journal.push_reserved(fate);
-        Ok(())
-    }
-
-    fn push_both(&mut self, fate: Fate, decision: SharedDecision) -> Result<(), Fault>
-        requires sound { IsSound self.old }
-        requires room { length self.old.journal.items < 1000000 }
-        requires right { HasVerdict self.old.me self.old.journal.items fate }
-        requires its_set { HasItsSet fate }
-        requires decides { decision_by fate ≡ Some decision }
-        ensures ok { OnOk result (Enters self.old fate self.new) }
-        ensures err { OnErr result (Leaves self.old self.new) }
-        ensures only_memory { IsOkUnless result Fault.NoMemory }
-    {
-        self.journal.reserve(1)?;
-        self.decisions.reserve(1)?;
-        self.window.decide(decision.slot)?;
-        self.journal.push_reserved(fate);
-        self.decisions.push_reserved(decision);
-        Ok(())
-    }
-
-    /// What goes on to the applier of an entry that makes no decision.
-    fn asked_by(&self, fate: &Fate) -> Option<Onward>
-        requires few { length self.now.peers.items ≤ 255 }
-        requires quiet { decision_by fate.now ≡ None }
-        ensures { result ≡ onward_by self.now.peers.items fate.now }
-    {
-        match fate {
+        let link = link_of(self.peers.as_slice(), &conn);
+        let verdict = self.record_verdict(link, slot);
+        if is_deciding(verdict) {
+            return self.decide_by_record(conn, seq, slot, value, set);
+        }
+        self.pass_entry(
+            Some(verdict),
             Fate::Taken {
                 conn,
-                message: Message::GetRecord(slot),
-                verdict: Verdict::Forwarded,
-                ..
-            } => Some(Onward::Asked {
-                link: self.link_of(conn),
-                slot: *slot,
-            }),
-            _ => None,
-        }
+                seq,
+                message: Message::Record(slot, value),
+                set,
+                verdict,
+            },
+        )
     }
 
-    /// The link of a connection: the place of its sender among the peers, or their number, which is no link.
-    fn link_of(&self, conn: &ConnId) -> u8
-        requires few { length self.now.peers.items ≤ 255 }
-        ensures { result ≡ link_of self.now.peers.items conn.now }
+    fn decide_by_record(
+        &mut self,
+        conn: ConnId,
+        seq: Seq,
+        slot: Slot,
+        value: Value,
+        set: Option<Arc<SaneSet>>,
+    ) -> Result<Took, Fault>
+        requires sound { IsSound D.level D.place self.old }
+        requires room { length self.old.journal.items < 1000000 }
+        requires its_set { IsSetOf (Message.Record slot value) (option_map (λ s. s.value) set) }
+        requires is_open { IsOpen self.old.window.lowest self.old.decisions.items slot.0 }
+        requires asked { is_asked self.old.asked.keys (record { link = place_of_link self.old.peers.items conn; slot = slot }) ≡ true }
+        ensures verdict { IfOk result (λ took. took.verdict ≡ Some Verdict.Decided) }
+        ensures decides { IfOk result (λ took. Decides (state_view false self.old) conn seq slot value set took (state_view false self.new)) }
+        ensures sound { OnOk result (IsSound D.level D.place self.new) }
+        ensures err { OnErr result (Leaves self.old self.new) }
+        ensures only_memory { IsOkUnless result Fault.NoMemory }
     {
-        match place_of(self.peers.as_slice(), &conn.from) {
-            Some(place) => place as u8,
-            None => self.peers.as_slice().len() as u8,
-        }
-    }
-}
-
-fn place_of(peers: &[NodeId], node: &NodeId) -> Option<usize>
-    ensures found { result ≡ position (λ peer. same_node peer node.now) peers.now }
-    ensures within { IfSome result (λ place. place < length peers.now) }
-{
-    peers.iter().position(|peer| *peer == *node)
-}
-
-fn verdict_of(fate: &Fate) -> Option<Verdict>
-    ensures { result ≡ verdict_of fate.now }
-{
-    match fate {
-        Fate::Taken { verdict, .. } => Some(*verdict),
-        Fate::Dropped { .. } | Fate::Closed { .. } => None,
-    }
-}
-
-/// The decision that an entry makes, if it makes one.
-fn decision_by(alloc: Global, fate: &Fate) -> Result<Option<SharedDecision>, Fault>
-    ensures made { IfOk result (λ made. made ≡ decision_by fate.now) }
-    ensures only_memory { IsOkUnless result Fault.NoMemory }
-{
-    match fate {
-        Fate::Taken {
+        let decision = named_decision(self.alloc, conn, seq, slot, &value)?;
+        self.give_up(slot);
+        let fate = Fate::Taken {
             conn,
             seq,
             message: Message::Record(slot, value),
+            set,
             verdict: Verdict::Decided,
-            ..
-        } => Ok(Some(named(alloc, *conn, *seq, *slot, value)?)),
-        _ => Ok(None),
+        };
+        let onward = self.conclude(decision, Some(fate))?;
+        Ok(Took {
+            verdict: Some(Verdict::Decided),
+            onward: Some(onward),
+            outgoing: OutgoingList::new(Vec::new(self.alloc)),
+        })
+    }
+
+    fn take_command(&mut self, slot: Slot, input: SlotInput) -> Result<Took, Fault>
+        requires sound { IsSound D.level D.place self.old }
+        requires entry { Enters input None }
+        requires of_slot { IsOfSlot slot.0 input }
+        ensures takes { IfOk result (λ took. Commands D.level D.combined (state_view false self.old) slot input took (state_view false self.new)) }
+        ensures sound { OnOk result (IsSound D.level D.place self.new) }
+        ensures err { OnErr result (Leaves self.old self.new) }
+        ensures only_memory { IsOkUnless result Fault.NoMemory }
+    {
+        if let Some(verdict) = self.gate(slot) {
+            return Ok(self.pass_command(Some(verdict)));
+        }
+        self.take_input(slot, input, None)
+    }
+
+    fn take_ask(&mut self, link: u8, slot: Slot) -> Result<Took, Fault>
+        requires sound { IsSound D.level D.place self.old }
+        ensures takes { IfOk result (λ took. TakesAsk (state_view false self.old) link slot took (state_view false self.new)) }
+        ensures sound { OnOk result (IsSound D.level D.place self.new) }
+        ensures err { OnErr result (Leaves self.old self.new) }
+        ensures only_memory { IsOkUnless result Fault.NoMemory }
+    {
+        let verdict = self.ask_verdict(link, slot);
+        if !is_fresh(verdict) {
+            return Ok(self.pass_command(Some(verdict)));
+        }
+        self.ask(link, slot)
+    }
+
+    fn ask(&mut self, link: u8, slot: Slot) -> Result<Took, Fault>
+        requires sound { IsSound D.level D.place self.old }
+        ensures verdict { IfOk result (λ took. took.verdict ≡ Some Verdict.Fresh) }
+        ensures asks { IfOk result (λ took. Asks (state_view false self.old) link slot took (state_view false self.new)) }
+        ensures sound { OnOk result (IsSound D.level D.place self.new) }
+        ensures err { OnErr result (Leaves self.old self.new) }
+        ensures only_memory { IsOkUnless result Fault.NoMemory }
+    {
+        let mut outgoing = Vec::new(self.alloc);
+        outgoing.push(Outgoing::To(link, Message::GetRecord(slot)))?;
+        self.asked.insert(Asking { link, slot })?;
+        Ok(Took {
+            verdict: Some(Verdict::Fresh),
+            onward: None,
+            outgoing: OutgoingList::new(outgoing),
+        })
+    }
+
+    /// Takes one thing, for which the journal has room. A refusal leaves the journal, the decisions and what was asked for, and
+    /// nothing else may be used after it.
+    pub fn take(&mut self, ready: Ready) -> Result<Took, Fault>
+        requires sound { IsSound D.level D.place self.old }
+        requires room { adds_entry ready ≡ true → length self.old.journal.items < 1000000 }
+        ensures takes { IfOk result (λ took. Takes D.level D.combined (state_view false self.old) ready took (state_view false self.new)) }
+        ensures sound { OnOk result (IsSound D.level D.place self.new) }
+        ensures err { OnErr result (Leaves self.old self.new) }
+        ensures only_memory { IsOkUnless result Fault.NoMemory }
+    {
+        match ready {
+            Ready::Deliver(delivery) => self.deliver(delivery),
+            Ready::Dropped { conn, seq, cause } => {
+                self.pass_entry(None, Fate::Dropped { conn, seq, cause })
+            }
+            Ready::Closed { conn, cause } => self.pass_entry(None, Fate::Closed { conn, cause }),
+            Ready::Local(command) => self.command(command),
+        }
+    }
+
+    fn deliver(&mut self, delivery: Delivery) -> Result<Took, Fault>
+        requires sound { IsSound D.level D.place self.old }
+        requires room { length self.old.journal.items < 1000000 }
+        ensures takes { IfOk result (λ took. TakesMessage D.level D.combined (state_view false self.old) delivery.conn delivery.seq delivery.message delivery.set took (state_view false self.new)) }
+        ensures sound { OnOk result (IsSound D.level D.place self.new) }
+        ensures err { OnErr result (Leaves self.old self.new) }
+        ensures only_memory { IsOkUnless result Fault.NoMemory }
+    {
+        let (conn, seq, message, set) = delivery.into_parts();
+        match message {
+            Message::Envelope(envelope) => match set {
+                Some(set) => self.take_envelope(conn, seq, envelope, set),
+                // not reached, since an envelope has its set
+                None => Ok(self.pass_command(None)),
+            },
+            Message::GetRecord(slot) => self.take_request(conn, seq, slot, set),
+            Message::Record(slot, value) => self.take_record(conn, seq, slot, value, set),
+            // not reached, since these aren't delivered
+            Message::GetSet(_) | Message::Set(_) | Message::NoSet(_) => Ok(self.pass_command(None)),
+        }
+    }
+
+    fn command(&mut self, command: Command) -> Result<Took, Fault>
+        requires sound { IsSound D.level D.place self.old }
+        ensures takes { IfOk result (λ took. TakesCommand D.level D.combined (state_view false self.old) command took (state_view false self.new)) }
+        ensures sound { OnOk result (IsSound D.level D.place self.new) }
+        ensures err { OnErr result (Leaves self.old self.new) }
+        ensures only_memory { IsOkUnless result Fault.NoMemory }
+    {
+        match command {
+            Command::Propose(slot, value) => self.take_command(slot, SlotInput::Propose(value)),
+            Command::Round(slot) => self.take_command(slot, SlotInput::Round),
+            Command::Timer(slot) => self.take_command(slot, SlotInput::Timer),
+            Command::Tick => Ok(self.pass_command(None)),
+            Command::Ask(link, slot) => self.take_ask(link, slot),
+        }
+    }
+}
+
+fn slot_of(envelope: &BoxedEnvelope) -> Slot
+    ensures { result ≡ envelope.now.value.statement.slot }
+{
+    envelope.get().statement.slot
+}
+
+fn copy_of(envelope: &BoxedEnvelope) -> Result<Envelope, Fault>
+    ensures same { IfOk result (λ copied. copied ≡ envelope.now.value) }
+    ensures only_memory { IsOkUnless result Fault.NoMemory }
+{
+    envelope.get().copy()
+}
+
+fn is_fresh(verdict: Verdict) -> bool
+    ensures { IsTrue result ↔ (verdict ≡ Verdict.Fresh) }
+{
+    verdict == Verdict::Fresh
+}
+
+fn is_deciding(verdict: Verdict) -> bool
+    ensures { IsTrue result ↔ (verdict ≡ Verdict.Decided) }
+{
+    verdict == Verdict::Decided
+}
+
+/// Gives an input to a machine. Want of memory is the one refusal that it tells.
+fn enter<D: Driver + Drop + Copy>(
+    machine: &mut SlotMachine<D>,
+    input: SlotInput,
+) -> Result<SlotOutput, Fault>
+    requires sound { IsSlotSound D.level D.place machine.old }
+    requires of_slot { IsOfSlot (slot_view machine.old).slot input }
+    ensures takes { IfOk result (λ out. SlotTakes (D.level (driver_of machine.old) (slot_view machine.old).slot) (D.combined (driver_of machine.old) (slot_view machine.old).nomination.slot) input (slot_view machine.old) out (slot_view machine.new)) }
+    ensures decides { IfOk result (λ out. SlotDecides (slot_view machine.old) out (slot_view machine.new)) }
+    ensures running { OnOk result (IsSlotRunning (slot_view machine.new)) }
+    ensures driver { OnOk result (driver_of machine.new ≡ driver_of machine.old) }
+    ensures sound { IsSlotSound D.level D.place machine.new }
+    ensures only_memory { IsOkUnless result Fault.NoMemory }
+{
+    match machine.input(input) {
+        Ok(out) => Ok(out),
+        Err(_) => Err(Fault::NoMemory),
+    }
+}
+
+/// What a machine found, as the ledger says it.
+fn verdict_from(found: Found) -> Verdict
+    ensures { result ≡ verdict_as found }
+{
+    match found {
+        Found::Fresh => Verdict::Fresh,
+        Found::Stale => Verdict::Stale,
+        Found::Own => Verdict::Own,
+        Found::BadStatement => Verdict::BadStatement,
+        Found::BadValue => Verdict::BadValue,
+        Found::Idle => Verdict::Idle,
+    }
+}
+
+/// What enters the journal with the verdict on it.
+#[derive(Drop)]
+pub struct Entering {
+    pub conn: ConnId,
+    pub seq: Seq,
+    pub envelope: BoxedEnvelope,
+    pub set: Arc<SaneSet>,
+}
+
+fn entry_with(entering: Option<Entering>, verdict: Verdict) -> Option<Fate>
+    ensures { option_to_list result ≡ entries_with entering verdict }
+{
+    match entering {
+        Some(e) => Some(Fate::Taken {
+            conn: e.conn,
+            seq: e.seq,
+            message: Message::Envelope(e.envelope),
+            set: Some(e.set),
+            verdict,
+        }),
+        None => None,
     }
 }
 
 /// The decision that a record names.
-fn named(
+fn named_decision(
     alloc: Global,
     conn: ConnId,
     seq: Seq,
     slot: Slot,
     value: &Value,
 ) -> Result<SharedDecision, Fault>
-    ensures made { IfOk result (λ d. d ≡ record { slot = slot; value = value.now; origin = Origin.Named conn seq }) }
+    ensures same { IfOk result (λ d. d ≡ named_by conn seq slot value.now) }
     ensures only_memory { IsOkUnless result Fault.NoMemory }
 {
     let value = value.copy()?;
     let origin = Origin::Named { conn, seq };
+    SharedDecision::new(
+        alloc,
+        Decision {
+            slot,
+            value,
+            origin,
+        },
+    )
+}
+
+/// The decision of a slot's machine.
+fn certified_decision(
+    alloc: Global,
+    slot: Slot,
+    certified: Certified,
+) -> Result<SharedDecision, Fault>
+    ensures same { IfOk result (λ d. decided_by slot (Some certified) ≡ Some d) }
+    ensures only_memory { IsOkUnless result Fault.NoMemory }
+{
+    let Certified {
+        value,
+        n,
+        quorum,
+        own,
+    } = certified;
+    let origin = Origin::Machine {
+        n,
+        quorum: Quorum::new(quorum),
+        own,
+    };
     SharedDecision::new(
         alloc,
         Decision {

@@ -2,7 +2,10 @@
 
 use crate::journal::Verdict;
 use crate::shared::SharedDecision;
+use scp_envelope::Envelope;
 use scp_types::Slot;
+use scp_wire::Message;
+use std::marker::Model;
 
 /// What goes on to the applier.
 #[derive(Debug, Drop)]
@@ -13,11 +16,66 @@ pub enum Onward {
     Asked { link: u8, slot: Slot },
 }
 
+/// What goes out to peers.
+#[derive(Debug, Drop)]
+pub enum Outgoing {
+    /// An own statement, for each of them.
+    ToAll(Envelope),
+    /// A message for the link of this number.
+    To(u8, Message),
+}
+
+/// What goes out, in its order. Contracts see the list.
+#[derive(Debug, Drop)]
+pub struct OutgoingList(Vec<Outgoing>);
+
+impl Model for OutgoingList {
+    ghost use Rattle.std.specs.Coded.{codes};
+    ghost use Rattle.scp_xdr.specs.TreeModel.{coded_row};
+    ghost use Rattle.scp_quorum.specs.QuorumTree.{coded_level};
+    ghost use Rattle.std.specs.Prelude.{List};
+    ghost use Rattle.scp_ledger.specs.declared.took.Outgoing.{Outgoing};
+
+    ghost Value = { List Outgoing };
+
+    ghost coded = { Prim.hlevel (codes, coded_row coded_level) };
+
+    ghost view = { λ o. o.0.items };
+}
+
+impl OutgoingList {
+    ghost use Rattle.std.specs.Prelude.{◌≡◌};
+
+    /// The list of these. Moves them and takes no memory.
+    pub fn new(outgoing: Vec<Outgoing>) -> OutgoingList
+        ensures { result ≡ outgoing.items }
+    {
+        OutgoingList(outgoing)
+    }
+
+    /// Gives them back. Takes no memory.
+    pub fn into_vec(self) -> Vec<Outgoing>
+        ensures { result.items ≡ self }
+    {
+        let OutgoingList(inside) = self;
+        inside
+    }
+
+    /// What goes out, as a slice.
+    pub fn as_slice(&self) -> &[Outgoing]
+        ensures { result.now ≡ self.now }
+    {
+        self.0.as_slice()
+    }
+}
+
 /// What came of a thing that was taken.
 #[derive(Debug, Drop)]
 pub struct Took {
-    /// What was found of a message; none of what is no message.
+    /// What was found of a message or a command; none of what is neither, and of a Tick.
     pub verdict: Option<Verdict>,
     /// What goes on to the applier, if anything does.
     pub onward: Option<Onward>,
+    /// What goes out to peers: own statements, for all of them, and the request of a fresh ask.
+    pub outgoing: OutgoingList,
 }

@@ -3,11 +3,12 @@ ghost use Rattle.std.specs.Prelude.{◌≡◌, [], false, IfOk};
 use Act::*;
 use On::*;
 use Verdict::*;
-use scp_envelope::{Envelope, Nominate, Pledges, Signature, Statement, ValueList};
-use scp_ledger::{Ledger, Onward, SharedDecision, Verdict};
+use scp_driver::KvDriver;
+use scp_envelope::{Envelope, Externalize, Nominate, Pledges, Signature, Statement, ValueList};
+use scp_ledger::{Ledger, Onward, Origin, Outgoing, SharedDecision, Took, Verdict};
 use scp_pending::{DropCause, Pending, Ready};
-use scp_quorum::QuorumSet;
-use scp_types::{ConnId, Fault, NodeId, Seq, Slot, Value};
+use scp_quorum::{QuorumSet, SaneSet};
+use scp_types::{Ballot, ConnId, Fault, NodeId, Seq, Slot, Value};
 use scp_wire::{BoxedEnvelope, Carried, Cause, Command, Inbound, Message};
 use std::alloc::Global;
 use std::process::Abort;
@@ -35,9 +36,16 @@ enum Act {
     GetRecord(NodeId, u64),
     /// A nomination of this node for this slot, which votes for the first value, or for none.
     Nomination(NodeId, u64, bool),
+    /// An EXTERNALIZE of this node for this slot, of a commit of the value with counter 1.
+    Externalizes(NodeId, u64),
     Drop,
     Close,
     Tick,
+    /// A proposal of the value, or of no bytes.
+    Proposes(u64, bool),
+    Rounds(u64),
+    Times(u64),
+    Ask(u8, u64),
 }
 
 /// What goes on to the applier.
@@ -56,8 +64,16 @@ fn conn(from: NodeId) -> ConnId {
     }
 }
 
+/// Both of nodes 1 and 2.
 fn set(alloc: Global) -> Result<QuorumSet, Fault> {
-    Ok(QuorumSet::of_nodes(1, Vec::from_slice(alloc, &[ME])?))
+    Ok(QuorumSet::of_nodes(2, Vec::from_slice(alloc, &[ME, TWO])?))
+}
+
+fn shared_set(alloc: Global) -> Result<Arc<SaneSet>, Fault> {
+    let Ok(own) = set(alloc)?.into_sane() else {
+        return Err(Fault::NoMemory);
+    };
+    Ok(Arc::new(alloc, own)?)
 }
 
 /// A pending stage with links from nodes 2, 3 and 4.
@@ -66,10 +82,7 @@ fn stage(alloc: Global) -> Result<Pending, Fault>
     ensures ready { IfOk result (λ pending. pending.leaving ≡ []) }
 {
     let peers = Vec::from_slice(alloc, &[TWO, THREE, FOUR])?;
-    let Ok(own) = set(alloc)?.into_sane() else {
-        return Err(Fault::NoMemory);
-    };
-    Ok(Pending::new(alloc, ME, peers, Arc::new(alloc, own)?))
+    Ok(Pending::new(alloc, ME, peers, shared_set(alloc)?))
 }
 
 /// What the pending stage gives of a message that is the first of its connection.
@@ -97,6 +110,23 @@ fn nomination(alloc: Global, node: NodeId, slot: u64, votes: bool) -> Result<Mes
         votes: ValueList::new(values),
         accepted: ValueList::new(Vec::new(alloc)),
     });
+    message(alloc, node, slot, pledges)
+}
+
+fn externalize(alloc: Global, node: NodeId, slot: u64) -> Result<Message, Fault> {
+    let commit = Ballot {
+        counter: 1,
+        value: value(alloc)?,
+    };
+    let pledges = Pledges::Externalize(Externalize {
+        commit,
+        n_high: 1,
+        set_hash: set(alloc)?.hash()?,
+    });
+    message(alloc, node, slot, pledges)
+}
+
+fn message(alloc: Global, node: NodeId, slot: u64, pledges: Pledges) -> Result<Message, Fault> {
     let statement = Statement {
         node,
         slot: Slot(slot),
@@ -123,13 +153,8 @@ fn ready(alloc: Global, act: Act) -> Result<Option<Ready>, Fault> {
             let conn = conn(from);
             delivered(alloc, from, Carried { conn, seq, message })
         }
-        Nomination(node, slot, votes) => {
-            let conn = conn(TWO);
-            let Ok(carried) = carried(conn, nomination(alloc, node, slot, votes)?) else {
-                return Ok(None);
-            };
-            delivered(alloc, TWO, carried)
-        }
+        Nomination(node, slot, votes) => enveloped(alloc, nomination(alloc, node, slot, votes)?),
+        Externalizes(node, slot) => enveloped(alloc, externalize(alloc, node, slot)?),
         Drop => Ok(Some(Ready::Dropped {
             conn: conn(TWO),
             seq,
@@ -140,7 +165,26 @@ fn ready(alloc: Global, act: Act) -> Result<Option<Ready>, Fault> {
             cause: Cause::Link,
         })),
         Tick => Ok(Some(Ready::Local(Command::Tick))),
+        Proposes(slot, is_good) => {
+            let value = if is_good {
+                value(alloc)?
+            } else {
+                Value::new(Vec::new(alloc))
+            };
+            Ok(Some(Ready::Local(Command::Propose(Slot(slot), value))))
+        }
+        Rounds(slot) => Ok(Some(Ready::Local(Command::Round(Slot(slot))))),
+        Times(slot) => Ok(Some(Ready::Local(Command::Timer(Slot(slot))))),
+        Ask(link, slot) => Ok(Some(Ready::Local(Command::Ask(link, Slot(slot))))),
     }
+}
+
+/// What the pending stage gives of an envelope of node 2's connection.
+fn enveloped(alloc: Global, message: Message) -> Result<Option<Ready>, Fault> {
+    let Ok(carried) = carried(conn(TWO), message) else {
+        return Ok(None);
+    };
+    delivered(alloc, TWO, carried)
 }
 
 /// An envelope, with the number 0 on the connection.
@@ -156,8 +200,10 @@ fn carried(conn: ConnId, message: Message) -> Result<Carried, Message> {
     }
 }
 
-fn ledger(alloc: Global) -> Result<Ledger, Fault> {
-    Ok(Ledger::new(alloc, ME, Vec::from_slice(alloc, &[TWO, THREE])?))
+fn ledger(alloc: Global) -> Result<Ledger<KvDriver>, Fault> {
+    let peers = Vec::from_slice(alloc, &[TWO, THREE])?;
+    let local = shared_set(alloc)?;
+    Ok(Ledger::new(alloc, ME, local, KvDriver, peers))
 }
 
 fn kind_of(onward: &Option<Onward>) -> On {
@@ -171,7 +217,7 @@ fn kind_of(onward: &Option<Onward>) -> On {
 /// Takes what the act says; whether just this verdict and this onward come of it.
 fn takes(
     alloc: Global,
-    ledger: &mut Ledger,
+    ledger: &mut Ledger<KvDriver>,
     act: Act,
     verdict: Option<Verdict>,
     onward: On,
@@ -186,7 +232,7 @@ fn takes(
 /// Whether each act has its verdict, and this goes on, on a ledger that took nothing.
 fn run(
     alloc: Global,
-    ledger: &mut Ledger,
+    ledger: &mut Ledger<KvDriver>,
     acts: &[(Act, Option<Verdict>, On)],
 ) -> Result<bool, Fault> {
     for (act, verdict, onward) in acts {
@@ -227,17 +273,25 @@ fn leaves(
 #[test]
 fn records_decide_in_the_window(rt: HostRuntime) -> Result<(), Fail> {
     let acts = [
+        (Ask(0, 1), Some(Fresh), Nothing),
+        (Ask(0, 16), Some(Fresh), Nothing),
+        (Ask(1, 2), Some(Fresh), Nothing),
+        (Ask(0, 17), Some(FarSlot), Nothing),
         (Record(TWO, 17), Some(FarSlot), Nothing),
         (Record(TWO, 16), Some(Decided), On::Slot(16)),
+        (Record(TWO, 2), Some(Unasked), Nothing),
         (Record(THREE, 2), Some(Decided), On::Slot(2)),
         (Record(TWO, 2), Some(Already), Nothing),
         (Record(TWO, 0), Some(Already), Nothing),
         (Record(TWO, 1), Some(Decided), On::Slot(1)),
         (Record(TWO, 19), Some(FarSlot), Nothing),
+        (Ask(0, 18), Some(Fresh), Nothing),
+        (Ask(0, 18), Some(Idle), Nothing),
+        (Ask(0, 2), Some(Already), Nothing),
         (Record(TWO, 18), Some(Decided), On::Slot(18)),
         (Record(TWO, 1), Some(Already), Nothing),
     ];
-    assert!(rt; leaves(rt.alloc(), &acts, &[16, 2, 1, 18], 3, 9)?);
+    assert!(rt; leaves(rt.alloc(), &acts, &[16, 2, 1, 18], 3, 10)?);
     Ok(())
 }
 
@@ -251,6 +305,8 @@ fn envelopes_have_their_verdicts(rt: HostRuntime) -> Result<(), Fail> {
         (Nomination(TWO, 2, false), Some(BadStatement), Nothing),
         (Nomination(TWO, 16, true), Some(Fresh), Nothing),
         (Nomination(TWO, 17, true), Some(FarSlot), Nothing),
+        (Ask(0, 2), Some(Fresh), Nothing),
+        (Ask(0, 1), Some(Fresh), Nothing),
         (Record(TWO, 2), Some(Decided), On::Slot(2)),
         (Nomination(TWO, 2, true), Some(Already), Nothing),
         (Record(TWO, 1), Some(Decided), On::Slot(1)),
@@ -274,10 +330,105 @@ fn requests_go_on_for_their_link(rt: HostRuntime) -> Result<(), Fail> {
     Ok(())
 }
 
+#[test]
+fn commands_have_their_verdicts(rt: HostRuntime) -> Result<(), Fail> {
+    let acts = [
+        (Proposes(1, false), Some(BadValue), Nothing),
+        (Proposes(1, true), Some(Fresh), Nothing),
+        (Proposes(1, true), Some(Idle), Nothing),
+        (Rounds(1), Some(Fresh), Nothing),
+        (Rounds(1), Some(Idle), Nothing),
+        (Times(1), Some(Idle), Nothing),
+        (Times(0), Some(OldSlot), Nothing),
+        (Rounds(17), Some(FarSlot), Nothing),
+        (Externalizes(TWO, 1), Some(Fresh), On::Slot(1)),
+        (Proposes(1, true), Some(OldSlot), Nothing),
+        (Externalizes(TWO, 3), Some(Fresh), On::Slot(3)),
+        (Times(3), Some(Already), Nothing),
+        (Externalizes(TWO, 3), Some(Already), Nothing),
+    ];
+    assert!(rt; leaves(rt.alloc(), &acts, &[1, 3], 2, 3)?);
+    Ok(())
+}
+
+/// Whether it is one own EXTERNALIZE, for all.
+fn is_externalize(outgoing: &[Outgoing]) -> bool {
+    match outgoing {
+        [Outgoing::ToAll(own)] => {
+            own.statement.node == ME
+                && own.statement.slot == Slot(1)
+                && matches!(&own.statement.pledges, Pledges::Externalize(e) if e.n_high == 1)
+        }
+        _ => false,
+    }
+}
+
+/// Whether it is by nodes 1 and 2, of the commit of number 1.
+fn is_by_both(decision: &SharedDecision) -> bool {
+    match &decision.origin {
+        Origin::Machine { n, quorum, own } => {
+            *n == 1
+                && quorum.count() == 2
+                && quorum.contains(ME)
+                && quorum.contains(TWO)
+                && own.statement.node == ME
+        }
+        Origin::Named { .. } => false,
+    }
+}
+
+fn took(alloc: Global, ledger: &mut Ledger<KvDriver>, act: Act) -> Result<Option<Took>, Fault> {
+    match ready(alloc, act)? {
+        Some(ready) => Ok(Some(ledger.take(ready)?)),
+        None => Ok(None),
+    }
+}
+
+/// Whether another node's EXTERNALIZE decides, with the certificate of both.
+fn decides_by_both(alloc: Global) -> Result<bool, Fault> {
+    let mut ledger = ledger(alloc)?;
+    let Some(took) = took(alloc, &mut ledger, Externalizes(TWO, 1))? else {
+        return Ok(false);
+    };
+    let is_right = took.verdict == Some(Fresh) && is_externalize(took.outgoing.as_slice());
+    let is_one = ledger.decisions().len() == 1 && ledger.lowest() == 2;
+    Ok(is_right && is_one && ledger.decisions().iter().all(is_by_both))
+}
+
+#[test]
+fn an_externalize_decides_with_its_certificate(rt: HostRuntime) -> Result<(), Fail> {
+    assert!(rt; decides_by_both(rt.alloc())?);
+    Ok(())
+}
+
+/// Whether a fresh ask sends its request to its link, and a proposal its nomination to all.
+fn sends(alloc: Global) -> Result<bool, Fault> {
+    let mut ledger = ledger(alloc)?;
+    let Some(asked) = took(alloc, &mut ledger, Ask(1, 4))? else {
+        return Ok(false);
+    };
+    let Some(proposed) = took(alloc, &mut ledger, Proposes(1, true))? else {
+        return Ok(false);
+    };
+    let is_request = matches!(
+        asked.outgoing.as_slice(),
+        [Outgoing::To(1, Message::GetRecord(Slot(4)))]
+    );
+    let is_nomination = matches!(proposed.outgoing.as_slice(), [Outgoing::ToAll(_)]);
+    Ok(is_request && is_nomination && ledger.journal().is_empty())
+}
+
+#[test]
+fn what_goes_out_is_given(rt: HostRuntime) -> Result<(), Fail> {
+    assert!(rt; sends(rt.alloc())?);
+    Ok(())
+}
+
 /// Whether a record is taken right, or for want of memory leaves the ledger failed, with its entries.
 fn is_taken_or_fails(alloc: Global) -> Result<bool, Fault> {
     let mut ledger = ledger(alloc)?;
-    let entered = takes(alloc, &mut ledger, Close, None, Nothing)?;
+    let entered = takes(alloc, &mut ledger, Close, None, Nothing)?
+        && takes(alloc, &mut ledger, Ask(0, 1), Some(Fresh), Nothing)?;
     let Some(record) = ready(alloc, Record(TWO, 1))? else {
         return Ok(false);
     };

@@ -1,0 +1,5 @@
+use Rattle.scp_ledger.proofs.Standing.{stands}
+use Rattle.scp_ledger.proofs.laws.the_journal_stands_for_what_was_taken.Goals as goal
+
+pub returns : goal.returns
+returns g c = λ conn old ready took new t. stands g.D.Driver.level g.D.Driver.combined conn old took new ready t

@@ -1,0 +1,44 @@
+//! The nodes of a certificate.
+ghost use Rattle.std.specs.Prelude.{◌≡◌, length};
+ghost use Rattle.std.specs.BTreeSet.{keys};
+ghost use Rattle.scp_ledger.specs.Certificate.{is_among};
+
+use scp_types::NodeId;
+use std::collections::BTreeSet;
+use std::marker::Model;
+
+/// Nodes that are a quorum, ascending. Contracts see the list.
+#[derive(Debug, Drop)]
+pub struct Quorum(BTreeSet<NodeId>);
+
+impl Model for Quorum {
+    ghost use Rattle.std.specs.Prelude.{List};
+    ghost use Rattle.scp_types.specs.declared.names.NodeId.{NodeId};
+
+    ghost Value = { List NodeId };
+
+    ghost view = { λ q. q.0.keys };
+}
+
+impl Quorum {
+    /// These nodes. Takes no memory.
+    pub(crate) fn new(nodes: BTreeSet<NodeId>) -> Quorum
+        ensures { result ≡ keys nodes }
+    {
+        Quorum(nodes)
+    }
+
+    /// Whether the node is one of them. Its time grows with the logarithm of their number.
+    pub fn contains(&self, node: NodeId) -> bool
+        ensures { result ≡ is_among self.now node }
+    {
+        self.0.contains(&node)
+    }
+
+    /// How many they are.
+    pub fn count(&self) -> usize
+        ensures { result ≡ length self.now }
+    {
+        self.0.len()
+    }
+}
