@@ -5,6 +5,7 @@ use Rattle.std.specs.List.{AllByRecursion}
 use Rattle.std.proofs.lemmas.List.{take-append-drop}
 use Rattle.std.proofs.lemmas.List.Elements.{filter-append}
 use Rattle.scp_types.specs.declared.names.NodeId.{NodeId}
+use Rattle.scp_quorum.specs.QuorumTree.{QuorumTree}
 use Rattle.scp_types.specs.declared.names.ConnId.{ConnId}
 use Rattle.scp_wire.specs.declared.message.Message.{Message}
 use Rattle.scp_wire.specs.declared.link.Inbound.{Inbound}
@@ -23,12 +24,11 @@ use Rattle.scp_pending.specs.Line.{marks_of, HaveMessages, HasItsMessage, Accoun
 use Rattle.scp_pending.proofs.Basics.{all_left}
 use Rattle.scp_pending.proofs.Serving.{marks_of-append}
 use Rattle.scp_pending.proofs.Accounting.{all_accounts}
-use Rattle.scp_ledger.specs.Ledger.{LedgerView}
 use Rattle.scp_ledger.specs.Marks.{marks_of as marks_on}
 use Rattle.scp_ledger.specs.declared.journal.Fate.{Fate}
 use Rattle.scp_ledger.specs.declared.journal.Fate.TheVariants.{Taken, Dropped, Closed}
 use Rattle.scp_ledger.specs.declared.took.Onward.{Onward}
-use Rattle.scp_core.specs.Stages.{Entry, taken, dropped, closed, entry_in, entry_of, Journals}
+use Rattle.scp_core.specs.Stages.{Entry, taken, dropped, closed, entry_in, entry_of, KvLedger, Journals}
 use Rattle.scp_core.specs.declared.config.Config.{Config}
 use Rattle.scp_core.specs.History.{Exchange, Past, past_of, readings_of, read_so_far}
 use Rattle.scp_core.specs.Node.{LinkView, NodeView}
@@ -67,8 +67,8 @@ ready_marks c (ready.Dropped conn seq cause ∷ rs) = ap (λ ms. one_if (same_co
 ready_marks c (ready.Closed conn cause ∷ rs) = ap (λ ms. one_if (same_conn conn c) (ended cause) ++ ms) (ready_marks c rs)
 ready_marks c (ready.Local command ∷ rs) = ready_marks c rs
 
-pub same_marks : (c : ConnId) (me : NodeId) (peers : List NodeId) (took : List Ready) (onwards : List Onward) (v : LedgerView) → Journals me peers took onwards v → marks_on c v.journal ≡ marks_of c took
-same_marks c me peers took onwards v j = journal_marks c v.journal ∙ ap (flat_map (entry_mark c)) j.entries ∙ sym (ready_marks c took)
+pub same_marks : (c : ConnId) (me : NodeId) (local : QuorumTree) (peers : List NodeId) (took : List Ready) (onwards : List Onward) (v : KvLedger) → Journals me local peers took onwards v → marks_on c v.journal ≡ marks_of c took
+same_marks c me local peers took onwards v j = journal_marks c v.journal ∙ ap (flat_map (entry_mark c)) j.entries ∙ sym (ready_marks c took)
 
 pub entries_right : (c : ConnId) (messages : List Message) (readies : List Ready) → HaveMessages c messages readies → AllByRecursion (IsRight c messages) (flat_map entry_of readies)
 entries_right c messages [] a = tt
@@ -125,7 +125,7 @@ sent_is p v f l k there peer at life =
     regroup4 a b d e = simp append_assoc
 
 given_is : (p : Past) (v : NodeView) (f : Flows p v) (c : ConnId) → marks_of c f.given ≡ marks_on c v.ledger.journal ++ (marks_of c v.ready ++ marks_of c (option_to_list v.pend_hand))
-given_is p v f c = ap (marks_of c) f.ready ∙ marks_of-append c f.took (v.ready ++ option_to_list v.pend_hand) ∙ ap (λ xs. xs ++ marks_of c (v.ready ++ option_to_list v.pend_hand)) (sym (same_marks c v.config.me v.config.peers f.took f.onwards v.ledger f.journal)) ∙ ap (λ xs. marks_on c v.ledger.journal ++ xs) (marks_of-append c v.ready (option_to_list v.pend_hand))
+given_is p v f c = ap (marks_of c) f.ready ∙ marks_of-append c f.took (v.ready ++ option_to_list v.pend_hand) ∙ ap (λ xs. xs ++ marks_of c (v.ready ++ option_to_list v.pend_hand)) (sym (same_marks c v.config.me v.config.set v.config.peers f.took f.onwards v.ledger f.journal)) ∙ ap (λ xs. marks_on c v.ledger.journal ++ xs) (marks_of-append c v.ready (option_to_list v.pend_hand))
 
 accounts_at : (p : Past) (v : NodeView) (f : Flows p v) (l : ℕ) (peer : NodeId) → slice_get v.config.peers l ≡ Some peer → (life : ℕ) → Accounts (conn_at peer v.config.me life) f.arrived f.given (held (conn_at peer v.config.me life) v.pending)
 accounts_at p v f l peer at life = all_accounts v.config.me v.config.peers f.arrived f.given v.pending f.pending (shape p v f) l peer at life

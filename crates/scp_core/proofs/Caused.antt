@@ -1,13 +1,18 @@
 -- Causes, and where the pending stage is idle.
-use Rattle.std.proofs.Common.{◌≡◌, ℕ, List, [], ◌∷◌, ◌++◌, refl, sym, ◌∙◌, ap, subst, append_assoc, length}
-use Rattle.std.specs.Prelude.{Some, flat_map, map, option_to_list, slice_get}
+use Rattle.std.proofs.Common.{◌≡◌, true, ◌⊎◌, inl, inr, ℕ, List, [], ◌∷◌, ◌++◌, refl, sym, ◌∙◌, ap, subst, append_assoc, length}
+use Rattle.std.specs.Prelude.{Some, Contains, flat_map, map, option_to_list, slice_get}
 use Rattle.std.specs.List.{AllByRecursion}
 use Rattle.std.proofs.lemmas.List.{append-nil}
+use Rattle.std.proofs.lemmas.List.Elements.{All-nil, All-cons, All-contains, Contains-push, Contains-append_left, Contains-append_right, Contains-append_cases}
 use Rattle.std.proofs.lemmas.Grind.{flat_map-append}
 use Rattle.scp_types.specs.declared.names.NodeId.{NodeId}
 use Rattle.scp_types.specs.declared.names.ConnId.{ConnId}
 use Rattle.scp_quorum.specs.QuorumTree.{QuorumTree}
+use Rattle.scp_types.specs.declared.names.Slot.{Slot}
+use Rattle.scp_wire.specs.declared.link.Command.{Command}
+use Rattle.scp_wire.specs.declared.link.Command.TheVariants.{Propose, Round, Timer, Tick, Ask}
 use Rattle.scp_wire.specs.declared.link.Inbound.{Inbound}
+use Rattle.scp_wire.specs.declared.link.Inbound.TheVariants as inbound
 use Rattle.scp_wire.specs.Connections.{conn_at, same_conn}
 use Rattle.scp_wire.specs.Marks.{one_if}
 use Rattle.scp_pending.specs.declared.ready.Ready.{Ready}
@@ -15,12 +20,14 @@ use Rattle.scp_pending.specs.declared.ready.Ready.TheVariants as ready
 use Rattle.scp_pending.specs.Queues.{is_open}
 use Rattle.scp_pending.specs.Rules.{Settled, settled_by, fresh}
 use Rattle.scp_pending.specs.Causes.{IsTaken, HasCause, IsSettledBy}
-use Rattle.scp_pending.specs.Endings.{Way, went, over, way_by, way, ways, Exits, IsCutOff, commands_in, commands_of}
+use Rattle.scp_pending.specs.Endings.{Way, went, over, way_by, way, ways, Exits, IsCutOff, commands_in, commands_of, passed, passing}
 use Rattle.scp_pending.specs.Pends.{start_of, IsSettled}
 use Rattle.scp_pending.specs.Laws.{AreFrom}
 use Rattle.scp_pending.proofs.Basics.{all_left}
 use Rattle.scp_pending.proofs.Passing.{all_have_causes}
 use Rattle.scp_pending.proofs.Ending.{commands_pass, all_exits, cuts_are_consecutive}
+use Rattle.scp_ledger.specs.declared.journal.Asking.{Asking}
+use Rattle.scp_ledger.specs.Seen.{is_asked}
 use Rattle.scp_ledger.specs.declared.journal.Fate.{Fate}
 use Rattle.scp_ledger.specs.declared.journal.Fate.TheVariants.{Taken, Dropped, Closed}
 use Rattle.scp_core.specs.declared.config.Config.{Config}
@@ -116,6 +123,33 @@ consecutive_at p v f l peer at life =
 commands_at : (p : Past) (v : NodeView) (f : Flows p v) → commands_of (f.took ++ on_way_of v) ≡ commands_in f.arrived
 commands_at p v f = ap commands_of (sym (left p v f)) ∙ commands_pass v.config.me v.config.peers f.arrived f.given v.pending f.pending
 
+only : (c d : Command) → Contains (c ∷ []) d → d ≡ c
+only c d h = All-contains (λ (e : Command). e ≡ c) (c ∷ []) d (All-cons (λ (e : Command). e ≡ c) c [] refl (All-nil (λ (e : Command). e ≡ c))) h
+
+none : (d : Command) → Contains [] d → ⊥
+none d h = All-contains (λ (e : Command). ⊥) [] d (All-nil (λ (e : Command). ⊥)) h
+
+passes_itself : (x : Inbound) (link : ℕ) (slot : Slot) → Contains (passing x) (Ask link slot) → x ≡ inbound.Local (Ask link slot)
+passes_itself (inbound.Opened conn) link slot h = absurd (none (Ask link slot) h)
+passes_itself (inbound.Carried y) link slot h = absurd (none (Ask link slot) h)
+passes_itself (inbound.Side conn message) link slot h = absurd (none (Ask link slot) h)
+passes_itself (inbound.Closed conn cause) link slot h = absurd (none (Ask link slot) h)
+passes_itself (inbound.Local Tick) link slot h = absurd (none (Ask link slot) h)
+passes_itself (inbound.Local (Propose at value)) link slot h = ap (λ (c : Command). inbound.Local c) (sym (only (Propose at value) (Ask link slot) h))
+passes_itself (inbound.Local (Round at)) link slot h = ap (λ (c : Command). inbound.Local c) (sym (only (Round at) (Ask link slot) h))
+passes_itself (inbound.Local (Timer at)) link slot h = ap (λ (c : Command). inbound.Local c) (sym (only (Timer at) (Ask link slot) h))
+passes_itself (inbound.Local (Ask of at)) link slot h = ap (λ (c : Command). inbound.Local c) (sym (only (Ask of at) (Ask link slot) h))
+
+command_in : (xs : List Inbound) (link : ℕ) (slot : Slot) → Contains (commands_in xs) (Ask link slot) → Contains xs (inbound.Local (Ask link slot))
+command_in [] link slot c = absurd (none (Ask link slot) c)
+command_in (x ∷ xs) link slot c = elim (Contains-append_cases (passing x) (commands_in xs) (Ask link slot) c) [
+  | inl here ↦ subst (λ (i : Inbound). Contains (x ∷ xs) i) (passes_itself x link slot here) (Contains-append_left (x ∷ []) xs x (Contains-push [] x))
+  | inr later ↦ Contains-append_right (x ∷ []) xs (inbound.Local (Ask link slot)) (command_in xs link slot later)
+]
+
+asked_at : (p : Past) (v : NodeView) (f : Flows p v) (a : Asking) → is_asked v.ledger.asked a ≡ true → Contains f.arrived (inbound.Local (Ask a.link a.slot))
+asked_at p v f a is = command_in f.arrived a.link a.slot (subst (λ (cs : List Command). Contains cs (Ask a.link a.slot)) (sym (flat_map-append passed f.took (on_way_of v)) ∙ commands_at p v f) (Contains-append_left (commands_of f.took) (commands_of (on_way_of v)) (Ask a.link a.slot) (f.journal.asked a is)))
+
 caused : (past : List Exchange) (v : NodeView) → LedgerTheorem past v → HaveCauses past v
 caused past v h =
     let p = past_of v.config past in
@@ -132,6 +166,7 @@ caused past v h =
       took = h.flows.took;
       took_is = ap (map entry_in) k.journal ∙ h.flows.journal.entries;
       commands = commands_at p m h.flows;
+      asked = rw k.asked (asked_at p m h.flows);
       now = λ runs. (ap (λ (u : NodeView). u.inbox) (sym (h.now runs)), ap on_way_of (sym (h.now runs)));
     }
 

@@ -6,7 +6,7 @@ use Rattle.std.proofs.lemmas.Grind.{flat_map-append}
 use Rattle.std.proofs.lemmas.List.Elements.{All-take, All-contains_itself, All-weaker}
 use Rattle.std.proofs.lemmas.List.Sorted.{IsPermutation-append, IsPermutation-refl, All-permutation}
 use Rattle.scp_ledger.specs.declared.journal.Decision.{Decision}
-use Rattle.scp_ledger.specs.Decisions.{decisions_in}
+use Rattle.scp_ledger.specs.Decisions.{IsLowest}
 use Rattle.scp_apply.specs.Applier.{IsLater}
 use Rattle.scp_core.specs.History.{Exchange, Past, past_of}
 use Rattle.scp_core.specs.Stages.{decisions_on, decision_on}
@@ -15,19 +15,19 @@ use Rattle.scp_core.specs.Flow.{Flows}
 use Rattle.scp_core.specs.Theorem.{LedgerTheorem}
 use Rattle.scp_core.specs.Decisions.{AreDecided, TheoremGivesDecisions}
 use Rattle.scp_core.specs.Applied.{AreSharedOut, AreApplied, TheoremGivesApplied}
-use Rattle.scp_core.proofs.Deciding.{decisions_sent}
 
 decided : (past : List Exchange) (v : NodeView) → LedgerTheorem past v → AreDecided v
 decided past v h =
     let k = h.keeps in
     let j = h.flows.journal in
     record {
-      decided = k.decisions ∙ j.known.decided ∙ ap decisions_in (sym k.journal);
       one = rw k.decisions j.known.one;
       placed = rw k.decisions j.known.placed;
-      verdicts = rw (k.journal, k.config, ← j.me_is) j.known.verdicts;
+      founded = rw (k.decisions, k.journal, k.asked, k.config, ← j.me_is, ← j.local_is, ← j.peers_are) j.known.founded;
+      named = rw (k.decisions, k.journal) j.known.named;
       sets = rw k.journal j.known.sets;
       few = rw k.journal j.known.few;
+      lowest = λ runs. subst (λ (w : NodeView). IsLowest w.ledger.decisions w.ledger.lowest) (sym (h.now runs)) j.running.lowest;
     }
 
 pub theorem_gives_decisions : TheoremGivesDecisions
@@ -42,7 +42,7 @@ shared : (p : Past) (v : NodeView) → Flows p v → IsPermutation v.ledger.deci
 shared p v f =
     let onway : List Decision = decisions_on (v.decided ++ option_to_list v.slot_hand) in
     let all : v.ledger.decisions ≡ decisions_on f.applied ++ onway =
-    f.journal.known.decided ∙ sym (decisions_sent v.config.peers v.ledger.journal) ∙ ap decisions_on (sym f.journal.onwards_are) ∙ ap decisions_on f.decided ∙ flat_map-append decision_on f.applied (v.decided ++ option_to_list v.slot_hand) in
+    sym f.journal.decided ∙ ap decisions_on f.decided ∙ flat_map-append decision_on f.applied (v.decided ++ option_to_list v.slot_hand) in
     rw (all, ← append_assoc v.applier.applied v.applier.buffer onway) (IsPermutation-append (decisions_on f.applied) (v.applier.applied ++ v.applier.buffer) onway onway f.applier.shared_out (IsPermutation-refl onway))
 
 in_decisions : (p : Past) (v : NodeView) → Flows p v → All (Contains v.ledger.decisions) v.applier.applied

@@ -11,8 +11,8 @@ use Rattle.scp_pending.specs.Rules.{PendingView}
 use Rattle.scp_pending.specs.Pends.{Pends, IsSettled}
 use Rattle.scp_core.specs.History.{peer_at}
 use Rattle.scp_core.specs.Node.{LinkView, NodeView, with_link, Step, Fails, life_of, IsIdle}
-use Rattle.scp_ledger.specs.Ledger.{LedgerView}
-use Rattle.scp_ledger.specs.Takes.{Takes, adds_entry}
+use Rattle.scp_ledger.specs.Takes.{adds_entry}
+use Rattle.scp_core.specs.Stages.{KvLedger, KvTakes}
 use Rattle.scp_core.specs.inside.Decider.{DeciderView, Decides, Keeps}
 use Rattle.scp_core.specs.inside.Links.{Opens, Sends, Closes, Reads, Gives, OnLinks, Puts}
 
@@ -88,7 +88,7 @@ read-at : (v : NodeView) (l : ℕ) (reply : Reply) (links : List LinkView) (k k2
 read-at v l Blocked links k k2 r there d is = (r, (k, there, d.0), same v l k k2 links there d.1 is)
 read-at v l Idle links k k2 r there d is = (r, (k, there, (d.0, d.1)), same v l k k2 links there d.2 is)
 read-at v l Moved links k k2 r there d is = (r, (k, there, (d.0, d.1, d.2, d.3, here v l k2 _ links d.4 is)))
-read-at v l NoMemory links k k2 r there d is = (record { was = r; failed = refl; keeps = record { config = refl; journal = refl; decisions = refl; applied = refl; lives = ap (map life_of) is ∙ lives_same v.links l k k2 there d.2 } }, (k, there, (d.0, d.1)))
+read-at v l NoMemory links k k2 r there d is = (record { was = r; failed = refl; keeps = record { config = refl; journal = refl; decisions = refl; asked = refl; applied = refl; lives = ap (map life_of) is ∙ lives_same v.links l k k2 there d.2 } }, (k, there, (d.0, d.1)))
 read-at v l reply links k k2 r there d is = absurd d
 
 pub read-step : (v : NodeView) (l : ℕ) (reply : Reply) (links : List LinkView) → v.failed ≡ false → OnLinks Reads v.links l reply links → Step v (ReaderTake l) reply (failing (with_links v links) reply)
@@ -151,6 +151,7 @@ slot-fails v w d d2 rest e is runs k = record {
     config = ap (λ (u : NodeView). u.config) is;
     journal = ap (λ (u : NodeView). u.ledger.journal) is ∙ k.journal ∙ sym (ap (λ (u : NodeView). u.ledger.journal) e);
     decisions = ap (λ (u : NodeView). u.ledger.decisions) is ∙ k.decisions ∙ sym (ap (λ (u : NodeView). u.ledger.decisions) e);
+    asked = ap (λ (u : NodeView). u.ledger.asked) is ∙ k.asked ∙ sym (ap (λ (u : NodeView). u.ledger.asked) e);
     applied = ap (λ (u : NodeView). u.applier.applied) is ∙ k.applied ∙ sym (ap (λ (u : NodeView). u.applier.applied) e);
     lives = ap (λ (u : NodeView). map life_of u.links) is;
   };
@@ -167,9 +168,10 @@ slot-step v w d d2 x rest Moved e is runs empty q h = (
       ready = q;
       after' = d2.ledger;
       took = h.0;
-      takes = subst (λ (l : LedgerView). Takes l x h.0 d2.ledger) (sym (ap (λ (u : NodeView). u.ledger) e)) h.1;
+      takes = subst (λ (l : KvLedger). KvTakes l x h.0 d2.ledger) (sym (ap (λ (u : NodeView). u.ledger) e)) h.1;
       known = h.2;
-      is = is ∙ ap (with_decider (record v { ready = rest })) h.3 ∙ ap (λ (u : NodeView). record u { ready = rest; ledger = d2.ledger; slot_hand = h.0.onward }) (sym e);
+      running = h.3;
+      is = is ∙ ap (with_decider (record v { ready = rest })) h.4 ∙ ap (λ (u : NodeView). record u { ready = rest; ledger = d2.ledger; slot_hand = h.0.onward }) (sym e);
     },
   ),
 )

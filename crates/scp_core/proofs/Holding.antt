@@ -22,7 +22,7 @@ accepts-config : (old new : NodeView) (event : Event) → Accepts old event new 
 accepts-config old new (Open l) a = same-view old new _ refl a.2.3
 accepts-config old new (Send l bytes) a = same-view old new _ refl a.2.2
 accepts-config old new (Close l) a = same-view old new _ refl a.2.2
-accepts-config old new (Local command) a = same-view old new _ refl a.1
+accepts-config old new (Local command) a = same-view old new _ refl a.2
 accepts-config old new event a = absurd a
 
 moves-config : (old new : NodeView) (event : Event) → Moves old event new → SameConfig old new
@@ -39,7 +39,7 @@ accepts-runs : (old new : NodeView) (event : Event) → Accepts old event new �
 accepts-runs old new (Open l) a = ap (λ (v : NodeView). v.failed) a.2.3
 accepts-runs old new (Send l bytes) a = ap (λ (v : NodeView). v.failed) a.2.2
 accepts-runs old new (Close l) a = ap (λ (v : NodeView). v.failed) a.2.2
-accepts-runs old new (Local command) a = ap (λ (v : NodeView). v.failed) a.1
+accepts-runs old new (Local command) a = ap (λ (v : NodeView). v.failed) a.2
 accepts-runs old new event a = absurd a
 
 past-runs : (c : Config) (p : Past) (event : Event) → (accepts c p event).failed ≡ p.failed
@@ -59,7 +59,7 @@ past-goes p ApplyTake = refl
 past-goes p event = refl
 
 keeps-refl : (v : NodeView) → Keeps v v
-keeps-refl v = record { config = refl; journal = refl; decisions = refl; applied = refl; lives = refl }
+keeps-refl v = record { config = refl; journal = refl; decisions = refl; asked = refl; applied = refl; lives = refl }
 
 fold-push : {A B : Type 0} (f : B → A → B) (a : B) (xs : List A) (x : A) → fold f a (xs ++ x ∷ []) ≡ f (fold f a xs) x
 fold-push f a [] x = refl
@@ -78,6 +78,7 @@ build past old new event reply same h r failed moment flows now keeps =
     let more : past_of old.config (past ++ (event, reply) ∷ []) ≡ hears old.config (past_of old.config past) event reply = fold-push (λ q y. hears old.config q y.0 y.1) nothing_heard past (event, reply) in
     record {
       first = h.first;
+      made = h.made;
       replies = subst (λ (c : Config). AreSteps c nothing_heard h.first (past ++ (event, reply) ∷ []) new) (sym same) (steps-push old.config nothing_heard h.first past (event, reply) old new h.replies r);
       failed = rw same (failed ∙ sym (ap (λ (q : Past). q.failed) more));
       moment = moment;

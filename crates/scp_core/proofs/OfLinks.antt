@@ -11,7 +11,7 @@ use Rattle.scp_wire.specs.declared.carried.Carried.{Carried}
 use Rattle.scp_wire.specs.declared.side.SideMessage.{SideMessage}
 use Rattle.scp_wire.specs.declared.side.SideMessage.TheVariants.{GetSet, Set, NoSet}
 use Rattle.scp_wire.specs.declared.link.Cause.TheVariants.{ParkedFull}
-use Rattle.scp_wire.specs.declared.link.Command.TheVariants.{Tick}
+use Rattle.scp_wire.specs.declared.link.Command.TheVariants.{Propose, Round, Timer, Tick, Ask}
 use Rattle.scp_wire.specs.declared.link.Inbound.{Inbound}
 use Rattle.scp_wire.specs.declared.link.Inbound.TheVariants as inbound
 use Rattle.scp_wire.specs.Connections.{same_node, same_conn}
@@ -149,6 +149,10 @@ released P s (inbound.Closed d cause) a = by_test (is_open d s.queues) refl
     by_test true o = (let k = open_conn P d s.queues o a in all_end P d ByClose (parked_of d s.queues) (ready.Closed d cause ∷ []) k (k, tt))
     by_test false o = tt
 released P s (inbound.Local Tick) a = all_resolved P (is_given_up s.wanted) (lost_by GaveUp) (in_order_of (last_missed s.wanted) s.queues) (all_in_order (λ (q : QueueView). P q.conn) (last_missed s.wanted) s.queues a)
+released P s (inbound.Local (Propose slot value)) a = (tt, tt)
+released P s (inbound.Local (Round slot)) a = (tt, tt)
+released P s (inbound.Local (Timer slot)) a = (tt, tt)
+released P s (inbound.Local (Ask link slot)) a = (tt, tt)
 
 -- ---- along a list of items
 

@@ -89,7 +89,7 @@ starts v n = record {
 }
 
 pub new_holds : (v : NodeView) → IsNew v → LedgerTheorem [] v
-new_holds v n = record { first = v; replies = refl; failed = n.runs; moment = v; flows = starts v n; now = λ _. refl; keeps = record { config = refl; journal = refl; decisions = refl; applied = refl; lives = refl } }
+new_holds v n = record { first = v; made = n.made; replies = refl; failed = n.runs; moment = v; flows = starts v n; now = λ _. refl; keeps = record { config = refl; journal = refl; decisions = refl; asked = refl; applied = refl; lives = refl } }
 
 pub if_ok : {X Y : Type 0} (P Q : X → Type 0) (r : Result X Y) → ((x : X) → P x → Q x) → IfOk r P → IfOk r Q
 if_ok P Q (Ok x) f h = f x h

@@ -20,8 +20,7 @@ use Rattle.scp_pending.specs.Pends.{Pends}
 use Rattle.scp_pending.specs.Rules.{PendingView, taken_in}
 use Rattle.scp_pending.proofs.Sound.{local_step}
 use Rattle.scp_ledger.specs.declared.took.Took.{Took}
-use Rattle.scp_ledger.specs.Ledger.{LedgerView, IsLedger}
-use Rattle.scp_ledger.specs.Takes.{Takes}
+use Rattle.scp_ledger.specs.Ledger.{IsLedger}
 use Rattle.scp_wire.specs.declared.message.Message.{Message}
 use Rattle.scp_apply.specs.Applier.{ApplierView, IsApplier, IsRunning}
 use Rattle.scp_apply.specs.Applier.{Takes as ApplierTakes}
@@ -30,6 +29,7 @@ use Rattle.scp_core.specs.declared.event.Event.{Event}
 use Rattle.scp_core.specs.declared.event.Event.TheVariants.{Open, Send, Close, Local, ReaderTake, ReaderPut, PendTake, PendPut, SlotTake, SlotPut, ApplyTake}
 use Rattle.scp_core.proofs.Deciding.{journals_step, applies_step}
 use Rattle.scp_core.specs.History.{OnLink, Past, accepts, moves, tail_of, readings_of, changed, peer_at}
+use Rattle.scp_core.specs.Stages.{KvLedger, KvTakes, KvRuns}
 use Rattle.scp_core.specs.Node.{LinkView, NodeView, with_link, Accepts, Moves}
 use Rattle.scp_core.specs.Flow.{LinkFlows, Flows}
 use Rattle.scp_core.proofs.Queues.{way-fill, way-put, way-take, get_set, at_changed, peer_is, within, there_is}
@@ -206,7 +206,7 @@ pub Flows-accepts : (p : Past) (old new : NodeView) (event : Event) → Accepts 
 Flows-accepts p old new (Open l) a f = subst (λ (v : NodeView). Flows (accepts old.config p (Open l)) v) (sym a.2.3) (Flows-open p old l a.0 a.1 a.2.0 f)
 Flows-accepts p old new (Send l bytes) a f = subst (λ (v : NodeView). Flows (accepts old.config p (Send l bytes)) v) (sym a.2.2) (Flows-send p old l bytes a.0 a.1 a.2.0 f)
 Flows-accepts p old new (Close l) a f = subst (λ (v : NodeView). Flows (accepts old.config p (Close l)) v) (sym a.2.2) (Flows-close p old l a.0 a.1 a.2.0 f)
-Flows-accepts p old new (Local command) a f = subst (λ (v : NodeView). Flows (accepts old.config p (Local command)) v) (sym a.1) (Flows-local p old (inbound.Local command) (λ peer. refl) f)
+Flows-accepts p old new (Local command) a f = subst (λ (v : NodeView). Flows (accepts old.config p (Local command)) v) (sym a.2) (Flows-local p old (inbound.Local command) (λ peer. refl) f)
 Flows-accepts p old new event a f = absurd a
 
 -- ---- moves
@@ -338,8 +338,8 @@ Flows-pend-put p v x some f = record {
   decided_count = f.decided_count;
 }
 
-Flows-slot-take : (p : Past) (v : NodeView) (x : Ready) (rest : List Ready) (after' : LedgerView) (took : Took) → v.slot_hand ≡ None → v.ready ≡ x ∷ rest → Takes v.ledger x took after' → IsLedger after' → Flows p v → Flows (moves p SlotTake) (record v { ready = rest; ledger = after'; slot_hand = took.onward })
-Flows-slot-take p v x rest after' took empty queue takes known f = record {
+Flows-slot-take : (p : Past) (v : NodeView) (x : Ready) (rest : List Ready) (after' : KvLedger) (took : Took) → v.slot_hand ≡ None → v.ready ≡ x ∷ rest → KvTakes v.ledger x took after' → IsLedger after' → KvRuns after' → Flows p v → Flows (moves p SlotTake) (record v { ready = rest; ledger = after'; slot_hand = took.onward })
+Flows-slot-take p v x rest after' took empty queue takes known running f = record {
   runs = f.runs;
   rooms = f.rooms;
   count = f.count;
@@ -354,7 +354,7 @@ Flows-slot-take p v x rest after' took empty queue takes known f = record {
   took = f.took ++ x ∷ [];
   ready = way-take f.given f.took v.ready rest v.pend_hand x queue f.ready;
   onwards = f.onwards ++ option_to_list took.onward;
-  journal = journals_step v.config.me v.config.peers f.took f.onwards v.ledger x took after' takes known f.journal;
+  journal = journals_step v.config.me v.config.set v.config.peers f.took f.onwards v.ledger x took after' takes known running f.journal;
   applied = f.applied;
   decided = way-fill f.onwards f.applied v.decided v.slot_hand took.onward empty f.decided;
   applier = f.applier;
@@ -418,7 +418,7 @@ Flows-moves p old new PendTake a f = elim a.1 [
   | inr b ↦ subst (λ (v : NodeView). Flows p v) (sym b.is) (Flows-pend-take p old b.x b.rest b.between b.after' b.thing a.0 b.inbox b.rules b.same b.takes b.gives f)
 ]
 Flows-moves p old new PendPut a f = subst (λ (v : NodeView). Flows (moves p PendPut) v) (sym a.3) (Flows-pend-put p old a.1 a.2 f)
-Flows-moves p old new SlotTake a f = let b = a.1 in subst (λ (v : NodeView). Flows (moves p SlotTake) v) (sym b.is) (Flows-slot-take p old b.x b.rest b.after' b.took a.0 b.ready b.takes b.known f)
+Flows-moves p old new SlotTake a f = let b = a.1 in subst (λ (v : NodeView). Flows (moves p SlotTake) v) (sym b.is) (Flows-slot-take p old b.x b.rest b.after' b.took a.0 b.ready b.takes b.known b.running f)
 Flows-moves p old new SlotPut a f = subst (λ (v : NodeView). Flows (moves p SlotPut) v) (sym a.3) (Flows-slot-put p old a.1 a.2 f)
 Flows-moves p old new ApplyTake b f = subst (λ (v : NodeView). Flows (moves p ApplyTake) v) (sym b.is) (Flows-apply-take p old b.x b.rest b.after' b.answer b.decided b.takes b.known b.running f)
 Flows-moves p old new event a f = absurd a

@@ -1,9 +1,11 @@
 -- Each fate has its cause among what came, and each local command is given once, in order.
-use Rattle.std.specs.Prelude.{ℕ, ◌≡◌, false, List, [], ◌∷◌, ◌++◌, Some, length, slice_get, option_map, flat_map, option_to_list, map}
+use Rattle.std.specs.Prelude.{ℕ, ◌≡◌, true, false, Contains, List, [], ◌∷◌, ◌++◌, Some, length, slice_get, option_map, flat_map, option_to_list, map}
 use Rattle.std.specs.List.{AllByRecursion}
 use Rattle.scp_types.specs.declared.names.NodeId.{NodeId}
 use Rattle.scp_types.specs.declared.names.ConnId.{ConnId}
+use Rattle.scp_wire.specs.declared.link.Command.TheVariants.{Ask}
 use Rattle.scp_wire.specs.declared.link.Inbound.{Inbound}
+use Rattle.scp_wire.specs.declared.link.Inbound.TheVariants as inbound
 use Rattle.scp_wire.specs.Connections.{conn_at, same_conn}
 use Rattle.scp_wire.specs.Marks.{one_if}
 use Rattle.scp_pending.specs.declared.ready.Ready.{Ready}
@@ -13,8 +15,10 @@ use Rattle.scp_pending.specs.Rules.{Settled, settled_by}
 use Rattle.scp_pending.specs.Causes.{IsTaken, HasCause}
 use Rattle.scp_pending.specs.Endings.{Way, went, over, way_by, ways, Exits, IsCutOff, commands_in, commands_of}
 use Rattle.scp_pending.specs.Laws.{AreFrom}
+use Rattle.scp_ledger.specs.declared.journal.Asking.{Asking}
 use Rattle.scp_ledger.specs.declared.journal.Fate.{Fate}
 use Rattle.scp_ledger.specs.declared.journal.Fate.TheVariants.{Taken, Dropped, Closed}
+use Rattle.scp_ledger.specs.Seen.{is_asked}
 use Rattle.scp_core.specs.History.{Exchange, past_of}
 use Rattle.scp_core.specs.Stages.{entry_in, entry_of}
 use Rattle.scp_core.specs.Node.{NodeView}
@@ -56,6 +60,8 @@ pub record HaveCauses (past : List Exchange) (v : NodeView) : Type 0 where
   pub took : List Ready
   pub took_is : map entry_in v.ledger.journal ≡ flat_map entry_of took
   pub commands : commands_of (took ++ on_way) ≡ commands_in taken
+  -- each link that was asked for a slot has its Ask there
+  pub asked : (a : Asking) → is_asked v.ledger.asked a ≡ true → Contains taken (inbound.Local (Ask a.link a.slot))
   -- while the node runs, what waits is the inbox, and what is on its way is there
   pub now : v.failed ≡ false → (waiting ≡ v.inbox) × (on_way ≡ on_way_of v)
 

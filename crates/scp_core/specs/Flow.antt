@@ -47,7 +47,7 @@ pub record Flows (p : Past) (v : NodeView) : Type 0 where
   pub took : List Ready
   pub ready : IsOnWay given took v.ready v.pend_hand
   pub onwards : List Onward
-  pub journal : Journals v.config.me v.config.peers took onwards v.ledger
+  pub journal : Journals v.config.me v.config.set v.config.peers took onwards v.ledger
   pub applied : List Onward
   pub decided : IsOnWay onwards applied v.decided v.slot_hand
   pub applier : Applies applied v.applier

@@ -5,6 +5,8 @@ use Rattle.scp_wire.specs.declared.message.Message.{Message}
 use Rattle.scp_wire.specs.declared.link.LinkItem.{LinkItem}
 use Rattle.scp_wire.specs.declared.link.LinkItem.TheVariants as item
 use Rattle.scp_wire.specs.declared.link.Inbound.{Inbound}
+use Rattle.scp_wire.specs.declared.link.Command.{Command}
+use Rattle.scp_wire.specs.declared.link.Command.TheVariants.{Ask}
 use Rattle.scp_wire.specs.declared.link.Inbound.TheVariants as inbound
 use Rattle.scp_wire.specs.LinkReading.{ReaderView, unread, reading, after}
 use Rattle.scp_wire.specs.Connections.{conn_at}
@@ -14,8 +16,8 @@ use Rattle.scp_pending.specs.Rules.{PendingView, taken_in}
 use Rattle.scp_pending.specs.Pends.{Pends, IsSettled}
 use Rattle.scp_ledger.specs.declared.took.Onward.{Onward}
 use Rattle.scp_ledger.specs.declared.took.Took.{Took}
-use Rattle.scp_ledger.specs.Ledger.{LedgerView, IsLedger}
-use Rattle.scp_ledger.specs.Takes.{Takes, adds_entry}
+use Rattle.scp_ledger.specs.Ledger.{IsLedger}
+use Rattle.scp_ledger.specs.Takes.{adds_entry}
 use Rattle.scp_apply.specs.Applier.{ApplierView, IsApplier, IsRunning}
 use Rattle.scp_apply.specs.Applier.{Takes as Applies}
 use Rattle.scp_core.specs.declared.config.Config.{Config}
@@ -24,6 +26,7 @@ use Rattle.scp_core.specs.declared.event.Event.TheVariants.{Open, Send, Close, L
 use Rattle.scp_core.specs.declared.event.Reply.{Reply}
 use Rattle.scp_core.specs.declared.event.Reply.TheVariants.{Failed, NoLink, AlreadyOpen, LivesSpent, NotOpen, Full, Accepted, Blocked, Idle, Moved, JournalFull, NoMemory}
 use Rattle.scp_core.specs.History.{peer_at}
+use Rattle.scp_core.specs.Stages.{KvLedger, KvTakes, KvRuns}
 
 pub record LinkView : Type 0 where
   pub life : ℕ
@@ -47,7 +50,7 @@ pub record NodeView : Type 0 where
   pub pend_hand : Option Ready
   pub ready : List Ready
   pub ready_room : ℕ
-  pub ledger : LedgerView
+  pub ledger : KvLedger
   pub slot_hand : Option Onward
   pub decided : List Onward
   pub decided_room : ℕ
@@ -64,12 +67,17 @@ is_full k = length k.queue ≡ k.room
 abbrev pub with_link : NodeView → ℕ → LinkView → NodeView
 with_link v l k = record v { links = slice_set v.links l k }
 
+-- the link that a command names is there
+abbrev pub HasLink : NodeView → Command → Type 0
+HasLink v (Ask link at) = IsSome (slice_get v.links link)
+HasLink v command = Unit {0}
+
 -- an accepted event
 abbrev pub Accepts : NodeView → Event → NodeView → Type 0
 Accepts old (Open l) new = AtLink old l (λ k. (k.is_open ≡ false) × (k.life < 65535) × (length k.queue ≢ k.room) × (new ≡ with_link old l (record k { life = k.life + 1; is_open = true; queue = k.queue ++ item.Opened (conn_at (peer_at old.config l) old.config.me (k.life + 1)) ∷ [] })))
 Accepts old (Send l bytes) new = AtLink old l (λ k. (k.is_open ≡ true) × (length k.queue ≢ k.room) × (new ≡ with_link old l (record k { queue = k.queue ++ item.Bytes (conn_at (peer_at old.config l) old.config.me k.life) bytes ∷ [] })))
 Accepts old (Close l) new = AtLink old l (λ k. (k.is_open ≡ true) × (length k.queue ≢ k.room) × (new ≡ with_link old l (record k { is_open = false; queue = k.queue ++ item.Closed (conn_at (peer_at old.config l) old.config.me k.life) ∷ [] })))
-Accepts old (Local command) new = (length old.inbox ≢ old.inbox_room) × (new ≡ record old { inbox = old.inbox ++ inbound.Local command ∷ [] })
+Accepts old (Local command) new = HasLink old command × (length old.inbox ≢ old.inbox_room) × (new ≡ record old { inbox = old.inbox ++ inbound.Local command ∷ [] })
 Accepts old event new = ⊥
 
 -- nothing is ready, and what the pending stage holds waits rightly
@@ -103,10 +111,11 @@ pub record SlotTakes (old new : NodeView) : Type 0 where
   pub x : Ready
   pub rest : List Ready
   pub ready : old.ready ≡ x ∷ rest
-  pub after' : LedgerView
+  pub after' : KvLedger
   pub took : Took
-  pub takes : Takes old.ledger x took after'
+  pub takes : KvTakes old.ledger x took after'
   pub known : IsLedger after'
+  pub running : KvRuns after'
   pub is : new ≡ record old { ready = rest; ledger = after'; slot_hand = took.onward }
 
 pub record ApplyTakes (old new : NodeView) : Type 0 where
@@ -138,6 +147,7 @@ NamesNoLink v (Send l bytes) = slice_get v.links l ≡ None
 NamesNoLink v (Close l) = slice_get v.links l ≡ None
 NamesNoLink v (ReaderTake l) = slice_get v.links l ≡ None
 NamesNoLink v (ReaderPut l) = slice_get v.links l ≡ None
+NamesNoLink v (Local command) = ¬ (HasLink v command)
 NamesNoLink v event = ⊥
 
 -- why an event does nothing
@@ -150,7 +160,7 @@ Refuses v (Send l bytes) NotOpen = AtLink v l (λ k. k.is_open ≡ false)
 Refuses v (Send l bytes) Full = AtLink v l (λ k. (k.is_open ≡ true) × is_full k)
 Refuses v (Close l) NotOpen = AtLink v l (λ k. k.is_open ≡ false)
 Refuses v (Close l) Full = AtLink v l (λ k. (k.is_open ≡ true) × is_full k)
-Refuses v (Local command) Full = length v.inbox ≡ v.inbox_room
+Refuses v (Local command) Full = HasLink v command × (length v.inbox ≡ v.inbox_room)
 Refuses v (ReaderTake l) Blocked = AtLink v l (λ k. IsSome k.hand)
 Refuses v (ReaderTake l) Idle = AtLink v l (λ k. (k.hand ≡ None) × (k.queue ≡ []))
 Refuses v (ReaderPut l) Idle = AtLink v l (λ k. k.hand ≡ None)
@@ -174,6 +184,7 @@ pub record Keeps (old new : NodeView) : Type 0 where
   pub config : new.config ≡ old.config
   pub journal : new.ledger.journal ≡ old.ledger.journal
   pub decisions : new.ledger.decisions ≡ old.ledger.decisions
+  pub asked : new.ledger.asked ≡ old.ledger.asked
   pub applied : new.applier.applied ≡ old.applier.applied
   pub lives : map life_of new.links ≡ map life_of old.links
 

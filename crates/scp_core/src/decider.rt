@@ -6,22 +6,26 @@ ghost use Rattle.scp_apply.specs.Applier.{CanTake, Takes, IsApplier, IsRunning};
 ghost use Rattle.scp_core.specs.inside.Decider.{new_decider, Decides, Applies, PutsOn, fail as failed_now};
 
 use crate::event::Reply;
+use crate::given_up::give_up;
 use crate::queue;
 use circular_buffer::HeapCircularBuffer;
 use scp_apply::{Applier, the_next_decision_can_be_taken};
+use scp_driver::KvDriver;
 use scp_kv::KvState;
 use scp_ledger::{Fate, Ledger, Onward, SharedDecision};
 use scp_pending::Ready;
+use scp_quorum::SaneSet;
 use scp_types::{Fault, NodeId};
 use std::alloc::Global;
 use std::marker::Model;
+use std::sync::Arc;
 
 /// What decides and applies. While it hasn't failed, what the ledger decided was taken by the applier, waits in the queue,
 /// or is in the slot stage's hand: so the applier can take what is next.
 #[derive(Drop)]
 pub struct Decider {
     failed: bool,
-    ledger: Ledger,
+    ledger: Ledger<KvDriver>,
     hand: Option<Onward>,
     queue: HeapCircularBuffer<Onward>,
     applier: Applier,
@@ -34,11 +38,13 @@ impl Model for Decider {
     ghost use Rattle.std.specs.Coded.{codes, coded_ℕ, coded_list};
     ghost use Rattle.scp_xdr.specs.TreeModel.{coded_row};
     ghost use Rattle.scp_quorum.specs.QuorumTree.{coded_level};
+    ghost use Rattle.scp_driver.specs.contracts.kv_driver.KvDriver as driver;
+    ghost use Rattle.scp_ledger.specs.Coding.{machine_code};
     ghost use Rattle.scp_core.specs.inside.Decider.{DeciderView, IsWell};
 
     ghost Value = { DeciderView };
 
-    ghost coded = { Prim.hlevel (codes, coded_row coded_level, map.code {R = slice_cmp nat_cmp} (coded_list coded_ℕ) (coded_list coded_ℕ)) };
+    ghost coded = { Prim.hlevel (codes, machine_code driver.the_row.coded, coded_row coded_level, map.code {R = slice_cmp nat_cmp} (coded_list coded_ℕ) (coded_list coded_ℕ)) };
 
     ghost view = { λ a. record { failed = a.failed; ledger = a.ledger; hand = a.hand; queue = a.queue.items; room = a.queue.capacity; applier = a.applier } };
 
@@ -47,14 +53,20 @@ impl Model for Decider {
 
 impl Decider {
     /// One that took nothing.
-    pub fn new(alloc: Global, me: NodeId, peers: Vec<NodeId>, room: usize) -> Result<Decider, Fault>
+    pub fn new(
+        alloc: Global,
+        me: NodeId,
+        set: Arc<SaneSet>,
+        peers: Vec<NodeId>,
+        room: usize,
+    ) -> Result<Decider, Fault>
         requires few { length peers.items ≤ 255 }
-        ensures new { IfOk result (λ d. d ≡ new_decider me peers.items room) }
+        ensures new { IfOk result (λ d. d ≡ new_decider me set.value peers.items room) }
         ensures only_memory { IsOkUnless result Fault.NoMemory }
     {
         Ok(Decider {
             failed: false,
-            ledger: Ledger::new(alloc, me, peers),
+            ledger: Ledger::new(alloc, me, set, KvDriver, peers),
             hand: None,
             queue: HeapCircularBuffer::with_capacity(alloc, room)?,
             applier: Applier::new(alloc),
@@ -109,7 +121,7 @@ impl Decider {
         self.failed = true;
     }
 
-    /// The slot stage takes a ready thing.
+    /// The slot stage takes a ready thing. What goes out to peers is given up.
     pub fn take(&mut self, ready: Ready) -> Reply
         requires runs { self.old.failed ≡ false }
         requires empty { self.old.hand ≡ None }
@@ -117,6 +129,7 @@ impl Decider {
     {
         match self.ledger.take(ready) {
             Ok(took) => {
+                give_up(took.outgoing);
                 self.hand = took.onward;
                 Reply::Moved
             }
@@ -173,6 +186,6 @@ fn take_in(applier: &mut Applier, onward: Onward) -> Result<(), Fault>
     ensures running { applier.new.failed ≡ false → IsRunning applier.new }
     ensures read { OnErr result (applier.new.applied ≡ applier.old.applied) }
 {
-    let _message = applier.take(onward)?;
+    give_up(applier.take(onward)?);
     Ok(())
 }

@@ -33,7 +33,7 @@ pub enum Event {
 }
 
 impl Event {
-    /// An event that equals this one. It copies a send's bytes; the one refusal is `Fault::NoMemory`.
+    /// An event that equals this one. It copies a send's bytes and a proposal's value; the one refusal is `Fault::NoMemory`.
     pub fn copy(&self) -> Result<Event, Fault>
         ensures same { IfOk result (λ copied. copied ≡ self.now) }
         ensures only_memory { IsOkUnless result Fault.NoMemory }
@@ -42,7 +42,7 @@ impl Event {
             Event::Open(link) => Event::Open(*link),
             Event::Send(link, bytes) => Event::Send(*link, bytes.copy()?),
             Event::Close(link) => Event::Close(*link),
-            Event::Local(command) => Event::Local(*command),
+            Event::Local(command) => Event::Local(command.copy()?),
             Event::ReaderTake(link) => Event::ReaderTake(*link),
             Event::ReaderPut(link) => Event::ReaderPut(*link),
             Event::PendTake => Event::PendTake,

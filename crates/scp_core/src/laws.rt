@@ -18,8 +18,9 @@ pub fn each_message_has_its_fate()
     ensures fates { TheoremGivesFates }
 {}
 
-/// The decisions are those that the entries make, at most one a slot, and every verdict is the first that fits.
-pub fn each_decision_is_named_by_its_entry()
+/// At most one decision per slot, each with its certificate over the journal, or with the taken record of a link that was asked
+/// for the slot; and each entry with the verdict Decided has its decision.
+pub fn each_decision_has_its_ground()
     ensures decisions { TheoremGivesDecisions }
 {}
 

@@ -8,13 +8,14 @@ ghost use Rattle.scp_pending.specs.Rules.{taken_in};
 ghost use Rattle.scp_pending.specs.Line.{count_held};
 ghost use Rattle.scp_core.specs.Config.{IsConfig, IsFit};
 ghost use Rattle.scp_core.specs.History.{peer_at, Exchange};
-ghost use Rattle.scp_core.specs.Node.{Step, Keeps, lives_at, room_at};
+ghost use Rattle.scp_core.specs.Node.{Step, Keeps, HasLink, lives_at, room_at};
 ghost use Rattle.scp_core.specs.Theorem.{LedgerTheorem};
 ghost use Rattle.scp_core.specs.inside.Starting.{IsNew};
 
 use crate::config::{Capacities, Config, Peers, are_peers_apart, has_peer};
 use crate::decider::Decider;
 use crate::event::{Event, Reply};
+use crate::given_up::give_up;
 use crate::link::{self, Link};
 use crate::queue;
 use circular_buffer::HeapCircularBuffer;
@@ -55,8 +56,10 @@ impl Model for Node {
     ghost use Rattle.std.specs.Coded.{codes, coded_ℕ, coded_list};
     ghost use Rattle.scp_xdr.specs.TreeModel.{coded_row};
     ghost use Rattle.scp_quorum.specs.QuorumTree.{coded_level};
+    ghost use Rattle.scp_driver.specs.contracts.kv_driver.KvDriver as driver;
+    ghost use Rattle.scp_ledger.specs.Coding.{machine_code};
 
-    ghost coded = { Prim.hlevel (codes, coded_row coded_level, map.code {R = slice_cmp nat_cmp} (coded_list coded_ℕ) (coded_list coded_ℕ)) };
+    ghost coded = { Prim.hlevel (codes, machine_code driver.the_row.coded, coded_row coded_level, map.code {R = slice_cmp nat_cmp} (coded_list coded_ℕ) (coded_list coded_ℕ)) };
 
     ghost view = { λ a. record {
       config = record { me = a.me; set = a.set.value; peers = a.peers; capacities = a.capacities };
@@ -124,9 +127,15 @@ impl Node {
         let inbox = HeapCircularBuffer::with_capacity(alloc, capacities.inbox as usize)?;
         let ready = HeapCircularBuffer::with_capacity(alloc, capacities.ready as usize)?;
         let ledger_peers = Vec::from_slice(alloc, peers.as_slice())?;
-        let decider = Decider::new(alloc, me, ledger_peers, capacities.decided as usize)?;
-        let pending_peers = Vec::from_slice(alloc, peers.as_slice())?;
         let set = Arc::new(alloc, set)?;
+        let decider = Decider::new(
+            alloc,
+            me,
+            Arc::try_clone(&set)?,
+            ledger_peers,
+            capacities.decided as usize,
+        )?;
+        let pending_peers = Vec::from_slice(alloc, peers.as_slice())?;
         let pending = Pending::new(alloc, me, pending_peers, Arc::try_clone(&set)?);
         Ok(Node {
             alloc,
@@ -205,11 +214,13 @@ impl Node {
     /// stage what `Ledger::take`, and one of the applier what `Applier::take` costs; all else is constant. Only the takes of
     /// the reader, the pending stage, the slot stage and the applier can lack memory.
     pub fn step(&mut self, event: Event) -> Reply
+        // What the event does to this node, by the table of replies.
+        ensures step { Step self.old event result self.new }
         // What holds of every list of events, their replies and the node.
         ensures theorem { (past : List Exchange) → LedgerTheorem past self.old → LedgerTheorem (past ++ (event, result) ∷ []) self.new }
         // A refusal leaves the node as it was.
         ensures same { result ≢ Reply.Accepted → result ≢ Reply.Moved → result ≢ Reply.JournalFull → result ≢ Reply.NoMemory → self.new ≡ self.old }
-        // A node that fails keeps its journal, its decisions, what is applied, and how often each link was opened.
+        // A node that fails keeps its journal, its decisions and whom it asked, what is applied, and how often each link was opened.
         ensures kept { (result ≡ Reply.NoMemory) ⊎ (result ≡ Reply.JournalFull) → Keeps self.old self.new }
         ensures fails { (result ≡ Reply.NoMemory) ⊎ (result ≡ Reply.JournalFull) → self.new.failed ≡ true }
         // A failed node answers so, and no other does.
@@ -276,10 +287,24 @@ impl Node {
         link::close(&mut self.links, link, from, self.me)
     }
 
+    /// Whether the link that a command names is there.
+    fn has_link(&self, command: &Command) -> bool
+        ensures there { result ≡ true → HasLink self.now command.now }
+        ensures none { result ≡ false → ¬ (HasLink self.now command.now) }
+    {
+        match command {
+            Command::Ask(link, _) => (*link as usize) < self.links.len(),
+            Command::Tick | Command::Propose(..) | Command::Round(_) | Command::Timer(_) => true,
+        }
+    }
+
     fn local(&mut self, command: Command) -> Reply
         requires { self.old.failed ≡ false }
         ensures { Step self.old (Event.Local command) result self.new }
     {
+        if !self.has_link(&command) {
+            return Reply::NoLink;
+        }
         if queue::is_full(&self.inbox) {
             return Reply::Full;
         }
@@ -393,7 +418,7 @@ fn take_in(pending: &mut Pending, item: Inbound) -> Result<(), Fault>
     ensures rules { OnOk result (pending.new ≡ taken_in pending.old item) }
     ensures passes { OnOk result ((me : NodeId) → (peers : List NodeId) → Passes (Pends me peers) (item ∷ []) [] pending.old pending.new) }
 {
-    let _message = pending.take(item)?;
+    give_up(pending.take(item)?);
     Ok(())
 }
 

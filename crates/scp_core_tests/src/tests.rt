@@ -4,9 +4,9 @@ use scp_core::{
     Bytes, Capacities, Cause, Command, Config, DropCause, Event, Fate, Node, Peers, Reply, Verdict,
     run,
 };
-use scp_envelope::{Envelope, Nominate, Pledges, Signature, Statement, ValueList};
+use scp_envelope::{Envelope, Externalize, Nominate, Pledges, Signature, Statement, ValueList};
 use scp_quorum::QuorumSet;
-use scp_types::{ConnId, Fault, Hash, NodeId, Slot, Value};
+use scp_types::{Ballot, ConnId, Fault, Hash, NodeId, Slot, Value};
 use scp_wire::{BoxedEnvelope, Message, encode};
 use std::alloc::Global;
 use std::process::Abort;
@@ -15,7 +15,7 @@ use std::test::*;
 mod refused;
 
 /// What happens at node 1, whose link 0 is from node 2. A quorum set goes by its number: 1 is the node's own, 2 of both nodes;
-/// 2 is 1 of node 2; and 0 isn't sane, 0 of node 2.
+/// 2 is 1 of node 2; 3 is the node alone; and 0 isn't sane, 0 of node 2.
 #[derive(Clone, Copy)]
 enum Act {
     Open(u8),
@@ -26,6 +26,14 @@ enum Act {
     /// A nomination of node 2 for slot 1 that names this set.
     Names(u8),
     Set(u8),
+    /// An EXTERNALIZE of node 2 for slot 1 that names the node's own set.
+    Externalizes,
+    /// A value is proposed for this slot.
+    Propose(u64),
+    /// Link 0 is asked for the record of this slot.
+    Ask(u64),
+    /// A link that isn't there is asked for a record.
+    AskNobody,
     Tick,
     ReaderTake(u8),
     ReaderPut(u8),
@@ -97,6 +105,7 @@ fn set(alloc: Global, number: u8) -> Result<QuorumSet, Fault> {
     Ok(match number {
         0 => QuorumSet::of_nodes(0, Vec::from_slice(alloc, &[PEER])?),
         1 => QuorumSet::of_nodes(2, Vec::from_slice(alloc, &[ME, PEER])?),
+        3 => QuorumSet::of_nodes(1, Vec::from_slice(alloc, &[ME])?),
         _ => QuorumSet::of_nodes(1, Vec::from_slice(alloc, &[PEER])?),
     })
 }
@@ -120,15 +129,13 @@ fn new_node(alloc: Global, capacities: Capacities) -> Result<Node, Fault> {
     Node::new(alloc, config(alloc, 1, &[PEER], capacities)?)
 }
 
-/// A nomination of node 2 for slot 1.
-fn nomination(alloc: Global, set_hash: Hash) -> Result<Message, Fault> {
-    let mut votes = Vec::new(alloc);
-    votes.push(Value::new(Vec::from_slice(alloc, &PUT_A)?))?;
-    let pledges = Pledges::Nominate(Nominate {
-        set_hash,
-        votes: ValueList::new(votes),
-        accepted: ValueList::new(Vec::new(alloc)),
-    });
+/// The value that puts a 1.
+fn value(alloc: Global) -> Result<Value, Fault> {
+    Ok(Value::new(Vec::from_slice(alloc, &PUT_A)?))
+}
+
+/// What node 2 says of slot 1.
+fn says(alloc: Global, pledges: Pledges) -> Result<Message, Fault> {
     let envelope = Envelope {
         statement: Statement {
             node: PEER,
@@ -138,6 +145,31 @@ fn nomination(alloc: Global, set_hash: Hash) -> Result<Message, Fault> {
         signature: Signature::new(Vec::new(alloc)),
     };
     Ok(Message::Envelope(BoxedEnvelope::new(alloc, envelope)?))
+}
+
+/// A nomination of node 2 for slot 1.
+fn nomination(alloc: Global, set_hash: Hash) -> Result<Message, Fault> {
+    let mut votes = Vec::new(alloc);
+    votes.push(value(alloc)?)?;
+    let nominate = Nominate {
+        set_hash,
+        votes: ValueList::new(votes),
+        accepted: ValueList::new(Vec::new(alloc)),
+    };
+    says(alloc, Pledges::Nominate(nominate))
+}
+
+/// An EXTERNALIZE of node 2 for slot 1.
+fn externalize(alloc: Global, set_hash: Hash) -> Result<Message, Fault> {
+    let externalize = Externalize {
+        commit: Ballot {
+            counter: 1,
+            value: value(alloc)?,
+        },
+        n_high: 1,
+        set_hash,
+    };
+    says(alloc, Pledges::Externalize(externalize))
 }
 
 /// The message is sent on link 0.
@@ -151,8 +183,7 @@ impl Act {
             Open(link) => Event::Open(link),
             Close(link) => Event::Close(link),
             Record(slot) => {
-                let value = Value::new(Vec::from_slice(alloc, &PUT_A)?);
-                return sends(alloc, &Message::Record(Slot(slot), value));
+                return sends(alloc, &Message::Record(Slot(slot), value(alloc)?));
             }
             GetRecord => return sends(alloc, &Message::GetRecord(Slot(1))),
             Names(number) => {
@@ -160,6 +191,13 @@ impl Act {
                 return sends(alloc, &nomination(alloc, hash)?);
             }
             Set(number) => return sends(alloc, &Message::Set(set(alloc, number)?)),
+            Externalizes => {
+                let hash = set(alloc, 1)?.hash()?;
+                return sends(alloc, &externalize(alloc, hash)?);
+            }
+            Propose(slot) => Event::Local(Command::Propose(Slot(slot), value(alloc)?)),
+            Ask(slot) => Event::Local(Command::Ask(0, Slot(slot))),
+            AskNobody => Event::Local(Command::Ask(1, Slot(1))),
             Tick => Event::Local(Command::Tick),
             ReaderTake(link) => Event::ReaderTake(link),
             ReaderPut(link) => Event::ReaderPut(link),
@@ -285,6 +323,7 @@ fn at_capacities_of_one(rt: HostRuntime) -> Result<(), Fail> {
             ONE,
             &[
                 (Open(1), Reply::NoLink),
+                (AskNobody, Reply::NoLink),
                 (Record(1), Reply::NotOpen),
                 (Close(0), Reply::NotOpen),
                 (ReaderTake(0), Reply::Idle),
@@ -301,6 +340,8 @@ fn at_capacities_of_one(rt: HostRuntime) -> Result<(), Fail> {
                 (ReaderTake(0), Reply::Moved),
                 (ReaderPut(0), Reply::Blocked),
                 (Tick, Reply::Full),
+                (Ask(1), Reply::Full),
+                (AskNobody, Reply::NoLink),
             ],
         )?
     );
@@ -326,7 +367,7 @@ fn a_hand_blocks_until_the_next_queue_has_room(rt: HostRuntime) -> Result<(), Fa
                 (PendTake, Reply::Moved),
                 (PendTake, Reply::Blocked),
                 (PendPut, Reply::Moved),
-                (Record(1), Reply::Accepted),
+                (GetRecord, Reply::Accepted),
                 (ReaderTake(0), Reply::Moved),
                 (ReaderPut(0), Reply::Moved),
                 (PendTake, Reply::Moved),

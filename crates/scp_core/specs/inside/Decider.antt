@@ -3,31 +3,32 @@ use Rattle.std.specs.Prelude.{ℕ, ◌≡◌, ◌≢◌, Bool, true, false, List
 use Rattle.std.specs.FinMap as map
 use Rattle.std.specs.List.Sorted.{IsPermutation}
 use Rattle.scp_types.specs.declared.names.NodeId.{NodeId}
+use Rattle.scp_quorum.specs.QuorumTree.{QuorumTree}
 use Rattle.scp_wire.specs.declared.message.Message.{Message}
 use Rattle.scp_pending.specs.declared.ready.Ready.{Ready}
 use Rattle.scp_ledger.specs.declared.journal.Decision.{Decision}
 use Rattle.scp_ledger.specs.declared.took.Onward.{Onward}
 use Rattle.scp_ledger.specs.declared.took.Took.{Took}
-use Rattle.scp_ledger.specs.Ledger.{LedgerView, IsLedger}
-use Rattle.scp_ledger.specs.Takes.{Takes, adds_entry}
+use Rattle.scp_ledger.specs.Ledger.{IsLedger}
+use Rattle.scp_ledger.specs.Takes.{adds_entry}
 use Rattle.scp_apply.specs.Applier.{ApplierView, IsApplier, IsRunning}
 use Rattle.scp_apply.specs.Applier.{Takes as ApplierTakes}
 use Rattle.scp_core.specs.declared.event.Reply.{Reply}
 use Rattle.scp_core.specs.declared.event.Reply.TheVariants.{Blocked, Idle, Moved, JournalFull, NoMemory}
-use Rattle.scp_core.specs.Stages.{decisions_on}
+use Rattle.scp_core.specs.Stages.{KvLedger, KvTakes, KvRuns, decisions_on}
 
 pub record DeciderView : Type 0 where
   pub failed : Bool
-  pub ledger : LedgerView
+  pub ledger : KvLedger
   pub hand : Option Onward
   pub queue : List Onward
   pub room : ℕ
   pub applier : ApplierView
 
-abbrev pub new_decider : NodeId → List NodeId → ℕ → DeciderView
-new_decider me peers room = record {
+abbrev pub new_decider : NodeId → QuorumTree → List NodeId → ℕ → DeciderView
+new_decider me local peers room = record {
   failed = false;
-  ledger = record { me = me; peers = peers; failed = false; journal = []; decisions = []; lowest = 1 };
+  ledger = record { me = me; local = local; driver = record {}; peers = peers; failed = false; journal = []; decisions = []; lowest = 1; asked = []; machines = [] };
   hand = None;
   queue = [];
   room = room;
@@ -42,6 +43,7 @@ pub record IsSound (v : DeciderView) : Type 0 where
   pub ledger_runs : v.ledger.failed ≡ false
   pub applier_runs : v.applier.failed ≡ false
   pub ledger : IsLedger v.ledger
+  pub deciding : KvRuns v.ledger
   pub applier : IsApplier v.applier
   pub running : IsRunning v.applier
   pub taken : List Decision
@@ -56,11 +58,12 @@ pub record Keeps (old new : DeciderView) : Type 0 where
   pub failed : new.failed ≡ true
   pub journal : new.ledger.journal ≡ old.ledger.journal
   pub decisions : new.ledger.decisions ≡ old.ledger.decisions
+  pub asked : new.ledger.asked ≡ old.ledger.asked
   pub applied : new.applier.applied ≡ old.applier.applied
 
 -- the slot stage takes a thing
 abbrev pub Decides : DeciderView → Ready → Reply → DeciderView → Type 0
-Decides old x Moved new = (took : Took) × Takes old.ledger x took new.ledger × IsLedger new.ledger × (new ≡ record old { ledger = new.ledger; hand = took.onward })
+Decides old x Moved new = (took : Took) × KvTakes old.ledger x took new.ledger × IsLedger new.ledger × KvRuns new.ledger × (new ≡ record old { ledger = new.ledger; hand = took.onward })
 Decides old x JournalFull new = (adds_entry x ≡ true) × (length old.ledger.journal ≡ 1000000) × Keeps old new
 Decides old x NoMemory new = (¬ ((adds_entry x ≡ true) × (length old.ledger.journal ≡ 1000000))) × Keeps old new
 Decides old x reply new = ⊥

@@ -5,12 +5,13 @@ use Rattle.scp_core.specs.declared.event.Event.{Event}
 use Rattle.scp_core.specs.declared.event.Reply.{Reply}
 use Rattle.scp_core.specs.Config.{IsFit}
 use Rattle.scp_core.specs.History.{Exchange}
-use Rattle.scp_core.specs.Theorem.{LedgerTheorem}
+use Rattle.scp_core.specs.Theorem.{LedgerTheorem, IsMade}
 use Rattle.scp_core.specs.Stages.{Journals, Applies}
 use Rattle.scp_core.specs.Node.{NodeView, new_link}
 
 pub record IsNew (v : NodeView) : Type 0 where
   pub fit : IsFit v.config.me v.config.peers v.config.capacities
+  pub made : IsMade v
   pub runs : v.failed ≡ false
   pub links : v.links ≡ replicate (length v.config.peers) (new_link v.config.capacities.link)
   pub inbox : (v.inbox ≡ []) × (v.inbox_room ≡ v.config.capacities.inbox)
@@ -19,7 +20,7 @@ pub record IsNew (v : NodeView) : Type 0 where
   pub hands : (v.pend_hand ≡ None) × (v.slot_hand ≡ None)
   pub local : v.pending.settled.store.local ≡ v.config.set
   pub pending : Pends v.config.me v.config.peers [] [] v.pending
-  pub ledger : Journals v.config.me v.config.peers [] [] v.ledger
+  pub ledger : Journals v.config.me v.config.set v.config.peers [] [] v.ledger
   pub applier : Applies [] v.applier
 
 -- one event more was played, and its reply was added
