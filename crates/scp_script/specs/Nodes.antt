@@ -6,7 +6,7 @@ use Rattle.scp_types.specs.declared.names.NodeId.{NodeId}
 use Rattle.scp_xdr.specs.Tree.{no_trees}
 use Rattle.scp_quorum.specs.QuorumTree.{QuorumTree}
 use Rattle.scp_script.specs.declared.command.Command.{Command}
-use Rattle.scp_script.specs.declared.command.Command.TheVariants.{Caps, Nodes, Set, Open, Close, Send, Tick, Ask, Settle, Report}
+use Rattle.scp_script.specs.declared.command.Command.TheVariants.{Caps, Nodes, Set, Open, Close, Send, Propose, Round, Timer, Tick, Ask, Settle, Report}
 use Rattle.scp_script.specs.declared.command.Capacities.{Capacities}
 
 -- a number from 1 to 8
@@ -21,6 +21,9 @@ NamesNodes (Set node set) = IsSmall node
 NamesNodes (Open from to) = IsSmall from × IsSmall to × (from ≢ to)
 NamesNodes (Close from to) = IsSmall from × IsSmall to × (from ≢ to)
 NamesNodes (Send from to bytes) = IsSmall from × IsSmall to × (from ≢ to)
+NamesNodes (Propose node slot value) = IsSmall node
+NamesNodes (Round node slot) = IsSmall node
+NamesNodes (Timer node slot) = IsSmall node
 NamesNodes (Tick node) = IsSmall node
 NamesNodes (Ask from to slot) = IsSmall from × IsSmall to × (from ≢ to)
 NamesNodes Settle = Unit {0}
@@ -51,6 +54,9 @@ set_given node (Set at set) = if nat_eq at node then set ∷ [] else []
 set_given node (Open from to) = []
 set_given node (Close from to) = []
 set_given node (Send from to bytes) = []
+set_given node (Propose at slot value) = []
+set_given node (Round at slot) = []
+set_given node (Timer at slot) = []
 set_given node (Tick at) = []
 set_given node (Ask from to slot) = []
 set_given node Settle = []
@@ -68,6 +74,9 @@ capacities_given (Set node set) = []
 capacities_given (Open from to) = []
 capacities_given (Close from to) = []
 capacities_given (Send from to bytes) = []
+capacities_given (Propose node slot value) = []
+capacities_given (Round node slot) = []
+capacities_given (Timer node slot) = []
 capacities_given (Tick node) = []
 capacities_given (Ask from to slot) = []
 capacities_given Settle = []
@@ -88,6 +97,9 @@ report_by (Set node set) = []
 report_by (Open from to) = []
 report_by (Close from to) = []
 report_by (Send from to bytes) = []
+report_by (Propose node slot value) = []
+report_by (Round node slot) = []
+report_by (Timer node slot) = []
 report_by (Tick node) = []
 report_by (Ask from to slot) = []
 report_by Settle = []

@@ -7,8 +7,8 @@ use Rattle.scp_types.specs.declared.fault.Fault.TheVariants.{NoMemory, BadScript
 use Rattle.scp_quorum.specs.QuorumTree.{QuorumTree}
 use Rattle.scp_quorum.specs.Sane.{IsSane}
 use Rattle.scp_script.specs.declared.command.Command.{Command}
-use Rattle.scp_script.specs.declared.command.Command.TheVariants.{Caps, Nodes, Set, Open, Close, Send, Tick, Ask, Settle, Report}
-use Rattle.scp_script.specs.Words.{lines_of, is_ascii, is_skipped, words_of, same, node_in, link_in, number_in, capacity_in, hex_bytes, set_in}
+use Rattle.scp_script.specs.declared.command.Command.TheVariants.{Caps, Nodes, Set, Open, Close, Send, Propose, Round, Timer, Tick, Ask, Settle, Report}
+use Rattle.scp_script.specs.Words.{lines_of, is_ascii, is_skipped, words_of, same, node_in, link_in, number_in, capacity_in, hex_bytes, value_in, set_in}
 
 -- ---- the command of a line
 
@@ -49,8 +49,24 @@ ask_by (Some link) (Some slot) = Some (Ask link.0 link.1 slot)
 ask_by (Some link) None = None
 ask_by None slot = None
 
--- `settle`; `tick I` and `report I`; `nodes N K`, `set I HEX`, `open I J` and `close I J`; `ask I J SLOT` and `send I J HEX`;
--- `caps A B C D`
+abbrev pub propose_by : Option ℕ → Option ℕ → Option (List ℕ) → Option Command
+propose_by (Some node) (Some slot) (Some value) = Some (Propose node slot value)
+propose_by (Some node) (Some slot) None = None
+propose_by (Some node) None value = None
+propose_by None slot value = None
+
+abbrev pub round_by : Option ℕ → Option ℕ → Option Command
+round_by (Some node) (Some slot) = Some (Round node slot)
+round_by (Some node) None = None
+round_by None slot = None
+
+abbrev pub timer_by : Option ℕ → Option ℕ → Option Command
+timer_by (Some node) (Some slot) = Some (Timer node slot)
+timer_by (Some node) None = None
+timer_by None slot = None
+
+-- `settle`; `tick I` and `report I`; `nodes N K`, `set I HEX`, `open I J`, `close I J`, `round I SLOT` and `timer I SLOT`;
+-- `ask I J SLOT`, `send I J HEX` and `propose I SLOT HEX`; `caps A B C D`
 abbrev pub command_in : List (List ℕ) → Option Command
 command_in [] = None
 command_in (verb ∷ []) = if same verb (codes "settle") then Some Settle else None
@@ -61,10 +77,13 @@ command_in (verb ∷ first ∷ second ∷ []) =
     if same verb (codes "nodes") then nodes_by (node_in first) (node_in second)
     else (if same verb (codes "set") then set_by (node_in first) (set_in (hex_bytes second))
     else (if same verb (codes "open") then open_by (link_in first second)
-    else (if same verb (codes "close") then close_by (link_in first second) else None)))
-command_in (verb ∷ from ∷ to ∷ word ∷ []) =
-    if same verb (codes "ask") then ask_by (link_in from to) (number_in word)
-    else (if same verb (codes "send") then send_by (link_in from to) (hex_bytes word) else None)
+    else (if same verb (codes "close") then close_by (link_in first second)
+    else (if same verb (codes "round") then round_by (node_in first) (number_in second)
+    else (if same verb (codes "timer") then timer_by (node_in first) (number_in second) else None)))))
+command_in (verb ∷ first ∷ second ∷ third ∷ []) =
+    if same verb (codes "ask") then ask_by (link_in first second) (number_in third)
+    else (if same verb (codes "send") then send_by (link_in first second) (hex_bytes third)
+    else (if same verb (codes "propose") then propose_by (node_in first) (number_in second) (value_in (hex_bytes third)) else None))
 command_in (verb ∷ link ∷ inbox ∷ ready ∷ decided ∷ []) =
     if same verb (codes "caps") then caps_by (capacity_in link) (capacity_in inbox) (capacity_in ready) (capacity_in decided) else None
 command_in (verb ∷ a ∷ b ∷ c ∷ d ∷ more ∷ words) = None
@@ -83,6 +102,9 @@ counted before (Set node set) = before
 counted before (Open from to) = before
 counted before (Close from to) = before
 counted before (Send from to bytes) = before
+counted before (Propose node slot value) = before
+counted before (Round node slot) = before
+counted before (Timer node slot) = before
 counted before (Tick node) = before
 counted before (Ask from to slot) = before
 counted before Settle = before
@@ -99,6 +121,9 @@ begins (Set node set) = false
 begins (Open from to) = true
 begins (Close from to) = true
 begins (Send from to bytes) = true
+begins (Propose node slot value) = true
+begins (Round node slot) = true
+begins (Timer node slot) = true
 begins (Tick node) = true
 begins (Ask from to slot) = true
 begins Settle = true
@@ -119,6 +144,9 @@ opens from to (Set node set) = false
 opens from to (Open from2 to2) = is_link from to from2 to2
 opens from to (Close from2 to2) = false
 opens from to (Send from2 to2 bytes) = false
+opens from to (Propose node slot value) = false
+opens from to (Round node slot) = false
+opens from to (Timer node slot) = false
 opens from to (Tick node) = false
 opens from to (Ask from2 to2 slot) = false
 opens from to Settle = false
@@ -132,6 +160,9 @@ closes from to (Set node set) = false
 closes from to (Open from2 to2) = false
 closes from to (Close from2 to2) = is_link from to from2 to2
 closes from to (Send from2 to2 bytes) = false
+closes from to (Propose node slot value) = false
+closes from to (Round node slot) = false
+closes from to (Timer node slot) = false
 closes from to (Tick node) = false
 closes from to (Ask from2 to2 slot) = false
 closes from to Settle = false
@@ -165,6 +196,9 @@ Admits before (Set node set) = IsNode node before × (has_begun before ≡ false
 Admits before (Open from to) = IsLink from to before × (is_open from to before ≡ false) × (lives from to before < 65535)
 Admits before (Close from to) = is_open from to before ≡ true
 Admits before (Send from to bytes) = is_open from to before ≡ true
+Admits before (Propose node slot value) = IsNode node before
+Admits before (Round node slot) = IsNode node before
+Admits before (Timer node slot) = IsNode node before
 Admits before (Tick node) = IsNode node before
 Admits before (Ask from to slot) = IsLink from to before
 Admits before Settle = 1 ≤ node_count before

@@ -1,5 +1,5 @@
 -- Lines, their words, and what single words say (this project's profile).
-use Rattle.std.specs.Prelude.{ℕ, true, ◌-◌, ◌^◌, ◌==◌, Bool, ◌&&◌, List, [], ◌∷◌, Option, Some, None, option_map, if◌then◌else◌, nat_eq, nat_lt, nat_le, codes}
+use Rattle.std.specs.Prelude.{ℕ, true, ◌-◌, ◌^◌, ◌==◌, Bool, ◌&&◌, List, [], ◌∷◌, Option, Some, None, option_map, if◌then◌else◌, length, nat_eq, nat_lt, nat_le, codes}
 use Rattle.std.specs.Result.{result_ok}
 use Rattle.std.specs.Cmp.Lexicographic.{pointwise}
 use Rattle.std.specs.Fmt.{decimal}
@@ -65,6 +65,11 @@ digits_bytes (digit ∷ digits) = result_ok (decode_of (digit ∷ digits))
 -- the bytes that a word of hexadecimal digits says, an even number of them, or none for a dash
 abbrev pub hex_bytes : List ℕ → Option (List ℕ)
 hex_bytes word = if same word (codes "-") then Some [] else digits_bytes word
+
+-- the value of these bytes, at most 4,096
+abbrev pub value_in : Option (List ℕ) → Option (List ℕ)
+value_in (Some bytes) = if nat_le (length bytes) 4096 then Some bytes else None
+value_in None = None
 
 -- the quorum set that bytes spell, all of the bytes
 abbrev pub set_in : Option (List ℕ) → Option QuorumTree

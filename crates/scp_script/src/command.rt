@@ -1,6 +1,7 @@
 //! What a line of a script says.
 
 use scp_quorum::QuorumSet;
+use scp_types::Value;
 use scp_wire::Bytes;
 
 /// How many items the queues of a node hold, each from 1 to 1,024.
@@ -32,9 +33,15 @@ pub enum Command {
     Close { from: u8, to: u8 },
     /// These bytes are sent on the open link.
     Send { from: u8, to: u8, bytes: Bytes },
+    /// A value of at most 4,096 bytes for the nomination of a slot at the node of this number.
+    Propose { node: u8, slot: u64, value: Value },
+    /// One more round of the slot's nomination at the node of this number.
+    Round { node: u8, slot: u64 },
+    /// The time of the slot's ballot has run out at the node of this number.
+    Timer { node: u8, slot: u64 },
     /// Time goes on at the node of this number.
     Tick(u8),
-    /// A node asks another for the record of a slot. It does nothing yet.
+    /// A node asks another for the record of a slot.
     Ask { from: u8, to: u8, slot: u64 },
     /// The nodes come to rest.
     Settle,

@@ -1,13 +1,13 @@
 //! The command that a line's words say.
 ghost use Rattle.std.specs.Prelude.{◌≡◌, ◌∷◌, [], IfOk, IfSome, IsOkUnless, map, option_map};
-ghost use Rattle.scp_script.specs.Words.{node_in, link_in, number_in, capacity_in, hex_bytes, set_in};
-ghost use Rattle.scp_script.specs.Script.{caps_by, nodes_by, set_by, open_by, close_by, send_by, ask_by, command_in};
+ghost use Rattle.scp_script.specs.Words.{node_in, link_in, number_in, capacity_in, hex_bytes, value_in, set_in};
+ghost use Rattle.scp_script.specs.Script.{caps_by, nodes_by, set_by, open_by, close_by, send_by, ask_by, propose_by, round_by, timer_by, command_in};
 ghost use Rattle.scp_script.specs.Nodes.{NamesNodes};
 ghost use Rattle.scp_script.specs.declared.command.Command.TheVariants.{Tick, Report};
 
 use crate::command::{Capacities, Command};
-use crate::words::{bytes_of, capacity, link, node, number, set_of};
-use scp_types::Fault;
+use crate::words::{bytes_of, capacity, link, node, number, set_of, value_of};
+use scp_types::{Fault, Value};
 use std::alloc::{AllocError, Global};
 
 /// A `tick` line.
@@ -139,6 +139,52 @@ fn send(alloc: Global, from: &str, to: &str, bytes: &str) -> Result<Option<Comma
     Ok(Some(Command::Send { from, to, bytes }))
 }
 
+/// A `propose` line.
+fn propose(alloc: Global, word: &str, slot: &str, digits: &str) -> Result<Option<Command>, Fault>
+    ensures found { IfOk result (λ found. found ≡ propose_by (node_in word.now) (number_in slot.now) (value_in (hex_bytes digits.now))) }
+    ensures nodes { IfOk result (λ found. IfSome found NamesNodes) }
+    ensures only_memory { IsOkUnless result Fault.NoMemory }
+{
+    let Some(node) = node(word) else {
+        return Ok(None);
+    };
+    let Some(slot) = number(alloc, slot)? else {
+        return Ok(None);
+    };
+    let Some(value) = value_of(alloc, digits)? else {
+        return Ok(None);
+    };
+    Ok(Some(Command::Propose { node, slot, value }))
+}
+
+/// A `round` line.
+fn round(alloc: Global, word: &str, slot: &str) -> Result<Option<Command>, AllocError>
+    ensures found { IfOk result (λ found. found ≡ round_by (node_in word.now) (number_in slot.now)) }
+    ensures nodes { IfOk result (λ found. IfSome found NamesNodes) }
+{
+    let Some(node) = node(word) else {
+        return Ok(None);
+    };
+    let Some(slot) = number(alloc, slot)? else {
+        return Ok(None);
+    };
+    Ok(Some(Command::Round { node, slot }))
+}
+
+/// A `timer` line.
+fn timer(alloc: Global, word: &str, slot: &str) -> Result<Option<Command>, AllocError>
+    ensures found { IfOk result (λ found. found ≡ timer_by (node_in word.now) (number_in slot.now)) }
+    ensures nodes { IfOk result (λ found. IfSome found NamesNodes) }
+{
+    let Some(node) = node(word) else {
+        return Ok(None);
+    };
+    let Some(slot) = number(alloc, slot)? else {
+        return Ok(None);
+    };
+    Ok(Some(Command::Timer { node, slot }))
+}
+
 /// The command of one word.
 fn of_one(verb: &str) -> Option<Command>
     ensures found { result ≡ command_in (verb.now ∷ []) }
@@ -174,6 +220,8 @@ fn of_three(alloc: Global, verb: &str, first: &str, second: &str) -> Result<Opti
         "set" => set(alloc, first, second),
         "open" => Ok(open(first, second)),
         "close" => Ok(close(first, second)),
+        "round" => Ok(round(alloc, first, second)?),
+        "timer" => Ok(timer(alloc, first, second)?),
         _ => Ok(None),
     }
 }
@@ -182,19 +230,22 @@ fn of_three(alloc: Global, verb: &str, first: &str, second: &str) -> Result<Opti
 fn of_four(
     alloc: Global,
     verb: &str,
-    from: &str,
-    to: &str,
-    word: &str,
+    first: &str,
+    second: &str,
+    third: &str,
 ) -> Result<Option<Command>, Fault>
-    ensures found { IfOk result (λ found. found ≡ command_in (verb.now ∷ from.now ∷ to.now ∷ word.now ∷ [])) }
+    ensures found { IfOk result (λ found. found ≡ command_in (verb.now ∷ first.now ∷ second.now ∷ third.now ∷ [])) }
     ensures nodes { IfOk result (λ found. IfSome found NamesNodes) }
     ensures only_memory { IsOkUnless result Fault.NoMemory }
 {
     if verb == "ask" {
-        return Ok(ask(alloc, from, to, word)?);
+        return Ok(ask(alloc, first, second, third)?);
     }
     if verb == "send" {
-        return send(alloc, from, to, word);
+        return send(alloc, first, second, third);
+    }
+    if verb == "propose" {
+        return propose(alloc, first, second, third);
     }
     Ok(None)
 }
@@ -228,7 +279,7 @@ pub fn command_from(alloc: Global, words: &[&str]) -> Result<Option<Command>, Fa
         [verb] => Ok(of_one(*verb)),
         [verb, node] => Ok(of_two(*verb, *node)),
         [verb, first, second] => of_three(alloc, *verb, *first, *second),
-        [verb, from, to, word] => of_four(alloc, *verb, *from, *to, *word),
+        [verb, first, second, third] => of_four(alloc, *verb, *first, *second, *third),
         [verb, link, inbox, ready, decided] => {
             of_five(alloc, *verb, *link, *inbox, *ready, *decided)
         }

@@ -73,7 +73,11 @@ impl Reading {
                 self.links.get(*from, *to).is_open
             }
             Command::Ask { from, to, .. } => *from <= self.count && *to <= self.count,
-            Command::Tick(node) | Command::Report(node) => *node <= self.count,
+            Command::Propose { node, .. }
+            | Command::Round { node, .. }
+            | Command::Timer { node, .. }
+            | Command::Tick(node)
+            | Command::Report(node) => *node <= self.count,
             Command::Settle => 0 < self.count,
         }
     }

@@ -1,12 +1,12 @@
 //! The lines of a text, their words, and what single words say.
-ghost use Rattle.std.specs.Prelude.{◌≡◌, ◌≢◌, ◌==◌, ℕ, IfOk, IfSome, IsOkUnless, is_some, map};
+ghost use Rattle.std.specs.Prelude.{◌≡◌, ◌≢◌, ◌==◌, ℕ, IfOk, IfSome, IsOkUnless, is_some, map, option_map};
 ghost use Rattle.std.specs.List.{slice_split};
-ghost use Rattle.scp_script.specs.Words.{lines_of, is_ascii, is_skipped, node_in, link_in, number_in, capacity_by, capacity_in, hex_bytes, set_in};
+ghost use Rattle.scp_script.specs.Words.{lines_of, is_ascii, is_skipped, node_in, link_in, number_in, capacity_by, capacity_in, hex_bytes, value_in, set_in};
 ghost use Rattle.scp_script.specs.Nodes.{IsSmall};
 
 use hex::FromHexError;
 use scp_quorum::QuorumSet;
-use scp_types::Fault;
+use scp_types::{Fault, Value};
 use scp_wire::Bytes;
 use std::alloc::{AllocError, Global};
 use std::str;
@@ -115,20 +115,50 @@ pub fn link(from: &str, to: &str) -> Option<(u8, u8)>
 }
 
 /// Bytes in hexadecimal digits, or a dash for none. `None` where the word is neither. The one refusal is `NoMemory`.
-pub fn bytes_of(alloc: Global, word: &str) -> Result<Option<Bytes>, Fault>
-    ensures bytes { IfOk result (λ bytes. bytes ≡ hex_bytes word.now) }
+fn decoded(alloc: Global, word: &str) -> Result<Option<Vec<u8>>, Fault>
+    ensures bytes { IfOk result (λ bytes. option_map (λ b. b.items) bytes ≡ hex_bytes word.now) }
     ensures only_memory { IsOkUnless result Fault.NoMemory }
 {
     if word == "-" {
-        return Ok(Some(Bytes::new(Vec::new(alloc))));
+        return Ok(Some(Vec::new(alloc)));
     }
     if word.is_empty() {
         return Ok(None);
     }
     match hex::decode(alloc, word) {
-        Ok(bytes) => Ok(Some(Bytes::new(bytes))),
+        Ok(bytes) => Ok(Some(bytes)),
         Err(FromHexError::OutOfMemory) => Err(Fault::NoMemory),
         Err(_) => Ok(None),
+    }
+}
+
+/// Bytes in digits, as `decoded`.
+pub fn bytes_of(alloc: Global, word: &str) -> Result<Option<Bytes>, Fault>
+    ensures bytes { IfOk result (λ bytes. bytes ≡ hex_bytes word.now) }
+    ensures only_memory { IsOkUnless result Fault.NoMemory }
+{
+    let Some(bytes) = decoded(alloc, word)? else {
+        return Ok(None);
+    };
+    Ok(Some(Bytes::new(bytes)))
+}
+
+/// The most bytes that a value may have.
+const MOST_BYTES: usize = 4096;
+
+/// A value of at most 4,096 bytes in digits, or a dash for none. `None` where the word is neither. The one refusal is
+/// `NoMemory`.
+pub fn value_of(alloc: Global, word: &str) -> Result<Option<Value>, Fault>
+    ensures value { IfOk result (λ value. value ≡ value_in (hex_bytes word.now)) }
+    ensures only_memory { IsOkUnless result Fault.NoMemory }
+{
+    let Some(bytes) = decoded(alloc, word)? else {
+        return Ok(None);
+    };
+    if bytes.len() <= MOST_BYTES {
+        Ok(Some(Value::new(bytes)))
+    } else {
+        Ok(None)
     }
 }
 

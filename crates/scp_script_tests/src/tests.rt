@@ -6,10 +6,10 @@ use std::test::Fail;
 
 /// Three nodes, 2 of which make a quorum; node 2 has a set of its own, 1 of node 1.
 const SCRIPT: &[u8] =
-    b"# three nodes\ncaps 9 9 9 9\ncaps 1 2 3 1024\nnodes 3 2\nset 2 000000010000000100000000010101010101010101010101010101010101010101010101010101010101010100000000\n\nopen 1 3\nsend 1 3 0aFF\nsend 1 3 -\nclose 1 3\nopen 1 3\ntick 3\nask 1 2 18446744073709551615\nsettle\nreport 3";
+    b"# three nodes\ncaps 9 9 9 9\ncaps 1 2 3 1024\nnodes 3 2\nset 2 000000010000000100000000010101010101010101010101010101010101010101010101010101010101010100000000\n\nopen 1 3\nsend 1 3 0aFF\nsend 1 3 -\nclose 1 3\nopen 1 3\ntick 3\npropose 3 1 00\nround 3 1\ntimer 3 1\nask 1 2 18446744073709551615\nsettle\nreport 3";
 
 /// Scripts, each with its first bad line, counted from 1.
-const BAD_LINES: [(&[u8], usize); 24] = [
+const BAD_LINES: [(&[u8], usize); 27] = [
     (b"settle", 1),
     (b"nodes 9 1", 1),
     (b"nodes 3 4", 1),
@@ -33,7 +33,10 @@ const BAD_LINES: [(&[u8], usize); 24] = [
     (b"nodes 2 2\nask 1 2 18446744073709551616", 2),
     (b"nodes 2 2\nset 1 00000001", 2),
     (b"nodes 2 2\nset 1 000000020000000000000000", 2),
-    (b"nodes 2 2\npropose 1 1 -", 2),
+    (b"nodes 2 2\npropose 3 1 -", 2),
+    (b"nodes 2 2\npropose 1 1 0", 2),
+    (b"nodes 2 2\nround 1", 2),
+    (b"nodes 2 2\ntimer 1 -1", 2),
 ];
 
 #[test]
@@ -44,7 +47,7 @@ fn a_bad_script_is_refused_by_its_line(rt: HostRuntime) {
     }
 }
 
-/// Whether the commands begin so, and there are thirteen.
+/// Whether the commands begin so, and there are sixteen.
 fn are_the_commands(commands: &[Command]) -> bool {
     match commands {
         [
@@ -52,7 +55,7 @@ fn are_the_commands(commands: &[Command]) -> bool {
             Command::Caps(_),
             Command::Nodes { count, quorum },
             ..
-        ] => { *count == 3 && *quorum == 2 && commands.len() == 13 }
+        ] => { *count == 3 && *quorum == 2 && commands.len() == 16 }
         _ => false,
     }
 }
