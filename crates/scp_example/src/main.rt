@@ -3,7 +3,7 @@
 //! What is promised: it is safe and returns. What it prints is its stored output.
 #![tactic(auto)]
 
-use scp_core::{Bytes, Capacities, Config, Event, Node, Peers, Reply};
+use scp_core::{Bytes, Capacities, Command, Config, Event, Node, Peers, Reply};
 use scp_line::{ReportParts, write_report};
 use scp_quorum::QuorumSet;
 use scp_types::{Fault, NodeId, Slot, Value};
@@ -37,12 +37,13 @@ fn config(alloc: Global) -> Result<Config, Fault> {
     })
 }
 
-/// Node 2 opens its link to node 1, sends it the value of slot 1, and closes: what becomes of node 1.
+/// Node 2 opens its link to node 1, which asks it for the record of slot 1; node 2 sends it, and closes: what becomes of node 1.
 fn first_record(alloc: Global) -> Result<Node, Fault> {
     let mut node = Node::new(alloc, config(alloc)?)?;
     let value = Value::new(Vec::from_slice(alloc, &PUT_A)?);
     let record = encode(alloc, &Message::Record(Slot(1), value))?;
     node.step(Event::Open(0));
+    node.step(Event::Local(Command::Ask(0, Slot(1))));
     node.step(Event::Send(0, Bytes::new(record)));
     node.step(Event::Close(0));
     rest(&mut node);

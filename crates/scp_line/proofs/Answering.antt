@@ -1,6 +1,6 @@
 -- What a line's event is answered with: it is taken, its queue is full, or its node failed.
 use Rattle.std.proofs.Common.{◌≡◌, ◌<◌, ◌≤◌, ◌+◌, ◌-◌, ℕ, Bool, true, false, List, [], ◌∷◌, ◌++◌, Option, Some, None, length, get_or, set, refl, sym, ◌∙◌, ap, subst, arith, ⊎_elim, inl, inr, ◌⊎◌}
-use Rattle.std.specs.Prelude.{slice_get}
+use Rattle.std.specs.Prelude.{slice_get, IsSome}
 use Rattle.std.proofs.lemmas.Option.{slice_get-get_or}
 use Rattle.std.proofs.lemmas.List.{length-set, get_or-set_same}
 use Rattle.scp_core.specs.declared.config.Config.{Config}
@@ -9,11 +9,11 @@ use Rattle.scp_core.specs.declared.event.Event.TheVariants as event
 use Rattle.scp_core.specs.declared.event.Reply.{Reply}
 use Rattle.scp_core.specs.declared.event.Reply.TheVariants.{Failed, NoLink, AlreadyOpen, LivesSpent, NotOpen, Full, Accepted, Blocked, Idle, Moved, JournalFull, NoMemory}
 use Rattle.scp_core.specs.History.{Exchange, past_of}
-use Rattle.scp_core.specs.Node.{NodeView, LinkView, Step, is_full, new_link}
+use Rattle.scp_core.specs.Node.{NodeView, LinkView, Step, HasLink, is_full, new_link}
 use Rattle.scp_core.specs.Flow.{Flows}
 use Rattle.scp_core.specs.Theorem.{LedgerTheorem}
 use Rattle.scp_wire.specs.declared.link.Command.{Command as Local}
-use Rattle.scp_wire.specs.declared.link.Command.TheVariants.{Tick}
+use Rattle.scp_wire.specs.declared.link.Command.TheVariants.{Propose, Round, Timer, Tick, Ask}
 use Rattle.scp_script.specs.declared.command.Command.{Command}
 use Rattle.scp_script.specs.declared.command.Command.TheVariants as script
 use Rattle.scp_script.specs.Script.{node_count, is_open, lives, IsLink}
@@ -106,19 +106,19 @@ close_says v w l k at opened Moved s = absurd s.1
 close_says v w l k at opened JournalFull s = absurd s.1
 close_says v w l k at opened NoMemory s = absurd s.1
 
-local_says : (v w : NodeView) (c : Local) (reply : Reply) → Step v (event.Local c) reply w → Says w (event.Local c) reply
-local_says v w c Failed s = ap (λ (u : NodeView). u.failed) s.1 ∙ s.0
-local_says v w c NoLink s = absurd s.1
-local_says v w c AlreadyOpen s = absurd s.1
-local_says v w c LivesSpent s = absurd s.1
-local_says v w c NotOpen s = absurd s.1
-local_says v w c Full s = ap (λ (u : NodeView). length u.inbox) s.2 ∙ s.1 ∙ sym (ap (λ (u : NodeView). u.inbox_room) s.2)
-local_says v w c Accepted s = tt
-local_says v w c Blocked s = absurd s.1
-local_says v w c Idle s = absurd s.1
-local_says v w c Moved s = absurd s.1
-local_says v w c JournalFull s = absurd s.1
-local_says v w c NoMemory s = absurd s.1
+local_says : (v w : NodeView) (c : Local) → HasLink v c → (reply : Reply) → Step v (event.Local c) reply w → Says w (event.Local c) reply
+local_says v w c has Failed s = ap (λ (u : NodeView). u.failed) s.1 ∙ s.0
+local_says v w c has NoLink s = absurd (s.1 has)
+local_says v w c has AlreadyOpen s = absurd s.1
+local_says v w c has LivesSpent s = absurd s.1
+local_says v w c has NotOpen s = absurd s.1
+local_says v w c has Full s = ap (λ (u : NodeView). length u.inbox) s.2 ∙ s.1.1 ∙ sym (ap (λ (u : NodeView). u.inbox_room) s.2)
+local_says v w c has Accepted s = tt
+local_says v w c has Blocked s = absurd s.1
+local_says v w c has Idle s = absurd s.1
+local_says v w c has Moved s = absurd s.1
+local_says v w c has JournalFull s = absurd s.1
+local_says v w c has NoMemory s = absurd s.1
 
 -- the step that gave the reply
 record WasTold (commands done : List Command) (number : ℕ) (e : Event) (reply : Reply) (new : NodeView) : Type 0 where
@@ -206,14 +206,47 @@ node_says commands done (script.Send from to bytes) number e is old new reply s 
     subst (λ (v : Event). Says new v reply) ev
     (send_says told2.before new (link_of from to) bytes there.k there.at (there.opened ∙ admits) reply (subst (λ (v : Event). Step told2.before v reply new) (sym ev) told2.step)))
     (told commands done number old new e reply was goes)
+node_says commands done (script.Propose at slot value) number e is old new reply s was goes failed =
+    let ev : event.Local (Propose (record { 0 = slot }) value) ≡ e = same_event _ _ _ _ is in
+    ⊎_elim
+    (λ f. says_failed new e reply f failed)
+    (λ (w : WasTold commands done number e reply new).
+    subst (λ (v : Event). Says new v reply) ev (local_says w.before new (Propose (record { 0 = slot }) value) tt reply (subst (λ (v : Event). Step w.before v reply new) (sym ev) w.step)))
+    (told commands done number old new e reply was goes)
+node_says commands done (script.Round at slot) number e is old new reply s was goes failed =
+    let ev : event.Local (Round (record { 0 = slot })) ≡ e = same_event _ _ _ _ is in
+    ⊎_elim
+    (λ f. says_failed new e reply f failed)
+    (λ (w : WasTold commands done number e reply new).
+    subst (λ (v : Event). Says new v reply) ev (local_says w.before new (Round (record { 0 = slot })) tt reply (subst (λ (v : Event). Step w.before v reply new) (sym ev) w.step)))
+    (told commands done number old new e reply was goes)
+node_says commands done (script.Timer at slot) number e is old new reply s was goes failed =
+    let ev : event.Local (Timer (record { 0 = slot })) ≡ e = same_event _ _ _ _ is in
+    ⊎_elim
+    (λ f. says_failed new e reply f failed)
+    (λ (w : WasTold commands done number e reply new).
+    subst (λ (v : Event). Says new v reply) ev (local_says w.before new (Timer (record { 0 = slot })) tt reply (subst (λ (v : Event). Step w.before v reply new) (sym ev) w.step)))
+    (told commands done number old new e reply was goes)
 node_says commands done (script.Tick at) number e is old new reply s was goes failed =
     let ev : event.Local Tick ≡ e = same_event _ _ _ _ is in
     ⊎_elim
     (λ f. says_failed new e reply f failed)
     (λ (w : WasTold commands done number e reply new).
-    subst (λ (v : Event). Says new v reply) ev (local_says w.before new Tick reply (subst (λ (v : Event). Step w.before v reply new) (sym ev) w.step)))
+    subst (λ (v : Event). Says new v reply) ev (local_says w.before new Tick tt reply (subst (λ (v : Event). Step w.before v reply new) (sym ev) w.step)))
     (told commands done number old new e reply was goes)
-node_says commands done (script.Ask from to slot) number e is old new reply s was goes failed = absurd cc
+node_says commands done (script.Ask from to slot) number e is old new reply s was goes failed =
+    let at : from ≡ number = same_number _ _ _ _ is in
+    let ev : event.Local (Ask (link_of to from) (record { 0 = slot })) ≡ e = same_event _ _ _ _ is in
+    let admits = stands_admitted commands done (script.Ask from to slot) s in
+    ⊎_elim
+    (λ f. says_failed new e reply f failed)
+    (λ (w : WasTold commands done number e reply new).
+    let told2 : WasTold commands done from e reply new = subst (λ (n : ℕ). WasTold commands done n e reply new) (sym at) w in
+    let there = link_there commands done (script.Ask from to slot) to from e reply new s (admits.1, admits.0, λ (same : to ≡ from). admits.2 (sym same)) told2 in
+    let has : IsSome (slice_get told2.before.links (link_of to from)) = subst (λ (o : Option LinkView). IsSome o) (sym there.at) refl in
+    subst (λ (v : Event). Says new v reply) ev
+    (local_says told2.before new (Ask (link_of to from) (record { 0 = slot })) has reply (subst (λ (v : Event). Step told2.before v reply new) (sym ev) told2.step)))
+    (told commands done number old new e reply was goes)
 node_says commands done script.Settle number e is old new reply s was goes failed = absurd cc
 node_says commands done (script.Report at) number e is old new reply s was goes failed = absurd cc
 
@@ -250,14 +283,41 @@ says_answer nodes (script.Send from to bytes) number e node is one there Full sa
     (node, subst (λ (n : ℕ). slice_get nodes (n - 1) ≡ Some node) at there, full.0, full.1, full.2)
 says_answer nodes (script.Send from to bytes) number e node is one there Failed says = let at : number ≡ to = sym (same_number _ _ _ _ is) in subst (λ (n : ℕ). HasFailed nodes n) at (failed_at nodes number node one there says)
 says_answer nodes (script.Send from to bytes) number e node is one there reply says = absurd says
-says_answer nodes (script.Tick to) number e node is one there Accepted says = tt
-says_answer nodes (script.Tick to) number e node is one there Full says =
-    let at : number ≡ to = sym (same_number _ _ _ _ is) in
+says_answer nodes (script.Propose at slot value) number e node is one there Accepted says = tt
+says_answer nodes (script.Propose at slot value) number e node is one there Full says =
+    let at2 : number ≡ at = sym (same_number _ _ _ _ is) in
+    let ev : e ≡ event.Local (Propose (record { 0 = slot }) value) = sym (same_event _ _ _ _ is) in
+    (node, subst (λ (n : ℕ). slice_get nodes (n - 1) ≡ Some node) at2 there, subst (λ (v : Event). IsFullAt node v) ev says)
+says_answer nodes (script.Propose at slot value) number e node is one there Failed says = let at2 : number ≡ at = sym (same_number _ _ _ _ is) in subst (λ (n : ℕ). HasFailed nodes n) at2 (failed_at nodes number node one there says)
+says_answer nodes (script.Propose at slot value) number e node is one there reply says = absurd says
+says_answer nodes (script.Round at slot) number e node is one there Accepted says = tt
+says_answer nodes (script.Round at slot) number e node is one there Full says =
+    let at2 : number ≡ at = sym (same_number _ _ _ _ is) in
+    let ev : e ≡ event.Local (Round (record { 0 = slot })) = sym (same_event _ _ _ _ is) in
+    (node, subst (λ (n : ℕ). slice_get nodes (n - 1) ≡ Some node) at2 there, subst (λ (v : Event). IsFullAt node v) ev says)
+says_answer nodes (script.Round at slot) number e node is one there Failed says = let at2 : number ≡ at = sym (same_number _ _ _ _ is) in subst (λ (n : ℕ). HasFailed nodes n) at2 (failed_at nodes number node one there says)
+says_answer nodes (script.Round at slot) number e node is one there reply says = absurd says
+says_answer nodes (script.Timer at slot) number e node is one there Accepted says = tt
+says_answer nodes (script.Timer at slot) number e node is one there Full says =
+    let at2 : number ≡ at = sym (same_number _ _ _ _ is) in
+    let ev : e ≡ event.Local (Timer (record { 0 = slot })) = sym (same_event _ _ _ _ is) in
+    (node, subst (λ (n : ℕ). slice_get nodes (n - 1) ≡ Some node) at2 there, subst (λ (v : Event). IsFullAt node v) ev says)
+says_answer nodes (script.Timer at slot) number e node is one there Failed says = let at2 : number ≡ at = sym (same_number _ _ _ _ is) in subst (λ (n : ℕ). HasFailed nodes n) at2 (failed_at nodes number node one there says)
+says_answer nodes (script.Timer at slot) number e node is one there reply says = absurd says
+says_answer nodes (script.Tick at) number e node is one there Accepted says = tt
+says_answer nodes (script.Tick at) number e node is one there Full says =
+    let at2 : number ≡ at = sym (same_number _ _ _ _ is) in
     let ev : e ≡ event.Local Tick = sym (same_event _ _ _ _ is) in
-    (node, subst (λ (n : ℕ). slice_get nodes (n - 1) ≡ Some node) at there, subst (λ (v : Event). IsFullAt node v) ev says)
-says_answer nodes (script.Tick to) number e node is one there Failed says = let at : number ≡ to = sym (same_number _ _ _ _ is) in subst (λ (n : ℕ). HasFailed nodes n) at (failed_at nodes number node one there says)
-says_answer nodes (script.Tick to) number e node is one there reply says = absurd says
-says_answer nodes (script.Ask from to slot) number e node is one there reply says = absurd cc
+    (node, subst (λ (n : ℕ). slice_get nodes (n - 1) ≡ Some node) at2 there, subst (λ (v : Event). IsFullAt node v) ev says)
+says_answer nodes (script.Tick at) number e node is one there Failed says = let at2 : number ≡ at = sym (same_number _ _ _ _ is) in subst (λ (n : ℕ). HasFailed nodes n) at2 (failed_at nodes number node one there says)
+says_answer nodes (script.Tick at) number e node is one there reply says = absurd says
+says_answer nodes (script.Ask from to slot) number e node is one there Accepted says = tt
+says_answer nodes (script.Ask from to slot) number e node is one there Full says =
+    let at2 : number ≡ from = sym (same_number _ _ _ _ is) in
+    let ev : e ≡ event.Local (Ask (link_of to from) (record { 0 = slot })) = sym (same_event _ _ _ _ is) in
+    (node, subst (λ (n : ℕ). slice_get nodes (n - 1) ≡ Some node) at2 there, subst (λ (v : Event). IsFullAt node v) ev says)
+says_answer nodes (script.Ask from to slot) number e node is one there Failed says = let at2 : number ≡ from = sym (same_number _ _ _ _ is) in subst (λ (n : ℕ). HasFailed nodes n) at2 (failed_at nodes number node one there says)
+says_answer nodes (script.Ask from to slot) number e node is one there reply says = absurd says
 says_answer nodes script.Settle number e node is one there reply says = absurd cc
 says_answer nodes (script.Report at) number e node is one there reply says = absurd cc
 
@@ -268,8 +328,11 @@ is_event_by (script.Set at tree) number e is = absurd cc
 is_event_by (script.Open from to) number e is = tt
 is_event_by (script.Close from to) number e is = tt
 is_event_by (script.Send from to bytes) number e is = tt
+is_event_by (script.Propose at slot value) number e is = tt
+is_event_by (script.Round at slot) number e is = tt
+is_event_by (script.Timer at slot) number e is = tt
 is_event_by (script.Tick at) number e is = tt
-is_event_by (script.Ask from to slot) number e is = absurd cc
+is_event_by (script.Ask from to slot) number e is = tt
 is_event_by script.Settle number e is = absurd cc
 is_event_by (script.Report at) number e is = absurd cc
 
@@ -306,11 +369,26 @@ event_within commands done (script.Send from to bytes) number e is s =
     let at : number ≡ to = sym (same_number _ _ _ _ is) in
     let link = open_is_link from to done (stands_before commands done (script.Send from to bytes) s) (stands_admitted commands done (script.Send from to bytes) s) in
     omega (arith, at, link.1.1, stands_count commands done (script.Send from to bytes) s (omega (arith, link.0.0, link.0.1)))
-event_within commands done (script.Tick to) number e is s =
-    let at : number ≡ to = sym (same_number _ _ _ _ is) in
-    let node = stands_admitted commands done (script.Tick to) s in
-    omega (arith, at, node.1, stands_count commands done (script.Tick to) s (omega (arith, node.0, node.1)))
-event_within commands done (script.Ask from to slot) number e is s = absurd cc
+event_within commands done (script.Propose at slot value) number e is s =
+    let at2 : number ≡ at = sym (same_number _ _ _ _ is) in
+    let node = stands_admitted commands done (script.Propose at slot value) s in
+    omega (arith, at2, node.1, stands_count commands done (script.Propose at slot value) s (omega (arith, node.0, node.1)))
+event_within commands done (script.Round at slot) number e is s =
+    let at2 : number ≡ at = sym (same_number _ _ _ _ is) in
+    let node = stands_admitted commands done (script.Round at slot) s in
+    omega (arith, at2, node.1, stands_count commands done (script.Round at slot) s (omega (arith, node.0, node.1)))
+event_within commands done (script.Timer at slot) number e is s =
+    let at2 : number ≡ at = sym (same_number _ _ _ _ is) in
+    let node = stands_admitted commands done (script.Timer at slot) s in
+    omega (arith, at2, node.1, stands_count commands done (script.Timer at slot) s (omega (arith, node.0, node.1)))
+event_within commands done (script.Tick at) number e is s =
+    let at2 : number ≡ at = sym (same_number _ _ _ _ is) in
+    let node = stands_admitted commands done (script.Tick at) s in
+    omega (arith, at2, node.1, stands_count commands done (script.Tick at) s (omega (arith, node.0, node.1)))
+event_within commands done (script.Ask from to slot) number e is s =
+    let at2 : number ≡ from = sym (same_number _ _ _ _ is) in
+    let node = stands_admitted commands done (script.Ask from to slot) s in
+    omega (arith, at2, node.0.1, stands_count commands done (script.Ask from to slot) s (omega (arith, node.0.0, node.0.1)))
 event_within commands done script.Settle number e is s = absurd cc
 event_within commands done (script.Report at) number e is s = absurd cc
 

@@ -14,10 +14,10 @@ use Rattle.scp_core.specs.declared.config.Config.{Config}
 use Rattle.scp_core.specs.Config.{IsInRange, AreInRange, IsFit, IsConfig, is_among, are_apart}
 use Rattle.scp_core.specs.Node.{NodeView}
 use Rattle.scp_script.specs.declared.command.Command.{Command}
-use Rattle.scp_script.specs.declared.command.Command.TheVariants.{Caps, Nodes, Set, Open, Close, Send, Tick, Ask, Settle, Report}
+use Rattle.scp_script.specs.declared.command.Command.TheVariants.{Caps, Nodes, Set, Open, Close, Send, Propose, Round, Timer, Tick, Ask, Settle, Report}
 use Rattle.scp_script.specs.declared.command.Capacities.{Capacities}
-use Rattle.scp_script.specs.Words.{words_of, lines_of, same, node_in, link_in, number_in, capacity_in, capacity_by, hex_bytes, set_in}
-use Rattle.scp_script.specs.Script.{node_count, command_in, commands_of, commands_in, caps_by, nodes_by, set_by, open_by, close_by, send_by, ask_by}
+use Rattle.scp_script.specs.Words.{words_of, lines_of, same, node_in, link_in, number_in, capacity_in, capacity_by, hex_bytes, value_in, set_in}
+use Rattle.scp_script.specs.Script.{node_count, command_in, commands_of, commands_in, caps_by, nodes_by, set_by, open_by, close_by, send_by, ask_by, propose_by, round_by, timer_by}
 use Rattle.scp_script.specs.Nodes.{id_of, peers_of, set_at, capacities_given, capacities_of_none}
 use Rattle.scp_line.specs.Play.{config_of}
 use Rattle.scp_line.specs.Nodes.{HaveRoom}
@@ -96,6 +96,9 @@ CapsFit (Set node set) = Unit {0}
 CapsFit (Open from to) = Unit {0}
 CapsFit (Close from to) = Unit {0}
 CapsFit (Send from to bytes) = Unit {0}
+CapsFit (Propose node slot value) = Unit {0}
+CapsFit (Round node slot) = Unit {0}
+CapsFit (Timer node slot) = Unit {0}
 CapsFit (Tick node) = Unit {0}
 CapsFit (Ask from to slot) = Unit {0}
 CapsFit Settle = Unit {0}
@@ -157,6 +160,22 @@ ask_fits (Some link) (Some slot) = tt
 ask_fits (Some link) None = tt
 ask_fits None b = tt
 
+propose_fits : (a b : Option ℕ) (c : Option (List ℕ)) → IfSome (propose_by a b c) CapsFit
+propose_fits (Some node) (Some slot) (Some value) = tt
+propose_fits (Some node) (Some slot) None = tt
+propose_fits (Some node) None c = tt
+propose_fits None b c = tt
+
+round_fits : (a b : Option ℕ) → IfSome (round_by a b) CapsFit
+round_fits (Some node) (Some slot) = tt
+round_fits (Some node) None = tt
+round_fits None b = tt
+
+timer_fits : (a b : Option ℕ) → IfSome (timer_by a b) CapsFit
+timer_fits (Some node) (Some slot) = tt
+timer_fits (Some node) None = tt
+timer_fits None b = tt
+
 line_fits : (words : List (List ℕ)) → IfSome (command_in words) CapsFit
 line_fits [] = tt
 line_fits (verb ∷ []) = chosen (same verb (codes "settle")) (Some Settle) None tt tt
@@ -167,10 +186,13 @@ line_fits (verb ∷ first ∷ second ∷ []) =
     chosen (same verb (codes "nodes")) _ _ (nodes_fit (node_in first) (node_in second))
     (chosen (same verb (codes "set")) _ _ (set_fits (node_in first) (set_in (hex_bytes second)))
     (chosen (same verb (codes "open")) _ _ (open_fits (link_in first second))
-    (chosen (same verb (codes "close")) _ None (close_fits (link_in first second)) tt)))
-line_fits (verb ∷ from ∷ to ∷ word ∷ []) =
-    chosen (same verb (codes "ask")) _ _ (ask_fits (link_in from to) (number_in word))
-    (chosen (same verb (codes "send")) _ None (send_fits (link_in from to) (hex_bytes word)) tt)
+    (chosen (same verb (codes "close")) _ _ (close_fits (link_in first second))
+    (chosen (same verb (codes "round")) _ _ (round_fits (node_in first) (number_in second))
+    (chosen (same verb (codes "timer")) _ None (timer_fits (node_in first) (number_in second)) tt)))))
+line_fits (verb ∷ first ∷ second ∷ third ∷ []) =
+    chosen (same verb (codes "ask")) _ _ (ask_fits (link_in first second) (number_in third))
+    (chosen (same verb (codes "send")) _ _ (send_fits (link_in first second) (hex_bytes third))
+    (chosen (same verb (codes "propose")) _ None (propose_fits (node_in first) (number_in second) (value_in (hex_bytes third))) tt))
 line_fits (verb ∷ link ∷ inbox ∷ ready ∷ decided ∷ []) =
     chosen (same verb (codes "caps")) _ None
     (caps_fit (capacity_in link) (capacity_in inbox) (capacity_in ready) (capacity_in decided) (is_in_range (number_in link)) (is_in_range (number_in inbox)) (is_in_range (number_in ready)) (is_in_range (number_in decided))) tt
@@ -186,6 +208,9 @@ given_fits (Set node set) fits = All-nil RoomFits
 given_fits (Open from to) fits = All-nil RoomFits
 given_fits (Close from to) fits = All-nil RoomFits
 given_fits (Send from to bytes) fits = All-nil RoomFits
+given_fits (Propose node slot value) fits = All-nil RoomFits
+given_fits (Round node slot) fits = All-nil RoomFits
+given_fits (Timer node slot) fits = All-nil RoomFits
 given_fits (Tick node) fits = All-nil RoomFits
 given_fits (Ask from to slot) fits = All-nil RoomFits
 given_fits Settle fits = All-nil RoomFits

@@ -19,7 +19,8 @@ use Rattle.scp_script.specs.declared.command.Command.{Command}
 use Rattle.scp_script.specs.declared.command.Command.TheVariants as script
 use Rattle.scp_script.specs.Script.{opens, closes, is_open, lives}
 use Rattle.scp_script.specs.Nodes.{NamesNodes}
-use Rattle.scp_wire.specs.declared.link.Command.TheVariants.{Tick}
+use Rattle.scp_wire.specs.declared.link.Command.{Command as Local}
+use Rattle.scp_wire.specs.declared.link.Command.TheVariants.{Propose, Round, Timer, Tick, Ask}
 use Rattle.scp_line.specs.Play.{link_of, accepted, accepted_of, event_at, events_at}
 
 -- ---- what exchanges make of a link's tail
@@ -127,6 +128,11 @@ counted from to n command = n + cond (opens from to command) 1 0
 abbrev same_tail : Tail → Tail → Type 0
 same_tail s t = s ≡ t
 
+-- a command of a node is no event of a link
+local_line : (l n : ℕ) (b : Bool) (c : Local) (here : Bool) → fold (tail_on l) (record { life = n; is_open = b }) (cond here (event.Local c ∷ []) []) ≡ record { life = n + 0; is_open = b }
+local_line l n b c true = ap (λ (k : ℕ). record { life = k; is_open = b }) (omega arith)
+local_line l n b c false = ap (λ (k : ℕ). record { life = k; is_open = b }) (omega arith)
+
 one_line : (from to : ℕ) → 1 ≤ from → 1 ≤ to → from ≢ to → (n : ℕ) (b : Bool) (command : Command) → NamesNodes command → fold (tail_on (link_of from to)) (record { life = n; is_open = b }) (event_at to command) ≡ record { life = counted from to n command; is_open = opens_or from to b command }
 one_line from to f t apart n b (script.Caps capacities) ok = ap (λ (k : ℕ). record { life = k; is_open = b }) (omega arith)
 one_line from to f t apart n b (script.Nodes count quorum) ok = ap (λ (k : ℕ). record { life = k; is_open = b }) (omega arith)
@@ -174,12 +180,11 @@ one_line from to f t apart n b (script.Send from2 to2 bytes) ok = by_test (nat_e
     by_test : (here : Bool) → fold (tail_on (link_of from to)) (record { life = n; is_open = b }) (cond here (event.Send (link_of from2 to2) bytes ∷ []) []) ≡ record { life = n + 0; is_open = b }
     by_test true = ap (λ (k : ℕ). record { life = k; is_open = b }) (omega arith)
     by_test false = ap (λ (k : ℕ). record { life = k; is_open = b }) (omega arith)
-one_line from to f t apart n b (script.Tick at) ok = by_test (nat_eq at to)
-  where
-    by_test : (here : Bool) → fold (tail_on (link_of from to)) (record { life = n; is_open = b }) (cond here (event.Local Tick ∷ []) []) ≡ record { life = n + 0; is_open = b }
-    by_test true = ap (λ (k : ℕ). record { life = k; is_open = b }) (omega arith)
-    by_test false = ap (λ (k : ℕ). record { life = k; is_open = b }) (omega arith)
-one_line from to f t apart n b (script.Ask from2 to2 slot) ok = ap (λ (k : ℕ). record { life = k; is_open = b }) (omega arith)
+one_line from to f t apart n b (script.Propose at slot value) ok = local_line (link_of from to) n b (Propose (record { 0 = slot }) value) (nat_eq at to)
+one_line from to f t apart n b (script.Round at slot) ok = local_line (link_of from to) n b (Round (record { 0 = slot })) (nat_eq at to)
+one_line from to f t apart n b (script.Timer at slot) ok = local_line (link_of from to) n b (Timer (record { 0 = slot })) (nat_eq at to)
+one_line from to f t apart n b (script.Tick at) ok = local_line (link_of from to) n b Tick (nat_eq at to)
+one_line from to f t apart n b (script.Ask from2 to2 slot) ok = local_line (link_of from to) n b (Ask (link_of to2 from2) (record { 0 = slot })) (nat_eq from2 to)
 one_line from to f t apart n b script.Settle ok = ap (λ (k : ℕ). record { life = k; is_open = b }) (omega arith)
 one_line from to f t apart n b (script.Report at) ok = ap (λ (k : ℕ). record { life = k; is_open = b }) (omega arith)
 

@@ -1,7 +1,7 @@
 -- What the nodes of a script hear more, while it is played.
 use Rattle.std.specs.Prelude.{ℕ, ◌+◌, ◌-◌, ◌<◌, ◌≡◌, ◌⊎◌, Bool, false, List, [], ◌∷◌, ◌++◌, All, length, get_or, Option, Some, None, Result, Ok, Err, nat_eq, if◌then◌else◌}
 use Rattle.scp_types.specs.declared.fault.Fault.TheVariants.{NoMemory, Failed as failing, Full as full}
-use Rattle.scp_wire.specs.declared.link.Command.TheVariants.{Tick}
+use Rattle.scp_wire.specs.declared.link.Command.TheVariants.{Propose, Round, Timer, Tick, Ask}
 use Rattle.scp_core.specs.declared.event.Event.{Event}
 use Rattle.scp_core.specs.declared.event.Event.TheVariants as event
 use Rattle.scp_core.specs.declared.event.Reply.{Reply}
@@ -141,8 +141,11 @@ event_by (script.Set at set) = None
 event_by (script.Open from to) = Some (to, event.Open (link_of from to))
 event_by (script.Close from to) = Some (to, event.Close (link_of from to))
 event_by (script.Send from to bytes) = Some (to, event.Send (link_of from to) bytes)
+event_by (script.Propose at slot value) = Some (at, event.Local (Propose (record { 0 = slot }) value))
+event_by (script.Round at slot) = Some (at, event.Local (Round (record { 0 = slot })))
+event_by (script.Timer at slot) = Some (at, event.Local (Timer (record { 0 = slot })))
 event_by (script.Tick at) = Some (at, event.Local Tick)
-event_by (script.Ask from to slot) = None
+event_by (script.Ask from to slot) = Some (from, event.Local (Ask (link_of to from) (record { 0 = slot })))
 event_by script.Settle = None
 event_by (script.Report at) = None
 
@@ -154,8 +157,11 @@ IsEvent (script.Set at set) = ⊥
 IsEvent (script.Open from to) = Unit {0}
 IsEvent (script.Close from to) = Unit {0}
 IsEvent (script.Send from to bytes) = Unit {0}
+IsEvent (script.Propose at slot value) = Unit {0}
+IsEvent (script.Round at slot) = Unit {0}
+IsEvent (script.Timer at slot) = Unit {0}
 IsEvent (script.Tick at) = Unit {0}
-IsEvent (script.Ask from to slot) = ⊥
+IsEvent (script.Ask from to slot) = Unit {0}
 IsEvent script.Settle = ⊥
 IsEvent (script.Report at) = ⊥
 
@@ -167,8 +173,11 @@ number_of (script.Set at set) = 0
 number_of (script.Open from to) = to
 number_of (script.Close from to) = to
 number_of (script.Send from to bytes) = to
+number_of (script.Propose at slot value) = at
+number_of (script.Round at slot) = at
+number_of (script.Timer at slot) = at
 number_of (script.Tick at) = at
-number_of (script.Ask from to slot) = 0
+number_of (script.Ask from to slot) = from
 number_of script.Settle = 0
 number_of (script.Report at) = 0
 

@@ -10,7 +10,7 @@ use Rattle.scp_envelope.specs.declared.statement.Pledges.{Pledges}
 use Rattle.scp_envelope.specs.declared.statement.Pledges.TheVariants.{Prepare, Confirm, Externalize, Nominate}
 use Rattle.scp_wire.specs.declared.message.Message.{Message}
 use Rattle.scp_wire.specs.declared.message.Message.TheVariants.{Envelope, GetSet, Set, NoSet, GetRecord, Record}
-use Rattle.scp_wire.specs.declared.link.Command.TheVariants.{Tick}
+use Rattle.scp_wire.specs.declared.link.Command.TheVariants.{Propose, Round, Timer, Tick, Ask}
 use Rattle.scp_wire.specs.Message.{message_reading}
 use Rattle.scp_wire.specs.Reading.{reading_of}
 use Rattle.scp_wire.specs.Connections.{conn_at}
@@ -46,8 +46,11 @@ event_at node (script.Set at set) = []
 event_at node (script.Open from to) = if nat_eq to node then event.Open (link_of from to) ∷ [] else []
 event_at node (script.Close from to) = if nat_eq to node then event.Close (link_of from to) ∷ [] else []
 event_at node (script.Send from to bytes) = if nat_eq to node then event.Send (link_of from to) bytes ∷ [] else []
+event_at node (script.Propose at slot value) = if nat_eq at node then event.Local (Propose (record { 0 = slot }) value) ∷ [] else []
+event_at node (script.Round at slot) = if nat_eq at node then event.Local (Round (record { 0 = slot })) ∷ [] else []
+event_at node (script.Timer at slot) = if nat_eq at node then event.Local (Timer (record { 0 = slot })) ∷ [] else []
 event_at node (script.Tick at) = if nat_eq at node then event.Local Tick ∷ [] else []
-event_at node (script.Ask from to slot) = []
+event_at node (script.Ask from to slot) = if nat_eq from node then event.Local (Ask (link_of to from) (record { 0 = slot })) ∷ [] else []
 event_at node script.Settle = []
 event_at node (script.Report at) = []
 
@@ -79,8 +82,11 @@ Hears links node (script.Set at set) exchanges = exchanges ≡ []
 Hears links node (script.Open from to) exchanges = IsOffered links (event_at node (script.Open from to)) exchanges
 Hears links node (script.Close from to) exchanges = IsOffered links (event_at node (script.Close from to)) exchanges
 Hears links node (script.Send from to bytes) exchanges = IsOffered links (event_at node (script.Send from to bytes)) exchanges
+Hears links node (script.Propose at slot value) exchanges = IsOffered links (event_at node (script.Propose at slot value)) exchanges
+Hears links node (script.Round at slot) exchanges = IsOffered links (event_at node (script.Round at slot)) exchanges
+Hears links node (script.Timer at slot) exchanges = IsOffered links (event_at node (script.Timer at slot)) exchanges
 Hears links node (script.Tick at) exchanges = IsOffered links (event_at node (script.Tick at)) exchanges
-Hears links node (script.Ask from to slot) exchanges = exchanges ≡ []
+Hears links node (script.Ask from to slot) exchanges = IsOffered links (event_at node (script.Ask from to slot)) exchanges
 Hears links node script.Settle exchanges = Settles links exchanges
 Hears links node (script.Report at) exchanges = exchanges ≡ []
 
@@ -168,6 +174,10 @@ pub record Stops (commands : List Command) (number : ℕ) : Type 0 where
 abbrev pub IsLinkFull : Nodes → ℕ → ℕ → Type 0
 IsLinkFull nodes number link = (node : NodeView) × (slice_get nodes (number - 1) ≡ Some node) × (k : LinkView) × (slice_get node.links link ≡ Some k) × is_full k
 
+-- the inbox of the node of this number is full
+abbrev pub IsInboxFull : Nodes → ℕ → Type 0
+IsInboxFull nodes number = (node : NodeView) × (slice_get nodes (number - 1) ≡ Some node) × (length node.inbox ≡ node.inbox_room)
+
 -- the queue that a line's event goes to is full: the link's, or the node's inbox
 abbrev pub HasNoRoom : Nodes → Command → Type 0
 HasNoRoom nodes (script.Caps capacities) = ⊥
@@ -176,8 +186,11 @@ HasNoRoom nodes (script.Set at set) = ⊥
 HasNoRoom nodes (script.Open from to) = IsLinkFull nodes to (link_of from to)
 HasNoRoom nodes (script.Close from to) = IsLinkFull nodes to (link_of from to)
 HasNoRoom nodes (script.Send from to bytes) = IsLinkFull nodes to (link_of from to)
-HasNoRoom nodes (script.Tick at) = (node : NodeView) × (slice_get nodes (at - 1) ≡ Some node) × (length node.inbox ≡ node.inbox_room)
-HasNoRoom nodes (script.Ask from to slot) = ⊥
+HasNoRoom nodes (script.Propose at slot value) = IsInboxFull nodes at
+HasNoRoom nodes (script.Round at slot) = IsInboxFull nodes at
+HasNoRoom nodes (script.Timer at slot) = IsInboxFull nodes at
+HasNoRoom nodes (script.Tick at) = IsInboxFull nodes at
+HasNoRoom nodes (script.Ask from to slot) = IsInboxFull nodes from
 HasNoRoom nodes script.Settle = ⊥
 HasNoRoom nodes (script.Report at) = ⊥
 

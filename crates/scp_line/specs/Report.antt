@@ -11,13 +11,13 @@ use Rattle.hex.specs.Hex.{encode_lower}
 use Rattle.scp_types.specs.declared.names.ConnId.{ConnId}
 use Rattle.scp_types.specs.declared.names.NodeId.{NodeId}
 use Rattle.scp_ledger.specs.declared.journal.Verdict.{Verdict}
-use Rattle.scp_ledger.specs.declared.journal.Verdict.TheVariants.{OldSlot, FarSlot, Already, Own, BadStatement, BadValue, Stale, Fresh, Forwarded, Decided}
+use Rattle.scp_ledger.specs.declared.journal.Verdict.TheVariants.{OldSlot, FarSlot, Already, Unasked, Own, BadStatement, BadValue, Stale, Idle, Fresh, Forwarded, Decided}
 use Rattle.scp_wire.specs.declared.link.Cause.{Cause}
 use Rattle.scp_wire.specs.declared.link.Cause.TheVariants.{Malformed, Link, Spent, ParkedFull}
 use Rattle.scp_ledger.specs.declared.journal.Fate.{Fate}
 use Rattle.scp_ledger.specs.declared.journal.Fate.TheVariants.{Taken, Dropped, Closed}
 use Rattle.scp_ledger.specs.declared.journal.Origin.{Origin}
-use Rattle.scp_ledger.specs.declared.journal.Origin.TheVariants.{Named}
+use Rattle.scp_ledger.specs.declared.journal.Origin.TheVariants.{Machine, Named}
 use Rattle.scp_ledger.specs.declared.journal.Decision.{Decision}
 use Rattle.scp_wire.specs.Connections.{same_conn}
 use Rattle.scp_pending.specs.declared.ready.DropCause.{DropCause}
@@ -28,10 +28,12 @@ abbrev pub verdict_word : Verdict → List ℕ
 verdict_word OldSlot = codes "old-slot"
 verdict_word FarSlot = codes "far-slot"
 verdict_word Already = codes "already"
+verdict_word Unasked = codes "unasked"
 verdict_word Own = codes "own"
 verdict_word BadStatement = codes "bad-statement"
 verdict_word BadValue = codes "bad-value"
 verdict_word Stale = codes "stale"
+verdict_word Idle = codes "idle"
 verdict_word Fresh = codes "fresh"
 verdict_word Forwarded = codes "forwarded"
 verdict_word Decided = codes "decided"
@@ -70,6 +72,7 @@ abbrev pub node_number : NodeId → ℕ
 node_number id = slice_index id.0 0
 
 abbrev pub origin_words : Origin → List ℕ
+origin_words (Machine n quorum own) = codes "machine"
 origin_words (Named conn seq) = codes "record " ++ decimal (node_number conn.from) ++ codes " " ++ decimal conn.life ++ codes " " ++ decimal seq.0
 
 -- an applied slot's line

@@ -14,7 +14,7 @@ use crate::rounds::{either, hear, round};
 use crate::waiting::{link_from, parked_at};
 use scp_core::{Capacities, Command as LocalCommand, Config, Event, Node, Peers, Reply};
 use scp_script::{Command, capacities_of, count_of_nodes, id_from, peers_of_node, set_of_node};
-use scp_types::Fault;
+use scp_types::{Fault, Slot};
 use std::alloc::{AllocError, Global};
 
 /// The most rounds of one settle.
@@ -65,7 +65,7 @@ fn new_node(alloc: Global, commands: &[Command], count: u8, number: u8) -> Resul
     Node::new(alloc, config)
 }
 
-/// The event of a command, and its node. It copies the bytes of a send; the one refusal is `NoMemory`.
+/// The event of a command, and its node. It copies the bytes of a send and the value of a proposal; the one refusal is `NoMemory`.
 fn event_of(command: &Command) -> Result<Option<(u8, Event)>, Fault>
     requires names { NamesNodes command.now }
     ensures event { IfOk result (λ found. found ≡ event_by command.now) }
@@ -78,7 +78,21 @@ fn event_of(command: &Command) -> Result<Option<(u8, Event)>, Fault>
         Command::Send { from, to, bytes } => {
             Some((*to, Event::Send(link_from(*from, *to), bytes.copy()?)))
         }
+        Command::Propose { node, slot, value } => {
+            let proposal = LocalCommand::Propose(Slot(*slot), value.copy()?);
+            Some((*node, Event::Local(proposal)))
+        }
+        Command::Round { node, slot } => {
+            Some((*node, Event::Local(LocalCommand::Round(Slot(*slot)))))
+        }
+        Command::Timer { node, slot } => {
+            Some((*node, Event::Local(LocalCommand::Timer(Slot(*slot)))))
+        }
         Command::Tick(node) => Some((*node, Event::Local(LocalCommand::Tick))),
+        Command::Ask { from, to, slot } => {
+            let link = link_from(*to, *from);
+            Some((*from, Event::Local(LocalCommand::Ask(link, Slot(*slot)))))
+        }
         _ => None,
     })
 }
@@ -89,7 +103,11 @@ fn node_of(command: &Command) -> u8
 {
     match command {
         Command::Open { to, .. } | Command::Close { to, .. } | Command::Send { to, .. } => *to,
-        Command::Tick(node) => *node,
+        Command::Propose { node, .. }
+        | Command::Round { node, .. }
+        | Command::Timer { node, .. }
+        | Command::Tick(node) => *node,
+        Command::Ask { from, .. } => *from,
         _ => 0,
     }
 }

@@ -23,10 +23,12 @@ fn word_of_verdict(verdict: Verdict) -> &'static str
         Verdict::OldSlot => "old-slot",
         Verdict::FarSlot => "far-slot",
         Verdict::Already => "already",
+        Verdict::Unasked => "unasked",
         Verdict::Own => "own",
         Verdict::BadStatement => "bad-statement",
         Verdict::BadValue => "bad-value",
         Verdict::Stale => "stale",
+        Verdict::Idle => "idle",
         Verdict::Fresh => "fresh",
         Verdict::Forwarded => "forwarded",
         Verdict::Decided => "decided",
@@ -102,6 +104,7 @@ fn write_origin(text: &mut String, origin: &Origin) -> Result<(), AllocError>
     ensures { OnOk result (string_bytes text.new ≡ string_bytes text.old ++ origin_words origin.now) }
 {
     match origin {
+        Origin::Machine { .. } => text.push_str("machine"),
         Origin::Named { conn, seq } => {
             let sender = number_of(&conn.from);
             let life = conn.life;
