@@ -1,7 +1,8 @@
 //! Nodes that hear messages over their links.
-use crate::node::{Capacities, Config, Event, Fate, Node, Reply, Verdict};
+use crate::ledger::{Command, Fate, Verdict};
+use crate::node::{Capacities, Config, Event, Node, Reply};
 use crate::quorum::QuorumSet;
-use crate::types::{Fault, Hash, NodeId};
+use crate::types::{Fault, Hash, NodeId, Slot};
 
 const HEARD: u32 = 1_000_000;
 const SLOTS: u32 = 16;
@@ -15,6 +16,11 @@ const WAITING_LINKS: u8 = 4;
 const PARKED: u32 = WAITING * WAITING_LINKS as u32;
 /// So many quorum sets come in turn, more than a node keeps.
 const SETS: u32 = 512;
+/// So many records are asked for and come before a node settles.
+const ASKED: u32 = 16;
+/// The peers that externalize, and how many of them a node needs.
+const PEERS: u8 = 4;
+const NEEDED: u32 = 3;
 const ME: NodeId = NodeId([1; 32]);
 
 pub fn record(slot: u64) -> [u8; 40] {
@@ -23,6 +29,27 @@ pub fn record(slot: u64) -> [u8; 40] {
         0, 0, 0, 6, a, b, c, d, e, f, g, h, 0, 0, 0, 24, 0, 0, 0, 1, 0, 0, 0, 0, 0, 0, 0, 4, e, f,
         g, h, 0, 0, 0, 1, b'1', 0, 0, 0,
     ]
+}
+
+/// The value that puts "1" at a key of 4 bytes, which is the slot's own.
+pub fn value_of(slot: u32) -> [u8; 24] {
+    let [e, f, g, h] = slot.to_be_bytes();
+    [
+        0, 0, 0, 1, 0, 0, 0, 0, 0, 0, 0, 4, e, f, g, h, 0, 0, 0, 1, b'1', 0, 0, 0,
+    ]
+}
+
+fn externalize(node: &NodeId, slot: u32, set_hash: &Hash) -> Vec<u8> {
+    let mut bytes = Vec::with_capacity(124);
+    bytes.extend_from_slice(&[0, 0, 0, 1, 0, 0, 0, 0]);
+    bytes.extend_from_slice(&node.0);
+    bytes.extend_from_slice(&u64::from(slot).to_be_bytes());
+    bytes.extend_from_slice(&[0, 0, 0, 2, 0, 0, 0, 1, 0, 0, 0, 24]);
+    bytes.extend_from_slice(&value_of(slot));
+    bytes.extend_from_slice(&[0, 0, 0, 1]);
+    bytes.extend_from_slice(&set_hash.0);
+    bytes.extend_from_slice(&[0; 4]);
+    bytes
 }
 
 fn prepare(node: &NodeId, slot: u64, set_hash: &Hash, counter: u32) -> Vec<u8> {
@@ -74,11 +101,11 @@ fn hear(node: &mut Node, event: Event) -> Result<(), Fault> {
     }
 }
 
-/// A node whose links are open.
-fn new_node(links: u8) -> Result<Node, Fault> {
+/// A node of this quorum set whose links are open.
+fn new_node(links: u8, set: QuorumSet) -> Result<Node, Fault> {
     let mut node = Node::new(Config {
         me: ME,
-        set: both_nodes(),
+        set,
         peers: (0..links).map(peer).collect(),
         capacities: Capacities {
             link: ROOM,
@@ -142,24 +169,85 @@ fn portions(size: u32, most: u32) -> impl Iterator<Item = u32> {
         .chain((size % most > 0).then_some(size % most))
 }
 
+#[derive(Default)]
+struct Ledgers {
+    nodes: u64,
+    entries: usize,
+    decisions: usize,
+    applied: usize,
+    keys: usize,
+}
+
+impl Ledgers {
+    fn count(&mut self, node: &Node) {
+        self.nodes += 1;
+        self.entries += node.journal().len();
+        self.decisions += node.decisions().len();
+        self.applied += node.applied().len();
+        self.keys += node.state().map_or(0, |state| state.entries.len());
+    }
+
+    fn tell(&self, name: &str, size: u32) -> String {
+        let Ledgers {
+            nodes,
+            entries,
+            decisions,
+            applied,
+            keys,
+        } = self;
+        format!(
+            "{name} {size}: nodes {nodes} entries {entries} decisions {decisions} applied {applied} keys {keys}"
+        )
+    }
+}
+
 fn hear_over(name: &str, links: u8, size: u32) -> Result<String, Fault> {
-    let (mut nodes, mut entries, mut decisions, mut applied, mut keys) = (0u64, 0, 0, 0, 0);
+    let mut ledgers = Ledgers::default();
     for records in portions(size, HEARD) {
-        let mut node = new_node(links)?;
+        let mut node = new_node(links, both_nodes())?;
         for place in 0..records {
             let link = (place % u32::from(links)) as u8;
-            send(&mut node, links, link, record(slot_at(place)).to_vec())?;
+            let slot = slot_at(place);
+            hear(&mut node, Event::Local(Command::Ask(link, Slot(slot))))?;
+            send(&mut node, links, link, record(slot).to_vec())?;
+            if place % ASKED == ASKED - 1 {
+                settle(&mut node, links)?;
+            }
         }
         settle(&mut node, links)?;
-        nodes += 1;
-        entries += node.journal().len();
-        decisions += node.decisions().len();
-        applied += node.applied().len();
-        keys += node.state().map_or(0, |state| state.entries.len());
+        ledgers.count(&node);
     }
-    Ok(format!(
-        "{name} {size}: nodes {nodes} entries {entries} decisions {decisions} applied {applied} keys {keys}"
-    ))
+    Ok(ledgers.tell(name, size))
+}
+
+/// 3 of 4 peers.
+fn most_peers() -> QuorumSet {
+    QuorumSet {
+        threshold: NEEDED,
+        validators: (0..PEERS).map(peer).collect(),
+        inner_sets: Vec::new(),
+    }
+}
+
+pub fn decide_by_envelopes(size: u32) -> Result<String, Fault> {
+    let hash = most_peers().hash();
+    let mut ledgers = Ledgers::default();
+    for slots in portions(size, HEARD / u32::from(PEERS)) {
+        let mut node = new_node(PEERS, most_peers())?;
+        for slot in 1..=slots {
+            for link in 0..PEERS {
+                send(
+                    &mut node,
+                    PEERS,
+                    link,
+                    externalize(&peer(link), slot, &hash),
+                )?;
+            }
+        }
+        settle(&mut node, PEERS)?;
+        ledgers.count(&node);
+    }
+    Ok(ledgers.tell("decide", size))
 }
 
 pub fn hear_records(size: u32) -> Result<String, Fault> {
@@ -211,7 +299,7 @@ pub fn hear_envelopes(size: u32) -> Result<String, Fault> {
     let hash = both_nodes().hash();
     let mut judged = Judged::default();
     for envelopes in portions(size, HEARD) {
-        let mut node = new_node(1)?;
+        let mut node = new_node(1, both_nodes())?;
         for place in 0..envelopes {
             let slot = (place % SLOTS) as u64 + 1;
             let counter = place / (SLOTS * ROUNDS) + 1;
@@ -264,7 +352,7 @@ pub fn park_envelopes(size: u32) -> Result<String, Fault> {
     let answers: Vec<Answer> = (0..SETS).map(answer).collect();
     let mut judged = Judged::default();
     for rounds in portions(size, HEARD / PARKED) {
-        let mut node = new_node(LINKS)?;
+        let mut node = new_node(LINKS, both_nodes())?;
         for round in 0..rounds {
             park(&mut node, &answers, round)?;
         }

@@ -1,4 +1,5 @@
 //! A link's receiving end: its queue, its reader, and the reader's hand.
+use crate::ledger::Command;
 use crate::node::Reply;
 use crate::types::{ConnId, NodeId, Seq};
 use crate::wire::{Message, decode};
@@ -27,7 +28,7 @@ pub enum Inbound {
     Carried(ConnId, Seq, Message),
     Side(ConnId, Message),
     Closed(ConnId, Cause),
-    Tick,
+    Local(Command),
 }
 
 pub struct Link {

@@ -1,28 +1,35 @@
 //! The same work as scp_bench's workloads, in plain Rust.
+mod ballots;
 mod board;
+mod consensus;
 mod envelope;
 mod hearing;
 mod hex;
 mod kv;
+mod ledger;
 mod link;
 mod node;
+mod nominate;
 mod pending;
 mod quorum;
 mod script;
 mod sha256;
+mod slot;
 mod types;
 mod votes;
 mod wire;
 mod xdr;
 
+use std::fmt::Write;
 use std::hint::black_box;
 use std::process::ExitCode;
 use types::Fault;
 use wire::Message;
 
 const DISTINCT: u32 = 4_096;
-const SENDS: u32 = 11_000;
-const LINE_LEN: usize = 90;
+const SENDS: u32 = 10_000;
+const ASKED: u32 = 16;
+const LINE_LEN: usize = 105;
 
 fn decode_records(size: u32) -> Result<String, Fault> {
     let messages: Vec<[u8; 40]> = (1..=DISTINCT as u64).map(hearing::record).collect();
@@ -51,10 +58,14 @@ fn script(sends: u32) -> String {
     let mut text = String::with_capacity(SENDS as usize * LINE_LEN + 100);
     text.push_str("nodes 2 2\nopen 2 1\n");
     for place in 0..sends {
-        let digits = hex::encode(&hearing::record(hearing::slot_at(place)));
-        text.push_str("send 2 1 ");
+        let slot = hearing::slot_at(place);
+        let digits = hex::encode(&hearing::record(slot));
+        let _ = write!(text, "ask 1 2 {slot}\nsend 2 1 ");
         text.push_str(&digits);
         text.push('\n');
+        if place % ASKED == ASKED - 1 {
+            text.push_str("settle\n");
+        }
     }
     text.push_str("settle\nreport 1\n");
     text
@@ -70,7 +81,7 @@ fn play_scripts(size: u32) -> Result<String, Fault> {
         let mut report = Vec::new();
         script::play(text.as_bytes(), &mut report)?;
         scripts += 1;
-        lines += sends as u64 + 4;
+        lines += 2 * sends as u64 + (sends / ASKED) as u64 + 4;
         bytes += black_box(&report).len() as u64;
     }
     Ok(format!(
@@ -82,7 +93,7 @@ fn main() -> ExitCode {
     let words: Vec<String> = std::env::args().collect();
     let [_, workload, size] = &words[..] else {
         eprintln!(
-            "usage: plain decode|records|envelopes|flow|parked|script|votes-one|votes-each SIZE"
+            "usage: plain decode|records|envelopes|flow|parked|script|votes-one|votes-each|consensus-4|consensus-8|consensus-16|decide SIZE"
         );
         return ExitCode::from(2);
     };
@@ -97,6 +108,10 @@ fn main() -> ExitCode {
         "parked" => hearing::park_envelopes(size),
         "script" => play_scripts(size),
         "votes-one" => votes::count_votes(votes::Sharing::One, size),
+        "consensus-4" => consensus::decide_slots(4, size),
+        "consensus-8" => consensus::decide_slots(8, size),
+        "consensus-16" => consensus::decide_slots(16, size),
+        "decide" => hearing::decide_by_envelopes(size),
         "votes-each" => votes::count_votes(votes::Sharing::Each, size),
         // The report of one script, for comparing.
         "report" => {

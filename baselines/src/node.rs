@@ -1,25 +1,22 @@
 //! One node: events in; replies, journal, decisions, applied list and state out.
-use crate::envelope::{Envelope, Pledges, Statement, newer};
-use crate::kv::{KvState, is_ops};
-use crate::link::{Cause, Inbound, Link};
-use crate::pending::{Delivery, DropCause, Pending, Ready};
-use crate::quorum::{QuorumSet, SaneSet};
-use crate::types::{Ballot, ConnId, Fault, NodeId, Seq, Slot, Value};
+use crate::kv::KvState;
+use crate::ledger::{Command, Decision, Fate, Ledger, Onward};
+use crate::link::{Inbound, Link};
+use crate::pending::{Pending, Ready};
+use crate::quorum::QuorumSet;
+use crate::types::{ConnId, Fault, NodeId};
 use crate::wire::Message;
 use std::collections::{BTreeMap, BTreeSet, VecDeque};
 use std::sync::Arc;
 
-pub const JOURNAL_LIMIT: usize = 1_000_000;
 const CAPACITY_LIMIT: usize = 1_024;
 const PEER_LIMIT: usize = 7;
-const WINDOW: u64 = 16;
-const LAST_SLOT: u64 = 4_294_967_295;
 
 pub enum Event {
     Open(u8),
     Send(u8, Vec<u8>),
     Close(u8),
-    Tick,
+    Local(Command),
     ReaderTake(u8),
     ReaderPut(u8),
     PendTake,
@@ -44,84 +41,6 @@ pub enum Reply {
     JournalFull,
 }
 
-#[derive(Clone, Copy, Debug, PartialEq, Eq)]
-pub enum Verdict {
-    OldSlot,
-    FarSlot,
-    Already,
-    Own,
-    BadStatement,
-    BadValue,
-    Stale,
-    Fresh,
-    Forwarded,
-    Decided,
-}
-
-#[derive(Debug)]
-pub enum Fate {
-    Taken {
-        conn: ConnId,
-        seq: Seq,
-        message: Message,
-        #[allow(dead_code)]
-        set: Option<Arc<SaneSet>>,
-        verdict: Verdict,
-    },
-    Dropped {
-        conn: ConnId,
-        seq: Seq,
-        cause: DropCause,
-    },
-    Closed {
-        conn: ConnId,
-        cause: Cause,
-    },
-}
-
-#[derive(Clone, Copy, Debug)]
-pub enum Origin {
-    Named { conn: ConnId, seq: Seq },
-}
-
-#[derive(Debug)]
-pub struct Decision {
-    pub slot: Slot,
-    pub value: Value,
-    pub origin: Origin,
-}
-
-/// The slots that may be decided: the lowest one without a decision, and which after it have one.
-struct Window {
-    lowest: u64,
-    ahead: BTreeSet<u64>,
-}
-
-impl Window {
-    fn verdict(&self, slot: Slot) -> Verdict {
-        if slot.0 < self.lowest || self.ahead.contains(&slot.0) {
-            Verdict::Already
-        } else if slot.0 > LAST_SLOT || slot.0 - self.lowest >= WINDOW {
-            Verdict::FarSlot
-        } else {
-            Verdict::Decided
-        }
-    }
-
-    fn decide(&mut self, slot: Slot) {
-        self.ahead.insert(slot.0);
-        while self.ahead.remove(&self.lowest) {
-            self.lowest += 1;
-        }
-    }
-}
-
-/// What goes on to the applier.
-enum Onward {
-    Decided(Arc<Decision>),
-    Asked(Slot),
-}
-
 #[derive(Default)]
 struct Applier {
     applied: Vec<Arc<Decision>>,
@@ -130,7 +49,7 @@ struct Applier {
 }
 
 impl Applier {
-    fn take(&mut self, onward: Onward) -> Option<Message> {
+    fn take(&mut self, onward: Onward) -> Option<(u8, Message)> {
         match onward {
             Onward::Decided(decision) => {
                 self.waiting.insert(decision.slot.0, decision);
@@ -140,29 +59,11 @@ impl Applier {
                 }
                 None
             }
-            Onward::Asked(slot) => {
+            Onward::Asked { link, slot } => {
                 let place = usize::try_from(slot.0.checked_sub(1)?).ok()?;
                 let decision = self.applied.get(place)?;
-                Some(Message::Record(slot, decision.value.clone()))
+                Some((link, Message::Record(slot, decision.value.clone())))
             }
-        }
-    }
-}
-
-/// What statements that are compared with each other have in common.
-#[derive(Clone, Copy, PartialEq, Eq, PartialOrd, Ord)]
-struct StatementKey {
-    slot: Slot,
-    node: NodeId,
-    is_nomination: bool,
-}
-
-impl StatementKey {
-    fn of(statement: &Statement) -> Self {
-        StatementKey {
-            slot: statement.slot,
-            node: statement.node,
-            is_nomination: matches!(statement.pledges, Pledges::Nominate(_)),
         }
     }
 }
@@ -183,35 +84,17 @@ pub struct Config {
 }
 
 pub struct Node {
-    me: NodeId,
     capacities: Capacities,
     links: Vec<Link>,
     inbox: VecDeque<Inbound>,
     pending: Pending,
     pend_hand: Option<Ready>,
     ready: VecDeque<Ready>,
-    journal: Vec<Fate>,
-    decisions: Vec<Arc<Decision>>,
-    latest: BTreeMap<StatementKey, usize>,
-    window: Window,
+    ledger: Ledger,
     slot_hand: Option<Onward>,
     decided: VecDeque<Onward>,
     applier: Applier,
     failed: bool,
-}
-
-pub fn has_good_values(pledges: &Pledges) -> bool {
-    let is_good = |ballot: &Ballot| is_ops(&ballot.value.0);
-    match pledges {
-        Pledges::Prepare(p) => {
-            is_good(&p.ballot)
-                && p.prepared.as_ref().is_none_or(is_good)
-                && p.prepared_prime.as_ref().is_none_or(is_good)
-        }
-        Pledges::Confirm(c) => is_good(&c.ballot),
-        Pledges::Externalize(e) => is_good(&e.commit),
-        Pledges::Nominate(_) => true,
-    }
 }
 
 impl Node {
@@ -237,23 +120,16 @@ impl Node {
         }
         let set = Arc::new(set.into_sane().map_err(|_| Fault::BadConfig)?);
         Ok(Node {
-            me,
             capacities,
             links: peers
                 .iter()
                 .map(|peer| Link::new(*peer, me, link))
                 .collect(),
             inbox: VecDeque::with_capacity(inbox),
+            ledger: Ledger::new(me, set.clone(), peers.clone()),
             pending: Pending::new(me, peers, set),
             pend_hand: None,
             ready: VecDeque::with_capacity(ready),
-            journal: Vec::new(),
-            decisions: Vec::new(),
-            latest: BTreeMap::new(),
-            window: Window {
-                lowest: 1,
-                ahead: BTreeSet::new(),
-            },
             slot_hand: None,
             decided: VecDeque::with_capacity(decided),
             applier: Applier::default(),
@@ -262,11 +138,11 @@ impl Node {
     }
 
     pub fn journal(&self) -> &[Fate] {
-        &self.journal
+        self.ledger.journal()
     }
 
     pub fn decisions(&self) -> &[Arc<Decision>] {
-        &self.decisions
+        self.ledger.decisions()
     }
 
     pub fn applied(&self) -> &[Arc<Decision>] {
@@ -298,9 +174,9 @@ impl Node {
             Event::Open(link) => self.on_link(link, Link::open),
             Event::Send(link, bytes) => self.on_link(link, |link| link.send(bytes)),
             Event::Close(link) => self.on_link(link, Link::close),
-            Event::Tick if self.inbox.len() == self.capacities.inbox => Reply::Full,
-            Event::Tick => {
-                self.inbox.push_back(Inbound::Tick);
+            Event::Local(_) if self.inbox.len() == self.capacities.inbox => Reply::Full,
+            Event::Local(command) => {
+                self.inbox.push_back(Inbound::Local(command));
                 Reply::Accepted
             }
             Event::ReaderTake(link) => self.on_link(link, Link::take),
@@ -373,17 +249,11 @@ impl Node {
         let Some(ready) = self.ready.pop_front() else {
             return Reply::Idle;
         };
-        if self.journal.len() == JOURNAL_LIMIT {
+        let Some(took) = self.ledger.take(ready) else {
             self.failed = true;
             return Reply::JournalFull;
-        }
-        match ready {
-            Ready::Deliver(delivery) => self.take(delivery),
-            Ready::Dropped { conn, seq, cause } => {
-                self.journal.push(Fate::Dropped { conn, seq, cause })
-            }
-            Ready::Closed { conn, cause } => self.journal.push(Fate::Closed { conn, cause }),
-        }
+        };
+        self.slot_hand = took.onward;
         Reply::Moved
     }
 
@@ -397,90 +267,6 @@ impl Node {
                 Reply::Moved
             }
             None => Reply::Idle,
-        }
-    }
-
-    /// Takes a carried message.
-    fn take(&mut self, delivery: Delivery) {
-        let Delivery {
-            conn,
-            seq,
-            message,
-            set,
-        } = delivery;
-        let verdict = match &message {
-            Message::Envelope(envelope) => self.judge(envelope),
-            Message::Record(slot, value) => self.decide(conn, seq, *slot, value),
-            Message::GetRecord(slot) => {
-                self.slot_hand = Some(Onward::Asked(*slot));
-                Verdict::Forwarded
-            }
-            _ => Verdict::Forwarded,
-        };
-        self.journal.push(Fate::Taken {
-            conn,
-            seq,
-            message,
-            set,
-            verdict,
-        });
-    }
-
-    fn decide(&mut self, conn: ConnId, seq: Seq, slot: Slot, value: &Value) -> Verdict {
-        let verdict = self.window.verdict(slot);
-        if verdict == Verdict::Decided {
-            let decision = Arc::new(Decision {
-                slot,
-                value: value.clone(),
-                origin: Origin::Named { conn, seq },
-            });
-            self.window.decide(slot);
-            self.slot_hand = Some(Onward::Decided(decision.clone()));
-            self.decisions.push(decision);
-        }
-        verdict
-    }
-
-    /// The verdict on an envelope, which is to be the next entry.
-    fn judge(&mut self, envelope: &Envelope) -> Verdict {
-        let statement = &envelope.statement;
-        let lowest = self.window.lowest;
-        let slot = statement.slot.0;
-        if slot < lowest {
-            Verdict::OldSlot
-        } else if slot > LAST_SLOT || slot - lowest >= WINDOW {
-            Verdict::FarSlot
-        } else if self.window.ahead.contains(&slot) {
-            Verdict::Already
-        } else if statement.node == self.me {
-            Verdict::Own
-        } else if !statement.is_sane() {
-            Verdict::BadStatement
-        } else if !has_good_values(&statement.pledges) {
-            Verdict::BadValue
-        } else {
-            self.compare(statement)
-        }
-    }
-
-    fn compare(&mut self, statement: &Statement) -> Verdict {
-        use std::collections::btree_map::Entry;
-        let place = self.journal.len();
-        match self.latest.entry(StatementKey::of(statement)) {
-            Entry::Vacant(entry) => {
-                entry.insert(place);
-                Verdict::Fresh
-            }
-            Entry::Occupied(mut entry) => match &self.journal[*entry.get()] {
-                Fate::Taken {
-                    message: Message::Envelope(last),
-                    ..
-                } if !newer(&last.statement, statement) => Verdict::Stale,
-                _ => {
-                    entry.insert(place);
-                    Verdict::Fresh
-                }
-            },
         }
     }
 }

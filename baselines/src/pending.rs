@@ -1,4 +1,5 @@
 //! Messages that wait for their quorum sets.
+use crate::ledger::Command;
 use crate::link::{Cause, Inbound};
 use crate::quorum::{QuorumSet, SaneSet};
 use crate::types::{ConnId, Hash, NodeId, Seq};
@@ -29,6 +30,7 @@ pub enum Ready {
         conn: ConnId,
         cause: Cause,
     },
+    Local(Command),
 }
 
 pub struct Delivery {
@@ -153,7 +155,7 @@ impl Pending {
         let is_of = |ready: &&Ready| match ready {
             Ready::Deliver(delivery) => delivery.conn == *conn,
             Ready::Dropped { conn: of, .. } => of == conn,
-            Ready::Closed { .. } => false,
+            Ready::Closed { .. } | Ready::Local(_) => false,
         };
         let queue = self.queues.iter().find(|queue| queue.conn == *conn);
         self.leaving.iter().filter(is_of).count() + queue.map_or(0, |queue| queue.parked.len())
@@ -192,7 +194,8 @@ impl Pending {
                     self.leaving.push_back(Ready::Closed { conn, cause });
                 }
             }
-            Inbound::Tick => self.tick(),
+            Inbound::Local(Command::Tick) => self.tick(),
+            Inbound::Local(command) => self.leaving.push_back(Ready::Local(command)),
         }
         None
     }

@@ -1,10 +1,11 @@
 //! Scripts in, reports out.
 use crate::hex;
+use crate::ledger::{Command as Local, Decision, Fate, Origin, Verdict};
 use crate::link::Cause;
-use crate::node::{Capacities, Config, Decision, Event, Fate, Node, Origin, Reply, Verdict};
+use crate::node::{Capacities, Config, Event, Node, Reply};
 use crate::pending::DropCause;
 use crate::quorum::QuorumSet;
-use crate::types::{ConnId, Fault, NodeId};
+use crate::types::{ConnId, Fault, NodeId, Slot};
 use std::collections::BTreeMap;
 use std::io::{Read, Write};
 
@@ -26,7 +27,7 @@ enum Command {
     Set { node: u8, set: QuorumSet },
     Link { from: u8, to: u8, act: Act },
     Tick(u8),
-    Ask { from: u8, to: u8 },
+    Ask { from: u8, to: u8, slot: u64 },
     Settle,
     Report(u8),
 }
@@ -86,13 +87,11 @@ fn command(words: &[&str]) -> Option<Command> {
         ["close", from, to] => link(from, to, Act::Close),
         ["send", from, to, word] => link(from, to, Act::Send(bytes_of(word)?)),
         ["tick", node] => Some(Command::Tick(small_number(node)?)),
-        ["ask", from, to, slot] => {
-            number(slot)?;
-            Some(Command::Ask {
-                from: small_number(from)?,
-                to: small_number(to)?,
-            })
-        }
+        ["ask", from, to, slot] => Some(Command::Ask {
+            from: small_number(from)?,
+            to: small_number(to)?,
+            slot: number(slot)?,
+        }),
         _ => None,
     }
 }
@@ -126,7 +125,7 @@ impl Reading {
                 };
                 self.has(*from) && self.has(*to) && from != to && fits
             }
-            Command::Ask { from, to } => self.has(*from) && self.has(*to) && from != to,
+            Command::Ask { from, to, .. } => self.has(*from) && self.has(*to) && from != to,
             Command::Tick(node) | Command::Report(node) => self.has(*node),
             Command::Settle => self.count > 0,
         }
@@ -272,10 +271,12 @@ fn word_of_verdict(verdict: Verdict) -> &'static str {
         Verdict::OldSlot => "old-slot",
         Verdict::FarSlot => "far-slot",
         Verdict::Already => "already",
+        Verdict::Unasked => "unasked",
         Verdict::Own => "own",
         Verdict::BadStatement => "bad-statement",
         Verdict::BadValue => "bad-value",
         Verdict::Stale => "stale",
+        Verdict::Idle => "idle",
         Verdict::Fresh => "fresh",
         Verdict::Forwarded => "forwarded",
         Verdict::Decided => "decided",
@@ -324,8 +325,12 @@ fn write_hex(text: &mut Vec<u8>, bytes: &[u8]) {
 fn write_applied(text: &mut Vec<u8>, applied: &Decision) -> std::io::Result<()> {
     write!(text, "applied {} ", applied.slot.0)?;
     write_hex(text, &applied.value.0);
-    let Origin::Named { conn, seq } = &applied.origin;
-    writeln!(text, " record {} {} {}", conn.from.0[0], conn.life, seq.0)
+    match &applied.origin {
+        Origin::Machine { .. } => writeln!(text, " machine"),
+        Origin::Named { conn, seq } => {
+            writeln!(text, " record {} {} {}", conn.from.0[0], conn.life, seq.0)
+        }
+    }
 }
 
 fn write_report(text: &mut Vec<u8>, number: u8, node: &Node) -> std::io::Result<()> {
@@ -384,7 +389,13 @@ fn played(text: &[u8]) -> Result<Vec<u8>, Fault> {
                     Act::Close => Event::Close(link),
                 })?;
             }
-            Command::Tick(node) => put(&mut nodes, *node, &|| Event::Tick)?,
+            Command::Tick(node) => put(&mut nodes, *node, &|| Event::Local(Local::Tick))?,
+            Command::Ask { from, to, slot } => {
+                let link = place(*to, *from);
+                put(&mut nodes, *from, &|| {
+                    Event::Local(Local::Ask(link, Slot(*slot)))
+                })?;
+            }
             Command::Settle => settle(&mut nodes)?,
             _ => {}
         }

@@ -17,7 +17,7 @@ pub enum Asked {
     Usage,
 }
 
-static WORKLOADS: [&str; 12] = [
+static WORKLOADS: [&str; 16] = [
     "decode",
     "records",
     "envelopes",
@@ -30,6 +30,10 @@ static WORKLOADS: [&str; 12] = [
     "quorum-missing",
     "votes-one",
     "votes-each",
+    "consensus-4",
+    "consensus-8",
+    "consensus-16",
+    "decide",
 ];
 
 fn command<'a>(alloc: Global) -> Result<Command<'a>, AllocError> {
@@ -63,6 +67,10 @@ fn one(name: &str, size: Option<&str>) -> Asked {
         "quorum-missing" => Workload::Quorum(Shape::Missing),
         "votes-one" => Workload::Votes(Sharing::One),
         "votes-each" => Workload::Votes(Sharing::Each),
+        "consensus-4" => Workload::Consensus(4),
+        "consensus-8" => Workload::Consensus(8),
+        "consensus-16" => Workload::Consensus(16),
+        "decide" => Workload::Decide,
         _ => return Asked::Usage,
     };
     match size_in(size) {

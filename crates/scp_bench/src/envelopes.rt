@@ -21,7 +21,7 @@ pub struct Judged {
 
 /// A node that heard so many envelopes of its peer on one connection.
 fn ledger(alloc: Global, hash: &Hash, envelopes: u32) -> Result<Node, Fault> {
-    let mut node = new_node(alloc, 1)?;
+    let mut node = new_node(alloc, 1, both_nodes(alloc)?)?;
     for place in 0..envelopes {
         let slot = (place % SLOTS) as u64 + 1;
         let counter = place / (SLOTS * ROUNDS) + 1;

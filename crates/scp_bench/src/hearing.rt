@@ -1,6 +1,6 @@
-use scp_core::{Bytes, Capacities, Config, Event, Node, Peers, Reply};
+use scp_core::{Bytes, Capacities, Command, Config, Event, Node, Peers, Reply};
 use scp_quorum::QuorumSet;
-use scp_types::{Fault, NodeId};
+use scp_types::{Fault, NodeId, Slot};
 use std::alloc::Global;
 
 /// The node itself.
@@ -26,15 +26,15 @@ pub fn both_nodes(alloc: Global) -> Result<QuorumSet, Fault> {
     Ok(QuorumSet::of_nodes(2, nodes))
 }
 
-/// The configuration of a node that has so many links.
-fn config(alloc: Global, links: u8) -> Result<Config, Fault> {
+/// The configuration of a node that has so many links and this quorum set.
+fn config(alloc: Global, links: u8, set: QuorumSet) -> Result<Config, Fault> {
     let mut peers = Vec::new(alloc);
     for link in 0..links {
         peers.push(peer(link))?;
     }
     Ok(Config {
         me: ME,
-        set: both_nodes(alloc)?,
+        set,
         peers: Peers::new(peers),
         capacities: Capacities {
             link: ROOM,
@@ -45,22 +45,27 @@ fn config(alloc: Global, links: u8) -> Result<Config, Fault> {
     })
 }
 
-/// A node that has heard nothing, whose links are open.
-pub fn new_node(alloc: Global, links: u8) -> Result<Node, Fault> {
-    let mut node = Node::new(alloc, config(alloc, links)?)?;
+/// A node of this quorum set that has heard nothing, whose links are open.
+pub fn new_node(alloc: Global, links: u8, set: QuorumSet) -> Result<Node, Fault> {
+    let mut node = Node::new(alloc, config(alloc, links, set)?)?;
     for link in 0..links {
         hear(&mut node, Event::Open(link))?;
     }
     Ok(node)
 }
 
-/// One event at a link's tail.
+/// One event at a link's tail, or a local command.
 fn hear(node: &mut Node, event: Event) -> Result<(), Fault> {
     match node.step(event) {
         Reply::Accepted => Ok(()),
         Reply::NoMemory => Err(Fault::NoMemory),
         _ => Err(Fault::Failed),
     }
+}
+
+/// Asks the link's peer for the record of a slot.
+pub fn ask(node: &mut Node, link: u8, slot: u64) -> Result<(), Fault> {
+    hear(node, Event::Local(Command::Ask(link, Slot(slot))))
 }
 
 /// One event of a stage; whether it did its step.

@@ -13,6 +13,14 @@ pub fn record(slot: u64) -> [u8; 40] {
     ]
 }
 
+/// The value of 24 bytes that puts "1" at a key of 4 bytes, which is the slot's own.
+pub fn value_of(slot: u32) -> [u8; 24] {
+    let [e, f, g, h] = slot.to_be_bytes();
+    [
+        0, 0, 0, 1, 0, 0, 0, 0, 0, 0, 0, 4, e, f, g, h, 0, 0, 0, 1, b'1', 0, 0, 0,
+    ]
+}
+
 /// The message of an envelope (RFC 4506): kind 1, a PREPARE of the node for the slot with this set hash and a ballot of
 /// this counter, whose value is the empty operation list; the rest of it is absent, 0 or empty.
 pub fn prepare(
@@ -31,6 +39,26 @@ pub fn prepare(
     bytes.extend_from_slice(&counter.to_be_bytes())?;
     bytes.extend_from_slice(&[0, 0, 0, 4])?;
     bytes.extend_from_slice(&[0; 24])?;
+    Ok(bytes)
+}
+
+/// The message of an envelope (RFC 4506): kind 1, an EXTERNALIZE of the node for the slot with this set hash, which commits
+/// the slot's own value at counter 1 alone; its signature is empty.
+pub fn externalize(
+    alloc: Global,
+    node: &NodeId,
+    slot: u32,
+    set_hash: &Hash,
+) -> Result<Vec<u8>, AllocError> {
+    let mut bytes = Vec::with_capacity(alloc, 124)?;
+    bytes.extend_from_slice(&[0, 0, 0, 1, 0, 0, 0, 0])?;
+    bytes.extend_from_slice(&node.0)?;
+    bytes.extend_from_slice(&u64::from(slot).to_be_bytes())?;
+    bytes.extend_from_slice(&[0, 0, 0, 2, 0, 0, 0, 1, 0, 0, 0, 24])?;
+    bytes.extend_from_slice(&value_of(slot))?;
+    bytes.extend_from_slice(&[0, 0, 0, 1])?;
+    bytes.extend_from_slice(&set_hash.0)?;
+    bytes.extend_from_slice(&[0; 4])?;
     Ok(bytes)
 }
 

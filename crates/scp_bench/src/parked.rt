@@ -1,5 +1,5 @@
 use crate::envelopes::Judged;
-use crate::hearing::{HEARD, new_node, peer, send, settle};
+use crate::hearing::{HEARD, both_nodes, new_node, peer, send, settle};
 use crate::messages::{prepare, set_message};
 use crate::quorum::node;
 use scp_core::Node;
@@ -81,7 +81,7 @@ fn answers_of(answers: &[Answer], round: u32) -> &[Answer] {
 
 /// A node after so many rounds.
 fn ledger(alloc: Global, answers: &[Answer], rounds: u32) -> Result<Node, Fault> {
-    let mut ledger = new_node(alloc, LINKS)?;
+    let mut ledger = new_node(alloc, LINKS, both_nodes(alloc)?)?;
     for round in 0..rounds {
         park(alloc, &mut ledger, answers_of(answers, round), round + 1)?;
     }

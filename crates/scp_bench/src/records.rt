@@ -1,8 +1,11 @@
-use crate::hearing::{HEARD, new_node, send, settle};
+use crate::hearing::{HEARD, ask, both_nodes, new_node, send, settle};
 use crate::messages::{record, slot_at};
 use scp_core::Node;
 use scp_types::Fault;
 use std::alloc::Global;
+
+/// So many records are asked for and come before the node settles: as many as there are open slots.
+const ASKED: u32 = 16;
 
 /// What the nodes have after their events.
 #[derive(Clone, Copy, Debug)]
@@ -22,20 +25,42 @@ fn link_at(place: u32, links: u8) -> u8 {
     }
 }
 
+/// The record at this place: it is asked for, and comes.
+fn hear_record(alloc: Global, node: &mut Node, links: u8, place: u32) -> Result<(), Fault> {
+    let link = link_at(place, links);
+    let slot = slot_at(place);
+    ask(node, link, slot)?;
+    let bytes = Vec::from_slice(alloc, &record(slot))?;
+    send(node, links, link, bytes)
+}
+
 /// A node that heard so many records over its links.
 fn ledger(alloc: Global, links: u8, records: u32) -> Result<Node, Fault> {
-    let mut node = new_node(alloc, links)?;
+    let mut node = new_node(alloc, links, both_nodes(alloc)?)?;
     for place in 0..records {
-        let bytes = Vec::from_slice(alloc, &record(slot_at(place)))?;
-        send(&mut node, links, link_at(place, links), bytes)?;
+        hear_record(alloc, &mut node, links, place)?;
+        if place % ASKED == ASKED - 1 {
+            settle(&mut node, links)?;
+        }
     }
     settle(&mut node, links)?;
     Ok(node)
 }
 
 impl Ledgers {
+    /// Of no node.
+    pub fn none() -> Ledgers {
+        Ledgers {
+            nodes: 0,
+            entries: 0,
+            decisions: 0,
+            applied: 0,
+            keys: 0,
+        }
+    }
+
     /// Counts what a node has.
-    fn count(&mut self, node: &Node) {
+    pub fn count(&mut self, node: &Node) {
         let keys = match node.state() {
             Some(state) => state.len(),
             None => 0,
@@ -50,13 +75,7 @@ impl Ledgers {
 
 /// Brings so many records through nodes of so many links, each of which hears as many as it may, one node after the other.
 pub fn hear_records(alloc: Global, links: u8, size: u32) -> Result<Ledgers, Fault> {
-    let mut ledgers = Ledgers {
-        nodes: 0,
-        entries: 0,
-        decisions: 0,
-        applied: 0,
-        keys: 0,
-    };
+    let mut ledgers = Ledgers::none();
     for _ in 0..size / HEARD {
         ledgers.count(&ledger(alloc, links, HEARD)?);
     }

@@ -1,3 +1,5 @@
+use crate::consensus::{Consensus, decide_slots};
+use crate::decide::decide_by_envelopes;
 use crate::decode::{Decoded, decode_records};
 use crate::envelopes::{Judged, hear_envelopes};
 use crate::parked::park_envelopes;
@@ -34,6 +36,10 @@ pub enum Workload {
     Quorum(Shape),
     /// Claims are tested on a voting board.
     Votes(Sharing),
+    /// So many nodes decide slots.
+    Consensus(u32),
+    /// A node decides slots by its peers' envelopes.
+    Decide,
 }
 
 /// The name of the workload that has this shape.
@@ -79,21 +85,25 @@ fn tell_votes(alloc: Global, sharing: Sharing, size: u32, text: &mut String) -> 
     Ok(())
 }
 
-/// Brings records through nodes of so many links, and adds what these have.
-fn tell_records(
-    alloc: Global,
-    name: &str,
-    links: u8,
-    size: u32,
-    text: &mut String,
-) -> Result<(), Fault> {
+/// Decides slots, and adds what came of them.
+fn tell_consensus(alloc: Global, nodes: u32, size: u32, text: &mut String) -> Result<(), Fault> {
+    let Consensus { decided, envelopes } = decide_slots(alloc, nodes, size)?;
+    writeln!(
+        text,
+        "consensus-{nodes} {size}: decided {decided} envelopes {envelopes}"
+    )?;
+    Ok(())
+}
+
+/// Adds what nodes have.
+fn tell_ledgers(name: &str, ledgers: Ledgers, size: u32, text: &mut String) -> Result<(), Fault> {
     let Ledgers {
         nodes,
         entries,
         decisions,
         applied,
         keys,
-    } = hear_records(alloc, links, size)?;
+    } = ledgers;
     writeln!(
         text,
         "{name} {size}: nodes {nodes} entries {entries} decisions {decisions} applied {applied} keys {keys}"
@@ -131,8 +141,10 @@ fn run(alloc: Global, workload: Workload, size: u32) -> Result<String, Fault> {
                 "decode {size}: messages {messages} slots {slots} bytes {bytes}"
             )?;
         }
-        Workload::Records => tell_records(alloc, "records", 1, size, &mut text)?,
-        Workload::Flow => tell_records(alloc, "flow", 7, size, &mut text)?,
+        Workload::Records => {
+            tell_ledgers("records", hear_records(alloc, 1, size)?, size, &mut text)?
+        }
+        Workload::Flow => tell_ledgers("flow", hear_records(alloc, 7, size)?, size, &mut text)?,
         Workload::Envelopes => tell_judged(
             "envelopes",
             hear_envelopes(alloc, size)?,
@@ -153,6 +165,10 @@ fn run(alloc: Global, workload: Workload, size: u32) -> Result<String, Fault> {
         }
         Workload::Quorum(shape) => tell_quorums(alloc, shape, size, &mut text)?,
         Workload::Votes(sharing) => tell_votes(alloc, sharing, size, &mut text)?,
+        Workload::Consensus(nodes) => tell_consensus(alloc, nodes, size, &mut text)?,
+        Workload::Decide => {
+            tell_ledgers("decide", decide_by_envelopes(alloc, size)?, size, &mut text)?
+        }
     }
     Ok(text)
 }
@@ -182,5 +198,9 @@ pub fn write_all<W: ReportOut>(alloc: Global, writer: &mut W) -> Result<(), Faul
     for sharing in [Sharing::One, Sharing::Each] {
         write_one(alloc, Workload::Votes(sharing), FEW, writer)?;
     }
+    for nodes in [4, 8, 16] {
+        write_one(alloc, Workload::Consensus(nodes), FEW, writer)?;
+    }
+    write_one(alloc, Workload::Decide, SMALL, writer)?;
     Ok(())
 }
