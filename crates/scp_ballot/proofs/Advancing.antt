@@ -10,6 +10,8 @@ use Rattle.scp_envelope.specs.Newer.{IsNewer, ArePledgesNewer}
 use Rattle.scp_envelope.specs.declared.statement.Pledges.{Pledges}
 use Rattle.scp_envelope.specs.declared.statement.Statement.{Statement}
 use Rattle.scp_envelope.specs.declared.statement.Envelope.{Envelope}
+use Rattle.scp_vote.specs.declared.claim.StatementKind.TheVariants.{Balloting}
+use Rattle.scp_vote.specs.Board.{kind_of_pledges}
 use Rattle.scp_vote.specs.Licence.{IsExternalize}
 use Rattle.scp_ballot_rules.specs.declared.state.State.{State}
 use Rattle.scp_ballot_rules.specs.declared.state.Phase.{Phase}
@@ -35,6 +37,11 @@ hash_of_own : (ph : Phase) (hash : Hash) (s : State) → set_hash_of (own_in ph 
 hash_of_own Prepare hash s = refl
 hash_of_own Confirm hash s = refl
 hash_of_own Externalize hash s = refl
+
+kind_of_own : (ph : Phase) (hash : Hash) (s : State) → kind_of_pledges (own_in ph hash s) ≡ Balloting
+kind_of_own Prepare hash s = refl
+kind_of_own Confirm hash s = refl
+kind_of_own Externalize hash s = refl
 
 blank_insane : (hash : Hash) (s : State) → IsBlank s → IsSane (own_of hash s) → ⊥
 blank_insane hash s blank sane =
@@ -101,6 +108,7 @@ module _ (m : Machine) (stands : StandsFor (own_at m) m.hash m.state) (last : Op
   own_envelope new failed e is unsigned there = record {
     node = is.node;
     slot = ap (λ (s : Slot). s.0) is.slot;
+    kind = ap kind_of_pledges is.pledges ∙ kind_of_own m.state.phase m.hash m.state;
     stands = there ∙ ap Some (sym is.pledges);
     hash = ap set_hash_of is.pledges ∙ hash_of_own m.state.phase m.hash m.state;
     unsigned = unsigned;

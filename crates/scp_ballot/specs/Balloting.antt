@@ -56,10 +56,12 @@ HasCounter (Nominating p) = ⊥
 abbrev pub HasBallot : Ballots → Type 0
 HasBallot b = IsSomeAnd (own b) HasCounter
 
--- An own statement as it is given: of this node and slot, that on the board, with the hash of the local set and no signature.
+-- An own statement as it is given: a ballot statement of this node and slot, that on the board, with the hash of the local set
+-- and no signature.
 pub record IsOwnEnvelope (b : Ballots) (e : Envelope) : Type 0 where
   pub node : e.statement.node ≡ b.board.me
   pub slot : e.statement.slot.0 ≡ b.slot
+  pub kind : kind_of_pledges e.statement.pledges ≡ Balloting
   pub stands : own b ≡ Some e.statement.pledges
   pub hash : set_hash_of e.statement.pledges ≡ b.hash
   pub unsigned : e.signature ≡ []

@@ -104,6 +104,9 @@ module _ (full : List ℕ → Type 0) (combined : List (List ℕ) → List ℕ) 
   stands_now : (e : Envelope) → given.statement ≡ Some e → own_at n ≡ Some (own_of n.hash n.lists)
   stands_now e is = elim s.told [ inl same ↦ let k : false ≡ true = sym same.0 ∙ some_true given.statement e is in absurd (let j : false ≡ true = k in cc) | inr told ↦ told.1 ]
 
+  stays_now : given.statement ≡ None → own_at n ≡ own_at m
+  stays_now none = elim s.told [ inl same ↦ same.1 | inr told ↦ let k : false ≡ true = sym (ap is_some none) ∙ told.0 in absurd (let j : false ≡ true = k in cc) ]
+
   pub advances : ForSome given.statement (λ e. IsOwnOf n slot e) → (IsSome given.composite ↔ (length m.lists.candidates.values.items < length n.lists.candidates.values.items)) → ForSome given.composite (λ v. v ≡ combined n.lists.candidates.values.items) → Advances combined (own_at m) (own_lists m.lists) (nomination_of n slot p nodes rounds f) given
   advances own grew all = record {
     licensed = licensed_now (heard m.board) (own_at m) (heard n.board) s.chain;
@@ -115,6 +118,7 @@ module _ (full : List ℕ → Type 0) (combined : List (List ℕ) → List ℕ) 
       stands = stands_now e is ∙ ap Some (sym (own e is).pledges);
       unsigned = (own e is).unsigned;
     };
+    still = λ none. stays_now none;
     keeps = record {
       votes = λ v h. more_has m.lists.votes n.lists.votes v s.votes h;
       accepted = λ v h. more_has m.lists.accepted n.lists.accepted v s.accepted h;

@@ -73,6 +73,8 @@ pub record Advances (combined : List (List ℕ) → List ℕ) (before : Option P
   pub licensed : Licensed new.board before (own new)
   pub emitted : IsSome given.statement ↔ IsWorth before (own new)
   pub statement : ForSome given.statement (λ e. IsOwnEnvelope new e)
+  -- where nothing is emitted the own statement stays
+  pub still : given.statement ≡ None → own new ≡ before
   pub keeps : KeepsLists lists new.lists
   pub confirmed : (v : List ℕ) → Contains new.lists.candidates v → Contains lists.candidates v ⊎ Confirmed new.board (IsNominated v)
   pub composite : GivesComposite combined lists.candidates new.lists.candidates given.composite
