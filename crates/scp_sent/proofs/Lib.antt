@@ -1,0 +1,5 @@
+pub mod Fits
+pub mod Waiting
+pub mod Giving
+pub mod Putting
+pub mod Live

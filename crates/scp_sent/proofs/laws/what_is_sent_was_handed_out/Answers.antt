@@ -1,0 +1,15 @@
+use Rattle.scp_sent.proofs.Waiting.{empty, puts}
+use Rattle.scp_sent.proofs.Giving.{gives_next, sends_are_sent}
+use Rattle.scp_sent.proofs.laws.what_is_sent_was_handed_out.Goals as goal
+
+pub returns-clause-empty : goal.returns-clause-empty
+returns-clause-empty c = empty
+
+pub returns-clause-puts : goal.returns-clause-puts
+returns-clause-puts c = puts
+
+pub returns-clause-gives : goal.returns-clause-gives
+returns-clause-gives c = gives_next
+
+pub returns-clause-sent : goal.returns-clause-sent
+returns-clause-sent c = sends_are_sent

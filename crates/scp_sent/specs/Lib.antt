@@ -1,0 +1,6 @@
+pub mod Handing
+pub mod Fit
+pub mod Sent
+pub mod Waiting
+pub mod Inside
+pub mod Laws

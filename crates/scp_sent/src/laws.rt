@@ -1,0 +1,30 @@
+//! Laws of what is sent, each the contract of a function that does nothing.
+ghost use Rattle.scp_sent.specs.Fit.{NamesFit, SaneSetsFit, ShortRecordsFit, ShortEnvelopesFit, WhatIsSpeltFits};
+ghost use Rattle.scp_sent.specs.Laws.{EmptySends, PutsKeepSends, GivesKeepSends, SendsAreSent, NothingChangesNothing, TurnsAddUp};
+
+/// What fits a link for certain: a message of a hash or a slot alone, a sane quorum set, a record of at most 4,096 bytes, an
+/// envelope that keeps its own limits and has at most seven votes and seven accepted values, and all that came over a link.
+pub fn what_fits_a_link()
+    ensures names { NamesFit }
+    ensures set { SaneSetsFit }
+    ensures value { ShortRecordsFit }
+    ensures envelope { ShortEnvelopesFit }
+    ensures spelt { WhatIsSpeltFits }
+{}
+
+/// All that is sent was handed out, and where each statement that is handed out is newer than all of its slot and kind before
+/// it, each that is sent is newer than all of its slot and kind that were sent before: it holds at first, stays so where more
+/// is handed out and put, and where what is next is sent.
+pub fn what_is_sent_was_handed_out()
+    ensures empty { EmptySends }
+    ensures puts { PutsKeepSends }
+    ensures gives { GivesKeepSends }
+    ensures sent { SendsAreSent }
+{}
+
+/// What is handed out in turns is handed out as one list for each link: of no turn nothing changes, and the lists of two turns
+/// stand one after the other.
+pub fn what_is_handed_out_adds_up()
+    ensures none { NothingChangesNothing }
+    ensures turns { TurnsAddUp }
+{}
