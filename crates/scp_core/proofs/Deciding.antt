@@ -1,6 +1,6 @@
 -- The slot stage and the applier: one thing more.
-use Rattle.std.proofs.Common.{◌≡◌, ℕ, Bool, true, false, List, [], ◌∷◌, ◌++◌, ◌⊎◌, inl, inr, refl, sym, ◌∙◌, ap, subst, append_assoc}
-use Rattle.std.specs.Prelude.{Option, Some, None, Contains, ◌&&◌, cond, map, flat_map, option_map, option_to_list}
+use Rattle.std.proofs.Common.{◌≡◌, ℕ, Bool, true, false, List, [], ◌∷◌, ◌++◌, ◌⊎◌, inl, inr, refl, sym, ◌∙◌, ap, subst, append_assoc, arith, length, zero, suc}
+use Rattle.std.specs.Prelude.{Option, Some, None, Any, take, slice_index_or, Contains, ◌&&◌, cond, map, flat_map, option_map, option_to_list}
 use Rattle.std.specs.BTreeMap as tree
 use Rattle.std.specs.List.Sorted.{IsPermutation}
 use Rattle.std.proofs.lemmas.List.{append-nil, map-append}
@@ -25,6 +25,8 @@ use Rattle.scp_ledger.specs.declared.journal.Fate.TheVariants.{Taken, Dropped, C
 use Rattle.scp_ledger.specs.declared.journal.Asking.{Asking}
 use Rattle.scp_ledger.specs.declared.took.Onward.{Onward}
 use Rattle.scp_ledger.specs.declared.took.Onward.TheVariants.{Decided, Asked}
+use Rattle.scp_ledger.specs.declared.took.Outgoing.{Outgoing}
+use Rattle.scp_ledger.specs.declared.took.Outgoing.TheVariants.{To}
 use Rattle.scp_ledger.specs.declared.took.Took.{Took}
 use Rattle.scp_ledger.specs.Decisions.{AreInWindow, IsNext}
 use Rattle.scp_ledger.specs.Ledger.{IsLedger}
@@ -44,7 +46,9 @@ use Rattle.scp_apply.specs.Applier.{ApplierView, IsApplier, IsRunning, CanTake}
 use Rattle.scp_apply.specs.Applier.{Takes as ApplierTakes}
 use Rattle.scp_apply.specs.Laws.{NextCanBeTaken}
 use Rattle.scp_core.specs.Stages.{Entry, KvLedger, KvTakes, KvRuns, entry_in, entry_of, request_by, Journals, decision_on, decisions_on, request_on, requests_on, Applies}
+use Rattle.scp_core.specs.Node.{IsToAll}
 use Rattle.scp_core.specs.inside.Decider.{DeciderView, IsSound}
+use Rattle.scp_core.specs.inside.Stage.{shown, Shows}
 
 -- ---- the slot stage
 
@@ -60,6 +64,7 @@ record Goes (old : KvLedger) (x : Ready) (t : Took) (new : KvLedger) : Type 0 wh
   decisions : new.decisions ≡ old.decisions ++ decisions_on (option_to_list t.onward)
   requests : requests_on (option_to_list t.onward) ≡ flat_map (request_by old.peers) fates
   asked : (a : Asking) → is_asked new.asked a ≡ true → (is_asked old.asked a ≡ true) ⊎ Contains (passed x) (Ask a.link a.slot)
+  asked_stay : Any IsToAll t.outgoing → new.asked ≡ old.asked
 
 abbrev level_by : KvDriver → ℕ → List ℕ → Level
 level_by driver slot value = kv_level value
@@ -88,6 +93,7 @@ ran {at} old x t new fates r entries none = record {
   decisions = r.decisions ∙ ap (λ ds. old.decisions ++ ds) (sym (its_decision (decision_of at r.out.decided)) ∙ ap (λ (o : Option Onward). decisions_on (option_to_list o)) (sym r.onward));
   requests = ap (λ (o : Option Onward). requests_on (option_to_list o)) r.onward ∙ no_request (decision_of at r.out.decided) ∙ sym none;
   asked = λ a is. inl (ap (λ (v : KvLedger). is_asked v.asked a) (sym r.same) ∙ is);
+  asked_stay = λ out. ap (λ (v : KvLedger). v.asked) r.same;
 }
 
 -- nothing but the entry came of it
@@ -103,6 +109,7 @@ passed_on old x t new fates p entries none = record {
   decisions = ap (λ (v : KvLedger). v.decisions) p.same ∙ sym (append-nil old.decisions) ∙ ap (λ (o : Option Onward). old.decisions ++ decisions_on (option_to_list o)) (sym p.onward);
   requests = ap (λ (o : Option Onward). requests_on (option_to_list o)) p.onward ∙ sym none;
   asked = λ a is. inl (ap (λ (v : KvLedger). is_asked v.asked a) (sym p.same) ∙ is);
+  asked_stay = λ out. ap (λ (v : KvLedger). v.asked) p.same;
 }
 
 both_hold : (a b : Bool) → (a && b) ≡ true → (a ≡ true) × (b ≡ true)
@@ -118,6 +125,14 @@ same_command a b e =
 either : (b rest : Bool) → cond b true rest ≡ true → (b ≡ true) ⊎ (rest ≡ true)
 either true rest e = inl refl
 either false rest e = inr e
+
+-- what goes to one link goes to no others
+only_to : (link : ℕ) (message : Message) → Any IsToAll (To link message ∷ []) → ⊥
+only_to link message out = only link message out.0 out.1 out.3 out.4 (omega (arith, out.2))
+  where
+    only : (link : ℕ) (message : Message) (k : ℕ) (x : Outgoing) → slice_index_or (To link message ∷ []) k x ≡ x → IsToAll x → k ≡ 0 → ⊥
+    only link message zero x e out first = subst IsToAll (sym e) out
+    only link message (suc k) x e out first = absurd (omega (arith, first))
 
 -- a fresh ask
 asked_now : (old : KvLedger) (link : ℕ) (at : Slot) (t : Took) (new : KvLedger) → Asks old link at t new → Goes old (ready.Local (Ask link at)) t new
@@ -135,6 +150,7 @@ asked_now old link at t new h = record {
     | inl now ↦ inr (subst (λ (c : Command). Contains (Ask link at ∷ []) c) (same_command (record { link = link; slot = at }) a now) (Contains-push [] (Ask link at)))
     | inr was ↦ inl was
   ];
+  asked_stay = λ out. absurd (only_to link (GetRecord at) (subst (λ (os : List Outgoing). Any IsToAll os) h.outgoing out));
 }
 
 -- a command of a machine
@@ -170,6 +186,7 @@ decided_now old conn seq at value set beside t new is h = record {
   decisions = h.decisions ∙ ap (λ (o : Option Onward). old.decisions ++ decisions_on (option_to_list o)) (sym h.onward);
   requests = ap (λ (o : Option Onward). requests_on (option_to_list o)) h.onward;
   asked = λ a is. inl (ap (λ (v : KvLedger). is_asked v.asked a) (sym h.same) ∙ is);
+  asked_stay = λ out. ap (λ (v : KvLedger). v.asked) h.same;
 }
 
 forwarded : (old : KvLedger) (conn : ConnId) (seq : Seq) (at : Slot) (set : Option SharedSet) (beside : Option QuorumTree) (t : Took) (new : KvLedger) → option_map (λ (s : SharedSet). s.value) set ≡ beside → Forwards old conn seq at set t new → Goes old (delivered conn seq (GetRecord at) beside) t new
@@ -184,6 +201,7 @@ forwarded old conn seq at set beside t new is h = record {
   decisions = ap (λ (v : KvLedger). v.decisions) h.same ∙ sym (append-nil old.decisions) ∙ ap (λ (o : Option Onward). old.decisions ++ decisions_on (option_to_list o)) (sym h.onward);
   requests = ap (λ (o : Option Onward). requests_on (option_to_list o)) h.onward;
   asked = λ a is. inl (ap (λ (v : KvLedger). is_asked v.asked a) (sym h.same) ∙ is);
+  asked_stay = λ out. ap (λ (v : KvLedger). v.asked) h.same;
 }
 
 of_message : (old : KvLedger) (conn : ConnId) (seq : Seq) (message : Message) (beside : Option QuorumTree) (t : Took) (new : KvLedger) → TakesMessage level_by combined_by old conn seq message beside t new → Goes old (delivered conn seq message beside) t new
@@ -211,6 +229,16 @@ goes old (ready.Local command) t new takes = of_command old command t new takes
 -- a ledger that runs and takes a thing runs on
 pub runs_on : (old : KvLedger) (x : Ready) (t : Took) (new : KvLedger) → old.failed ≡ false → KvTakes old x t new → new.failed ≡ false
 runs_on old x t new runs takes = (goes old x t new takes).runs ∙ runs
+
+-- what a ledger shows of before a thing was taken, where the thing made it hand out own statements
+pub shown_before : (v : KvLedger) (x : Ready) (t : Took) (new : KvLedger) → KvTakes v x t new → Any IsToAll t.outgoing → Shows v (shown (Some (record { journal = length v.journal; decisions = length v.decisions })) new)
+shown_before v x t new takes out =
+    let g = goes v x t new takes in
+    (ap (take (length v.journal)) g.journal ∙ take_front v.journal g.fates, ap (take (length v.decisions)) g.decisions ∙ take_front v.decisions (decisions_on (option_to_list t.onward)), g.asked_stay out)
+  where
+    take_front : {X : Type 0} (xs ys : List X) → take (length xs) (xs ++ ys) ≡ xs
+    take_front [] ys = refl
+    take_front (y ∷ xs) ys = ap (λ zs. y ∷ zs) (take_front xs ys)
 
 pub journals_step : (me : NodeId) (local : QuorumTree) (peers : List NodeId) (took : List Ready) (onwards : List Onward) (old : KvLedger) (x : Ready) (t : Took) (new : KvLedger) → KvTakes old x t new → IsLedger new → KvRuns new → Journals me local peers took onwards old → Journals me local peers (took ++ x ∷ []) (onwards ++ option_to_list t.onward) new
 journals_step me local peers took onwards old x t new takes known running j =

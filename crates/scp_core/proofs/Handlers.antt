@@ -1,19 +1,27 @@
 -- What a handler did to one link is a step of the node.
 use Rattle.std.proofs.Common.{◌≡◌, ◌≢◌, ℕ, Bool, true, false, List, [], ◌∷◌, refl, sym, ◌∙◌, ap, subst, inl, inr, zero, suc, length}
-use Rattle.std.specs.Prelude.{◌↔◌, Option, Some, None, map, slice_get, slice_set, Result, Ok, Err, is_ok, OnOk}
+use Rattle.std.specs.Prelude.{◌↔◌, Option, Some, None, map, slice_get, slice_set, Result, Ok, Err, is_ok, OnOk, nat_lt, if◌then◌else◌}
+use Rattle.std.proofs.lemmas.Bool.{ltb-true, lt-ltb}
 use Rattle.scp_types.specs.declared.names.NodeId.{NodeId}
 use Rattle.scp_wire.specs.declared.link.Inbound.{Inbound}
-use Rattle.scp_core.specs.declared.event.Event.TheVariants.{Open, Send, Close, ReaderTake, ReaderPut, SlotTake}
+use Rattle.scp_core.specs.declared.event.Event.TheVariants.{Open, Send, Close, ReaderTake, ReaderPut, SlotTake, ApplyTake, Drain}
 use Rattle.scp_core.specs.declared.event.Reply.{Reply}
-use Rattle.scp_core.specs.declared.event.Reply.TheVariants.{NoLink, AlreadyOpen, LivesSpent, NotOpen, Full, Accepted, Blocked, Idle, Moved, JournalFull, NoMemory}
+use Rattle.scp_core.specs.declared.event.Reply.TheVariants.{NoLink, AlreadyOpen, LivesSpent, NotOpen, Full, Accepted, Blocked, Idle, Moved, Sent, JournalFull, NoMemory}
 use Rattle.scp_pending.specs.declared.ready.Ready.{Ready}
 use Rattle.scp_pending.specs.Rules.{PendingView}
 use Rattle.scp_pending.specs.Pends.{Pends, IsSettled}
 use Rattle.scp_core.specs.History.{peer_at}
-use Rattle.scp_core.specs.Node.{LinkView, NodeView, with_link, Step, Fails, life_of, IsIdle}
+use Rattle.scp_core.specs.Node.{LinkView, NodeView, with_link, Step, Fails, Hands, life_of, IsIdle}
 use Rattle.scp_ledger.specs.Takes.{adds_entry}
 use Rattle.scp_core.specs.Stages.{KvLedger, KvTakes}
-use Rattle.scp_core.specs.inside.Decider.{DeciderView, Decides, Keeps}
+use Rattle.scp_wire.specs.declared.message.Message.{Message}
+use Rattle.scp_outbox.specs.Outbox.{OutboxView}
+use Rattle.scp_sent.specs.Handing.{GivesAt, GivesThere}
+use Rattle.scp_apply.specs.Applier.{ApplierView}
+use Rattle.scp_apply.specs.Applier.{Takes as ApplierTakes}
+use Rattle.scp_core.specs.inside.Decider.{DeciderView, Decides, AppliesNext, Applies, Keeps}
+use Rattle.scp_core.specs.inside.Draining.{Draws, IsSpelt, empty_reply}
+use Rattle.scp_core.proofs.Queues.{within, there_is}
 use Rattle.scp_core.specs.inside.Links.{Opens, Sends, Closes, Reads, Gives, OnLinks, Puts}
 
 set_same : {X : Type 0} (xs : List X) (l : ℕ) (x : X) → slice_get xs l ≡ Some x → slice_set xs l x ≡ xs
@@ -143,21 +151,24 @@ isnt_empty x rest e = cc
 same_first : {X : Type 0} (x y : X) (xs ys : List X) → x ∷ xs ≡ y ∷ ys → x ≡ y
 same_first x y xs ys e = cc
 
-slot-fails : (v w : NodeView) (d d2 : DeciderView) (rest : List Ready) → v ≡ with_decider v d → w ≡ with_decider (record v { ready = rest }) d2 → v.failed ≡ false → Keeps d d2 → Fails v w
-slot-fails v w d d2 rest e is runs k = record {
+fails_by : (v u w : NodeView) (d d2 : DeciderView) → v ≡ with_decider v d → w ≡ with_decider u d2 → u.config ≡ v.config → u.links ≡ v.links → v.failed ≡ false → Keeps d d2 → Fails v w
+fails_by v u w d d2 e is config links runs k = record {
   was = runs;
-  failed = ap (λ (u : NodeView). u.failed) is ∙ k.failed;
+  failed = ap (λ (x : NodeView). x.failed) is ∙ k.failed;
   keeps = record {
-    config = ap (λ (u : NodeView). u.config) is;
-    journal = ap (λ (u : NodeView). u.ledger.journal) is ∙ k.journal ∙ sym (ap (λ (u : NodeView). u.ledger.journal) e);
-    decisions = ap (λ (u : NodeView). u.ledger.decisions) is ∙ k.decisions ∙ sym (ap (λ (u : NodeView). u.ledger.decisions) e);
-    asked = ap (λ (u : NodeView). u.ledger.asked) is ∙ k.asked ∙ sym (ap (λ (u : NodeView). u.ledger.asked) e);
-    applied = ap (λ (u : NodeView). u.applier.applied) is ∙ k.applied ∙ sym (ap (λ (u : NodeView). u.applier.applied) e);
-    lives = ap (λ (u : NodeView). map life_of u.links) is;
+    config = ap (λ (x : NodeView). x.config) is ∙ config;
+    journal = ap (λ (x : NodeView). x.ledger.journal) is ∙ k.journal ∙ sym (ap (λ (x : NodeView). x.ledger.journal) e);
+    decisions = ap (λ (x : NodeView). x.ledger.decisions) is ∙ k.decisions ∙ sym (ap (λ (x : NodeView). x.ledger.decisions) e);
+    asked = ap (λ (x : NodeView). x.ledger.asked) is ∙ k.asked ∙ sym (ap (λ (x : NodeView). x.ledger.asked) e);
+    applied = ap (λ (x : NodeView). x.applier.applied) is ∙ k.applied ∙ sym (ap (λ (x : NodeView). x.applier.applied) e);
+    lives = ap (λ (x : NodeView). map life_of x.links) is ∙ ap (map life_of) links;
   };
 }
 
-pub slot-step : (v w : NodeView) (d d2 : DeciderView) (x : Ready) (rest : List Ready) (reply : Reply) → v ≡ with_decider v d → w ≡ with_decider (record v { ready = rest }) d2 → v.failed ≡ false → v.slot_hand ≡ None → v.ready ≡ x ∷ rest → Decides d x reply d2 → Step v SlotTake reply w
+slot-fails : (v w : NodeView) (d d2 : DeciderView) (rest : List Ready) → v ≡ with_decider v d → w ≡ with_decider (record v { ready = rest; outboxes = w.outboxes }) d2 → v.failed ≡ false → Keeps d d2 → Fails v w
+slot-fails v w d d2 rest e is runs k = fails_by v (record v { ready = rest; outboxes = w.outboxes }) w d d2 e is refl refl runs k
+
+pub slot-step : (v w : NodeView) (d d2 : DeciderView) (x : Ready) (rest : List Ready) (reply : Reply) → v ≡ with_decider v d → w ≡ with_decider (record v { ready = rest; outboxes = w.outboxes }) d2 → v.failed ≡ false → v.slot_hand ≡ None → v.ready ≡ x ∷ rest → Decides d v.outboxes x reply d2 w.outboxes → Step v SlotTake reply w
 slot-step v w d d2 x rest Moved e is runs empty q h = (
   runs,
   (
@@ -171,10 +182,99 @@ slot-step v w d d2 x rest Moved e is runs empty q h = (
       takes = subst (λ (l : KvLedger). KvTakes l x h.0 d2.ledger) (sym (ap (λ (u : NodeView). u.ledger) e)) h.1;
       known = h.2;
       running = h.3;
-      is = is ∙ ap (with_decider (record v { ready = rest })) h.4 ∙ ap (λ (u : NodeView). record u { ready = rest; ledger = d2.ledger; slot_hand = h.0.onward }) (sym e);
+      hands = h.5;
+      is = is ∙ ap (with_decider (record v { ready = rest; outboxes = w.outboxes })) h.4 ∙ ap (λ (u : NodeView). record u { ready = rest; ledger = d2.ledger; slot_hand = h.0.onward; outboxes = w.outboxes }) (sym e);
     },
   ),
 )
 slot-step v w d d2 x rest JournalFull e is runs empty q h = (slot-fails v w d d2 rest e is runs h.2, (empty, x, rest, q, h.0, ap (λ (u : NodeView). length u.ledger.journal) e ∙ h.1))
 slot-step v w d d2 x rest NoMemory e is runs empty q h = (slot-fails v w d d2 rest e is runs h.1, (empty, (λ none. isnt_empty x rest (sym q ∙ none)), λ fills. h.0 (subst (λ (y : Ready). adds_entry y ≡ true) (sym (same_first x fills.1 rest fills.2 (sym q ∙ fills.3))) fills.4, sym (ap (λ (u : NodeView). length u.ledger.journal) e) ∙ fills.5)))
 slot-step v w d d2 x rest reply e is runs empty q h = absurd h
+
+-- ---- the applier
+
+pub apply-step : (v w : NodeView) (d d2 : DeciderView) (answer : Option (ℕ × Message)) → v ≡ with_decider v d → w ≡ with_decider (record v { outboxes = w.outboxes }) d2 → v.failed ≡ false → AppliesNext d answer d2 → Hands v.outboxes answer w.outboxes → Step v ApplyTake Moved w
+apply-step v w d d2 answer e is runs a hands = (
+  runs,
+  record {
+    x = a.x;
+    rest = a.rest;
+    decided = ap (λ (u : NodeView). u.decided) e ∙ a.queue;
+    after' = d2.applier;
+    answer = answer;
+    takes = subst (λ (l : ApplierView). ApplierTakes l a.x answer d2.applier) (sym (ap (λ (u : NodeView). u.applier) e)) a.takes;
+    known = a.known;
+    running = a.running;
+    hands = hands;
+    is = is ∙ ap (with_decider (record v { outboxes = w.outboxes })) a.is ∙ ap (λ (u : NodeView). record u { decided = a.rest; applier = d2.applier; outboxes = w.outboxes }) (sym e);
+  },
+)
+
+pub apply-refused : (v w : NodeView) (d d2 : DeciderView) (reply : Reply) → v ≡ with_decider v d → w ≡ with_decider v d2 → v.failed ≡ false → Applies d (Err reply) d2 → Step v ApplyTake reply w
+apply-refused v w d d2 Idle e is runs h = (runs, ap (λ (u : NodeView). u.decided) e ∙ h.0, is ∙ ap (with_decider v) h.1 ∙ sym e)
+apply-refused v w d d2 NoMemory e is runs h = (fails_by v v w d d2 e is refl refl runs h.1, λ none. h.0 (sym (ap (λ (u : NodeView). u.decided) e) ∙ none))
+apply-refused v w d d2 reply e is runs h = absurd h
+
+-- ---- a drain
+
+abbrev with_outboxes : NodeView → List OutboxView → NodeView
+with_outboxes v boxes = record v { outboxes = boxes }
+
+-- the link's outbox gives nothing, and all stays
+gives_nothing : (old : List OutboxView) (l : ℕ) (new : List OutboxView) (g : GivesThere old l None new) → new ≡ old
+gives_nothing old l new g = g.is ∙ ap (slice_set old l) g.gives.1 ∙ set_same old l g.before g.there
+
+drain-step : (v : NodeView) (l : ℕ) (reply : Reply) (boxes : List OutboxView) → v.failed ≡ false → Draws v.outboxes l reply boxes → Step v (Drain l) reply (failing (with_outboxes v boxes) reply)
+drain-step v l (Sent bytes) boxes r d = (r, record { message = d.0; gives = d.1; spells = d.2; is = refl })
+drain-step v l NoMemory boxes r d = (record { was = r; failed = refl; keeps = record { config = refl; journal = refl; decisions = refl; asked = refl; applied = refl; lives = refl } }, (d.0, boxes, d.1))
+drain-step v l Idle boxes r d = (r, (d.before, d.there, (d.gives.0, refl)), ap (with_outboxes v) (gives_nothing v.outboxes l boxes d))
+drain-step v l NoLink boxes r d = (r, d.0, ap (with_outboxes v) d.1)
+drain-step v l reply boxes r d = absurd d
+
+pub drain-kept : (v : NodeView) (l : ℕ) (reply : Reply) (boxes : List OutboxView) → reply ≢ NoMemory → v.failed ≡ false → Draws v.outboxes l reply boxes → Step v (Drain l) reply (with_outboxes v boxes)
+drain-kept v l reply boxes ne r d = subst (λ (w : NodeView). Step v (Drain l) reply w) (failing-not (with_outboxes v boxes) reply ne) (drain-step v l reply boxes r d)
+
+pub drain-failed : (v w : NodeView) (l : ℕ) (reply : Reply) (boxes : List OutboxView) → reply ≡ NoMemory → v.failed ≡ false → Draws v.outboxes l reply boxes → w ≡ record v { outboxes = boxes; failed = true } → Step v (Drain l) reply w
+drain-failed v w l reply boxes e r d is = subst (λ (u : NodeView). Step v (Drain l) reply u) (ap (failing (with_outboxes v boxes)) e ∙ sym is) (drain-step v l reply boxes r d)
+
+-- nothing is next at the link
+past_end : (boxes : List OutboxView) (l : ℕ) (o : OutboxView) → nat_lt l (length boxes) ≡ false → slice_get boxes l ≡ Some o → ⊥
+past_end boxes l o e there = true_isnt (sym (lt-ltb l (length boxes) (within boxes l o there)) ∙ e)
+  where
+    true_isnt : true ≡ false → ⊥
+    true_isnt e = cc
+
+there_not : (boxes : List OutboxView) (l : ℕ) → nat_lt l (length boxes) ≡ true → slice_get boxes l ≡ None → ⊥
+there_not boxes l e none =
+    let here = there_is boxes l (ltb-true l (length boxes) e) in
+    some_isnt here.0 (sym here.1 ∙ none)
+  where
+    some_isnt : (o : OutboxView) → Some o ≡ None → ⊥
+    some_isnt o e = cc
+
+nothing_by : (old : List OutboxView) (l : ℕ) (new : List OutboxView) (b : Bool) → nat_lt l (length new) ≡ b → GivesAt old l None new → Draws old l (if b then Idle else NoLink) new
+nothing_by old l new true e g = elim g [
+  | inl n ↦ absurd (there_not old l (subst (λ (boxes : List OutboxView). nat_lt l (length boxes) ≡ true) n.2 e) n.0)
+  | inr t ↦ t
+]
+nothing_by old l new false e g = elim g [
+  | inl n ↦ (n.0, n.2)
+  | inr t ↦ absurd (past_end old l t.before (subst (λ (boxes : List OutboxView). nat_lt l (length boxes) ≡ false) (gives_nothing old l new t) e) t.there)
+]
+
+pub draws_nothing : (old : List OutboxView) (l : ℕ) (new : List OutboxView) (reply : Reply) → reply ≡ empty_reply (length new) l → GivesAt old l None new → Draws old l reply new
+draws_nothing old l new reply is g = subst (λ (a : Reply). Draws old l a new) (sym is) (nothing_by old l new (nat_lt l (length new)) refl g)
+
+given_there : (old : List OutboxView) (l : ℕ) (message : Message) (new : List OutboxView) → GivesAt old l (Some message) new → GivesThere old l (Some message) new
+given_there old l message new g = elim g [
+  | inl n ↦ absurd (isnt n.1)
+  | inr t ↦ t
+]
+  where
+    isnt : Some message ≡ None → ⊥
+    isnt e = cc
+
+pub draws_next : (old : List OutboxView) (l : ℕ) (message : Message) (new : List OutboxView) (reply : Reply) → GivesAt old l (Some message) new → IsSpelt message reply → Draws old l reply new
+draws_next old l message new (Sent bytes) g s = (message, given_there old l message new g, s)
+draws_next old l message new NoMemory g s = (message, given_there old l message new g)
+draws_next old l message new reply g s = absurd s

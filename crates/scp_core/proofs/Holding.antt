@@ -1,16 +1,16 @@
 -- What holds of a list of exchanges holds of the list with one more.
-use Rattle.std.proofs.Common.{◌≡◌, true, false, List, [], ◌∷◌, ◌++◌, refl, sym, ◌∙◌, ap, subst, inl, inr}
+use Rattle.std.proofs.Common.{◌≡◌, ℕ, true, false, List, [], ◌∷◌, ◌++◌, refl, sym, ◌∙◌, ap, subst, inl, inr}
 use Rattle.std.specs.Prelude.{fold}
 use Rattle.scp_core.specs.declared.config.Config.{Config}
 use Rattle.scp_core.specs.declared.event.Event.{Event}
-use Rattle.scp_core.specs.declared.event.Event.TheVariants.{Open, Send, Close, Local, ReaderTake, ReaderPut, PendTake, PendPut, SlotTake, SlotPut, ApplyTake}
+use Rattle.scp_core.specs.declared.event.Event.TheVariants.{Open, Send, Close, Local, ReaderTake, ReaderPut, PendTake, PendPut, SlotTake, SlotPut, ApplyTake, Drain}
 use Rattle.scp_core.specs.declared.event.Reply.{Reply}
-use Rattle.scp_core.specs.declared.event.Reply.TheVariants.{Failed, NoLink, AlreadyOpen, LivesSpent, NotOpen, Full, Accepted, Blocked, Idle, Moved, JournalFull, NoMemory}
+use Rattle.scp_core.specs.declared.event.Reply.TheVariants.{Failed, NoLink, AlreadyOpen, LivesSpent, NotOpen, Full, Accepted, Blocked, Idle, Moved, Sent, JournalFull, NoMemory}
 use Rattle.scp_core.specs.History.{Exchange, Past, hears, accepts, moves, past_of, nothing_heard}
-use Rattle.scp_core.specs.Node.{NodeView, Accepts, Moves, Step, Keeps, Fails}
+use Rattle.scp_core.specs.Node.{NodeView, Accepts, Moves, SendsOut, Step, Keeps, Fails}
 use Rattle.scp_core.specs.Flow.{Flows}
 use Rattle.scp_core.specs.Theorem.{IsReply, AreSteps, LedgerTheorem, StepsKeep}
-use Rattle.scp_core.proofs.Steps.{Flows-failed, Flows-accepts, Flows-moves}
+use Rattle.scp_core.proofs.Steps.{Flows-failed, Flows-accepts, Flows-moves, Flows-sends}
 
 abbrev SameConfig : NodeView → NodeView → Type 0
 SameConfig old new = new.config ≡ old.config
@@ -34,6 +34,10 @@ moves-config old new SlotTake a = same-view old new _ refl a.1.is
 moves-config old new SlotPut a = same-view old new _ refl a.3
 moves-config old new ApplyTake a = same-view old new _ refl a.is
 moves-config old new event a = absurd a
+
+sends-config : (old new : NodeView) (event : Event) (bytes : List ℕ) → SendsOut old event bytes new → SameConfig old new
+sends-config old new (Drain l) bytes d = same-view old new _ refl d.is
+sends-config old new event bytes d = absurd d
 
 accepts-runs : (old new : NodeView) (event : Event) → Accepts old event new → new.failed ≡ old.failed
 accepts-runs old new (Open l) a = ap (λ (v : NodeView). v.failed) a.2.3
@@ -132,6 +136,12 @@ holds past old new event Moved s h =
     let f = Flows-moves (past_of old.config past) old new event s.1 k.flows in
     build past old new event Moved (moves-config old new event s.1) h (is-reply _ old new event Moved k s)
     (f.runs ∙ sym (past-goes (past_of old.config past) event ∙ k.past))
+    new f (λ _. refl) (keeps-refl new)
+holds past old new event (Sent bytes) s h =
+    let k = ran past old s.0 h in
+    let f = Flows-sends (past_of old.config past) old new event bytes s.1 k.flows in
+    build past old new event (Sent bytes) (sends-config old new event bytes s.1) h (is-reply _ old new event (Sent bytes) k s)
+    (f.runs ∙ sym k.past)
     new f (λ _. refl) (keeps-refl new)
 holds past old new event JournalFull s h = fails past old new event JournalFull (λ p. refl) s.0 s h
 holds past old new event NoMemory s h = fails past old new event NoMemory (λ p. refl) s.0 s h

@@ -1,6 +1,7 @@
 pub mod Queues
 pub mod Links
 pub mod Deciding
+pub mod Staging
 pub mod Steps
 pub mod OfLinks
 pub mod Holding
@@ -11,3 +12,5 @@ pub mod Decided
 pub mod Caused
 pub mod Rooms
 pub mod Zipped
+pub mod Fitting
+pub mod Putting

@@ -26,11 +26,12 @@ use Rattle.scp_apply.specs.Applier.{ApplierView, IsApplier, IsRunning}
 use Rattle.scp_apply.specs.Applier.{Takes as ApplierTakes}
 use Rattle.scp_ledger.specs.declared.took.Onward.{Onward}
 use Rattle.scp_core.specs.declared.event.Event.{Event}
-use Rattle.scp_core.specs.declared.event.Event.TheVariants.{Open, Send, Close, Local, ReaderTake, ReaderPut, PendTake, PendPut, SlotTake, SlotPut, ApplyTake}
+use Rattle.scp_core.specs.declared.event.Event.TheVariants.{Open, Send, Close, Local, ReaderTake, ReaderPut, PendTake, PendPut, SlotTake, SlotPut, ApplyTake, Drain}
 use Rattle.scp_core.proofs.Deciding.{journals_step, applies_step}
 use Rattle.scp_core.specs.History.{OnLink, Past, accepts, moves, tail_of, readings_of, changed, peer_at}
 use Rattle.scp_core.specs.Stages.{KvLedger, KvTakes, KvRuns}
-use Rattle.scp_core.specs.Node.{LinkView, NodeView, with_link, Accepts, Moves}
+use Rattle.scp_outbox.specs.Outbox.{OutboxView}
+use Rattle.scp_core.specs.Node.{SendsOut, LinkView, NodeView, with_link, Accepts, Moves}
 use Rattle.scp_core.specs.Flow.{LinkFlows, Flows}
 use Rattle.scp_core.proofs.Queues.{way-fill, way-put, way-take, get_set, at_changed, peer_is, within, there_is}
 use Rattle.scp_core.proofs.Links.{link-put, put_same, link-take, link-give, give_more, hand_cut, in_order, more}
@@ -208,6 +209,33 @@ Flows-accepts p old new (Send l bytes) a f = subst (λ (v : NodeView). Flows (ac
 Flows-accepts p old new (Close l) a f = subst (λ (v : NodeView). Flows (accepts old.config p (Close l)) v) (sym a.2.2) (Flows-close p old l a.0 a.1 a.2.0 f)
 Flows-accepts p old new (Local command) a f = subst (λ (v : NodeView). Flows (accepts old.config p (Local command)) v) (sym a.2) (Flows-local p old (inbound.Local command) (λ peer. refl) f)
 Flows-accepts p old new event a f = absurd a
+
+-- ---- outboxes
+
+-- nothing of this is said of the outboxes
+pub Flows-outboxes : (p : Past) (v : NodeView) (boxes : List OutboxView) → Flows p v → Flows p (record v { outboxes = boxes })
+Flows-outboxes p v boxes f = record {
+  runs = f.runs;
+  rooms = f.rooms;
+  count = f.count;
+  apart = f.apart;
+  links = f.links;
+  came = f.came;
+  local = f.local;
+  arrived = f.arrived;
+  inbox = f.inbox;
+  given = f.given;
+  pending = f.pending;
+  took = f.took;
+  ready = f.ready;
+  onwards = f.onwards;
+  journal = f.journal;
+  applied = f.applied;
+  decided = f.decided;
+  applier = f.applier;
+  ready_count = f.ready_count;
+  decided_count = f.decided_count;
+}
 
 -- ---- moves
 
@@ -415,10 +443,16 @@ Flows-moves p old new (ReaderTake l) a f = subst (λ (v : NodeView). Flows (move
 Flows-moves p old new (ReaderPut l) a f = subst (λ (v : NodeView). Flows (moves p (ReaderPut l)) v) (sym a.2.3) (Flows-reader-put p old l a.0 a.2.1 a.1 a.2.2 f)
 Flows-moves p old new PendTake a f = elim a.1 [
   | inl b ↦ subst (λ (v : NodeView). Flows p v) (sym b.is) (Flows-brings p old b.thing b.after' a.0 b.passes b.same f)
-  | inr b ↦ subst (λ (v : NodeView). Flows p v) (sym b.is) (Flows-pend-take p old b.x b.rest b.between b.after' b.thing a.0 b.inbox b.rules b.same b.takes b.gives f)
+  | inr b ↦ subst (λ (v : NodeView). Flows p v) (sym b.is) (Flows-outboxes p (record old { inbox = b.rest; pending = b.after'; pend_hand = b.thing }) new.outboxes (Flows-pend-take p old b.x b.rest b.between b.after' b.thing a.0 b.inbox b.rules b.same b.takes b.gives f))
 ]
 Flows-moves p old new PendPut a f = subst (λ (v : NodeView). Flows (moves p PendPut) v) (sym a.3) (Flows-pend-put p old a.1 a.2 f)
-Flows-moves p old new SlotTake a f = let b = a.1 in subst (λ (v : NodeView). Flows (moves p SlotTake) v) (sym b.is) (Flows-slot-take p old b.x b.rest b.after' b.took a.0 b.ready b.takes b.known b.running f)
+Flows-moves p old new SlotTake a f = let b = a.1 in subst (λ (v : NodeView). Flows (moves p SlotTake) v) (sym b.is) (Flows-outboxes (moves p SlotTake) (record old { ready = b.rest; ledger = b.after'; slot_hand = b.took.onward }) new.outboxes (Flows-slot-take p old b.x b.rest b.after' b.took a.0 b.ready b.takes b.known b.running f))
 Flows-moves p old new SlotPut a f = subst (λ (v : NodeView). Flows (moves p SlotPut) v) (sym a.3) (Flows-slot-put p old a.1 a.2 f)
-Flows-moves p old new ApplyTake b f = subst (λ (v : NodeView). Flows (moves p ApplyTake) v) (sym b.is) (Flows-apply-take p old b.x b.rest b.after' b.answer b.decided b.takes b.known b.running f)
+Flows-moves p old new ApplyTake b f = subst (λ (v : NodeView). Flows (moves p ApplyTake) v) (sym b.is) (Flows-outboxes (moves p ApplyTake) (record old { decided = b.rest; applier = b.after' }) new.outboxes (Flows-apply-take p old b.x b.rest b.after' b.answer b.decided b.takes b.known b.running f))
 Flows-moves p old new event a f = absurd a
+
+-- ---- drains
+
+pub Flows-sends : (p : Past) (old new : NodeView) (event : Event) (bytes : List ℕ) → SendsOut old event bytes new → Flows p old → Flows p new
+Flows-sends p old new (Drain l) bytes d f = subst (λ (v : NodeView). Flows p v) (sym d.is) (Flows-outboxes p old new.outboxes f)
+Flows-sends p old new event bytes d f = absurd d

@@ -11,3 +11,4 @@ pub mod Settled
 pub mod Causes
 pub mod Room
 pub mod inside
+pub mod Handed

@@ -1,20 +1,27 @@
 -- What clients see of a node, and what one event does to it: the table of replies.
-use Rattle.std.specs.Prelude.{ℕ, ◌+◌, ◌-◌, ◌<◌, ◌≡◌, ◌≢◌, Bool, true, false, List, [], ◌∷◌, ◌++◌, ◌⊎◌, Option, Some, None, IsSome, length, map, slice_get, slice_set, option_to_list}
+use Rattle.std.specs.Prelude.{ℕ, ◌+◌, ◌-◌, ◌<◌, ◌≡◌, ◌≢◌, Bool, true, false, List, [], ◌∷◌, ◌++◌, ◌⊎◌, Option, Some, None, IsSome, length, map, slice_get, slice_set, option_to_list, flat_map, ◌&&◌, nat_lt, if◌then◌else◌}
 use Rattle.scp_types.specs.declared.names.NodeId.{NodeId}
 use Rattle.scp_wire.specs.declared.message.Message.{Message}
+use Rattle.scp_wire.specs.declared.message.Message.TheVariants.{Envelope}
 use Rattle.scp_wire.specs.declared.link.LinkItem.{LinkItem}
 use Rattle.scp_wire.specs.declared.link.LinkItem.TheVariants as item
 use Rattle.scp_wire.specs.declared.link.Inbound.{Inbound}
 use Rattle.scp_wire.specs.declared.link.Command.{Command}
 use Rattle.scp_wire.specs.declared.link.Command.TheVariants.{Ask}
 use Rattle.scp_wire.specs.declared.link.Inbound.TheVariants as inbound
+use Rattle.scp_wire.specs.Message.{message_value, SpellsMessage}
 use Rattle.scp_wire.specs.LinkReading.{ReaderView, unread, reading, after}
 use Rattle.scp_wire.specs.Connections.{conn_at}
+use Rattle.scp_outbox.specs.Outbox.{OutboxView}
+use Rattle.scp_outbox.specs.Fitting.{IsFitting}
+use Rattle.scp_sent.specs.Handing.{HandsOut, to_link, GivesNext, GivesThere}
 use Rattle.scp_pending.specs.declared.ready.Ready.{Ready}
 use Rattle.scp_pending.specs.Passes.{Passes}
-use Rattle.scp_pending.specs.Rules.{PendingView, taken_in}
+use Rattle.scp_pending.specs.Rules.{PendingView, taken_in, reply as reply_to}
 use Rattle.scp_pending.specs.Pends.{Pends, IsSettled}
 use Rattle.scp_ledger.specs.declared.took.Onward.{Onward}
+use Rattle.scp_ledger.specs.declared.took.Outgoing.{Outgoing}
+use Rattle.scp_ledger.specs.declared.took.Outgoing.TheVariants.{ToAll, To}
 use Rattle.scp_ledger.specs.declared.took.Took.{Took}
 use Rattle.scp_ledger.specs.Ledger.{IsLedger}
 use Rattle.scp_ledger.specs.Takes.{adds_entry}
@@ -22,9 +29,9 @@ use Rattle.scp_apply.specs.Applier.{ApplierView, IsApplier, IsRunning}
 use Rattle.scp_apply.specs.Applier.{Takes as Applies}
 use Rattle.scp_core.specs.declared.config.Config.{Config}
 use Rattle.scp_core.specs.declared.event.Event.{Event}
-use Rattle.scp_core.specs.declared.event.Event.TheVariants.{Open, Send, Close, Local, ReaderTake, ReaderPut, PendTake, PendPut, SlotTake, SlotPut, ApplyTake}
+use Rattle.scp_core.specs.declared.event.Event.TheVariants.{Open, Send, Close, Local, ReaderTake, ReaderPut, PendTake, PendPut, SlotTake, SlotPut, ApplyTake, Drain}
 use Rattle.scp_core.specs.declared.event.Reply.{Reply}
-use Rattle.scp_core.specs.declared.event.Reply.TheVariants.{Failed, NoLink, AlreadyOpen, LivesSpent, NotOpen, Full, Accepted, Blocked, Idle, Moved, JournalFull, NoMemory}
+use Rattle.scp_core.specs.declared.event.Reply.TheVariants.{Failed, NoLink, AlreadyOpen, LivesSpent, NotOpen, Full, Accepted, Blocked, Idle, Moved, Sent, JournalFull, NoMemory}
 use Rattle.scp_core.specs.History.{peer_at}
 use Rattle.scp_core.specs.Stages.{KvLedger, KvTakes, KvRuns}
 
@@ -55,6 +62,7 @@ pub record NodeView : Type 0 where
   pub decided : List Onward
   pub decided_room : ℕ
   pub applier : ApplierView
+  pub outboxes : List OutboxView  -- of each link
 
 -- the link is there, and this holds of it
 abbrev pub AtLink : NodeView → ℕ → (LinkView → Type 0) → Type 0
@@ -84,6 +92,41 @@ Accepts old event new = ⊥
 abbrev pub IsIdle : PendingView → Type 0
 IsIdle v = (me : NodeId) → (peers : List NodeId) → (taken : List Inbound) → (given : List Ready) → Pends me peers taken given v → IsSettled me peers taken v
 
+abbrev pub FitsLink : Option (ℕ × Message) → Type 0
+FitsLink None = Unit {0}
+FitsLink (Some answer) = IsFitting answer.1
+
+-- what goes out to all peers is for each link
+abbrev pub messages_for : ℕ → Outgoing → List Message
+messages_for link (ToAll envelope) = Envelope (record { value = envelope }) ∷ []
+messages_for link (To l message) = to_link l message link
+
+-- all that goes out, for each link
+abbrev pub handed_by : List Outgoing → ℕ → List Message
+handed_by outgoing link = flat_map (messages_for link) outgoing
+
+abbrev pub FitsOut : Outgoing → Type 0
+FitsOut (ToAll envelope) = IsFitting (Envelope (record { value = envelope }))
+FitsOut (To l message) = IsFitting message
+
+abbrev pub IsToAll : Outgoing → Type 0
+IsToAll (ToAll envelope) = Unit {0}
+IsToAll (To l message) = ⊥
+
+-- one thing that goes out is put into the outboxes of its links; what is too long for a link isn't
+abbrev pub HandsOne : List OutboxView → Outgoing → List OutboxView → Type 0
+HandsOne old outgoing new = (FitsOut outgoing × HandsOut old (handed_by (outgoing ∷ [])) new) ⊎ ((¬ (FitsOut outgoing)) × (new ≡ old))
+
+-- so each of these, in order
+abbrev pub HandsEach : List OutboxView → List Outgoing → List OutboxView → Type 0
+HandsEach old [] new = new ≡ old
+HandsEach old (one ∷ outgoing) new = (between : List OutboxView) × HandsOne old one between × HandsEach between outgoing new
+
+-- a stage's answer: a message for one link, or none
+abbrev pub Hands : List OutboxView → Option (ℕ × Message) → List OutboxView → Type 0
+Hands old None new = new ≡ old
+Hands old (Some answer) new = HandsOne old (To answer.0 answer.1) new
+
 -- the pending stage brings what is ready, or takes one item and then brings what is ready, if anything
 pub record PendBrings (old new : NodeView) : Type 0 where
   pub thing : Ready
@@ -105,7 +148,8 @@ pub record PendTakes (old new : NodeView) : Type 0 where
   pub same : after' ≡ record between { leaving = after'.leaving }
   pub gives : (me : NodeId) → (peers : List NodeId) → Passes (Pends me peers) [] (option_to_list thing) between after'
   pub no_thing : thing ≡ None → IsIdle after'
-  pub is : new ≡ record old { inbox = rest; pending = after'; pend_hand = thing }
+  pub hands : Hands old.outboxes (reply_to old.pending.settled x) new.outboxes
+  pub is : new ≡ record old { inbox = rest; pending = after'; pend_hand = thing; outboxes = new.outboxes }
 
 pub record SlotTakes (old new : NodeView) : Type 0 where
   pub x : Ready
@@ -116,7 +160,8 @@ pub record SlotTakes (old new : NodeView) : Type 0 where
   pub takes : KvTakes old.ledger x took after'
   pub known : IsLedger after'
   pub running : KvRuns after'
-  pub is : new ≡ record old { ready = rest; ledger = after'; slot_hand = took.onward }
+  pub hands : HandsEach old.outboxes took.outgoing new.outboxes
+  pub is : new ≡ record old { ready = rest; ledger = after'; slot_hand = took.onward; outboxes = new.outboxes }
 
 pub record ApplyTakes (old new : NodeView) : Type 0 where
   pub x : Onward
@@ -127,7 +172,19 @@ pub record ApplyTakes (old new : NodeView) : Type 0 where
   pub takes : Applies old.applier x answer after'
   pub known : IsApplier after'
   pub running : IsRunning after'
-  pub is : new ≡ record old { decided = rest; applier = after' }
+  pub hands : Hands old.outboxes answer new.outboxes
+  pub is : new ≡ record old { decided = rest; applier = after'; outboxes = new.outboxes }
+
+-- a link's outbox gives a message, and its bytes are sent
+pub record Drains (old : NodeView) (l : ℕ) (bytes : List ℕ) (new : NodeView) : Type 0 where
+  pub message : Message
+  pub gives : GivesThere old.outboxes l (Some message) new.outboxes
+  pub spells : SpellsMessage bytes (message_value message)
+  pub is : new ≡ record old { outboxes = new.outboxes }
+
+abbrev pub SendsOut : NodeView → Event → List ℕ → NodeView → Type 0
+SendsOut old (Drain l) bytes new = Drains old l bytes new
+SendsOut old event bytes new = ⊥
 
 -- an event that moves something
 abbrev pub Moves : NodeView → Event → NodeView → Type 0
@@ -148,6 +205,7 @@ NamesNoLink v (Close l) = slice_get v.links l ≡ None
 NamesNoLink v (ReaderTake l) = slice_get v.links l ≡ None
 NamesNoLink v (ReaderPut l) = slice_get v.links l ≡ None
 NamesNoLink v (Local command) = ¬ (HasLink v command)
+NamesNoLink v (Drain l) = slice_get v.outboxes l ≡ None
 NamesNoLink v event = ⊥
 
 -- why an event does nothing
@@ -174,6 +232,7 @@ Refuses v SlotTake Idle = (v.slot_hand ≡ None) × (v.ready ≡ [])
 Refuses v SlotPut Idle = v.slot_hand ≡ None
 Refuses v SlotPut Blocked = IsSome v.slot_hand × (length v.decided ≡ v.decided_room)
 Refuses v ApplyTake Idle = v.decided ≡ []
+Refuses v (Drain l) Idle = (o : OutboxView) × (slice_get v.outboxes l ≡ Some o) × GivesNext o None o
 Refuses v event reply = ⊥
 
 abbrev pub life_of : LinkView → ℕ
@@ -204,6 +263,7 @@ TakesMemory v (ReaderTake l) = AtLink v l (λ k. (k.hand ≡ None) × (k.queue �
 TakesMemory v PendTake = (v.pend_hand ≡ None) × (v.inbox ≢ []) × IsIdle v.pending
 TakesMemory v SlotTake = (v.slot_hand ≡ None) × (v.ready ≢ []) × (¬ (FillsJournal v SlotTake))
 TakesMemory v ApplyTake = v.decided ≢ []
+TakesMemory v (Drain l) = (message : Message) × (boxes : List OutboxView) × GivesThere v.outboxes l (Some message) boxes
 TakesMemory v event = ⊥
 
 -- one event
@@ -211,6 +271,7 @@ abbrev pub Step : NodeView → Event → Reply → NodeView → Type 0
 Step old event Failed new = (old.failed ≡ true) × (new ≡ old)
 Step old event Accepted new = (old.failed ≡ false) × Accepts old event new
 Step old event Moved new = (old.failed ≡ false) × Moves old event new
+Step old event (Sent bytes) new = (old.failed ≡ false) × SendsOut old event bytes new
 Step old event JournalFull new = Fails old new × FillsJournal old event
 Step old event NoMemory new = Fails old new × TakesMemory old event
 Step old event reply new = (old.failed ≡ false) × Refuses old event reply × (new ≡ old)
@@ -229,3 +290,14 @@ room_of (Some k) = k.room - length k.queue
 
 abbrev pub room_at : NodeView → ℕ → ℕ
 room_at v l = room_of (slice_get v.links l)
+
+-- whether what is sent on a link would be accepted
+abbrev pub link_accepts : LinkView → Bool
+link_accepts k = k.is_open && nat_lt (length k.queue) k.room
+
+abbrev pub accepts_of : Option LinkView → Bool
+accepts_of None = false
+accepts_of (Some k) = link_accepts k
+
+abbrev pub accepts_at : NodeView → ℕ → Bool
+accepts_at v l = if v.failed then false else accepts_of (slice_get v.links l)

@@ -1,6 +1,7 @@
 -- The ledger theorem: what holds of every list of events, their replies, and the node that they left.
 use Rattle.std.specs.Prelude.{◌≡◌, true, false, List, [], ◌∷◌, ◌++◌, ◌⊎◌, None, Some, length, replicate}
 use Rattle.std.specs.FinMap as map
+use Rattle.scp_sent.specs.Handing.{empty_outbox}
 use Rattle.scp_pending.specs.Rules.{fresh}
 use Rattle.scp_core.specs.declared.config.Config.{Config}
 use Rattle.scp_core.specs.declared.event.Event.{Event}
@@ -10,7 +11,7 @@ use Rattle.scp_core.specs.History.{Exchange, Past, hears, past_of, nothing_heard
 use Rattle.scp_core.specs.Node.{NodeView, Step, Keeps, new_link}
 use Rattle.scp_core.specs.Flow.{Flows}
 
--- a node as it is made: it runs, no link was open, and its stages, queues and hands hold nothing
+-- a node as it is made: it runs, no link was open, and its stages, queues, hands and outboxes hold nothing
 pub record IsMade (v : NodeView) : Type 0 where
   pub runs : v.failed ≡ false
   pub links : v.links ≡ replicate (length v.config.peers) (new_link v.config.capacities.link)
@@ -19,6 +20,7 @@ pub record IsMade (v : NodeView) : Type 0 where
   pub pending : v.pending.settled ≡ fresh v.config.me v.config.peers v.config.set
   pub ledger : (v.ledger.journal ≡ []) × (v.ledger.decisions ≡ []) × (v.ledger.asked ≡ []) × (v.ledger.machines ≡ [])
   pub applier : (v.applier.applied ≡ []) × (v.applier.buffer ≡ []) × (v.applier.state ≡ Some map.empty)
+  pub outboxes : v.outboxes ≡ replicate (length v.config.peers) empty_outbox
 
 -- the exchange was a step from a node of this configuration, which stood so to its past
 pub record WasStep (c : Config) (p : Past) (before : NodeView) (event : Event) (reply : Reply) (after' : NodeView) : Type 0 where

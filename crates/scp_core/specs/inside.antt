@@ -1,3 +1,5 @@
 pub mod Links
 pub mod Decider
 pub mod Starting
+pub mod Stage
+pub mod Draining

@@ -1,21 +1,20 @@
 //! The slot stage, the queue behind it, and the applier.
-ghost use Rattle.std.specs.Prelude.{◌≡◌, ◌≢◌, ◌≤◌, ◌∷◌, [], ◌<◌, false, true, length, None, Some, IfOk, IsOkUnless, OnOk, OnErr, Option, ℕ, option_copied, if◌then◌else◌};
+ghost use Rattle.std.specs.Prelude.{◌≡◌, ◌≢◌, ◌≤◌, ◌∷◌, [], ◌<◌, false, true, length, None, Some, IfOk, IsOkUnless, option_copied, if◌then◌else◌};
 ghost use Rattle.scp_types.specs.declared.names.NodeId.{NodeId};
-ghost use Rattle.scp_wire.specs.declared.message.Message.{Message};
-ghost use Rattle.scp_apply.specs.Applier.{CanTake, Takes, IsApplier, IsRunning};
 ghost use Rattle.scp_core.specs.inside.Decider.{new_decider, Decides, Applies, PutsOn, fail as failed_now};
 
 use crate::event::Reply;
-use crate::given_up::give_up;
 use crate::queue;
+use crate::stage::SlotStage;
 use circular_buffer::HeapCircularBuffer;
 use scp_apply::{Applier, the_next_decision_can_be_taken};
-use scp_driver::KvDriver;
 use scp_kv::KvState;
-use scp_ledger::{Fate, Ledger, Onward, SharedDecision};
+use scp_ledger::{Fate, Onward, SharedDecision};
 use scp_pending::Ready;
 use scp_quorum::SaneSet;
+use scp_sent::Outboxes;
 use scp_types::{Fault, NodeId};
+use scp_wire::Message;
 use std::alloc::Global;
 use std::marker::Model;
 use std::sync::Arc;
@@ -25,7 +24,7 @@ use std::sync::Arc;
 #[derive(Drop)]
 pub struct Decider {
     failed: bool,
-    ledger: Ledger<KvDriver>,
+    stage: SlotStage,
     hand: Option<Onward>,
     queue: HeapCircularBuffer<Onward>,
     applier: Applier,
@@ -46,9 +45,9 @@ impl Model for Decider {
 
     ghost coded = { Prim.hlevel (codes, machine_code driver.the_row.coded, coded_row coded_level, map.code {R = slice_cmp nat_cmp} (coded_list coded_ℕ) (coded_list coded_ℕ)) };
 
-    ghost view = { λ a. record { failed = a.failed; ledger = a.ledger; hand = a.hand; queue = a.queue.items; room = a.queue.capacity; applier = a.applier } };
+    ghost view = { λ a. record { failed = a.failed; ledger = a.stage; hand = a.hand; queue = a.queue.items; room = a.queue.capacity; applier = a.applier } };
 
-    ghost invariant = { λ a. IsWell (record { failed = a.failed; ledger = a.ledger; hand = a.hand; queue = a.queue.items; room = a.queue.capacity; applier = a.applier }) };
+    ghost invariant = { λ a. IsWell (record { failed = a.failed; ledger = a.stage; hand = a.hand; queue = a.queue.items; room = a.queue.capacity; applier = a.applier }) };
 }
 
 impl Decider {
@@ -66,7 +65,7 @@ impl Decider {
     {
         Ok(Decider {
             failed: false,
-            ledger: Ledger::new(alloc, me, set, KvDriver, peers),
+            stage: SlotStage::new(alloc, me, set, peers),
             hand: None,
             queue: HeapCircularBuffer::with_capacity(alloc, room)?,
             applier: Applier::new(alloc),
@@ -89,13 +88,13 @@ impl Decider {
     pub fn journal(&self) -> &[Fate]
         ensures { result.now ≡ self.now.ledger.journal }
     {
-        self.ledger.journal()
+        self.stage.journal()
     }
 
     pub fn decisions(&self) -> &[SharedDecision]
         ensures { result.now ≡ self.now.ledger.decisions }
     {
-        self.ledger.decisions()
+        self.stage.decisions()
     }
 
     pub fn applied(&self) -> &[SharedDecision]
@@ -121,16 +120,15 @@ impl Decider {
         self.failed = true;
     }
 
-    /// The slot stage takes a ready thing. What goes out to peers is given up.
-    pub fn take(&mut self, ready: Ready) -> Reply
+    /// The slot stage takes a ready thing, and what goes out to peers is put into the outboxes.
+    pub fn take(&mut self, alloc: Global, ready: Ready, outboxes: &mut Outboxes) -> Reply
         requires runs { self.old.failed ≡ false }
         requires empty { self.old.hand ≡ None }
-        ensures { Decides self.old ready result self.new }
+        ensures { Decides self.old outboxes.old ready result self.new outboxes.new }
     {
-        match self.ledger.take(ready) {
-            Ok(took) => {
-                give_up(took.outgoing);
-                self.hand = took.onward;
+        match self.stage.take(alloc, ready, outboxes) {
+            Ok(onward) => {
+                self.hand = onward;
                 Reply::Moved
             }
             Err(Fault::JournalFull) => {
@@ -161,31 +159,21 @@ impl Decider {
         Reply::Moved
     }
 
-    /// The applier takes what is next. What it answers for a link is given up.
-    pub fn apply(&mut self) -> Reply
+    /// The applier takes what is next, and gives its answer for a link, if there is one.
+    pub fn apply(&mut self) -> Result<Option<(u8, Message)>, Reply>
         requires runs { self.old.failed ≡ false }
         ensures { Applies self.old result self.new }
     {
         let Some(onward) = queue::next(&mut self.queue) else {
-            return Reply::Idle;
+            return Err(Reply::Idle);
         };
         the_next_decision_can_be_taken();
-        if take_in(&mut self.applier, onward).is_err() {
-            self.failed = true;
-            return Reply::NoMemory;
+        match self.applier.take(onward) {
+            Ok(answer) => Ok(answer),
+            Err(_) => {
+                self.failed = true;
+                Err(Reply::NoMemory)
+            }
         }
-        Reply::Moved
     }
-}
-
-/// One thing more for the applier. Its message for a link is given up.
-fn take_in(applier: &mut Applier, onward: Onward) -> Result<(), Fault>
-    requires next { applier.old.failed ≡ false → CanTake applier.old onward }
-    ensures takes { OnOk result ((answer : Option (ℕ × Message)) × Takes applier.old onward answer applier.new) }
-    ensures known { IsApplier applier.new }
-    ensures running { applier.new.failed ≡ false → IsRunning applier.new }
-    ensures read { OnErr result (applier.new.applied ≡ applier.old.applied) }
-{
-    give_up(applier.take(onward)?);
-    Ok(())
 }

@@ -30,6 +30,8 @@ pub enum Event {
     SlotPut,
     /// The applier takes what is next in the decided queue.
     ApplyTake,
+    /// What is next in the link's outbox is sent to the peer of the link.
+    Drain(u8),
 }
 
 impl Event {
@@ -50,19 +52,22 @@ impl Event {
             Event::SlotTake => Event::SlotTake,
             Event::SlotPut => Event::SlotPut,
             Event::ApplyTake => Event::ApplyTake,
+            Event::Drain(link) => Event::Drain(*link),
         })
     }
 }
 
 /// What a node answers to an event. Of several that fit, the first in this order: `Failed`, `NoLink`, those of the event's
 /// own in the order of the stages' documentation, and last `NoMemory`.
-#[derive(Clone, Copy, Debug, PartialEq, Eq)]
+#[derive(Debug, Drop)]
 pub enum Reply {
     /// The event was taken at the tail of a link, or into the inbox.
     Accepted,
     /// The stage did its step.
     Moved,
-    /// There is nothing to take, or nothing in the hand to put.
+    /// These bytes are sent: they spell a link message.
+    Sent(Bytes),
+    /// There is nothing to take, nothing in the hand to put, or nothing to send.
     Idle,
     /// The hand is in use, or the next queue is full.
     Blocked,

@@ -6,6 +6,7 @@ ghost use Rattle.scp_core.specs.Causes.{TheoremGivesCauses};
 ghost use Rattle.scp_core.specs.Decisions.{TheoremGivesDecisions};
 ghost use Rattle.scp_core.specs.Room.{TheoremGivesRoom};
 ghost use Rattle.scp_core.specs.Settled.{IdleIsSettled};
+ghost use Rattle.scp_core.specs.Handed.{StepsPutAll, DrainsGiveNext, RepliesFit};
 
 /// What holds of a list of exchanges and the node holds of the list with one step more.
 pub fn what_holds_of_a_past_holds_with_one_step_more()
@@ -45,4 +46,16 @@ pub fn what_is_idle_is_settled()
 /// a link are its accepted opens.
 pub fn queues_hold_what_was_put_and_not_taken()
     ensures room { TheoremGivesRoom }
+{}
+
+/// Whatever the pending stage replies fits a link: a request for a quorum set, a sane one, or the answer that there is none.
+pub fn whatever_is_replied_fits()
+    ensures fits { RepliesFit }
+{}
+
+/// Each step puts all that its stage hands out into the outboxes of its links, in order; and a drain of a link gives what its
+/// outbox gives next, Idle where that is nothing.
+pub fn what_is_handed_out_is_put()
+    ensures puts { StepsPutAll }
+    ensures drains { DrainsGiveNext }
 {}

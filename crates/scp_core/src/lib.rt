@@ -10,26 +10,29 @@
 //! - slots 1 to n are applied once each, in order, each with its decision; each other decision lies in the slot stage's
 //!   hand, in the queue behind it or in the applier's buffer; and the state is the fold of the applied values;
 //! - every reply is that of the table of replies, and a queue is full exactly at its capacity;
+//! - what a stage hands out for a link is put into that link's outbox, in order, and a drain gives what is next there;
 //! - a failed node keeps its journal, decisions and applied slots.
 #![tactic(auto)]
 
 mod config;
 mod decider;
 mod event;
-mod given_up;
+mod handing;
 mod laws;
 mod link;
 mod node;
 mod outcome;
 mod queue;
 mod running;
+mod stage;
 
 pub use config::{Capacities, Config, Peers};
 pub use event::{Event, Reply};
 pub use laws::{
     decisions_are_applied_in_order, each_decision_has_its_ground, each_fate_has_its_cause,
     each_message_has_its_fate, queues_hold_what_was_put_and_not_taken,
-    what_holds_of_a_past_holds_with_one_step_more, what_is_idle_is_settled,
+    what_holds_of_a_past_holds_with_one_step_more, what_is_handed_out_is_put,
+    what_is_idle_is_settled, whatever_is_replied_fits,
 };
 pub use link::LIVES;
 pub use node::Node;

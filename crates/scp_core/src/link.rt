@@ -1,6 +1,6 @@
 //! The links of a node, at their receiving ends.
 ghost use Rattle.std.specs.Prelude.{◌≡◌, ◌≢◌, ◌-◌, ◌∷◌, [], ◌⊎◌, length, Some, None, IsSome, false, true, IfOk, slice_get, slice_set, replicate, IsOkUnless, MatchOption};
-ghost use Rattle.scp_core.specs.Node.{new_link};
+ghost use Rattle.scp_core.specs.Node.{new_link, link_accepts};
 ghost use Rattle.scp_core.specs.inside.Links.{Opens, Sends, Closes, Reads, OnLinks, Gives, Puts};
 
 use crate::event::Reply;
@@ -67,6 +67,13 @@ impl Link {
         ensures { result ≡ self.now.room - length self.now.queue }
     {
         self.queue.capacity() - self.queue.len()
+    }
+
+    /// Whether what is sent on it would be accepted: it is open, and its queue has room.
+    pub fn accepts(&self) -> bool
+        ensures { result ≡ link_accepts self.now }
+    {
+        self.is_open && !queue::is_full(&self.queue)
     }
 
     fn open(&mut self, from: NodeId, to: NodeId) -> Reply

@@ -2,20 +2,17 @@
 ghost use Rattle.std.specs.Prelude.{◌≡◌, ◌≢◌, ◌∷◌, [], ◌++◌, ◌-◌, ◌<◌, ◌≤◌, ◌⊎◌, ◌↔◌, ℕ, List, length, Some, None, IsSome, false, true, IfOk, OnOk, OnErr, IfErr, IsOkUnless, Ok, Err, IsTrue, slice_get, option_copied, if◌then◌else◌, MatchOption};
 ghost use Rattle.scp_types.specs.declared.names.NodeId.{NodeId};
 ghost use Rattle.scp_ledger.specs.declared.journal.Fate.{Fate};
-ghost use Rattle.scp_pending.specs.Passes.{Passes};
-ghost use Rattle.scp_pending.specs.Pends.{Pends};
-ghost use Rattle.scp_pending.specs.Rules.{taken_in};
 ghost use Rattle.scp_pending.specs.Line.{count_held};
 ghost use Rattle.scp_core.specs.Config.{IsConfig, IsFit};
 ghost use Rattle.scp_core.specs.History.{peer_at, Exchange};
-ghost use Rattle.scp_core.specs.Node.{Step, Keeps, HasLink, lives_at, room_at};
+ghost use Rattle.scp_core.specs.Node.{Step, Keeps, HasLink, lives_at, room_at, accepts_at};
 ghost use Rattle.scp_core.specs.Theorem.{LedgerTheorem};
 ghost use Rattle.scp_core.specs.inside.Starting.{IsNew};
 
 use crate::config::{Capacities, Config, Peers, are_peers_apart, has_peer};
 use crate::decider::Decider;
 use crate::event::{Event, Reply};
-use crate::given_up::give_up;
+use crate::handing::{draw, hand_out};
 use crate::link::{self, Link};
 use crate::queue;
 use circular_buffer::HeapCircularBuffer;
@@ -23,6 +20,7 @@ use scp_kv::KvState;
 use scp_ledger::{Fate, SharedDecision};
 use scp_pending::{PEER_LIMIT, Pending, Ready};
 use scp_quorum::SaneSet;
+use scp_sent::Outboxes;
 use scp_types::{ConnId, Fault, NodeId};
 use scp_wire::{Bytes, Command, Inbound};
 use std::alloc::Global;
@@ -43,6 +41,7 @@ pub struct Node {
     pend_hand: Option<Ready>,
     ready: HeapCircularBuffer<Ready>,
     decider: Decider,
+    outboxes: Outboxes,
 }
 
 impl Model for Node {
@@ -76,6 +75,7 @@ impl Model for Node {
       decided = a.decider.queue;
       decided_room = a.decider.room;
       applier = a.decider.applier;
+      outboxes = a.outboxes;
     } };
 }
 
@@ -136,6 +136,7 @@ impl Node {
             capacities.decided as usize,
         )?;
         let pending_peers = Vec::from_slice(alloc, peers.as_slice())?;
+        let outboxes = Outboxes::new(alloc, count)?;
         let pending = Pending::new(alloc, me, pending_peers, Arc::try_clone(&set)?);
         Ok(Node {
             alloc,
@@ -149,6 +150,7 @@ impl Node {
             pend_hand: None,
             ready,
             decider,
+            outboxes,
         })
     }
 
@@ -201,6 +203,26 @@ impl Node {
         }
     }
 
+    /// Whether what the peer sends on the link would be accepted now: the link is open, its queue has room, and the node hasn't failed.
+    pub fn accepts(&self, link: u8) -> bool
+        ensures { result ≡ accepts_at self.now link }
+    {
+        if self.decider.has_failed() {
+            return false;
+        }
+        match self.links.get(link as usize) {
+            Some(link) => link.accepts(),
+            None => false,
+        }
+    }
+
+    /// Whether a step failed, for want of memory or of room in the journal.
+    pub fn has_failed(&self) -> bool
+        ensures { result ≡ self.now.failed }
+    {
+        self.decider.has_failed()
+    }
+
     /// How many messages of the connection the pending stage holds: those that are ready, and those that are parked.
     pub fn parked(&self, conn: &ConnId) -> usize
         ensures { result ≡ count_held conn.now self.now.pending }
@@ -211,15 +233,16 @@ impl Node {
     /// One event. What holds of a list of events, their replies and the node holds of the list with one more.
     ///
     /// A reader's take costs the message's length; a take of the pending stage what `Pending::take` costs, one of the slot
-    /// stage what `Ledger::take`, and one of the applier what `Applier::take` costs; all else is constant. Only the takes of
-    /// the reader, the pending stage, the slot stage and the applier can lack memory.
+    /// stage what `Ledger::take`, one of the applier what `Applier::take` and a drain what `scp_wire::encode` costs; an own
+    /// statement is copied for each link; all else is constant. Only the takes of the reader, the pending stage, the slot
+    /// stage and the applier, and a drain, can lack memory.
     pub fn step(&mut self, event: Event) -> Reply
         // What the event does to this node, by the table of replies.
         ensures step { Step self.old event result self.new }
         // What holds of every list of events, their replies and the node.
         ensures theorem { (past : List Exchange) → LedgerTheorem past self.old → LedgerTheorem (past ++ (event, result) ∷ []) self.new }
         // A refusal leaves the node as it was.
-        ensures same { result ≢ Reply.Accepted → result ≢ Reply.Moved → result ≢ Reply.JournalFull → result ≢ Reply.NoMemory → self.new ≡ self.old }
+        ensures same { result ≢ Reply.Accepted → result ≢ Reply.Moved → result ≢ Reply.JournalFull → result ≢ Reply.NoMemory → ((bytes : List ℕ) → result ≢ Reply.Sent bytes) → self.new ≡ self.old }
         // A node that fails keeps its journal, its decisions and whom it asked, what is applied, and how often each link was opened.
         ensures kept { (result ≡ Reply.NoMemory) ⊎ (result ≡ Reply.JournalFull) → Keeps self.old self.new }
         ensures fails { (result ≡ Reply.NoMemory) ⊎ (result ≡ Reply.JournalFull) → self.new.failed ≡ true }
@@ -250,6 +273,7 @@ impl Node {
             Event::SlotTake => self.slot_take(),
             Event::SlotPut => self.slot_put(),
             Event::ApplyTake => self.apply_take(),
+            Event::Drain(link) => self.drain(link),
         }
     }
 
@@ -317,7 +341,7 @@ impl Node {
         ensures { Step self.old (Event.ReaderTake link) result self.new }
     {
         let reply = link::read(self.alloc, &mut self.links, link);
-        if is_no_memory(reply) {
+        if is_no_memory(&reply) {
             self.decider.fail();
         }
         reply
@@ -350,12 +374,17 @@ impl Node {
         let Some(item) = queue::next(&mut self.inbox) else {
             return Reply::Idle;
         };
-        if take_in(&mut self.pending, item).is_err() {
-            self.decider.fail();
-            return Reply::NoMemory;
+        match self.pending.take(item) {
+            Ok(answer) => {
+                hand_out(&mut self.outboxes, answer);
+                self.pend_hand = self.pending.next_ready();
+                Reply::Moved
+            }
+            Err(_) => {
+                self.decider.fail();
+                Reply::NoMemory
+            }
         }
-        self.pend_hand = self.pending.next_ready();
-        Reply::Moved
     }
 
     fn pend_put(&mut self) -> Reply
@@ -384,7 +413,7 @@ impl Node {
         let Some(ready) = queue::next(&mut self.ready) else {
             return Reply::Idle;
         };
-        self.decider.take(ready)
+        self.decider.take(self.alloc, ready, &mut self.outboxes)
     }
 
     fn slot_put(&mut self) -> Reply
@@ -398,7 +427,24 @@ impl Node {
         requires { self.old.failed ≡ false }
         ensures { Step self.old Event.ApplyTake result self.new }
     {
-        self.decider.apply()
+        match self.decider.apply() {
+            Ok(answer) => {
+                hand_out(&mut self.outboxes, answer);
+                Reply::Moved
+            }
+            Err(reply) => reply,
+        }
+    }
+
+    fn drain(&mut self, link: u8) -> Reply
+        requires { self.old.failed ≡ false }
+        ensures { Step self.old (Event.Drain link) result self.new }
+    {
+        let sent = draw(self.alloc, &mut self.outboxes, link);
+        if is_no_memory(&sent) {
+            self.decider.fail();
+        }
+        sent
     }
 }
 
@@ -412,18 +458,8 @@ fn is_fit(me: &NodeId, peers: &[NodeId], capacities: Capacities) -> bool
         && capacities.are_in_range()
 }
 
-/// One item more for the pending stage. Its message for a link is given up.
-fn take_in(pending: &mut Pending, item: Inbound) -> Result<(), Fault>
-    requires { pending.old.failed ≡ false → pending.old.leaving ≡ [] }
-    ensures rules { OnOk result (pending.new ≡ taken_in pending.old item) }
-    ensures passes { OnOk result ((me : NodeId) → (peers : List NodeId) → Passes (Pends me peers) (item ∷ []) [] pending.old pending.new) }
-{
-    give_up(pending.take(item)?);
-    Ok(())
-}
-
-fn is_no_memory(reply: Reply) -> bool
-    ensures { IsTrue result ↔ (reply ≡ Reply.NoMemory) }
+fn is_no_memory(reply: &Reply) -> bool
+    ensures { IsTrue result ↔ (reply.now ≡ Reply.NoMemory) }
 {
     matches!(reply, Reply::NoMemory)
 }

@@ -13,9 +13,10 @@ use std::process::Abort;
 use std::test::*;
 
 mod refused;
+mod sending;
 
 /// What happens at node 1, whose link 0 is from node 2. A quorum set goes by its number: 1 is the node's own, 2 of both nodes;
-/// 2 is 1 of node 2; 3 is the node alone; and 0 isn't sane, 0 of node 2.
+/// 2 is 1 of node 2; 3 is the node alone; 4 is 3 of the nodes 1 to 3; and 0 isn't sane, 0 of node 2.
 #[derive(Clone, Copy)]
 enum Act {
     Open(u8),
@@ -42,6 +43,7 @@ enum Act {
     SlotTake,
     SlotPut,
     ApplyTake,
+    Drain(u8),
 }
 
 /// What became of a message, by its number, or of a connection.
@@ -55,6 +57,8 @@ enum Seen {
 const ME: NodeId = NodeId([1; 32]);
 
 const PEER: NodeId = NodeId([2; 32]);
+
+const THIRD: NodeId = NodeId([3; 32]);
 
 /// The first life of link 0.
 const CONN: ConnId = ConnId {
@@ -106,6 +110,7 @@ fn set(alloc: Global, number: u8) -> Result<QuorumSet, Fault> {
         0 => QuorumSet::of_nodes(0, Vec::from_slice(alloc, &[PEER])?),
         1 => QuorumSet::of_nodes(2, Vec::from_slice(alloc, &[ME, PEER])?),
         3 => QuorumSet::of_nodes(1, Vec::from_slice(alloc, &[ME])?),
+        4 => QuorumSet::of_nodes(3, Vec::from_slice(alloc, &[ME, PEER, THIRD])?),
         _ => QuorumSet::of_nodes(1, Vec::from_slice(alloc, &[PEER])?),
     })
 }
@@ -134,11 +139,11 @@ fn value(alloc: Global) -> Result<Value, Fault> {
     Ok(Value::new(Vec::from_slice(alloc, &PUT_A)?))
 }
 
-/// What node 2 says of slot 1.
-fn says(alloc: Global, pledges: Pledges) -> Result<Message, Fault> {
+/// What a node says of slot 1.
+fn says(alloc: Global, node: NodeId, pledges: Pledges) -> Result<Message, Fault> {
     let envelope = Envelope {
         statement: Statement {
-            node: PEER,
+            node,
             slot: Slot(1),
             pledges,
         },
@@ -147,8 +152,8 @@ fn says(alloc: Global, pledges: Pledges) -> Result<Message, Fault> {
     Ok(Message::Envelope(BoxedEnvelope::new(alloc, envelope)?))
 }
 
-/// A nomination of node 2 for slot 1.
-fn nomination(alloc: Global, set_hash: Hash) -> Result<Message, Fault> {
+/// A node's nomination for slot 1.
+fn nomination(alloc: Global, node: NodeId, set_hash: Hash) -> Result<Message, Fault> {
     let mut votes = Vec::new(alloc);
     votes.push(value(alloc)?)?;
     let nominate = Nominate {
@@ -156,11 +161,11 @@ fn nomination(alloc: Global, set_hash: Hash) -> Result<Message, Fault> {
         votes: ValueList::new(votes),
         accepted: ValueList::new(Vec::new(alloc)),
     };
-    says(alloc, Pledges::Nominate(nominate))
+    says(alloc, node, Pledges::Nominate(nominate))
 }
 
-/// An EXTERNALIZE of node 2 for slot 1.
-fn externalize(alloc: Global, set_hash: Hash) -> Result<Message, Fault> {
+/// A node's EXTERNALIZE for slot 1.
+fn externalize(alloc: Global, node: NodeId, set_hash: Hash) -> Result<Message, Fault> {
     let externalize = Externalize {
         commit: Ballot {
             counter: 1,
@@ -169,7 +174,7 @@ fn externalize(alloc: Global, set_hash: Hash) -> Result<Message, Fault> {
         n_high: 1,
         set_hash,
     };
-    says(alloc, Pledges::Externalize(externalize))
+    says(alloc, node, Pledges::Externalize(externalize))
 }
 
 /// The message is sent on link 0.
@@ -188,12 +193,12 @@ impl Act {
             GetRecord => return sends(alloc, &Message::GetRecord(Slot(1))),
             Names(number) => {
                 let hash = set(alloc, number)?.hash()?;
-                return sends(alloc, &nomination(alloc, hash)?);
+                return sends(alloc, &nomination(alloc, PEER, hash)?);
             }
             Set(number) => return sends(alloc, &Message::Set(set(alloc, number)?)),
             Externalizes => {
                 let hash = set(alloc, 1)?.hash()?;
-                return sends(alloc, &externalize(alloc, hash)?);
+                return sends(alloc, &externalize(alloc, PEER, hash)?);
             }
             Propose(slot) => Event::Local(Command::Propose(Slot(slot), value(alloc)?)),
             Ask(slot) => Event::Local(Command::Ask(0, Slot(slot))),
@@ -206,7 +211,28 @@ impl Act {
             SlotTake => Event::SlotTake,
             SlotPut => Event::SlotPut,
             ApplyTake => Event::ApplyTake,
+            Drain(link) => Event::Drain(link),
         })
+    }
+}
+
+/// Whether both are the same reply, with the same bytes.
+fn same(left: &Reply, right: &Reply) -> bool {
+    match (left, right) {
+        (Reply::Sent(left), Reply::Sent(right)) => *left.as_slice() == *right.as_slice(),
+        (Reply::Accepted, Reply::Accepted)
+        | (Reply::Moved, Reply::Moved)
+        | (Reply::Idle, Reply::Idle)
+        | (Reply::Blocked, Reply::Blocked)
+        | (Reply::Full, Reply::Full)
+        | (Reply::NotOpen, Reply::NotOpen)
+        | (Reply::AlreadyOpen, Reply::AlreadyOpen)
+        | (Reply::LivesSpent, Reply::LivesSpent)
+        | (Reply::NoLink, Reply::NoLink)
+        | (Reply::Failed, Reply::Failed)
+        | (Reply::JournalFull, Reply::JournalFull)
+        | (Reply::NoMemory, Reply::NoMemory) => true,
+        _ => false,
     }
 }
 
@@ -231,7 +257,7 @@ fn round(alloc: Global, node: &mut Node) -> Result<Reply, Fault> {
 fn settle(alloc: Global, node: &mut Node) -> Result<Reply, Fault> {
     for _ in 0..200 {
         let last = round(alloc, node)?;
-        if last != Reply::Moved {
+        if !matches!(last, Reply::Moved) {
             return Ok(last);
         }
     }
@@ -241,7 +267,7 @@ fn settle(alloc: Global, node: &mut Node) -> Result<Reply, Fault> {
 /// The act, and then the stages until nothing moves. The first reply that is neither `Accepted` nor `Idle` in the end.
 fn play(alloc: Global, node: &mut Node, act: Act) -> Result<Reply, Fault> {
     let first = reply(alloc, node, act)?;
-    if first != Reply::Accepted {
+    if !matches!(first, Reply::Accepted) {
         return Ok(first);
     }
     settle(alloc, node)
@@ -252,7 +278,7 @@ fn play_all(alloc: Global, node: &mut Node, acts: &[(u32, Act)]) -> Result<Reply
     for (times, act) in acts {
         for _ in 0..*times {
             let last = play(alloc, node, *act)?;
-            if last != Reply::Idle {
+            if !matches!(last, Reply::Idle) {
                 return Ok(last);
             }
         }
@@ -302,7 +328,7 @@ fn replies(alloc: Global, node: &mut Node, table: &[(Act, Reply)]) -> Result<boo
     for (act, wanted) in table {
         match reply(alloc, node, *act)? {
             Reply::NoMemory => return Err(Fault::NoMemory),
-            given if given == *wanted => {}
+            given if same(&given, wanted) => {}
             _ => return Ok(false),
         }
     }
@@ -471,10 +497,19 @@ fn events(alloc: Global, acts: &[Act]) -> Result<Vec<Event>, Fault> {
 /// Whether a run of these events answers so, and leaves so many entries.
 fn runs(alloc: Global, events: &[Event], wanted: &[Reply], entries: usize) -> Result<bool, Fault> {
     let run = run(alloc, config(alloc, 1, &[PEER], ONE)?, events)?;
-    if run.replies.iter().any(|reply| *reply == Reply::NoMemory) {
+    if run
+        .replies
+        .iter()
+        .any(|reply| matches!(reply, Reply::NoMemory))
+    {
         return Err(Fault::NoMemory);
     }
-    Ok(run.replies.as_slice() == wanted && run.node.journal().len() == entries)
+    let mut replies = run.replies.iter().zip(wanted);
+    Ok(
+        run.replies.len() == wanted.len()
+            && replies.all(|(reply, wanted)| same(reply, wanted))
+            && run.node.journal().len() == entries,
+    )
 }
 
 #[test]
@@ -610,7 +645,7 @@ fn reopen(alloc: Global, node: &mut Node, count: u32) -> Result<Reply, Fault> {
 fn lives_are_spent(rt: HostRuntime) -> Result<(), Fail> {
     let mut node = new_node(rt.alloc(), ONE)?;
     let last = reopen(rt.alloc(), &mut node, 65_535)?;
-    assert!(rt; last == Reply::LivesSpent && node.lives(0) == 65_535);
+    assert!(rt; matches!(last, Reply::LivesSpent) && node.lives(0) == 65_535);
     Ok(())
 }
 
@@ -618,7 +653,7 @@ fn lives_are_spent(rt: HostRuntime) -> Result<(), Fail> {
 fn is_failed(node: &mut Node) -> bool {
     let first = node.step(Event::Close(0));
     let second = node.step(Event::Open(7));
-    first == Reply::Failed && second == Reply::Failed && node.state().is_none()
+    matches!(first, Reply::Failed) && matches!(second, Reply::Failed) && node.state().is_none()
 }
 
 /// Sends so many requests, each of which goes through every stage.

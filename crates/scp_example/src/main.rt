@@ -52,7 +52,7 @@ fn first_record(alloc: Global) -> Result<Node, Fault> {
 
 /// One step of a stage. Whether it moved anything.
 fn turn(node: &mut Node, event: Event) -> bool {
-    node.step(event) == Reply::Moved
+    matches!(node.step(event), Reply::Moved)
 }
 
 /// A step of a stage that takes, and one that puts. Whether anything moved.

@@ -1,5 +1,5 @@
 -- The slot stage, the queue behind it and the applier, as the code keeps them; nothing here need be believed.
-use Rattle.std.specs.Prelude.{ℕ, ◌≡◌, ◌≢◌, Bool, true, false, List, [], ◌∷◌, ◌++◌, Option, Some, None, length, option_to_list}
+use Rattle.std.specs.Prelude.{ℕ, ◌≡◌, ◌≢◌, Bool, true, false, List, [], ◌∷◌, ◌++◌, Option, Some, None, length, option_to_list, Result, Ok, Err}
 use Rattle.std.specs.FinMap as map
 use Rattle.std.specs.List.Sorted.{IsPermutation}
 use Rattle.scp_types.specs.declared.names.NodeId.{NodeId}
@@ -13,8 +13,11 @@ use Rattle.scp_ledger.specs.Ledger.{IsLedger}
 use Rattle.scp_ledger.specs.Takes.{adds_entry}
 use Rattle.scp_apply.specs.Applier.{ApplierView, IsApplier, IsRunning}
 use Rattle.scp_apply.specs.Applier.{Takes as ApplierTakes}
+use Rattle.scp_outbox.specs.Outbox.{OutboxView}
 use Rattle.scp_core.specs.declared.event.Reply.{Reply}
 use Rattle.scp_core.specs.declared.event.Reply.TheVariants.{Blocked, Idle, Moved, JournalFull, NoMemory}
+use Rattle.scp_core.specs.Node.{HandsEach}
+use Rattle.scp_core.specs.inside.Stage.{new_ledger}
 use Rattle.scp_core.specs.Stages.{KvLedger, KvTakes, KvRuns, decisions_on}
 
 pub record DeciderView : Type 0 where
@@ -28,7 +31,7 @@ pub record DeciderView : Type 0 where
 abbrev pub new_decider : NodeId → QuorumTree → List NodeId → ℕ → DeciderView
 new_decider me local peers room = record {
   failed = false;
-  ledger = record { me = me; local = local; driver = record {}; peers = peers; failed = false; journal = []; decisions = []; lowest = 1; asked = []; machines = [] };
+  ledger = new_ledger me local peers;
   hand = None;
   queue = [];
   room = room;
@@ -61,12 +64,12 @@ pub record Keeps (old new : DeciderView) : Type 0 where
   pub asked : new.ledger.asked ≡ old.ledger.asked
   pub applied : new.applier.applied ≡ old.applier.applied
 
--- the slot stage takes a thing
-abbrev pub Decides : DeciderView → Ready → Reply → DeciderView → Type 0
-Decides old x Moved new = (took : Took) × KvTakes old.ledger x took new.ledger × IsLedger new.ledger × KvRuns new.ledger × (new ≡ record old { ledger = new.ledger; hand = took.onward })
-Decides old x JournalFull new = (adds_entry x ≡ true) × (length old.ledger.journal ≡ 1000000) × Keeps old new
-Decides old x NoMemory new = (¬ ((adds_entry x ≡ true) × (length old.ledger.journal ≡ 1000000))) × Keeps old new
-Decides old x reply new = ⊥
+-- the slot stage takes a thing, and what goes out is put into the outboxes
+abbrev pub Decides : DeciderView → List OutboxView → Ready → Reply → DeciderView → List OutboxView → Type 0
+Decides old boxes x Moved new after' = (took : Took) × KvTakes old.ledger x took new.ledger × IsLedger new.ledger × KvRuns new.ledger × (new ≡ record old { ledger = new.ledger; hand = took.onward }) × HandsEach boxes took.outgoing after'
+Decides old boxes x JournalFull new after' = (adds_entry x ≡ true) × (length old.ledger.journal ≡ 1000000) × Keeps old new
+Decides old boxes x NoMemory new after' = (¬ ((adds_entry x ≡ true) × (length old.ledger.journal ≡ 1000000))) × Keeps old new
+Decides old boxes x reply new after' = ⊥
 
 -- the hand goes into the queue
 abbrev pub PutsOn : DeciderView → Reply → DeciderView → Type 0
@@ -76,18 +79,17 @@ PutsOn old Moved new = (length old.queue ≢ old.room) × (x : Onward) × (old.h
 PutsOn old reply new = ⊥
 
 -- the applier takes what is next
-pub record AppliesNext (old new : DeciderView) : Type 0 where
+pub record AppliesNext (old : DeciderView) (answer : Option (ℕ × Message)) (new : DeciderView) : Type 0 where
   pub x : Onward
   pub rest : List Onward
   pub queue : old.queue ≡ x ∷ rest
-  pub answer : Option (ℕ × Message)
   pub takes : ApplierTakes old.applier x answer new.applier
   pub known : IsApplier new.applier
   pub running : IsRunning new.applier
   pub is : new ≡ record old { queue = rest; applier = new.applier }
 
-abbrev pub Applies : DeciderView → Reply → DeciderView → Type 0
-Applies old Idle new = (old.queue ≡ []) × (new ≡ old)
-Applies old Moved new = AppliesNext old new
-Applies old NoMemory new = (old.queue ≢ []) × Keeps old new
-Applies old reply new = ⊥
+abbrev pub Applies : DeciderView → Result (Option (ℕ × Message)) Reply → DeciderView → Type 0
+Applies old (Err Idle) new = (old.queue ≡ []) × (new ≡ old)
+Applies old (Ok answer) new = AppliesNext old answer new
+Applies old (Err NoMemory) new = (old.queue ≢ []) × Keeps old new
+Applies old (Err reply) new = ⊥

@@ -1,6 +1,7 @@
 -- What a new node is, and what one event of a run does; nothing here need be believed.
 use Rattle.std.specs.Prelude.{◌≡◌, false, List, [], ◌∷◌, ◌++◌, None, length, replicate}
 use Rattle.scp_pending.specs.Pends.{Pends}
+use Rattle.scp_sent.specs.Handing.{empty_outbox}
 use Rattle.scp_core.specs.declared.event.Event.{Event}
 use Rattle.scp_core.specs.declared.event.Reply.{Reply}
 use Rattle.scp_core.specs.Config.{IsFit}
@@ -22,6 +23,7 @@ pub record IsNew (v : NodeView) : Type 0 where
   pub pending : Pends v.config.me v.config.peers [] [] v.pending
   pub ledger : Journals v.config.me v.config.set v.config.peers [] [] v.ledger
   pub applier : Applies [] v.applier
+  pub outboxes : v.outboxes ≡ replicate (length v.config.peers) empty_outbox
 
 -- one event more was played, and its reply was added
 pub record Answers (event : Event) (old : NodeView) (before : List Reply) (new : NodeView) (after' : List Reply) : Type 0 where

@@ -30,8 +30,8 @@ fn is_part(node: &mut Node, story: &Story<'_>) -> bool {
 fn is_right(alloc: Global, story: &Story<'_>) -> Result<bool, Fault> {
     let mut node = Node::new(alloc, config(alloc, story.set, &[PEER], MANY)?)?;
     let last = play_all(alloc, &mut node, story.acts)?;
-    if last != Reply::NoMemory {
-        return Ok(last == Reply::Idle && is_whole(&node, story));
+    if !matches!(last, Reply::NoMemory) {
+        return Ok(matches!(last, Reply::Idle) && is_whole(&node, story));
     }
     if is_part(&mut node, story) {
         Err(Fault::NoMemory)

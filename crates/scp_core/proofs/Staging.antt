@@ -1,0 +1,111 @@
+-- What a slot stage shows, and what it hands out.
+use Rattle.std.proofs.Common.{◌≡◌, ◌+◌, ◌↔◌, true, false, ℕ, List, [], ◌∷◌, ◌++◌, refl, sym, ◌∙◌, ap, subst, arith, length}
+use Rattle.std.specs.Prelude.{Option, Some, None, Result, Ok, Err, IsErrOf, OnErr, is_err, Any, option_to_list}
+use Rattle.std.proofs.lemmas.List.{get_or_append_left, length-append}
+use Rattle.std.proofs.lemmas.List.Quantifiers.{Any-push}
+use Rattle.scp_types.specs.declared.fault.Fault.{Fault}
+use Rattle.scp_types.specs.declared.fault.Fault.TheVariants.{NoMemory, JournalFull}
+use Rattle.scp_outbox.specs.Outbox.{OutboxView}
+use Rattle.scp_pending.specs.declared.ready.Ready.{Ready}
+use Rattle.scp_ledger.specs.declared.took.Outgoing.{Outgoing}
+use Rattle.scp_ledger.specs.declared.took.Onward.{Onward}
+use Rattle.scp_ledger.specs.declared.took.Took.{Took}
+use Rattle.scp_ledger.specs.Ledger.{IsLedger}
+use Rattle.scp_ledger.specs.Takes.{adds_entry}
+use Rattle.scp_core.specs.declared.stage.Shown.{Shown}
+use Rattle.scp_core.specs.Stages.{KvLedger, KvTakes, KvRuns}
+use Rattle.scp_core.specs.Node.{HandsOne, HandsEach, IsToAll}
+use Rattle.scp_core.specs.inside.Stage.{shown, Shows, TakesOut}
+use Rattle.scp_core.proofs.Deciding.{shown_before, runs_on}
+
+true_isnt : true ≡ false → ⊥
+true_isnt e = cc
+
+-- while it runs it shows all of its ledger, whatever that is
+pub all_is_shown : (cut : Option Shown) (before now : KvLedger) → (shown cut before).failed ≡ false → shown cut now ≡ now
+all_is_shown None before now runs = refl
+all_is_shown (Some so_much) before now runs = absurd (true_isnt runs)
+
+-- a refusal of the ledger leaves what is shown
+pub refused_shows : (cut : Option Shown) (before now : KvLedger) → (shown cut before).failed ≡ false → Shows before now → Shows (shown cut before) (shown cut now)
+refused_shows None before now runs h = h
+refused_shows (Some so_much) before now runs h = absurd (true_isnt runs)
+
+-- where a copy is refused, the ledger is shown as before
+pub cut_shows : (cut : Option Shown) (before : KvLedger) (x : Ready) (t : Took) (now : KvLedger) (journal decisions : ℕ) → (shown cut before).failed ≡ false → journal ≡ length before.journal → decisions ≡ length before.decisions → KvTakes before x t now → Any IsToAll t.outgoing → Shows (shown cut before) (shown (Some (record { journal = journal; decisions = decisions })) now)
+cut_shows cut before x t now journal decisions runs j d takes out =
+    subst (λ (v : KvLedger). Shows v (shown (Some (record { journal = journal; decisions = decisions })) now)) (sym (all_is_shown cut before before runs))
+    (subst (λ n. Shows before (shown (Some (record { journal = n; decisions = decisions })) now)) (sym j)
+    (subst (λ n. Shows before (shown (Some (record { journal = length before.journal; decisions = n })) now)) (sym d) (shown_before before x t now takes out)))
+
+-- what is taken is taken of all that is shown
+pub takes_out : (cut : Option Shown) (before : KvLedger) (boxes : List OutboxView) (x : Ready) (t : Took) (now : KvLedger) (boxes2 : List OutboxView) → (shown cut before).failed ≡ false → KvTakes before x t now → IsLedger now → (now.failed ≡ false → KvRuns now) → HandsEach boxes t.outgoing boxes2 → TakesOut (shown cut before) boxes x t.onward (shown cut now) boxes2
+takes_out cut before boxes x t now boxes2 runs takes known running hands =
+    let was : shown cut before ≡ before = all_is_shown cut before before runs in
+    let is : shown cut now ≡ now = all_is_shown cut before now runs in
+    let failed : before.failed ≡ false = ap (λ (v : KvLedger). v.failed) (sym was) ∙ runs in
+    subst (λ (v : KvLedger). TakesOut v boxes x t.onward (shown cut now) boxes2) (sym was)
+    (subst (λ (v : KvLedger). TakesOut before boxes x t.onward v boxes2) (sym is)
+    (record { took = t; takes = takes; onward_is = refl; known = known; running = running (runs_on before x t now failed takes); hands = hands }))
+
+abbrev taken_as : Took → Result Took Fault
+taken_as t = Ok t
+
+abbrev given_as : Option Onward → Result (Option Onward) Fault
+given_as o = Ok o
+
+abbrev no_memory : Result (Option Onward) Fault
+no_memory = Err NoMemory
+
+-- the same of when a journal is full
+abbrev IsFull : KvLedger → Ready → Type 0
+IsFull v x = (adds_entry x ≡ true) × (length v.journal ≡ 1000000)
+
+full_where : (A : Type 0) (cut : Option Shown) (before : KvLedger) (x : Ready) → (shown cut before).failed ≡ false → (A ↔ ((before.failed ≡ false) × (adds_entry x ≡ true) × (length before.journal ≡ 1000000))) → A ↔ IsFull (shown cut before) x
+full_where A None before x runs f = (λ a. ((f.0 a).1, (f.0 a).2), λ is. f.1 (runs, is.0, is.1))
+full_where A (Some so_much) before x runs f = absurd (true_isnt runs)
+
+abbrev refused_as : (X : Type 0) → Fault → Result X Fault
+refused_as X f = Err f
+
+same_fault : (X : Type 0) (f g : Fault) → refused_as X f ≡ refused_as X g → f ≡ g
+same_fault X f g e = cc
+
+-- a refusal of the ledger is one of the stage
+pub full_as : (X Y : Type 0) (f : Fault) (cut : Option Shown) (before : KvLedger) (x : Ready) → (shown cut before).failed ≡ false → (IsErrOf (refused_as X f) JournalFull ↔ ((before.failed ≡ false) × (adds_entry x ≡ true) × (length before.journal ≡ 1000000))) → IsErrOf (refused_as Y f) JournalFull ↔ IsFull (shown cut before) x
+full_as X Y f cut before x runs full =
+    let g = full_where (IsErrOf (refused_as X f) JournalFull) cut before x runs full in
+    (λ e. g.0 (ap (refused_as X) (same_fault Y f JournalFull e)), λ is. ap (refused_as Y) (same_fault X f JournalFull (g.1 is)))
+
+pub isnt_full : (A B : Type 0) (cut : Option Shown) (before : KvLedger) (x : Ready) → (shown cut before).failed ≡ false → (A → ⊥) → (B → ⊥) → (A ↔ ((before.failed ≡ false) × (adds_entry x ≡ true) × (length before.journal ≡ 1000000))) → B ↔ IsFull (shown cut before) x
+isnt_full A B cut before x runs not_a not_b f = let g = full_where A cut before x runs f in (λ b. absurd (not_b b), λ is. absurd (not_a (g.1 is)))
+
+pub taken_isnt : (t : Took) → IsErrOf (taken_as t) JournalFull → ⊥
+taken_isnt t e = cc
+
+pub given_isnt : (o : Option Onward) → IsErrOf (given_as o) JournalFull → ⊥
+given_isnt o e = cc
+
+pub no_memory_isnt : IsErrOf no_memory JournalFull → ⊥
+no_memory_isnt e = cc
+
+-- ---- a list of what goes out
+
+hands_more : (old now new : List OutboxView) (outgoing : List Outgoing) (one : Outgoing) → HandsEach old outgoing now → HandsOne now one new → HandsEach old (outgoing ++ one ∷ []) new
+hands_more old now new [] one h more = (new, subst (λ (boxes : List OutboxView). HandsOne boxes one new) h more, refl)
+hands_more old now new (x ∷ outgoing) one h more = (h.0, h.1, hands_more h.0 now new outgoing one h.2 more)
+
+pub hands_last : (old now new : List OutboxView) (all rest : List Outgoing) (one : Outgoing) → all ≡ rest ++ option_to_list (Some one) → HandsEach old rest now → HandsOne now one new → HandsEach old all new
+hands_last old now new all rest one is h more = subst (λ (os : List Outgoing). HandsEach old os new) (sym is) (hands_more old now new rest one h more)
+
+-- ---- what goes to all among them
+
+pub any_before : (all rest : List Outgoing) (one : Outgoing) → all ≡ rest ++ option_to_list (Some one) → Any IsToAll rest → Any IsToAll all
+any_before all rest one is h = subst (λ (os : List Outgoing). Any IsToAll os) (sym is) (h.0, h.1, omega (arith, h.2, length-append rest (one ∷ [])), get_or_append_left rest (one ∷ []) h.1 h.0 h.2 ∙ h.3, h.4)
+
+pub any_last : (all rest : List Outgoing) (one : Outgoing) → all ≡ rest ++ option_to_list (Some one) → IsToAll one → Any IsToAll all
+any_last all rest one is p = subst (λ (os : List Outgoing). Any IsToAll os) (sym is) (Any-push IsToAll rest one p)
+
+pub on_refusal : {X Y : Type 0} (P : Type 0) (r : Result X Y) → is_err r ≡ true → OnErr r P → P
+on_refusal P (Ok x) e h = absurd cc
+on_refusal P (Err y) e h = h

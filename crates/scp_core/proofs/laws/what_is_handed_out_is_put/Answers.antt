@@ -1,0 +1,8 @@
+use Rattle.scp_core.proofs.Putting.{steps_put_all, drains_give_next}
+use Rattle.scp_core.proofs.laws.what_is_handed_out_is_put.Goals as goal
+
+pub returns-clause-puts : goal.returns-clause-puts
+returns-clause-puts c = steps_put_all
+
+pub returns-clause-drains : goal.returns-clause-drains
+returns-clause-drains c = drains_give_next

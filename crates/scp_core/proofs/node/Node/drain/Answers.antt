@@ -1,0 +1,10 @@
+use Rattle.std.proofs.Common.{rules, ◌∙◌, ap, refl}
+use Rattle.scp_core.specs.Node.{NodeView}
+use Rattle.scp_core.proofs.Handlers.{drain-kept, drain-failed}
+use Rattle.scp_core.proofs.node.Node.drain.Goals as goal
+
+pub returns-else-is_no_memory : goal.returns-else-is_no_memory
+returns-else-is_no_memory c = rw (← c.self.view_is) (drain-kept _ c.args.link _ _ (search rules) (ap (λ (v : NodeView). v.failed) c.self.view_is ∙ c.requires) c.draw-sent.ensures)
+
+pub returns-then-is_no_memory : goal.returns-then-is_no_memory
+returns-then-is_no_memory c = rw (← c.self.view_is) (drain-failed _ _ c.args.link _ _ (search rules) (ap (λ (v : NodeView). v.failed) c.self.view_is ∙ c.requires) c.draw-sent.ensures (rw c.fail.ensures refl))

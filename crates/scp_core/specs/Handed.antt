@@ -1,0 +1,67 @@
+-- What each step hands out for the links, and what a drain gives.
+use Rattle.std.specs.Prelude.{ℕ, ◌≡◌, ◌≢◌, ◌⊎◌, false, List, [], ◌∷◌, Option, Some, None, slice_get}
+use Rattle.scp_types.specs.declared.names.NodeId.{NodeId}
+use Rattle.scp_wire.specs.declared.link.Inbound.{Inbound}
+use Rattle.scp_wire.specs.declared.message.Message.{Message}
+use Rattle.scp_wire.specs.Message.{message_value, SpellsMessage}
+use Rattle.scp_outbox.specs.Outbox.{OutboxView}
+use Rattle.scp_sent.specs.Handing.{GivesThere}
+use Rattle.scp_ledger.specs.declared.took.Outgoing.{Outgoing}
+use Rattle.scp_ledger.specs.declared.took.Outgoing.TheVariants.{To}
+use Rattle.scp_pending.specs.declared.ready.Ready.{Ready}
+use Rattle.scp_pending.specs.Pends.{Pends}
+use Rattle.scp_pending.specs.Rules.{PendingView, reply as reply_to}
+use Rattle.scp_core.specs.declared.event.Event.{Event}
+use Rattle.scp_core.specs.declared.event.Event.TheVariants.{PendTake, SlotTake, ApplyTake, Drain}
+use Rattle.scp_core.specs.declared.event.Reply.{Reply}
+use Rattle.scp_core.specs.declared.event.Reply.TheVariants.{Moved, Idle, Sent, NoLink, NoMemory}
+use Rattle.scp_core.specs.Node.{NodeView, Step, HandsEach, PendBrings, PendTakes, SlotTakes, ApplyTakes, FitsLink}
+
+-- ---- what a step hands out
+
+-- an answer goes to its link
+abbrev pub out_of : Option (ℕ × Message) → List Outgoing
+out_of None = []
+out_of (Some answer) = To answer.0 answer.1 ∷ []
+
+-- the pending stage hands out its reply to the item that it takes, and nothing where it brings what is ready
+abbrev pub PendHands : NodeView → List Outgoing → NodeView → Type 0
+PendHands old handed new = (PendBrings old new × (handed ≡ [])) ⊎ ((takes : PendTakes old new) × (handed ≡ out_of (reply_to old.pending.settled takes.x)))
+
+-- the slot stage hands out what its ledger gives
+abbrev pub SlotHands : NodeView → List Outgoing → NodeView → Type 0
+SlotHands old handed new = (takes : SlotTakes old new) × (handed ≡ takes.took.outgoing)
+
+-- the applier hands out its answer
+abbrev pub ApplyHands : NodeView → List Outgoing → NodeView → Type 0
+ApplyHands old handed new = (takes : ApplyTakes old new) × (handed ≡ out_of takes.answer)
+
+-- what the stage of a step that moves something hands out, in order
+abbrev pub HandedAt : NodeView → Event → List Outgoing → NodeView → Type 0
+HandedAt old PendTake handed new = PendHands old handed new
+HandedAt old SlotTake handed new = SlotHands old handed new
+HandedAt old ApplyTake handed new = ApplyHands old handed new
+HandedAt old event handed new = handed ≡ []
+
+-- each step puts all that its stage hands out into the outboxes of its links, in order
+abbrev pub StepsPutAll : Type 0
+StepsPutAll = (old new : NodeView) (event : Event) → Step old event Moved new → (handed : List Outgoing) × HandedAt old event handed new × HandsEach old.outboxes handed new.outboxes
+
+-- ---- what a drain gives
+
+-- the bytes of what is next in the outbox of the link, Idle where nothing is next, and nothing of a link that isn't there
+abbrev pub IsDrained : List OutboxView → ℕ → Reply → List OutboxView → Type 0
+IsDrained old link (Sent bytes) new = (message : Message) × GivesThere old link (Some message) new × SpellsMessage bytes (message_value message)
+IsDrained old link Idle new = GivesThere old link None new
+IsDrained old link NoLink new = (slice_get old link ≡ None) × (new ≡ old)
+IsDrained old link reply new = ⊥
+
+-- a drain of a node that runs answers so, or lacks memory
+abbrev pub DrainsGiveNext : Type 0
+DrainsGiveNext = (old new : NodeView) (link : ℕ) (reply : Reply) → old.failed ≡ false → Step old (Drain link) reply new → reply ≢ NoMemory → IsDrained old.outboxes link reply new.outboxes
+
+-- ---- why nothing is left out
+
+-- whatever the pending stage replies fits a link
+abbrev pub RepliesFit : Type 0
+RepliesFit = (me : NodeId) (peers : List NodeId) (taken : List Inbound) (given : List Ready) (v : PendingView) → Pends me peers taken given v → (item : Inbound) → FitsLink (reply_to v.settled item)

@@ -1,0 +1,117 @@
+//! What stages hand out for links, put into the outboxes, and what is sent out of them.
+ghost use Rattle.std.specs.Prelude.{◌≡◌, OnOk, OnErr, Any};
+ghost use Rattle.scp_core.specs.Node.{Hands, HandsOne, HandsEach, IsToAll};
+ghost use Rattle.scp_core.specs.inside.Draining.{Draws, IsSpelt, empty_reply};
+
+use crate::event::Reply;
+use scp_envelope::Envelope;
+use scp_ledger::{Outgoing, OutgoingList};
+use scp_outbox::FittingMessage;
+use scp_sent::Outboxes;
+use scp_types::Fault;
+use scp_wire::{BoxedEnvelope, Bytes, Message, encode};
+use std::alloc::Global;
+
+/// Puts a stage's answer for a link into that link's outbox. One that is too long for a link isn't put.
+pub fn hand_out(outboxes: &mut Outboxes, answer: Option<(u8, Message)>)
+    ensures { Hands outboxes.old answer outboxes.new }
+{
+    match answer {
+        Some((link, message)) => hand(outboxes, link, message),
+        None => {}
+    }
+}
+
+fn hand(outboxes: &mut Outboxes, link: u8, message: Message)
+    ensures { HandsOne outboxes.old (Outgoing.To link message) outboxes.new }
+{
+    match FittingMessage::new(message) {
+        Ok(fitting) => outboxes.put(link, fitting),
+        Err(_) => {}
+    }
+}
+
+/// Puts all that goes out into the outboxes, in order. Where a copy of what goes to all peers is refused, some outboxes have it
+/// and others haven't.
+pub fn hand_out_all(
+    alloc: Global,
+    outboxes: &mut Outboxes,
+    outgoing: OutgoingList,
+) -> Result<(), Fault>
+    ensures hands { OnOk result (HandsEach outboxes.old outgoing outboxes.new) }
+    ensures to_all { OnErr result (Any IsToAll outgoing) }
+{
+    hand_out_rest(alloc, outboxes, outgoing.into_vec())
+}
+
+/// The same of a list, the last of which comes at last.
+fn hand_out_rest(
+    alloc: Global,
+    outboxes: &mut Outboxes,
+    outgoing: Vec<Outgoing>,
+) -> Result<(), Fault>
+    ensures hands { OnOk result (HandsEach outboxes.old outgoing.items outboxes.new) }
+    ensures to_all { OnErr result (Any IsToAll outgoing.items) }
+{
+    let mut rest = outgoing;
+    let Some(last) = rest.pop() else {
+        return Ok(());
+    };
+    match hand_out_rest(alloc, outboxes, rest) {
+        Ok(()) => hand_out_one(alloc, outboxes, last),
+        Err(fault) => Err(fault),
+    }
+}
+
+fn hand_out_one(alloc: Global, outboxes: &mut Outboxes, outgoing: Outgoing) -> Result<(), Fault>
+    ensures hands { OnOk result (HandsOne outboxes.old outgoing outboxes.new) }
+    ensures to_all { OnErr result (IsToAll outgoing) }
+{
+    match outgoing {
+        Outgoing::ToAll(envelope) => hand_to_all(alloc, outboxes, envelope),
+        Outgoing::To(link, message) => {
+            hand(outboxes, link, message);
+            Ok(())
+        }
+    }
+}
+
+fn hand_to_all(alloc: Global, outboxes: &mut Outboxes, envelope: Envelope) -> Result<(), Fault>
+    ensures hands { OnOk result (HandsOne outboxes.old (Outgoing.ToAll envelope) outboxes.new) }
+{
+    let boxed = BoxedEnvelope::new(alloc, envelope)?;
+    match FittingMessage::new(Message::Envelope(boxed)) {
+        Ok(fitting) => outboxes.put_all(&fitting),
+        Err(_) => Ok(()),
+    }
+}
+
+/// What is next in the link's outbox, as bytes.
+pub fn draw(alloc: Global, outboxes: &mut Outboxes, link: u8) -> Reply
+    ensures { Draws outboxes.old link result outboxes.new }
+{
+    match outboxes.next(link) {
+        Some(message) => spell(alloc, &message),
+        None => empty(outboxes.len(), link),
+    }
+}
+
+fn spell(alloc: Global, message: &Message) -> Reply
+    ensures { IsSpelt message.now result }
+{
+    match encode(alloc, message) {
+        Ok(bytes) => Reply::Sent(Bytes::new(bytes)),
+        Err(_) => Reply::NoMemory,
+    }
+}
+
+/// Why there is nothing of a link: nothing waits, or there is no such link.
+fn empty(count: usize, link: u8) -> Reply
+    ensures { result ≡ empty_reply count link }
+{
+    if (link as usize) < count {
+        Reply::Idle
+    } else {
+        Reply::NoLink
+    }
+}

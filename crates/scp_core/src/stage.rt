@@ -1,0 +1,116 @@
+//! The slot stage of a node: what its ledger hands out is put into the outboxes.
+ghost use Rattle.std.specs.Prelude.{◌≡◌, ◌↔◌, ◌≤◌, [], true, false, length, take, IfOk, OnErr, IsErrOf};
+ghost use Rattle.scp_ledger.specs.Ledger.{IsLedger};
+ghost use Rattle.scp_ledger.specs.Takes.{adds_entry};
+ghost use Rattle.scp_core.specs.Stages.{KvRuns};
+ghost use Rattle.scp_core.specs.inside.Stage.{TakesOut, new_ledger};
+
+use crate::handing::hand_out_all;
+use scp_driver::KvDriver;
+use scp_ledger::{Fate, JOURNAL_LIMIT, Ledger, Onward, SharedDecision};
+use scp_pending::Ready;
+use scp_quorum::SaneSet;
+use scp_sent::Outboxes;
+use scp_types::{Fault, NodeId};
+use std::alloc::Global;
+use std::marker::Model;
+use std::sync::Arc;
+
+/// How much of a ledger's lists is shown.
+#[derive(Clone, Copy)]
+pub struct Shown {
+    pub journal: usize,
+    pub decisions: usize,
+}
+
+/// A ledger. Where a copy of what goes to all peers is refused, after the ledger took its thing, it has failed, and shows its
+/// lists as they were before.
+#[derive(Drop)]
+pub struct SlotStage {
+    ledger: Ledger<KvDriver>,
+    cut: Option<Shown>,
+}
+
+impl Model for SlotStage {
+    ghost use Rattle.std.specs.Coded.{codes};
+    ghost use Rattle.scp_xdr.specs.TreeModel.{coded_row};
+    ghost use Rattle.scp_quorum.specs.QuorumTree.{coded_level};
+    ghost use Rattle.scp_driver.specs.contracts.kv_driver.KvDriver as driver;
+    ghost use Rattle.scp_ledger.specs.Coding.{machine_code};
+    ghost use Rattle.scp_core.specs.Stages.{KvLedger};
+    ghost use Rattle.scp_core.specs.inside.Stage.{shown};
+
+    ghost Value = { KvLedger };
+
+    ghost coded = { Prim.hlevel (codes, machine_code driver.the_row.coded, coded_row coded_level) };
+
+    ghost view = { λ a. shown a.cut a.ledger };
+}
+
+impl SlotStage {
+    /// One that took nothing.
+    pub fn new(alloc: Global, me: NodeId, set: Arc<SaneSet>, peers: Vec<NodeId>) -> SlotStage
+        requires few { length peers.items ≤ 255 }
+        ensures new { result ≡ new_ledger me set.value peers.items }
+        ensures known { IsLedger result }
+        ensures running { KvRuns result }
+    {
+        SlotStage {
+            ledger: Ledger::new(alloc, me, set, KvDriver, peers),
+            cut: None,
+        }
+    }
+
+    pub fn journal(&self) -> &[Fate]
+        ensures { result.now ≡ self.now.journal }
+    {
+        match self.cut {
+            Some(cut) => first(self.ledger.journal(), cut.journal),
+            None => self.ledger.journal(),
+        }
+    }
+
+    pub fn decisions(&self) -> &[SharedDecision]
+        ensures { result.now ≡ self.now.decisions }
+    {
+        match self.cut {
+            Some(cut) => first(self.ledger.decisions(), cut.decisions),
+            None => self.ledger.decisions(),
+        }
+    }
+
+    /// Takes a ready thing, puts what goes out to peers into the outboxes, and gives what goes on to the applier.
+    pub fn take(
+        &mut self,
+        alloc: Global,
+        ready: Ready,
+        outboxes: &mut Outboxes,
+    ) -> Result<Option<Onward>, Fault>
+        requires runs { self.old.failed ≡ false }
+        ensures takes { IfOk result (λ onward. TakesOut self.old outboxes.old ready onward self.new outboxes.new) }
+        ensures full { IsErrOf result Fault.JournalFull ↔ ((adds_entry ready ≡ true) × (length self.old.journal ≡ JOURNAL_LIMIT)) }
+        ensures read { OnErr result ((self.new.journal ≡ self.old.journal) × (self.new.decisions ≡ self.old.decisions) × (self.new.asked ≡ self.old.asked)) }
+    {
+        let journal = self.ledger.journal().len();
+        let decisions = self.ledger.decisions().len();
+        let took = match self.ledger.take(ready) {
+            Ok(took) => took,
+            Err(fault) => return Err(fault),
+        };
+        if hand_out_all(alloc, outboxes, took.outgoing).is_err() {
+            self.cut = Some(Shown { journal, decisions });
+            return Err(Fault::NoMemory);
+        }
+        Ok(took.onward)
+    }
+}
+
+/// So many of a list from the first on, or all.
+fn first<T>(list: &[T], count: usize) -> &[T]
+    ensures { result.now ≡ take count list.now }
+{
+    match list.get(..count) {
+        Some(part) => part,
+        None => list,
+    }
+}
