@@ -1,0 +1,12 @@
+mod Basics
+mod Growing
+mod Handing
+mod Places
+mod Replies
+mod Emitted
+mod Machines
+mod Ledgers
+mod Answers
+mod Putting
+mod Stepping
+mod All

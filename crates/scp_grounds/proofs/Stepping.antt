@@ -1,0 +1,253 @@
+-- One step: what was sent rests on its grounds then too.
+use Rattle.std.proofs.Common.{◌≡◌, ◌≢◌, ℕ, Bool, true, false, List, [], ◌∷◌, ◌++◌, refl, sym, ◌∙◌, ap, subst, append_assoc, append-nil, take, drop, All, inl, inr}
+use Rattle.std.specs.Prelude.{Option, Some, None, slice_set, if◌then◌else◌}
+use Rattle.std.proofs.lemmas.Bool.{eq-eqb, ne_eqb}
+use Rattle.std.proofs.lemmas.List.{append_cancel_right}
+use Rattle.scp_types.specs.declared.names.Slot.{Slot}
+use Rattle.scp_wire.specs.declared.link.Command.TheVariants.{Ask}
+use Rattle.scp_wire.specs.declared.link.Inbound.{Inbound}
+use Rattle.scp_wire.specs.declared.link.Inbound.TheVariants as inbound
+use Rattle.scp_wire.specs.declared.message.Message.{Message}
+use Rattle.scp_wire.specs.declared.message.Message.TheVariants.{GetRecord}
+use Rattle.scp_outbox.specs.Outbox.{OutboxView}
+use Rattle.scp_pending.specs.Rules.{Settled, settled_by, reply as reply_to}
+use Rattle.scp_pending.specs.declared.ready.Ready.{Ready}
+use Rattle.scp_pending.specs.declared.ready.Ready.TheVariants as ready
+use Rattle.scp_ledger.specs.declared.took.Onward.{Onward}
+use Rattle.scp_ledger.specs.declared.took.Onward.TheVariants.{Decided, Asked}
+use Rattle.scp_ledger.specs.declared.took.Outgoing.{Outgoing}
+use Rattle.scp_ledger.specs.declared.took.Outgoing.TheVariants.{To}
+use Rattle.scp_apply.specs.Applier.{ApplierView, Takes as Applies}
+use Rattle.scp_core.specs.declared.config.Config.{Config}
+use Rattle.scp_core.specs.declared.event.Event.{Event}
+use Rattle.scp_core.specs.declared.event.Event.TheVariants.{Open, Send, Close, Local, ReaderTake, ReaderPut, PendTake, PendPut, SlotTake, SlotPut, ApplyTake, Drain}
+use Rattle.scp_core.specs.declared.event.Reply.{Reply}
+use Rattle.scp_core.specs.declared.event.Reply.TheVariants.{Failed, NoLink, AlreadyOpen, LivesSpent, NotOpen, Full, Accepted, Blocked, Idle, Moved, Sent, JournalFull, NoMemory}
+use Rattle.scp_core.specs.Flow.{Flows}
+use Rattle.scp_core.specs.History.{Past, accepts, moves, hears, readings_of}
+use Rattle.scp_core.specs.Node.{NodeView, HandsEach, PendTakes, SlotTakes, ApplyTakes, Accepts, Moves, SendsOut, Step, Fails}
+use Rattle.scp_core.specs.Settled.{start_at}
+use Rattle.scp_core.specs.Stages.{KvLedger}
+use Rattle.scp_core.specs.Theorem.{IsReply}
+use Rattle.scp_core.proofs.Links.{hand_cut}
+use Rattle.scp_core.proofs.OfLinks.{start_is}
+use Rattle.scp_core.proofs.Queues.{within, there_is}
+use Rattle.scp_grounds.specs.Sent.{Grounds, sent_by, IsSentOut, grounds_of}
+use Rattle.scp_grounds.proofs.Basics.{IsMore, no_more, more_of, true_isnt}
+use Rattle.scp_grounds.proofs.Growing.{Grows}
+use Rattle.scp_grounds.proofs.Handing.{Boxes, boxes_more, boxes_sent, sent_out, gives_one}
+use Rattle.scp_grounds.proofs.Ledgers.{LedgerStep, ledger_step}
+use Rattle.scp_grounds.proofs.Replies.{MayReply, reply_may}
+use Rattle.scp_grounds.proofs.Answers.{told_to_ask, applied_may}
+use Rattle.scp_grounds.proofs.Putting.{IsSaid, Stands, stands_one, stands_answer, reply_more, tell_peers}
+
+-- what holds of a list of exchanges: all that was sent rests on its grounds; and of a node that runs, what waits is the inbox
+pub record State (p : Past) (sent : ℕ → List (List ℕ)) (v : NodeView) : Type 0 where
+  pub taken : List Inbound
+  pub waiting : List Inbound
+  pub came : p.came ≡ taken ++ waiting
+  pub out : (link : ℕ) → IsSentOut (grounds_of v taken) link (sent link)
+  pub now : v.failed ≡ false → (waiting ≡ v.inbox) × Stands sent (grounds_of v taken) v.ledger v.outboxes
+
+-- of a node that runs
+pub state_of : (p : Past) (sent : ℕ → List (List ℕ)) (v : NodeView) (taken : List Inbound) → p.came ≡ taken ++ v.inbox → Stands sent (grounds_of v taken) v.ledger v.outboxes → State p sent v
+state_of p sent v taken came st = record { taken = taken; waiting = v.inbox; came = came; out = sent_out (grounds_of v taken) sent v.outboxes st.handed st.boxes; now = λ runs. (refl, st) }
+
+-- what was taken is what arrived at the pending stage
+at_arrived : (p : Past) (sent : ℕ → List (List ℕ)) (v : NodeView) (f : Flows p v) → State p sent v → Stands sent (grounds_of v f.arrived) v.ledger v.outboxes
+at_arrived p sent v f s =
+    let now = s.now f.runs in
+    let same : s.taken ≡ f.arrived = append_cancel_right s.taken f.arrived v.inbox (ap (λ (xs : List Inbound). s.taken ++ xs) (sym now.0) ∙ sym s.came ∙ f.inbox) in
+    subst (λ (xs : List Inbound). Stands sent (grounds_of v xs) v.ledger v.outboxes) same now.1
+
+-- ---- with more grounds
+
+stands_more : (sent : ℕ → List (List ℕ)) (g h : Grounds) (v : KvLedger) (outboxes : List OutboxView) → Grows g h → Stands sent g v outboxes → Stands sent h v outboxes
+stands_more sent g h v outboxes k st = record {
+  handed = st.handed;
+  boxes = boxes_more g h sent outboxes st.handed k st.boxes;
+  machines = rw k.config st.machines;
+  behind = st.behind;
+}
+
+-- ---- accepted events
+
+accepted : (p : Past) (sent : ℕ → List (List ℕ)) (old new : NodeView) (event : Event) (f : Flows p old) → Accepts old event new → Stands sent (grounds_of old f.arrived) old.ledger old.outboxes → State (accepts old.config p event) sent new
+accepted p sent old new (Open l) f a st = subst (λ (v : NodeView). State (accepts old.config p (Open l)) sent v) (sym a.2.3) (state_of (accepts old.config p (Open l)) sent _ f.arrived f.inbox st)
+accepted p sent old new (Send l bytes) f a st = subst (λ (v : NodeView). State (accepts old.config p (Send l bytes)) sent v) (sym a.2.2) (state_of (accepts old.config p (Send l bytes)) sent _ f.arrived f.inbox st)
+accepted p sent old new (Close l) f a st = subst (λ (v : NodeView). State (accepts old.config p (Close l)) sent v) (sym a.2.2) (state_of (accepts old.config p (Close l)) sent _ f.arrived f.inbox st)
+accepted p sent old new (Local command) f a st =
+    subst (λ (v : NodeView). State (accepts old.config p (Local command)) sent v) (sym a.2)
+    (state_of (accepts old.config p (Local command)) sent (record old { inbox = old.inbox ++ inbound.Local command ∷ [] }) f.arrived (ap (λ (xs : List Inbound). xs ++ inbound.Local command ∷ []) f.inbox ∙ append_assoc f.arrived old.inbox (inbound.Local command ∷ [])) st)
+accepted p sent old new event f a st = absurd a
+
+-- ---- the stages
+
+pend_takes : (p : Past) (sent : ℕ → List (List ℕ)) (old new : NodeView) (f : Flows p old) → PendTakes old new → Stands sent (grounds_of old f.arrived) old.ledger old.outboxes → State p sent new
+pend_takes p sent old new f b st =
+    let taken : List Inbound = f.arrived ++ b.x ∷ [] in
+    let g = grounds_of old f.arrived in
+    let h = grounds_of old taken in
+    let more : Grows g h = record { config = refl; taken = more_of f.arrived taken (b.x ∷ []) refl; journal = no_more old.ledger.journal old.ledger.journal refl; decisions = no_more old.ledger.decisions old.ledger.decisions refl; applied = no_more old.applier.applied old.applier.applied refl } in
+    let rules : old.pending.settled ≡ settled_by (start_at old.config) f.arrived = f.pending.settled ∙ ap (λ (start : Settled). settled_by start f.arrived) (start_is p old f) in
+    let may : MayReply h (reply_to old.pending.settled b.x) = subst (λ (s : Settled). MayReply h (reply_to s b.x)) (sym rules) (reply_may h f.arrived b.x refl) in
+    let came : p.came ≡ taken ++ b.rest = f.inbox ∙ ap (λ (xs : List Inbound). f.arrived ++ xs) b.inbox ∙ sym (append_assoc f.arrived (b.x ∷ []) b.rest) in
+    subst (λ (v : NodeView). State p sent v) (sym b.is)
+    (state_of p sent (record old { inbox = b.rest; pending = b.after'; pend_hand = b.thing; outboxes = new.outboxes }) taken came
+    (stands_answer sent h old.ledger old.outboxes new.outboxes (reply_to old.pending.settled b.x) (stands_more sent g h old.ledger old.outboxes more st) may b.hands))
+
+applied_more : (old : ApplierView) (x : Onward) (answer : Option (ℕ × Message)) (new : ApplierView) → Applies old x answer new → IsMore old.applied new.applied
+applied_more old (Decided d) answer new t = more_of old.applied new.applied t.1.more t.1.grows
+applied_more old (Asked link slot) answer new t = no_more old.applied new.applied (ap (λ (v : ApplierView). v.applied) t.1)
+
+apply_takes : (p : Past) (sent : ℕ → List (List ℕ)) (old new : NodeView) (f : Flows p old) → ApplyTakes old new → Stands sent (grounds_of old f.arrived) old.ledger old.outboxes → State (moves p ApplyTake) sent new
+apply_takes p sent old new f b st =
+    let w : NodeView = record old { decided = b.rest; applier = b.after'; outboxes = new.outboxes } in
+    let g = grounds_of old f.arrived in
+    let h = grounds_of w f.arrived in
+    let more : Grows g h = record { config = refl; taken = no_more f.arrived f.arrived refl; journal = no_more old.ledger.journal old.ledger.journal refl; decisions = no_more old.ledger.decisions old.ledger.decisions refl; applied = applied_more old.applier b.x b.answer b.after' b.takes } in
+    subst (λ (v : NodeView). State (moves p ApplyTake) sent v) (sym b.is)
+    (state_of (moves p ApplyTake) sent w f.arrived f.inbox
+    (stands_answer sent h old.ledger old.outboxes new.outboxes b.answer (stands_more sent g h old.ledger old.outboxes more st) (reply_more g h b.answer more (applied_may p old f b.x b.rest b.answer b.after' b.decided b.takes)) b.hands))
+
+-- what the slot stage sends
+module _ (p : Past) (sent : ℕ → List (List ℕ)) (old new : NodeView) (f : Flows p old) (b : SlotTakes old new) (s : LedgerStep old.config old.ledger b.x b.took b.after') (st : Stands sent (grounds_of old f.arrived) old.ledger old.outboxes) where
+  abbrev g : Grounds
+  g = grounds_of old f.arrived
+
+  abbrev h : Grounds
+  h = grounds_of (record old { ready = b.rest; ledger = b.after'; slot_hand = b.took.onward; outboxes = new.outboxes }) f.arrived
+
+  more : Grows g h
+  more = record { config = refl; taken = no_more f.arrived f.arrived refl; journal = s.journal; decisions = s.decisions; applied = no_more old.applier.applied old.applier.applied refl }
+
+  boxes_then : Boxes h sent old.outboxes st.handed
+  boxes_then = boxes_more g h sent old.outboxes st.handed more st.boxes
+
+  behind_then : (link : ℕ) → All (IsSaid b.after') (st.handed link)
+  behind_then link k d below t e = s.behind t (st.behind link k d below t e)
+
+  stood : Stands sent h b.after' old.outboxes
+  stood = record { handed = st.handed; boxes = boxes_then; machines = s.machines; behind = behind_then }
+
+  asks : (link : ℕ) (slot : Slot) → b.x ≡ ready.Local (Ask link slot) → HandsEach old.outboxes (To link (GetRecord slot) ∷ []) new.outboxes → Stands sent h b.after' new.outboxes
+  asks link slot e hands = subst (λ (o : List OutboxView). Stands sent h b.after' o) (sym hands.2) (stands_one sent h b.after' old.outboxes hands.0 link (GetRecord slot) stood (told_to_ask p old f b.rest link slot (b.ready ∙ ap (λ (x : Ready). x ∷ b.rest) e)) refl hands.1)
+
+  slot_sends : Stands sent h b.after' new.outboxes
+  slot_sends = elim s.outs [
+    | inl none ↦ subst (λ (o : List OutboxView). Stands sent h b.after' o) (sym (subst (λ (out : List Outgoing). HandsEach old.outboxes out new.outboxes) none b.hands)) stood
+    | inr (inl w) ↦ asks w.0 w.1 w.2 (subst (λ (out : List Outgoing). HandsEach old.outboxes out new.outboxes) w.3 b.hands)
+    | inr (inr w) ↦ tell_peers sent h old.ledger b.after' refl st.handed boxes_then.allowed st.behind behind_then s.machines old.outboxes new.outboxes w.0.emitted.nomination w.0.emitted.ballot boxes_then w.2.nomination w.2.ballots (subst (λ (out : List Outgoing). HandsEach old.outboxes out new.outboxes) w.1 b.hands)
+  ]
+
+slot_takes : (p : Past) (sent : ℕ → List (List ℕ)) (old new : NodeView) (f : Flows p old) → SlotTakes old new → Stands sent (grounds_of old f.arrived) old.ledger old.outboxes → State (moves p SlotTake) sent new
+slot_takes p sent old new f b st =
+    let s = ledger_step old.config old.ledger b.x b.took b.after' f.journal.me_is f.journal.local_is st.machines b.takes in
+    subst (λ (v : NodeView). State (moves p SlotTake) sent v) (sym b.is)
+    (state_of (moves p SlotTake) sent (record old { ready = b.rest; ledger = b.after'; slot_hand = b.took.onward; outboxes = new.outboxes }) f.arrived f.inbox (slot_sends p sent old new f b s st))
+
+-- ---- events that move something
+
+moved : (p : Past) (sent : ℕ → List (List ℕ)) (old new : NodeView) (event : Event) (f : Flows p old) → Moves old event new → Stands sent (grounds_of old f.arrived) old.ledger old.outboxes → State (moves p event) sent new
+moved p sent old new (ReaderTake l) f a st = subst (λ (v : NodeView). State (moves p (ReaderTake l)) sent v) (sym a.2.4) (state_of (moves p (ReaderTake l)) sent _ f.arrived f.inbox st)
+moved p sent old new (ReaderPut l) f a st =
+    let k = a.0 in
+    let x = a.2.1 in
+    let o = p.links l in
+    let at = there_is old.config.peers l (rw (← f.count) (within old.links l k a.1)) in
+    let next : take 1 (drop o.given (readings_of o)) ≡ x ∷ [] = ap (take 1) (hand_cut old.config.me at.0 old.config.capacities.link o k x a.2.2 (f.links l k a.1 at.0 at.1)) in
+    subst (λ (v : NodeView). State (moves p (ReaderPut l)) sent v) (sym a.2.3)
+    (state_of (moves p (ReaderPut l)) sent (record old { links = slice_set old.links l (record k { hand = None }); inbox = old.inbox ++ x ∷ [] }) f.arrived (ap (λ (xs : List Inbound). p.came ++ xs) next ∙ ap (λ (xs : List Inbound). xs ++ x ∷ []) f.inbox ∙ append_assoc f.arrived old.inbox (x ∷ [])) st)
+moved p sent old new PendTake f a st = elim a.1 [
+  | inl b ↦ subst (λ (v : NodeView). State p sent v) (sym b.is) (state_of p sent (record old { pending = b.after'; pend_hand = Some b.thing }) f.arrived f.inbox st)
+  | inr b ↦ pend_takes p sent old new f b st
+]
+moved p sent old new PendPut f a st = subst (λ (v : NodeView). State (moves p PendPut) sent v) (sym a.3) (state_of (moves p PendPut) sent _ f.arrived f.inbox st)
+moved p sent old new SlotTake f a st = slot_takes p sent old new f a.1 st
+moved p sent old new SlotPut f a st = subst (λ (v : NodeView). State (moves p SlotPut) sent v) (sym a.3) (state_of (moves p SlotPut) sent _ f.arrived f.inbox st)
+moved p sent old new ApplyTake f a st = apply_takes p sent old new f a st
+moved p sent old new event f a st = absurd a
+
+-- ---- drains
+
+abbrev with_sent : (ℕ → List (List ℕ)) → Event → Reply → ℕ → List (List ℕ)
+with_sent sent event reply link = sent link ++ sent_by link event reply
+
+drained : (p : Past) (sent : ℕ → List (List ℕ)) (old new : NodeView) (event : Event) (bytes : List ℕ) (f : Flows p old) → SendsOut old event bytes new → Stands sent (grounds_of old f.arrived) old.ledger old.outboxes → State p (with_sent sent event (Sent bytes)) new
+drained p sent old new (Drain l) bytes f d st =
+    subst (λ (v : NodeView). State p (with_sent sent (Drain l) (Sent bytes)) v) (sym d.is)
+    (state_of p (with_sent sent (Drain l) (Sent bytes)) (record old { outboxes = new.outboxes }) f.arrived f.inbox (record {
+      handed = st.handed;
+      boxes = gives_one (grounds_of old f.arrived) sent (with_sent sent (Drain l) (Sent bytes)) old.outboxes st.handed l d.message bytes new.outboxes st.boxes d.gives d.spells
+          (ap (λ (b : Bool). sent l ++ (if b then bytes ∷ [] else [])) (eq-eqb l l refl))
+          (λ m ne. ap (λ (b : Bool). sent m ++ (if b then bytes ∷ [] else [])) (ne_eqb l m (λ e. ne (sym e))) ∙ append-nil (sent m));
+      machines = st.machines;
+      behind = st.behind;
+    }))
+drained p sent old new event bytes f d st = absurd d
+
+-- ---- nothing is sent
+
+abbrev IsQuiet : Reply → Type 0
+IsQuiet reply = (bytes : List ℕ) → reply ≢ Sent bytes
+
+quiet : (link : ℕ) (event : Event) (reply : Reply) → IsQuiet reply → sent_by link event reply ≡ []
+quiet link (Drain l) (Sent bytes) q = absurd (q bytes refl)
+quiet link event reply q = refl
+
+with_nothing : (p : Past) (sent : ℕ → List (List ℕ)) (v : NodeView) (event : Event) (reply : Reply) → IsQuiet reply → State p sent v → State p (with_sent sent event reply) v
+with_nothing p sent v event reply q s = record {
+  taken = s.taken;
+  waiting = s.waiting;
+  came = s.came;
+  out = λ link. subst (λ (bytes : List (List ℕ)). IsSentOut (grounds_of v s.taken) link bytes) (sym (same link)) (s.out link);
+  now = λ runs. ((s.now runs).0, (let st = (s.now runs).1 in record { handed = st.handed; boxes = boxes_sent (grounds_of v s.taken) sent (with_sent sent event reply) v.outboxes st.handed same st.boxes; machines = st.machines; behind = st.behind }));
+}
+  where
+    same : (link : ℕ) → with_sent sent event reply link ≡ sent link
+    same link = ap (λ (bytes : List (List ℕ)). sent link ++ bytes) (quiet link event reply q) ∙ append-nil (sent link)
+
+-- ---- a node that fails
+
+fails : (p : Past) (sent : ℕ → List (List ℕ)) (old new : NodeView) (f : Flows p old) → Fails old new → Stands sent (grounds_of old f.arrived) old.ledger old.outboxes → State (record p { failed = true }) sent new
+fails p sent old new f x st =
+    let k = x.keeps in
+    let g = grounds_of old f.arrived in
+    let same : grounds_of new f.arrived ≡ g = rw (k.config, k.journal, k.decisions, k.applied) refl in
+    record {
+      taken = f.arrived;
+      waiting = old.inbox;
+      came = f.inbox;
+      out = λ link. subst (λ (h : Grounds). IsSentOut h link (sent link)) (sym same) (sent_out g sent old.outboxes st.handed st.boxes link);
+      now = λ runs. absurd (true_isnt (sym x.failed ∙ runs));
+    }
+
+-- ---- each reply
+
+stays : (p : Past) (sent : ℕ → List (List ℕ)) (old new : NodeView) (f : Flows p old) → new ≡ old → Stands sent (grounds_of old f.arrived) old.ledger old.outboxes → State p sent new
+stays p sent old new f e st = subst (λ (v : NodeView). State p sent v) (sym e) (state_of p sent old f.arrived f.inbox st)
+
+stepped : (p : Past) (sent : ℕ → List (List ℕ)) (old new : NodeView) (event : Event) (reply : Reply) (f : Flows p old) → Step old event reply new → Stands sent (grounds_of old f.arrived) old.ledger old.outboxes → State (hears old.config p event reply) (with_sent sent event reply) new
+stepped p sent old new event Failed f s st = absurd (true_isnt (sym s.0 ∙ f.runs))
+stepped p sent old new event Accepted f s st = with_nothing _ sent new event Accepted (λ bytes e. cc) (accepted p sent old new event f s.1 st)
+stepped p sent old new event Moved f s st = with_nothing _ sent new event Moved (λ bytes e. cc) (moved p sent old new event f s.1 st)
+stepped p sent old new event (Sent bytes) f s st = drained p sent old new event bytes f s.1 st
+stepped p sent old new event JournalFull f s st = with_nothing _ sent new event JournalFull (λ bytes e. cc) (fails p sent old new f s.0 st)
+stepped p sent old new event NoMemory f s st = with_nothing _ sent new event NoMemory (λ bytes e. cc) (fails p sent old new f s.0 st)
+stepped p sent old new event NoLink f s st = with_nothing _ sent new event NoLink (λ bytes e. cc) (stays p sent old new f s.2 st)
+stepped p sent old new event AlreadyOpen f s st = with_nothing _ sent new event AlreadyOpen (λ bytes e. cc) (stays p sent old new f s.2 st)
+stepped p sent old new event LivesSpent f s st = with_nothing _ sent new event LivesSpent (λ bytes e. cc) (stays p sent old new f s.2 st)
+stepped p sent old new event NotOpen f s st = with_nothing _ sent new event NotOpen (λ bytes e. cc) (stays p sent old new f s.2 st)
+stepped p sent old new event Full f s st = with_nothing _ sent new event Full (λ bytes e. cc) (stays p sent old new f s.2 st)
+stepped p sent old new event Blocked f s st = with_nothing _ sent new event Blocked (λ bytes e. cc) (stays p sent old new f s.2 st)
+stepped p sent old new event Idle f s st = with_nothing _ sent new event Idle (λ bytes e. cc) (stays p sent old new f s.2 st)
+
+-- once the node failed nothing changes
+failed_reply : (c : Config) (p : Past) (sent : ℕ → List (List ℕ)) (old new : NodeView) (event : Event) (reply : Reply) → reply ≡ Failed → new ≡ old → State p sent old → State (hears c p event reply) (with_sent sent event reply) new
+failed_reply c p sent old new event reply e same s = subst (λ (r : Reply). State (hears c p event r) (with_sent sent event r) new) (sym e) (subst (λ (v : NodeView). State p (with_sent sent event Failed) v) (sym same) (with_nothing p sent old event Failed (λ bytes k. cc) s))
+
+pub state_step : (c : Config) (p : Past) (sent : ℕ → List (List ℕ)) (old : NodeView) (event : Event) (reply : Reply) (new : NodeView) → IsReply c p old event reply new → State p sent old → State (hears c p event reply) (with_sent sent event reply) new
+state_step c p sent old event reply new r s = elim r [
+  | inl w ↦ failed_reply c p sent old new event reply w.1 w.2 s
+  | inr w ↦ subst (λ (d : Config). State (hears d p event reply) (with_sent sent event reply) new) w.1.config (stepped p sent old new event reply w.1.flows w.1.step (at_arrived p sent old w.1.flows s))
+]
