@@ -1,0 +1,4 @@
+pub mod Hearing
+pub mod Sending
+pub mod Acting
+pub mod Settling

@@ -1,0 +1,29 @@
+use Rattle.std.proofs.Common.{◌≡◌, ◌+◌, inr, subst, arith, ⊎_elim}
+use Rattle.scp_network.specs.Heard.{Nodes}
+use Rattle.scp_network.specs.Rounds.{AllRun, HasFailed}
+use Rattle.scp_network.proofs.Settling.{round_more, breaks, rests_still, rests_all}
+use Rattle.scp_network.proofs.rounds.settle.Goals as goal
+
+pub loop-preserved : goal.loop-preserved
+loop-preserved c =
+    record {
+      heard = round_more c.args.nodes.now.items c.loop.nodes.items c.round-moved.new.nodes.items c.args.driven.now c.loop.counter c.round-moved.result c.loop.invariant.heard c.round-moved.ensures;
+      run = inr (subst (λ (nodes : Nodes). AllRun nodes) c.as_slice.ensures.value (c.failed.ensures.none c.in_default.is));
+    }
+
+pub returns-in-Some : goal.returns-in-Some
+returns-in-Some c =
+    breaks c.args.nodes.now.items c.loop.nodes.items c.round-moved.new.nodes.items c.args.driven.now c.loop.counter c.in-Some.number c.round-moved.result (omega arith) c.loop.invariant.run c.loop.invariant.heard c.round-moved.ensures
+    (subst (λ (nodes : Nodes). HasFailed nodes c.in-Some.number) c.as_slice.ensures.value c.in-Some.ensures.failed)
+
+pub returns-then-not-moved : goal.returns-then-not-moved
+returns-then-not-moved c = (
+  rests_still c.args.nodes.now.items c.loop.nodes.items c.round-moved.new.nodes.items c.args.driven.now c.loop.counter c.round-moved.result (omega arith) c.if-not-moved.true c.loop.invariant.heard c.round-moved.ensures,
+  subst (λ (nodes : Nodes). AllRun nodes) c.as_slice.ensures.value (c.failed.ensures.none c.in_default.is),
+)
+
+pub returns : goal.returns
+returns c = (
+  rests_all c.args.nodes.now.items c.loop.nodes.items c.args.driven.now c.loop.counter (omega arith) c.loop.invariant.heard,
+  ⊎_elim (λ (none : c.loop.counter ≡ 0). absurd (omega arith)) (λ (run : AllRun c.loop.nodes.items). run) c.loop.invariant.run,
+)

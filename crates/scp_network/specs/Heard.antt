@@ -1,0 +1,60 @@
+-- What several nodes hear, one event after the other.
+use Rattle.std.specs.Prelude.{ℕ, ◌+◌, ◌<◌, ◌≡◌, List, zero, suc, [], ◌∷◌, ◌++◌, Some, length, flat_map, get_or, nat_eq, slice_get, slice_set, if◌then◌else◌}
+use Rattle.scp_core.specs.declared.event.Event.{Event}
+use Rattle.scp_core.specs.declared.event.Reply.{Reply}
+use Rattle.scp_core.specs.History.{Exchange}
+use Rattle.scp_core.specs.Node.{NodeView, Step}
+use Rattle.scp_core.specs.Theorem.{LedgerTheorem}
+
+-- the nodes, node 1 first
+abbrev pub Nodes : Type 0
+Nodes = List NodeView
+
+-- what one node heard, and answered
+pub record Heard : Type 0 where
+  pub node : ℕ  -- its number, from 1 on
+  pub event : Event
+  pub reply : Reply
+
+-- one node did one step, and the others nothing
+pub record IsHeard (old : Nodes) (h : Heard) (new : Nodes) : Type 0 where
+  pub place : ℕ
+  pub number : h.node ≡ place + 1
+  pub before : NodeView
+  pub was : slice_get old place ≡ Some before
+  pub after' : NodeView
+  pub step : Step before h.event h.reply after'
+  pub is : new ≡ slice_set old place after'
+
+abbrev pub exchange_at : ℕ → Heard → List Exchange
+exchange_at number h = if nat_eq h.node number then (h.event, h.reply) ∷ [] else []
+
+-- what the node of a number heard of it
+abbrev pub past_at : ℕ → List Heard → List Exchange
+past_at number heard = flat_map (exchange_at number) heard
+
+-- each node has the ledger theorem, for what it heard
+abbrev pub HaveHeard : List Heard → Nodes → Type 0
+HaveHeard heard nodes = (i : ℕ) → (d : NodeView) → i < length nodes → LedgerTheorem (past_at (i + 1) heard) (get_or nodes i d)
+
+-- first this was heard, and then that
+pub record Then (First Next : Nodes → List Heard → Nodes → Type 0) (old : Nodes) (heard : List Heard) (new : Nodes) : Type 0 where
+  pub mid : Nodes
+  pub first : List Heard
+  pub rest : List Heard
+  pub split : heard ≡ first ++ rest
+  pub one : First old first mid
+  pub two : Next mid rest new
+
+-- nothing was heard
+abbrev pub IsNothing : Nodes → List Heard → Nodes → Type 0
+IsNothing old heard new = (heard ≡ []) × (new ≡ old)
+
+-- one event was heard
+abbrev pub IsOne : Heard → Nodes → List Heard → Nodes → Type 0
+IsOne h old heard new = (heard ≡ h ∷ []) × IsHeard old h new
+
+-- this for 1, 2, .. up to a number, one after the other
+abbrev pub InOrder : (ℕ → Nodes → List Heard → Nodes → Type 0) → ℕ → Nodes → List Heard → Nodes → Type 0
+InOrder Is zero old heard new = IsNothing old heard new
+InOrder Is (suc n) old heard new = Then (InOrder Is n) (Is (suc n)) old heard new

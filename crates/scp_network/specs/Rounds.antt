@@ -1,0 +1,112 @@
+-- How nodes come to rest: rounds, in which each node's stages do one step each, and then send what their outboxes hold.
+use Rattle.std.specs.Prelude.{ℕ, ◌+◌, ◌-◌, ◌*◌, ◌<◌, ◌≤◌, ◌≡◌, ◌≢◌, ◌⊎◌, Bool, true, false, List, [], ◌∷◌, ◌++◌, Option, Some, None, zero, suc, get_or, slice_get, nat_lt, if◌then◌else◌}
+use Rattle.std.specs.List.{AllByRecursion}
+use Rattle.scp_wire.specs.declared.link.Bytes.{Bytes}
+use Rattle.scp_core.specs.declared.event.Event.{Event}
+use Rattle.scp_core.specs.declared.event.Event.TheVariants as event
+use Rattle.scp_core.specs.declared.event.Reply.{Reply}
+use Rattle.scp_core.specs.declared.event.Reply.TheVariants as reply
+use Rattle.scp_core.specs.Node.{NodeView, accepts_at}
+use Rattle.scp_network.specs.Heard.{Nodes, Heard, Then, IsNothing, IsOne, InOrder}
+
+-- nothing moves with this reply, and nothing is sent
+abbrev pub IsStillReply : Reply → Type 0
+IsStillReply reply.Moved = ⊥
+IsStillReply (reply.Sent bytes) = ⊥
+IsStillReply reply = Unit {0}
+
+-- nothing moved, and nothing was sent
+abbrev pub IsStill : List Heard → Type 0
+IsStill heard = AllByRecursion (λ h. IsStillReply h.reply) heard
+
+-- which link of a node comes from another, by the numbers of both: a node's peers are the others, ascending
+abbrev pub link_of : ℕ → ℕ → ℕ
+link_of from to = if nat_lt from to then from - 1 else from - 2
+
+-- this event was heard by the node of a number, whatever it answered
+abbrev pub Hears : ℕ → Event → Nodes → List Heard → Nodes → Type 0
+Hears number event old heard new = (reply : Reply) × IsOne (record { node = number; event = event; reply = reply }) old heard new
+
+-- these, one after the other
+abbrev pub HearsAll : ℕ → List Event → Nodes → List Heard → Nodes → Type 0
+HearsAll number [] = IsNothing
+HearsAll number (event ∷ events) = Then (Hears number event) (HearsAll number events)
+
+-- what the readers of so many links do in a turn
+abbrev pub reader_events : ℕ → List Event
+reader_events zero = []
+reader_events (suc link) = reader_events link ++ event.ReaderTake link ∷ event.ReaderPut link ∷ []
+
+-- what the stages of a node with so many links do in a turn: the reader of each link, and those behind them
+abbrev pub stage_events : ℕ → List Event
+stage_events links = reader_events links ++ event.PendTake ∷ event.PendPut ∷ event.SlotTake ∷ event.SlotPut ∷ event.ApplyTake ∷ []
+
+-- the place of the link from a node to another in a list of eight for each node
+abbrev pub place_of : ℕ → ℕ → ℕ
+place_of from to = (from - 1) * 8 + (to - 1)
+
+-- whether the link from a node to another is one that carries nothing by itself
+abbrev pub is_driven : List Bool → ℕ → ℕ → Bool
+is_driven driven from to = get_or driven (place_of from to) false
+
+abbrev pub AcceptsNothing : Option NodeView → ℕ → Type 0
+AcceptsNothing None link = Unit {0}
+AcceptsNothing (Some node) link = accepts_at node link ≡ false
+
+-- nothing goes over a link: from a node to itself, over a link that carries nothing by itself, or one that isn't open, or whose queue
+-- is full, or to a node that failed
+abbrev pub IsShut : List Bool → ℕ → ℕ → Nodes → Type 0
+IsShut driven from to nodes = (from ≡ to) ⊎ ((is_driven driven from to ≡ true) ⊎ AcceptsNothing (slice_get nodes (to - 1)) (link_of from to))
+
+abbrev pub drain_of : ℕ → ℕ → Reply → Heard
+drain_of from to reply = record { node = from; event = event.Drain (link_of to from); reply = reply }
+
+abbrev pub send_of : ℕ → ℕ → Bytes → Heard
+send_of from to bytes = record { node = to; event = event.Send (link_of from to) bytes; reply = reply.Accepted }
+
+-- nothing was drained: nothing was next in the outbox, or the sender failed
+abbrev pub IsDry : ℕ → ℕ → Nodes → List Heard → Nodes → Type 0
+IsDry from to old heard new = (reply : Reply) × IsStillReply reply × IsOne (drain_of from to reply) old heard new
+
+-- what was next in the sender's outbox was sent, and accepted
+abbrev pub IsSent : ℕ → ℕ → Nodes → List Heard → Nodes → Type 0
+IsSent from to old heard new = (bytes : Bytes) × Then (IsOne (drain_of from to (reply.Sent bytes))) (IsOne (send_of from to bytes)) old heard new
+
+-- what goes over the link from a node to another in a turn
+abbrev pub Carries : List Bool → ℕ → ℕ → Nodes → List Heard → Nodes → Type 0
+Carries driven from to old heard new = (IsShut driven from to old × IsNothing old heard new) ⊎ ((from ≢ to) × (is_driven driven from to ≡ false) × (IsDry from to old heard new ⊎ IsSent from to old heard new))
+
+-- a node's turn: its stages do one step each, and then what is next goes out over each of its links
+abbrev pub IsTurn : List Bool → ℕ → ℕ → Nodes → List Heard → Nodes → Type 0
+IsTurn driven count number = Then (HearsAll number (stage_events (count - 1))) (InOrder (Carries driven number) count)
+
+-- a round: each node's turn, in the order of their numbers
+abbrev pub IsRound : List Bool → ℕ → Nodes → List Heard → Nodes → Type 0
+IsRound driven count = InOrder (IsTurn driven count) count
+
+abbrev pub AreRounds : List Bool → ℕ → ℕ → Nodes → List Heard → Nodes → Type 0
+AreRounds driven count rounds = InOrder (λ round. IsRound driven count) rounds
+
+-- a round in which nothing moved and nothing was sent
+abbrev pub IsStillRound : List Bool → ℕ → Nodes → List Heard → Nodes → Type 0
+IsStillRound driven count old heard new = IsRound driven count old heard new × IsStill heard
+
+-- the nodes come to rest: fewer than 100,000 rounds and then a still one, or 100,000 rounds
+abbrev pub Rests : List Bool → ℕ → Nodes → List Heard → Nodes → Type 0
+Rests driven count old heard new = ((before : ℕ) × (before < 100000) × Then (AreRounds driven count before) (IsStillRound driven count) old heard new) ⊎ AreRounds driven count 100000 old heard new
+
+-- no node failed
+abbrev pub AllRun : Nodes → Type 0
+AllRun nodes = (i : ℕ) → (node : NodeView) → slice_get nodes i ≡ Some node → node.failed ≡ false
+
+-- the node of this number failed
+abbrev pub HasFailed : Nodes → ℕ → Type 0
+HasFailed nodes number = (node : NodeView) × (1 ≤ number) × (slice_get nodes (number - 1) ≡ Some node) × (node.failed ≡ true)
+
+-- so many rounds, after which, if there was one, no node had failed
+abbrev pub AreWellRounds : List Bool → ℕ → ℕ → Nodes → List Heard → Nodes → Type 0
+AreWellRounds driven count rounds old heard new = AreRounds driven count rounds old heard new × ((rounds ≡ 0) ⊎ AllRun new)
+
+-- the node of this number failed in a round, at most the 100,000th, and none had failed after the rounds before it
+abbrev pub Breaks : List Bool → ℕ → ℕ → Nodes → List Heard → Nodes → Type 0
+Breaks driven count number old heard new = (before : ℕ) × (before < 100000) × Then (AreWellRounds driven count before) (IsRound driven count) old heard new × HasFailed new number

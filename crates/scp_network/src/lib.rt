@@ -1,0 +1,16 @@
+//! Nodes that send to each other, each in its turn.
+//!
+//! What it promises:
+//! - an event that a node is offered is one step of that node, and of no other;
+//! - a settle is rounds, in each of which every node, in the order of their numbers, has each of its stages do one step, and
+//!   then drains its outbox for each other node whose link from it is open and has room, unless the caller drives that link;
+//!   what is drained is sent there at once, and accepted: no message is lost between two nodes, doubled or overtaken;
+//! - it ends with a round in which nothing moved and nothing was sent, after 100,000 rounds, or where a node failed;
+//! - the ledger theorem holds of each node, for all that it heard.
+#![tactic(auto)]
+
+mod network;
+mod rounds;
+mod turn;
+
+pub use network::Network;

@@ -1,0 +1,97 @@
+//! The nodes, and the links on which the caller alone sends.
+ghost use Rattle.std.specs.Prelude.{◌≡◌, ◌<◌, ◌⊎◌, length, IfOk, IfErr, Err, replicate, false};
+ghost use Rattle.scp_types.specs.declared.fault.Fault.{Fault};
+ghost use Rattle.scp_network.specs.Inside.{Drives, Offered, Settled};
+
+use crate::rounds;
+use crate::turn::hear;
+use scp_core::{Event, Node, Reply};
+use scp_types::Fault;
+use std::alloc::Global;
+use std::marker::Model;
+
+/// The most nodes: one, and its seven peers.
+const MOST_NODES: usize = 8;
+
+/// Nodes that send to each other. They are numbered from 1 on, and the peers of each are the others, in the order of their
+/// numbers.
+#[derive(Drop)]
+pub struct Network {
+    nodes: Vec<Node>,
+    driven: Vec<bool>,
+}
+
+impl Model for Network {
+    ghost use Rattle.scp_network.specs.Inside.{NetworkView};
+
+    ghost Value = { NetworkView };
+
+    ghost use Rattle.std.specs.Prelude.{◌≡◌, ◌≤◌, length};
+    ghost use Rattle.std.specs.Coded.{codes};
+    ghost use Rattle.scp_core.specs.contracts.node.Node as node;
+
+    ghost coded = { Prim.hlevel (codes, node.the_row.coded) };
+
+    ghost view = { λ a. record { nodes = a.nodes.items; driven = a.driven.items } };
+
+    ghost invariant = { λ a. (length a.nodes.items ≤ 8) × (length a.driven.items ≡ 64) };
+}
+
+impl Network {
+    /// These nodes, of which no link is driven by the caller. Refused by `BadConfig` where they are more than eight, else by `NoMemory`.
+    pub fn new(alloc: Global, nodes: Vec<Node>) -> Result<Network, Fault>
+        ensures nodes { IfOk result (λ network. network.nodes ≡ nodes.items) }
+        ensures driven { IfOk result (λ network. network.driven ≡ replicate 64 false) }
+        ensures refused { result ≡ Err Fault.BadConfig → 8 < length nodes.items }
+        ensures limit { 8 < length nodes.items → result ≡ Err Fault.BadConfig }
+        ensures only { IfErr result (λ f. (f ≡ Fault.BadConfig) ⊎ (f ≡ Fault.NoMemory)) }
+    {
+        if nodes.len() > MOST_NODES {
+            return Err(Fault::BadConfig);
+        }
+        let mut driven = Vec::with_capacity(alloc, MOST_NODES * MOST_NODES)?;
+        for _ in 0..MOST_NODES * MOST_NODES {
+            driven.push(false)?;
+        }
+        Ok(Network { nodes, driven })
+    }
+
+    /// The nodes, node 1 first.
+    pub fn nodes(&self) -> &[Node]
+        ensures { result.now ≡ self.now.nodes }
+    {
+        self.nodes.as_slice()
+    }
+
+    /// From now on only the caller sends on the link from a node to another; where one of them isn't there, nothing changes.
+    pub fn drive(&mut self, from: u8, to: u8)
+        ensures { Drives self.old from to self.new }
+    {
+        let here = 1..=MOST_NODES as u8;
+        if here.contains(&from) && here.contains(&to) {
+            let place = usize::from(from - 1) * MOST_NODES + usize::from(to - 1);
+            if place < self.driven.len() {
+                self.driven[place] = true;
+            }
+        }
+    }
+
+    /// Offers an event to the node of a number, and answers its reply; `None` where it isn't there.
+    pub fn offer(&mut self, number: u8, event: Event) -> Option<Reply>
+        ensures { Offered self.old number event result self.new }
+    {
+        if number == 0 || usize::from(number) > self.nodes.len() {
+            return None;
+        }
+        Some(hear(&mut self.nodes, usize::from(number - 1), event))
+    }
+
+    /// Brings the nodes to rest: rounds, until one moves nothing and sends nothing, or 100,000. Refused by the number of a
+    /// node that failed.
+    pub fn settle(&mut self) -> Result<(), u8>
+        ensures settled { Settled self.old.driven self.old.nodes result self.new.nodes }
+        ensures same { self.new.driven ≡ self.old.driven }
+    {
+        rounds::settle(&mut self.nodes, self.driven.as_slice())
+    }
+}

@@ -1,0 +1,138 @@
+//! Rounds of all nodes: each one's stages do their steps, and then its messages go out.
+ghost use Rattle.std.specs.Prelude.{◌≡◌, ◌≢◌, ◌<◌, ◌≤◌, ◌+◌, length, IfSome, None};
+ghost use Rattle.scp_network.specs.Rounds.{link_of, is_driven, Carries, IsTurn, IsRound, HasFailed, AllRun};
+ghost use Rattle.scp_network.specs.Heard.{InOrder};
+ghost use Rattle.scp_network.specs.Inside.{AcceptsAt, Acts, Settled, Transmits};
+
+use crate::turn::{either, hear, work};
+use scp_core::{Event, Node, Reply};
+
+/// The most rounds of one settle.
+const MOST_ROUNDS: u32 = 100_000;
+
+/// Which link of a node comes from another, by the places of both.
+fn link_at(from: usize, to: usize) -> u8
+    requires from { from < 8 }
+    requires to { to < 8 }
+    ensures { result ≡ link_of (from + 1) (to + 1) }
+{
+    if from < to {
+        from as u8
+    } else {
+        (from as u8).saturating_sub(1)
+    }
+}
+
+/// Whether the caller alone sends on the link from a node to another, by the places of both.
+fn drives(driven: &[bool], from: usize, to: usize) -> bool
+    requires from { from < 8 }
+    requires to { to < 8 }
+    ensures { result ≡ is_driven driven.now (from + 1) (to + 1) }
+{
+    match driven.get(from * 8 + to) {
+        Some(driven) => *driven,
+        None => false,
+    }
+}
+
+/// What a node sends is drained, and sent where the link goes. Whether anything was sent.
+fn transmit(nodes: &mut Vec<Node>, from: usize, to: usize) -> bool
+    requires few { length nodes.old.items ≤ 8 }
+    requires from { from < length nodes.old.items }
+    requires to { to < length nodes.old.items }
+    requires apart { from ≢ to }
+    requires accepts { AcceptsAt nodes.old.items to (link_of (from + 1) (to + 1)) }
+    ensures { Acts nodes.old.items nodes.new.items (Transmits (from + 1) (to + 1)) result }
+{
+    match hear(nodes, from, Event::Drain(link_at(to, from))) {
+        Reply::Sent(bytes) => {
+            let _ = hear(nodes, to, Event::Send(link_at(from, to), bytes));
+            true
+        }
+        _ => false,
+    }
+}
+
+/// What goes over the link from a node to another in a turn. Whether anything was sent.
+fn carry(nodes: &mut Vec<Node>, driven: &[bool], from: usize, to: usize) -> bool
+    requires few { length nodes.old.items ≤ 8 }
+    requires from { from < length nodes.old.items }
+    requires to { to < length nodes.old.items }
+    ensures { Acts nodes.old.items nodes.new.items (Carries driven.now (from + 1) (to + 1)) result }
+{
+    if from == to || drives(driven, from, to) || !nodes[to].accepts(link_at(from, to)) {
+        return false;
+    }
+    transmit(nodes, from, to)
+}
+
+/// What a node sends in its turn, to each other node in the order of their numbers. Whether anything was sent.
+fn carry_all(nodes: &mut Vec<Node>, driven: &[bool], from: usize) -> bool
+    requires few { length nodes.old.items ≤ 8 }
+    requires from { from < length nodes.old.items }
+    ensures { Acts nodes.old.items nodes.new.items (InOrder (Carries driven.now (from + 1)) (length nodes.old.items)) result }
+{
+    let mut sent = false;
+    for to in 0..nodes.len() {
+        let carried = carry(nodes, driven, from, to);
+        sent = either(sent, carried);
+    }
+    sent
+}
+
+/// A node's turn. Whether anything moved or was sent.
+fn turn(nodes: &mut Vec<Node>, driven: &[bool], index: usize) -> bool
+    requires few { length nodes.old.items ≤ 8 }
+    requires index { index < length nodes.old.items }
+    ensures { Acts nodes.old.items nodes.new.items (IsTurn driven.now (length nodes.old.items) (index + 1)) result }
+{
+    let links = (nodes.len() - 1) as u8;
+    let moved = work(nodes, index, links);
+    let sent = carry_all(nodes, driven, index);
+    either(moved, sent)
+}
+
+/// A round of all nodes. Whether anything moved or was sent.
+fn round(nodes: &mut Vec<Node>, driven: &[bool]) -> bool
+    requires few { length nodes.old.items ≤ 8 }
+    ensures { Acts nodes.old.items nodes.new.items (IsRound driven.now (length nodes.old.items)) result }
+{
+    let mut moved = false;
+    for index in 0..nodes.len() {
+        let goes = turn(nodes, driven, index);
+        moved = either(moved, goes);
+    }
+    moved
+}
+
+/// The number of the first node that failed, if one did.
+fn failed(nodes: &[Node]) -> Option<u8>
+    requires few { length nodes.now ≤ 8 }
+    ensures failed { IfSome result (λ number. HasFailed nodes.now number) }
+    ensures none { result ≡ None → AllRun nodes.now }
+{
+    for (index, node) in nodes.iter().enumerate() {
+        if node.has_failed() {
+            return Some(index as u8 + 1);
+        }
+    }
+    None
+}
+
+/// Brings the nodes to rest: rounds, until one moves nothing and sends nothing, or 100,000. Refused by the number of a node
+/// that failed.
+pub fn settle(nodes: &mut Vec<Node>, driven: &[bool]) -> Result<(), u8>
+    requires few { length nodes.old.items ≤ 8 }
+    ensures { Settled driven.now nodes.old.items result nodes.new.items }
+{
+    for _ in 0..MOST_ROUNDS {
+        let moved = round(nodes, driven);
+        if let Some(number) = failed(nodes.as_slice()) {
+            return Err(number);
+        }
+        if !moved {
+            return Ok(());
+        }
+    }
+    Ok(())
+}
