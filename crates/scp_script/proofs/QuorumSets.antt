@@ -26,7 +26,7 @@ use Rattle.scp_quorum.specs.QuorumKind.{set_kind, set_value}
 use Rattle.scp_quorum.specs.Sane.{IsSane}
 use Rattle.scp_quorum.proofs.SetValues.{set_again}
 use Rattle.scp_script.specs.declared.command.Command.{Command}
-use Rattle.scp_script.specs.declared.command.Command.TheVariants.{Caps, Nodes, Set, Open, Close, Send, Propose, Round, Timer, Tick, Ask, Settle, Report}
+use Rattle.scp_script.specs.declared.command.Command.TheVariants.{Caps, Nodes, Set, Open, Close, Send, Propose, Round, Timer, Tick, Ask, Settle, Wait, Report}
 use Rattle.scp_script.specs.Words.{set_in}
 use Rattle.scp_script.specs.Script.{AreAdmitted, Admits}
 use Rattle.scp_script.specs.Nodes.{NamesNodes, numbers, id_of, of_all, set_given, set_at}
@@ -121,6 +121,7 @@ given_sane node before (Send from to bytes) names fits = All-nil IsSane
 given_sane node before (Propose at slot value) names fits = All-nil IsSane
 given_sane node before (Round at slot) names fits = All-nil IsSane
 given_sane node before (Timer at slot) names fits = All-nil IsSane
+given_sane node before (Wait at things) names fits = All-nil IsSane
 given_sane node before (Tick at) names fits = All-nil IsSane
 given_sane node before (Ask from to slot) names fits = All-nil IsSane
 given_sane node before Settle names fits = All-nil IsSane

@@ -6,7 +6,7 @@ use Rattle.scp_types.specs.declared.names.NodeId.{NodeId}
 use Rattle.scp_xdr.specs.Tree.{no_trees}
 use Rattle.scp_quorum.specs.QuorumTree.{QuorumTree}
 use Rattle.scp_script.specs.declared.command.Command.{Command}
-use Rattle.scp_script.specs.declared.command.Command.TheVariants.{Caps, Nodes, Set, Open, Close, Send, Propose, Round, Timer, Tick, Ask, Settle, Report}
+use Rattle.scp_script.specs.declared.command.Command.TheVariants.{Caps, Nodes, Set, Open, Close, Send, Propose, Round, Timer, Tick, Ask, Settle, Wait, Report}
 use Rattle.scp_script.specs.declared.command.Capacities.{Capacities}
 
 -- a number from 1 to 8
@@ -27,6 +27,7 @@ NamesNodes (Timer node slot) = IsSmall node
 NamesNodes (Tick node) = IsSmall node
 NamesNodes (Ask from to slot) = IsSmall from × IsSmall to × (from ≢ to)
 NamesNodes Settle = Unit {0}
+NamesNodes (Wait node things) = IsSmall node
 NamesNodes (Report node) = IsSmall node
 
 -- 1, 2, .. up to the count
@@ -60,6 +61,7 @@ set_given node (Timer at slot) = []
 set_given node (Tick at) = []
 set_given node (Ask from to slot) = []
 set_given node Settle = []
+set_given node (Wait at things) = []
 set_given node (Report at) = []
 
 -- The quorum set of a node: the last that the commands give it. Where there are no nodes it is 1 of one node, and nothing
@@ -80,6 +82,7 @@ capacities_given (Timer node slot) = []
 capacities_given (Tick node) = []
 capacities_given (Ask from to slot) = []
 capacities_given Settle = []
+capacities_given (Wait node things) = []
 capacities_given (Report node) = []
 
 -- 64 items in each queue
@@ -103,6 +106,7 @@ report_by (Timer node slot) = []
 report_by (Tick node) = []
 report_by (Ask from to slot) = []
 report_by Settle = []
+report_by (Wait node things) = []
 report_by (Report node) = node ∷ []
 
 -- the nodes that reports are asked of, in the order of the lines

@@ -7,7 +7,7 @@ use Rattle.scp_types.specs.declared.fault.Fault.TheVariants.{NoMemory, BadScript
 use Rattle.scp_quorum.specs.QuorumTree.{QuorumTree}
 use Rattle.scp_quorum.specs.Sane.{IsSane}
 use Rattle.scp_script.specs.declared.command.Command.{Command}
-use Rattle.scp_script.specs.declared.command.Command.TheVariants.{Caps, Nodes, Set, Open, Close, Send, Propose, Round, Timer, Tick, Ask, Settle, Report}
+use Rattle.scp_script.specs.declared.command.Command.TheVariants.{Caps, Nodes, Set, Open, Close, Send, Propose, Round, Timer, Tick, Ask, Settle, Wait, Report}
 use Rattle.scp_script.specs.Words.{lines_of, is_ascii, is_skipped, words_of, same, node_in, link_in, number_in, capacity_in, hex_bytes, value_in, set_in}
 
 -- ---- the command of a line
@@ -65,7 +65,12 @@ timer_by (Some node) (Some slot) = Some (Timer node slot)
 timer_by (Some node) None = None
 timer_by None slot = None
 
--- `settle`; `tick I` and `report I`; `nodes N K`, `set I HEX`, `open I J`, `close I J`, `round I SLOT` and `timer I SLOT`;
+abbrev pub wait_by : Option ℕ → Option ℕ → Option Command
+wait_by (Some node) (Some things) = Some (Wait node things)
+wait_by (Some node) None = None
+wait_by None things = None
+
+-- `settle`; `tick I` and `report I`; `nodes N K`, `set I HEX`, `open I J`, `close I J`, `round I SLOT`, `timer I SLOT` and `wait I N`;
 -- `ask I J SLOT`, `send I J HEX` and `propose I SLOT HEX`; `caps A B C D`
 abbrev pub command_in : List (List ℕ) → Option Command
 command_in [] = None
@@ -79,7 +84,8 @@ command_in (verb ∷ first ∷ second ∷ []) =
     else (if same verb (codes "open") then open_by (link_in first second)
     else (if same verb (codes "close") then close_by (link_in first second)
     else (if same verb (codes "round") then round_by (node_in first) (number_in second)
-    else (if same verb (codes "timer") then timer_by (node_in first) (number_in second) else None)))))
+    else (if same verb (codes "timer") then timer_by (node_in first) (number_in second)
+    else (if same verb (codes "wait") then wait_by (node_in first) (number_in second) else None))))))
 command_in (verb ∷ first ∷ second ∷ third ∷ []) =
     if same verb (codes "ask") then ask_by (link_in first second) (number_in third)
     else (if same verb (codes "send") then send_by (link_in first second) (hex_bytes third)
@@ -108,6 +114,7 @@ counted before (Timer node slot) = before
 counted before (Tick node) = before
 counted before (Ask from to slot) = before
 counted before Settle = before
+counted before (Wait node things) = before
 counted before (Report node) = before
 
 -- how many nodes there are: none before the `nodes` line
@@ -127,6 +134,7 @@ begins (Timer node slot) = true
 begins (Tick node) = true
 begins (Ask from to slot) = true
 begins Settle = true
+begins (Wait node things) = true
 begins (Report node) = true
 
 -- a command came that is neither a `caps` nor a `nodes` nor a `set` line's
@@ -150,6 +158,7 @@ opens from to (Timer node slot) = false
 opens from to (Tick node) = false
 opens from to (Ask from2 to2 slot) = false
 opens from to Settle = false
+opens from to (Wait node things) = false
 opens from to (Report node) = false
 
 -- the command closes this link
@@ -166,6 +175,7 @@ closes from to (Timer node slot) = false
 closes from to (Tick node) = false
 closes from to (Ask from2 to2 slot) = false
 closes from to Settle = false
+closes from to (Wait node things) = false
 closes from to (Report node) = false
 
 -- the link is open: the last command that opens or closes it opens it
@@ -202,6 +212,7 @@ Admits before (Timer node slot) = IsNode node before
 Admits before (Tick node) = IsNode node before
 Admits before (Ask from to slot) = IsLink from to before
 Admits before Settle = 1 ≤ node_count before
+Admits before (Wait node things) = IsNode node before
 Admits before (Report node) = IsNode node before
 
 -- each of the commands may stand behind those before it

@@ -45,6 +45,8 @@ pub enum Command {
     Ask { from: u8, to: u8, slot: u64 },
     /// The nodes come to rest.
     Settle,
+    /// So many things are to reach the applier of the node of this number; the nodes come to rest instead.
+    Wait { node: u8, things: u64 },
     /// The report of the node of this number.
     Report(u8),
 }

@@ -1,7 +1,7 @@
 //! The command that a line's words say.
 ghost use Rattle.std.specs.Prelude.{◌≡◌, ◌∷◌, [], IfOk, IfSome, IsOkUnless, map, option_map};
 ghost use Rattle.scp_script.specs.Words.{node_in, link_in, number_in, capacity_in, hex_bytes, value_in, set_in};
-ghost use Rattle.scp_script.specs.Script.{caps_by, nodes_by, set_by, open_by, close_by, send_by, ask_by, propose_by, round_by, timer_by, command_in};
+ghost use Rattle.scp_script.specs.Script.{caps_by, nodes_by, set_by, open_by, close_by, send_by, ask_by, propose_by, round_by, timer_by, wait_by, command_in};
 ghost use Rattle.scp_script.specs.Nodes.{NamesNodes};
 ghost use Rattle.scp_script.specs.declared.command.Command.TheVariants.{Tick, Report};
 
@@ -185,6 +185,20 @@ fn timer(alloc: Global, word: &str, slot: &str) -> Result<Option<Command>, Alloc
     Ok(Some(Command::Timer { node, slot }))
 }
 
+/// A `wait` line.
+fn wait(alloc: Global, word: &str, things: &str) -> Result<Option<Command>, AllocError>
+    ensures found { IfOk result (λ found. found ≡ wait_by (node_in word.now) (number_in things.now)) }
+    ensures nodes { IfOk result (λ found. IfSome found NamesNodes) }
+{
+    let Some(node) = node(word) else {
+        return Ok(None);
+    };
+    let Some(things) = number(alloc, things)? else {
+        return Ok(None);
+    };
+    Ok(Some(Command::Wait { node, things }))
+}
+
 /// The command of one word.
 fn of_one(verb: &str) -> Option<Command>
     ensures found { result ≡ command_in (verb.now ∷ []) }
@@ -222,6 +236,7 @@ fn of_three(alloc: Global, verb: &str, first: &str, second: &str) -> Result<Opti
         "close" => Ok(close(first, second)),
         "round" => Ok(round(alloc, first, second)?),
         "timer" => Ok(timer(alloc, first, second)?),
+        "wait" => Ok(wait(alloc, first, second)?),
         _ => Ok(None),
     }
 }

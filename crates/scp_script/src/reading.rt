@@ -77,6 +77,7 @@ impl Reading {
             | Command::Round { node, .. }
             | Command::Timer { node, .. }
             | Command::Tick(node)
+            | Command::Wait { node, .. }
             | Command::Report(node) => *node <= self.count,
             Command::Settle => 0 < self.count,
         }
