@@ -14,10 +14,10 @@ use Rattle.scp_core.specs.declared.config.Config.{Config}
 use Rattle.scp_core.specs.Config.{IsInRange, AreInRange, IsFit, IsConfig, is_among, are_apart}
 use Rattle.scp_core.specs.Node.{NodeView}
 use Rattle.scp_script.specs.declared.command.Command.{Command}
-use Rattle.scp_script.specs.declared.command.Command.TheVariants.{Caps, Nodes, Set, Open, Close, Send, Propose, Round, Timer, Tick, Ask, Settle, Report}
+use Rattle.scp_script.specs.declared.command.Command.TheVariants.{Caps, Nodes, Set, Open, Close, Send, Propose, Round, Timer, Tick, Ask, Settle, Wait, Report}
 use Rattle.scp_script.specs.declared.command.Capacities.{Capacities}
 use Rattle.scp_script.specs.Words.{words_of, lines_of, same, node_in, link_in, number_in, capacity_in, capacity_by, hex_bytes, value_in, set_in}
-use Rattle.scp_script.specs.Script.{node_count, command_in, commands_of, commands_in, caps_by, nodes_by, set_by, open_by, close_by, send_by, ask_by, propose_by, round_by, timer_by}
+use Rattle.scp_script.specs.Script.{node_count, command_in, commands_of, commands_in, caps_by, nodes_by, set_by, open_by, close_by, send_by, ask_by, propose_by, round_by, timer_by, wait_by}
 use Rattle.scp_script.specs.Nodes.{id_of, peers_of, set_at, capacities_given, capacities_of_none}
 use Rattle.scp_line.specs.Play.{config_of}
 use Rattle.scp_line.specs.Nodes.{HaveRoom}
@@ -102,6 +102,7 @@ CapsFit (Timer node slot) = Unit {0}
 CapsFit (Tick node) = Unit {0}
 CapsFit (Ask from to slot) = Unit {0}
 CapsFit Settle = Unit {0}
+CapsFit (Wait node things) = Unit {0}
 CapsFit (Report node) = Unit {0}
 
 if_in_range : (a b : Bool) (n : ℕ) → (a ≡ true → 1 ≤ n) → (b ≡ true → n ≤ 1024) → IfSome (if a && b then Some n else None) IsInRange
@@ -176,6 +177,11 @@ timer_fits (Some node) (Some slot) = tt
 timer_fits (Some node) None = tt
 timer_fits None b = tt
 
+wait_fits : (a b : Option ℕ) → IfSome (wait_by a b) CapsFit
+wait_fits (Some node) (Some things) = tt
+wait_fits (Some node) None = tt
+wait_fits None b = tt
+
 line_fits : (words : List (List ℕ)) → IfSome (command_in words) CapsFit
 line_fits [] = tt
 line_fits (verb ∷ []) = chosen (same verb (codes "settle")) (Some Settle) None tt tt
@@ -188,7 +194,8 @@ line_fits (verb ∷ first ∷ second ∷ []) =
     (chosen (same verb (codes "open")) _ _ (open_fits (link_in first second))
     (chosen (same verb (codes "close")) _ _ (close_fits (link_in first second))
     (chosen (same verb (codes "round")) _ _ (round_fits (node_in first) (number_in second))
-    (chosen (same verb (codes "timer")) _ None (timer_fits (node_in first) (number_in second)) tt)))))
+    (chosen (same verb (codes "timer")) _ _ (timer_fits (node_in first) (number_in second))
+    (chosen (same verb (codes "wait")) _ None (wait_fits (node_in first) (number_in second)) tt))))))
 line_fits (verb ∷ first ∷ second ∷ third ∷ []) =
     chosen (same verb (codes "ask")) _ _ (ask_fits (link_in first second) (number_in third))
     (chosen (same verb (codes "send")) _ _ (send_fits (link_in first second) (hex_bytes third))
@@ -214,6 +221,7 @@ given_fits (Timer node slot) fits = All-nil RoomFits
 given_fits (Tick node) fits = All-nil RoomFits
 given_fits (Ask from to slot) fits = All-nil RoomFits
 given_fits Settle fits = All-nil RoomFits
+given_fits (Wait node things) fits = All-nil RoomFits
 given_fits (Report node) fits = All-nil RoomFits
 
 read_fits : (o : Option Command) → IfSome o CapsFit → All CapsFit (option_to_list o)

@@ -1,7 +1,6 @@
 -- A command of a script may stand where it stands, and the link that it names is there.
 use Rattle.std.proofs.Common.{◌≡◌, ◌≢◌, ◌<◌, ◌≤◌, ◌+◌, ◌-◌, ℕ, Bool, true, false, cond, List, [], ◌∷◌, ◌++◌, nat_eq, nat_lt, refl, sym, ◌∙◌, ap, subst, append_assoc, append-nil, arith}
-use Rattle.std.specs.Prelude.{◌&&◌, All}
-use Rattle.std.specs.List.{AllByRecursion}
+use Rattle.std.specs.Prelude.{◌&&◌, All, fold}
 use Rattle.std.proofs.lemmas.Bool.{eqb-true}
 use Rattle.std.proofs.lemmas.Bool.Decides.{nat_tests}
 use Rattle.std.proofs.lemmas.List.Elements.{All-head, All-tail}
@@ -10,8 +9,14 @@ use Rattle.scp_script.specs.declared.command.Command.{Command}
 use Rattle.scp_script.specs.declared.command.Command.TheVariants as script
 use Rattle.scp_script.specs.Script.{counted, node_count, opens, closes, is_open, IsLink, Admits, AreAdmitted}
 use Rattle.scp_script.specs.Nodes.{NamesNodes}
-use Rattle.scp_line.specs.Play.{link_of}
-use Rattle.scp_line.specs.Nodes.{StandsAt}
+use Rattle.scp_network.specs.Rounds.{link_of}
+
+-- where a command stands in a script
+pub record StandsAt (commands done : List Command) (command : Command) : Type 0 where
+  pub after' : List Command
+  pub split : commands ≡ done ++ command ∷ after'
+  pub names : All NamesNodes commands
+  pub admitted : AreAdmitted [] commands
 
 -- ---- what holds of the commands before
 
@@ -22,10 +27,6 @@ admitted_front before (x ∷ xs) ys all = (all.0, admitted_front (before ++ x �
 admitted_rest : (before xs ys : List Command) → AreAdmitted before (xs ++ ys) → AreAdmitted (before ++ xs) ys
 admitted_rest before [] ys all = subst (λ (l : List Command). AreAdmitted l ys) (sym (append-nil before)) all
 admitted_rest before (x ∷ xs) ys all = subst (λ (l : List Command). AreAdmitted l ys) (append_assoc before (x ∷ []) xs) (admitted_rest (before ++ x ∷ []) xs ys all.1)
-
-names_front : (xs ys : List Command) → All NamesNodes (xs ++ ys) → AllByRecursion NamesNodes xs
-names_front [] ys all = tt
-names_front (x ∷ xs) ys all = (All-head NamesNodes x (xs ++ ys) all, names_front xs ys (All-tail NamesNodes x (xs ++ ys) all))
 
 -- ---- how many nodes there are
 
@@ -42,6 +43,7 @@ counts_same before (script.Timer at slot) a one = refl
 counts_same before (script.Tick at) a one = refl
 counts_same before (script.Ask from to slot) a one = refl
 counts_same before script.Settle a one = refl
+counts_same before (script.Wait at things) a one = refl
 counts_same before (script.Report at) a one = refl
 
 count_more : (before : List Command) (command : Command) → Admits before command → 1 ≤ node_count before → node_count (before ++ command ∷ []) ≡ node_count before
@@ -54,6 +56,30 @@ count_stays before (command ∷ commands) all one =
     let more = count_more before command all.0 one in
     ap (λ (l : List Command). node_count l) (sym (append_assoc before (command ∷ []) commands))
     ∙ count_stays (before ++ command ∷ []) commands all.1 (omega (arith, more, one)) ∙ more
+
+few_more : (before : ℕ) (command : Command) → before ≤ 8 → NamesNodes command → counted before command ≤ 8
+few_more before (script.Caps capacities) le ok = le
+few_more before (script.Nodes count quorum) le ok = ok.0.1
+few_more before (script.Set at set) le ok = le
+few_more before (script.Open from to) le ok = le
+few_more before (script.Close from to) le ok = le
+few_more before (script.Send from to bytes) le ok = le
+few_more before (script.Propose at slot value) le ok = le
+few_more before (script.Round at slot) le ok = le
+few_more before (script.Timer at slot) le ok = le
+few_more before (script.Tick at) le ok = le
+few_more before (script.Ask from to slot) le ok = le
+few_more before script.Settle le ok = le
+few_more before (script.Wait at things) le ok = le
+few_more before (script.Report at) le ok = le
+
+few_after : (before : ℕ) (commands : List Command) → before ≤ 8 → All NamesNodes commands → fold counted before commands ≤ 8
+few_after before [] le all = le
+few_after before (command ∷ commands) le all = few_after (counted before command) commands (few_more before command le (All-head NamesNodes command commands all)) (All-tail NamesNodes command commands all)
+
+-- there are at most eight
+pub few_nodes : (commands : List Command) → All NamesNodes commands → node_count commands ≤ 8
+few_nodes commands all = few_after 0 commands (omega arith) all
 
 -- ---- a link that is open is one
 
@@ -87,6 +113,7 @@ opens_link from to before (script.Timer at slot) a e = absurd cc
 opens_link from to before (script.Tick at) a e = absurd cc
 opens_link from to before (script.Ask from2 to2 slot) a e = absurd cc
 opens_link from to before script.Settle a e = absurd cc
+opens_link from to before (script.Wait at things) a e = absurd cc
 opens_link from to before (script.Report at) a e = absurd cc
 
 either : (o c b : Bool) (P : Type 0) → (o ≡ true → P) → (b ≡ true → P) → cond o true (cond c false b) ≡ true → P
@@ -118,8 +145,12 @@ open_is_link from to done all e = opened_all from to [] done all (λ (h : false 
 pub stands_admitted : (commands done : List Command) (command : Command) → StandsAt commands done command → Admits done command
 stands_admitted commands done command s = (admitted_rest [] done (command ∷ s.after') (subst (λ (l : List Command). AreAdmitted [] l) s.split s.admitted)).0
 
-pub stands_names : (commands done : List Command) (command : Command) → StandsAt commands done command → AllByRecursion NamesNodes done
-stands_names commands done command s = names_front done (command ∷ s.after') (subst (λ (l : List Command). All NamesNodes l) s.split s.names)
+names_at : (xs : List Command) (command : Command) (ys : List Command) → All NamesNodes (xs ++ command ∷ ys) → NamesNodes command
+names_at [] command ys all = All-head NamesNodes command ys all
+names_at (x ∷ xs) command ys all = names_at xs command ys (All-tail NamesNodes x (xs ++ command ∷ ys) all)
+
+pub stands_named : (commands done : List Command) (command : Command) → StandsAt commands done command → NamesNodes command
+stands_named commands done command s = names_at done command s.after' (subst (λ (l : List Command). All NamesNodes l) s.split s.names)
 
 pub stands_before : (commands done : List Command) (command : Command) → StandsAt commands done command → AreAdmitted [] done
 stands_before commands done command s = admitted_front [] done (command ∷ s.after') (subst (λ (l : List Command). AreAdmitted [] l) s.split s.admitted)

@@ -1,31 +1,33 @@
--- The links of a script's node are open, and were opened as often, as its lines say.
-use Rattle.std.proofs.Common.{◌≡◌, ◌≢◌, ◌≤◌, ◌+◌, ◌-◌, ℕ, Bool, true, false, cond, List, [], ◌∷◌, ◌++◌, nat_eq, nat_lt, refl, sym, ◌∙◌, ap, arith}
-use Rattle.std.specs.Prelude.{◌&&◌, fold}
-use Rattle.std.specs.List.{AllByRecursion}
-use Rattle.std.proofs.lemmas.Bool.{eqb-true}
+-- The links of a script's nodes are open, and were opened as often, as its lines say.
+use Rattle.std.proofs.Common.{◌≡◌, ◌≢◌, ◌≤◌, ◌+◌, ◌-◌, ℕ, Bool, true, false, cond, List, [], ◌∷◌, ◌++◌, Option, Some, None, map, nat_eq, nat_lt, refl, sym, ◌∙◌, ap, arith}
+use Rattle.std.specs.Prelude.{◌&&◌, slice_get, slice_set}
+use Rattle.std.proofs.lemmas.Bool.{eqb-true, eqb-false}
 use Rattle.std.proofs.lemmas.Bool.Decides.{nat_tests}
+use Rattle.std.proofs.lemmas.List.{map-set}
 use Rattle.std.proofs.lemmas.List.Sums.{fold-append}
-use Rattle.scp_wire.specs.declared.link.LinkItem.{LinkItem}
-use Rattle.scp_wire.specs.declared.link.LinkItem.TheVariants as item
-use Rattle.scp_wire.specs.Connections.{conn_at}
-use Rattle.scp_wire.specs.Shape.{Tail, never_open, goes}
-use Rattle.scp_core.specs.declared.config.Config.{Config}
+use Rattle.scp_wire.specs.Shape.{Tail}
+use Rattle.scp_wire.specs.declared.link.Command.{Command as Local}
+use Rattle.scp_wire.specs.declared.link.Command.TheVariants.{Propose, Round, Timer, Tick, Ask}
 use Rattle.scp_core.specs.declared.event.Event.{Event}
 use Rattle.scp_core.specs.declared.event.Event.TheVariants as event
-use Rattle.scp_core.specs.declared.event.Reply.{Reply}
-use Rattle.scp_core.specs.declared.event.Reply.TheVariants.{Failed, NoLink, AlreadyOpen, LivesSpent, NotOpen, Full, Accepted, Blocked, Idle, Moved, JournalFull, NoMemory}
-use Rattle.scp_core.specs.History.{Exchange, Past, tail_of, goes_in, accepts, moves, hears, past_of, nothing_heard, peer_at}
+use Rattle.scp_core.specs.Node.{NodeView, LinkView, Accepts, with_link}
+use Rattle.scp_network.specs.Rounds.{link_of}
 use Rattle.scp_script.specs.declared.command.Command.{Command}
 use Rattle.scp_script.specs.declared.command.Command.TheVariants as script
 use Rattle.scp_script.specs.Script.{opens, closes, is_open, lives}
 use Rattle.scp_script.specs.Nodes.{NamesNodes}
-use Rattle.scp_wire.specs.declared.link.Command.{Command as Local}
-use Rattle.scp_wire.specs.declared.link.Command.TheVariants.{Propose, Round, Timer, Tick, Ask}
-use Rattle.scp_line.specs.Play.{link_of, accepted, accepted_of, event_at, events_at}
+use Rattle.scp_line.specs.Play.{event_by}
+use Rattle.scp_line.proofs.Places.{set_here, set_there, map_at}
 
--- ---- what exchanges make of a link's tail
+-- ---- what an accepted event makes of a link's tail
 
--- what an accepted event makes of it
+abbrev pub tail_at : LinkView → Tail
+tail_at k = record { life = k.life; is_open = k.is_open }
+
+-- how often each link of a node was opened, and whether it is open
+abbrev pub tails : NodeView → List Tail
+tails v = map tail_at v.links
+
 abbrev pub tail_on : ℕ → Tail → Event → Tail
 tail_on l t (event.Open m) = cond (nat_eq l m) (record { life = t.life + 1; is_open = true }) t
 tail_on l t (event.Send m bytes) = t
@@ -38,76 +40,49 @@ tail_on l t event.PendPut = t
 tail_on l t event.SlotTake = t
 tail_on l t event.SlotPut = t
 tail_on l t event.ApplyTake = t
+tail_on l t (event.Drain m) = t
 
-gone : (p : Past) (l m : ℕ) (x : LinkItem) → tail_of ((goes_in p m x).links l) ≡ cond (nat_eq l m) (goes (tail_of (p.links l)) x) (tail_of (p.links l))
-gone p l m x = by_test (nat_eq l m) refl
+pub linked : (v w : NodeView) (m : ℕ) (k : LinkView) → w ≡ with_link v m k → tails w ≡ slice_set (tails v) m (tail_at k)
+linked v w m k e = ap (λ (u : NodeView). tails u) e ∙ map-set tail_at v.links m k
+
+-- one link changed
+changed : (v w : NodeView) (m : ℕ) (k k2 : LinkView) → slice_get v.links m ≡ Some k → w ≡ with_link v m k2 → (f : Tail → Tail) → tail_at k2 ≡ f (tail_at k) → (l : ℕ) (t : Tail) → slice_get (tails v) l ≡ Some t → slice_get (tails w) l ≡ Some (cond (nat_eq l m) (f t) t)
+changed v w m k k2 there is f gives l t at = by_test (nat_eq l m) refl
   where
-    by_test : (b : Bool) → nat_eq l m ≡ b → tail_of (cond b (record (p.links m) { items = (p.links m).items ++ x ∷ [] }) (p.links l)) ≡ cond b (goes (tail_of (p.links l)) x) (tail_of (p.links l))
-    by_test true e = rw (eqb-true l m e) (fold-append goes never_open (p.links m).items (x ∷ []))
-    by_test false e = refl
+    was : slice_get (tails v) m ≡ Some (tail_at k)
+    was = map_at tail_at v.links m k there
 
-accepted_tail : (c : Config) (p : Past) (l : ℕ) (e : Event) → tail_of ((accepts c p e).links l) ≡ tail_on l (tail_of (p.links l)) e
-accepted_tail c p l (event.Open m) = gone p l m (item.Opened (conn_at (peer_at c m) c.me ((tail_of (p.links m)).life + 1)))
-accepted_tail c p l (event.Send m bytes) = gone p l m (item.Bytes (conn_at (peer_at c m) c.me (tail_of (p.links m)).life) bytes) ∙ either (nat_eq l m)
-  where
-    either : (b : Bool) → cond b (tail_of (p.links l)) (tail_of (p.links l)) ≡ tail_of (p.links l)
-    either true = refl
-    either false = refl
-accepted_tail c p l (event.Close m) = gone p l m (item.Closed (conn_at (peer_at c m) c.me (tail_of (p.links m)).life))
-accepted_tail c p l (event.Local command) = refl
-accepted_tail c p l (event.ReaderTake m) = refl
-accepted_tail c p l (event.ReaderPut m) = refl
-accepted_tail c p l event.PendTake = refl
-accepted_tail c p l event.PendPut = refl
-accepted_tail c p l event.SlotTake = refl
-accepted_tail c p l event.SlotPut = refl
-accepted_tail c p l event.ApplyTake = refl
+    by_test : (b : Bool) → nat_eq l m ≡ b → slice_get (tails w) l ≡ Some (cond b (f t) t)
+    by_test true e =
+        let same : l ≡ m = eqb-true l m e in
+        let mine : tail_at k ≡ t = cc (at, was, same) in
+        ap (λ (ts : List Tail). slice_get ts l) (linked v w m k2 is) ∙ ap (slice_get (slice_set (tails v) m (tail_at k2))) same ∙ set_here (tails v) m (tail_at k) (tail_at k2) was ∙ ap (λ (x : Tail). Some x) (gives ∙ ap f mine)
+    by_test false e = ap (λ (ts : List Tail). slice_get ts l) (linked v w m k2 is) ∙ set_there (tails v) m l (tail_at k2) (eqb-false l m e) ∙ at
 
--- what moves changes no tail
-moved_tail : (p : Past) (l : ℕ) (e : Event) → tail_of ((moves p e).links l) ≡ tail_of (p.links l)
-moved_tail p l (event.Open m) = refl
-moved_tail p l (event.Send m bytes) = refl
-moved_tail p l (event.Close m) = refl
-moved_tail p l (event.Local command) = refl
-moved_tail p l (event.ReaderTake m) = by_test (nat_eq l m) refl
-  where
-    by_test : (b : Bool) → nat_eq l m ≡ b → tail_of (cond b (record (p.links m) { taken = (p.links m).taken + 1 }) (p.links l)) ≡ tail_of (p.links l)
-    by_test true e = ap (λ (k : ℕ). tail_of (p.links k)) (sym (eqb-true l m e))
-    by_test false e = refl
-moved_tail p l (event.ReaderPut m) = by_test (nat_eq l m) refl
-  where
-    by_test : (b : Bool) → nat_eq l m ≡ b → tail_of (cond b (record (p.links m) { given = (p.links m).given + 1 }) (p.links l)) ≡ tail_of (p.links l)
-    by_test true e = ap (λ (k : ℕ). tail_of (p.links k)) (sym (eqb-true l m e))
-    by_test false e = refl
-moved_tail p l event.PendTake = refl
-moved_tail p l event.PendPut = refl
-moved_tail p l event.SlotTake = refl
-moved_tail p l event.SlotPut = refl
-moved_tail p l event.ApplyTake = refl
+either : (b : Bool) (t : Tail) → cond b t t ≡ t
+either true t = refl
+either false t = refl
 
-heard_tail : (c : Config) (p : Past) (l : ℕ) (e : Event) (r : Reply) → tail_of ((hears c p e r).links l) ≡ fold (tail_on l) (tail_of (p.links l)) (accepted_of e r)
-heard_tail c p l e Failed = refl
-heard_tail c p l e NoLink = refl
-heard_tail c p l e AlreadyOpen = refl
-heard_tail c p l e LivesSpent = refl
-heard_tail c p l e NotOpen = refl
-heard_tail c p l e Full = refl
-heard_tail c p l e Accepted = accepted_tail c p l e
-heard_tail c p l e Blocked = refl
-heard_tail c p l e Idle = refl
-heard_tail c p l e Moved = moved_tail p l e
-heard_tail c p l e JournalFull = refl
-heard_tail c p l e NoMemory = refl
+pub accepted_tail : (v w : NodeView) (e : Event) → Accepts v e w → (l : ℕ) (t : Tail) → slice_get (tails v) l ≡ Some t → slice_get (tails w) l ≡ Some (tail_on l t e)
+accepted_tail v w (event.Open m) a l t at = changed v w m a.0 _ a.1 a.2.3 (λ (s : Tail). record { life = s.life + 1; is_open = true }) refl l t at
+accepted_tail v w (event.Send m bytes) a l t at = changed v w m a.0 _ a.1 a.2.2 (λ (s : Tail). s) refl l t at ∙ ap (λ (x : Tail). Some x) (either (nat_eq l m) t)
+accepted_tail v w (event.Close m) a l t at = changed v w m a.0 _ a.1 a.2.2 (λ (s : Tail). record { life = s.life; is_open = false }) refl l t at
+accepted_tail v w (event.Local command) a l t at = ap (λ (u : NodeView). slice_get (tails u) l) a.2 ∙ at
+accepted_tail v w (event.ReaderTake m) a l t at = absurd a
+accepted_tail v w (event.ReaderPut m) a l t at = absurd a
+accepted_tail v w event.PendTake a l t at = absurd a
+accepted_tail v w event.PendPut a l t at = absurd a
+accepted_tail v w event.SlotTake a l t at = absurd a
+accepted_tail v w event.SlotPut a l t at = absurd a
+accepted_tail v w event.ApplyTake a l t at = absurd a
+accepted_tail v w (event.Drain m) a l t at = absurd a
 
-tail_after : (c : Config) (p : Past) (l : ℕ) (past : List Exchange) → tail_of ((fold (λ (q : Past) (x : Exchange). hears c q x.0 x.1) p past).links l) ≡ fold (tail_on l) (tail_of (p.links l)) (accepted past)
-tail_after c p l [] = refl
-tail_after c p l (x ∷ xs) = tail_after c (hears c p x.0 x.1) l xs ∙ ap (λ (t : Tail). fold (tail_on l) t (accepted xs)) (heard_tail c p l x.0 x.1) ∙ sym (fold-append (tail_on l) (tail_of (p.links l)) (accepted_of x.0 x.1) (accepted xs))
+-- ---- what lines make of it
 
--- a link's tail is what its accepted events make of it
-pub tail_of_past : (c : Config) (l : ℕ) (past : List Exchange) → tail_of ((past_of c past).links l) ≡ fold (tail_on l) never_open (accepted past)
-tail_of_past c l past = tail_after c nothing_heard l past
-
--- ---- what lines say of it
+-- what a line's event makes of it, at the node of a number
+abbrev pub tail_by : ℕ → ℕ → Tail → Option (ℕ × Event) → Tail
+tail_by number l t None = t
+tail_by number l t (Some offered) = cond (nat_eq offered.0 number) (tail_on l t offered.1) t
 
 same_link : (f g to : ℕ) → 1 ≤ f → 1 ≤ g → 1 ≤ to → f ≢ to → g ≢ to → nat_eq (link_of f to) (link_of g to) ≡ nat_eq f g
 same_link f g to a b t p q = by_tests (nat_lt f to) (nat_lt g to) refl refl
@@ -129,17 +104,17 @@ abbrev same_tail : Tail → Tail → Type 0
 same_tail s t = s ≡ t
 
 -- a command of a node is no event of a link
-local_line : (l n : ℕ) (b : Bool) (c : Local) (here : Bool) → fold (tail_on l) (record { life = n; is_open = b }) (cond here (event.Local c ∷ []) []) ≡ record { life = n + 0; is_open = b }
+local_line : (l n : ℕ) (b : Bool) (c : Local) (here : Bool) → cond here (tail_on l (record { life = n; is_open = b }) (event.Local c)) (record { life = n; is_open = b }) ≡ record { life = n + 0; is_open = b }
 local_line l n b c true = ap (λ (k : ℕ). record { life = k; is_open = b }) (omega arith)
 local_line l n b c false = ap (λ (k : ℕ). record { life = k; is_open = b }) (omega arith)
 
-one_line : (from to : ℕ) → 1 ≤ from → 1 ≤ to → from ≢ to → (n : ℕ) (b : Bool) (command : Command) → NamesNodes command → fold (tail_on (link_of from to)) (record { life = n; is_open = b }) (event_at to command) ≡ record { life = counted from to n command; is_open = opens_or from to b command }
+one_line : (from to : ℕ) → 1 ≤ from → 1 ≤ to → from ≢ to → (n : ℕ) (b : Bool) (command : Command) → NamesNodes command → tail_by to (link_of from to) (record { life = n; is_open = b }) (event_by command) ≡ record { life = counted from to n command; is_open = opens_or from to b command }
 one_line from to f t apart n b (script.Caps capacities) ok = ap (λ (k : ℕ). record { life = k; is_open = b }) (omega arith)
 one_line from to f t apart n b (script.Nodes count quorum) ok = ap (λ (k : ℕ). record { life = k; is_open = b }) (omega arith)
 one_line from to f t apart n b (script.Set at set) ok = ap (λ (k : ℕ). record { life = k; is_open = b }) (omega arith)
 one_line from to f t apart n b (script.Open from2 to2) ok = by_test (nat_eq to2 to) refl
   where
-    by_test : (here : Bool) → nat_eq to2 to ≡ here → fold (tail_on (link_of from to)) (record { life = n; is_open = b }) (cond here (event.Open (link_of from2 to2) ∷ []) []) ≡ record { life = n + cond (nat_eq from from2 && nat_eq to to2) 1 0; is_open = cond (nat_eq from from2 && nat_eq to to2) true b }
+    by_test : (here : Bool) → nat_eq to2 to ≡ here → cond here (tail_on (link_of from to) (record { life = n; is_open = b }) (event.Open (link_of from2 to2))) (record { life = n; is_open = b }) ≡ record { life = n + cond (nat_eq from from2 && nat_eq to to2) 1 0; is_open = cond (nat_eq from from2 && nat_eq to to2) true b }
     by_test true e =
         let same : to2 ≡ to = eqb-true to2 to e in
         let mine : nat_eq (link_of from to) (link_of from2 to2) ≡ nat_eq from from2 = ap (λ (k : ℕ). nat_eq (link_of from to) (link_of from2 k)) same ∙ same_link from from2 to f ok.0.0 t apart (λ z. ok.2 (z ∙ sym same)) in
@@ -158,7 +133,7 @@ one_line from to f t apart n b (script.Open from2 to2) ok = by_test (nat_eq to2 
         by_from false = ap (λ (k : ℕ). record { life = k; is_open = b }) (omega arith)
 one_line from to f t apart n b (script.Close from2 to2) ok = by_test (nat_eq to2 to) refl
   where
-    by_test : (here : Bool) → nat_eq to2 to ≡ here → fold (tail_on (link_of from to)) (record { life = n; is_open = b }) (cond here (event.Close (link_of from2 to2) ∷ []) []) ≡ record { life = n + 0; is_open = cond (nat_eq from from2 && nat_eq to to2) false b }
+    by_test : (here : Bool) → nat_eq to2 to ≡ here → cond here (tail_on (link_of from to) (record { life = n; is_open = b }) (event.Close (link_of from2 to2))) (record { life = n; is_open = b }) ≡ record { life = n + 0; is_open = cond (nat_eq from from2 && nat_eq to to2) false b }
     by_test true e =
         let same : to2 ≡ to = eqb-true to2 to e in
         let mine : nat_eq (link_of from to) (link_of from2 to2) ≡ nat_eq from from2 = ap (λ (k : ℕ). nat_eq (link_of from to) (link_of from2 k)) same ∙ same_link from from2 to f ok.0.0 t apart (λ z. ok.2 (z ∙ sym same)) in
@@ -177,7 +152,7 @@ one_line from to f t apart n b (script.Close from2 to2) ok = by_test (nat_eq to2
         by_from false = ap (λ (k : ℕ). record { life = k; is_open = b }) (omega arith)
 one_line from to f t apart n b (script.Send from2 to2 bytes) ok = by_test (nat_eq to2 to)
   where
-    by_test : (here : Bool) → fold (tail_on (link_of from to)) (record { life = n; is_open = b }) (cond here (event.Send (link_of from2 to2) bytes ∷ []) []) ≡ record { life = n + 0; is_open = b }
+    by_test : (here : Bool) → cond here (tail_on (link_of from to) (record { life = n; is_open = b }) (event.Send (link_of from2 to2) bytes)) (record { life = n; is_open = b }) ≡ record { life = n + 0; is_open = b }
     by_test true = ap (λ (k : ℕ). record { life = k; is_open = b }) (omega arith)
     by_test false = ap (λ (k : ℕ). record { life = k; is_open = b }) (omega arith)
 one_line from to f t apart n b (script.Propose at slot value) ok = local_line (link_of from to) n b (Propose (record { 0 = slot }) value) (nat_eq at to)
@@ -186,15 +161,15 @@ one_line from to f t apart n b (script.Timer at slot) ok = local_line (link_of f
 one_line from to f t apart n b (script.Tick at) ok = local_line (link_of from to) n b Tick (nat_eq at to)
 one_line from to f t apart n b (script.Ask from2 to2 slot) ok = local_line (link_of from to) n b (Ask (link_of to2 from2) (record { 0 = slot })) (nat_eq from2 to)
 one_line from to f t apart n b script.Settle ok = ap (λ (k : ℕ). record { life = k; is_open = b }) (omega arith)
+one_line from to f t apart n b (script.Wait at things) ok = ap (λ (k : ℕ). record { life = k; is_open = b }) (omega arith)
 one_line from to f t apart n b (script.Report at) ok = ap (λ (k : ℕ). record { life = k; is_open = b }) (omega arith)
 
-lines_after : (from to : ℕ) → 1 ≤ from → 1 ≤ to → from ≢ to → (n : ℕ) (b : Bool) (done : List Command) → AllByRecursion NamesNodes done → fold (tail_on (link_of from to)) (record { life = n; is_open = b }) (events_at to done) ≡ record { life = fold (counted from to) n done; is_open = fold (opens_or from to) b done }
-lines_after from to f t apart n b [] ok = refl
-lines_after from to f t apart n b (command ∷ commands) ok =
-    fold-append (tail_on (link_of from to)) (record { life = n; is_open = b }) (event_at to command) (events_at to commands)
-    ∙ ap (λ (s : Tail). fold (tail_on (link_of from to)) s (events_at to commands)) (one_line from to f t apart n b command ok.0)
-    ∙ lines_after from to f t apart (counted from to n command) (opens_or from to b command) commands ok.1
+-- the tail that lines say
+abbrev pub tail_said : ℕ → ℕ → List Command → Tail
+tail_said from to done = record { life = lives from to done; is_open = is_open from to done }
 
--- a link's tail, where what was accepted is what the lines say
-pub tail_of_lines : (from to : ℕ) → 1 ≤ from → 1 ≤ to → from ≢ to → (done : List Command) → AllByRecursion NamesNodes done → (c : Config) (past : List Exchange) → accepted past ≡ events_at to done → tail_of ((past_of c past).links (link_of from to)) ≡ record { life = lives from to done; is_open = is_open from to done }
-tail_of_lines from to f t apart done ok c past same = tail_of_past c (link_of from to) past ∙ ap (fold (tail_on (link_of from to)) never_open) same ∙ lines_after from to f t apart 0 false done ok
+pub said_more : (from to : ℕ) → 1 ≤ from → 1 ≤ to → from ≢ to → (done : List Command) (command : Command) → NamesNodes command → tail_by to (link_of from to) (tail_said from to done) (event_by command) ≡ tail_said from to (done ++ command ∷ [])
+said_more from to f t apart done command ok =
+    one_line from to f t apart (lives from to done) (is_open from to done) command ok
+    ∙ ap (λ (k : ℕ). record { life = k; is_open = opens_or from to (is_open from to done) command }) (sym (fold-append (counted from to) 0 done (command ∷ [])))
+    ∙ ap (λ (b : Bool). record { life = lives from to (done ++ command ∷ []); is_open = b }) (sym (fold-append (opens_or from to) false done (command ∷ [])))

@@ -1,6 +1,5 @@
 pub mod Outcome
 pub mod Report
 pub mod Parts
-pub mod Settle
 pub mod Play
 pub mod Nodes

@@ -1,5 +1,5 @@
 -- What is played and shown.
-use Rattle.std.specs.Prelude.{ℕ, ◌+◌, ◌-◌, ◌<◌, ◌≤◌, ◌≡◌, ◌⊎◌, true, List, [], ◌∷◌, ◌++◌, Option, Some, None, Err, map, flat_map, length, codes, nat_eq, nat_lt, slice_get, get_or, option_to_list, if◌then◌else◌}
+use Rattle.std.specs.Prelude.{ℕ, ◌+◌, ◌-◌, ◌<◌, ◌≤◌, ◌≡◌, ◌⊎◌, Bool, false, List, [], ◌∷◌, ◌++◌, Option, Some, None, Err, flat_map, fold, replicate, length, codes, nat_eq, nat_lt, slice_get, get_or, option_to_list, if◌then◌else◌}
 use Rattle.std.specs.Fmt.{decimal}
 use Rattle.scp_types.specs.declared.names.ConnId.{ConnId}
 use Rattle.scp_types.specs.declared.fault.Fault.{Fault}
@@ -21,7 +21,6 @@ use Rattle.scp_core.specs.declared.event.Event.{Event}
 use Rattle.scp_core.specs.declared.event.Event.TheVariants as event
 use Rattle.scp_core.specs.declared.event.Reply.{Reply}
 use Rattle.scp_core.specs.declared.event.Reply.TheVariants.{Accepted, Full}
-use Rattle.scp_core.specs.History.{Exchange}
 use Rattle.scp_core.specs.Node.{NodeView, LinkView, is_full, lives_at}
 use Rattle.scp_core.specs.Theorem.{LedgerTheorem}
 use Rattle.scp_script.specs.declared.command.Command.{Command}
@@ -32,68 +31,58 @@ use Rattle.scp_script.specs.Nodes.{id_of, numbers, peers_of, set_at, capacities_
 use Rattle.scp_line.specs.declared.report.Parked.{Parked}
 use Rattle.scp_line.specs.Report.{report_of, hex_word}
 use Rattle.scp_line.specs.Parts.{entries_of}
-use Rattle.scp_line.specs.Settle.{Settles}
+use Rattle.scp_network.specs.Heard.{Nodes, Heard, HaveHeard, Then, IsNothing, IsOne}
+use Rattle.scp_network.specs.Rounds.{link_of, Rests, Breaks, AllRun}
+use Rattle.scp_network.specs.Inside.{driven_more}
 
--- which link of a node comes from another: the place of that one among its peers, which ascend
-abbrev pub link_of : ℕ → ℕ → ℕ
-link_of from to = if nat_lt from to then from - 1 else from - 2
+-- the event that a command is, and the number of the node that hears it
+abbrev pub event_by : Command → Option (ℕ × Event)
+event_by (script.Caps capacities) = None
+event_by (script.Nodes count quorum) = None
+event_by (script.Set at set) = None
+event_by (script.Open from to) = Some (to, event.Open (link_of from to))
+event_by (script.Close from to) = Some (to, event.Close (link_of from to))
+event_by (script.Send from to bytes) = Some (to, event.Send (link_of from to) bytes)
+event_by (script.Propose at slot value) = Some (at, event.Local (Propose (record { 0 = slot }) value))
+event_by (script.Round at slot) = Some (at, event.Local (Round (record { 0 = slot })))
+event_by (script.Timer at slot) = Some (at, event.Local (Timer (record { 0 = slot })))
+event_by (script.Tick at) = Some (at, event.Local Tick)
+event_by (script.Ask from to slot) = Some (from, event.Local (Ask (link_of to from) (record { 0 = slot })))
+event_by script.Settle = None
+event_by (script.Wait at things) = None
+event_by (script.Report at) = None
 
--- the event that a command is to a node
-abbrev pub event_at : ℕ → Command → List Event
-event_at node (script.Caps capacities) = []
-event_at node (script.Nodes count quorum) = []
-event_at node (script.Set at set) = []
-event_at node (script.Open from to) = if nat_eq to node then event.Open (link_of from to) ∷ [] else []
-event_at node (script.Close from to) = if nat_eq to node then event.Close (link_of from to) ∷ [] else []
-event_at node (script.Send from to bytes) = if nat_eq to node then event.Send (link_of from to) bytes ∷ [] else []
-event_at node (script.Propose at slot value) = if nat_eq at node then event.Local (Propose (record { 0 = slot }) value) ∷ [] else []
-event_at node (script.Round at slot) = if nat_eq at node then event.Local (Round (record { 0 = slot })) ∷ [] else []
-event_at node (script.Timer at slot) = if nat_eq at node then event.Local (Timer (record { 0 = slot })) ∷ [] else []
-event_at node (script.Tick at) = if nat_eq at node then event.Local Tick ∷ [] else []
-event_at node (script.Ask from to slot) = if nat_eq from node then event.Local (Ask (link_of to from) (record { 0 = slot })) ∷ [] else []
-event_at node script.Settle = []
-event_at node (script.Report at) = []
+-- the links on which the script alone sends: those that a `send` line names
+abbrev pub driven_by : List Bool → Command → List Bool
+driven_by driven (script.Send from to bytes) = driven_more driven from to
+driven_by driven command = driven
 
--- the events of a node, in their order
-abbrev pub events_at : ℕ → List Command → List Event
-events_at node commands = flat_map (event_at node) commands
+abbrev pub driven_in : List Command → List Bool
+driven_in commands = fold driven_by (replicate 64 false) commands
 
-abbrev pub accepted_of : Event → Reply → List Event
-accepted_of event Accepted = event ∷ []
-accepted_of event reply = []
+-- the node of a number heard an event, and answered so
+abbrev pub Answers : ℕ × Event → Reply → Nodes → List Heard → Nodes → Type 0
+Answers offered reply = IsOne (record { node = offered.0; event = offered.1; reply = reply })
 
--- the events that were accepted
-abbrev pub accepted : List Exchange → List Event
-accepted past = flat_map (λ x. accepted_of x.0 x.1) past
+-- a line's event was accepted by its node: at once, or after the nodes had come to rest, where there was no room
+abbrev pub IsOffered : List Bool → ℕ → ℕ × Event → Nodes → List Heard → Nodes → Type 0
+IsOffered driven count offered old heard new =
+    Answers offered Accepted old heard new ⊎ Then (Answers offered Full) (Then (Rests driven count) (Answers offered Accepted)) old heard new
 
--- the events, each with this reply
-abbrev pub replied : Reply → List Event → List Exchange
-replied reply events = map (λ event. (event, reply)) events
+abbrev pub HearsBy : List Bool → ℕ → Option (ℕ × Event) → Nodes → List Heard → Nodes → Type 0
+HearsBy driven count None = IsNothing
+HearsBy driven count (Some offered) = IsOffered driven count offered
 
--- a line's event was accepted by its node, at once, or after a settle where there was no room; other nodes heard no event of it
-abbrev pub IsOffered : ℕ → List Event → List Exchange → Type 0
-IsOffered links events exchanges = (exchanges ≡ replied Accepted events) ⊎ ((settle : List Exchange) × Settles links settle × (exchanges ≡ replied Full events ++ (settle ++ replied Accepted events)))
+-- what the nodes heard of a line
+abbrev pub Hears : List Bool → ℕ → Command → Nodes → List Heard → Nodes → Type 0
+Hears driven count script.Settle = Rests driven count
+Hears driven count (script.Wait at things) = Rests driven count
+Hears driven count command = HearsBy driven count (event_by command)
 
--- what a node of this number, with so many links, heard of a line
-abbrev pub Hears : ℕ → ℕ → Command → List Exchange → Type 0
-Hears links node (script.Caps capacities) exchanges = exchanges ≡ []
-Hears links node (script.Nodes count quorum) exchanges = exchanges ≡ []
-Hears links node (script.Set at set) exchanges = exchanges ≡ []
-Hears links node (script.Open from to) exchanges = IsOffered links (event_at node (script.Open from to)) exchanges
-Hears links node (script.Close from to) exchanges = IsOffered links (event_at node (script.Close from to)) exchanges
-Hears links node (script.Send from to bytes) exchanges = IsOffered links (event_at node (script.Send from to bytes)) exchanges
-Hears links node (script.Propose at slot value) exchanges = IsOffered links (event_at node (script.Propose at slot value)) exchanges
-Hears links node (script.Round at slot) exchanges = IsOffered links (event_at node (script.Round at slot)) exchanges
-Hears links node (script.Timer at slot) exchanges = IsOffered links (event_at node (script.Timer at slot)) exchanges
-Hears links node (script.Tick at) exchanges = IsOffered links (event_at node (script.Tick at)) exchanges
-Hears links node (script.Ask from to slot) exchanges = IsOffered links (event_at node (script.Ask from to slot)) exchanges
-Hears links node script.Settle exchanges = Settles links exchanges
-Hears links node (script.Report at) exchanges = exchanges ≡ []
-
--- what it heard of lines, one after the other
-abbrev pub Played : ℕ → ℕ → List Command → List Exchange → Type 0
-Played links node [] exchanges = exchanges ≡ []
-Played links node (command ∷ commands) exchanges = (first : List Exchange) × (rest : List Exchange) × Hears links node command first × Played links node commands rest × (exchanges ≡ first ++ rest)
+-- what they heard of lines, one after the other
+abbrev pub Played : List Bool → ℕ → List Command → Nodes → List Heard → Nodes → Type 0
+Played driven count [] = IsNothing
+Played driven count (command ∷ commands) = Then (Hears driven count command) (Played driven count commands)
 
 -- who the node of this number is, and what its queues hold
 abbrev pub config_of : List Command → ℕ → Config
@@ -109,13 +98,22 @@ config_of commands number = record {
   };
 }
 
--- the node of this number in a script as these of the script's commands left it: it is who the script says, and the ledger
--- theorem holds of it for a past whose accepted events are those that the commands say
-pub record IsNode (commands done : List Command) (number : ℕ) (node : NodeView) : Type 0 where
+-- the nodes of a script as they were made: they are who it says, and heard nothing
+pub record IsNew (commands : List Command) (number : ℕ) (node : NodeView) : Type 0 where
   pub config : node.config ≡ config_of commands number
-  pub past : List Exchange
-  pub theorem : LedgerTheorem past node
-  pub accepts : accepted past ≡ events_at number done
+  pub theorem : LedgerTheorem [] node
+
+pub record AreNew (commands : List Command) (nodes : Nodes) : Type 0 where
+  pub count : length nodes ≡ node_count commands
+  pub each : (i : ℕ) → (d : NodeView) → i < length nodes → IsNew commands (i + 1) (get_or nodes i d)
+
+-- Lines of a script were played by its nodes, from the first line on: what they heard, one after the other, is what the lines say, and the
+-- ledger theorem holds of each node for all that it heard.
+pub record ArePlayed (commands done : List Command) (heard : List Heard) (nodes : Nodes) : Type 0 where
+  pub first : Nodes
+  pub new : AreNew commands first
+  pub played : Played (driven_in commands) (node_count commands) done first heard nodes
+  pub have : HaveHeard heard nodes
 
 abbrev pub parked_of : NodeView → ConnId → List Parked
 parked_of v conn = if nat_lt 0 (count_held conn v.pending) then record { conn = conn; count = count_held conn v.pending } ∷ [] else []
@@ -140,35 +138,9 @@ report_of_node count number node = report_of (record {
   state = entries_of (running_state node);
 })
 
--- nodes, the first first
-abbrev pub Nodes : Type 0
-Nodes = List NodeView
-
 -- the report of the node of this number
 abbrev pub report_at : Nodes → ℕ → List ℕ
 report_at nodes number = flat_map (report_of_node (length nodes) number) (option_to_list (slice_get nodes (number - 1)))
-
--- the nodes of a script as these of its commands left them, the first first
-pub record AreNodes (commands done : List Command) (nodes : Nodes) : Type 0 where
-  pub count : length nodes ≡ node_count commands
-  pub each : (i : ℕ) → (d : NodeView) → i < length nodes → IsNode commands done (i + 1) (get_or nodes i d)
-
--- the node of this number is there, and it failed
-pub record HasFailed (nodes : Nodes) (number : ℕ) : Type 0 where
-  pub from_one : 1 ≤ number
-  pub node : NodeView
-  pub is : slice_get nodes (number - 1) ≡ Some node
-  pub failed : node.failed ≡ true
-
--- a node of a script failed at one of its lines: all before it was done, and nothing of it was accepted
-pub record Stops (commands : List Command) (number : ℕ) : Type 0 where
-  pub before : List Command
-  pub command : Command
-  pub after' : List Command
-  pub split : commands ≡ before ++ command ∷ after'
-  pub nodes : Nodes
-  pub are : AreNodes commands before nodes
-  pub failed : HasFailed nodes number
 
 -- the queue of this link to the node of this number is full
 abbrev pub IsLinkFull : Nodes → ℕ → ℕ → Type 0
@@ -192,11 +164,33 @@ HasNoRoom nodes (script.Timer at slot) = IsInboxFull nodes at
 HasNoRoom nodes (script.Tick at) = IsInboxFull nodes at
 HasNoRoom nodes (script.Ask from to slot) = IsInboxFull nodes from
 HasNoRoom nodes script.Settle = ⊥
+HasNoRoom nodes (script.Wait at things) = ⊥
 HasNoRoom nodes (script.Report at) = ⊥
 
--- a line's event that its node had no room for, also after a settle
-abbrev pub IsRefused : ℕ → List Event → List Exchange → Type 0
-IsRefused links events exchanges = (settle : List Exchange) × Settles links settle × (exchanges ≡ replied Full events ++ (settle ++ replied Full events))
+-- the node of a number failed while the nodes came to rest, because a line's event had found no room
+abbrev pub BreaksBy : List Bool → ℕ → ℕ → Option (ℕ × Event) → Nodes → List Heard → Nodes → Type 0
+BreaksBy driven count number None old heard new = ⊥
+BreaksBy driven count number (Some offered) old heard new = Then (Answers offered Full) (Breaks driven count number) old heard new
+
+-- what the nodes heard of a line at which the one of a number failed
+abbrev pub LineBreaks : List Bool → ℕ → ℕ → Command → Nodes → List Heard → Nodes → Type 0
+LineBreaks driven count number script.Settle = Breaks driven count number
+LineBreaks driven count number (script.Wait at things) = Breaks driven count number
+LineBreaks driven count number command = BreaksBy driven count number (event_by command)
+
+-- a node of a script failed at one of its lines: all before it was done
+pub record Stops (commands : List Command) (number : ℕ) : Type 0 where
+  pub before : List Command
+  pub command : Command
+  pub after' : List Command
+  pub split : commands ≡ before ++ command ∷ after'
+  pub heard : List Heard
+  pub nodes : Nodes
+  pub played : ArePlayed commands before heard nodes
+  pub more : List Heard
+  pub new : Nodes
+  pub breaks : LineBreaks (driven_in commands) (node_count commands) number command nodes more new
+  pub have : HaveHeard (heard ++ more) new
 
 -- one of a script's lines found no room: all before it was done, its event was offered, the nodes came to rest, and then the queue
 -- that it goes to was full still
@@ -205,17 +199,24 @@ pub record Overflows (commands : List Command) : Type 0 where
   pub command : Command
   pub after' : List Command
   pub split : commands ≡ before ++ command ∷ after'
+  pub heard : List Heard
   pub nodes : Nodes
-  pub are : AreNodes commands before nodes
-  pub heard : (i : ℕ) → (d : NodeView) → (lt : i < length nodes) → (first : List Exchange) × (rest : List Exchange) × Played (length nodes - 1) (i + 1) before first × IsRefused (length nodes - 1) (event_at (i + 1) command) rest × ((are.each i d lt).past ≡ first ++ rest)
-  pub full : HasNoRoom nodes command
+  pub played : ArePlayed commands before heard nodes
+  pub more : List Heard
+  pub new : Nodes
+  pub offered : ℕ × Event
+  pub is : event_by command ≡ Some offered
+  pub refused : Then (Answers offered Full) (Then (Rests (driven_in commands) (node_count commands)) (Answers offered Full)) nodes more new
+  pub have : HaveHeard (heard ++ more) new
+  pub full : HasNoRoom new command
 
--- The text is the reports that the script asks for, one for each `report` line, in their order. At each `settle` line, and
--- wherever a line's event found no room at first, the nodes came to rest.
+-- The text is the reports that the script asks for, one for each `report` line, in their order, of nodes that played all its lines,
+-- and of which none failed.
 pub record AreReports (script text : List ℕ) : Type 0 where
+  pub heard : List Heard
   pub nodes : Nodes
-  pub are : AreNodes (commands_in script) (commands_in script) nodes
-  pub played : (i : ℕ) → (d : NodeView) → (lt : i < length nodes) → Played (length nodes - 1) (i + 1) (commands_in script) (are.each i d lt).past
+  pub played : ArePlayed (commands_in script) (commands_in script) heard nodes
+  pub run : AllRun nodes
   pub reports : text ≡ flat_map (report_at nodes) (reports_in (commands_in script))
 
 abbrev pub pledges_word : Pledges → List ℕ

@@ -18,7 +18,6 @@ mod nodes;
 mod outcome;
 mod playing;
 mod report;
-mod rounds;
 mod waiting;
 
 pub use outcome::{line_of_fault, status};

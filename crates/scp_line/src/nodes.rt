@@ -1,28 +1,19 @@
 //! The nodes of a script, and what its lines do to them.
-ghost use Rattle.std.specs.Prelude.{◌≡◌, ◌≢◌, ◌⊎◌, ◌≤◌, ◌-◌, ◌++◌, [], ℕ, List, All, OnOk, IfOk, IfErr, IfSome, IsOkUnless, string_bytes, flat_map, length};
-ghost use Rattle.scp_script.specs.declared.command.Command.{Command};
+ghost use Rattle.std.specs.Prelude.{◌≡◌, ◌≢◌, ◌⊎◌, ◌≤◌, ◌++◌, [], ℕ, List, All, OnOk, IfOk, IfErr, IfSome, IsOkUnless, string_bytes, flat_map, length};
 ghost use Rattle.scp_script.specs.Script.{AreAdmitted, node_count};
 ghost use Rattle.scp_script.specs.Nodes.{NamesNodes, IsSmall, reports_in};
 ghost use Rattle.scp_core.specs.Config.{IsConfig};
-ghost use Rattle.scp_line.specs.Settle.{round_events};
-ghost use Rattle.scp_line.specs.Play.{config_of, AreNodes, HasFailed, Played, report_of_node, report_at};
-ghost use Rattle.scp_line.specs.Nodes.{AllGo, Heard, IsNew, AreNew, HaveRoom, Rests, Acts, ActsAgain, Answers, IsStopped, event_by, number_of};
+ghost use Rattle.scp_line.specs.Play.{config_of, driven_in, event_by, IsNew, AreNew, Played, report_of_node, report_at};
+ghost use Rattle.scp_line.specs.Nodes.{HaveRoom, AreMade, Offers, Settles, Acts, ActsAgain, IsPlayed, IsStopped, brings_to_rest};
 
 use crate::playing::PlayFault;
 use crate::report::{ReportParts, write_report};
-use crate::rounds::{either, hear, round};
 use crate::waiting::{link_from, parked_at};
 use scp_core::{Capacities, Command as LocalCommand, Config, Event, Node, Peers, Reply};
+use scp_network::Network;
 use scp_script::{Command, capacities_of, count_of_nodes, id_from, peers_of_node, set_of_node};
 use scp_types::{Fault, Slot};
 use std::alloc::{AllocError, Global};
-
-/// The most rounds of one settle.
-const MOST_ROUNDS: u32 = 100_000;
-
-/// The nodes of a script, the first first: at most 8.
-#[derive(Drop)]
-pub struct Nodes(Vec<Node>);
 
 /// Who the node of this number is, and what its queues hold. The one refusal is `NoMemory`.
 fn config_from(alloc: Global, commands: &[Command], count: u8, number: u8) -> Result<Config, Fault>
@@ -65,6 +56,42 @@ fn new_node(alloc: Global, commands: &[Command], count: u8, number: u8) -> Resul
     Node::new(alloc, config)
 }
 
+/// The nodes of a script, which have heard nothing.
+fn new_nodes(alloc: Global, commands: &[Command]) -> Result<Vec<Node>, Fault>
+    requires names { All NamesNodes commands.now }
+    requires admitted { AreAdmitted [] commands.now }
+    requires room { HaveRoom commands.now }
+    ensures nodes { IfOk result (λ nodes. AreNew commands.now nodes.items) }
+    ensures few { IfOk result (λ nodes. length nodes.items ≤ 8) }
+    ensures only_memory { IsOkUnless result Fault.NoMemory }
+{
+    let count = count_of_nodes(commands);
+    let mut nodes = Vec::new(alloc);
+    for index in 0..count {
+        let node = new_node(alloc, commands, count, index + 1)?;
+        nodes.push(node)?;
+    }
+    Ok(nodes)
+}
+
+/// The nodes of a script, which have heard nothing; the links that a `send` line names are driven by the script alone.
+pub fn new_network(alloc: Global, commands: &[Command]) -> Result<Network, Fault>
+    requires names { All NamesNodes commands.now }
+    requires admitted { AreAdmitted [] commands.now }
+    requires room { HaveRoom commands.now }
+    ensures made { IfOk result (λ network. AreMade commands.now network) }
+    ensures only_memory { IsOkUnless result Fault.NoMemory }
+{
+    let nodes = new_nodes(alloc, commands)?;
+    let mut network = Network::new(alloc, nodes)?;
+    for command in commands {
+        if let Command::Send { from, to, .. } = command {
+            network.drive(*from, *to);
+        }
+    }
+    Ok(network)
+}
+
 /// The event of a command, and its node. It copies the bytes of a send and the value of a proposal; the one refusal is `NoMemory`.
 fn event_of(command: &Command) -> Result<Option<(u8, Event)>, Fault>
     requires names { NamesNodes command.now }
@@ -97,188 +124,122 @@ fn event_of(command: &Command) -> Result<Option<(u8, Event)>, Fault>
     })
 }
 
-/// The number of the node whose event a command is; 0 where it is none.
-fn node_of(command: &Command) -> u8
-    ensures { result ≡ number_of command.now }
+/// Offers the event of a command to its node, and answers the node's number with its reply; `None` where the command is no event.
+/// The one refusal is `NoMemory`, and then nothing was offered.
+fn offer(network: &mut Network, command: &Command) -> Result<Option<(u8, Reply)>, Fault>
+    requires names { NamesNodes command.now }
+    ensures offers { IfOk result (λ answer. Offers network.old command.now answer network.new) }
+    ensures same { IfErr result (λ fault. network.new ≡ network.old) }
+    ensures only_memory { IsOkUnless result Fault.NoMemory }
 {
-    match command {
-        Command::Open { to, .. } | Command::Close { to, .. } | Command::Send { to, .. } => *to,
-        Command::Propose { node, .. }
-        | Command::Round { node, .. }
-        | Command::Timer { node, .. }
-        | Command::Tick(node) => *node,
-        Command::Ask { from, .. } => *from,
-        _ => 0,
+    let Some((number, event)) = event_of(command)? else {
+        return Ok(None);
+    };
+    match network.offer(number, event) {
+        Some(reply) => Ok(Some((number, reply))),
+        None => Ok(None),
     }
 }
 
-/// That the node of a command failed.
-fn failed_at(command: &Command) -> PlayFault
-    ensures { result ≡ record { fault = Fault.Failed; node = number_of command.now } }
+/// Brings the nodes to rest. Refused by `Failed` where a node failed, which is named.
+fn settle(network: &mut Network) -> Result<(), PlayFault>
+    ensures { Settles network.old network.new result }
 {
-    PlayFault {
-        fault: Fault::Failed,
-        node: node_of(command),
+    match network.settle() {
+        Ok(()) => Ok(()),
+        Err(node) => Err(PlayFault {
+            fault: Fault::Failed,
+            node,
+        }),
     }
 }
 
-impl Nodes {
-    /// The nodes of a script, which have heard nothing.
-    pub fn new(alloc: Global, commands: &[Command]) -> Result<Nodes, Fault>
-        requires names { All NamesNodes commands.now }
-        requires admitted { AreAdmitted [] commands.now }
-        requires room { HaveRoom commands.now }
-        ensures nodes { IfOk result (λ nodes. AreNew commands.now nodes.0.items) }
-        ensures few { IfOk result (λ nodes. length nodes.0.items ≤ 8) }
-        ensures only_memory { IsOkUnless result Fault.NoMemory }
-    {
-        let count = count_of_nodes(commands);
-        let mut nodes = Vec::new(alloc);
-        for index in 0..count {
-            let node = new_node(alloc, commands, count, index + 1)?;
-            nodes.push(node)?;
-        }
-        Ok(Nodes(nodes))
+/// Does what a line says where its event found no room: the nodes come to rest, and it is offered once again.
+fn act_again(network: &mut Network, command: &Command) -> Result<(), PlayFault>
+    requires names { NamesNodes command.now }
+    ensures { ActsAgain network.old command.now network.new result }
+{
+    settle(network)?;
+    match offer(network, command)? {
+        None => Ok(()),
+        Some((_, Reply::Accepted)) => Ok(()),
+        Some((_, Reply::Full)) => Err(PlayFault::from(Fault::Full)),
+        Some((node, _)) => Err(PlayFault {
+            fault: Fault::Failed,
+            node,
+        }),
     }
+}
 
-    /// One round of all nodes. Whether anything moved.
-    fn round(&mut self) -> bool
-        requires few { length self.old.0.items ≤ 8 }
-        ensures { AllGo self.old.0.items self.new.0.items (λ number more. Heard (round_events (length self.old.0.items - 1)) result more) }
-    {
-        let count = self.0.len();
-        let mut moved = false;
-        for index in 0..count {
-            let goes = round(&mut self.0[index], (count - 1) as u8);
-            moved = either(moved, goes);
-        }
-        moved
-    }
+/// Whether the line brings the nodes to rest.
+fn is_rest(command: &Command) -> bool
+    ensures { result ≡ brings_to_rest command.now }
+{
+    matches!(command, Command::Settle | Command::Wait { .. })
+}
 
-    /// The number of the first node that failed, if one did.
-    fn failed(&self) -> Option<u8>
-        requires few { length self.now.0.items ≤ 8 }
-        ensures small { IfSome result IsSmall }
-        ensures failed { IfSome result (λ number. (commands : List Command) → (done : List Command) → AreNodes commands done self.now.0.items → HasFailed self.now.0.items number) }
-    {
-        for index in 0..self.0.len() {
-            if self.0[index].state().is_none() {
-                return Some(index as u8 + 1);
-            }
-        }
-        None
+/// Does what a line says: where a queue is full, the nodes come to rest, and it is tried once again.
+fn act(network: &mut Network, command: &Command) -> Result<(), PlayFault>
+    requires names { NamesNodes command.now }
+    ensures { Acts network.old command.now network.new result }
+{
+    if is_rest(command) {
+        return settle(network);
     }
+    match offer(network, command)? {
+        None => Ok(()),
+        Some((_, Reply::Accepted)) => Ok(()),
+        Some((_, Reply::Full)) => act_again(network, command),
+        Some((node, _)) => Err(PlayFault {
+            fault: Fault::Failed,
+            node,
+        }),
+    }
+}
 
-    /// Brings the nodes to rest: rounds, until one moves nothing, or 100,000. Refused by `Failed` where a node failed.
-    fn settle(&mut self) -> Result<(), PlayFault>
-        requires few { length self.old.0.items ≤ 8 }
-        ensures { Rests self.old.0.items self.new.0.items result }
-    {
-        for _round in 0..MOST_ROUNDS {
-            let moved = self.round();
-            if let Some(node) = self.failed() {
-                return Err(PlayFault {
-                    fault: Fault::Failed,
-                    node,
-                });
-            }
-            if !moved {
-                return Ok(());
-            }
-        }
-        Ok(())
+/// Does what the lines say, in their order. Refused by `Failed` where a node failed, which is named, by `Full` where a
+/// queue had no room for a line's event even after a settle, and by `NoMemory`.
+pub fn act_all(network: &mut Network, commands: &[Command]) -> Result<(), PlayFault>
+    requires names { All NamesNodes commands.now }
+    requires admitted { AreAdmitted [] commands.now }
+    requires made { AreMade commands.now network.old }
+    ensures played { OnOk result (IsPlayed commands.now network.new) }
+    ensures stopped { IfErr result (IsStopped commands.now) }
+{
+    for command in commands {
+        act(network, command)?;
     }
+    Ok(())
+}
 
-    /// Offers the event of a command to its node, and answers its reply; `Accepted` where the command is no event. The one
-    /// refusal is `NoMemory`, and then nothing was offered.
-    fn offer(&mut self, command: &Command) -> Result<Reply, Fault>
-        requires names { NamesNodes command.now }
-        ensures answers { IfOk result (λ reply. Answers self.old.0.items command.now self.new.0.items reply) }
-        ensures same { IfErr result (λ fault. self.new.0.items ≡ self.old.0.items) }
-        ensures only_memory { IsOkUnless result Fault.NoMemory }
-    {
-        let Some((number, event)) = event_of(command)? else {
-            return Ok(Reply::Accepted);
-        };
-        let index = usize::from(number - 1);
-        if index >= self.0.len() {
-            return Ok(Reply::Failed);
-        }
-        Ok(hear(&mut self.0[index], event))
+/// Adds the report of the node of this number, if it is there.
+fn write_report_at(nodes: &[Node], text: &mut String, number: u8) -> Result<(), AllocError>
+    requires number { IsSmall number }
+    requires few { length nodes.now ≤ 8 }
+    ensures { OnOk result (string_bytes text.new ≡ string_bytes text.old ++ report_at nodes.now number) }
+{
+    match nodes.get(usize::from(number - 1)) {
+        Some(node) => write_node(text, nodes.len() as u8, number, node),
+        None => Ok(()),
     }
+}
 
-    /// Does what a line says where its event found no room: the nodes come to rest, and it is offered once again.
-    fn act_again(&mut self, command: &Command) -> Result<(), PlayFault>
-        requires names { NamesNodes command.now }
-        requires few { length self.old.0.items ≤ 8 }
-        ensures { ActsAgain self.old.0.items command.now self.new.0.items result }
-    {
-        self.settle()?;
-        match self.offer(command)? {
-            Reply::Accepted => Ok(()),
-            Reply::Full => Err(PlayFault::from(Fault::Full)),
-            _ => Err(failed_at(command)),
+/// Adds the reports that the lines ask for, in the order of the lines.
+pub fn write_reports(
+    nodes: &[Node],
+    text: &mut String,
+    commands: &[Command],
+) -> Result<(), AllocError>
+    requires names { All NamesNodes commands.now }
+    requires few { length nodes.now ≤ 8 }
+    ensures { OnOk result (string_bytes text.new ≡ string_bytes text.old ++ flat_map (report_at nodes.now) (reports_in commands.now)) }
+{
+    for command in commands {
+        if let Command::Report(number) = command {
+            write_report_at(nodes, text, *number)?;
         }
     }
-
-    /// Does what a line says: where a queue is full, the nodes come to rest, and it is tried once again.
-    fn act(&mut self, command: &Command) -> Result<(), PlayFault>
-        requires names { NamesNodes command.now }
-        requires few { length self.old.0.items ≤ 8 }
-        ensures { Acts self.old.0.items command.now self.new.0.items result }
-    {
-        if let Command::Settle = command {
-            return self.settle();
-        }
-        match self.offer(command)? {
-            Reply::Accepted => Ok(()),
-            Reply::Full => self.act_again(command),
-            _ => Err(failed_at(command)),
-        }
-    }
-
-    /// Does what the lines say, in their order. Refused by `Failed` where a node failed, which is named, by `Full` where a
-    /// queue had no room for a line's event even after a settle, and by `NoMemory`.
-    pub fn act_all(&mut self, commands: &[Command]) -> Result<(), PlayFault>
-        requires names { All NamesNodes commands.now }
-        requires admitted { AreAdmitted [] commands.now }
-        requires new { AreNew commands.now self.old.0.items }
-        requires few { length self.old.0.items ≤ 8 }
-        ensures goes { OnOk result (AllGo self.old.0.items self.new.0.items (λ number more. Played (length self.old.0.items - 1) number commands.now more)) }
-        ensures stopped { IfErr result (IsStopped commands.now) }
-    {
-        for command in commands {
-            self.act(command)?;
-        }
-        Ok(())
-    }
-
-    /// Adds the report of the node of this number, if it is there.
-    fn write_report_at(&self, text: &mut String, number: u8) -> Result<(), AllocError>
-        requires number { IsSmall number }
-        requires few { length self.now.0.items ≤ 8 }
-        ensures { OnOk result (string_bytes text.new ≡ string_bytes text.old ++ report_at self.now.0.items number) }
-    {
-        let index = usize::from(number - 1);
-        if index >= self.0.len() {
-            return Ok(());
-        }
-        write_node(text, self.0.len() as u8, number, &self.0[index])
-    }
-
-    /// Adds the reports that the lines ask for, in the order of the lines.
-    pub fn write_reports(&self, text: &mut String, commands: &[Command]) -> Result<(), AllocError>
-        requires names { All NamesNodes commands.now }
-        requires few { length self.now.0.items ≤ 8 }
-        ensures { OnOk result (string_bytes text.new ≡ string_bytes text.old ++ flat_map (report_at self.now.0.items) (reports_in commands.now)) }
-    {
-        for command in commands {
-            if let Command::Report(number) = command {
-                self.write_report_at(text, *number)?;
-            }
-        }
-        Ok(())
-    }
+    Ok(())
 }
 
 /// Adds the report of a node of so many.

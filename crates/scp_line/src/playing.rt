@@ -11,7 +11,7 @@ ghost use Rattle.scp_line.specs.Outcome.{IsCheckFault, IsPlayFault};
 ghost use Rattle.scp_line.specs.Play.{AreReports, Stops, Overflows, IsShown, IsUnread, IsNamed};
 
 use crate::messages::line_of;
-use crate::nodes::Nodes;
+use crate::nodes::{act_all, new_network, write_reports};
 use scp_device::{ReportOut, SCRIPT_LIMIT, ScriptIn, read_script, write_text};
 use scp_script::{bytes_of, parse};
 use scp_types::Fault;
@@ -54,10 +54,10 @@ fn played(alloc: Global, text: &[u8]) -> Result<String, PlayFault>
 {
     let script = parse(alloc, text)?;
     let commands = script.as_slice();
-    let mut nodes = Nodes::new(alloc, commands)?;
-    nodes.act_all(commands)?;
+    let mut network = new_network(alloc, commands)?;
+    act_all(&mut network, commands)?;
     let mut printed = String::new(alloc);
-    match nodes.write_reports(&mut printed, commands) {
+    match write_reports(network.nodes(), &mut printed, commands) {
         Ok(()) => Ok(printed),
         Err(error) => Err(PlayFault::from(Fault::from(error))),
     }

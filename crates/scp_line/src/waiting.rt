@@ -3,7 +3,8 @@ ghost use Rattle.std.specs.Prelude.{◌≡◌, ◌≢◌, ◌≤◌, ◌++◌, I
 ghost use Rattle.scp_wire.specs.Connections.{conn_at};
 ghost use Rattle.scp_core.specs.Node.{lives_at};
 ghost use Rattle.scp_script.specs.Nodes.{IsSmall, id_of, numbers};
-ghost use Rattle.scp_line.specs.Play.{link_of, parked_of, parked_from, parked_in};
+ghost use Rattle.scp_network.specs.Rounds.{link_of};
+ghost use Rattle.scp_line.specs.Play.{parked_of, parked_from, parked_in};
 
 use crate::report::Parked;
 use scp_core::Node;

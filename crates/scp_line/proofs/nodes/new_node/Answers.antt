@@ -1,4 +1,4 @@
-use Rattle.scp_line.proofs.Going.{new_is}
+use Rattle.scp_line.proofs.Making.{new_is}
 use Rattle.scp_line.proofs.Fits.{made}
 use Rattle.scp_line.proofs.nodes.new_node.Goals as goal
 
