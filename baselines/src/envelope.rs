@@ -1,6 +1,6 @@
 //! Statements and envelopes: their spelling, sanity and order.
 use crate::types::{Ballot, Fault, Hash, NodeId, Slot, Value};
-use crate::xdr::Reader;
+use crate::xdr::{Reader, Writer};
 
 const LIST_LIMIT: u32 = 64;
 const SIGNATURE_LIMIT: u32 = 64;
@@ -56,7 +56,6 @@ pub struct Statement {
 #[derive(Clone, Debug, PartialEq)]
 pub struct Envelope {
     pub statement: Statement,
-    #[allow(dead_code)]
     pub signature: Vec<u8>,
 }
 
@@ -92,9 +91,50 @@ impl Pledges {
             _ => return Err(Fault::Malformed(place)),
         })
     }
+
+    fn write(&self, writer: &mut Writer) {
+        match self {
+            Pledges::Prepare(p) => {
+                writer.u32(0);
+                writer.fixed(&p.set_hash.0);
+                writer.ballot(&p.ballot);
+                writer.optional(&p.prepared);
+                writer.optional(&p.prepared_prime);
+                writer.u32(p.n_commit);
+                writer.u32(p.n_high);
+            }
+            Pledges::Confirm(c) => {
+                writer.u32(1);
+                writer.ballot(&c.ballot);
+                writer.u32(c.n_prepared);
+                writer.u32(c.n_commit);
+                writer.u32(c.n_high);
+                writer.fixed(&c.set_hash.0);
+            }
+            Pledges::Externalize(e) => {
+                writer.u32(2);
+                writer.ballot(&e.commit);
+                writer.u32(e.n_high);
+                writer.fixed(&e.set_hash.0);
+            }
+            Pledges::Nominate(n) => {
+                writer.u32(3);
+                writer.fixed(&n.set_hash.0);
+                writer.values(&n.votes);
+                writer.values(&n.accepted);
+            }
+        }
+    }
 }
 
 impl Envelope {
+    pub fn write(&self, writer: &mut Writer) {
+        writer.node(&self.statement.node);
+        writer.u64(self.statement.slot.0);
+        self.statement.pledges.write(writer);
+        writer.opaque(&self.signature);
+    }
+
     pub fn read(reader: &mut Reader<'_>) -> Result<Envelope, Fault> {
         let statement = Statement {
             node: reader.node()?,

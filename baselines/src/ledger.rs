@@ -90,7 +90,6 @@ pub enum Onward {
 }
 
 /// What goes out to peers.
-#[allow(dead_code)]
 pub enum Outgoing {
     ToAll(Envelope),
     To(u8, Message),
@@ -100,7 +99,6 @@ pub struct Took {
     #[allow(dead_code)]
     pub verdict: Option<Verdict>,
     pub onward: Option<Onward>,
-    #[allow(dead_code)]
     pub outgoing: Vec<Outgoing>,
 }
 

@@ -70,6 +70,11 @@ impl Link {
         self.room - self.queue.len()
     }
 
+    /// Whether what is sent now would be accepted.
+    pub fn accepts(&self) -> bool {
+        self.is_open && self.queue.len() < self.room
+    }
+
     fn put(&mut self, item: Item) -> Reply {
         self.queue.push_back(item);
         Reply::Accepted

@@ -10,6 +10,7 @@ mod ledger;
 mod link;
 mod node;
 mod nominate;
+mod outbox;
 mod pending;
 mod quorum;
 mod script;
@@ -89,11 +90,48 @@ fn play_scripts(size: u32) -> Result<String, Fault> {
     ))
 }
 
+const SLOTS: u32 = 10_000;
+
+/// Eight nodes, all linked, that close so many slots.
+fn network_script(slots: u32) -> String {
+    let mut text = String::from("nodes 8 6\n");
+    for from in 1..=8 {
+        for to in (1..=8).filter(|to| *to != from) {
+            let _ = writeln!(text, "open {from} {to}");
+        }
+    }
+    for before in 0..slots {
+        let (leader, slot) = (before % 8 + 1, before + 1);
+        let _ = writeln!(
+            text,
+            "propose {leader} {slot} 000000010000000000000001610000000000000131000000\nsettle"
+        );
+    }
+    text.push_str("report 8\n");
+    text
+}
+
+fn close_slots(size: u32) -> Result<String, Fault> {
+    let (mut scripts, mut bytes) = (0u64, 0u64);
+    let portions = (0..size / SLOTS)
+        .map(|_| SLOTS)
+        .chain((size % SLOTS > 0).then_some(size % SLOTS));
+    for slots in portions {
+        let mut report = Vec::new();
+        script::play(network_script(slots).as_bytes(), &mut report)?;
+        scripts += 1;
+        bytes += black_box(&report).len() as u64;
+    }
+    Ok(format!(
+        "network {size}: scripts {scripts} slots {size} bytes {bytes}"
+    ))
+}
+
 fn main() -> ExitCode {
     let words: Vec<String> = std::env::args().collect();
     let [_, workload, size] = &words[..] else {
         eprintln!(
-            "usage: plain decode|records|envelopes|flow|parked|script|votes-one|votes-each|consensus-4|consensus-8|consensus-16|decide SIZE"
+            "usage: plain decode|records|envelopes|flow|parked|script|votes-one|votes-each|consensus-4|consensus-8|consensus-16|decide|network SIZE"
         );
         return ExitCode::from(2);
     };
@@ -112,6 +150,7 @@ fn main() -> ExitCode {
         "consensus-8" => consensus::decide_slots(8, size),
         "consensus-16" => consensus::decide_slots(16, size),
         "decide" => hearing::decide_by_envelopes(size),
+        "network" => close_slots(size),
         "votes-each" => votes::count_votes(votes::Sharing::Each, size),
         // The report of one script, for comparing.
         "report" => {

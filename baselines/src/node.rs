@@ -1,11 +1,12 @@
 //! One node: events in; replies, journal, decisions, applied list and state out.
 use crate::kv::KvState;
-use crate::ledger::{Command, Decision, Fate, Ledger, Onward};
+use crate::ledger::{Command, Decision, Fate, Ledger, Onward, Outgoing};
 use crate::link::{Inbound, Link};
+use crate::outbox::Outbox;
 use crate::pending::{Pending, Ready};
 use crate::quorum::QuorumSet;
 use crate::types::{ConnId, Fault, NodeId};
-use crate::wire::Message;
+use crate::wire::{Message, encode};
 use std::collections::{BTreeMap, BTreeSet, VecDeque};
 use std::sync::Arc;
 
@@ -24,12 +25,14 @@ pub enum Event {
     SlotTake,
     SlotPut,
     ApplyTake,
+    Drain(u8),
 }
 
-#[derive(Clone, Copy, Debug, PartialEq, Eq)]
+#[derive(Debug, PartialEq, Eq)]
 pub enum Reply {
     Accepted,
     Moved,
+    Sent(Vec<u8>),
     Idle,
     Blocked,
     Full,
@@ -94,6 +97,7 @@ pub struct Node {
     slot_hand: Option<Onward>,
     decided: VecDeque<Onward>,
     applier: Applier,
+    outboxes: Vec<Outbox>,
     failed: bool,
 }
 
@@ -125,6 +129,7 @@ impl Node {
                 .iter()
                 .map(|peer| Link::new(*peer, me, link))
                 .collect(),
+            outboxes: peers.iter().map(|_| Outbox::new()).collect(),
             inbox: VecDeque::with_capacity(inbox),
             ledger: Ledger::new(me, set.clone(), peers.clone()),
             pending: Pending::new(me, peers, set),
@@ -187,11 +192,27 @@ impl Node {
             Event::SlotPut => self.slot_put(),
             Event::ApplyTake => match self.decided.pop_front() {
                 Some(onward) => {
-                    self.applier.take(onward);
+                    let answer = self.applier.take(onward);
+                    self.hand_out(answer);
                     Reply::Moved
                 }
                 None => Reply::Idle,
             },
+            Event::Drain(link) => match self.outboxes.get_mut(link as usize) {
+                Some(outbox) => match outbox.next() {
+                    Some(message) => Reply::Sent(encode(&message)),
+                    None => Reply::Idle,
+                },
+                None => Reply::NoLink,
+            },
+        }
+    }
+
+    fn hand_out(&mut self, answer: Option<(u8, Message)>) {
+        if let Some((link, message)) = answer
+            && let Some(outbox) = self.outboxes.get_mut(link as usize)
+        {
+            outbox.put(message);
         }
     }
 
@@ -224,7 +245,8 @@ impl Node {
         let Some(item) = self.inbox.pop_front() else {
             return Reply::Idle;
         };
-        self.pending.take(item);
+        let answer = self.pending.take(item);
+        self.hand_out(answer);
         self.pend_hand = self.pending.next_ready();
         Reply::Moved
     }
@@ -253,6 +275,16 @@ impl Node {
             self.failed = true;
             return Reply::JournalFull;
         };
+        for outgoing in took.outgoing {
+            match outgoing {
+                Outgoing::ToAll(envelope) => {
+                    for outbox in &mut self.outboxes {
+                        outbox.put(Message::Envelope(Box::new(envelope.clone())));
+                    }
+                }
+                Outgoing::To(link, message) => self.hand_out(Some((link, message))),
+            }
+        }
         self.slot_hand = took.onward;
         Reply::Moved
     }

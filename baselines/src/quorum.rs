@@ -18,7 +18,6 @@ pub struct QuorumSet {
 /// A sane quorum set, with its hash.
 #[derive(Debug)]
 pub struct SaneSet {
-    #[allow(dead_code)]
     pub set: QuorumSet,
     pub hash: Hash,
 }
@@ -47,7 +46,7 @@ impl QuorumSet {
         Ok(set)
     }
 
-    fn write(&self, out: &mut Vec<u8>) {
+    pub fn write(&self, out: &mut Vec<u8>) {
         out.extend_from_slice(&self.threshold.to_be_bytes());
         out.extend_from_slice(&(self.validators.len() as u32).to_be_bytes());
         for node in &self.validators {

@@ -5,7 +5,7 @@ use crate::link::Cause;
 use crate::node::{Capacities, Config, Event, Node, Reply};
 use crate::pending::DropCause;
 use crate::quorum::QuorumSet;
-use crate::types::{ConnId, Fault, NodeId, Slot};
+use crate::types::{ConnId, Fault, NodeId, Slot, Value};
 use std::collections::BTreeMap;
 use std::io::{Read, Write};
 
@@ -13,6 +13,7 @@ pub const SCRIPT_LIMIT: usize = 1_048_576;
 const NODES: u8 = 8;
 const LIVES: u32 = 65_535;
 const ROUNDS: u32 = 100_000;
+const VALUE_LIMIT: usize = 4_096;
 
 /// What a line says of the link between two nodes.
 enum Act {
@@ -28,6 +29,10 @@ enum Command {
     Link { from: u8, to: u8, act: Act },
     Tick(u8),
     Ask { from: u8, to: u8, slot: u64 },
+    Propose { node: u8, slot: u64, value: Vec<u8> },
+    Round(u8, u64),
+    Timer(u8, u64),
+    Wait(u8),
     Settle,
     Report(u8),
 }
@@ -86,6 +91,17 @@ fn command(words: &[&str]) -> Option<Command> {
         ["open", from, to] => link(from, to, Act::Open),
         ["close", from, to] => link(from, to, Act::Close),
         ["send", from, to, word] => link(from, to, Act::Send(bytes_of(word)?)),
+        ["propose", node, slot, word] => Some(Command::Propose {
+            node: small_number(node)?,
+            slot: number(slot)?,
+            value: bytes_of(word).filter(|value| value.len() <= VALUE_LIMIT)?,
+        }),
+        ["round", node, slot] => Some(Command::Round(small_number(node)?, number(slot)?)),
+        ["timer", node, slot] => Some(Command::Timer(small_number(node)?, number(slot)?)),
+        ["wait", node, things] => {
+            number(things)?;
+            Some(Command::Wait(small_number(node)?))
+        }
         ["tick", node] => Some(Command::Tick(small_number(node)?)),
         ["ask", from, to, slot] => Some(Command::Ask {
             from: small_number(from)?,
@@ -126,7 +142,12 @@ impl Reading {
                 self.has(*from) && self.has(*to) && from != to && fits
             }
             Command::Ask { from, to, .. } => self.has(*from) && self.has(*to) && from != to,
-            Command::Tick(node) | Command::Report(node) => self.has(*node),
+            Command::Tick(node)
+            | Command::Report(node)
+            | Command::Wait(node)
+            | Command::Round(node, _)
+            | Command::Timer(node, _)
+            | Command::Propose { node, .. } => self.has(*node),
             Command::Settle => self.count > 0,
         }
     }
@@ -223,47 +244,96 @@ fn place(from: u8, to: u8) -> u8 {
     if from < to { from - 1 } else { from - 2 }
 }
 
-/// One round over the nodes; whether anything moved.
-fn round(nodes: &mut [Node]) -> bool {
-    let mut moved = false;
-    for node in nodes {
-        let links = node.links().len() as u8;
-        let mut step = |event| moved |= node.step(event) == Reply::Moved;
-        for link in 0..links {
-            step(Event::ReaderTake(link));
-            step(Event::ReaderPut(link));
-        }
-        step(Event::PendTake);
-        step(Event::PendPut);
-        step(Event::SlotTake);
-        step(Event::SlotPut);
-        step(Event::ApplyTake);
-    }
-    moved
+/// Nodes, and the links on which the script alone sends.
+struct Network {
+    nodes: Vec<Node>,
+    driven: Vec<(u8, u8)>,
 }
 
-fn settle(nodes: &mut [Node]) -> Result<(), Fault> {
-    for _ in 0..ROUNDS {
-        if !round(nodes) {
-            break;
-        }
+impl Network {
+    fn new(commands: &[Command]) -> Result<Network, Fault> {
+        let driven = commands.iter().filter_map(|command| match command {
+            Command::Link {
+                from,
+                to,
+                act: Act::Send(_),
+            } => Some((*from, *to)),
+            _ => None,
+        });
+        let mut driven: Vec<(u8, u8)> = driven.collect();
+        driven.sort_unstable();
+        driven.dedup();
+        Ok(Network {
+            nodes: new_nodes(commands)?,
+            driven,
+        })
     }
-    if nodes.iter().any(|node| node.state().is_none()) {
-        return Err(Fault::Failed);
-    }
-    Ok(())
-}
 
-/// Where the queue is full, settles and tries again once.
-fn put(nodes: &mut [Node], to: u8, event: &dyn Fn() -> Event) -> Result<(), Fault> {
-    let place = to as usize - 1;
-    if nodes[place].step(event()) == Reply::Full {
-        settle(nodes)?;
-        if nodes[place].step(event()) != Reply::Accepted {
+    /// What a node says next to each other one goes there; whether anything went.
+    fn carry(&mut self, from: u8) -> bool {
+        let mut sent = false;
+        for to in 1..=self.nodes.len() as u8 {
+            if from == to || self.driven.binary_search(&(from, to)).is_ok() {
+                continue;
+            }
+            let link = place(from, to);
+            let receiver = &self.nodes[to as usize - 1];
+            if !receiver.links()[link as usize].accepts() {
+                continue;
+            }
+            let reply = self.nodes[from as usize - 1].step(Event::Drain(place(to, from)));
+            if let Reply::Sent(bytes) = reply {
+                self.nodes[to as usize - 1].step(Event::Send(link, bytes));
+                sent = true;
+            }
+        }
+        sent
+    }
+
+    /// One round over the nodes; whether anything moved.
+    fn round(&mut self) -> bool {
+        let mut moved = false;
+        for number in 1..=self.nodes.len() as u8 {
+            let node = &mut self.nodes[number as usize - 1];
+            let links = node.links().len() as u8;
+            let mut step = |event| moved |= node.step(event) == Reply::Moved;
+            for link in 0..links {
+                step(Event::ReaderTake(link));
+                step(Event::ReaderPut(link));
+            }
+            step(Event::PendTake);
+            step(Event::PendPut);
+            step(Event::SlotTake);
+            step(Event::SlotPut);
+            step(Event::ApplyTake);
+            moved |= self.carry(number);
+        }
+        moved
+    }
+
+    fn settle(&mut self) -> Result<(), Fault> {
+        for _ in 0..ROUNDS {
+            if !self.round() {
+                break;
+            }
+        }
+        if self.nodes.iter().any(|node| node.state().is_none()) {
             return Err(Fault::Failed);
         }
+        Ok(())
     }
-    Ok(())
+
+    /// Where the queue is full, settles and tries again once.
+    fn put(&mut self, to: u8, event: &dyn Fn() -> Event) -> Result<(), Fault> {
+        let place = to as usize - 1;
+        if self.nodes[place].step(event()) == Reply::Full {
+            self.settle()?;
+            if self.nodes[place].step(event()) != Reply::Accepted {
+                return Err(Fault::Failed);
+            }
+        }
+        Ok(())
+    }
 }
 
 fn word_of_verdict(verdict: Verdict) -> &'static str {
@@ -378,32 +448,42 @@ fn write_report(text: &mut Vec<u8>, number: u8, node: &Node) -> std::io::Result<
 
 fn played(text: &[u8]) -> Result<Vec<u8>, Fault> {
     let commands = parse(text)?;
-    let mut nodes = new_nodes(&commands)?;
+    let mut network = Network::new(&commands)?;
     for command in &commands {
         match command {
             Command::Link { from, to, act } => {
                 let link = place(*from, *to);
-                put(&mut nodes, *to, &|| match act {
+                network.put(*to, &|| match act {
                     Act::Open => Event::Open(link),
                     Act::Send(bytes) => Event::Send(link, bytes.clone()),
                     Act::Close => Event::Close(link),
                 })?;
             }
-            Command::Tick(node) => put(&mut nodes, *node, &|| Event::Local(Local::Tick))?,
+            Command::Tick(node) => network.put(*node, &|| Event::Local(Local::Tick))?,
             Command::Ask { from, to, slot } => {
                 let link = place(*to, *from);
-                put(&mut nodes, *from, &|| {
+                network.put(*from, &|| {
                     Event::Local(Local::Ask(link, Slot(*slot)))
                 })?;
             }
-            Command::Settle => settle(&mut nodes)?,
+            Command::Propose { node, slot, value } => network.put(*node, &|| {
+                let value = Value(value.clone());
+                Event::Local(Local::Propose(Slot(*slot), value))
+            })?,
+            Command::Round(node, slot) => {
+                network.put(*node, &|| Event::Local(Local::Round(Slot(*slot))))?;
+            }
+            Command::Timer(node, slot) => {
+                network.put(*node, &|| Event::Local(Local::Timer(Slot(*slot))))?;
+            }
+            Command::Settle | Command::Wait(_) => network.settle()?,
             _ => {}
         }
     }
     let mut printed = Vec::new();
     for command in &commands {
         if let Command::Report(number) = command {
-            let node = &nodes[*number as usize - 1];
+            let node = &network.nodes[*number as usize - 1];
             write_report(&mut printed, *number, node).map_err(|_| Fault::Device)?;
         }
     }

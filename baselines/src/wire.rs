@@ -2,22 +2,17 @@
 use crate::envelope::Envelope;
 use crate::quorum::QuorumSet;
 use crate::types::{Fault, Hash, Slot, Value};
-use crate::xdr::Reader;
+use crate::xdr::{Reader, Writer};
 
 pub const MESSAGE_LIMIT: usize = 65_536;
 
-#[derive(Debug)]
+#[derive(Clone, Debug)]
 pub enum Message {
     Envelope(Box<Envelope>),
-    #[allow(dead_code)]
     GetSet(Hash),
-    #[allow(dead_code)]
     Set(QuorumSet),
-    #[allow(dead_code)]
     NoSet(Hash),
-    #[allow(dead_code)]
     GetRecord(Slot),
-    #[allow(dead_code)]
     Record(Slot, Value),
 }
 
@@ -48,4 +43,37 @@ pub fn decode(bytes: &[u8]) -> Result<Message, Fault> {
     };
     reader.end()?;
     Ok(message)
+}
+
+/// The bytes that spell the message.
+pub fn encode(message: &Message) -> Vec<u8> {
+    let mut writer = Writer::default();
+    match message {
+        Message::Envelope(envelope) => {
+            writer.u32(1);
+            envelope.write(&mut writer);
+        }
+        Message::GetSet(hash) => {
+            writer.u32(2);
+            writer.fixed(&hash.0);
+        }
+        Message::Set(set) => {
+            writer.u32(3);
+            set.write(&mut writer.bytes);
+        }
+        Message::NoSet(hash) => {
+            writer.u32(4);
+            writer.fixed(&hash.0);
+        }
+        Message::GetRecord(slot) => {
+            writer.u32(5);
+            writer.u64(slot.0);
+        }
+        Message::Record(slot, value) => {
+            writer.u32(6);
+            writer.u64(slot.0);
+            writer.opaque(&value.0);
+        }
+    }
+    writer.bytes
 }

@@ -142,3 +142,57 @@ impl<'a> Reader<'a> {
         Ok(items)
     }
 }
+
+/// Writes what `Reader` reads.
+#[derive(Default)]
+pub struct Writer {
+    pub bytes: Vec<u8>,
+}
+
+impl Writer {
+    pub fn u32(&mut self, number: u32) {
+        self.bytes.extend_from_slice(&number.to_be_bytes());
+    }
+
+    pub fn u64(&mut self, number: u64) {
+        self.bytes.extend_from_slice(&number.to_be_bytes());
+    }
+
+    pub fn fixed(&mut self, bytes: &[u8; 32]) {
+        self.bytes.extend_from_slice(bytes);
+    }
+
+    pub fn opaque(&mut self, bytes: &[u8]) {
+        self.u32(bytes.len() as u32);
+        self.bytes.extend_from_slice(bytes);
+        let padded = bytes.len().next_multiple_of(4);
+        self.bytes.extend_from_slice(&[0; 4][..padded - bytes.len()]);
+    }
+
+    pub fn node(&mut self, node: &NodeId) {
+        self.u32(0);
+        self.fixed(&node.0);
+    }
+
+    pub fn ballot(&mut self, ballot: &Ballot) {
+        self.u32(ballot.counter);
+        self.opaque(&ballot.value.0);
+    }
+
+    pub fn optional(&mut self, ballot: &Option<Ballot>) {
+        match ballot {
+            Some(ballot) => {
+                self.u32(1);
+                self.ballot(ballot);
+            }
+            None => self.u32(0),
+        }
+    }
+
+    pub fn values(&mut self, values: &[Value]) {
+        self.u32(values.len() as u32);
+        for value in values {
+            self.opaque(&value.0);
+        }
+    }
+}

@@ -17,7 +17,7 @@ pub enum Asked {
     Usage,
 }
 
-static WORKLOADS: [&str; 16] = [
+static WORKLOADS: [&str; 17] = [
     "decode",
     "records",
     "envelopes",
@@ -34,6 +34,7 @@ static WORKLOADS: [&str; 16] = [
     "consensus-8",
     "consensus-16",
     "decide",
+    "network",
 ];
 
 fn command<'a>(alloc: Global) -> Result<Command<'a>, AllocError> {
@@ -71,6 +72,7 @@ fn one(name: &str, size: Option<&str>) -> Asked {
         "consensus-8" => Workload::Consensus(8),
         "consensus-16" => Workload::Consensus(16),
         "decide" => Workload::Decide,
+        "network" => Workload::Network,
         _ => return Asked::Usage,
     };
     match size_in(size) {

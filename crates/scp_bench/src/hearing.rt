@@ -70,7 +70,7 @@ pub fn ask(node: &mut Node, link: u8, slot: u64) -> Result<(), Fault> {
 
 /// One event of a stage; whether it did its step.
 fn moves(node: &mut Node, event: Event) -> bool {
-    node.step(event) == Reply::Moved
+    matches!(node.step(event), Reply::Moved)
 }
 
 /// Each stage does one step, first the reader of the link; whether anything moved.

@@ -11,6 +11,7 @@ mod decode;
 mod envelopes;
 mod hearing;
 mod messages;
+mod network;
 mod parked;
 mod quorum;
 mod records;
@@ -29,7 +30,7 @@ use std::{env, io};
 
 /// What is printed where no workload is asked for.
 const USAGE: &str =
-    "usage: scp_bench [decode|records|envelopes|flow|parked|script|quorum-shared|quorum-own|quorum-chain|quorum-missing|votes-one|votes-each|consensus-4|consensus-8|consensus-16|decide [SIZE]]\n";
+    "usage: scp_bench [decode|records|envelopes|flow|parked|script|quorum-shared|quorum-own|quorum-chain|quorum-missing|votes-one|votes-each|consensus-4|consensus-8|consensus-16|decide|network [SIZE]]\n";
 
 /// What is printed where there is no memory for a fault's line.
 const NO_MEMORY: &str = "out of memory\n";

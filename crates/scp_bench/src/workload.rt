@@ -2,6 +2,7 @@ use crate::consensus::{Consensus, decide_slots};
 use crate::decide::decide_by_envelopes;
 use crate::decode::{Decoded, decode_records};
 use crate::envelopes::{Judged, hear_envelopes};
+use crate::network::{Networks, close_slots};
 use crate::parked::park_envelopes;
 use crate::quorum::{Quorums, Shape, find_quorums};
 use crate::records::{Ledgers, hear_records};
@@ -40,6 +41,8 @@ pub enum Workload {
     Consensus(u32),
     /// A node decides slots by its peers' envelopes.
     Decide,
+    /// Eight nodes that send to each other close slots, in scripts.
+    Network,
 }
 
 /// The name of the workload that has this shape.
@@ -169,6 +172,17 @@ fn run(alloc: Global, workload: Workload, size: u32) -> Result<String, Fault> {
         Workload::Decide => {
             tell_ledgers("decide", decide_by_envelopes(alloc, size)?, size, &mut text)?
         }
+        Workload::Network => {
+            let Networks {
+                scripts,
+                slots,
+                bytes,
+            } = close_slots(alloc, size)?;
+            writeln!(
+                &mut text,
+                "network {size}: scripts {scripts} slots {slots} bytes {bytes}"
+            )?;
+        }
     }
     Ok(text)
 }
@@ -202,5 +216,6 @@ pub fn write_all<W: ReportOut>(alloc: Global, writer: &mut W) -> Result<(), Faul
         write_one(alloc, Workload::Consensus(nodes), FEW, writer)?;
     }
     write_one(alloc, Workload::Decide, SMALL, writer)?;
+    write_one(alloc, Workload::Network, FEW, writer)?;
     Ok(())
 }
