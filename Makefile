@@ -1,5 +1,5 @@
 # What the README names. `rt` is the toolchain's command.
-SCRIPT ?= examples/first_record.scp
+SCRIPT ?= examples/four_nodes.scp
 
 .PHONY: run build test check try bench wrong-bodies
 

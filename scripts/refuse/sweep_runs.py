@@ -89,7 +89,7 @@ def judge(what, ample, ended):
             return "DEFECT", seen
         if ended.out == b"fault 1\n":
             kind = "fault 1"
-        elif re.fullmatch(rb"fault 10 node [12]\n", ended.out):
+        elif re.fullmatch(rb"fault 10 node [1-8]\n", ended.out):
             kind = "fault 10"
         elif ended.out == b"" and what != "allocation":
             kind = "nothing said"  # no memory for the line either
