@@ -70,4 +70,5 @@ nothing_played commands network are = record {
   new = are.nodes;
   played = (refl, refl);
   have = λ i d lt. (are.nodes.each i d lt).theorem;
+  run = (first_moment commands network are).run;
 }

@@ -38,6 +38,7 @@ one_more commands done command old new p d = record {
     new = p.played.new;
     played = played_more (driven_in commands) _ done command p.played.first old.nodes new.nodes p.heard d.hear.heard p.played.played d.hear.is;
     have = d.hear.have p.heard p.played.have;
+    run = d.moment.run;
   };
   moment = d.moment;
 }
@@ -57,7 +58,6 @@ all_played commands i network is names p =
     record {
       heard = p.heard;
       played = subst (λ (l : List Command). ArePlayed commands l p.heard network.nodes) all p.played;
-      run = p.moment.run;
       few = let count = p.moment.count in omega (arith, count, few_nodes commands names);
     }
 
@@ -68,6 +68,5 @@ are_reports text printed commands network same played is = record {
   heard = played.heard;
   nodes = network.nodes;
   played = subst (λ (l : List Command). ArePlayed l l played.heard network.nodes) same played.played;
-  run = played.run;
   reports = is ∙ ap (λ (l : List Command). flat_map (report_at network.nodes) (reports_in l)) same;
 }

@@ -93,7 +93,6 @@ Acts old command new result =
 pub record IsPlayed (commands : List Command) (network : NetworkView) : Type 0 where
   pub heard : List Heard
   pub played : ArePlayed commands commands heard network.nodes
-  pub run : AllRun network.nodes
   pub few : length network.nodes ≤ 8
 
 -- why lines weren't all done

@@ -108,12 +108,13 @@ pub record AreNew (commands : List Command) (nodes : Nodes) : Type 0 where
   pub each : (i : ℕ) → (d : NodeView) → i < length nodes → IsNew commands (i + 1) (get_or nodes i d)
 
 -- Lines of a script were played by its nodes, from the first line on: what they heard, one after the other, is what the lines say, and the
--- ledger theorem holds of each node for all that it heard.
+-- ledger theorem holds of each node for all that it heard; and none has failed.
 pub record ArePlayed (commands done : List Command) (heard : List Heard) (nodes : Nodes) : Type 0 where
   pub first : Nodes
   pub new : AreNew commands first
   pub played : Played (driven_in commands) (node_count commands) done first heard nodes
   pub have : HaveHeard heard nodes
+  pub run : AllRun nodes
 
 abbrev pub parked_of : NodeView → ConnId → List Parked
 parked_of v conn = if nat_lt 0 (count_held conn v.pending) then record { conn = conn; count = count_held conn v.pending } ∷ [] else []
@@ -210,13 +211,11 @@ pub record Overflows (commands : List Command) : Type 0 where
   pub have : HaveHeard (heard ++ more) new
   pub full : HasNoRoom new command
 
--- The text is the reports that the script asks for, one for each `report` line, in their order, of nodes that played all its lines,
--- and of which none failed.
+-- The text is the reports that the script asks for, one for each `report` line, in their order, of nodes that played all its lines.
 pub record AreReports (script text : List ℕ) : Type 0 where
   pub heard : List Heard
   pub nodes : Nodes
   pub played : ArePlayed (commands_in script) (commands_in script) heard nodes
-  pub run : AllRun nodes
   pub reports : text ≡ flat_map (report_at nodes) (reports_in (commands_in script))
 
 abbrev pub pledges_word : Pledges → List ℕ

@@ -103,10 +103,10 @@ AllRun nodes = (i : ℕ) → (node : NodeView) → slice_get nodes i ≡ Some no
 abbrev pub HasFailed : Nodes → ℕ → Type 0
 HasFailed nodes number = (node : NodeView) × (1 ≤ number) × (slice_get nodes (number - 1) ≡ Some node) × (node.failed ≡ true)
 
--- so many rounds, after which, if there was one, no node had failed
+-- so many rounds, and after the last of them, if there was one, no node had failed
 abbrev pub AreWellRounds : List Bool → ℕ → ℕ → Nodes → List Heard → Nodes → Type 0
 AreWellRounds driven count rounds old heard new = AreRounds driven count rounds old heard new × ((rounds ≡ 0) ⊎ AllRun new)
 
--- the node of this number failed in a round, at most the 100,000th, and none had failed after the rounds before it
+-- the node of this number has failed by the end of a round, at most the 100,000th, and after the round before it none had
 abbrev pub Breaks : List Bool → ℕ → ℕ → Nodes → List Heard → Nodes → Type 0
 Breaks driven count number old heard new = (before : ℕ) × (before < 100000) × Then (AreWellRounds driven count before) (IsRound driven count) old heard new × HasFailed new number
