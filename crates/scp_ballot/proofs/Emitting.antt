@@ -23,12 +23,11 @@ module _ (old : Machine) (own : Statement) (is : IsOwnStatement old old.state ow
     none = (refl, λ other also worth. worthless (subst (λ s. IsWorth old.emitted s) (same_statement other own (also.node ∙ sym is.node) (also.slot ∙ sym is.slot) (also.pledges ∙ sym is.pledges)) worth));
   }
 
-  pub emits_some : (new : Machine) (copied : Statement) (e : Envelope) → new ≡ record old { emitted = Some own } → IsWorth old.emitted own → copied ≡ own → e.statement ≡ copied → e.signature ≡ [] → Emits old new (Some e)
-  emits_some new copied e made worth same holds unsigned =
-      let whole : e.statement ≡ own = holds ∙ same in
-      let there : new.emitted ≡ Some own = ap (λ (m : Machine). m.emitted) made in
+  pub emits_some : (new : Machine) (kept : Statement) (e : Envelope) → new ≡ record old { emitted = Some kept } → IsWorth old.emitted own → kept ≡ e.statement → e.statement ≡ own → e.signature ≡ [] → Emits old new (Some e)
+  emits_some new kept e made worth shown whole unsigned =
+      let there : new.emitted ≡ Some kept = ap (λ (m : Machine). m.emitted) made in
       record {
         frame = made ∙ ap (λ (o : Option Statement). let m : Machine = record old { emitted = o } in m) (sym there);
-        some = (subst (λ s. IsOwnStatement old old.state s) (sym whole) is, unsigned, subst (λ s. IsWorth old.emitted s) (sym whole) worth, there ∙ ap Some (sym whole));
+        some = (subst (λ s. IsOwnStatement old old.state s) (sym whole) is, unsigned, subst (λ s. IsWorth old.emitted s) (sym whole) worth, there ∙ ap Some shown);
         none = tt;
       }

@@ -1,5 +1,5 @@
 //! What an input gives.
-use scp_envelope::Envelope;
+use scp_envelope::SharedEnvelope;
 use scp_types::{NodeId, Value};
 use std::collections::BTreeSet;
 
@@ -7,7 +7,7 @@ use std::collections::BTreeSet;
 #[derive(Drop)]
 pub struct Balloted {
     /// The own statement, where it is sane and newer than the one emitted before, without a signature.
-    pub statement: Option<Envelope>,
+    pub statement: Option<SharedEnvelope>,
     /// The decision, at the input that makes the own statement an EXTERNALIZE.
     pub decided: Option<Certified>,
     /// Whether the rules were left at their limit of 64 applications; what is left is tried at the next input.
@@ -23,5 +23,5 @@ pub struct Certified {
     /// The greatest quorum at this node among the nodes that accept that commit.
     pub quorum: BTreeSet<NodeId>,
     /// The own EXTERNALIZE, without a signature.
-    pub own: Envelope,
+    pub own: SharedEnvelope,
 }

@@ -3,7 +3,7 @@ ghost use Rattle.std.specs.Prelude.{◌≡◌, ◌≢◌, ◌⊎◌, true, false
 
 use crate::balloted::Balloted;
 use crate::machine::Machine;
-use scp_envelope::Envelope;
+use scp_envelope::SharedEnvelope;
 use scp_quorum::SaneSet;
 use scp_types::{Fault, NodeId, Slot, Value};
 use std::alloc::Global;
@@ -73,7 +73,11 @@ impl Balloter {
     /// Another node's fresh ballot statement, with the quorum set that was delivered with it. A statement of this node, of
     /// another slot or of nomination, or one that comes after the decision, isn't put on the board. Refused by `Failed` once
     /// a call was refused, else by `NoMemory`.
-    pub fn take(&mut self, envelope: Envelope, delivered: Arc<SaneSet>) -> Result<Balloted, Fault>
+    pub fn take(
+        &mut self,
+        envelope: SharedEnvelope,
+        delivered: Arc<SaneSet>,
+    ) -> Result<Balloted, Fault>
         ensures advances { IfOk result (λ given. Advances (ballots self.old) (ballots self.new) given) }
         ensures ballot { OnOk result (HasBallot (ballots self.old) → HasBallot (ballots self.new)) }
         ensures composite { OnOk result ((ballots self.new).composite ≡ (ballots self.old).composite) }

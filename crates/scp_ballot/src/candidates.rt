@@ -19,7 +19,7 @@ pub(crate) fn candidates(alloc: Global, board: &Board) -> Result<Vec<Ballot>, Fa
     let mut list = Vec::new(alloc);
     for (node, entry) in board.statements(StatementKind::Balloting) {
         let _ = node;
-        add_named(&entry.envelope.statement.pledges, &mut list)?;
+        add_named(&entry.envelope.get().statement.pledges, &mut list)?;
     }
     Ok(list)
 }

@@ -18,23 +18,23 @@ ghost use Rattle.scp_ballot.specs.Machine.{IsAtRest, IsSettled, IsOwnStatement, 
 use crate::balloted::{Balloted, Certified};
 use crate::machine::{Machine, unsigned};
 use scp_ballot_rules::{Phase, State, counter};
-use scp_envelope::{Envelope, Statement, newer};
+use scp_envelope::{SharedEnvelope, SharedStatement, Statement, newer};
 use scp_types::{Ballot, Fault, NodeId, Value};
 use scp_vote::{Board, Claim};
 use std::collections::BTreeSet;
 
 /// Whether the statement is newer than the one emitted before, if there was one.
-fn is_newer(before: &Option<Statement>, own: &Statement) -> bool
+fn is_newer(before: &Option<SharedStatement>, own: &Statement) -> bool
     ensures { IsTrue result ↔ ForSome before.now (λ s. IsNewer s own.now) }
 {
     match before {
-        Some(before) => newer(before, own),
+        Some(before) => newer(before.get(), own),
         None => true,
     }
 }
 
 /// Whether the own statement is sane, and newer than the one emitted before.
-fn is_worth(before: &Option<Statement>, own: &Statement) -> bool
+fn is_worth(before: &Option<SharedStatement>, own: &Statement) -> bool
     ensures { IsTrue result ↔ (IsSane own.now.pledges × ForSome before.now (λ s. IsNewer s own.now)) }
 {
     own.sane() && is_newer(before, own)
@@ -55,7 +55,7 @@ impl Machine {
     ghost use Rattle.scp_ballot.specs.Gives.{Emits, IsCertifiedAt, Decides, Gives};
 
     /// The own statement, if it is to be emitted, which is then the last one that was.
-    fn emit(&mut self) -> Result<Option<Envelope>, Fault>
+    fn emit(&mut self) -> Result<Option<SharedEnvelope>, Fault>
         ensures emits { IfOk result (λ found. Emits self.old self.new found) }
         ensures only_memory { IsOkUnless result Fault.NoMemory }
     {
@@ -63,9 +63,10 @@ impl Machine {
         if !is_worth(&self.emitted, &own) {
             return Ok(None);
         }
-        let statement = own.copy()?;
-        self.emitted = Some(own);
-        Ok(Some(unsigned(self.alloc, statement)))
+        let envelope = SharedEnvelope::new(self.alloc, unsigned(self.alloc, own))?;
+        let kept = envelope.share_statement()?;
+        self.emitted = Some(kept);
+        Ok(Some(envelope))
     }
 
     /// The decision on the low end's value, with its certificate.
@@ -79,7 +80,7 @@ impl Machine {
             Some(quorum) => {
                 let statement = self.own(&self.state)?;
                 let value = low.value.copy()?;
-                let own = unsigned(self.alloc, statement);
+                let own = SharedEnvelope::new(self.alloc, unsigned(self.alloc, statement))?;
                 Ok(Some(Certified {
                     value,
                     n,

@@ -15,7 +15,7 @@ use crate::machine::Machine;
 use crate::raise::{raise_confirming, raise_preparing};
 use crate::told::{me_of, put_ballot};
 use scp_ballot_rules::{Phase, State, counter};
-use scp_envelope::Envelope;
+use scp_envelope::{Envelope, SharedEnvelope};
 use scp_quorum::SaneSet;
 use scp_types::{Ballot, Fault, Value};
 use scp_vote::{StatementKind, kind_of_pledges};
@@ -135,11 +135,11 @@ impl Machine {
     }
 
     /// Puts such a statement on the board.
-    fn hear(&mut self, envelope: Envelope, delivered: Arc<SaneSet>) -> Result<(), Fault>
+    fn hear(&mut self, envelope: SharedEnvelope, delivered: Arc<SaneSet>) -> Result<(), Fault>
         ensures hears { OnOk result (HearsOne self.old self.new envelope delivered.value) }
         ensures only_memory { IsOkUnless result Fault.NoMemory }
     {
-        if !self.is_heard(&envelope) {
+        if !self.is_heard(envelope.get()) {
             return Ok(());
         }
         put_ballot(&mut self.board, envelope, delivered)?;
@@ -149,7 +149,7 @@ impl Machine {
     /// Another node's statement, with the quorum set that was delivered with it.
     pub(crate) fn take(
         &mut self,
-        envelope: Envelope,
+        envelope: SharedEnvelope,
         delivered: Arc<SaneSet>,
     ) -> Result<Balloted, Fault>
         requires rest { IsAtRest self.old }

@@ -11,7 +11,7 @@ ghost use Rattle.scp_ballot.specs.Told.{ballots_on};
 use crate::next::next;
 use crate::told::{local_of, me_of, new_board, put_ballot};
 use scp_ballot_rules::{State, pledges_of};
-use scp_envelope::{Envelope, Signature, Statement};
+use scp_envelope::{Envelope, SharedEnvelope, SharedStatement, Signature, Statement};
 use scp_quorum::SaneSet;
 use scp_types::{Fault, Hash, NodeId, Slot};
 use scp_vote::Board;
@@ -26,7 +26,7 @@ pub(crate) struct Machine {
     pub(crate) hash: Hash,
     pub(crate) board: Board,
     pub(crate) state: State,
-    pub(crate) emitted: Option<Statement>,
+    pub(crate) emitted: Option<SharedStatement>,
 }
 
 impl Machine {
@@ -67,10 +67,7 @@ impl Machine {
         ensures only_memory { IsOkUnless result Fault.NoMemory }
     {
         let statement = self.own(&state)?;
-        let envelope = Envelope {
-            statement,
-            signature: Signature::new(Vec::new(self.alloc)),
-        };
+        let envelope = SharedEnvelope::new(self.alloc, unsigned(self.alloc, statement))?;
         let local = local_of(&self.board).clone()?;
         put_ballot(&mut self.board, envelope, local)?;
         self.state = state;

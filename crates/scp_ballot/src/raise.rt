@@ -36,7 +36,7 @@ fn counter_of_pledges(pledges: &Pledges) -> u32
 fn is_ahead(me: NodeId, node: &NodeId, entry: &Entry, n: u32) -> bool
     ensures { IsTrue result ↔ ((node.now ≢ me) × (n < counter_in entry.now.envelope.statement.pledges)) }
 {
-    *node != me && n < counter_of_pledges(&entry.envelope.statement.pledges)
+    *node != me && n < counter_of_pledges(&entry.envelope.get().statement.pledges)
 }
 
 /// The other nodes whose counter is above n.
@@ -87,7 +87,7 @@ fn highest_above(board: &Board, n: u32) -> Option<u32>
     let mut top = None;
     for (node, entry) in board.statements(StatementKind::Balloting) {
         if is_ahead(me, node, entry, n) {
-            let counter = counter_of_pledges(&entry.envelope.statement.pledges);
+            let counter = counter_of_pledges(&entry.envelope.get().statement.pledges);
             top = greater(top, counter, n);
         }
     }
@@ -120,7 +120,7 @@ fn least_counter(alloc: Global, board: &Board, n: u32, top: u32) -> Result<u32, 
     let mut least = top;
     for (node, entry) in board.statements(StatementKind::Balloting) {
         let _ = node;
-        let counter = counter_of_pledges(&entry.envelope.statement.pledges);
+        let counter = counter_of_pledges(&entry.envelope.get().statement.pledges);
         least = lesser(alloc, board, n, counter, least)?;
     }
     Ok(least)
@@ -238,12 +238,22 @@ pub(crate) fn raise_confirming(state: &State, counter: u32) -> Result<Option<Sta
     }
 }
 
+/// Whether there is a value for a raised ballot, in the phase Prepare.
+fn has_value(state: &State) -> bool
+    ensures { IsTrue result ↔ HasValue state.now }
+{
+    state.confirmed.is_some() || state.composite.is_some() || state.prepared.is_some()
+}
+
 /// In the phase Prepare: the state raised above where the others are ahead, if they are and there is a value.
 pub(crate) fn catch_up(alloc: Global, board: &Board, state: &State) -> Result<Option<State>, Fault>
     ensures step { IfOk result (λ next. IfSome next (λ next. CatchesUp (ballots_on board.now) state.now next)) }
     ensures rests { IfOk result (λ next. IfNone next (RaisesNone (ballots_on board.now) state.now)) }
     ensures only_memory { IsOkUnless result Fault.NoMemory }
 {
+    if !has_value(state) {
+        return Ok(None);
+    }
     match raised_counter(alloc, board, counter(&state.present))? {
         Some(n) => match raise_preparing(state, n)? {
             Some(next) => Ok(Some(next)),

@@ -7,7 +7,7 @@ ghost use Rattle.scp_vote.specs.declared.claim.StatementKind.TheVariants.{Ballot
 ghost use Rattle.scp_vote.specs.declared.claim.Claim.TheVariants.{Prepared, Committed};
 ghost use Rattle.scp_ballot.specs.Told.{ballots_on, Reached};
 
-use scp_envelope::Envelope;
+use scp_envelope::SharedEnvelope;
 use scp_quorum::{QuorumSet, SaneSet};
 use scp_types::{Ballot, Fault, NodeId, Value};
 use scp_vote::{Board, Claim};
@@ -31,7 +31,7 @@ pub(crate) fn new_board(alloc: Global, me: NodeId, local: Arc<SaneSet>) -> Board
 /// Puts a ballot statement on the board.
 pub(crate) fn put_ballot(
     board: &mut Board,
-    envelope: Envelope,
+    envelope: SharedEnvelope,
     delivered: Arc<SaneSet>,
 ) -> Result<(), Fault>
     requires ballot { kind_of_pledges envelope.statement.pledges ≡ Balloting }

@@ -1,5 +1,5 @@
 use scp_ballot::*;
-use scp_envelope::{Envelope, Externalize, Pledges, Signature, Statement};
+use scp_envelope::{Envelope, Externalize, Pledges, SharedEnvelope, Signature, Statement};
 use scp_quorum::{QuorumSet, SaneSet};
 use scp_types::{Ballot, Fault, Hash, NodeId, Slot, Value};
 use std::alloc::Global;
@@ -46,7 +46,7 @@ fn envelope(alloc: Global, from: u8, pledges: Pledges) -> Envelope {
 }
 
 /// An EXTERNALIZE of commit (1, byte) with nH 1.
-fn externalize(alloc: Global, from: u8, byte: u8) -> Result<Envelope, Fault> {
+fn externalize(alloc: Global, from: u8, byte: u8) -> Result<SharedEnvelope, Fault> {
     let commit = Ballot {
         counter: 1,
         value: value(alloc, byte)?,
@@ -56,13 +56,13 @@ fn externalize(alloc: Global, from: u8, byte: u8) -> Result<Envelope, Fault> {
         n_high: 1,
         set_hash: Hash([0; 32]),
     });
-    Ok(envelope(alloc, from, pledges))
+    SharedEnvelope::new(alloc, envelope(alloc, from, pledges))
 }
 
 /// The kind of an emitted statement, its ballot's counter, and its other numbers.
 fn numbers(given: &Balloted) -> (u8, u32, u32, u32, u32) {
     match &given.statement {
-        Some(envelope) => match &envelope.statement.pledges {
+        Some(envelope) => match &envelope.get().statement.pledges {
             Pledges::Prepare(p) => (0, p.ballot.counter, 0, p.n_commit, p.n_high),
             Pledges::Confirm(c) => (1, c.ballot.counter, c.n_prepared, c.n_commit, c.n_high),
             Pledges::Externalize(e) => (2, e.commit.counter, 0, 0, e.n_high),

@@ -4,7 +4,7 @@ ghost use Rattle.scp_slot.specs.Takes.{IsOfSlot};
 use crate::messages::value_of;
 use crate::quorum::{node, set_of};
 use scp_driver::{Driver, KvDriver};
-use scp_envelope::Envelope;
+use scp_envelope::SharedEnvelope;
 use scp_quorum::SaneSet;
 use scp_slot::{Emitted, SlotInput, SlotMachine, SlotOutput};
 use scp_types::{Fault, Slot, Value};
@@ -30,7 +30,7 @@ fn is_of_slot(slot: Slot, input: &SlotInput) -> bool
     ensures { IsTrue result ↔ IsOfSlot slot.0 input.now }
 {
     match input {
-        SlotInput::Envelope(envelope, _) => envelope.statement.slot == slot,
+        SlotInput::Envelope(envelope, _) => envelope.get().statement.slot == slot,
         _ => true,
     }
 }
@@ -79,7 +79,7 @@ impl<D: Driver + Drop> Member<D> {
 #[derive(Drop)]
 struct Said {
     from: usize,
-    envelope: Envelope,
+    envelope: SharedEnvelope,
 }
 
 /// Nodes that share a quorum set, what they said of a slot and isn't heard yet, and how many of them decided.
@@ -116,7 +116,7 @@ impl Meeting {
     }
 
     /// Keeps what a node says.
-    fn say(&mut self, from: usize, envelope: Option<Envelope>) -> Result<(), Fault> {
+    fn say(&mut self, from: usize, envelope: Option<SharedEnvelope>) -> Result<(), Fault> {
         if let Some(envelope) = envelope {
             self.said.push_back(Said { from, envelope })?;
         }
@@ -150,7 +150,7 @@ impl Meeting {
     /// The envelope as an input.
     fn heard(&self, said: &Said) -> Result<SlotInput, Fault> {
         let set = self.set.clone()?;
-        let envelope = said.envelope.copy()?;
+        let envelope = said.envelope.share()?;
         Ok(SlotInput::Envelope(envelope, set))
     }
 

@@ -1,5 +1,5 @@
 use crate::quorum::{node, set_of, two_thirds};
-use scp_envelope::{Envelope, Pledges, Prepare, Signature, Statement};
+use scp_envelope::{Envelope, Pledges, Prepare, SharedEnvelope, Signature, Statement};
 use scp_quorum::SaneSet;
 use scp_types::{Ballot, Fault, Slot, Value};
 use scp_vote::{Board, Claim};
@@ -72,7 +72,8 @@ fn board_of(alloc: Global, sharing: Sharing, nodes: u32) -> Result<Board, Fault>
     let mut board = Board::new(alloc, node(0), set_at(alloc, sharing, nodes, 0)?);
     for number in 0..nodes {
         let set = set_at(alloc, sharing, nodes, number)?;
-        board.put(envelope(alloc, number, &set)?, set)?;
+        let envelope = SharedEnvelope::new(alloc, envelope(alloc, number, &set)?)?;
+        board.put(envelope, set)?;
     }
     Ok(board)
 }

@@ -121,12 +121,12 @@ impl Decider {
     }
 
     /// The slot stage takes a ready thing, and what goes out to peers is put into the outboxes.
-    pub fn take(&mut self, alloc: Global, ready: Ready, outboxes: &mut Outboxes) -> Reply
+    pub fn take(&mut self, ready: Ready, outboxes: &mut Outboxes) -> Reply
         requires runs { self.old.failed ≡ false }
         requires empty { self.old.hand ≡ None }
         ensures { Decides self.old outboxes.old ready result self.new outboxes.new }
     {
-        match self.stage.take(alloc, ready, outboxes) {
+        match self.stage.take(ready, outboxes) {
             Ok(onward) => {
                 self.hand = onward;
                 Reply::Moved

@@ -4,7 +4,7 @@ ghost use Rattle.scp_core.specs.Node.{Hands, HandsOne, HandsEach, IsToAll};
 ghost use Rattle.scp_core.specs.inside.Draining.{Draws, IsSpelt, empty_reply};
 
 use crate::event::Reply;
-use scp_envelope::Envelope;
+use scp_envelope::SharedEnvelope;
 use scp_ledger::{Outgoing, OutgoingList};
 use scp_outbox::FittingMessage;
 use scp_sent::Outboxes;
@@ -33,23 +33,15 @@ fn hand(outboxes: &mut Outboxes, link: u8, message: Message)
 
 /// Puts all that goes out into the outboxes, in order. Where a copy of what goes to all peers is refused, some outboxes have it
 /// and others haven't.
-pub fn hand_out_all(
-    alloc: Global,
-    outboxes: &mut Outboxes,
-    outgoing: OutgoingList,
-) -> Result<(), Fault>
+pub fn hand_out_all(outboxes: &mut Outboxes, outgoing: OutgoingList) -> Result<(), Fault>
     ensures hands { OnOk result (HandsEach outboxes.old outgoing outboxes.new) }
     ensures to_all { OnErr result (Any IsToAll outgoing) }
 {
-    hand_out_rest(alloc, outboxes, outgoing.into_vec())
+    hand_out_rest(outboxes, outgoing.into_vec())
 }
 
 /// The same of a list, the last of which comes at last.
-fn hand_out_rest(
-    alloc: Global,
-    outboxes: &mut Outboxes,
-    outgoing: Vec<Outgoing>,
-) -> Result<(), Fault>
+fn hand_out_rest(outboxes: &mut Outboxes, outgoing: Vec<Outgoing>) -> Result<(), Fault>
     ensures hands { OnOk result (HandsEach outboxes.old outgoing.items outboxes.new) }
     ensures to_all { OnErr result (Any IsToAll outgoing.items) }
 {
@@ -57,18 +49,18 @@ fn hand_out_rest(
     let Some(last) = rest.pop() else {
         return Ok(());
     };
-    match hand_out_rest(alloc, outboxes, rest) {
-        Ok(()) => hand_out_one(alloc, outboxes, last),
+    match hand_out_rest(outboxes, rest) {
+        Ok(()) => hand_out_one(outboxes, last),
         Err(fault) => Err(fault),
     }
 }
 
-fn hand_out_one(alloc: Global, outboxes: &mut Outboxes, outgoing: Outgoing) -> Result<(), Fault>
+fn hand_out_one(outboxes: &mut Outboxes, outgoing: Outgoing) -> Result<(), Fault>
     ensures hands { OnOk result (HandsOne outboxes.old outgoing outboxes.new) }
     ensures to_all { OnErr result (IsToAll outgoing) }
 {
     match outgoing {
-        Outgoing::ToAll(envelope) => hand_to_all(alloc, outboxes, envelope),
+        Outgoing::ToAll(envelope) => hand_to_all(outboxes, envelope),
         Outgoing::To(link, message) => {
             hand(outboxes, link, message);
             Ok(())
@@ -76,10 +68,10 @@ fn hand_out_one(alloc: Global, outboxes: &mut Outboxes, outgoing: Outgoing) -> R
     }
 }
 
-fn hand_to_all(alloc: Global, outboxes: &mut Outboxes, envelope: Envelope) -> Result<(), Fault>
+fn hand_to_all(outboxes: &mut Outboxes, envelope: SharedEnvelope) -> Result<(), Fault>
     ensures hands { OnOk result (HandsOne outboxes.old (Outgoing.ToAll envelope) outboxes.new) }
 {
-    let boxed = BoxedEnvelope::new(alloc, envelope)?;
+    let boxed = BoxedEnvelope::from_shared(envelope);
     match FittingMessage::new(Message::Envelope(boxed)) {
         Ok(fitting) => outboxes.put_all(&fitting),
         Err(_) => Ok(()),

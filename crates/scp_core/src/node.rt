@@ -413,7 +413,7 @@ impl Node {
         let Some(ready) = queue::next(&mut self.ready) else {
             return Reply::Idle;
         };
-        self.decider.take(self.alloc, ready, &mut self.outboxes)
+        self.decider.take(ready, &mut self.outboxes)
     }
 
     fn slot_put(&mut self) -> Reply

@@ -80,12 +80,7 @@ impl SlotStage {
     }
 
     /// Takes a ready thing, puts what goes out to peers into the outboxes, and gives what goes on to the applier.
-    pub fn take(
-        &mut self,
-        alloc: Global,
-        ready: Ready,
-        outboxes: &mut Outboxes,
-    ) -> Result<Option<Onward>, Fault>
+    pub fn take(&mut self, ready: Ready, outboxes: &mut Outboxes) -> Result<Option<Onward>, Fault>
         requires runs { self.old.failed ≡ false }
         ensures takes { IfOk result (λ onward. TakesOut self.old outboxes.old ready onward self.new outboxes.new) }
         ensures full { IsErrOf result Fault.JournalFull ↔ ((adds_entry ready ≡ true) × (length self.old.journal ≡ JOURNAL_LIMIT)) }
@@ -97,7 +92,7 @@ impl SlotStage {
             Ok(took) => took,
             Err(fault) => return Err(fault),
         };
-        if hand_out_all(alloc, outboxes, took.outgoing).is_err() {
+        if hand_out_all(outboxes, took.outgoing).is_err() {
             self.cut = Some(Shown { journal, decisions });
             return Err(Fault::NoMemory);
         }

@@ -20,6 +20,7 @@ mod laws;
 mod lists;
 mod order;
 mod sanity;
+mod shared;
 mod signature;
 mod statement;
 
@@ -30,5 +31,6 @@ pub use laws::{
 };
 pub use lists::ValueList;
 pub use order::newer;
+pub use shared::{SharedEnvelope, SharedStatement};
 pub use signature::Signature;
 pub use statement::{Confirm, Envelope, Externalize, Nominate, Pledges, Prepare, Statement};

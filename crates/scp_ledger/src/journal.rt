@@ -1,7 +1,7 @@
 //! The journal's entries, and the decisions that they make.
 
 use crate::quorum::Quorum;
-use scp_envelope::Envelope;
+use scp_envelope::SharedEnvelope;
 use scp_pending::DropCause;
 use scp_quorum::SaneSet;
 use scp_types::{ConnId, Seq, Slot, Value};
@@ -70,7 +70,7 @@ pub enum Origin {
     Machine {
         n: u32,
         quorum: Quorum,
-        own: Envelope,
+        own: SharedEnvelope,
     },
     /// The record of this number on this connection named it.
     Named {

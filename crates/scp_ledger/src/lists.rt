@@ -8,7 +8,7 @@ ghost use Rattle.scp_ledger.specs.Takes.{to_all, to_peers};
 use crate::journal::Fate;
 use crate::shared::SharedDecision;
 use crate::took::{Outgoing, OutgoingList};
-use scp_envelope::Envelope;
+use scp_envelope::SharedEnvelope;
 use scp_slot::Emitted;
 use scp_types::{ConnId, Fault, NodeId};
 use std::alloc::Global;
@@ -81,7 +81,7 @@ pub fn to_all_peers(alloc: Global, emitted: Emitted) -> Result<OutgoingList, Fau
     Ok(OutgoingList::new(all))
 }
 
-fn push_some(all: &mut Vec<Outgoing>, envelope: Option<Envelope>) -> Result<(), Fault>
+fn push_some(all: &mut Vec<Outgoing>, envelope: Option<SharedEnvelope>) -> Result<(), Fault>
     ensures same { OnOk result (all.new.items ≡ all.old.items ++ map to_all (option_to_list envelope)) }
     ensures only_memory { IsOkUnless result Fault.NoMemory }
 {

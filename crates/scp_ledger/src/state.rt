@@ -20,7 +20,6 @@ use crate::shared::SharedDecision;
 use crate::took::{Onward, Outgoing, OutgoingList, Took};
 use crate::window::Window;
 use scp_driver::Driver;
-use scp_envelope::Envelope;
 use scp_pending::{Delivery, Ready};
 use scp_quorum::SaneSet;
 use scp_slot::{Certified, SlotInput, SlotMachine, SlotOutput, Verdict as Found};
@@ -411,7 +410,7 @@ impl<D: Driver + Drop + Copy> State<D> {
                 },
             );
         }
-        let input = SlotInput::Envelope(copy_of(&envelope)?, Arc::try_clone(&set)?);
+        let input = SlotInput::Envelope(envelope.share()?, Arc::try_clone(&set)?);
         let entering = Entering {
             conn,
             seq,
@@ -633,13 +632,6 @@ fn slot_of(envelope: &BoxedEnvelope) -> Slot
     ensures { result ≡ envelope.now.value.statement.slot }
 {
     envelope.get().statement.slot
-}
-
-fn copy_of(envelope: &BoxedEnvelope) -> Result<Envelope, Fault>
-    ensures same { IfOk result (λ copied. copied ≡ envelope.now.value) }
-    ensures only_memory { IsOkUnless result Fault.NoMemory }
-{
-    envelope.get().copy()
 }
 
 fn is_fresh(verdict: Verdict) -> bool

@@ -2,7 +2,7 @@
 
 use crate::journal::Verdict;
 use crate::shared::SharedDecision;
-use scp_envelope::Envelope;
+use scp_envelope::SharedEnvelope;
 use scp_types::Slot;
 use scp_wire::Message;
 use std::marker::Model;
@@ -20,7 +20,7 @@ pub enum Onward {
 #[derive(Debug, Drop)]
 pub enum Outgoing {
     /// An own statement, for each of them.
-    ToAll(Envelope),
+    ToAll(SharedEnvelope),
     /// A message for the link of this number.
     To(u8, Message),
 }

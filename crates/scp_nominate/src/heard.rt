@@ -5,7 +5,7 @@ ghost use Rattle.scp_vote.specs.Board.{kind_of_pledges, PutsCounted, IsNewBoard}
 ghost use Rattle.scp_vote.specs.declared.claim.StatementKind.TheVariants.{Nomination};
 ghost use Rattle.scp_nominate.specs.Heard.{heard};
 
-use scp_envelope::Envelope;
+use scp_envelope::SharedEnvelope;
 use scp_quorum::SaneSet;
 use scp_types::{Fault, NodeId};
 use scp_vote::{Board, StatementKind};
@@ -34,7 +34,7 @@ pub(crate) fn local_of(board: &Board) -> &Arc<SaneSet>
 }
 
 /// The node's newest NOMINATE.
-pub(crate) fn statement_of<'a>(board: &'a Board, node: &NodeId) -> Option<&'a Envelope>
+pub(crate) fn statement_of<'a>(board: &'a Board, node: &NodeId) -> Option<&'a SharedEnvelope>
     ensures { option_map (λ e. e.now.statement.pledges) result ≡ (heard board.now).statement node.now }
 {
     board.statement(StatementKind::Nomination, node)
@@ -43,7 +43,7 @@ pub(crate) fn statement_of<'a>(board: &'a Board, node: &NodeId) -> Option<&'a En
 /// Puts a NOMINATE on the board.
 pub(crate) fn put_nominate(
     board: &mut Board,
-    envelope: Envelope,
+    envelope: SharedEnvelope,
     delivered: Arc<SaneSet>,
 ) -> Result<(), Fault>
     requires nominate { kind_of_pledges envelope.statement.pledges ≡ Nomination }

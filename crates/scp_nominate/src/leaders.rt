@@ -126,7 +126,7 @@ pub(crate) fn vote_leader<D: Driver>(
 {
     match statement_of(board, leader) {
         Some(envelope) => {
-            let values = named(alloc, &envelope.statement.pledges)?;
+            let values = named(alloc, &envelope.get().statement.pledges)?;
             vote_all(driver, alloc, slot, values.as_slice(), votes)
         }
         None => Ok(()),

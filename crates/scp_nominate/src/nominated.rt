@@ -1,10 +1,10 @@
 //! What an input gives.
-use scp_envelope::Envelope;
+use scp_envelope::SharedEnvelope;
 use scp_types::Value;
 
 /// What an input gives: the own statement where it is to be emitted, and the composite where the candidates grew.
 #[derive(Debug, Drop)]
 pub struct Nominated {
-    pub statement: Option<Envelope>,
+    pub statement: Option<SharedEnvelope>,
     pub composite: Option<Value>,
 }

@@ -13,7 +13,7 @@ use crate::nodes::{add_leader, nodes_with};
 use crate::nominated::Nominated;
 use crate::state::State;
 use scp_driver::Driver;
-use scp_envelope::Envelope;
+use scp_envelope::SharedEnvelope;
 use scp_quorum::SaneSet;
 use scp_types::{Fault, NodeId, Slot, Value};
 use std::alloc::Global;
@@ -123,7 +123,11 @@ impl<D: Driver + Drop> Nominator<D> {
 
     /// Another node's fresh NOMINATE, with the quorum set that was delivered with it. Refused by `Failed` once a call was
     /// refused, else by `NoMemory`.
-    pub fn take(&mut self, envelope: Envelope, delivered: Arc<SaneSet>) -> Result<Nominated, Fault>
+    pub fn take(
+        &mut self,
+        envelope: SharedEnvelope,
+        delivered: Arc<SaneSet>,
+    ) -> Result<Nominated, Fault>
         requires sound { IsSound D.level D.place self.old }
         requires nominate { kind_of_pledges envelope.statement.pledges ≡ Nomination }
         requires other { envelope.statement.node ≢ (nomination self.old).board.me }

@@ -17,7 +17,7 @@ use crate::lists::Lists;
 use crate::nominated::Nominated;
 use crate::values::ValueSet;
 use scp_driver::Driver;
-use scp_envelope::{Envelope, Nominate, Pledges, Signature, Statement};
+use scp_envelope::{Envelope, Nominate, Pledges, SharedEnvelope, Signature, Statement};
 use scp_quorum::SaneSet;
 use scp_types::{Fault, Hash, NodeId, Slot, Value};
 use scp_vote::Board;
@@ -91,7 +91,7 @@ impl State {
         ensures renews { OnOk result (Renews (IsFull (D.level guide.now.driver) guide.now.slot.0) self.old self.new) }
         ensures only_memory { IsOkUnless result Fault.NoMemory }
     {
-        let envelope = self.own(guide.slot)?;
+        let envelope = SharedEnvelope::new(self.alloc, self.own(guide.slot)?)?;
         let votes = self.lists.votes.as_slice();
         know(&guide.driver, guide.slot, votes, &mut self.known)?;
         let local = local_of(&self.board).clone()?;
@@ -120,13 +120,14 @@ impl State {
     }
 
     /// The own statement, if it is to be emitted.
-    fn emitted(&self, slot: Slot, renewed: bool) -> Result<Option<Envelope>, Fault>
+    fn emitted(&self, slot: Slot, renewed: bool) -> Result<Option<SharedEnvelope>, Fault>
         ensures exactly { IfOk result (λ found. is_some found ≡ renewed) }
         ensures own { IfOk result (λ found. ForSome found (λ e. IsOwnOf self.now slot.0 e)) }
         ensures only_memory { IsOkUnless result Fault.NoMemory }
     {
         if renewed {
-            Ok(Some(self.own(slot)?))
+            let own = self.own(slot)?;
+            Ok(Some(SharedEnvelope::new(self.alloc, own)?))
         } else {
             Ok(None)
         }
@@ -171,14 +172,14 @@ impl State {
     pub(crate) fn hear<D: Driver>(
         &mut self,
         guide: &Guide<D>,
-        envelope: Envelope,
+        envelope: SharedEnvelope,
         delivered: Arc<SaneSet>,
     ) -> Result<(), Fault>
         requires nominate { kind_of_pledges envelope.statement.pledges ≡ Nomination }
         ensures heard { OnOk result (HearsOne (IsFull (D.level guide.now.driver) guide.now.slot.0) self.old self.new envelope.statement.node envelope.statement.pledges delivered.value) }
         ensures only_memory { IsOkUnless result Fault.NoMemory }
     {
-        let values = named(self.alloc, &envelope.statement.pledges)?;
+        let values = named(self.alloc, &envelope.get().statement.pledges)?;
         know(
             &guide.driver,
             guide.slot,

@@ -5,7 +5,7 @@ ghost use Rattle.scp_vote.specs.declared.claim.StatementKind.TheVariants.{Nomina
 ghost use Rattle.scp_nominate.specs.Nomination.{nomination, IsSound};
 
 use scp_driver::Driver;
-use scp_envelope::{Envelope, Nominate, Pledges, Signature, Statement, ValueList};
+use scp_envelope::{Envelope, Nominate, Pledges, SharedEnvelope, Signature, Statement, ValueList};
 use scp_nominate::{Nominated, Nominator};
 use scp_quorum::{QuorumSet, SaneSet};
 use scp_types::{Fault, Hash, NodeId, Slot, Value};
@@ -117,7 +117,7 @@ fn says(envelope: &Envelope, me: NodeId, set_hash: Hash, want: (Values, Values))
 /// Whether it was given what the row wants.
 fn is_wanted(given: &Nominated, me: NodeId, set_hash: Hash, row: &Row) -> bool {
     let said = match (&given.statement, row.said) {
-        (Some(envelope), Some(want)) => says(envelope, me, set_hash, want),
+        (Some(envelope), Some(want)) => says(envelope.get(), me, set_hash, want),
         (None, None) => true,
         _ => false,
     };
@@ -145,7 +145,7 @@ fn put<D: Driver + Drop>(
     match input {
         Input::Hear(votes, accepted) => {
             let envelope = nominate(alloc, other, set.hash(), votes, accepted)?;
-            nominator.take(envelope, set.clone()?)
+            nominator.take(SharedEnvelope::new(alloc, envelope)?, set.clone()?)
         }
         Input::Propose(bytes) => nominator.propose(value(alloc, bytes)?),
         Input::Round => nominator.round(),

@@ -35,10 +35,10 @@ view_of s failed =
     record { me = s.me; slot = s.slot.0; nomination = nomination s.nominator; ballots = ballots s.balloter; newest = newest_of s.newest; decided = s.decided; more = s.more; failed = failed }
 
 abbrev pub slot_view : {D : Type 0} → SlotMachine D → SlotView
-slot_view m = view_of m.state m.failed
+slot_view m = view_of m.state.value m.failed
 
 abbrev pub driver_of : {D : Type 0} → SlotMachine D → D
-driver_of m = nominate.driver_of m.state.nominator
+driver_of m = nominate.driver_of m.state.value.nominator
 
 -- the board has the newest fresh statement of each other node, and counts the set that came with it; of an EXTERNALIZE that node
 -- alone is counted
@@ -66,12 +66,12 @@ pub record IsRunning (v : SlotView) : Type 0 where
 
 -- by its driver's levels and places, nomination owes nothing
 abbrev pub OwesNoVote : {D : Type 0} → (D → ℕ → List ℕ → Level) → (D → ℕ → ℕ → ℕ → ℕ) → SlotMachine D → Type 0
-OwesNoVote level place m = nominate.IsPaid level place m.state.nominator
+OwesNoVote level place m = nominate.IsPaid level place m.state.value.nominator
 
 -- By its driver's levels, what that extracts, and its places, each vote that is new since the old view has its reason: it is
 -- accepted too, or there was no candidate and it is the proposal of this node, where it leads, or named by another leader.
 abbrev pub VotesWell : {D : Type 0} → (D → ℕ → List ℕ → Level) → (D → ℕ → List ℕ → Option (List ℕ)) → (D → ℕ → ℕ → ℕ → ℕ) → SlotView → SlotMachine D → Type 0
-VotesWell level extracted place old m = nominate.VotesWell level extracted place old.nomination.lists m.state.nominator
+VotesWell level extracted place old m = nominate.VotesWell level extracted place old.nomination.lists m.state.value.nominator
 
 -- Between inputs, while it hasn't failed.
 pub record IsWorking {D : Type 0} (level : D → ℕ → List ℕ → Level) (place : D → ℕ → ℕ → ℕ → ℕ) (s : State D) : Type 0 where
@@ -79,7 +79,7 @@ pub record IsWorking {D : Type 0} (level : D → ℕ → List ℕ → Level) (pl
   pub nominator : nominate.IsSound level place s.nominator
 
 abbrev pub IsSound : {D : Type 0} → (D → ℕ → List ℕ → Level) → (D → ℕ → ℕ → ℕ → ℕ) → SlotMachine D → Type 0
-IsSound level place m = m.failed ≡ false → IsWorking level place m.state
+IsSound level place m = m.failed ≡ false → IsWorking level place m.state.value
 
 -- A machine that has heard and said nothing.
 pub record Begins (node : NodeId) (number : ℕ) (set : QuorumTree) (v : SlotView) : Type 0 where

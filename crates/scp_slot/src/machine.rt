@@ -12,7 +12,7 @@ use std::sync::Arc;
 /// What a node knows and says of one slot, by its driver. After a refusal it is failed, and answers `Fault::Failed` from then on.
 #[derive(Drop)]
 pub struct SlotMachine<D: Driver + Drop> {
-    state: State<D>,
+    state: Box<State<D>>,
     failed: bool,
 }
 
@@ -35,8 +35,9 @@ impl<D: Driver + Drop> SlotMachine<D> {
         ensures only_memory { IsOkUnless result Fault.NoMemory }
     {
         let state = State::new(alloc, me, slot, set, driver)?;
+        let boxed = Box::new(alloc, state)?;
         Ok(SlotMachine {
-            state,
+            state: boxed,
             failed: false,
         })
     }

@@ -6,7 +6,7 @@ ghost use Rattle.scp_types.specs.declared.names.NodeId.{NodeId};
 ghost use Rattle.scp_vote.specs.Board.{kind_of_pledges};
 ghost use Rattle.scp_vote.specs.declared.claim.StatementKind.{StatementKind};
 
-use scp_envelope::Statement;
+use scp_envelope::{SharedStatement, Statement};
 use scp_quorum::SaneSet;
 use scp_types::{Fault, NodeId};
 use scp_vote::{StatementKind, kind_of_pledges};
@@ -17,7 +17,7 @@ use std::sync::Arc;
 /// A statement of another node, with the quorum set that came with it.
 #[derive(Drop)]
 pub struct Heard {
-    pub statement: Statement,
+    pub statement: SharedStatement,
     pub set: Arc<SaneSet>,
 }
 
@@ -56,8 +56,8 @@ impl Newest {
         ensures put { OnOk result (Enters self.old self.new heard) }
         ensures only_memory { IsOkUnless result Fault.NoMemory }
     {
-        let node = heard.statement.node;
-        match kind_of_pledges(&heard.statement.pledges) {
+        let node = heard.statement.get().node;
+        match kind_of_pledges(&heard.statement.get().pledges) {
             StatementKind::Nomination => put_at(&mut self.nominations, node, heard),
             StatementKind::Balloting => put_at(&mut self.ballots, node, heard),
         }

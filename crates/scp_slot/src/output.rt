@@ -3,7 +3,7 @@ ghost use Rattle.std.specs.Prelude.{◌≡◌};
 ghost use Rattle.scp_slot.specs.Takes.{quiet};
 
 use scp_ballot::Certified;
-use scp_envelope::Envelope;
+use scp_envelope::SharedEnvelope;
 use scp_quorum::SaneSet;
 use scp_types::Value;
 use std::sync::Arc;
@@ -18,7 +18,7 @@ pub enum SlotInput {
     /// The ballot timer ran out.
     Timer,
     /// An envelope of the slot, with the quorum set that it names.
-    Envelope(Envelope, Arc<SaneSet>),
+    Envelope(SharedEnvelope, Arc<SaneSet>),
 }
 
 /// What was found of an input.
@@ -41,8 +41,8 @@ pub enum Verdict {
 /// The own statements that changed, without signatures: the newest nomination statement comes first.
 #[derive(Drop)]
 pub struct Emitted {
-    pub nomination: Option<Envelope>,
-    pub ballot: Option<Envelope>,
+    pub nomination: Option<SharedEnvelope>,
+    pub ballot: Option<SharedEnvelope>,
 }
 
 /// What comes of an input.

@@ -18,7 +18,7 @@ use crate::newest::{Heard, Newest};
 use crate::output::{Emitted, SlotInput, SlotOutput, Verdict};
 use scp_ballot::{Balloted, Balloter};
 use scp_driver::{Driver, Level};
-use scp_envelope::{Envelope, Pledges, Statement, newer};
+use scp_envelope::{Pledges, SharedEnvelope, Statement, newer};
 use scp_nominate::{Nominated, Nominator};
 use scp_quorum::SaneSet;
 use scp_types::{Fault, NodeId, Slot, Value};
@@ -104,7 +104,7 @@ impl<D: Driver + Drop> State<D> {
         ensures { IsTrue result ↔ IsBehind (newest_of self.now.newest (kind_of_pledges statement.now.pledges) statement.now.node) statement.now }
     {
         match self.newest.last(statement) {
-            Some(heard) => !newer(&heard.statement, statement),
+            Some(heard) => !newer(heard.statement.get(), statement),
             None => false,
         }
     }
@@ -130,7 +130,7 @@ impl<D: Driver + Drop> State<D> {
     fn balloted(
         &mut self,
         verdict: Verdict,
-        nomination: Option<Envelope>,
+        nomination: Option<SharedEnvelope>,
         given: Balloted,
     ) -> SlotOutput
         ensures out { result ≡ record { verdict = verdict; emitted = record { nomination = nomination; ballot = given.statement }; decided = given.decided; more = given.more } }
@@ -150,7 +150,11 @@ impl<D: Driver + Drop> State<D> {
     }
 
     /// Gives a composite to the ballots.
-    fn offer(&mut self, nomination: Option<Envelope>, value: Value) -> Result<SlotOutput, Fault>
+    fn offer(
+        &mut self,
+        nomination: Option<SharedEnvelope>,
+        value: Value,
+    ) -> Result<SlotOutput, Fault>
         requires working { (ballot.ballots self.old.balloter).failed ≡ false }
         ensures passes { IfOk result (λ out. Candidate value (view_of self.old false) out (view_of self.new false)) }
         ensures emitted { IfOk result (λ out. out.emitted.nomination ≡ nomination) }
@@ -244,12 +248,12 @@ impl<D: Driver + Drop> State<D> {
     }
 
     /// Puts the statement with its set in the place of the newest of its node and kind.
-    fn note(&mut self, envelope: &Envelope, set: &Arc<SaneSet>) -> Result<(), Fault>
+    fn note(&mut self, envelope: &SharedEnvelope, set: &Arc<SaneSet>) -> Result<(), Fault>
         ensures enters { OnOk result (Enters envelope.now set.now (view_of self.old false) (view_of self.new false)) }
         ensures rest { OnOk result (self.new ≡ record self.old { newest = self.new.newest }) }
         ensures only_memory { IsOkUnless result Fault.NoMemory }
     {
-        let statement = envelope.statement.copy()?;
+        let statement = envelope.share_statement()?;
         let shared = set.clone()?;
         self.newest.put(Heard {
             statement,
@@ -261,7 +265,7 @@ impl<D: Driver + Drop> State<D> {
     /// A fresh NOMINATE.
     fn take_nomination(
         &mut self,
-        envelope: Envelope,
+        envelope: SharedEnvelope,
         set: Arc<SaneSet>,
     ) -> Result<SlotOutput, Fault>
         requires kind { kind_of_pledges envelope.statement.pledges ≡ Nomination }
@@ -280,7 +284,11 @@ impl<D: Driver + Drop> State<D> {
     }
 
     /// A fresh ballot statement.
-    fn take_ballot(&mut self, envelope: Envelope, set: Arc<SaneSet>) -> Result<SlotOutput, Fault>
+    fn take_ballot(
+        &mut self,
+        envelope: SharedEnvelope,
+        set: Arc<SaneSet>,
+    ) -> Result<SlotOutput, Fault>
         requires kind { kind_of_pledges envelope.statement.pledges ≡ Balloting }
         requires other { envelope.statement.node ≢ self.old.me }
         requires of_slot { envelope.statement.slot.0 ≡ self.old.slot.0 }
@@ -298,7 +306,7 @@ impl<D: Driver + Drop> State<D> {
     }
 
     /// A fresh envelope.
-    fn take(&mut self, envelope: Envelope, set: Arc<SaneSet>) -> Result<SlotOutput, Fault>
+    fn take(&mut self, envelope: SharedEnvelope, set: Arc<SaneSet>) -> Result<SlotOutput, Fault>
         requires other { envelope.statement.node ≢ self.old.me }
         requires of_slot { envelope.statement.slot.0 ≡ self.old.slot.0 }
         requires undecided { self.old.decided ≡ false }
@@ -309,7 +317,7 @@ impl<D: Driver + Drop> State<D> {
         ensures votes { OnOk result (nominate.VotesWell D.level D.extracted D.place (nominate.nomination self.old.nominator).lists self.new.nominator) }
         ensures only_memory { IsOkUnless result Fault.NoMemory }
     {
-        match kind_of_pledges(&envelope.statement.pledges) {
+        match kind_of_pledges(&envelope.get().statement.pledges) {
             StatementKind::Nomination => {
                 let out = self.take_nomination(envelope, set)?;
                 Ok(out)
@@ -322,7 +330,7 @@ impl<D: Driver + Drop> State<D> {
     }
 
     /// An envelope of the slot.
-    fn hear(&mut self, envelope: Envelope, set: Arc<SaneSet>) -> Result<SlotOutput, Fault>
+    fn hear(&mut self, envelope: SharedEnvelope, set: Arc<SaneSet>) -> Result<SlotOutput, Fault>
         requires of_slot { envelope.statement.slot.0 ≡ self.old.slot.0 }
         requires undecided { self.old.decided ≡ false }
         requires working { IsWorking D.level D.place self.old }
@@ -332,7 +340,7 @@ impl<D: Driver + Drop> State<D> {
         ensures votes { OnOk result (nominate.VotesWell D.level D.extracted D.place (nominate.nomination self.old.nominator).lists self.new.nominator) }
         ensures only_memory { IsOkUnless result Fault.NoMemory }
     {
-        let verdict = self.judge(&envelope.statement);
+        let verdict = self.judge(&envelope.get().statement);
         if !is_fresh(verdict) {
             return Ok(self.quiet(verdict));
         }
@@ -385,7 +393,7 @@ fn is_fresh(verdict: Verdict) -> bool
 }
 
 /// Fresh where there is a statement, else idle.
-fn changed(statement: &Option<Envelope>) -> Verdict
+fn changed(statement: &Option<SharedEnvelope>) -> Verdict
     ensures { Cases (IsSome statement.now) (result ≡ Verdict.Fresh) (result ≡ Verdict.Idle) }
 {
     match statement {

@@ -7,7 +7,7 @@ ghost use Rattle.scp_slot_serve.specs.Answers.{verdict_word, hex_word, node_word
 use crate::script::{Script, Setup};
 use scp_ballot::Certified;
 use scp_driver::{Driver, KvDriver};
-use scp_envelope::{Envelope, encode};
+use scp_envelope::{Envelope, SharedEnvelope, encode};
 use scp_slot::{SlotInput, SlotMachine, SlotOutput, Verdict};
 use scp_types::{Fault, NodeId, Slot};
 use std::alloc::Global;
@@ -61,12 +61,12 @@ fn write_envelope(out: &mut String, envelope: &Envelope) -> Result<(), Fault>
 }
 
 /// Writes the line of an emitted envelope, if there is one.
-fn write_emitted(out: &mut String, envelope: &Option<Envelope>) -> Result<(), Fault>
+fn write_emitted(out: &mut String, envelope: &Option<SharedEnvelope>) -> Result<(), Fault>
     ensures { OnOk result (Appends (IsEmitted envelope.now) (string_bytes out.old) (string_bytes out.new)) }
 {
     match envelope {
         Some(envelope) => {
-            write_envelope(out, envelope)?;
+            write_envelope(out, envelope.get())?;
             Ok(())
         }
         None => Ok(()),
@@ -146,7 +146,7 @@ fn fits(slot: Slot, input: &SlotInput) -> bool
     ensures { IsTrue result ↔ IsOfSlot slot.0 input.now }
 {
     match input {
-        SlotInput::Envelope(envelope, _) => envelope.statement.slot == slot,
+        SlotInput::Envelope(envelope, _) => envelope.get().statement.slot == slot,
         _ => true,
     }
 }

@@ -3,6 +3,7 @@ ghost use Rattle.std.specs.Prelude.{IsOkUnless, IfErr};
 ghost use Rattle.scp_slot_serve.specs.Serving.{IsScriptFault};
 
 use crate::words::{ascii, envelope, is_skipped, lines, node, number, sane_set, value, words};
+use scp_envelope::SharedEnvelope;
 use scp_quorum::SaneSet;
 use scp_slot::SlotInput;
 use scp_types::{Fault, NodeId, Slot};
@@ -57,7 +58,8 @@ fn enveloped(alloc: Global, slot: Slot, word: &str, set: &str) -> Result<Option<
     if envelope.statement.slot != slot || envelope.set_hash() != set.hash() {
         return Ok(None);
     }
-    Ok(Some(SlotInput::Envelope(envelope, set)))
+    let shared = SharedEnvelope::new(alloc, envelope)?;
+    Ok(Some(SlotInput::Envelope(shared, set)))
 }
 
 /// The input of a `propose` line.

@@ -11,7 +11,7 @@ ghost use Rattle.scp_vote.specs.declared.claim.StatementKind.{StatementKind};
 use crate::claim::{Claim, StatementKind, kind_of_pledges};
 use crate::statements::{Entry, Side};
 use crate::table::Table;
-use scp_envelope::Envelope;
+use scp_envelope::SharedEnvelope;
 use scp_quorum::SaneSet;
 use scp_types::{Fault, NodeId};
 use std::alloc::Global;
@@ -53,7 +53,7 @@ impl Board {
     /// Puts the envelope in the place of its node's last of that kind; all other statements stay. For this node the local
     /// set is counted, for another node's EXTERNALIZE that node alone, else the delivered set (the SCP draft, in this
     /// project's profile). A refusal, `Fault::NoMemory`, leaves the board as it was.
-    pub fn put(&mut self, envelope: Envelope, delivered: Arc<SaneSet>) -> Result<(), Fault>
+    pub fn put(&mut self, envelope: SharedEnvelope, delivered: Arc<SaneSet>) -> Result<(), Fault>
         ensures put { OnOk result (PutsCounted (seen (kind_of_pledges envelope.statement.pledges) self.old) (seen (kind_of_pledges envelope.statement.pledges) self.new) envelope.statement.node envelope.statement.pledges delivered.value) }
         ensures other_kind { (kind : StatementKind) → kind ≢ kind_of_pledges envelope.statement.pledges → seen kind self.new ≡ seen kind self.old }
         ensures refused { OnErr result ((kind : StatementKind) → seen kind self.new ≡ seen kind self.old) }
@@ -62,8 +62,8 @@ impl Board {
         ensures envelopes_stay { OnErr result ((kind : StatementKind) (v : NodeId) → envelope_at kind self.new v ≡ envelope_at kind self.old v) }
         ensures only_memory { IsOkUnless result Fault.NoMemory }
     {
-        let kind = kind_of_pledges(&envelope.statement.pledges);
-        let counted = self.of(kind).counted(&envelope, delivered)?;
+        let kind = kind_of_pledges(&envelope.get().statement.pledges);
+        let counted = self.of(kind).counted(envelope.get(), delivered)?;
         let alloc = self.alloc;
         match kind {
             StatementKind::Nomination => self.nominations.put(alloc, envelope, counted)?,
@@ -101,7 +101,7 @@ impl Board {
     }
 
     /// The node's newest statement of this kind.
-    pub fn statement(&self, kind: StatementKind, node: &NodeId) -> Option<&Envelope>
+    pub fn statement(&self, kind: StatementKind, node: &NodeId) -> Option<&SharedEnvelope>
         ensures pledges { option_map (λ e. e.now.statement.pledges) result ≡ (seen kind self.now).statement node.now }
         ensures envelope { option_map (λ e. e.now) result ≡ envelope_at kind self.now node.now }
     {
@@ -109,7 +109,7 @@ impl Board {
     }
 
     /// This node's own newest statement of this kind.
-    pub fn own(&self, kind: StatementKind) -> Option<&Envelope>
+    pub fn own(&self, kind: StatementKind) -> Option<&SharedEnvelope>
         ensures pledges { option_map (λ e. e.now.statement.pledges) result ≡ (seen kind self.now).statement (seen kind self.now).me }
         ensures envelope { option_map (λ e. e.now) result ≡ envelope_at kind self.now (seen kind self.now).me }
     {

@@ -3,7 +3,7 @@ ghost use Rattle.std.specs.Prelude.{◌≡◌, get_or, false};
 
 use crate::claim::{Claim, Support, stands, stands_too};
 use crate::table::{Table, mark};
-use scp_envelope::{Envelope, Pledges};
+use scp_envelope::{Envelope, Pledges, SharedEnvelope};
 use scp_quorum::{Marked, Nodes, SaneSet, greatest_quorum_among};
 use scp_types::{Fault, NodeId};
 use std::alloc::{AllocError, Global};
@@ -13,7 +13,7 @@ use std::sync::Arc;
 /// A node's statement with its counted set.
 #[derive(Drop)]
 pub struct Entry {
-    pub envelope: Envelope,
+    pub envelope: SharedEnvelope,
     pub counted: Arc<SaneSet>,
     /// Where the node has its seat.
     pub(crate) place: usize,
@@ -66,7 +66,7 @@ impl Side<'_> {
         let mut supporting = self.no_marks()?;
         let mut accepting = self.no_marks()?;
         for (_, entry) in &self.table.entries {
-            let statement = &entry.envelope.statement;
+            let statement = &entry.envelope.get().statement;
             let accepts = stands(Support::Accepts, claim, statement);
             let supports = stands_too(claim, statement, accepts);
             mark(&mut supporting, entry.place, supports);
@@ -84,7 +84,7 @@ impl Side<'_> {
     {
         let mut accepting = self.no_marks()?;
         for (_, entry) in &self.table.entries {
-            let accepts = stands(Support::Accepts, claim, &entry.envelope.statement);
+            let accepts = stands(Support::Accepts, claim, &entry.envelope.get().statement);
             mark(&mut accepting, entry.place, accepts);
         }
         Ok(accepting)

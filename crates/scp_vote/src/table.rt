@@ -5,7 +5,7 @@ ghost use Rattle.scp_quorum.specs.Places.{set_of_group};
 ghost use Rattle.scp_vote.specs.Seats.{AreSeated, KeepsSets, IsUnused, IsPlaceFor, IsPutAt, place_in};
 
 use crate::statements::Entry;
-use scp_envelope::Envelope;
+use scp_envelope::SharedEnvelope;
 use scp_quorum::{Places, SaneSet, Seat};
 use scp_types::{Hash, NodeId};
 use std::alloc::{AllocError, Global};
@@ -46,13 +46,13 @@ impl Table {
     pub(crate) fn put(
         &mut self,
         alloc: Global,
-        envelope: Envelope,
+        envelope: SharedEnvelope,
         counted: Arc<SaneSet>,
     ) -> Result<(), AllocError>
         ensures entered { OnOk result ((place : ℕ) × Enters self.old.entries self.new.entries (record { envelope = envelope; counted = counted; place = place })) }
         ensures refused { OnErr result (self.new.entries.entries ≡ self.old.entries.entries) }
     {
-        let node = envelope.statement.node;
+        let node = envelope.get().statement.node;
         let place = place_for(&self.entries, &node, self.seats.len());
         let group = group_of(
             alloc,

@@ -145,7 +145,8 @@ fn claim(alloc: Global, claimed: Claimed) -> Result<Claim, Fault> {
 fn put(alloc: Global, board: &mut Board, put: Put) -> Result<(), Fault> {
     let (number, said, set) = put;
     let delivered = set_of(alloc, set)?;
-    board.put(envelope(alloc, number, said)?, delivered)
+    let envelope = SharedEnvelope::new(alloc, envelope(alloc, number, said)?)?;
+    board.put(envelope, delivered)
 }
 
 /// The board of node 1 with this set, after these puts.

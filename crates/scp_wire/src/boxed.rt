@@ -1,23 +1,23 @@
-//! An envelope in a box.
+//! An envelope as a message holds it.
 ghost use Rattle.std.specs.Prelude.{◌≡◌, IfOk, IsOkUnless};
 
-use scp_envelope::Envelope;
+use scp_envelope::{Envelope, SharedEnvelope};
 use scp_types::Fault;
 use std::alloc::Global;
 use std::marker::Model;
 use std::ops::Deref;
 
-/// An envelope in a box, since it is much larger than what the other messages hold. Contracts see the envelope, and not
-/// where it lies, so that two boxes of equal envelopes are equal.
+/// An envelope in a box of its own, since it is much larger than what the other messages hold, and shared by all that hold
+/// it. Contracts see the envelope, and not where it lies, so that two boxes of equal envelopes are equal.
 #[derive(Debug, Drop)]
-pub struct BoxedEnvelope(Box<Envelope>);
+pub struct BoxedEnvelope(SharedEnvelope);
 
 impl Model for BoxedEnvelope {
     ghost use Rattle.scp_wire.specs.Boxed.{Boxed};
 
     ghost Value = { Boxed };
 
-    ghost view = { λ b. record { value = b.0.value } };
+    ghost view = { λ b. record { value = b.0 } };
 }
 
 impl BoxedEnvelope {
@@ -26,31 +26,37 @@ impl BoxedEnvelope {
         ensures same { IfOk result (λ b. b.value ≡ envelope) }
         ensures only_memory { IsOkUnless result Fault.NoMemory }
     {
-        Ok(BoxedEnvelope(Box::new(alloc, envelope)?))
+        Ok(BoxedEnvelope(SharedEnvelope::new(alloc, envelope)?))
     }
 
-    /// Another box, of an equal envelope.
+    /// Another holder of the same envelope; nothing is copied.
     pub fn copy(&self) -> Result<BoxedEnvelope, Fault>
         ensures same { IfOk result (λ b. b ≡ self.now) }
         ensures only_memory { IsOkUnless result Fault.NoMemory }
     {
-        let copied = self.0.copy()?;
-        Ok(BoxedEnvelope(Box::new(*Box::allocator(&self.0), copied)?))
+        Ok(BoxedEnvelope(self.0.share()?))
     }
 
     /// The envelope.
     pub fn get(&self) -> &Envelope
         ensures { result.now ≡ self.now.value }
     {
-        &*self.0
+        self.0.get()
     }
 
-    /// The envelope, out of its box. Takes no memory.
-    pub fn into_inner(self) -> Envelope
-        ensures { result ≡ self.value }
+    /// The box of an envelope that is shared already. Moves it and takes no memory.
+    pub fn from_shared(envelope: SharedEnvelope) -> BoxedEnvelope
+        ensures same { result.value ≡ envelope }
     {
-        let BoxedEnvelope(inside) = self;
-        Box::into_inner(inside)
+        BoxedEnvelope(envelope)
+    }
+
+    /// Another holder of the envelope, outside a message; nothing is copied.
+    pub fn share(&self) -> Result<SharedEnvelope, Fault>
+        ensures same { IfOk result (λ e. e ≡ self.now.value) }
+        ensures only_memory { IsOkUnless result Fault.NoMemory }
+    {
+        self.0.share()
     }
 }
 
@@ -62,6 +68,6 @@ impl Deref for BoxedEnvelope {
     fn deref(&self) -> &Envelope
         ensures { result.now ≡ self.now.value }
     {
-        &*self.0
+        self.0.get()
     }
 }

@@ -24,7 +24,7 @@ loop-node-preserved c =
     let before : Entries → Type 0 = λ rest. IsGathering b Named c.loop-node.list.items rest in
     gathering_more b Named c.loop-node.list.items c.add_named.new.list.items c.in-Some.node.now c.in-Some.entry.now c.in-Some.entry.now.envelope.statement.pledges _
     (sym (c.statements-node-items.ensures.pledges c.in-Some.node.now) ∙ ap (option_map (λ (e : Entry). e.envelope.statement.pledges)) item)
-    c.in_ok-add_named.ensures.added
+    (rw c.get.ensures at c.in_ok-add_named.ensures.added)
     (subst before c.in-Some.ensures.steps c.loop-node.invariant)
 
 pub returns-clause-all : goal.returns-clause-all

@@ -15,7 +15,7 @@ returns-in_ok-values-in-Some-clause-only g c =
       | inr new ↦ inr (
         new.0,
         some_and (Stands VotesOrAccepts (Nominated new.0)) ((heard c.args.board.now).statement c.args.leader.now) c.in-Some.envelope.now.statement.pledges says
-            (c.in_ok-values-in-Some.ensures.only new.0 (subst (λ (vs : List (List ℕ)). Contains vs new.0) c.as_slice.ensures new.1)),
+            (rw c.get.ensures at c.in_ok-values-in-Some.ensures.only new.0 (subst (λ (vs : List (List ℕ)). Contains vs new.0) c.as_slice.ensures new.1)),
         new.2,
       )
     ]) c.vote_all.ensures.only

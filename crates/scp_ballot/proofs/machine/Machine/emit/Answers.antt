@@ -1,4 +1,5 @@
-use Rattle.std.proofs.Common.{refl}
+use Rattle.std.proofs.Common.{refl, ◌∙◌, ap}
+use Rattle.scp_envelope.specs.declared.statement.Envelope.{Envelope}
 use Rattle.scp_ballot.specs.Gives.{IsWorth}
 use Rattle.scp_ballot.proofs.Emitting.{emits_none, emits_some}
 use Rattle.scp_ballot.proofs.Stepping.{refuted}
@@ -10,4 +11,4 @@ returns-then-not-is_worth-clause-emits c =
 
 pub returns-clause-emits : goal.returns-clause-emits
 returns-clause-emits c =
-    emits_some c.args.self.now c.in_ok-own.own c.in_ok-own.ensures.own _ c.in_ok-statement.statement c.unsigned.result refl (c.is_worth.ensures.0 c.if-not-is_worth.false) c.in_ok-statement.ensures.same c.unsigned.ensures.statement c.unsigned.ensures.unsigned
+    emits_some c.args.self.now c.in_ok-own.own c.in_ok-own.ensures.own _ c.in_ok-kept.kept c.in_ok-envelope.envelope refl (c.is_worth.ensures.0 c.if-not-is_worth.false) c.in_ok-kept.ensures.same (ap (λ (e : Envelope). e.statement) c.in_ok-envelope.ensures.same ∙ c.unsigned.ensures.statement) (ap (λ (e : Envelope). e.signature) c.in_ok-envelope.ensures.same ∙ c.unsigned.ensures.unsigned)

@@ -12,11 +12,11 @@ returns-clause-takes g c =
     let t = c.take_input.new.self in
     let e = c.args.envelope in
     let at = c.slot_of-slot.result in
-    let x = c.in_ok-copy_of.field-0 in
+    let x = c.in_ok-share.field-0 in
     let shared = c.in_ok-try_clone.field-0 in
     let entering : Option Entering = Some (record { conn = c.args.conn; seq = c.args.seq; envelope = e; set = c.args.set }) in
     if_ok c.take_input.result
     (λ took. RanAs g.D.Driver.level g.D.Driver.combined g.D.Driver.place s t at (input.Envelope x shared) entering took)
     (λ took. TakesEnvelope g.D.Driver.level g.D.Driver.combined (state_view false s) c.args.conn c.args.seq e (Some c.args.set.value) took (state_view false t))
-    (λ took ran. envelope_took g.D.Driver.level g.D.Driver.combined g.D.Driver.place s t c.args.conn c.args.seq e c.args.set shared took at x c.requires.sound.machines c.slot_of-slot.ensures c.in_ok-copy_of.ensures.same c.in_ok-try_clone.ensures ran)
+    (λ took ran. envelope_took g.D.Driver.level g.D.Driver.combined g.D.Driver.place s t c.args.conn c.args.seq e c.args.set shared took at x c.requires.sound.machines c.slot_of-slot.ensures c.in_ok-share.ensures.same c.in_ok-try_clone.ensures ran)
     c.take_input.ensures.ran

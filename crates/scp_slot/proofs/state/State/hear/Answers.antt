@@ -13,7 +13,7 @@ pub returns-then-not-is_fresh-clause-takes : goal.returns-then-not-is_fresh-clau
 returns-then-not-is_fresh-clause-takes g c =
     let old : SlotView = view_of c.args.self.now false in
     let stale : c.judge-verdict.result ≢ Fresh = λ e. let t = c.is_fresh.ensures.1 e in cc (t, c.if-not-is_fresh.true) in
-    judged_rests _ _ c.args.envelope c.args.set c.judge-verdict.result old c.quiet.result old c.judge-verdict.ensures stale (record { same = refl; quiet = c.quiet.ensures })
+    judged_rests _ _ c.args.envelope c.args.set c.judge-verdict.result old c.quiet.result old (rw c.get.ensures at c.judge-verdict.ensures) stale (record { same = refl; quiet = c.quiet.ensures })
 
 pub returns-clause-takes : goal.returns-clause-takes
-returns-clause-takes g c = judged_fresh _ _ c.args.envelope c.args.set c.judge-verdict.result (view_of c.args.self.now false) c.in_ok-out.out (view_of c.take.new.self false) c.judge-verdict.ensures (c.is_fresh.ensures.0 c.if-not-is_fresh.false) c.in_ok-out.ensures.takes
+returns-clause-takes g c = judged_fresh _ _ c.args.envelope c.args.set c.judge-verdict.result (view_of c.args.self.now false) c.in_ok-out.out (view_of c.take.new.self false) (rw c.get.ensures at c.judge-verdict.ensures) (c.is_fresh.ensures.0 c.if-not-is_fresh.false) c.in_ok-out.ensures.takes

@@ -17,7 +17,7 @@ invariant_of-self c =
     let k : c.kind_of_pledges-kind.result ≡ Nomination = cc in
     let same : side c.of.result ≡ seen_in b.me b.local.value b.nominations.entries = c.of.ensures.same ∙ ap (λ (x : StatementKind). seen x b) k in
     let counted : IsCounted (seen_in b.me b.local.value b.nominations.entries) c.args.envelope.statement.node p c.args.delivered.value c.in_ok-counted.counted.value =
-    subst (λ (s : Seen). IsCounted s c.args.envelope.statement.node p c.args.delivered.value c.in_ok-counted.counted.value) same c.in_ok-counted.ensures.set
+    subst (λ (s : Seen). IsCounted s c.args.envelope.statement.node p c.args.delivered.value c.in_ok-counted.counted.value) same (rw c.get-2.ensures at c.in_ok-counted.ensures.set)
     in
     record { own_nomination = own_set_put b.me b.local.value b.nominations.entries c.put.new.self.entries c.args.envelope c.in_ok-counted.counted c.args.delivered.value counted c.put.result c.put.ensures.entered c.put.ensures.refused b.own_nomination; own_ballot = b.own_ballot }
 
@@ -34,9 +34,9 @@ returns-in_ok-put-in-Nomination-clause-put c =
     let k : c.kind_of_pledges-kind.result ≡ Nomination = cc in
     let same : side c.of.result ≡ seen_in b.me b.local.value b.nominations.entries = c.of.ensures.same ∙ ap (λ (x : StatementKind). seen x b) k in
     let counted : IsCounted (seen_in b.me b.local.value b.nominations.entries) c.args.envelope.statement.node p c.args.delivered.value c.in_ok-counted.counted.value =
-    subst (λ (s : Seen). IsCounted s c.args.envelope.statement.node p c.args.delivered.value c.in_ok-counted.counted.value) same c.in_ok-counted.ensures.set
+    subst (λ (s : Seen). IsCounted s c.args.envelope.statement.node p c.args.delivered.value c.in_ok-counted.counted.value) same (rw c.get-2.ensures at c.in_ok-counted.ensures.set)
     in
-    let j = c.kind_of_pledges-kind.ensures in
+    let j = rw c.get.ensures at c.kind_of_pledges-kind.ensures in
     let at : Nomination ≡ kind_of_pledges p = sym k ∙ j in
     kind_puts (kind_of_pledges p) Nomination b _ c.args.envelope.statement.node p c.args.delivered.value at
     (put_counted b.me b.local.value b.nominations.entries c.put.new.self.entries c.args.envelope c.in_ok-counted.counted c.args.delivered.value counted c.in_ok-put-in-Nomination.ensures.entered)
@@ -49,7 +49,7 @@ invariant_of-self-in-Balloting c =
     let k : c.kind_of_pledges-kind.result ≡ Balloting = cc in
     let same : side c.of.result ≡ seen_in b.me b.local.value b.ballots.entries = c.of.ensures.same ∙ ap (λ (x : StatementKind). seen x b) k in
     let counted : IsCounted (seen_in b.me b.local.value b.ballots.entries) c.args.envelope.statement.node p c.args.delivered.value c.in_ok-counted.counted.value =
-    subst (λ (s : Seen). IsCounted s c.args.envelope.statement.node p c.args.delivered.value c.in_ok-counted.counted.value) same c.in_ok-counted.ensures.set
+    subst (λ (s : Seen). IsCounted s c.args.envelope.statement.node p c.args.delivered.value c.in_ok-counted.counted.value) same (rw c.get-2.ensures at c.in_ok-counted.ensures.set)
     in
     record { own_nomination = b.own_nomination; own_ballot = own_set_put b.me b.local.value b.ballots.entries c.put-in-Balloting.new.self.entries c.args.envelope c.in_ok-counted.counted c.args.delivered.value counted c.put-in-Balloting.result c.put-in-Balloting.ensures.entered c.put-in-Balloting.ensures.refused b.own_ballot }
 
@@ -66,9 +66,9 @@ returns-in_ok-put-in-Balloting-clause-put c =
     let k : c.kind_of_pledges-kind.result ≡ Balloting = cc in
     let same : side c.of.result ≡ seen_in b.me b.local.value b.ballots.entries = c.of.ensures.same ∙ ap (λ (x : StatementKind). seen x b) k in
     let counted : IsCounted (seen_in b.me b.local.value b.ballots.entries) c.args.envelope.statement.node p c.args.delivered.value c.in_ok-counted.counted.value =
-    subst (λ (s : Seen). IsCounted s c.args.envelope.statement.node p c.args.delivered.value c.in_ok-counted.counted.value) same c.in_ok-counted.ensures.set
+    subst (λ (s : Seen). IsCounted s c.args.envelope.statement.node p c.args.delivered.value c.in_ok-counted.counted.value) same (rw c.get-2.ensures at c.in_ok-counted.ensures.set)
     in
-    let j = c.kind_of_pledges-kind.ensures in
+    let j = rw c.get.ensures at c.kind_of_pledges-kind.ensures in
     let at : Balloting ≡ kind_of_pledges p = sym k ∙ j in
     kind_puts (kind_of_pledges p) Balloting b _ c.args.envelope.statement.node p c.args.delivered.value at
     (put_counted b.me b.local.value b.ballots.entries c.put-in-Balloting.new.self.entries c.args.envelope c.in_ok-counted.counted c.args.delivered.value counted c.in_ok-put-in-Balloting.ensures.entered)

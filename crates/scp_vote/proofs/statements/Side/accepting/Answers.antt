@@ -26,6 +26,6 @@ loop-entry-preserved c =
     in
     let accepting_before : Entries → Type 0 = λ rest. IsPicking (Has (side c.args.self.now) (Stands Accepts c.args.claim.now)) (marked (place_in es) c.loop-entry.accepting.items) rest in
     record {
-      picking = walk_step c.args.self.now (Stands Accepts c.args.claim.now) c.loop-entry.accepting.items accepting_now c.in-Some.field-0-0.now c.in-Some.entry.now _ c.stands-accepts.result item c.stands-accepts.ensures accepting_same c.loop-entry.invariant.len (subst accepting_before c.in-Some.ensures.steps c.loop-entry.invariant.picking);
+      picking = walk_step c.args.self.now (Stands Accepts c.args.claim.now) c.loop-entry.accepting.items accepting_now c.in-Some.field-0-0.now c.in-Some.entry.now _ c.stands-accepts.result item (rw c.get.ensures at c.stands-accepts.ensures) accepting_same c.loop-entry.invariant.len (subst accepting_before c.in-Some.ensures.steps c.loop-entry.invariant.picking);
       len = marked_len c.loop-entry.accepting.items accepting_now c.in-Some.entry.now.place c.stands-accepts.result accepting_same ∙ c.loop-entry.invariant.len;
     }

@@ -32,8 +32,8 @@ loop-entry-preserved c =
     in
     let accepting_before : Entries → Type 0 = λ rest. IsPicking (Has (side c.args.self.now) (Stands Accepts c.args.claim.now)) (marked (place_in es) c.loop-entry.accepting.items) rest in
     record {
-      supporting = walk_step c.args.self.now (Stands VotesOrAccepts c.args.claim.now) c.loop-entry.supporting.items supporting_now c.in-Some.field-0-0.now c.in-Some.entry.now _ c.stands_too-supports.result item c.stands_too-supports.ensures supporting_same c.loop-entry.invariant.supporting_len (subst supporting_before c.in-Some.ensures.steps c.loop-entry.invariant.supporting);
+      supporting = walk_step c.args.self.now (Stands VotesOrAccepts c.args.claim.now) c.loop-entry.supporting.items supporting_now c.in-Some.field-0-0.now c.in-Some.entry.now _ c.stands_too-supports.result item (rw c.get.ensures at c.stands_too-supports.ensures) supporting_same c.loop-entry.invariant.supporting_len (subst supporting_before c.in-Some.ensures.steps c.loop-entry.invariant.supporting);
       supporting_len = marked_len c.loop-entry.supporting.items supporting_now c.in-Some.entry.now.place c.stands_too-supports.result supporting_same ∙ c.loop-entry.invariant.supporting_len;
-      accepting = walk_step c.args.self.now (Stands Accepts c.args.claim.now) c.loop-entry.accepting.items accepting_now c.in-Some.field-0-0.now c.in-Some.entry.now _ c.stands-accepts.result item c.stands-accepts.ensures accepting_same c.loop-entry.invariant.accepting_len (subst accepting_before c.in-Some.ensures.steps c.loop-entry.invariant.accepting);
+      accepting = walk_step c.args.self.now (Stands Accepts c.args.claim.now) c.loop-entry.accepting.items accepting_now c.in-Some.field-0-0.now c.in-Some.entry.now _ c.stands-accepts.result item (rw c.get.ensures at c.stands-accepts.ensures) accepting_same c.loop-entry.invariant.accepting_len (subst accepting_before c.in-Some.ensures.steps c.loop-entry.invariant.accepting);
       accepting_len = marked_len c.loop-entry.accepting.items accepting_now c.in-Some.entry.now.place c.stands-accepts.result accepting_same ∙ c.loop-entry.invariant.accepting_len;
     }
