@@ -1,4 +1,4 @@
-use crate::hearing::{HEARD, new_node, peer, send, settle};
+use crate::hearing::{HEARD, peer, send, settle, with_node};
 use crate::messages::externalize;
 use crate::records::Ledgers;
 use scp_core::Node;
@@ -30,14 +30,21 @@ fn hear_slot(alloc: Global, node: &mut Node, slot: u32, hash: &Hash) -> Result<(
     Ok(())
 }
 
-/// A node that heard its peers externalize so many slots.
-fn ledger(alloc: Global, hash: &Hash, slots: u32) -> Result<Node, Fault> {
-    let mut node = new_node(alloc, PEERS, most_peers(alloc)?)?;
+/// The EXTERNALIZE of each peer for so many slots.
+fn hear_slots(alloc: Global, node: &mut Node, slots: u32, hash: &Hash) -> Result<(), Fault> {
     for slot in 1..=slots {
-        hear_slot(alloc, &mut node, slot, hash)?;
+        hear_slot(alloc, node, slot, hash)?;
     }
-    settle(&mut node, PEERS)?;
-    Ok(node)
+    settle(node, PEERS)
+}
+
+/// A node hears its peers externalize so many slots, and is counted.
+fn decide(alloc: Global, ledgers: &mut Ledgers, slots: u32, hash: &Hash) -> Result<(), Fault> {
+    with_node(alloc, PEERS, most_peers(alloc)?, |node| {
+        hear_slots(alloc, node, slots, hash)?;
+        ledgers.count(node);
+        Ok(())
+    })
 }
 
 /// Brings the EXTERNALIZE envelopes of 4 peers for so many slots through nodes that need 3 of them for a decision, each of which
@@ -46,10 +53,10 @@ pub fn decide_by_envelopes(alloc: Global, size: u32) -> Result<Ledgers, Fault> {
     let hash = most_peers(alloc)?.hash()?;
     let mut ledgers = Ledgers::none();
     for _ in 0..size / DECIDED {
-        ledgers.count(&ledger(alloc, &hash, DECIDED)?);
+        decide(alloc, &mut ledgers, DECIDED, &hash)?;
     }
     if size % DECIDED > 0 {
-        ledgers.count(&ledger(alloc, &hash, size % DECIDED)?);
+        decide(alloc, &mut ledgers, size % DECIDED, &hash)?;
     }
     Ok(ledgers)
 }

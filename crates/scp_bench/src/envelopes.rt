@@ -1,4 +1,4 @@
-use crate::hearing::{HEARD, both_nodes, new_node, peer, send, settle};
+use crate::hearing::{HEARD, both_nodes, peer, send, settle, with_node};
 use crate::messages::prepare;
 use scp_core::{Fate, Node, Verdict};
 use scp_types::{Fault, Hash};
@@ -19,17 +19,15 @@ pub struct Judged {
     pub others: u64,
 }
 
-/// A node that heard so many envelopes of its peer on one connection.
-fn ledger(alloc: Global, hash: &Hash, envelopes: u32) -> Result<Node, Fault> {
-    let mut node = new_node(alloc, 1, both_nodes(alloc)?)?;
+/// So many envelopes of the node's peer, on one connection.
+fn hear_all(alloc: Global, node: &mut Node, hash: &Hash, envelopes: u32) -> Result<(), Fault> {
     for place in 0..envelopes {
         let slot = (place % SLOTS) as u64 + 1;
         let counter = place / (SLOTS * ROUNDS) + 1;
         let bytes = prepare(alloc, &peer(0), slot, hash, counter)?;
-        send(&mut node, 1, 0, bytes)?;
+        send(node, 1, 0, bytes)?;
     }
-    settle(&mut node, 1)?;
-    Ok(node)
+    settle(node, 1)
 }
 
 impl Judged {
@@ -66,6 +64,15 @@ impl Judged {
             self.count(fate);
         }
     }
+
+    /// A node hears so many envelopes, and is counted.
+    fn hear(&mut self, alloc: Global, hash: &Hash, envelopes: u32) -> Result<(), Fault> {
+        with_node(alloc, 1, both_nodes(alloc)?, |node| {
+            hear_all(alloc, node, hash, envelopes)?;
+            self.count_all(node);
+            Ok(())
+        })
+    }
 }
 
 /// Brings so many envelopes through nodes, each of which hears as many as it may, one node after the other.
@@ -73,10 +80,10 @@ pub fn hear_envelopes(alloc: Global, size: u32) -> Result<Judged, Fault> {
     let hash = both_nodes(alloc)?.hash()?;
     let mut judged = Judged::none();
     for _ in 0..size / HEARD {
-        judged.count_all(&ledger(alloc, &hash, HEARD)?);
+        judged.hear(alloc, &hash, HEARD)?;
     }
     if size % HEARD > 0 {
-        judged.count_all(&ledger(alloc, &hash, size % HEARD)?);
+        judged.hear(alloc, &hash, size % HEARD)?;
     }
     Ok(judged)
 }

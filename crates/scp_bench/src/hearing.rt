@@ -45,13 +45,27 @@ fn config(alloc: Global, links: u8, set: QuorumSet) -> Result<Config, Fault> {
     })
 }
 
-/// A node of this quorum set that has heard nothing, whose links are open.
-pub fn new_node(alloc: Global, links: u8, set: QuorumSet) -> Result<Node, Fault> {
-    let mut node = Node::new(alloc, config(alloc, links, set)?)?;
+/// Opens all links.
+fn open_all(node: &mut Node, links: u8) -> Result<(), Fault> {
     for link in 0..links {
-        hear(&mut node, Event::Open(link))?;
+        hear(node, Event::Open(link))?;
     }
-    Ok(node)
+    Ok(())
+}
+
+/// Has a node of this quorum set, whose links are open, do what is asked of it. No workload holds a node of its own: what a
+/// node's end costs is proved here, once.
+pub fn with_node<F: FnOnce(&mut Node) -> Result<(), Fault>>(
+    alloc: Global,
+    links: u8,
+    set: QuorumSet,
+    work: F,
+) -> Result<(), Fault>
+    requires { F.IsAlwaysCallable work }
+{
+    let mut node = Node::new(alloc, config(alloc, links, set)?)?;
+    open_all(&mut node, links)?;
+    work(&mut node)
 }
 
 /// One event at a link's tail, or a local command.

@@ -1,5 +1,5 @@
 use crate::envelopes::Judged;
-use crate::hearing::{HEARD, both_nodes, new_node, peer, send, settle};
+use crate::hearing::{HEARD, both_nodes, peer, send, settle, with_node};
 use crate::messages::{prepare, set_message};
 use crate::quorum::node;
 use scp_core::Node;
@@ -79,13 +79,26 @@ fn answers_of(answers: &[Answer], round: u32) -> &[Answer] {
     }
 }
 
-/// A node after so many rounds.
-fn ledger(alloc: Global, answers: &[Answer], rounds: u32) -> Result<Node, Fault> {
-    let mut ledger = new_node(alloc, LINKS, both_nodes(alloc)?)?;
+/// So many rounds.
+fn park_all(
+    alloc: Global,
+    ledger: &mut Node,
+    answers: &[Answer],
+    rounds: u32,
+) -> Result<(), Fault> {
     for round in 0..rounds {
-        park(alloc, &mut ledger, answers_of(answers, round), round + 1)?;
+        park(alloc, ledger, answers_of(answers, round), round + 1)?;
     }
-    Ok(ledger)
+    Ok(())
+}
+
+/// A node has so many rounds, and what became of its envelopes is counted.
+fn judge(alloc: Global, judged: &mut Judged, answers: &[Answer], rounds: u32) -> Result<(), Fault> {
+    with_node(alloc, LINKS, both_nodes(alloc)?, |ledger| {
+        park_all(alloc, ledger, answers, rounds)?;
+        judged.count_all(ledger);
+        Ok(())
+    })
 }
 
 /// So many rounds, each of 64 envelopes that wait for their quorum sets and then are taken, in nodes that have as many rounds
@@ -94,10 +107,10 @@ pub fn park_envelopes(alloc: Global, size: u32) -> Result<Judged, Fault> {
     let answers = answers(alloc)?;
     let mut judged = Judged::none();
     for _ in 0..size / ROUNDS {
-        judged.count_all(&ledger(alloc, answers.as_slice(), ROUNDS)?);
+        judge(alloc, &mut judged, answers.as_slice(), ROUNDS)?;
     }
     if size % ROUNDS > 0 {
-        judged.count_all(&ledger(alloc, answers.as_slice(), size % ROUNDS)?);
+        judge(alloc, &mut judged, answers.as_slice(), size % ROUNDS)?;
     }
     Ok(judged)
 }

@@ -1,4 +1,4 @@
-use crate::hearing::{HEARD, ask, both_nodes, new_node, send, settle};
+use crate::hearing::{HEARD, ask, both_nodes, send, settle, with_node};
 use crate::messages::{record, slot_at};
 use scp_core::Node;
 use scp_types::Fault;
@@ -34,17 +34,15 @@ fn hear_record(alloc: Global, node: &mut Node, links: u8, place: u32) -> Result<
     send(node, links, link, bytes)
 }
 
-/// A node that heard so many records over its links.
-fn ledger(alloc: Global, links: u8, records: u32) -> Result<Node, Fault> {
-    let mut node = new_node(alloc, links, both_nodes(alloc)?)?;
+/// So many records, over the node's links.
+fn hear_all(alloc: Global, node: &mut Node, links: u8, records: u32) -> Result<(), Fault> {
     for place in 0..records {
-        hear_record(alloc, &mut node, links, place)?;
+        hear_record(alloc, node, links, place)?;
         if place % ASKED == ASKED - 1 {
-            settle(&mut node, links)?;
+            settle(node, links)?;
         }
     }
-    settle(&mut node, links)?;
-    Ok(node)
+    settle(node, links)
 }
 
 impl Ledgers {
@@ -71,16 +69,25 @@ impl Ledgers {
         self.applied = self.applied.wrapping_add(node.applied().len() as u64);
         self.keys = self.keys.wrapping_add(keys as u64);
     }
+
+    /// A node hears so many records, and is counted.
+    fn hear(&mut self, alloc: Global, links: u8, records: u32) -> Result<(), Fault> {
+        with_node(alloc, links, both_nodes(alloc)?, |node| {
+            hear_all(alloc, node, links, records)?;
+            self.count(node);
+            Ok(())
+        })
+    }
 }
 
 /// Brings so many records through nodes of so many links, each of which hears as many as it may, one node after the other.
 pub fn hear_records(alloc: Global, links: u8, size: u32) -> Result<Ledgers, Fault> {
     let mut ledgers = Ledgers::none();
     for _ in 0..size / HEARD {
-        ledgers.count(&ledger(alloc, links, HEARD)?);
+        ledgers.hear(alloc, links, HEARD)?;
     }
     if size % HEARD > 0 {
-        ledgers.count(&ledger(alloc, links, size % HEARD)?);
+        ledgers.hear(alloc, links, size % HEARD)?;
     }
     Ok(ledgers)
 }

@@ -130,8 +130,28 @@ fn config(
     })
 }
 
-fn new_node(alloc: Global, capacities: Capacities) -> Result<Node, Fault> {
-    Node::new(alloc, config(alloc, 1, &[PEER], capacities)?)
+/// Whether the new node of a configuration is as it is told. No test holds a node of its own: what a node's end costs is
+/// proved here, once.
+fn is_so<F: FnOnce(&mut Node) -> Result<bool, Fault>>(
+    alloc: Global,
+    config: Config,
+    told: F,
+) -> Result<bool, Fault>
+    requires { F.IsAlwaysCallable told }
+{
+    let mut node = Node::new(alloc, config)?;
+    told(&mut node)
+}
+
+/// Whether a new node that has one link is as it is told.
+fn is_so_of_one_link<F: FnOnce(&mut Node) -> Result<bool, Fault>>(
+    alloc: Global,
+    capacities: Capacities,
+    told: F,
+) -> Result<bool, Fault>
+    requires { F.IsAlwaysCallable told }
+{
+    is_so(alloc, config(alloc, 1, &[PEER], capacities)?, told)
 }
 
 /// The value that puts a 1.
@@ -318,9 +338,10 @@ fn bring(alloc: Global, node: &mut Node, acts: &[(u32, Act)]) -> Result<(), Faul
 
 /// Whether a new node, where these happen and each comes to rest, has this journal.
 fn becomes(alloc: Global, acts: &[(u32, Act)], wanted: &[Seen]) -> Result<bool, Fault> {
-    let mut node = new_node(alloc, MANY)?;
-    bring(alloc, &mut node, acts)?;
-    Ok(shows(&node, wanted))
+    is_so_of_one_link(alloc, MANY, |node| {
+        bring(alloc, node, acts)?;
+        Ok(shows(node, wanted))
+    })
 }
 
 /// Whether the node replies so to each.
@@ -337,8 +358,7 @@ fn replies(alloc: Global, node: &mut Node, table: &[(Act, Reply)]) -> Result<boo
 
 /// Whether a new node does.
 fn answers(alloc: Global, capacities: Capacities, table: &[(Act, Reply)]) -> Result<bool, Fault> {
-    let mut node = new_node(alloc, capacities)?;
-    replies(alloc, &mut node, table)
+    is_so_of_one_link(alloc, capacities, |node| replies(alloc, node, table))
 }
 
 #[test]
@@ -562,9 +582,8 @@ fn waits_for_the_set(alloc: Global, node: &mut Node) -> Result<bool, Fault> {
 
 #[test]
 fn parked_until_the_set_comes(rt: HostRuntime) -> Result<(), Fail> {
-    let mut node = new_node(rt.alloc(), MANY)?;
-    let waits = waits_for_the_set(rt.alloc(), &mut node)?;
-    assert!(rt; waits);
+    let alloc = rt.alloc();
+    assert!(rt; is_so_of_one_link(alloc, MANY, |node| waits_for_the_set(alloc, node))?);
     Ok(())
 }
 
@@ -608,9 +627,8 @@ fn gives_up(alloc: Global, node: &mut Node) -> Result<bool, Fault> {
 
 #[test]
 fn given_up_at_the_twelfth_tick(rt: HostRuntime) -> Result<(), Fail> {
-    let mut node = new_node(rt.alloc(), MANY)?;
-    let is_given_up = gives_up(rt.alloc(), &mut node)?;
-    assert!(rt; is_given_up);
+    let alloc = rt.alloc();
+    assert!(rt; is_so_of_one_link(alloc, MANY, |node| gives_up(alloc, node))?);
     Ok(())
 }
 
@@ -627,25 +645,29 @@ fn is_cut_off(journal: &[Fate]) -> bool {
 
 #[test]
 fn one_message_too_many_ends_the_connection(rt: HostRuntime) -> Result<(), Fail> {
-    let mut node = new_node(rt.alloc(), MANY)?;
-    bring(rt.alloc(), &mut node, &[(1, Open(0)), (66, Names(2))])?;
-    assert!(rt; is_cut_off(node.journal()));
+    let alloc = rt.alloc();
+    assert!(rt;
+        is_so_of_one_link(alloc, MANY, |node| {
+            bring(alloc, node, &[(1, Open(0)), (66, Names(2))])?;
+            Ok(is_cut_off(node.journal()))
+        })?
+    );
     Ok(())
 }
 
-/// Opens and closes link 0 so often, and then opens it once more.
-fn reopen(alloc: Global, node: &mut Node, count: u32) -> Result<Reply, Fault> {
+/// Whether link 0 can be opened and closed so often, and not once more.
+fn spends_lives(alloc: Global, node: &mut Node, count: u32) -> Result<bool, Fault> {
     for _ in 0..count {
         bring(alloc, node, &[(1, Open(0)), (1, Close(0))])?;
     }
-    reply(alloc, node, Open(0))
+    let last = reply(alloc, node, Open(0))?;
+    Ok(matches!(last, Reply::LivesSpent) && node.lives(0) == count)
 }
 
 #[test]
 fn lives_are_spent(rt: HostRuntime) -> Result<(), Fail> {
-    let mut node = new_node(rt.alloc(), ONE)?;
-    let last = reopen(rt.alloc(), &mut node, 65_535)?;
-    assert!(rt; matches!(last, Reply::LivesSpent) && node.lives(0) == 65_535);
+    let alloc = rt.alloc();
+    assert!(rt; is_so_of_one_link(alloc, ONE, |node| spends_lives(alloc, node, 65_535))?);
     Ok(())
 }
 
@@ -680,10 +702,13 @@ fn is_full(alloc: Global, node: &mut Node, entries: usize) -> Result<bool, Fault
 
 #[test]
 fn a_full_journal_fails_the_node(rt: HostRuntime) -> Result<(), Fail> {
-    let mut node = new_node(rt.alloc(), ONE)?;
-    bring(rt.alloc(), &mut node, &[(1, Open(0))])?;
-    fill(rt.alloc(), &mut node, 1_000_000)?;
-    let is_full = is_full(rt.alloc(), &mut node, 1_000_000)?;
-    assert!(rt; is_full);
+    let alloc = rt.alloc();
+    assert!(rt;
+        is_so_of_one_link(alloc, ONE, |node| {
+            bring(alloc, node, &[(1, Open(0))])?;
+            fill(alloc, node, 1_000_000)?;
+            is_full(alloc, node, 1_000_000)
+        })?
+    );
     Ok(())
 }

@@ -25,19 +25,24 @@ fn is_part(node: &mut Node, story: &Story<'_>) -> bool {
         && is_failed(node)
 }
 
-/// Whether a new node, where this happens, shows what it should. Where memory is wanted for a step, it shows a beginning of it,
+/// Whether the node, where this happens, shows what it should. Where memory is wanted for a step, it shows a beginning of it,
 /// and is failed.
-fn is_right(alloc: Global, story: &Story<'_>) -> Result<bool, Fault> {
-    let mut node = Node::new(alloc, config(alloc, story.set, &[PEER], MANY)?)?;
-    let last = play_all(alloc, &mut node, story.acts)?;
+fn tells(alloc: Global, node: &mut Node, story: &Story<'_>) -> Result<bool, Fault> {
+    let last = play_all(alloc, node, story.acts)?;
     if !matches!(last, Reply::NoMemory) {
-        return Ok(matches!(last, Reply::Idle) && is_whole(&node, story));
+        return Ok(matches!(last, Reply::Idle) && is_whole(node, story));
     }
-    if is_part(&mut node, story) {
+    if is_part(node, story) {
         Err(Fault::NoMemory)
     } else {
         Ok(false)
     }
+}
+
+/// Whether a new node does.
+fn is_right(alloc: Global, story: &Story<'_>) -> Result<bool, Fault> {
+    let config = config(alloc, story.set, &[PEER], MANY)?;
+    is_so(alloc, config, |node| tells(alloc, node, story))
 }
 
 /// Whether the answer is right, or want of memory.

@@ -27,11 +27,17 @@ fn is_drained(node: &mut Node) -> bool {
     matches!(node.step(Event::Drain(0)), Reply::Idle)
 }
 
-/// A node whose link 0 is open.
-fn open_node(alloc: Global) -> Result<Node, Fault> {
-    let mut node = new_node(alloc, MANY)?;
-    bring(alloc, &mut node, &[(1, Open(0))])?;
-    Ok(node)
+/// Whether a new node whose link 0 is open is as it is told.
+fn is_so_once_open<F: FnOnce(&mut Node) -> Result<bool, Fault>>(
+    alloc: Global,
+    told: F,
+) -> Result<bool, Fault>
+    requires { F.IsAlwaysCallable told }
+{
+    is_so_of_one_link(alloc, MANY, |node| {
+        bring(alloc, node, &[(1, Open(0))])?;
+        told(node)
+    })
 }
 
 /// Whether of 65 answers the last 64 are sent, in order.
@@ -49,9 +55,8 @@ fn sends_the_last(alloc: Global, node: &mut Node) -> Result<bool, Fault> {
 
 #[test]
 fn answers_over_64_overwrite_the_oldest(rt: HostRuntime) -> Result<(), Fail> {
-    let mut node = open_node(rt.alloc())?;
-    let is_sent = sends_the_last(rt.alloc(), &mut node)?;
-    assert!(rt; is_sent);
+    let alloc = rt.alloc();
+    assert!(rt; is_so_once_open(alloc, |node| sends_the_last(alloc, node))?);
     Ok(())
 }
 
@@ -67,9 +72,8 @@ fn sends_the_record(alloc: Global, node: &mut Node) -> Result<bool, Fault> {
 
 #[test]
 fn a_request_is_answered_once_its_slot_is_applied(rt: HostRuntime) -> Result<(), Fail> {
-    let mut node = open_node(rt.alloc())?;
-    let is_sent = sends_the_record(rt.alloc(), &mut node)?;
-    assert!(rt; is_sent);
+    let alloc = rt.alloc();
+    assert!(rt; is_so_once_open(alloc, |node| sends_the_record(alloc, node))?);
     Ok(())
 }
 
@@ -83,9 +87,8 @@ fn sends_the_set(alloc: Global, node: &mut Node) -> Result<bool, Fault> {
 
 #[test]
 fn a_stored_set_is_the_answer(rt: HostRuntime) -> Result<(), Fail> {
-    let mut node = open_node(rt.alloc())?;
-    let is_sent = sends_the_set(rt.alloc(), &mut node)?;
-    assert!(rt; is_sent);
+    let alloc = rt.alloc();
+    assert!(rt; is_so_once_open(alloc, |node| sends_the_set(alloc, node))?);
     Ok(())
 }
 
@@ -99,9 +102,8 @@ fn asks_for_the_set(alloc: Global, node: &mut Node) -> Result<bool, Fault> {
 
 #[test]
 fn an_unknown_set_is_asked_for(rt: HostRuntime) -> Result<(), Fail> {
-    let mut node = open_node(rt.alloc())?;
-    let is_sent = asks_for_the_set(rt.alloc(), &mut node)?;
-    assert!(rt; is_sent);
+    let alloc = rt.alloc();
+    assert!(rt; is_so_once_open(alloc, |node| asks_for_the_set(alloc, node))?);
     Ok(())
 }
 
@@ -127,9 +129,8 @@ fn sends_the_vote(alloc: Global, node: &mut Node) -> Result<bool, Fault> {
 
 #[test]
 fn an_own_statement_is_sent(rt: HostRuntime) -> Result<(), Fail> {
-    let mut node = open_node(rt.alloc())?;
-    let is_sent = sends_the_vote(rt.alloc(), &mut node)?;
-    assert!(rt; is_sent);
+    let alloc = rt.alloc();
+    assert!(rt; is_so_once_open(alloc, |node| sends_the_vote(alloc, node))?);
     Ok(())
 }
 
@@ -146,9 +147,8 @@ fn sends_the_decision(alloc: Global, node: &mut Node) -> Result<bool, Fault> {
 
 #[test]
 fn a_decision_is_sent_and_its_record(rt: HostRuntime) -> Result<(), Fail> {
-    let mut node = open_node(rt.alloc())?;
-    let is_sent = sends_the_decision(rt.alloc(), &mut node)?;
-    assert!(rt; is_sent);
+    let alloc = rt.alloc();
+    assert!(rt; is_so_once_open(alloc, |node| sends_the_decision(alloc, node))?);
     Ok(())
 }
 
@@ -178,9 +178,8 @@ fn sends_the_commit(alloc: Global, node: &mut Node) -> Result<bool, Fault> {
 
 #[test]
 fn a_blocking_commit_is_confirmed(rt: HostRuntime) -> Result<(), Fail> {
-    let config = config(rt.alloc(), 4, &[PEER, THIRD], MANY)?;
-    let mut node = Node::new(rt.alloc(), config)?;
-    let is_sent = sends_the_commit(rt.alloc(), &mut node)?;
-    assert!(rt; is_sent);
+    let alloc = rt.alloc();
+    let config = config(alloc, 4, &[PEER, THIRD], MANY)?;
+    assert!(rt; is_so(alloc, config, |node| sends_the_commit(alloc, node))?);
     Ok(())
 }
