@@ -16,11 +16,11 @@ use crate::finding::{Bound, is_less};
 use crate::range::{Range, reached_range};
 use crate::told::Stage;
 use scp_ballot_rules::{Phase, State, copy_some, counter};
-use scp_types::{Ballot, Fault, Value};
+use scp_types::{Ballot, Fault, SharedValue};
 use scp_vote::Board;
 
 /// A copy of the ballot where it has the value.
-fn copy_of_value(ballot: &Option<Ballot>, value: &Value) -> Result<Option<Ballot>, Fault>
+fn copy_of_value(ballot: &Option<Ballot>, value: &SharedValue) -> Result<Option<Ballot>, Fault>
     ensures copied { IfOk result (λ copied. (IsSomeAnd ballot.now (λ x. x.value ≡ value.now) × (copied ≡ ballot.now)) ⊎ ((copied ≡ None) × ForSome ballot.now (λ x. x.value ≢ value.now))) }
     ensures only_memory { IsOkUnless result Fault.NoMemory }
 {
@@ -34,7 +34,7 @@ fn copy_of_value(ballot: &Option<Ballot>, value: &Value) -> Result<Option<Ballot
 }
 
 /// The higher of the accepted ballots that has the value.
-fn held_of(state: &State, value: &Value) -> Result<Option<Ballot>, Fault>
+fn held_of(state: &State, value: &SharedValue) -> Result<Option<Ballot>, Fault>
     ensures kept { IfOk result (λ held. KeepsHeld state.now value.now held) }
     ensures only_memory { IsOkUnless result Fault.NoMemory }
 {
@@ -115,7 +115,7 @@ fn higher_range(
     ensures none { IfOk result (λ found. IfNone found ((x : Ballot) → Contains boundaries.now x → counter_of state.now.high < x.counter → x.value ≡ low.now.value → Accepted (ballots_on board.now) (Committed x.counter x.counter x.value) → ⊥)) }
     ensures only_memory { IsOkUnless result Fault.NoMemory }
 {
-    let bound = Bound::Of(low.value.copy()?);
+    let bound = Bound::Of(low.value.share()?);
     let floor = counter(&state.high);
     let found = reached_range(board, Stage::Acceptance, &bound, floor, boundaries)?;
     Ok(found)

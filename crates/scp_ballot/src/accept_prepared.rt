@@ -147,7 +147,7 @@ fn accept_of(
     ensures step { IfOk result (λ next. IfSome next (λ next. AcceptsMore (ballots_on board.now) state.now next)) }
     ensures only_memory { IsOkUnless result Fault.NoMemory }
 {
-    let bound = Bound::Of(low.value.copy()?);
+    let bound = Bound::Of(low.value.share()?);
     let prepared = greatest(
         board,
         Stage::Acceptance,

@@ -7,7 +7,7 @@ ghost use Rattle.scp_ballot.specs.Finding.{AreBoundaries, Adds};
 
 use crate::candidates::add;
 use scp_envelope::{Pledges, Prepare};
-use scp_types::{Ballot, Fault, Value};
+use scp_types::{Ballot, Fault, SharedValue};
 use scp_vote::{Board, StatementKind};
 use std::alloc::Global;
 
@@ -25,7 +25,7 @@ pub(crate) fn boundaries(alloc: Global, board: &Board) -> Result<Vec<Ballot>, Fa
 }
 
 /// Adds both ends of a range.
-fn add_ends(list: &mut Vec<Ballot>, low: u32, high: u32, value: &Value) -> Result<(), Fault>
+fn add_ends(list: &mut Vec<Ballot>, low: u32, high: u32, value: &SharedValue) -> Result<(), Fault>
     ensures added { OnOk result (Adds (λ x. ((value.now ≡ x.value) × ((low ≡ x.counter) ⊎ (high ≡ x.counter)))) list.old.items list.new.items) }
     ensures only_memory { IsOkUnless result Fault.NoMemory }
 {

@@ -6,7 +6,7 @@ ghost use Rattle.scp_ballot.specs.Told.{ballots_on};
 ghost use Rattle.scp_ballot.specs.Finding.{AreCandidates, Adds};
 
 use scp_envelope::{Confirm, Externalize, Pledges, Prepare};
-use scp_types::{Ballot, Fault, Value};
+use scp_types::{Ballot, Fault, SharedValue};
 use scp_vote::{Board, StatementKind};
 use std::alloc::Global;
 
@@ -25,14 +25,14 @@ pub(crate) fn candidates(alloc: Global, board: &Board) -> Result<Vec<Ballot>, Fa
 }
 
 /// Whether it is the ballot of this counter and value.
-fn is_ballot_of(ballot: &Ballot, counter: u32, value: &Value) -> bool
+fn is_ballot_of(ballot: &Ballot, counter: u32, value: &SharedValue) -> bool
     ensures { IsTrue result ↔ ((record { counter = counter; value = value.now }) ≡ ballot.now) }
 {
     ballot.counter == counter && ballot.value == *value
 }
 
 /// Whether the ballot stands in the list.
-fn holds(list: &[Ballot], counter: u32, value: &Value) -> bool
+fn holds(list: &[Ballot], counter: u32, value: &SharedValue) -> bool
     ensures { IsTrue result ↔ Contains list.now (record { counter = counter; value = value.now }) }
 {
     list.iter()
@@ -40,14 +40,14 @@ fn holds(list: &[Ballot], counter: u32, value: &Value) -> bool
 }
 
 /// Adds a copy of the ballot, unless its counter is 0 or the list has it.
-pub(crate) fn add(list: &mut Vec<Ballot>, counter: u32, value: &Value) -> Result<(), Fault>
+pub(crate) fn add(list: &mut Vec<Ballot>, counter: u32, value: &SharedValue) -> Result<(), Fault>
     ensures added { OnOk result (Adds (λ x. ((record { counter = counter; value = value.now }) ≡ x)) list.old.items list.new.items) }
     ensures only_memory { IsOkUnless result Fault.NoMemory }
 {
     if counter == 0 || holds(list.as_slice(), counter, value) {
         return Ok(());
     }
-    let value = value.copy()?;
+    let value = value.share()?;
     list.push(Ballot { counter, value })?;
     Ok(())
 }

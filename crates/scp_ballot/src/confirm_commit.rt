@@ -43,7 +43,7 @@ fn confirmed_range(
     ensures none { IfOk result (λ found. IfNone found ((x : Ballot) → Contains boundaries.now x → 0 < x.counter → x.value ≡ low.now.value → Confirmed (ballots_on board.now) (Committed x.counter x.counter x.value) → ⊥)) }
     ensures only_memory { IsOkUnless result Fault.NoMemory }
 {
-    let bound = Bound::Of(low.value.copy()?);
+    let bound = Bound::Of(low.value.share()?);
     let found = reached_range(board, Stage::Confirmation, &bound, 0, boundaries)?;
     Ok(found)
 }

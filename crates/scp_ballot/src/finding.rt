@@ -10,7 +10,7 @@ ghost use Rattle.scp_ballot.specs.Finding.{IsWithin, IsGreatest, Betters};
 
 use crate::told::{Stage, reached_prepared};
 use scp_ballot_rules::copy_some;
-use scp_types::{Ballot, Fault, Value};
+use scp_types::{Ballot, Fault, SharedValue};
 use scp_vote::Board;
 
 /// Which ballots count.
@@ -20,7 +20,7 @@ pub(crate) enum Bound {
     /// Those less than the ballot and incompatible with it.
     Under(Ballot),
     /// Those of the value.
-    Of(Value),
+    Of(SharedValue),
 }
 
 /// Whether the first ballot is less than the second.

@@ -19,7 +19,7 @@ use crate::balloted::{Balloted, Certified};
 use crate::machine::{Machine, unsigned};
 use scp_ballot_rules::{Phase, State, counter};
 use scp_envelope::{SharedEnvelope, SharedStatement, Statement, newer};
-use scp_types::{Ballot, Fault, NodeId, Value};
+use scp_types::{Ballot, Fault, NodeId, SharedValue};
 use scp_vote::{Board, Claim};
 use std::collections::BTreeSet;
 
@@ -41,12 +41,16 @@ fn is_worth(before: &Option<SharedStatement>, own: &Statement) -> bool
 }
 
 /// The certificate of the commit: the greatest quorum at this node among the nodes that accept it.
-fn certificate(board: &Board, n: u32, value: &Value) -> Result<Option<BTreeSet<NodeId>>, Fault>
+fn certificate(
+    board: &Board,
+    n: u32,
+    value: &SharedValue,
+) -> Result<Option<BTreeSet<NodeId>>, Fault>
     ensures found { IfOk result (λ found. IfSome found (λ nodes. Certificate (ballots_on board.now) (Committed n n value.now) (is_in nodes))) }
     ensures none { IfOk result (λ found. IfNone found (Confirmed (ballots_on board.now) (Committed n n value.now) → ⊥)) }
     ensures only_memory { IsOkUnless result Fault.NoMemory }
 {
-    let claim = Claim::Committed(n, n, value.copy()?);
+    let claim = Claim::Committed(n, n, value.share()?);
     let found = board.certificate(&claim)?;
     Ok(found)
 }
@@ -79,7 +83,7 @@ impl Machine {
         match certificate(&self.board, n, &low.value)? {
             Some(quorum) => {
                 let statement = self.own(&self.state)?;
-                let value = low.value.copy()?;
+                let value = low.value.get().copy()?;
                 let own = SharedEnvelope::new(self.alloc, unsigned(self.alloc, statement))?;
                 Ok(Some(Certified {
                     value,

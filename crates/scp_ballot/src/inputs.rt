@@ -17,12 +17,12 @@ use crate::told::{me_of, put_ballot};
 use scp_ballot_rules::{Phase, State, counter};
 use scp_envelope::{Envelope, SharedEnvelope};
 use scp_quorum::SaneSet;
-use scp_types::{Ballot, Fault, Value};
+use scp_types::{Ballot, Fault, SharedValue, Value};
 use scp_vote::{StatementKind, kind_of_pledges};
 use std::sync::Arc;
 
 /// The present ballot, or the first one of the value.
-fn first_ballot(present: &Option<Ballot>, value: &Value) -> Result<Option<Ballot>, Fault>
+fn first_ballot(present: &Option<Ballot>, value: &SharedValue) -> Result<Option<Ballot>, Fault>
     ensures first { IfOk result (λ first. ((first ≡ present.now) × IsSome present.now) ⊎ ((present.now ≡ None) × (first ≡ Some (record { counter = 1; value = value.now })))) }
     ensures only_memory { IsOkUnless result Fault.NoMemory }
 {
@@ -32,14 +32,14 @@ fn first_ballot(present: &Option<Ballot>, value: &Value) -> Result<Option<Ballot
             Ok(Some(copied))
         }
         None => {
-            let value = value.copy()?;
+            let value = value.share()?;
             Ok(Some(Ballot { counter: 1, value }))
         }
     }
 }
 
 /// In the phase Prepare, the state with this composite, and with a first ballot of it where there was none.
-fn compose(state: &State, value: Value) -> Result<State, Fault>
+fn compose(state: &State, value: SharedValue) -> Result<State, Fault>
     ensures composes { IfOk result (λ next. Composes value state.now next) }
     ensures only_memory { IsOkUnless result Fault.NoMemory }
 {
@@ -53,7 +53,7 @@ fn compose(state: &State, value: Value) -> Result<State, Fault>
 }
 
 /// What a composite makes of the state. In the later phases it is of no use any more.
-fn composed(state: &State, value: Value) -> Result<Option<State>, Fault>
+fn composed(state: &State, value: SharedValue) -> Result<Option<State>, Fault>
     ensures composes { IfOk result (λ found. IfSome found (λ next. (state.now.phase ≡ Prepare) × Composes value state.now next)) }
     ensures none { IfOk result (λ found. IfNone found (state.now.phase ≡ Prepare → ⊥)) }
     ensures only_memory { IsOkUnless result Fault.NoMemory }
@@ -107,6 +107,7 @@ impl Machine {
         ensures takes { IfOk result (λ given. TakesComposite value self.old self.new given) }
         ensures only_memory { IsOkUnless result Fault.NoMemory }
     {
+        let value = SharedValue::new(self.alloc, value)?;
         let first = composed(&self.state, value)?;
         let given = self.advance(first)?;
         Ok(given)

@@ -15,7 +15,7 @@ use crate::told::{local_set, me_of};
 use scp_ballot_rules::{State, copy_some, counter};
 use scp_envelope::Pledges;
 use scp_quorum::blocked;
-use scp_types::{Ballot, Fault, NodeId, Value};
+use scp_types::{Ballot, Fault, NodeId, SharedValue};
 use scp_vote::{Board, Entry, StatementKind};
 use std::alloc::{AllocError, Global};
 use std::collections::BTreeSet;
@@ -146,25 +146,25 @@ fn raised_counter(alloc: Global, board: &Board, n: u32) -> Result<Option<u32>, F
     }
 }
 
-/// A copy of the value for a raised ballot, in the phase Prepare.
-fn copy_raised_value(state: &State) -> Result<Option<Value>, Fault>
+/// The value for a raised ballot, in the phase Prepare.
+fn share_raised_value(state: &State) -> Result<Option<SharedValue>, Fault>
     ensures value { IfOk result (λ value. value ≡ raised_value state.now.confirmed state.now.composite state.now.prepared) }
     ensures only_memory { IsOkUnless result Fault.NoMemory }
 {
     if let Some(confirmed) = &state.confirmed {
-        return Ok(Some(confirmed.value.copy()?));
+        return Ok(Some(confirmed.value.share()?));
     }
     if let Some(composite) = &state.composite {
-        return Ok(Some(composite.copy()?));
+        return Ok(Some(composite.share()?));
     }
     match &state.prepared {
-        Some(prepared) => Ok(Some(prepared.value.copy()?)),
+        Some(prepared) => Ok(Some(prepared.value.share()?)),
         None => Ok(None),
     }
 }
 
 /// A copy of the low end where it is compatible with a present ballot of this value.
-fn copy_compatible(low: &Option<Ballot>, value: &Value) -> Result<Option<Ballot>, Fault>
+fn copy_compatible(low: &Option<Ballot>, value: &SharedValue) -> Result<Option<Ballot>, Fault>
     ensures kept { IfOk result (λ kept. (kept ≡ None) ⊎ ((kept ≡ low.now) × ForSome low.now (λ c. c.value ≡ value.now))) }
     ensures only_memory { IsOkUnless result Fault.NoMemory }
 {
@@ -193,7 +193,7 @@ pub(crate) fn raise_preparing(state: &State, counter: u32) -> Result<Option<Stat
     ensures none { IfOk result (λ next. IfNone next (HasValue state.now → ⊥)) }
     ensures only_memory { IsOkUnless result Fault.NoMemory }
 {
-    match copy_raised_value(state)? {
+    match share_raised_value(state)? {
         Some(value) => {
             let low = copy_compatible(&state.low, &value)?;
             let high = copy_high(state)?;
@@ -210,7 +210,7 @@ pub(crate) fn raise_preparing(state: &State, counter: u32) -> Result<Option<Stat
 }
 
 /// The state with a present ballot of this counter and value.
-fn with_present(state: &State, counter: u32, value: Value) -> Result<State, Fault>
+fn with_present(state: &State, counter: u32, value: SharedValue) -> Result<State, Fault>
     ensures made { IfOk result (λ next. next ≡ record state.now { present = Some (record { counter = counter; value = value }) }) }
     ensures only_memory { IsOkUnless result Fault.NoMemory }
 {
@@ -230,7 +230,7 @@ pub(crate) fn raise_confirming(state: &State, counter: u32) -> Result<Option<Sta
 {
     match &state.low {
         Some(low) => {
-            let value = low.value.copy()?;
+            let value = low.value.share()?;
             let next = with_present(state, counter, value)?;
             Ok(Some(next))
         }

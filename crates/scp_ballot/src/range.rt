@@ -153,7 +153,7 @@ pub(crate) fn reached_range(
     match highest(board, stage, bound, floor, boundaries)? {
         Some(high) => {
             let counter = lowest(board, stage, boundaries, &high)?;
-            let value = high.value.copy()?;
+            let value = high.value.share()?;
             let low = Ballot { counter, value };
             Ok(Some(Range { low, high }))
         }

@@ -9,7 +9,7 @@ ghost use Rattle.scp_ballot.specs.Told.{ballots_on, Reached};
 
 use scp_envelope::SharedEnvelope;
 use scp_quorum::{QuorumSet, SaneSet};
-use scp_types::{Ballot, Fault, NodeId, Value};
+use scp_types::{Ballot, Fault, NodeId, SharedValue};
 use scp_vote::{Board, Claim};
 use std::alloc::Global;
 use std::sync::Arc;
@@ -67,12 +67,12 @@ pub(crate) fn reached_commit(
     stage: Stage,
     low: u32,
     high: u32,
-    value: &Value,
+    value: &SharedValue,
 ) -> Result<bool, Fault>
     ensures exact { IfOk result (λ yes. IsTrue yes ↔ Reached stage (ballots_on board.now) (Committed low high value.now)) }
     ensures only_memory { IsOkUnless result Fault.NoMemory }
 {
-    let claim = Claim::Committed(low, high, value.copy()?);
+    let claim = Claim::Committed(low, high, value.share()?);
     reached(board, stage, &claim)
 }
 

@@ -4,7 +4,7 @@ ghost use Rattle.scp_ballot_rules.specs.Own.{counter_of, or_zero, prepare_of, co
 
 use crate::state::{Phase, State};
 use scp_envelope::{Confirm, Externalize, Pledges, Prepare};
-use scp_types::{Ballot, Fault, Hash, Value};
+use scp_types::{Ballot, Fault, Hash, SharedValue, Value};
 use std::alloc::Global;
 
 /// The ballot's counter, 0 where there is none.
@@ -17,7 +17,7 @@ pub fn counter(ballot: &Option<Ballot>) -> u32
     }
 }
 
-/// A copy of the ballot, if there is one. The one refusal is `Fault::NoMemory`.
+/// A copy of the ballot, which shares its value, if there is one. The one refusal is `Fault::NoMemory`.
 pub fn copy_some(ballot: &Option<Ballot>) -> Result<Option<Ballot>, Fault>
     ensures same { IfOk result (λ copied. copied ≡ ballot.now) }
     ensures only_memory { IsOkUnless result Fault.NoMemory }
@@ -28,13 +28,13 @@ pub fn copy_some(ballot: &Option<Ballot>) -> Result<Option<Ballot>, Fault>
     }
 }
 
-/// A copy of the value, if there is one.
-pub(crate) fn copy_value(value: &Option<Value>) -> Result<Option<Value>, Fault>
+/// Another holder of the value, if there is one.
+pub(crate) fn share_value(value: &Option<SharedValue>) -> Result<Option<SharedValue>, Fault>
     ensures same { IfOk result (λ copied. copied ≡ value.now) }
     ensures only_memory { IsOkUnless result Fault.NoMemory }
 {
     match value {
-        Some(value) => Ok(Some(value.copy()?)),
+        Some(value) => Ok(Some(value.share()?)),
         None => Ok(None),
     }
 }
@@ -48,7 +48,7 @@ fn copy_or_zero(alloc: Global, ballot: &Option<Ballot>) -> Result<Ballot, Fault>
         Some(ballot) => ballot.copy(),
         None => Ok(Ballot {
             counter: 0,
-            value: Value::new(Vec::new(alloc)),
+            value: SharedValue::new(alloc, Value::new(Vec::new(alloc)))?,
         }),
     }
 }

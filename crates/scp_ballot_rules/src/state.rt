@@ -1,8 +1,8 @@
 //! The state of a node's ballots.
 ghost use Rattle.std.specs.Prelude.{◌≡◌, IfOk, IsOkUnless, None};
 
-use crate::own::{copy_some, copy_value};
-use scp_types::{Ballot, Fault, Value};
+use crate::own::{copy_some, share_value};
+use scp_types::{Ballot, Fault, SharedValue};
 
 /// How far the ballots of a slot are.
 #[derive(Clone, Copy, Debug, PartialEq, Eq)]
@@ -29,7 +29,7 @@ pub struct State {
     /// The low end of the range of commit.
     pub low: Option<Ballot>,
     /// The composite of the nomination.
-    pub composite: Option<Value>,
+    pub composite: Option<SharedValue>,
 }
 
 impl State {
@@ -52,7 +52,7 @@ impl State {
         }
     }
 
-    /// Another state of the same fields. The one refusal is `Fault::NoMemory`.
+    /// Another state of the same fields, which shares their values. The one refusal is `Fault::NoMemory`.
     pub fn copy(&self) -> Result<State, Fault>
         ensures same { IfOk result (λ copied. copied ≡ self.now) }
         ensures only_memory { IsOkUnless result Fault.NoMemory }
@@ -65,7 +65,7 @@ impl State {
             confirmed: copy_some(&self.confirmed)?,
             high: copy_some(&self.high)?,
             low: copy_some(&self.low)?,
-            composite: copy_value(&self.composite)?,
+            composite: share_value(&self.composite)?,
         })
     }
 }

@@ -1,7 +1,7 @@
 use scp_ballot::*;
 use scp_envelope::{Envelope, Externalize, Pledges, SharedEnvelope, Signature, Statement};
 use scp_quorum::{QuorumSet, SaneSet};
-use scp_types::{Ballot, Fault, Hash, NodeId, Slot, Value};
+use scp_types::{Ballot, Fault, Hash, NodeId, SharedValue, Slot, Value};
 use std::alloc::Global;
 use std::process::Abort;
 use std::sync::Arc;
@@ -49,7 +49,7 @@ fn envelope(alloc: Global, from: u8, pledges: Pledges) -> Envelope {
 fn externalize(alloc: Global, from: u8, byte: u8) -> Result<SharedEnvelope, Fault> {
     let commit = Ballot {
         counter: 1,
-        value: value(alloc, byte)?,
+        value: SharedValue::new(alloc, value(alloc, byte)?)?,
     };
     let pledges = Pledges::Externalize(Externalize {
         commit,

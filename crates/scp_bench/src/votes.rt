@@ -1,7 +1,7 @@
 use crate::quorum::{node, set_of, two_thirds};
 use scp_envelope::{Envelope, Pledges, Prepare, SharedEnvelope, Signature, Statement};
 use scp_quorum::SaneSet;
-use scp_types::{Ballot, Fault, Slot, Value};
+use scp_types::{Ballot, Fault, SharedValue, Slot, Value};
 use scp_vote::{Board, Claim};
 use std::alloc::Global;
 use std::sync::Arc;
@@ -31,7 +31,7 @@ pub struct Votes {
 }
 
 fn ballot(alloc: Global, counter: u32, byte: u8) -> Result<Ballot, Fault> {
-    let value = Value::new(vec![in alloc; byte; 32]?);
+    let value = SharedValue::new(alloc, Value::new(vec![in alloc; byte; 32]?))?;
     Ok(Ballot { counter, value })
 }
 

@@ -6,7 +6,7 @@ use scp_core::{
 };
 use scp_envelope::{Envelope, Externalize, Nominate, Pledges, Signature, Statement, ValueList};
 use scp_quorum::QuorumSet;
-use scp_types::{Ballot, ConnId, Fault, Hash, NodeId, Slot, Value};
+use scp_types::{Ballot, ConnId, Fault, Hash, NodeId, SharedValue, Slot, Value};
 use scp_wire::{BoxedEnvelope, Message, encode};
 use std::alloc::Global;
 use std::process::Abort;
@@ -189,7 +189,7 @@ fn externalize(alloc: Global, node: NodeId, set_hash: Hash) -> Result<Message, F
     let externalize = Externalize {
         commit: Ballot {
             counter: 1,
-            value: value(alloc)?,
+            value: SharedValue::new(alloc, value(alloc)?)?,
         },
         n_high: 1,
         set_hash,

@@ -63,12 +63,12 @@ impl Statement {
         match &self.pledges {
             Pledges::Prepare(prepare) => {
                 prepare.n_commit != 0
-                    && *value == prepare.ballot.value
+                    && value == prepare.ballot.value.get()
                     && prepare.n_commit <= counter
                     && counter <= prepare.n_high
             }
             Pledges::Confirm(confirm) => {
-                *value == confirm.ballot.value && confirm.n_commit <= counter
+                value == confirm.ballot.value.get() && confirm.n_commit <= counter
             }
             Pledges::Externalize(_) => false,
             Pledges::Nominate(_) => false,
@@ -83,12 +83,12 @@ impl Statement {
         match &self.pledges {
             Pledges::Prepare(_) => false,
             Pledges::Confirm(confirm) => {
-                *value == confirm.ballot.value
+                value == confirm.ballot.value.get()
                     && confirm.n_commit <= counter
                     && counter <= confirm.n_high
             }
             Pledges::Externalize(externalize) => {
-                *value == externalize.commit.value && externalize.commit.counter <= counter
+                value == externalize.commit.value.get() && externalize.commit.counter <= counter
             }
             Pledges::Nominate(_) => false,
         }

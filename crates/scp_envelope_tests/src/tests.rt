@@ -1,7 +1,7 @@
 //! Statements that the tests share, in short: a ballot is its counter and its value's one byte, a list is a byte for each
 //! of its values.
 use scp_envelope::*;
-use scp_types::{Ballot, Fault, Hash, NodeId, Slot, Value};
+use scp_types::{Ballot, Fault, Hash, NodeId, SharedValue, Slot, Value};
 use std::alloc::Global;
 use std::process::Abort;
 
@@ -35,7 +35,7 @@ fn value(alloc: Global, bytes: &[u8]) -> Result<Value, Fault> {
 fn ballot(alloc: Global, short: Short) -> Result<Ballot, Fault> {
     Ok(Ballot {
         counter: short.0,
-        value: value(alloc, &[short.1])?,
+        value: SharedValue::new(alloc, value(alloc, &[short.1])?)?,
     })
 }
 
@@ -256,8 +256,8 @@ fn commits(alloc: Global, said: Said, of: Short) -> Result<(bool, bool), Fault> 
 fn commits_ballot(alloc: Global, said: Said, ballot: &Ballot) -> Result<(bool, bool), Fault> {
     let statement = stated(alloc, said)?;
     Ok((
-        statement.votes_commit(ballot.counter, &ballot.value),
-        statement.accepts_commit(ballot.counter, &ballot.value),
+        statement.votes_commit(ballot.counter, ballot.value.get()),
+        statement.accepts_commit(ballot.counter, ballot.value.get()),
     ))
 }
 

@@ -8,7 +8,7 @@ use scp_envelope::{Envelope, Externalize, Nominate, Pledges, Signature, Statemen
 use scp_ledger::{Ledger, Onward, Origin, Outgoing, SharedDecision, Took, Verdict};
 use scp_pending::{DropCause, Pending, Ready};
 use scp_quorum::{QuorumSet, SaneSet};
-use scp_types::{Ballot, ConnId, Fault, NodeId, Seq, Slot, Value};
+use scp_types::{Ballot, ConnId, Fault, NodeId, Seq, SharedValue, Slot, Value};
 use scp_wire::{BoxedEnvelope, Carried, Cause, Command, Inbound, Message};
 use std::alloc::Global;
 use std::process::Abort;
@@ -116,7 +116,7 @@ fn nomination(alloc: Global, node: NodeId, slot: u64, votes: bool) -> Result<Mes
 fn externalize(alloc: Global, node: NodeId, slot: u64) -> Result<Message, Fault> {
     let commit = Ballot {
         counter: 1,
-        value: value(alloc)?,
+        value: SharedValue::new(alloc, value(alloc)?)?,
     };
     let pledges = Pledges::Externalize(Externalize {
         commit,

@@ -1,6 +1,6 @@
 use scp_envelope::{Envelope, Nominate, Pledges, Prepare, Signature, Statement, ValueList};
 use scp_outbox::{FittingMessage, Mark, Out, Outbox};
-use scp_types::{Ballot, Fault, Hash, NodeId, Slot, Value};
+use scp_types::{Ballot, Fault, Hash, NodeId, SharedValue, Slot, Value};
 use scp_wire::{BoxedEnvelope, Message, encode};
 use std::alloc::Global;
 use std::process::Abort;
@@ -43,7 +43,7 @@ fn nomination(alloc: Global, slot: u64, votes: usize) -> Result<Message, Fault> 
 fn prepare(alloc: Global, slot: u64, counter: u32) -> Result<Message, Fault> {
     let ballot = Ballot {
         counter,
-        value: value(alloc, 1)?,
+        value: SharedValue::new(alloc, value(alloc, 1)?)?,
     };
     let prepare = Prepare {
         set_hash: Hash([0; 32]),

@@ -19,7 +19,7 @@ fn has_invalid_value<D: Driver>(driver: &D, slot: Slot, ballot: &Option<Ballot>)
     ensures { IsTrue result ↔ IsSomeAnd ballot.now (λ b. IsInvalid (D.level driver.now slot.0) b.value) }
 {
     match ballot {
-        Some(ballot) => is_invalid(driver, slot, &ballot.value),
+        Some(ballot) => is_invalid(driver, slot, ballot.value.get()),
         None => false,
     }
 }
@@ -28,7 +28,7 @@ fn has_invalid_value<D: Driver>(driver: &D, slot: Slot, ballot: &Option<Ballot>)
 fn is_bad_prepare<D: Driver>(driver: &D, slot: Slot, prepare: &Prepare) -> bool
     ensures { IsTrue result ↔ HasInvalid (D.level driver.now slot.0) (Pledges.Prepare prepare.now) }
 {
-    is_invalid(driver, slot, &prepare.ballot.value)
+    is_invalid(driver, slot, prepare.ballot.value.get())
         || has_invalid_value(driver, slot, &prepare.prepared)
         || has_invalid_value(driver, slot, &prepare.prepared_prime)
 }
@@ -39,8 +39,12 @@ pub(crate) fn has_invalid<D: Driver>(driver: &D, slot: Slot, pledges: &Pledges) 
 {
     match pledges {
         Pledges::Prepare(prepare) => is_bad_prepare(driver, slot, prepare),
-        Pledges::Confirm(confirm) => is_invalid(driver, slot, &confirm.ballot.value),
-        Pledges::Externalize(externalize) => is_invalid(driver, slot, &externalize.commit.value),
+        Pledges::Confirm(confirm) => is_invalid(driver, slot, confirm.ballot.value.get()),
+        Pledges::Externalize(externalize) => is_invalid(
+            driver,
+            slot,
+            externalize.commit.value.get(),
+        ),
         Pledges::Nominate(_) => false,
     }
 }

@@ -13,7 +13,7 @@ use crate::term::{Term, read_all, write_all};
 use scp_envelope::{
     Confirm, Envelope, Externalize, Nominate, Pledges, Prepare, Signature, Statement, ValueList,
 };
-use scp_types::{Ballot, Fault, Hash, Slot, Value};
+use scp_types::{Ballot, Fault, Hash, SharedValue, Slot, Value};
 use scp_wire::{BoxedEnvelope, Message, encode};
 use std::alloc::{AllocError, Global};
 
@@ -60,6 +60,7 @@ fn ballot_from(alloc: Global, inner: &[u8]) -> Result<Option<Ballot>, Fault>
     let Some(value) = Value::read(alloc, *second)? else {
         return Ok(None);
     };
+    let value = SharedValue::new(alloc, value)?;
     Ok(Some(Ballot { counter, value }))
 }
 
@@ -490,7 +491,7 @@ fn write_ballot(out: &mut String, name: &str, ballot: &Ballot) -> Result<(), Fau
     out.push_str(name)?;
     ballot.counter.write(out)?;
     out.push_str(",")?;
-    ballot.value.write(out)?;
+    ballot.value.get().write(out)?;
     out.push_str(")")?;
     Ok(())
 }

@@ -1,7 +1,7 @@
 ghost use Rattle.std.specs.Prelude.{◌≡◌, IfOk, IsOkUnless};
 
 use crate::fault::Fault;
-use crate::value::Value;
+use crate::shared::SharedValue;
 
 /// A ballot of the SCP draft, ordered by its counter and then by its value's bytes.
 #[derive(Debug, Drop, PartialEq, Eq, PartialOrd, Ord)]
@@ -9,18 +9,19 @@ pub struct Ballot {
     /// Counts the attempts; 0 stands for no ballot.
     pub counter: u32,
     /// What this attempt would agree on.
-    pub value: Value,
+    pub value: SharedValue,
 }
 
 impl Ballot {
-    /// Another ballot with the same counter and value. The one refusal is `Fault::NoMemory`.
+    /// Another ballot with the same counter, which shares the value: no byte is copied. The one refusal is
+    /// `Fault::NoMemory`.
     pub fn copy(&self) -> Result<Ballot, Fault>
         ensures same { IfOk result (λ b. b ≡ self.now) }
         ensures only_memory { IsOkUnless result Fault.NoMemory }
     {
         Ok(Ballot {
             counter: self.counter,
-            value: self.value.copy()?,
+            value: self.value.share()?,
         })
     }
 }

@@ -14,7 +14,7 @@ fn value_of(alloc: Global, bytes: &[u8]) -> Result<Value, Fault> {
 fn ballot_of(alloc: Global, counter: u32, bytes: &[u8]) -> Result<Ballot, Fault> {
     Ok(Ballot {
         counter,
-        value: value_of(alloc, bytes)?,
+        value: SharedValue::new(alloc, value_of(alloc, bytes)?)?,
     })
 }
 
@@ -121,7 +121,7 @@ fn is_copied(ballot: &Ballot, bytes: &[u8]) -> Result<bool, Fault> {
     if copy != *ballot {
         return Ok(false);
     }
-    gives_back(&copy.value, bytes)
+    gives_back(copy.value.get(), bytes)
 }
 
 #[test]

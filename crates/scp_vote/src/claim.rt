@@ -5,7 +5,7 @@ ghost use Rattle.scp_vote.specs.declared.claim.Support.TheVariants.{VotesOrAccep
 ghost use Rattle.scp_vote.specs.Board.{kind_of_pledges};
 
 use scp_envelope::{Pledges, Statement};
-use scp_types::{Ballot, Value};
+use scp_types::{Ballot, SharedValue, Value};
 
 /// What nodes vote for and accept (the SCP draft).
 #[derive(Debug, Drop)]
@@ -13,7 +13,7 @@ pub enum Claim {
     /// The ballot is prepared.
     Prepared(Ballot),
     /// The value is committed at each counter from the first to the second.
-    Committed(u32, u32, Value),
+    Committed(u32, u32, SharedValue),
     /// The value is nominated.
     Nominated(Value),
 }
@@ -68,8 +68,8 @@ pub fn stands(support: Support, claim: &Claim, statement: &Statement) -> bool
             }
         },
         Claim::Committed(low, high, value) => match support {
-            Support::Accepts => accepts_range(statement, *low, *high, value),
-            Support::VotesOrAccepts => supports_range(statement, *low, *high, value),
+            Support::Accepts => accepts_range(statement, *low, *high, value.get()),
+            Support::VotesOrAccepts => supports_range(statement, *low, *high, value.get()),
         },
         Claim::Nominated(value) => match support {
             Support::Accepts => statement.accepts_value(value),

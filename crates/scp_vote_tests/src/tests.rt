@@ -6,7 +6,7 @@ mod standing;
 
 use scp_envelope::*;
 use scp_quorum::{QuorumSet, SaneSet};
-use scp_types::{Ballot, Fault, Hash, NodeId, Slot, Value};
+use scp_types::{Ballot, Fault, Hash, NodeId, SharedValue, Slot, Value};
 use scp_vote::*;
 use std::alloc::Global;
 use std::collections::BTreeSet;
@@ -53,10 +53,14 @@ fn value(alloc: Global, byte: u8) -> Result<Value, Fault> {
     Ok(Value::new(Vec::from_slice(alloc, &[byte])?))
 }
 
+fn shared(alloc: Global, byte: u8) -> Result<SharedValue, Fault> {
+    SharedValue::new(alloc, value(alloc, byte)?)
+}
+
 fn ballot(alloc: Global, short: ShortBallot) -> Result<Ballot, Fault> {
     Ok(Ballot {
         counter: short.0,
-        value: value(alloc, short.1)?,
+        value: shared(alloc, short.1)?,
     })
 }
 
@@ -136,7 +140,7 @@ fn claim(alloc: Global, claimed: Claimed) -> Result<Claim, Fault> {
     match claimed {
         Claimed::Prepared(counter, byte) => Ok(Claim::Prepared(ballot(alloc, (counter, byte))?)),
         Claimed::Committed(low, high, byte) => {
-            Ok(Claim::Committed(low, high, value(alloc, byte)?))
+            Ok(Claim::Committed(low, high, shared(alloc, byte)?))
         }
         Claimed::Nominated(byte) => Ok(Claim::Nominated(value(alloc, byte)?)),
     }

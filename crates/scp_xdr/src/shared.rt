@@ -7,7 +7,7 @@ use crate::reader::Reader;
 use crate::room::{spend_fixed, spend_opaque, spend_u32};
 use crate::writer::Writer;
 use crate::xdr::Xdr;
-use scp_types::{Ballot, Fault, Hash, NodeId, Value};
+use scp_types::{Ballot, Fault, Hash, NodeId, SharedValue, Value};
 use std::alloc::Global;
 
 const VALUE_LIMIT: u32 = 4_096;
@@ -118,7 +118,7 @@ impl Xdr for Ballot {
 
     fn read(alloc: Global, reader: &mut Reader<'_>) -> Result<Ballot, Fault> {
         let counter = reader.u32()?;
-        let value = Value::read(alloc, reader)?;
+        let value = SharedValue::new(alloc, Value::read(alloc, reader)?)?;
         Ok(Ballot { counter, value })
     }
 
@@ -129,16 +129,16 @@ impl Xdr for Ballot {
 
     fn fits(&self) -> bool {
         let _counter = self.counter;
-        self.value.fits()
+        self.value.get().fits()
     }
 
     fn spend(&self, room: usize) -> Option<usize> {
         let left = spend_u32(room)?;
-        self.value.spend(left)
+        self.value.get().spend(left)
     }
 
     fn write(&self, writer: &mut Writer) -> Result<(), Fault> {
         writer.u32(self.counter)?;
-        self.value.write(writer)
+        self.value.get().write(writer)
     }
 }

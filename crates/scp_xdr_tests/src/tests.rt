@@ -1,7 +1,7 @@
 mod again;
 mod sizes;
 
-use scp_types::{Ballot, Fault, Hash, NodeId, Value};
+use scp_types::{Ballot, Fault, Hash, NodeId, SharedValue, Value};
 use scp_xdr::*;
 use std::alloc::Global;
 use std::process::Abort;
@@ -312,7 +312,7 @@ fn a_value_is_all_of_the_bytes(rt: HostRuntime) -> Result<(), Fail> {
 fn third_ballot(alloc: Global, bytes: &[u8]) -> Result<Ballot, Fault> {
     Ok(Ballot {
         counter: 3,
-        value: value_of(alloc, bytes)?,
+        value: SharedValue::new(alloc, value_of(alloc, bytes)?)?,
     })
 }
 

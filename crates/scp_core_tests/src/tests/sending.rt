@@ -157,7 +157,7 @@ fn confirm(alloc: Global, set_hash: Hash) -> Result<Message, Fault> {
     let confirm = Confirm {
         ballot: Ballot {
             counter: 1,
-            value: value(alloc)?,
+            value: SharedValue::new(alloc, value(alloc)?)?,
         },
         n_prepared: 1,
         n_commit: 1,

@@ -153,10 +153,10 @@ fn has_prepare_fields(rt: &impl Abort, pledges: &Pledges) {
         panic!(rt; "no preparedPrime");
     };
     assert_eq!(rt; read.ballot.counter, 3);
-    assert_eq!(rt; read.ballot.value.as_slice(), b"a".as_slice());
+    assert_eq!(rt; read.ballot.value.get().as_slice(), b"a".as_slice());
     assert!(rt; matches!(&read.prepared, Some(prepared) if prepared.counter == 2));
     assert_eq!(rt; prime.counter, 1);
-    assert!(rt; prime.value.as_slice().is_empty());
+    assert!(rt; prime.value.get().as_slice().is_empty());
     assert_eq!(rt; (read.n_commit, read.n_high), (0, 2));
 }
 
@@ -399,7 +399,7 @@ fn both_lists_and_their_values_have_limits(rt: HostRuntime) -> Result<(), Fail> 
 
 /// A ballot with a value of so many bytes.
 fn long_ballot(alloc: Global, len: usize) -> Result<Ballot, Fault> {
-    let value = long(alloc, len)?;
+    let value = SharedValue::new(alloc, long(alloc, len)?)?;
     Ok(Ballot { counter: 1, value })
 }
 
@@ -445,7 +445,7 @@ fn values_of_ballots_that_are_written_have_limits(rt: HostRuntime) -> Result<(),
 
 /// An EXTERNALIZE with a value and a signature of so many bytes.
 fn externalizing(alloc: Global, value_len: usize, signed: usize) -> Result<Envelope, Fault> {
-    let value = long(alloc, value_len)?;
+    let value = SharedValue::new(alloc, long(alloc, value_len)?)?;
     let signature = Signature::new(vec![in alloc; 5; signed]?);
     let commit = Ballot { counter: 1, value };
     let pledges = Pledges::Externalize(Externalize {

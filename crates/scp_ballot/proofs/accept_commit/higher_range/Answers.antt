@@ -9,4 +9,4 @@ use Rattle.scp_ballot.proofs.accept_commit.higher_range.Goals as goal
 pub returns-clause-none : goal.returns-clause-none
 returns-clause-none c =
     let Free : ℕ → List ℕ → Type 0 = λ n v. (x : Ballot) → Contains c.args.boundaries.now x → n < x.counter → x.value ≡ v → Accepted (ballots_on c.args.board.now) (Committed x.counter x.counter x.value) → ⊥ in
-    subst (λ (v : List ℕ). IfNone c.in_ok-found.found (Free (counter_of c.args.state.now.high) v)) c.in_ok-copy.ensures.same (subst (λ (n : ℕ). IfNone c.in_ok-found.found (Free n c.in_ok-copy.field-0)) c.counter-floor.ensures c.in_ok-found.ensures.none)
+    subst (λ (v : List ℕ). IfNone c.in_ok-found.found (Free (counter_of c.args.state.now.high) v)) c.in_ok-share.ensures.same (subst (λ (n : ℕ). IfNone c.in_ok-found.found (Free n c.in_ok-share.field-0)) c.counter-floor.ensures c.in_ok-found.ensures.none)

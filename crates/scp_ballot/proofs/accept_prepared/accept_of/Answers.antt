@@ -11,5 +11,5 @@ returns-clause-step c =
     let b = ballots_on c.args.board.now in
     let old = c.args.state.now in
     let differs : c.in_ok-prepared.prepared ≡ old.prepared → ⊥ = λ e. (let t : c.is_same.result ≡ true = c.is_same.ensures.1 e in let f : true ≡ false = sym t ∙ c.if-is_same.false in cc) in
-    let g = subst (λ (v : List ℕ). IsGreatest (λ x. (x.value ≡ v) × Accepted b (Prepared x)) c.args.candidates.now old.prepared c.in_ok-prepared.prepared) c.in_ok-copy.ensures.same c.in_ok-prepared.ensures.greatest in
+    let g = subst (λ (v : List ℕ). IsGreatest (λ x. (x.value ≡ v) × Accepted b (Prepared x)) c.args.candidates.now old.prepared c.in_ok-prepared.prepared) c.in_ok-share.ensures.same c.in_ok-prepared.ensures.greatest in
     accepts_more b old c.in_ok-next.next c.args.candidates.now c.in_ok-prepared.prepared c.args.low.now c.requires.low c.requires.all g differs c.in_ok-next.ensures.made
