@@ -119,8 +119,8 @@ both_hold false b e = absurd cc
 
 same_command : (a b : Asking) → tree.is_at (asking_cmp a) b ≡ true → Ask a.link a.slot ≡ Ask b.link b.slot
 same_command a b e =
-    let h = both_hold _ _ (tied_then (nat_cmp a.link b.link) (nat_cmp a.slot.0 b.slot.0) ∙ e) in
-    ap (λ l. Ask l a.slot) (at_is a.link b.link h.0) ∙ ap (λ s. Ask b.link (record { 0 = s })) (at_is a.slot.0 b.slot.0 h.1)
+    let h = both_hold _ _ (tied_then (nat_cmp b.slot.0 a.slot.0) (nat_cmp a.link b.link) ∙ e) in
+    ap (λ l. Ask l a.slot) (at_is a.link b.link h.1) ∙ ap (λ s. Ask b.link (record { 0 = s })) (sym (at_is b.slot.0 a.slot.0 h.0))
 
 either : (b rest : Bool) → cond b true rest ≡ true → (b ≡ true) ⊎ (rest ≡ true)
 either true rest e = inl refl

@@ -80,13 +80,11 @@ impl Fetcher {
         ensures unchanged { OnErr result (self.new ≡ self.old) }
         ensures only_memory { IsOkUnless result Fault.NoMemory }
     {
-        let asks = !self.asked(hash, link);
-        if has_want(&self.wants, hash) {
-            note_asked(&mut self.wants, hash, link as usize);
-        } else {
-            add_want(&mut self.wants, hash, link as usize)?;
+        if let Some(asks) = note_asked(&mut self.wants, hash, link as usize) {
+            return Ok(asks);
         }
-        Ok(asks)
+        add_want(&mut self.wants, hash, link as usize)?;
+        Ok(true)
     }
 
     /// Whether the hash is wanted and that link was asked for it since both the hash became wanted and the link last

@@ -1,5 +1,5 @@
 //! A wanted hash, and the table of those that are wanted.
-ghost use Rattle.std.specs.Prelude.{◌≡◌, ◌<◌, ◌++◌, ◌∷◌, [], ℕ, Bool, true, false, map, filter, not, nat_lt, IfOk, OnOk, OnErr, IsOkUnless};
+ghost use Rattle.std.specs.Prelude.{◌≡◌, ◌<◌, ◌++◌, ◌∷◌, [], ℕ, Bool, true, false, map, filter, not, nat_lt, IfOk, OnOk, OnErr, IsOkUnless, IfSome, IfNone, is_some};
 ghost use Rattle.std.specs.List.{AllByRecursion};
 ghost use Rattle.scp_fetch.specs.Wants.{is_wanted, is_asked, unasked, without, gives_up, ask, unask, new_want, missed_by, count_miss, is_last, is_missed, last_missed};
 ghost use Rattle.scp_fetch.specs.Table.{wants_in, IsUnderHash};
@@ -118,16 +118,25 @@ pub fn add_want(wants: &mut IndexMap<[u8; 32], Want>, hash: &Hash, link: usize) 
     Ok(())
 }
 
-/// The link is asked.
-pub fn note_asked(wants: &mut IndexMap<[u8; 32], Want>, hash: &Hash, link: usize)
+/// The link is asked, where the hash is wanted: then whether it wasn't asked before.
+pub fn note_asked(wants: &mut IndexMap<[u8; 32], Want>, hash: &Hash, link: usize) -> Option<bool>
     requires link { link < 8 }
     requires under { AllByRecursion IsUnderHash wants.old.entries }
-    ensures asked { wants_in wants.new.entries ≡ map (ask hash.now link) (wants_in wants.old.entries) }
+    ensures wanted { is_some result ≡ is_wanted hash.now (wants_in wants.old.entries) }
+    ensures asks { IfSome result (λ asks. asks ≡ not (is_asked hash.now link (wants_in wants.old.entries))) }
+    ensures asked { IfSome result (λ _. wants_in wants.new.entries ≡ map (ask hash.now link) (wants_in wants.old.entries)) }
+    ensures unasked { IfNone result (is_asked hash.now link (wants_in wants.old.entries) ≡ false) }
+    ensures unchanged { IfNone result (wants.new.entries ≡ wants.old.entries) }
     ensures under { AllByRecursion IsUnderHash wants.new.entries }
 {
     let _distinct = wants.len();
-    if let Some(want) = wants.get_mut(&hash.0) {
-        want.asked[link] = true;
+    match wants.get_mut(&hash.0) {
+        Some(want) => {
+            let asks = !want.asked[link];
+            want.asked[link] = true;
+            Some(asks)
+        }
+        None => None,
     }
 }
 

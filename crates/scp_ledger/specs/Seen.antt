@@ -22,14 +22,14 @@ pub record LedgerView (D : Type 0) : Type 0 where
   pub journal : List Fate
   pub decisions : List Decision
   pub lowest : ℕ  -- the lowest slot from 1 on without a decision, where the ledger hasn't failed
-  pub asked : List Asking  -- the links that were asked for a slot, with the slot, ascending
+  pub asked : List Asking  -- the links that were asked for a slot, with the slot, the newest slots first
   pub machines : List (ℕ × SlotMachine D)  -- the machines of undecided slots, ascending by slot
 
 abbrev pub machine_at : {D : Type 0} → List (ℕ × SlotMachine D) → ℕ → Option (SlotMachine D)
 machine_at machines slot = lookup (tree.is_at (nat_cmp slot)) machines
 
 abbrev pub asking_cmp : Asking → Asking → Ordering
-asking_cmp a b = ordering_then (nat_cmp a.link b.link) (nat_cmp a.slot.0 b.slot.0)
+asking_cmp a b = ordering_then (nat_cmp b.slot.0 a.slot.0) (nat_cmp a.link b.link)
 
 -- this link was asked for this slot
 abbrev pub is_asked : List Asking → Asking → Bool

@@ -6,6 +6,7 @@ use scp_pending::DropCause;
 use scp_quorum::SaneSet;
 use scp_types::{ConnId, Seq, Slot, Value};
 use scp_wire::{Cause, Message};
+use std::cmp::Ordering;
 use std::sync::Arc;
 
 /// What was found of a message or a command that was taken.
@@ -87,9 +88,42 @@ pub struct Decision {
     pub origin: Origin,
 }
 
-/// A link that was asked for the record of a slot.
-#[derive(Clone, Copy, Debug, PartialEq, Eq, PartialOrd, Ord)]
+/// A link that was asked for the record of a slot. The newest slot comes first: what is looked for stands near the front.
+#[derive(Clone, Copy, Debug, PartialEq, Eq)]
 pub struct Asking {
-    pub link: u8,
     pub slot: Slot,
+    pub link: u8,
+}
+
+impl PartialOrd for Asking {
+    ghost use Rattle.std.specs.Ordering.{nat_cmp, on, flip_args, then_cmp, as_partial_cmp};
+    ghost use Rattle.std.specs.Cmp.{partial_order_from_own_ties};
+    ghost use Rattle.std.specs.Cmp.Rules.{comparing};
+    ghost use Rattle.std.proofs.Common.{rules};
+
+    ghost partial_cmp = { as_partial_cmp (then_cmp (flip_args (on (λ a. a.slot.0) nat_cmp)) (on (λ a. a.link) nat_cmp)) };
+
+    ghost laws = { partial_order_from_own_ties (Prim.search (comparing, rules)) (Prim.search (comparing, rules)) };
+
+    fn partial_cmp(&self, other: &Asking) -> Option<Ordering> {
+        Some(self.cmp(other))
+    }
+}
+
+impl Ord for Asking {
+    ghost use Rattle.std.specs.Ordering.{nat_cmp, on, flip_args, then_cmp};
+    ghost use Rattle.std.specs.Cmp.Rules.{comparing};
+    ghost use Rattle.std.proofs.Common.{rules};
+
+    ghost cmp = { then_cmp (flip_args (on (λ a. a.slot.0) nat_cmp)) (on (λ a. a.link) nat_cmp) };
+
+    ghost total = { Prim.search (comparing, rules) };
+
+    ghost matches_partial_cmp = { Prim.search (comparing, rules) };
+
+    ghost matches_eq = { Prim.search (comparing, rules) };
+
+    fn cmp(&self, other: &Asking) -> Ordering {
+        other.slot.cmp(&self.slot).then(self.link.cmp(&other.link))
+    }
 }

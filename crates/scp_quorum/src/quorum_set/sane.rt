@@ -13,6 +13,9 @@ use scp_xdr::Xdr;
 /// How many nodes a sane quorum set may have in the whole (this project's profile).
 const MAX_NODES: usize = 1_000;
 
+/// A set of so few nodes needs no room for as many as there may be.
+const FEW: usize = 32;
+
 /// How many bytes the spelling of a sane quorum set may have, so that a message of 65,536 bytes can
 /// hold it behind its discriminant (this project's profile).
 const MAX_BYTES: usize = 65_532;
@@ -54,6 +57,17 @@ impl QuorumSet {
     }
 
     fn has_few_distinct_nodes(&self) -> bool
+        ensures { IsTrue result ↔ ((length (all_nodes self.now) ≤ 1000) × IsDistinct (eq_by_cmp node_cmp) (all_nodes self.now)) }
+    {
+        let mut nodes = [NodeId([0; 32]); FEW];
+        match self.gather(&mut nodes, 0) {
+            Some(len) => are_distinct(&mut nodes[..len]),
+            None => self.has_distinct_nodes(),
+        }
+    }
+
+    /// The same for a set of any number of nodes, in room for as many as there may be.
+    fn has_distinct_nodes(&self) -> bool
         ensures { IsTrue result ↔ ((length (all_nodes self.now) ≤ 1000) × IsDistinct (eq_by_cmp node_cmp) (all_nodes self.now)) }
     {
         let mut nodes = [NodeId([0; 32]); MAX_NODES];
