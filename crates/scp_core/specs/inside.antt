@@ -3,3 +3,4 @@ pub mod Decider
 pub mod Starting
 pub mod Stage
 pub mod Draining
+pub mod Stops

@@ -2,10 +2,12 @@
 ghost use Rattle.std.specs.Prelude.{◌≡◌, ◌≢◌, ◌≤◌, ◌∷◌, [], ◌<◌, false, true, length, None, Some, IfOk, IsOkUnless, option_copied, if◌then◌else◌};
 ghost use Rattle.scp_types.specs.declared.names.NodeId.{NodeId};
 ghost use Rattle.scp_core.specs.inside.Decider.{new_decider, Decides, Applies, PutsOn, fail as failed_now};
+ghost use Rattle.scp_core.specs.inside.Stops.{told};
 
 use crate::event::Reply;
 use crate::queue;
 use crate::stage::SlotStage;
+use crate::stop::Stop;
 use circular_buffer::HeapCircularBuffer;
 use scp_apply::{Applier, the_next_decision_can_be_taken};
 use scp_kv::KvState;
@@ -160,19 +162,19 @@ impl Decider {
     }
 
     /// The applier takes what is next, and gives its answer for a link, if there is one.
-    pub fn apply(&mut self) -> Result<Option<(u8, Message)>, Reply>
+    pub fn apply(&mut self) -> Result<Option<(u8, Message)>, Stop>
         requires runs { self.old.failed ≡ false }
-        ensures { Applies self.old result self.new }
+        ensures { Applies self.old (told result) self.new }
     {
         let Some(onward) = queue::next(&mut self.queue) else {
-            return Err(Reply::Idle);
+            return Err(Stop::Idle);
         };
         the_next_decision_can_be_taken();
         match self.applier.take(onward) {
             Ok(answer) => Ok(answer),
             Err(_) => {
                 self.failed = true;
-                Err(Reply::NoMemory)
+                Err(Stop::NoMemory)
             }
         }
     }

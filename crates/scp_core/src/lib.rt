@@ -25,6 +25,7 @@ mod outcome;
 mod queue;
 mod running;
 mod stage;
+mod stop;
 
 pub use config::{Capacities, Config, Peers};
 pub use event::{Event, Reply};

@@ -2,9 +2,11 @@
 ghost use Rattle.std.specs.Prelude.{◌≡◌, ◌≢◌, ◌-◌, ◌∷◌, [], ◌⊎◌, length, Some, None, IsSome, false, true, IfOk, slice_get, slice_set, replicate, IsOkUnless, MatchOption};
 ghost use Rattle.scp_core.specs.Node.{new_link, link_accepts};
 ghost use Rattle.scp_core.specs.inside.Links.{Opens, Sends, Closes, Reads, OnLinks, Gives, Puts};
+ghost use Rattle.scp_core.specs.inside.Stops.{told};
 
 use crate::event::Reply;
 use crate::queue;
+use crate::stop::Stop;
 use circular_buffer::HeapCircularBuffer;
 use scp_types::{ConnId, Fault, NodeId};
 use scp_wire::{Bytes, Inbound, LinkItem, LinkReader};
@@ -146,18 +148,18 @@ impl Link {
     }
 
     /// What is in the reader's hand, out of it where there is room for it.
-    fn give(&mut self, is_full: bool) -> Result<Inbound, Reply>
-        ensures { Gives self.old is_full result self.new }
+    fn give(&mut self, is_full: bool) -> Result<Inbound, Stop>
+        ensures { Gives self.old is_full (told result) self.new }
     {
         if self.hand.is_none() {
-            return Err(Reply::Idle);
+            return Err(Stop::Idle);
         }
         if is_full {
-            return Err(Reply::Blocked);
+            return Err(Stop::Blocked);
         }
         match self.hand.take() {
             Some(item) => Ok(item),
-            None => Err(Reply::Idle),
+            None => Err(Stop::Idle),
         }
     }
 }
@@ -200,11 +202,11 @@ pub fn read(alloc: Global, links: &mut Vec<Link>, link: u8) -> Reply
 }
 
 /// What is in the reader's hand, out of it, unless there is no such link, nothing in the hand, or no room for it.
-pub fn give(links: &mut Vec<Link>, link: u8, is_full: bool) -> Result<Inbound, Reply>
-    ensures { Puts links.old.items link is_full result links.new.items }
+pub fn give(links: &mut Vec<Link>, link: u8, is_full: bool) -> Result<Inbound, Stop>
+    ensures { Puts links.old.items link is_full (told result) links.new.items }
 {
     match links.get_mut(link as usize) {
-        None => Err(Reply::NoLink),
+        None => Err(Stop::NoLink),
         Some(link) => link.give(is_full),
     }
 }

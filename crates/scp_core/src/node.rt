@@ -356,7 +356,7 @@ impl Node {
                 queue::put(&mut self.inbox, item);
                 Reply::Moved
             }
-            Err(reply) => reply,
+            Err(stop) => stop.reply(),
         }
     }
 
@@ -432,7 +432,7 @@ impl Node {
                 hand_out(&mut self.outboxes, answer);
                 Reply::Moved
             }
-            Err(reply) => reply,
+            Err(stop) => stop.reply(),
         }
     }
 

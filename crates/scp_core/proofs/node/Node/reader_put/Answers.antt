@@ -1,7 +1,8 @@
 use Rattle.std.proofs.Common.{◌∙◌, ap}
 use Rattle.scp_core.specs.Node.{NodeView}
+use Rattle.scp_core.specs.inside.Stops.{reply_of}
 use Rattle.scp_core.proofs.Handlers.{put-refused}
 use Rattle.scp_core.proofs.node.Node.reader_put.Goals as goal
 
 pub returns-in-Err : goal.returns-in-Err
-returns-in-Err c = rw (← c.self.view_is) (put-refused _ c.args.link c.is_full.result c.in-Err.reply _ c.is_full.ensures.full (ap (λ (v : NodeView). v.failed) c.self.view_is ∙ c.requires) c.in-Err.ensures)
+returns-in-Err c = rw (← c.self.view_is, c.reply.ensures) (put-refused _ c.args.link c.is_full.result (reply_of c.in-Err.stop) _ c.is_full.ensures.full (ap (λ (v : NodeView). v.failed) c.self.view_is ∙ c.requires) c.in-Err.ensures)
