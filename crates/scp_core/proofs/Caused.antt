@@ -1,13 +1,12 @@
 -- Causes, and where the pending stage is idle.
-use Rattle.std.proofs.Common.{◌≡◌, true, ◌⊎◌, inl, inr, ℕ, List, [], ◌∷◌, ◌++◌, refl, sym, ◌∙◌, ap, subst, append_assoc, length}
-use Rattle.std.specs.Prelude.{Some, Contains, flat_map, map, option_to_list, slice_get}
+use Rattle.std.proofs.Common.{◌≡◌, true, inl, inr, ℕ, List, [], ◌∷◌, ◌++◌, refl, sym, ◌∙◌, ap, subst, length}
+use Rattle.std.specs.Prelude.{Some, Contains, flat_map, map, slice_get}
 use Rattle.std.specs.List.{AllByRecursion}
 use Rattle.std.proofs.lemmas.List.{append-nil}
 use Rattle.std.proofs.lemmas.List.Elements.{All-nil, All-cons, All-contains, Contains-push, Contains-append_left, Contains-append_right, Contains-append_cases}
 use Rattle.std.proofs.lemmas.Grind.{flat_map-append}
 use Rattle.scp_types.specs.declared.names.NodeId.{NodeId}
 use Rattle.scp_types.specs.declared.names.ConnId.{ConnId}
-use Rattle.scp_quorum.specs.QuorumTree.{QuorumTree}
 use Rattle.scp_types.specs.declared.names.Slot.{Slot}
 use Rattle.scp_wire.specs.declared.link.Command.{Command}
 use Rattle.scp_wire.specs.declared.link.Command.TheVariants.{Propose, Round, Timer, Tick, Ask}
@@ -18,10 +17,10 @@ use Rattle.scp_wire.specs.Marks.{one_if}
 use Rattle.scp_pending.specs.declared.ready.Ready.{Ready}
 use Rattle.scp_pending.specs.declared.ready.Ready.TheVariants as ready
 use Rattle.scp_pending.specs.Queues.{is_open}
-use Rattle.scp_pending.specs.Rules.{Settled, settled_by, fresh}
+use Rattle.scp_pending.specs.Rules.{Settled, settled_by}
 use Rattle.scp_pending.specs.Causes.{IsTaken, HasCause, IsSettledBy}
 use Rattle.scp_pending.specs.Endings.{Way, went, over, way_by, way, ways, Exits, IsCutOff, commands_in, commands_of, passed, passing}
-use Rattle.scp_pending.specs.Pends.{start_of, IsSettled}
+use Rattle.scp_pending.specs.Pends.{IsSettled}
 use Rattle.scp_pending.specs.Laws.{AreFrom}
 use Rattle.scp_pending.proofs.Basics.{all_left}
 use Rattle.scp_pending.proofs.Passing.{all_have_causes}

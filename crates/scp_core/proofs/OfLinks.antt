@@ -1,5 +1,5 @@
 -- Each entry is of a connection of some link.
-use Rattle.std.proofs.Common.{◌≡◌, ℕ, ◌+◌, ◌<◌, Bool, true, false, cond, not, List, [], ◌∷◌, ◌++◌, length, refl, sym, ◌∙◌, ap, subst, arith, append_assoc, map, inl, inr, ◌⊎◌}
+use Rattle.std.proofs.Common.{◌≡◌, ℕ, Bool, true, false, cond, not, List, [], ◌∷◌, ◌++◌, length, refl, sym, ◌∙◌, ap, subst, arith, append_assoc, map, inl, inr, ◌⊎◌}
 use Rattle.std.specs.Prelude.{◌&&◌, ◌||◌, nat_lt, Option, Some, None, is_some, position, flat_map, option_to_list}
 use Rattle.std.specs.List.{list_any, position_or_len, AllByRecursion}
 use Rattle.std.proofs.lemmas.Bool.{ltb-true}
@@ -14,7 +14,7 @@ use Rattle.scp_wire.specs.declared.link.Cause.TheVariants.{ParkedFull}
 use Rattle.scp_wire.specs.declared.link.Command.TheVariants.{Propose, Round, Timer, Tick, Ask}
 use Rattle.scp_wire.specs.declared.link.Inbound.{Inbound}
 use Rattle.scp_wire.specs.declared.link.Inbound.TheVariants as inbound
-use Rattle.scp_wire.specs.Connections.{same_node, same_conn}
+use Rattle.scp_wire.specs.Connections.{same_node}
 use Rattle.scp_fetch.specs.declared.want.Miss.TheVariants.{One}
 use Rattle.scp_fetch.specs.Wants.{gives_up, last_missed}
 use Rattle.scp_pending.specs.declared.parked.Parked.{Parked}
@@ -25,7 +25,7 @@ use Rattle.scp_pending.specs.declared.ready.Ready.{Ready}
 use Rattle.scp_pending.specs.declared.ready.Ready.TheVariants as ready
 use Rattle.scp_pending.specs.Queues.{QueueView, is_of, is_open, is_link_open, parked_of, leaves_of, leaving_of, in_order_of, is_hash, hash_of, resolved, resolved_in, lost_by, dropped as fallen}
 use Rattle.scp_pending.specs.Rules.{Settled, fresh, link_of, opens, rules, releases, is_full, goes_through, entering, by_answer, is_answer, is_given_up, heard_out, settled_by, released_by}
-use Rattle.scp_pending.specs.Causes.{HasCause, IsTaken}
+use Rattle.scp_pending.specs.Causes.{HasCause}
 use Rattle.scp_pending.specs.Pends.{start_of}
 use Rattle.scp_pending.proofs.Basics.{or_none, same_conn-true, all_step, all_append, all_left}
 use Rattle.scp_pending.proofs.Passing.{all_have_causes}

@@ -1,5 +1,5 @@
 -- What a slot stage shows, and what it hands out.
-use Rattle.std.proofs.Common.{◌≡◌, ◌+◌, ◌↔◌, true, false, ℕ, List, [], ◌∷◌, ◌++◌, refl, sym, ◌∙◌, ap, subst, arith, length}
+use Rattle.std.proofs.Common.{◌≡◌, ◌↔◌, true, false, ℕ, List, [], ◌∷◌, ◌++◌, refl, sym, ◌∙◌, ap, subst, arith, length}
 use Rattle.std.specs.Prelude.{Option, Some, None, Result, Ok, Err, IsErrOf, OnErr, is_err, Any, option_to_list}
 use Rattle.std.proofs.lemmas.List.{get_or_append_left, length-append}
 use Rattle.std.proofs.lemmas.List.Quantifiers.{Any-push}
