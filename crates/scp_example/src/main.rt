@@ -37,17 +37,17 @@ fn config(alloc: Global) -> Result<Config, Fault> {
     })
 }
 
-/// Node 2 opens its link to node 1, which asks it for the record of slot 1; node 2 sends it, and closes: what becomes of node 1.
-fn first_record(alloc: Global) -> Result<Node, Fault> {
-    let mut node = Node::new(alloc, config(alloc)?)?;
+/// Node 2 opens its link to node 1, which asks it for the record of slot 1; node 2 sends it, and closes: what node 1 reports then.
+fn first_report(alloc: Global) -> Result<String, Fault> {
     let value = Value::new(Vec::from_slice(alloc, &PUT_A)?);
     let record = encode(alloc, &Message::Record(Slot(1), value))?;
+    let mut node = Node::new(alloc, config(alloc)?)?;
     node.step(Event::Open(0));
     node.step(Event::Local(Command::Ask(0, Slot(1))));
     node.step(Event::Send(0, Bytes::new(record)));
     node.step(Event::Close(0));
     rest(&mut node);
-    Ok(node)
+    report_of(alloc, &node)
 }
 
 /// One step of a stage. Whether it moved anything.
@@ -95,8 +95,7 @@ fn report_of(alloc: Global, node: &Node) -> Result<String, Fault> {
 }
 
 fn main(rt: HostRuntime) -> anyhow::Result<()> {
-    let node = first_record(rt.alloc())?;
-    let report = report_of(rt.alloc(), &node)?;
+    let report = first_report(rt.alloc())?;
     print!(rt; "{report}")?;
     Ok(())
 }
