@@ -1,5 +1,9 @@
-//! The tests of `scp_line`, by its public calls.
+//! The tests of `scp_script`, `scp_line` and `scp_serve`, and of `scp_text`, by their public calls.
 #![tactic(auto)]
 
 #[cfg(test)]
-mod tests;
+mod line;
+#[cfg(test)]
+mod script;
+#[cfg(test)]
+mod text;

@@ -1,5 +1,0 @@
-//! The tests of `scp_kv`, by its public calls.
-#![tactic(auto)]
-
-#[cfg(test)]
-mod tests;

@@ -1,0 +1,9 @@
+//! The tests of `scp_wire`, `scp_outbox` and `scp_sent`, by their public calls.
+#![tactic(auto)]
+
+#[cfg(test)]
+mod outbox;
+#[cfg(test)]
+mod sent;
+#[cfg(test)]
+mod wire;

@@ -1,0 +1,8 @@
+use Rattle.std.proofs.Common.{◌≡◌, false, []}
+use Rattle.scp_stage_tests.proofs.pending.play.Given as goal
+
+abbrev pub invariant-loop-at : goal.invariant-loop-at
+invariant-loop-at l = record {
+  runs : l.pending.failed ≡ false;
+  ready : l.pending.leaving ≡ [];
+}

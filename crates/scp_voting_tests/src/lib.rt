@@ -1,0 +1,14 @@
+//! The tests of `scp_vote`, `scp_driver`, `scp_nominate` and `scp_ballot`, by their public calls, and a second driver that keeps the
+//! trait's laws.
+#![tactic(auto)]
+
+#[cfg(test)]
+mod ballot;
+#[cfg(test)]
+mod byte_driver;
+#[cfg(test)]
+mod driver;
+#[cfg(test)]
+mod nominate;
+#[cfg(test)]
+mod vote;
