@@ -14,7 +14,7 @@ use Rattle.scp_ballot_rules.specs.Owed.{AreAheadOf, counter_in}
 use Rattle.scp_ballot_rules.proofs.Ahead.{none_block_nothing}
 use Rattle.scp_ballot_rules.proofs.Options.{some_and, at_some}
 use Rattle.scp_ballot.specs.Ahead.{IsAhead, PicksAhead}
-use Rattle.scp_ballot.proofs.Gathering.{Entries}
+use Rattle.scp_ballot_steps.proofs.Gathering.{Entries}
 
 decided : (b : Bool) → (b ≡ true) ⊎ (b ≡ false)
 decided true = inl refl

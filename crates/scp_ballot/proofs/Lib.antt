@@ -1,9 +1,3 @@
-pub mod Adding
-pub mod Gathering
-pub mod Best
-pub mod Primes
-pub mod Stepping
-pub mod Ranges
 pub mod Aheads
 pub mod Settling
 pub mod Emitting

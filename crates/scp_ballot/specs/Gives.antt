@@ -17,7 +17,7 @@ use Rattle.scp_ballot_rules.specs.Owed.{OwesNothing}
 use Rattle.scp_ballot.specs.declared.machine.Machine.{Machine}
 use Rattle.scp_ballot.specs.declared.balloted.Balloted.{Balloted}
 use Rattle.scp_ballot.specs.declared.balloted.Certified.{Certified}
-use Rattle.scp_ballot.specs.Told.{ballots_on}
+use Rattle.scp_ballot_steps.specs.Told.{ballots_on}
 use Rattle.scp_ballot.specs.Machine.{IsSettled, IsOwnStatement}
 
 -- the statement is worth emitting

@@ -11,7 +11,7 @@ use Rattle.scp_ballot_rules.specs.Ready.{HasValue}
 use Rattle.scp_ballot_rules.specs.Rules.{Composes, Raises, RaisesMore}
 use Rattle.scp_ballot.specs.declared.machine.Machine.{Machine}
 use Rattle.scp_ballot.specs.declared.balloted.Balloted.{Balloted}
-use Rattle.scp_ballot.specs.Told.{ballots_on}
+use Rattle.scp_ballot_steps.specs.Told.{ballots_on}
 use Rattle.scp_ballot.specs.Machine.{KeepsRest}
 use Rattle.scp_ballot.specs.Gives.{Gives}
 

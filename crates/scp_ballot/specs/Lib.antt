@@ -1,5 +1,3 @@
-pub mod Told
-pub mod Finding
 pub mod Ahead
 pub mod Machine
 pub mod Gives

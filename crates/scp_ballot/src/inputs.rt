@@ -3,7 +3,7 @@ ghost use Rattle.std.specs.Prelude.{◌≡◌, ◌≢◌, ◌+◌, ◌⊎◌, �
 ghost use Rattle.scp_ballot_rules.specs.Own.{counter_of};
 ghost use Rattle.scp_ballot_rules.specs.Ready.{IsReady};
 ghost use Rattle.scp_ballot_rules.specs.Rules.{Composes, IsChange};
-ghost use Rattle.scp_ballot.specs.Told.{ballots_on};
+ghost use Rattle.scp_ballot_steps.specs.Told.{ballots_on};
 ghost use Rattle.scp_ballot_rules.specs.declared.state.Phase.TheVariants.{Prepare};
 ghost use Rattle.scp_vote.specs.Board.{kind_of_pledges};
 ghost use Rattle.scp_vote.specs.declared.claim.StatementKind.TheVariants.{Balloting};
@@ -13,8 +13,8 @@ ghost use Rattle.scp_ballot.specs.Inputs.{Times, CannotRaise};
 use crate::balloted::Balloted;
 use crate::machine::Machine;
 use crate::raise::{raise_confirming, raise_preparing};
-use crate::told::{me_of, put_ballot};
 use scp_ballot_rules::{Phase, State, counter};
+use scp_ballot_steps::{me_of, put_ballot};
 use scp_envelope::{Envelope, SharedEnvelope};
 use scp_quorum::SaneSet;
 use scp_types::{Ballot, Fault, SharedValue, Value};

@@ -11,22 +11,13 @@
 //! - A refusal leaves it failed, and changes nothing from then on.
 #![tactic(auto)]
 
-mod accept_commit;
-mod accept_prepared;
 mod balloted;
 mod balloter;
-mod boundaries;
-mod candidates;
-mod confirm_commit;
-mod confirm_prepared;
-mod finding;
 mod giving;
 mod inputs;
 mod machine;
 mod next;
 mod raise;
-mod range;
-mod told;
 
 pub use balloted::{Balloted, Certified};
 pub use balloter::Balloter;

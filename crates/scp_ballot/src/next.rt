@@ -4,16 +4,16 @@ ghost use Rattle.scp_ballot_rules.specs.declared.state.Phase.TheVariants.{Prepar
 ghost use Rattle.scp_ballot_rules.specs.Ready.{IsReady, IsConfirming};
 ghost use Rattle.scp_ballot_rules.specs.Rules.{IsStep, AcceptsPrepared, ConfirmsPrepared, AcceptsCommit, CatchesUp, AcceptsMore, Grows, ConfirmsCommit, RaisesMore};
 ghost use Rattle.scp_ballot_rules.specs.Rests.{Rests, RestsInPrepare, RestsInConfirm, CommitsNone, RaisesNone, CommitsNoHigher, ConfirmsNone, AcceptsNoMore, ConfirmsNoMore};
-ghost use Rattle.scp_ballot.specs.Told.{ballots_on};
+ghost use Rattle.scp_ballot_steps.specs.Told.{ballots_on};
 
-use crate::accept_commit::{accept_commit, accept_higher};
-use crate::accept_prepared::{accept_more, accept_prepared};
-use crate::boundaries::boundaries;
-use crate::candidates::candidates;
-use crate::confirm_commit::confirm_commit;
-use crate::confirm_prepared::confirm_prepared;
 use crate::raise::{catch_up, catch_up_more};
 use scp_ballot_rules::{Phase, State};
+use scp_ballot_steps::accept_commit::{accept_commit, accept_higher};
+use scp_ballot_steps::accept_prepared::{accept_more, accept_prepared};
+use scp_ballot_steps::boundaries::boundaries;
+use scp_ballot_steps::candidates::candidates;
+use scp_ballot_steps::confirm_commit::confirm_commit;
+use scp_ballot_steps::confirm_prepared::confirm_prepared;
 use scp_types::Fault;
 use scp_vote::Board;
 use std::alloc::Global;

@@ -8,11 +8,11 @@ ghost use Rattle.scp_ballot_rules.specs.Ready.{HasValue};
 ghost use Rattle.scp_ballot_rules.specs.Rules.{Raises, CatchesUp, RaisesMore, raised_value};
 ghost use Rattle.scp_ballot_rules.specs.Rests.{RaisesNone};
 ghost use Rattle.scp_ballot_rules.specs.Owed.{AreAheadOf, counter_in};
-ghost use Rattle.scp_ballot.specs.Told.{ballots_on};
+ghost use Rattle.scp_ballot_steps.specs.Told.{ballots_on};
 ghost use Rattle.scp_ballot.specs.Ahead.{IsAhead, PicksAhead};
 
-use crate::told::{local_set, me_of};
 use scp_ballot_rules::{State, copy_some, counter};
+use scp_ballot_steps::{local_set, me_of};
 use scp_envelope::Pledges;
 use scp_quorum::blocked;
 use scp_types::{Ballot, Fault, NodeId, SharedValue};

@@ -1,8 +1,0 @@
-use Rattle.scp_vote.specs.declared.claim.Claim.TheVariants.{Prepared}
-use Rattle.scp_ballot.specs.Told.{ballots_on, Reached}
-use Rattle.scp_ballot.specs.Finding.{IsWithin}
-use Rattle.scp_ballot.proofs.Best.{IsGreatestBefore}
-use Rattle.scp_ballot.proofs.finding.greatest.Given as goal
-
-abbrev pub invariant-loop-ballot : goal.invariant-loop-ballot
-invariant-loop-ballot l = IsGreatestBefore (λ x. IsWithin l.bound x × Reached l.stage (ballots_on l.board) (Prepared x)) l.list l.ballot-index l.floor l.best

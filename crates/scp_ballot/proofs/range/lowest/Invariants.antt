@@ -1,7 +1,0 @@
-use Rattle.scp_vote.specs.declared.claim.Claim.TheVariants.{Committed}
-use Rattle.scp_ballot.specs.Told.{ballots_on, Reached}
-use Rattle.scp_ballot.proofs.Best.{IsLowest}
-use Rattle.scp_ballot.proofs.range.lowest.Given as goal
-
-abbrev pub invariant-loop-boundary : goal.invariant-loop-boundary
-invariant-loop-boundary l = IsLowest (λ n. Reached l.stage (ballots_on l.board) (Committed n l.high.counter l.high.value)) l.high.counter l.least

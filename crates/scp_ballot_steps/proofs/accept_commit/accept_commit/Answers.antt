@@ -1,0 +1,17 @@
+use Rattle.scp_ballot_steps.specs.Told.{ballots_on}
+use Rattle.scp_ballot_steps.proofs.Ranges.{accepts_commit, commits_none, none_zero}
+use Rattle.scp_ballot_steps.proofs.accept_commit.accept_commit.Goals as goal
+
+pub reached_range-requires : goal.reached_range-requires
+reached_range-requires c = record { counted = none_zero (ballots_on c.args.board.now) c.args.boundaries.now c.requires.all }
+
+pub returns-in_ok-next-in-Some-clause-step : goal.returns-in_ok-next-in-Some-clause-step
+returns-in_ok-next-in-Some-clause-step c =
+    let reached = rw c.in-Some.is at c.in_ok-range.ensures.range in
+    let made = c.in_ok-next-in-Some.ensures.made in
+    accepts_commit (ballots_on c.args.board.now) c.args.state.now c.in_ok-next-in-Some.next c.in-Some.range c.in_ok-held-in-Some.held reached made.0 made.1 c.in_ok-held-in-Some.ensures.kept
+
+pub returns-in-None-clause-rests : goal.returns-in-None-clause-rests
+returns-in-None-clause-rests c =
+    let none = rw c.in-None.is at c.in_ok-range.ensures.none in
+    commits_none (ballots_on c.args.board.now) c.args.boundaries.now c.requires.all none

@@ -1,0 +1,12 @@
+use Rattle.std.proofs.Common.{◌≡◌, ◌<◌, ℕ, List, Contains, IfNone, subst}
+use Rattle.scp_types.specs.declared.ballot.Ballot.{Ballot}
+use Rattle.scp_vote.specs.declared.claim.Claim.TheVariants.{Committed}
+use Rattle.scp_vote.specs.Board.{Accepted}
+use Rattle.scp_ballot_steps.specs.Told.{ballots_on}
+use Rattle.scp_ballot_rules.specs.Own.{counter_of}
+use Rattle.scp_ballot_steps.proofs.accept_commit.higher_range.Goals as goal
+
+pub returns-clause-none : goal.returns-clause-none
+returns-clause-none c =
+    let Free : ℕ → List ℕ → Type 0 = λ n v. (x : Ballot) → Contains c.args.boundaries.now x → n < x.counter → x.value ≡ v → Accepted (ballots_on c.args.board.now) (Committed x.counter x.counter x.value) → ⊥ in
+    subst (λ (v : List ℕ). IfNone c.in_ok-found.found (Free (counter_of c.args.state.now.high) v)) c.in_ok-share.ensures.same (subst (λ (n : ℕ). IfNone c.in_ok-found.found (Free n c.in_ok-share.field-0)) c.counter-floor.ensures c.in_ok-found.ensures.none)

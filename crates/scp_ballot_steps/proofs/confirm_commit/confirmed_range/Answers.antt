@@ -1,0 +1,11 @@
+use Rattle.std.proofs.Common.{◌≡◌, ◌<◌, ℕ, List, Contains, IfNone, subst}
+use Rattle.scp_types.specs.declared.ballot.Ballot.{Ballot}
+use Rattle.scp_vote.specs.declared.claim.Claim.TheVariants.{Committed}
+use Rattle.scp_vote.specs.Board.{Confirmed}
+use Rattle.scp_ballot_steps.specs.Told.{ballots_on}
+use Rattle.scp_ballot_steps.proofs.confirm_commit.confirmed_range.Goals as goal
+
+pub returns-clause-none : goal.returns-clause-none
+returns-clause-none c =
+    let Free : List ℕ → Type 0 = λ v. (x : Ballot) → Contains c.args.boundaries.now x → 0 < x.counter → x.value ≡ v → Confirmed (ballots_on c.args.board.now) (Committed x.counter x.counter x.value) → ⊥ in
+    subst (λ (v : List ℕ). IfNone c.in_ok-found.found (Free v)) c.in_ok-share.ensures.same c.in_ok-found.ensures.none

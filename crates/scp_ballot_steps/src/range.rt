@@ -1,0 +1,162 @@
+//! The range of commit on which voting has come so far.
+ghost use Rattle.std.specs.Prelude.{◌≡◌, ◌≢◌, ◌<◌, ◌≤◌, ◌⊎◌, ◌↔◌, Contains, Some, None, Option, IsSomeAnd, IsTrue, IfOk, IfSome, IfNone, IsOkUnless};
+ghost use Rattle.std.specs.Option.{ForSome};
+ghost use Rattle.scp_types.specs.declared.ballot.Ballot.{Ballot};
+ghost use Rattle.scp_vote.specs.declared.claim.Claim.TheVariants.{Committed};
+ghost use Rattle.scp_ballot_steps.specs.Told.{ballots_on, Reached};
+ghost use Rattle.scp_ballot_steps.specs.Finding.{IsWithin, IsFound, IsReachedRange, Finds};
+
+use crate::finding::{Bound, is_within};
+use crate::told::{Stage, reached_commit};
+use scp_types::{Ballot, Fault};
+use scp_vote::Board;
+
+/// A range of commit: its ends have the same value.
+#[derive(Debug, Drop)]
+pub(crate) struct Range {
+    pub(crate) low: Ballot,
+    pub(crate) high: Ballot,
+}
+
+/// Whether the boundary goes before the best so far: the values ascend, and of one value the greatest comes first.
+fn goes_before(boundary: &Ballot, best: &Option<Ballot>) -> bool
+    ensures first { best.now ≡ None → IsTrue result }
+{
+    match best {
+        Some(best) if boundary.value == best.value => best.counter < boundary.counter,
+        Some(best) => boundary.value < best.value,
+        None => true,
+    }
+}
+
+/// Whether the boundary counts and is above the floor.
+fn counts(bound: &Bound, floor: u32, boundary: &Ballot) -> bool
+    ensures { IsTrue result ↔ ((floor < boundary.now.counter) × IsWithin bound.now boundary.now) }
+{
+    floor < boundary.counter && is_within(boundary, bound)
+}
+
+/// Whether the boundary counts, is above the floor, and voting on its commit has come so far.
+fn is_reached(
+    board: &Board,
+    stage: Stage,
+    bound: &Bound,
+    floor: u32,
+    boundary: &Ballot,
+) -> Result<bool, Fault>
+    ensures exact { IfOk result (λ yes. IsTrue yes ↔ (((floor < boundary.now.counter) × IsWithin bound.now boundary.now) × Reached stage (ballots_on board.now) (Committed boundary.now.counter boundary.now.counter boundary.now.value))) }
+    ensures only_memory { IsOkUnless result Fault.NoMemory }
+{
+    if !counts(bound, floor, boundary) {
+        return Ok(false);
+    }
+    let counter = boundary.counter;
+    let yes = reached_commit(board, stage, counter, counter, &boundary.value)?;
+    Ok(yes)
+}
+
+/// The best so far, or the boundary where it goes before it and is reached.
+fn first(
+    board: &Board,
+    stage: Stage,
+    bound: &Bound,
+    floor: u32,
+    boundary: &Ballot,
+    best: Option<Ballot>,
+) -> Result<Option<Ballot>, Fault>
+    ensures finds { IfOk result (λ new. Finds (λ x. ((floor < x.counter) × IsWithin bound.now x) × Reached stage (ballots_on board.now) (Committed x.counter x.counter x.value)) boundary.now best new) }
+    ensures only_memory { IsOkUnless result Fault.NoMemory }
+{
+    if !goes_before(boundary, &best) {
+        return Ok(best);
+    }
+    if is_reached(board, stage, bound, floor, boundary)? {
+        Ok(Some(boundary.copy()?))
+    } else {
+        Ok(best)
+    }
+}
+
+/// Of the boundaries that count, are above the floor and on whose commit voting has come so far, those of the least value,
+/// and the greatest of them.
+fn highest(
+    board: &Board,
+    stage: Stage,
+    bound: &Bound,
+    floor: u32,
+    boundaries: &[Ballot],
+) -> Result<Option<Ballot>, Fault>
+    ensures found { IfOk result (λ best. IsFound (λ x. ((floor < x.counter) × IsWithin bound.now x) × Reached stage (ballots_on board.now) (Committed x.counter x.counter x.value)) boundaries.now best) }
+    ensures only_memory { IsOkUnless result Fault.NoMemory }
+{
+    let mut best = None;
+    for boundary in boundaries {
+        best = first(board, stage, bound, floor, boundary, best)?;
+    }
+    Ok(best)
+}
+
+/// The boundary where it is lower than the least so far and voting on the range from it has come so far, else the least.
+fn lower(
+    board: &Board,
+    stage: Stage,
+    high: &Ballot,
+    boundary: &Ballot,
+    least: u32,
+) -> Result<u32, Fault>
+    ensures lower { IfOk result (λ new. (new ≡ least) ⊎ ((new ≡ boundary.now.counter) × (new < least) × Reached stage (ballots_on board.now) (Committed new high.now.counter high.now.value))) }
+    ensures only_memory { IsOkUnless result Fault.NoMemory }
+{
+    let counter = boundary.counter;
+    if counter >= least || boundary.value != high.value {
+        return Ok(least);
+    }
+    if reached_commit(board, stage, counter, high.counter, &high.value)? {
+        Ok(counter)
+    } else {
+        Ok(least)
+    }
+}
+
+/// The least boundary of the high end's value such that voting on the range from it to the high end has come so far.
+fn lowest(board: &Board, stage: Stage, boundaries: &[Ballot], high: &Ballot) -> Result<u32, Fault>
+    requires counted { (x : Ballot) → Contains boundaries.now x → x.counter ≢ 0 }
+    requires high { high.now.counter ≢ 0 }
+    requires reached { Reached stage (ballots_on board.now) (Committed high.now.counter high.now.counter high.now.value) }
+    ensures counted { IfOk result (λ low. low ≢ 0) }
+    ensures ascends { IfOk result (λ low. low ≤ high.now.counter) }
+    ensures reached { IfOk result (λ low. Reached stage (ballots_on board.now) (Committed low high.now.counter high.now.value)) }
+    ensures only_memory { IsOkUnless result Fault.NoMemory }
+{
+    let mut least = high.counter;
+    for boundary in boundaries {
+        least = lower(board, stage, high, boundary, least)?;
+    }
+    Ok(least)
+}
+
+/// The range whose high end is the greatest boundary of the least value, and whose low end the least boundary below it,
+/// among those that count and are above the floor. `None` exactly where there is no such boundary.
+pub(crate) fn reached_range(
+    board: &Board,
+    stage: Stage,
+    bound: &Bound,
+    floor: u32,
+    boundaries: &[Ballot],
+) -> Result<Option<Range>, Fault>
+    requires counted { (x : Ballot) → Contains boundaries.now x → x.counter ≢ 0 }
+    ensures range { IfOk result (λ found. IfSome found (λ range. IsReachedRange stage (ballots_on board.now) range)) }
+    ensures within { IfOk result (λ found. IfSome found (λ range. (floor < range.high.counter) × IsWithin bound.now range.high)) }
+    ensures none { IfOk result (λ found. IfNone found ((x : Ballot) → Contains boundaries.now x → floor < x.counter → IsWithin bound.now x → Reached stage (ballots_on board.now) (Committed x.counter x.counter x.value) → ⊥)) }
+    ensures only_memory { IsOkUnless result Fault.NoMemory }
+{
+    match highest(board, stage, bound, floor, boundaries)? {
+        Some(high) => {
+            let counter = lowest(board, stage, boundaries, &high)?;
+            let value = high.value.share()?;
+            let low = Ballot { counter, value };
+            Ok(Some(Range { low, high }))
+        }
+        None => Ok(None),
+    }
+}
