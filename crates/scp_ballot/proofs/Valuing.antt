@@ -1,5 +1,5 @@
 -- Where the value of the own ballot comes from.
-use Rattle.std.proofs.Common.{◌≡◌, ◌≢◌, ◌⊎◌, ℕ, List, [], Bool, Option, Some, None, IsSome, IsSomeAnd, refl, sym, ◌∙◌, ap, subst, inl, inr, arith}
+use Rattle.std.proofs.Common.{◌≡◌, ◌≢◌, ◌⊎◌, ℕ, List, Option, Some, refl, sym, ◌∙◌, ap, subst, inl, inr, arith}
 use Rattle.std.specs.Option.{ForSome}
 use Rattle.scp_types.specs.declared.ballot.Ballot.{Ballot}
 use Rattle.scp_types.specs.declared.names.Hash.{Hash}
@@ -9,7 +9,6 @@ use Rattle.scp_ballot_rules.specs.declared.state.State.{State}
 use Rattle.scp_ballot_rules.specs.declared.state.Phase.{Phase}
 use Rattle.scp_ballot_rules.specs.declared.state.Phase.TheVariants.{Prepare, Confirm, Externalize}
 use Rattle.scp_ballot_rules.specs.Own.{own_of, own_in, or_zero, counter_of, StandsFor}
-use Rattle.scp_ballot_rules.specs.Owed.{AreAheadOf}
 use Rattle.scp_ballot_rules.specs.Rises.{place, Rises, HasComposite, Moves}
 use Rattle.scp_ballot_rules.proofs.Options.{some_of, some_same, none_some}
 use Rattle.scp_ballot.specs.Balloting.{HasPresent, KeepsValue}
