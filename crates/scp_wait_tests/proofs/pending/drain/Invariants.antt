@@ -1,5 +1,5 @@
 use Rattle.std.proofs.Common.{◌≡◌, false, length}
-use Rattle.scp_stage_tests.proofs.pending.drain.Given as goal
+use Rattle.scp_wait_tests.proofs.pending.drain.Given as goal
 
 abbrev pub invariant-loop-ready : goal.invariant-loop-ready
 invariant-loop-ready l = l.pending.failed ≡ false
