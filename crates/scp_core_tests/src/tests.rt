@@ -566,6 +566,40 @@ fn a_run_answers_each_event(rt: HostRuntime) -> Result<(), Fail> {
     Ok(())
 }
 
+/// So many ticks, each of which is taken at once.
+fn ticks(alloc: Global, count: usize) -> Result<Vec<Event>, Fault> {
+    let mut events = Vec::new(alloc);
+    for _ in 0..count {
+        events.push(Event::Local(Command::Tick))?;
+        events.push(Event::PendTake)?;
+    }
+    Ok(events)
+}
+
+/// How many replies of a run of so many ticks, each of which is taken at once, are Accepted, and how many are Moved.
+fn replies_to_ticks(alloc: Global, count: usize) -> Result<(usize, usize), Fault> {
+    let events = ticks(alloc, count)?;
+    let run = run(alloc, config(alloc, 1, &[PEER], ONE)?, events.as_slice())?;
+    let accepted = run
+        .replies
+        .iter()
+        .filter(|reply| matches!(reply, Reply::Accepted))
+        .count();
+    let moved = run
+        .replies
+        .iter()
+        .filter(|reply| matches!(reply, Reply::Moved))
+        .count();
+    Ok((accepted, moved))
+}
+
+/// No list of events is too long for a run.
+#[test]
+fn a_run_takes_70_000_events(rt: HostRuntime) -> Result<(), Fail> {
+    assert_eq!(rt; replies_to_ticks(rt.alloc(), 35_000)?, (35_000, 35_000));
+    Ok(())
+}
+
 /// Whether so many messages are parked of the connection, and the link has been opened so often and has this room left.
 fn holds(node: &Node, conn: &ConnId, parked: usize, link: u8, lives: u32, room: usize) -> bool {
     node.parked(conn) == parked && node.lives(link) == lives && node.room(link) == room
