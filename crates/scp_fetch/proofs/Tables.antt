@@ -1,19 +1,20 @@
 -- Wants under their hashes, and the list of them.
 use Rattle.std.proofs.Common.{◌≡◌, ℕ, ◌+◌, ◌<◌, ◌≤◌, Bool, true, false, cond, not, List, [], ◌∷◌, ◌++◌, length, map, refl, sym, ◌∙◌, ap, subst, arith, nat_eq}
-use Rattle.std.specs.Prelude.{◌&&◌, ◌||◌, Option, Some, None, IfSome, filter, nat_lt, is_some, if◌then◌else◌}
+use Rattle.std.specs.Prelude.{◌&&◌, ◌||◌, Option, Some, None, IfSome, Result, Ok, Err, OnErr, filter, nat_lt, is_some, if◌then◌else◌}
 use Rattle.std.specs.List.{AllByRecursion, IsDistinct, list_any}
 use Rattle.std.specs.Option.{option_map_or}
 use Rattle.std.specs.Map.{lookup, keys_of, remove_entry, set_value}
 use Rattle.std.specs.Map.Calls.{RetainsPairs}
 use Rattle.std.specs.Cmp.Lexicographic.{pointwise, same_text}
 use Rattle.std.proofs.lemmas.Bool.{ltb-false}
+use Rattle.scp_types.specs.declared.names.ConnId.{ConnId}
 use Rattle.scp_types.specs.declared.names.Hash.{Hash}
 use Rattle.scp_fetch.specs.declared.want.Want.{Want}
 use Rattle.scp_fetch.specs.declared.want.Miss.{Miss}
 use Rattle.scp_fetch.specs.declared.want.Miss.TheVariants.{One, All}
 use Rattle.scp_fetch.specs.declared.answers.Missed.TheVariants.{Unwanted, Waiting, GaveUp}
 use Rattle.scp_fetch.specs.Hashes.{same_hash}
-use Rattle.scp_fetch.specs.Wants.{is_for, is_wanted, is_missed, is_last, count_miss, missed_by, without, gives_up, miss_of}
+use Rattle.scp_fetch.specs.Wants.{is_for, is_wanted, is_missed, is_last, count_miss, missed_by, without, gives_up, miss_of, waiting_for}
 use Rattle.scp_fetch.specs.Table.{WantEntry, want_in, wants_in, IsUnderHash, IsTable}
 
 abbrev pub at : Hash → List ℕ → Bool
@@ -122,9 +123,13 @@ none_behind : (hash : Hash) (key : List ℕ) (es : List WantEntry) → at hash k
 none_behind hash key [] e a d = tt
 none_behind hash key (x ∷ es) e a d = (sym (key_is hash x a.0) ∙ ap (λ k. pointwise nat_eq k x.0) (same_bytes hash.0 key e) ∙ d.0, none_behind hash key es e a.1 d.1)
 
+abbrev pub waiting_of : Want → List ConnId
+waiting_of w = w.waiting
+
 -- where the one want of the hash stands, or that there is none
 pub record Stands (hash : Hash) (es : List WantEntry) (r : Option Want) : Type 0 where
   pub wanted : is_some r ≡ is_wanted hash (wants_in es)
+  pub listed : waiting_for hash (wants_in es) ≡ option_map_or waiting_of r []
   pub found : (P : Want → Bool) → list_any (λ w. is_for hash w && P w) (wants_in es) ≡ option_map_or P r false
   pub changed : (f : Want → Want) (new : Want) → IfSome r (λ old. new ≡ f old → wants_in (set_value (at hash) es new) ≡ map (if_for f hash) (wants_in es))
   pub under : (new : Want) → IfSome r (λ old. new.hash ≡ old.hash → AllByRecursion IsUnderHash (set_value (at hash) es new))
@@ -147,6 +152,7 @@ here hash e es k u a none =
     let mine : is_for hash e.1 ≡ true = sym (key_is hash e u) ∙ k in
     record {
       wanted = rw mine refl;
+      listed = rw mine refl;
       found = λ P. rw (mine, none_any P hash (wants_in es) none) (or_false (P e.1));
       changed = λ f new is. rw k (two new (if_for f hash e.1) (wants_in es) (map (if_for f hash) (wants_in es)) (is ∙ is_it f hash e.1 mine) (none_changed f hash (wants_in es) none));
       under = λ new same. rw k (u ∙ ap (λ (h : Hash). h.0) (sym same), a);
@@ -176,6 +182,7 @@ there hash e es r k u s =
     let other : is_for hash e.1 ≡ false = sym (key_is hash e u) ∙ k in
     record {
       wanted = rw other s.wanted;
+      listed = rw other s.listed;
       found = λ P. rw other (s.found P);
       changed = λ f new. some_weaker _ _ r (s.changed f new) (λ old h is. rw k (two e.1 (if_for f hash e.1) _ _ (not_for f hash e.1 other) (h is)));
       under = λ new. some_weaker _ _ r (s.under new) (λ old h same. rw k (u, h same));
@@ -188,7 +195,7 @@ there hash e es r k u s =
 
 pub stands_of : (hash : Hash) (es : List WantEntry) → AllByRecursion IsUnderHash es → IsDistinct (pointwise nat_eq) (keys_of es) → Stands hash es (lookup (at hash) es)
 unfolding IsDistinct
-stands_of hash [] a d = record { wanted = refl; found = λ P. refl; changed = λ f new. tt; under = λ new. tt; mine = tt; removed = refl; removed_under = tt; last = tt; waits = tt }
+stands_of hash [] a d = record { wanted = refl; listed = refl; found = λ P. refl; changed = λ f new. tt; under = λ new. tt; mine = tt; removed = refl; removed_under = tt; last = tt; waits = tt }
 stands_of hash (e ∷ es) a d = by_test (at hash e.0) refl (stands_of hash es a.1 d.1)
   where
     by_test : (b : Bool) → at hash e.0 ≡ b → Stands hash es (lookup (at hash) es) → Stands hash (e ∷ es) (cond b (Some e.1) (lookup (at hash) es))
@@ -224,6 +231,20 @@ module _ {F : Type 0} (T : F → List ℕ → Want → Bool → Want → F → T
 pub kept_all : (ws : List Want) → filter (λ (w : Want). true) ws ≡ ws
 kept_all [] = refl
 kept_all (w ∷ ws) = ap (λ vs. w ∷ vs) (kept_all ws)
+
+-- what holds holds of a refusal too
+pub on_err-of : {A B : Type 0} (r : Result A B) (P : Type 0) → P → OnErr r P
+on_err-of (Ok x) P p = tt
+on_err-of (Err e) P p = p
+
+-- a want that stays leaves all as it was
+pub changed_none : (hash : Hash) (ws : List Want) → map (if_for (λ w. w) hash) ws ≡ ws
+changed_none hash [] = refl
+changed_none hash (w ∷ ws) = two _ w _ ws (one (is_for hash w)) (changed_none hash ws)
+  where
+    one : (b : Bool) → (if b then w else w) ≡ w
+    one true = refl
+    one false = refl
 
 pub under_push : (es : List WantEntry) (e : WantEntry) → AllByRecursion IsUnderHash es → IsUnderHash e → AllByRecursion IsUnderHash (es ++ e ∷ [])
 under_push [] e a u = (u, tt)

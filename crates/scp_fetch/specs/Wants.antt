@@ -1,9 +1,10 @@
--- The hashes that are wanted, in the order in which they became so: of each its misses since then and the links that were
--- asked (this project's profile).
+-- The hashes that are wanted, in the order in which they became so: of each its misses since then, the links that were
+-- asked, and the connections that wait for it, in the order of their first wait (this project's profile).
 use Rattle.std.specs.Prelude.{ℕ, ◌+◌, ◌<◌, ◌≡◌, ◌++◌, [], ◌∷◌, List, Bool, true, false, not, ◌&&◌, nat_eq, nat_lt, slice_set, filter, map, if◌then◌else◌, replicate, slice_index_or}
 use Rattle.std.specs.List.{list_any}
+use Rattle.scp_types.specs.declared.names.ConnId.{ConnId}
 use Rattle.scp_types.specs.declared.names.Hash.{Hash}
-use Rattle.scp_fetch.specs.Hashes.{same_hash}
+use Rattle.scp_fetch.specs.Hashes.{same_hash, same_conn}
 use Rattle.scp_fetch.specs.declared.want.Want.{Want}
 use Rattle.scp_fetch.specs.declared.want.Miss.{Miss}
 use Rattle.scp_fetch.specs.declared.want.Miss.TheVariants.{One, All}
@@ -25,15 +26,22 @@ is_asked hash link wants = list_any (λ want. is_for hash want && slice_index_or
 
 -- ---- wanting and asking
 
-abbrev pub ask : Hash → ℕ → Want → Want
-ask hash link want = if is_for hash want then record want { asked = slice_set want.asked link true } else want
+-- a connection stands in the list once
+abbrev pub has_conn : ConnId → List ConnId → Bool
+has_conn c conns = list_any (same_conn c) conns
 
-abbrev pub new_want : Hash → ℕ → Want
-new_want hash link = record { hash = hash; misses = 0; asked = slice_set (replicate 8 false) link true }
+abbrev pub joined : ConnId → List ConnId → List ConnId
+joined c conns = if has_conn c conns then conns else conns ++ c ∷ []
 
--- the hash is wanted, and the link was asked
-abbrev pub wanted_by : Hash → ℕ → List Want → List Want
-wanted_by hash link wants = if is_wanted hash wants then map (ask hash link) wants else wants ++ new_want hash link ∷ []
+abbrev pub ask : Hash → ℕ → ConnId → Want → Want
+ask hash link c want = if is_for hash want then record want { asked = slice_set want.asked link true; waiting = joined c want.waiting } else want
+
+abbrev pub new_want : Hash → ℕ → ConnId → Want
+new_want hash link c = record { hash = hash; misses = 0; asked = slice_set (replicate 8 false) link true; waiting = c ∷ [] }
+
+-- the hash is wanted, the link was asked, and the connection waits
+abbrev pub wanted_by : Hash → ℕ → ConnId → List Want → List Want
+wanted_by hash link c wants = if is_wanted hash wants then map (ask hash link c) wants else wants ++ new_want hash link c ∷ []
 
 -- the link opened: it is unasked for all hashes
 abbrev pub unask : ℕ → Want → Want
@@ -41,6 +49,24 @@ unask link want = record want { asked = slice_set want.asked link false }
 
 abbrev pub unasked : ℕ → List Want → List Want
 unasked link wants = map (unask link) wants
+
+-- ---- waiting
+
+-- the connections that wait for the hash
+abbrev pub waiting_for : Hash → List Want → List ConnId
+waiting_for hash [] = []
+waiting_for hash (want ∷ wants) = if is_for hash want then want.waiting else waiting_for hash wants
+
+-- another connection waits too
+abbrev pub waits_besides : ConnId → Want → Bool
+waits_besides c want = list_any (λ d. not (same_conn c d)) want.waiting
+
+abbrev pub leave : ConnId → Want → Want
+leave c want = record want { waiting = filter (λ d. not (same_conn c d)) want.waiting }
+
+-- the connection waits for nothing any more; a want ends for which no other one waits
+abbrev pub left_by : ConnId → List Want → List Want
+left_by c wants = map (leave c) (filter (waits_besides c) wants)
 
 -- the hash isn't wanted any more
 abbrev pub without : Hash → List Want → List Want

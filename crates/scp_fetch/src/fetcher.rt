@@ -1,14 +1,14 @@
 //! The hashes that are wanted.
 ghost use Rattle.std.specs.Prelude.{◌≡◌, ◌<◌, [], not, IfOk, OnOk, OnErr, IsOkUnless};
-ghost use Rattle.scp_fetch.specs.Wants.{is_wanted, is_asked, wanted_by, unasked, missed_by, without, gives_up, last_missed, miss_of, answer_of};
+ghost use Rattle.scp_fetch.specs.Wants.{is_wanted, is_asked, wanted_by, waiting_for, left_by, unasked, missed_by, without, gives_up, last_missed, miss_of, answer_of};
 
 use crate::answers::{Answer, Missed};
 use crate::want::{
     Miss, Want, add_want, count_all, end_missed, end_want, has_asked, has_last, has_want,
-    last_hashes, note_asked, note_missed, note_unasked,
+    last_hashes, note_asked, note_missed, note_unasked, part_all, waiters,
 };
 use indexmap::IndexMap;
-use scp_types::{Fault, Hash};
+use scp_types::{ConnId, Fault, Hash};
 use std::alloc::Global;
 use std::marker::Model;
 
@@ -18,7 +18,8 @@ pub const MISS_LIMIT: u8 = 12;
 /// Links have numbers below this (this project's profile).
 pub const LINK_LIMIT: u8 = 8;
 
-/// The hashes that are wanted, in the order in which they became so, each with its misses and the links that were asked.
+/// The hashes that are wanted, in the order in which they became so, each with its misses, the links that were asked, and the
+/// connections that wait for it.
 #[derive(Debug, Drop)]
 pub struct Fetcher {
     wants: IndexMap<[u8; 32], Want>,
@@ -70,20 +71,28 @@ impl Fetcher {
         last_hashes(&self.wants)
     }
 
-    /// Wants the hash, and says whether that link is to be asked: `true` exactly where it wasn't asked since both the hash
-    /// became wanted and the link last opened. The link counts as asked from then on. The one refusal is
-    /// `Fault::NoMemory`, and it leaves all as it was.
-    pub fn want(&mut self, hash: &Hash, link: u8) -> Result<bool, Fault>
+    /// The connections that wait for the hash, each once, in the order of their first wait; none where it isn't wanted. Takes
+    /// no memory, and costs one look-up by a hash table.
+    pub fn waiting(&self, hash: &Hash) -> &[ConnId]
+        ensures { result.now ≡ waiting_for hash.now self.now }
+    {
+        waiters(&self.wants, hash)
+    }
+
+    /// Wants the hash for the connection, and says whether that link is to be asked: `true` exactly where it wasn't asked since
+    /// both the hash became wanted and the link last opened. The link counts as asked from then on, and the connection waits,
+    /// behind those that waited before. The one refusal is `Fault::NoMemory`, and it leaves all as it was.
+    pub fn want(&mut self, hash: &Hash, link: u8, conn: &ConnId) -> Result<bool, Fault>
         requires link { link < 8 }
         ensures asks { IfOk result (λ asks. asks ≡ not (is_asked hash.now link self.old)) }
-        ensures wanted { OnOk result (self.new ≡ wanted_by hash.now link self.old) }
+        ensures wanted { OnOk result (self.new ≡ wanted_by hash.now link conn.now self.old) }
         ensures unchanged { OnErr result (self.new ≡ self.old) }
         ensures only_memory { IsOkUnless result Fault.NoMemory }
     {
-        if let Some(asks) = note_asked(&mut self.wants, hash, link as usize) {
+        if let Some(asks) = note_asked(&mut self.wants, hash, link as usize, conn)? {
             return Ok(asks);
         }
-        add_want(&mut self.wants, hash, link as usize)?;
+        add_want(&mut self.wants, hash, link as usize, conn)?;
         Ok(true)
     }
 
@@ -125,7 +134,7 @@ impl Fetcher {
         ensures ended { self.new ≡ without hash.now self.old }
     {
         let wanted = self.is_wanted(hash);
-        self.forget(hash);
+        end_want(&mut self.wants, hash);
         match (wanted, is_sane) {
             (false, _) => Answer::Unwanted,
             (true, true) => Answer::Sane,
@@ -141,10 +150,11 @@ impl Fetcher {
         note_unasked(&mut self.wants, link as usize);
     }
 
-    /// The hash isn't wanted any more, if it was.
-    pub fn forget(&mut self, hash: &Hash)
-        ensures { self.new ≡ without hash.now self.old }
+    /// The connection ended: it waits for nothing any more, and a hash for which no other one waits isn't wanted any more.
+    /// Walks all that is wanted.
+    pub fn closed(&mut self, conn: &ConnId)
+        ensures { self.new ≡ left_by conn.now self.old }
     {
-        end_want(&mut self.wants, hash);
+        part_all(&mut self.wants, conn);
     }
 }

@@ -1,16 +1,19 @@
 //! A wanted hash, and the table of those that are wanted.
-ghost use Rattle.std.specs.Prelude.{◌≡◌, ◌<◌, ◌++◌, ◌∷◌, [], ℕ, Bool, true, false, map, filter, not, nat_lt, IfOk, OnOk, OnErr, IsOkUnless, IfSome, IfNone, is_some};
+ghost use Rattle.std.specs.Prelude.{◌≡◌, ◌<◌, ◌++◌, ◌∷◌, [], ℕ, Bool, true, false, map, filter, not, nat_lt, slice_index_or, slice_set, IfOk, OnOk, OnErr, IsOkUnless, IfSome, IfNone, is_some};
+ghost use Rattle.scp_types.specs.declared.names.ConnId.{ConnId};
 ghost use Rattle.std.specs.List.{AllByRecursion};
-ghost use Rattle.scp_fetch.specs.Wants.{is_wanted, is_asked, unasked, without, gives_up, ask, unask, new_want, missed_by, count_miss, is_last, is_missed, last_missed};
+ghost use Rattle.scp_fetch.specs.Wants.{joined, is_wanted, is_asked, unasked, without, waiting_for, waits_besides, leave, left_by, gives_up, ask, unask, new_want, missed_by, count_miss, is_last, is_missed, last_missed};
 ghost use Rattle.scp_fetch.specs.Table.{wants_in, IsUnderHash};
 
 use crate::fetcher::MISS_LIMIT;
+use crate::waiters::Waiters;
 use indexmap::IndexMap;
-use scp_types::{Fault, Hash};
+use scp_types::{ConnId, Fault, Hash};
+use std::alloc::Global;
 
-/// A wanted hash, with its misses since it became so, below 12, and of each link whether it was asked since both the hash
-/// became wanted and the link last opened.
-#[derive(Clone, Copy, Debug)]
+/// A wanted hash, with its misses since it became so, below 12, of each link whether it was asked since both the hash
+/// became wanted and the link last opened, and the connections that wait for it.
+#[derive(Debug, Drop)]
 pub struct Want {
     /// The hash of a quorum set.
     pub hash: Hash,
@@ -18,6 +21,8 @@ pub struct Want {
     pub misses: u8,
     /// By the number of a link.
     pub asked: [bool; 8],
+    /// In the order of their first wait.
+    pub waiting: Waiters,
 }
 
 /// A miss of one hash, or one of each that is wanted.
@@ -90,54 +95,116 @@ pub fn last_hashes(wants: &IndexMap<[u8; 32], Want>) -> Result<Vec<Hash>, Fault>
     )
 }
 
-fn first_want(hash: Hash, link: usize) -> Want
-    requires { link < 8 }
-    ensures { result ≡ new_want hash link }
+/// The connections that wait for the hash.
+pub fn waiters<'w>(wants: &'w IndexMap<[u8; 32], Want>, hash: &Hash) -> &'w [ConnId]
+    requires under { AllByRecursion IsUnderHash wants.now.entries }
+    ensures { result.now ≡ waiting_for hash.now (wants_in wants.now.entries) }
 {
-    let mut asked = [false; 8];
-    asked[link] = true;
-    Want {
-        hash,
-        misses: 0,
-        asked,
+    let _distinct = wants.len();
+    match wants.get(&hash.0) {
+        Some(want) => want.waiting.as_slice(),
+        None => &[],
     }
 }
 
-/// The hash becomes wanted, and the link is asked.
-pub fn add_want(wants: &mut IndexMap<[u8; 32], Want>, hash: &Hash, link: usize) -> Result<(), Fault>
+fn first_want(alloc: Global, hash: Hash, link: usize, conn: ConnId) -> Result<Want, Fault>
+    requires { link < 8 }
+    ensures made { IfOk result (λ want. want ≡ new_want hash link conn) }
+    ensures only_memory { IsOkUnless result Fault.NoMemory }
+{
+    let mut asked = [false; 8];
+    asked[link] = true;
+    Ok(Want {
+        hash,
+        misses: 0,
+        asked,
+        waiting: Waiters::of(alloc, conn)?,
+    })
+}
+
+/// The hash becomes wanted, the link is asked, and the connection waits.
+pub fn add_want(
+    wants: &mut IndexMap<[u8; 32], Want>,
+    hash: &Hash,
+    link: usize,
+    conn: &ConnId,
+) -> Result<(), Fault>
     requires link { link < 8 }
     requires under { AllByRecursion IsUnderHash wants.old.entries }
     requires new { is_wanted hash.now (wants_in wants.old.entries) ≡ false }
-    ensures added { OnOk result (wants_in wants.new.entries ≡ wants_in wants.old.entries ++ new_want hash.now link ∷ []) }
-    ensures under { OnOk result (AllByRecursion IsUnderHash wants.new.entries) }
+    ensures added { OnOk result (wants_in wants.new.entries ≡ wants_in wants.old.entries ++ new_want hash.now link conn.now ∷ []) }
+    ensures under { AllByRecursion IsUnderHash wants.new.entries }
     ensures unchanged { OnErr result (wants.new.entries ≡ wants.old.entries) }
     ensures only_memory { IsOkUnless result Fault.NoMemory }
 {
     let _distinct = wants.len();
-    wants.insert(hash.0, first_want(*hash, link))?;
+    let want = first_want(*wants.allocator(), *hash, link, *conn)?;
+    wants.insert(hash.0, want)?;
     Ok(())
 }
 
-/// The link is asked, where the hash is wanted: then whether it wasn't asked before.
-pub fn note_asked(wants: &mut IndexMap<[u8; 32], Want>, hash: &Hash, link: usize) -> Option<bool>
+/// The link is asked and the connection waits; then whether the link wasn't asked before.
+fn note(want: &mut Want, link: usize, conn: &ConnId) -> Result<bool, Fault>
+    requires link { link < 8 }
+    ensures asks { IfOk result (λ asks. asks ≡ not (slice_index_or want.old.asked link false)) }
+    ensures noted { OnOk result (want.new ≡ record want.old { asked = slice_set want.old.asked link true; waiting = joined conn.now want.old.waiting }) }
+    ensures unchanged { OnErr result (want.new ≡ want.old) }
+    ensures only_memory { IsOkUnless result Fault.NoMemory }
+{
+    want.waiting.join(conn)?;
+    let asks = !want.asked[link];
+    want.asked[link] = true;
+    Ok(asks)
+}
+
+/// The link is asked and the connection waits, where the hash is wanted: then whether the link wasn't asked before.
+pub fn note_asked(
+    wants: &mut IndexMap<[u8; 32], Want>,
+    hash: &Hash,
+    link: usize,
+    conn: &ConnId,
+) -> Result<Option<bool>, Fault>
     requires link { link < 8 }
     requires under { AllByRecursion IsUnderHash wants.old.entries }
-    ensures wanted { is_some result ≡ is_wanted hash.now (wants_in wants.old.entries) }
-    ensures asks { IfSome result (λ asks. asks ≡ not (is_asked hash.now link (wants_in wants.old.entries))) }
-    ensures asked { IfSome result (λ _. wants_in wants.new.entries ≡ map (ask hash.now link) (wants_in wants.old.entries)) }
-    ensures unasked { IfNone result (is_asked hash.now link (wants_in wants.old.entries) ≡ false) }
-    ensures unchanged { IfNone result (wants.new.entries ≡ wants.old.entries) }
+    ensures wanted { IfOk result (λ noted. is_some noted ≡ is_wanted hash.now (wants_in wants.old.entries)) }
+    ensures asks { IfOk result (λ noted. IfSome noted (λ asks. asks ≡ not (is_asked hash.now link (wants_in wants.old.entries)))) }
+    ensures asked { IfOk result (λ noted. IfSome noted (λ _. wants_in wants.new.entries ≡ map (ask hash.now link conn.now) (wants_in wants.old.entries))) }
+    ensures unasked { IfOk result (λ noted. IfNone noted (is_asked hash.now link (wants_in wants.old.entries) ≡ false)) }
+    ensures unchanged_none { IfOk result (λ noted. IfNone noted (wants_in wants.new.entries ≡ wants_in wants.old.entries)) }
+    ensures unchanged { OnErr result (wants_in wants.new.entries ≡ wants_in wants.old.entries) }
     ensures under { AllByRecursion IsUnderHash wants.new.entries }
+    ensures only_memory { IsOkUnless result Fault.NoMemory }
 {
     let _distinct = wants.len();
     match wants.get_mut(&hash.0) {
-        Some(want) => {
-            let asks = !want.asked[link];
-            want.asked[link] = true;
-            Some(asks)
-        }
-        None => None,
+        Some(want) => Ok(Some(note(want, link, conn)?)),
+        None => Ok(None),
     }
+}
+
+/// Where another connection waits too, this one leaves.
+fn part(want: &mut Want, conn: &ConnId) -> bool
+    ensures stays { result ≡ waits_besides conn.now want.old }
+    ensures left { waits_besides conn.now want.old ≡ true → want.new ≡ leave conn.now want.old }
+{
+    if !want.waiting.has_other(conn) {
+        return false;
+    }
+    want.waiting.leave(conn);
+    true
+}
+
+/// The connection waits for nothing any more.
+pub fn part_all(wants: &mut IndexMap<[u8; 32], Want>, conn: &ConnId)
+    requires under { AllByRecursion IsUnderHash wants.old.entries }
+    ensures left { wants_in wants.new.entries ≡ left_by conn.now (wants_in wants.old.entries) }
+    ensures under { AllByRecursion IsUnderHash wants.new.entries }
+{
+    wants.retain(
+        |_hash: &[u8; 32], want: &mut Want| -> bool
+            ensures { (result ≡ waits_besides conn.entry.now want.old) × (waits_besides conn.entry.now want.old ≡ true → want.new ≡ leave conn.entry.now want.old) }
+        { part(want, conn) },
+    );
 }
 
 /// One miss of the hash, which isn't its twelfth.
@@ -199,15 +266,6 @@ pub fn count_all(wants: &mut IndexMap<[u8; 32], Want>)
     );
 }
 
-fn unasked_in(want: Want, link: usize) -> Want
-    requires { link < 8 }
-    ensures { result ≡ unask link want }
-{
-    let mut changed = want;
-    changed.asked[link] = false;
-    changed
-}
-
 /// The link is unasked for all.
 pub fn note_unasked(wants: &mut IndexMap<[u8; 32], Want>, link: usize)
     requires link { link < 8 }
@@ -220,7 +278,7 @@ pub fn note_unasked(wants: &mut IndexMap<[u8; 32], Want>, link: usize)
             requires { link < 8 }
             ensures { (result ≡ true) × (want.new ≡ unask link want.old) }
         {
-            *want = unasked_in(*want, link);
+            want.asked[link] = false;
             true
         },
     );

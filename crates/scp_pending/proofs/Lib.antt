@@ -3,6 +3,7 @@ pub mod Serving
 pub mod Later
 pub mod Wanting
 pub mod Standing
+pub mod Listing
 pub mod Sound
 pub mod Passing
 pub mod Places

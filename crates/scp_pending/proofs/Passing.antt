@@ -12,11 +12,12 @@ use Rattle.scp_pending.specs.Queues.{QueueView, is_of, parked_of}
 use Rattle.scp_pending.specs.Rules.{PendingView, Settled, fresh, rules, releases, taken_in, settled_by, released_by}
 use Rattle.scp_pending.specs.Causes.{HasCause, HeadWaits, IsSettledBy}
 use Rattle.scp_pending.specs.Pends.{Pends, IsSettled, start_of}
-use Rattle.scp_pending.specs.Laws.{AllHaveCauses, FewAreParked}
+use Rattle.scp_pending.specs.Laws.{AllHaveCauses, FewAreParked, WaitersWait}
 use Rattle.scp_pending.proofs.Basics.{append_nil, all_weaker}
 use Rattle.scp_pending.proofs.Later.{settled-push}
 use Rattle.scp_pending.proofs.Standing.{Fits, head_waits}
-use Rattle.scp_pending.proofs.Sound.{Sound, sound_start, sound_along, local_step}
+use Rattle.scp_pending.proofs.Listing.{waiting_is}
+use Rattle.scp_pending.proofs.Sound.{Sound, nothing_waits, sound_start, sound_along, local_step}
 use Rattle.scp_pending.proofs.Exiting.{few_of_conn}
 
 pub released-append : (s : Settled) (xs ys : List Inbound) → released_by s (xs ++ ys) ≡ released_by s xs ++ released_by (settled_by s xs) ys
@@ -73,3 +74,6 @@ settled_just me peers taken given v (Some ready) rest e none p = ((λ k. absurd 
 pub still : (v : PendingView) (o : Option Ready) (rest : List Ready) → v.leaving ≡ option_to_list o ++ rest → o ≡ None → record v { leaving = rest } ≡ v
 still v None rest e k = rw (← e) refl
 still v (Some ready) rest e k = absurd cc
+
+pub waiters_wait : WaitersWait
+waiters_wait me peers taken given v p hash c = (let k = sound_of me peers taken given v p in waiting_is hash v.settled.queues v.settled.wanted k.listed.each (λ un d. nothing_waits (start_of me peers v) taken v.settled.wanted hash d v.settled.queues un k.fits) c)

@@ -29,15 +29,16 @@ use Rattle.scp_pending.specs.declared.ready.Ready.{Ready}
 use Rattle.scp_pending.specs.declared.ready.Ready.TheVariants.{Deliver, Dropped, Closed, Local}
 use Rattle.scp_pending.specs.Sanity.{is_sane, has_spelling, sane_of_test}
 use Rattle.scp_fetch.specs.Hashes.{same_hash}
-use Rattle.scp_fetch.specs.Wants.{is_for, is_wanted, ask, new_want, wanted_by, unask, unasked, is_missed, is_last, count_miss, missed_by, last_missed, without, gives_up}
+use Rattle.scp_fetch.specs.Wants.{is_for, is_wanted, waits_besides, leave, left_by, ask, new_want, wanted_by, unask, unasked, is_missed, is_last, count_miss, missed_by, last_missed, without, gives_up}
 use Rattle.scp_fetch.specs.Store.{StoreView, lookup, pushed, stored}
-use Rattle.scp_pending.specs.Queues.{QueueView, is_of, is_open, is_link_open, parked_of, others, changed, with_parked, parked_in, is_empty, may_leave, leaves_of, served, leaving_of, in_order_of, named, is_hash, hash_of, waits_for, is_waited, resolved, with_set, lost_by, dropped}
-use Rattle.scp_pending.specs.Rules.{Settled, settled_by, released_by, rules, releases, opens, opened, closed_off, still_wanted, entering_by, entering, found, is_full, goes_through, wanted_named, wanted_with, parks, enters, brings, brought, by_answer, answered, is_answer, is_given_up, gives_up_one, missed_one, missed_all, hears, heard_out, link_number, link_of, fresh}
+use Rattle.scp_pending.specs.Queues.{QueueView, is_of, is_open, is_link_open, parked_of, others, changed, with_parked, parked_in, is_empty, may_leave, leaves_of, served, leaving_of, in_order_of, named, is_hash, hash_of, waits_for, is_waiting, resolved, with_set, lost_by, dropped}
+use Rattle.scp_pending.specs.Rules.{Settled, settled_by, released_by, rules, releases, opens, opened, closed_off, entering_by, entering, found, is_full, goes_through, wanted_named, wanted_with, parks, enters, brings, brought, by_answer, answered, is_answer, is_given_up, gives_up_one, missed_one, missed_all, hears, heard_out, link_number, link_of, fresh}
 use Rattle.scp_pending.specs.Causes.{is_set, is_miss, plus, Place, IsMissed, HasCause}
 use Rattle.scp_pending.proofs.Basics.{append_nil, clash, or_none, or_left, or_right, and_both, not_false, same_hash-true, same_hash-sym, same_conn-true, all_step, all_weaker, all_append, all_left, all_both, all_kept, all_filter}
 use Rattle.scp_pending.proofs.Later.{settled-push, IsMissed-later, HasCause-later}
-use Rattle.scp_pending.proofs.Wanting.{AtLeast, wanted-map, ask-hash, ask-misses, count-hash, count-misses, wanted_by-other, wanted-filter, is_for-true, least-map, least-wanted_by, none_wanted, few_missed}
+use Rattle.scp_pending.proofs.Wanting.{AtLeast, wanted-map, ask-hash, ask-misses, count-hash, count-misses, wanted_by-other, is_for-true, least-map, least-wanted_by, none_wanted, few_missed}
 use Rattle.scp_pending.proofs.Serving.{how_many, AreSingle, how_many-append, how_many-map, how_many-served, how_many-parked_in, none_shut, others_few, all_in_order, single-in_order}
+use Rattle.scp_pending.proofs.Listing.{AreListed, StandsElse, others_else, still_left, listed_step}
 use Rattle.scp_pending.proofs.Standing.{Stands, AllStand, Fits, FitsButHead, Keeps, IsWant, stays, quiet, new_stands, answer_stands, miss_stands, keeps_missed, gives_up_other, served_fit, resolved_fit, leaves_caused}
 
 -- ---- each connection has at most one queue
@@ -206,26 +207,20 @@ all_any front (x ∷ xs) = (λ test e. at test front e, subst (λ l. AllByRecurs
     at test [] e = or_left (test x) (list_any test xs) e
     at test (z ∷ zs) e = or_right (test z) (list_any test (zs ++ x ∷ xs)) (at test zs e)
 
-closed_fit : (start : Settled) (taken : List Inbound) (s : Settled) (c : ConnId) (item : Inbound) → s ≡ settled_by start taken → ((hash : Hash) → (is_set hash s item ≡ false) × (is_miss hash s item ≡ false)) → AllByRecursion (Fits start taken s.wanted) s.queues → AllByRecursion (Fits start (taken ++ item ∷ []) (closed_off c s).wanted) (others c s.queues)
-closed_fit start taken s c item e k a = all_both (Fits start taken s.wanted) (λ (q : QueueView). (test : QueueView → Bool) → test q ≡ true → list_any test rest ≡ true) (Fits start (taken ++ item ∷ []) wanted') rest one (all_others (Fits start taken s.wanted) c s.queues a) (all_any [] rest)
+closed_fit : (start : Settled) (taken : List Inbound) (s : Settled) (c : ConnId) (item : Inbound) → s ≡ settled_by start taken → AreSingle s.queues → AreListed s.queues s.wanted → ((hash : Hash) → (is_set hash s item ≡ false) × (is_miss hash s item ≡ false)) → AllByRecursion (Fits start taken s.wanted) s.queues → AllByRecursion (Fits start (taken ++ item ∷ []) (closed_off c s).wanted) (others c s.queues)
+closed_fit start taken s c item e single listed k a = all_both (Fits start taken s.wanted) (StandsElse c s.queues) (Fits start (taken ++ item ∷ []) wanted') (others c s.queues) one (all_others (Fits start taken s.wanted) c s.queues a) (others_else c s.queues single)
   where
-    rest : List QueueView
-    rest = others c s.queues
-
-    keep : Want → Bool
-    keep = still_wanted (parked_of c s.queues) rest
-
     wanted' : List Want
-    wanted' = filter keep s.wanted
+    wanted' = left_by c s.wanted
 
-    kept : (hash : Hash) → is_waited hash rest ≡ true → is_wanted hash s.wanted ≡ true → Keeps s s.wanted wanted' item hash
-    kept hash waited is = ((k hash).0, wanted-filter keep hash s.wanted (λ w f. or_left (is_waited w.hash rest) (not (list_any (waits_for w.hash) (parked_of c s.queues))) (subst (λ (h : Hash). is_waited h rest ≡ true) (is_for-true hash w f) waited)) is, λ n l. rw (k hash).1 (all_filter (λ (want : Want). want.hash ≡ hash → n ≤ want.misses) keep s.wanted l))
+    kept : (q : QueueView) → StandsElse c s.queues q → (hash : Hash) → list_any (waits_for hash) q.parked ≡ true → is_wanted hash s.wanted ≡ true → Keeps s s.wanted wanted' item hash
+    kept q else' hash waits is = ((k hash).0, still_left c q.conn hash s.queues s.wanted else'.other (ap (list_any (waits_for hash)) else'.own ∙ waits) listed.each is, λ n l. rw (k hash).1 (least-map (leave c) (λ w. refl) (λ w. refl) n hash (filter (waits_besides c) s.wanted) (all_filter (λ (want : Want). want.hash ≡ hash → n ≤ want.misses) (waits_besides c) s.wanted l)))
 
-    one : (q : QueueView) → Fits start taken s.wanted q → ((test : QueueView → Bool) → test q ≡ true → list_any test rest ≡ true) → Fits start (taken ++ item ∷ []) wanted' q
-    one q f there = record {
+    one : (q : QueueView) → Fits start taken s.wanted q → StandsElse c s.queues q → Fits start (taken ++ item ∷ []) wanted' q
+    one q f else' = record {
       waits = f.waits;
       few = f.few;
-      stands = all_both (Stands start taken s.wanted q.conn) (λ (p : Parked). (test : Parked → Bool) → test p ≡ true → list_any test q.parked ≡ true) (Stands start (taken ++ item ∷ []) wanted' q.conn) q.parked (λ p w h. stays start taken s s.wanted wanted' item q.conn p e (λ hash waits is. kept hash (there (λ r. list_any (waits_for hash) r.parked) (h (waits_for hash) waits)) is) w) f.stands (all_any [] q.parked);
+      stands = all_both (Stands start taken s.wanted q.conn) (λ (p : Parked). (test : Parked → Bool) → test p ≡ true → list_any test q.parked ≡ true) (Stands start (taken ++ item ∷ []) wanted' q.conn) q.parked (λ p w h. stays start taken s s.wanted wanted' item q.conn p e (λ hash waits is. kept q else' hash (h (waits_for hash) waits) is) w) f.stands (all_any [] q.parked);
     }
 
 -- a message is parked behind others
@@ -257,24 +252,46 @@ entered_fit start taken wanted c p qs through few w a = by_test (is_empty (parke
     by_test true e t = all_append (Fits start taken wanted) (others c qs) (record { conn = c; parked = p ∷ [] } ∷ []) (all_others (Fits start taken wanted) c qs a) (record { waits = t; few = omega arith; stands = (w, tt) }, tt)
     by_test false e t = changed_fit start taken wanted c p qs e few w a
 
-wants_named : (hash : Hash) (link : ℕ) (p : Option Hash) (wanted : List Want) → is_wanted hash wanted ≡ true → is_wanted hash (wanted_named link p wanted) ≡ true
-wants_named hash link None wanted is = is
-wants_named hash link (Some other) wanted is = wanted_by-other hash other link wanted is
+-- nothing waits for a hash that isn't wanted
+pub nothing_waits : (start : Settled) (taken : List Inbound) (wanted : List Want) (hash : Hash) (c : ConnId) (qs : List QueueView) → is_wanted hash wanted ≡ false → AllByRecursion (Fits start taken wanted) qs → is_waiting c hash qs ≡ false
+nothing_waits start taken wanted hash c [] un a = refl
+nothing_waits start taken wanted hash c (q ∷ qs) un a = by_test (is_of c q) (nothing_waits start taken wanted hash c qs un a.1)
+  where
+    one : (p : Parked) → Stands start taken wanted q.conn p → waits_for hash p ≡ false
+    one (Waits x) w = by_same (same_hash hash w.1.hash) refl
+      where
+        by_same : (b : Bool) → same_hash hash w.1.hash ≡ b → is_hash hash (named x.message) ≡ false
+        by_same true k = clash (is_wanted hash wanted) (subst (λ (h : Hash). is_wanted h wanted ≡ true) (sym (same_hash-true hash w.1.hash k)) w.1.wanted_still) un
+        by_same false k = ap (is_hash hash) w.1.waiting.names ∙ k
+    one (Free d) w = refl
+    one (Lost seq cause) w = refl
 
-least_named : (hash : Hash) (link n : ℕ) (p : Option Hash) (wanted : List Want) → is_wanted hash wanted ≡ true → AtLeast n hash wanted → AtLeast n hash (wanted_named link p wanted)
-least_named hash link n None wanted is l = l
-least_named hash link n (Some other) wanted is l = least-wanted_by other link n hash wanted is l
+    none : (ps : List Parked) → AllByRecursion (Stands start taken wanted q.conn) ps → list_any (waits_for hash) ps ≡ false
+    none [] b = refl
+    none (p ∷ ps) b = rw (one p b.0) (none ps b.1)
+
+    by_test : (b : Bool) → is_waiting c hash qs ≡ false → list_any (waits_for hash) (cond b q.parked (parked_of c qs)) ≡ false
+    by_test true rest = none q.parked a.0.stands
+    by_test false rest = rest
+
+wants_named : (hash : Hash) (link : ℕ) (c : ConnId) (p : Option Hash) (wanted : List Want) → is_wanted hash wanted ≡ true → is_wanted hash (wanted_named link c p wanted) ≡ true
+wants_named hash link c None wanted is = is
+wants_named hash link c (Some other) wanted is = wanted_by-other hash other link c wanted is
+
+least_named : (hash : Hash) (link : ℕ) (c : ConnId) (n : ℕ) (p : Option Hash) (wanted : List Want) → is_wanted hash wanted ≡ true → AtLeast n hash wanted → AtLeast n hash (wanted_named link c p wanted)
+least_named hash link c n None wanted is l = l
+least_named hash link c n (Some other) wanted is l = least-wanted_by other link c n hash wanted is l
 
 abbrev StepFits : Settled → List Inbound → Settled → Inbound → List Ready → Type 0
 StepFits start taken s item out = AllByRecursion (Fits start (taken ++ item ∷ []) s.wanted) s.queues × AllByRecursion (HasCause start (taken ++ item ∷ [])) out
 
-pub fits_step : (start : Settled) (taken : List Inbound) (s : Settled) (item : Inbound) → s ≡ settled_by start taken → IsSaneStore s.store → AllByRecursion (IsWant start taken) s.wanted → AllByRecursion (Fits start taken s.wanted) s.queues → StepFits start taken (rules s item) item (releases s item)
-fits_step start taken s (inbound.Opened d) e sane ws a = by_test (opens d s)
+pub fits_step : (start : Settled) (taken : List Inbound) (s : Settled) (item : Inbound) → s ≡ settled_by start taken → IsSaneStore s.store → AreSingle s.queues → AllByRecursion (IsWant start taken) s.wanted → AreListed s.queues s.wanted → AllByRecursion (Fits start taken s.wanted) s.queues → StepFits start taken (rules s item) item (releases s item)
+fits_step start taken s (inbound.Opened d) e sane single ws listed a = by_test (opens d s)
   where
     by_test : (b : Bool) → StepFits start taken (cond b (opened d s) s) (inbound.Opened d) []
     by_test true = (all_append (Fits start (taken ++ inbound.Opened d ∷ []) (unasked (link_number d.from s) s.wanted)) s.queues (record { conn = d; parked = [] } ∷ []) (quiet start taken s (unasked (link_number d.from s) s.wanted) (inbound.Opened d) s.queues e (λ hash is. (refl, wanted-map (unask (link_number d.from s)) (λ w. refl) hash s.wanted ∙ is, λ n l. least-map (unask (link_number d.from s)) (λ w. refl) (λ w. refl) n hash s.wanted l)) a) (record { waits = refl; few = omega arith; stands = tt }, tt), tt)
     by_test false = (quiet start taken s s.wanted (inbound.Opened d) s.queues e (λ hash is. (refl, is, λ n l. l)) a, tt)
-fits_step start taken s (inbound.Carried x) e sane ws a = by_tests (is_open x.conn s.queues) (is_full x.conn s.queues) (goes_through x.conn p s.queues) refl refl refl
+fits_step start taken s (inbound.Carried x) e sane single ws listed a = by_tests (is_open x.conn s.queues) (is_full x.conn s.queues) (goes_through x.conn p s.queues) refl refl refl
   where
     item : Inbound
     item = inbound.Carried x
@@ -289,12 +306,12 @@ fits_step start taken s (inbound.Carried x) e sane ws a = by_tests (is_open x.co
     still = quiet start taken s s.wanted item s.queues e (λ hash is. (refl, is, λ n l. l)) a
 
     by_tests : (o f g : Bool) → is_open x.conn s.queues ≡ o → is_full x.conn s.queues ≡ f → goes_through x.conn p s.queues ≡ g → StepFits start taken (cond o (cond f (closed_off x.conn s) (cond g s (parks x p s))) s) item (cond o (cond f (map (dropped x.conn ByFull) (parked_of x.conn s.queues) ++ Dropped x.conn x.seq ByFull ∷ Closed x.conn ParkedFull ∷ []) (cond g (leaves_of x.conn (p ∷ [])) [])) [])
-    by_tests true true g o f t = (closed_fit start taken s x.conn item e (λ hash. (refl, refl)) a, all_dropped start (taken ++ item ∷ []) x.conn ByFull (parked_of x.conn s.queues) (Dropped x.conn x.seq ByFull ∷ Closed x.conn ParkedFull ∷ []) (λ seq. tt) (tt, (tt, tt)))
-    by_tests true false true o f t = (still, leaves_caused start (taken ++ item ∷ []) (wanted_with link p s.wanted) x.conn (p ∷ []) (new_stands start taken s link x e sane.0 sane.1 o, tt))
-    by_tests true false false o f t = (entered_fit start (taken ++ item ∷ []) (wanted_with link p s.wanted) x.conn p s.queues t f (new_stands start taken s link x e sane.0 sane.1 o) (quiet start taken s (wanted_with link p s.wanted) item s.queues e (λ hash is. (refl, wants_named hash link _ s.wanted is, λ n l. least_named hash link n _ s.wanted is l)) a), tt)
+    by_tests true true g o f t = (closed_fit start taken s x.conn item e single listed (λ hash. (refl, refl)) a, all_dropped start (taken ++ item ∷ []) x.conn ByFull (parked_of x.conn s.queues) (Dropped x.conn x.seq ByFull ∷ Closed x.conn ParkedFull ∷ []) (λ seq. tt) (tt, (tt, tt)))
+    by_tests true false true o f t = (still, leaves_caused start (taken ++ item ∷ []) (wanted_with link x.conn p s.wanted) x.conn (p ∷ []) (new_stands start taken s link x e sane.0 sane.1 o, tt))
+    by_tests true false false o f t = (entered_fit start (taken ++ item ∷ []) (wanted_with link x.conn p s.wanted) x.conn p s.queues t f (new_stands start taken s link x e sane.0 sane.1 o) (quiet start taken s (wanted_with link x.conn p s.wanted) item s.queues e (λ hash is. (refl, wants_named hash link x.conn _ s.wanted is, λ n l. least_named hash link x.conn n _ s.wanted is l)) a), tt)
     by_tests false f g o h t = (still, tt)
-fits_step start taken s (inbound.Side d (GetSet h)) e sane ws a = elim (is_open d s.queues) as (λ b. StepFits start taken (cond b s s) (inbound.Side d (GetSet h)) (cond b [] [])) [ true ↦ (quiet start taken s s.wanted (inbound.Side d (GetSet h)) s.queues e (λ hash is. (refl, is, λ n l. l)) a, tt) | false ↦ (quiet start taken s s.wanted (inbound.Side d (GetSet h)) s.queues e (λ hash is. (refl, is, λ n l. l)) a, tt) ]
-fits_step start taken s (inbound.Side d (Set set)) e sane ws a = by_tests (is_open d s.queues) (has_spelling set) (is_wanted (hash_of set) s.wanted) refl refl refl
+fits_step start taken s (inbound.Side d (GetSet h)) e sane single ws listed a = elim (is_open d s.queues) as (λ b. StepFits start taken (cond b s s) (inbound.Side d (GetSet h)) (cond b [] [])) [ true ↦ (quiet start taken s s.wanted (inbound.Side d (GetSet h)) s.queues e (λ hash is. (refl, is, λ n l. l)) a, tt) | false ↦ (quiet start taken s s.wanted (inbound.Side d (GetSet h)) s.queues e (λ hash is. (refl, is, λ n l. l)) a, tt) ]
+fits_step start taken s (inbound.Side d (Set set)) e sane single ws listed a = by_tests (is_open d s.queues) (has_spelling set) (is_wanted (hash_of set) s.wanted) refl refl refl
   where
     item : Inbound
     item = inbound.Side d (Set set)
@@ -311,7 +328,7 @@ fits_step start taken s (inbound.Side d (Set set)) e sane ws a = by_tests (is_op
     by_tests true true false o h w = (quiet start taken s s.wanted item s.queues e (λ hash is. (rw (o, h, not_mine hash w is) refl, is, λ n l. l)) a, tt)
     by_tests true false w o h k = (quiet start taken s s.wanted item s.queues e (λ hash is. (rw (o, h) refl, is, λ n l. l)) a, tt)
     by_tests false h w o i k = (quiet start taken s s.wanted item s.queues e (λ hash is. (rw o refl, is, λ n l. l)) a, tt)
-fits_step start taken s (inbound.Side d (NoSet hash)) e sane ws a = by_tests (is_open d s.queues) (gives_up (One hash) s.wanted hash) refl refl
+fits_step start taken s (inbound.Side d (NoSet hash)) e sane single ws listed a = by_tests (is_open d s.queues) (gives_up (One hash) s.wanted hash) refl refl
   where
     item : Inbound
     item = inbound.Side d (NoSet hash)
@@ -331,19 +348,19 @@ fits_step start taken s (inbound.Side d (NoSet hash)) e sane ws a = by_tests (is
     by_tests true true o g = served_fit start (taken ++ item ∷ []) wanted' (resolved (is_hash hash) (lost_by GaveUp) s.queues) (resolved_fit start taken (taken ++ item ∷ []) s.wanted wanted' (is_hash hash) (lost_by GaveUp) s.queues (miss_stands start taken s (One hash) item (is_hash hash) e (λ other. (refl, rw o refl)) (λ other is. test_is other (same_hash hash other) refl g) ws) a)
     by_tests true false o g = (quiet start taken s wanted' item s.queues e (λ other is. keeps_missed s (One hash) item other refl (rw o refl) (none_up other (same_hash hash other) refl g) is) a, tt)
     by_tests false g o k = (quiet start taken s s.wanted item s.queues e (λ other is. (refl, is, λ n l. rw o l)) a, tt)
-fits_step start taken s (inbound.Closed d cause) e sane ws a = by_test (is_open d s.queues)
+fits_step start taken s (inbound.Closed d cause) e sane single ws listed a = by_test (is_open d s.queues)
   where
     item : Inbound
     item = inbound.Closed d cause
 
     by_test : (o : Bool) → StepFits start taken (cond o (closed_off d s) s) item (cond o (map (dropped d ByClose) (parked_of d s.queues) ++ Closed d cause ∷ []) [])
-    by_test true = (closed_fit start taken s d item e (λ hash. (refl, refl)) a, all_dropped start (taken ++ item ∷ []) d ByClose (parked_of d s.queues) (Closed d cause ∷ []) (λ seq. tt) (tt, tt))
+    by_test true = (closed_fit start taken s d item e single listed (λ hash. (refl, refl)) a, all_dropped start (taken ++ item ∷ []) d ByClose (parked_of d s.queues) (Closed d cause ∷ []) (λ seq. tt) (tt, tt))
     by_test false = (quiet start taken s s.wanted item s.queues e (λ hash is. (refl, is, λ n l. l)) a, tt)
-fits_step start taken s (inbound.Local Tick) e sane ws a = served_fit start (taken ++ inbound.Local Tick ∷ []) (missed_by All s.wanted) (resolved (is_given_up s.wanted) (lost_by GaveUp) (in_order_of (last_missed s.wanted) s.queues)) (resolved_fit start taken (taken ++ inbound.Local Tick ∷ []) s.wanted (missed_by All s.wanted) (is_given_up s.wanted) (lost_by GaveUp) (in_order_of (last_missed s.wanted) s.queues) (miss_stands start taken s All (inbound.Local Tick) (is_given_up s.wanted) e (λ hash. (refl, refl)) (λ hash is. refl) ws) (all_in_order (Fits start taken s.wanted) (last_missed s.wanted) s.queues a))
-fits_step start taken s (inbound.Local (Propose slot value)) e sane ws a = (quiet start taken s s.wanted (inbound.Local (Propose slot value)) s.queues e (λ hash is. (refl, is, λ m l. l)) a, (tt, tt))
-fits_step start taken s (inbound.Local (Round slot)) e sane ws a = (quiet start taken s s.wanted (inbound.Local (Round slot)) s.queues e (λ hash is. (refl, is, λ m l. l)) a, (tt, tt))
-fits_step start taken s (inbound.Local (Timer slot)) e sane ws a = (quiet start taken s s.wanted (inbound.Local (Timer slot)) s.queues e (λ hash is. (refl, is, λ m l. l)) a, (tt, tt))
-fits_step start taken s (inbound.Local (Ask link slot)) e sane ws a = (quiet start taken s s.wanted (inbound.Local (Ask link slot)) s.queues e (λ hash is. (refl, is, λ m l. l)) a, (tt, tt))
+fits_step start taken s (inbound.Local Tick) e sane single ws listed a = served_fit start (taken ++ inbound.Local Tick ∷ []) (missed_by All s.wanted) (resolved (is_given_up s.wanted) (lost_by GaveUp) (in_order_of (last_missed s.wanted) s.queues)) (resolved_fit start taken (taken ++ inbound.Local Tick ∷ []) s.wanted (missed_by All s.wanted) (is_given_up s.wanted) (lost_by GaveUp) (in_order_of (last_missed s.wanted) s.queues) (miss_stands start taken s All (inbound.Local Tick) (is_given_up s.wanted) e (λ hash. (refl, refl)) (λ hash is. refl) ws) (all_in_order (Fits start taken s.wanted) (last_missed s.wanted) s.queues a))
+fits_step start taken s (inbound.Local (Propose slot value)) e sane single ws listed a = (quiet start taken s s.wanted (inbound.Local (Propose slot value)) s.queues e (λ hash is. (refl, is, λ m l. l)) a, (tt, tt))
+fits_step start taken s (inbound.Local (Round slot)) e sane single ws listed a = (quiet start taken s s.wanted (inbound.Local (Round slot)) s.queues e (λ hash is. (refl, is, λ m l. l)) a, (tt, tt))
+fits_step start taken s (inbound.Local (Timer slot)) e sane single ws listed a = (quiet start taken s s.wanted (inbound.Local (Timer slot)) s.queues e (λ hash is. (refl, is, λ m l. l)) a, (tt, tt))
+fits_step start taken s (inbound.Local (Ask link slot)) e sane single ws listed a = (quiet start taken s s.wanted (inbound.Local (Ask link slot)) s.queues e (λ hash is. (refl, is, λ m l. l)) a, (tt, tt))
 
 -- ---- the wants
 
@@ -355,6 +372,9 @@ wants_later start taken s item e k a = all_weaker (IsWant start taken) (IsWant s
 
 wants_map : (start : Settled) (taken : List Inbound) (f : Want → Want) → ((w : Want) → (f w).hash ≡ w.hash) → ((w : Want) → (f w).misses ≡ w.misses) → (ws : List Want) → AllByRecursion (IsWant start taken) ws → AllByRecursion (IsWant start taken) (map f ws)
 wants_map start taken f same count ws a = all_step (IsWant start taken) (IsWant start taken) f ws (λ w h. (rw (same w, count w) h.0, rw (count w) h.1)) a
+
+wants_left : (start : Settled) (taken : List Inbound) (c : ConnId) (ws : List Want) → AllByRecursion (IsWant start taken) ws → AllByRecursion (IsWant start taken) (left_by c ws)
+wants_left start taken c ws a = wants_map start taken (leave c) (λ w. refl) (λ w. refl) (filter (waits_besides c) ws) (all_filter (IsWant start taken) (waits_besides c) ws a)
 
 wants_missed : (start : Settled) (taken : List Inbound) (s : Settled) (miss : Miss) (item : Inbound) → s ≡ settled_by start taken → ((hash : Hash) → (is_set hash s item ≡ false) × (is_miss hash s item ≡ is_missed miss hash)) → AllByRecursion (IsWant start taken) s.wanted → AllByRecursion (IsWant start (taken ++ item ∷ [])) (missed_by miss s.wanted)
 wants_missed start taken s miss item e k a = all_step (λ (w : Want). IsWant start taken w × (is_last miss w ≡ false)) (IsWant start (taken ++ item ∷ [])) (count_miss miss) (filter (λ w. not (is_last miss w)) s.wanted) one (all_kept (IsWant start taken) (λ (w : Want). IsWant start taken w × (is_last miss w ≡ false)) (λ w. not (is_last miss w)) s.wanted (λ w h q. (h, not_false (is_last miss w) q)) a)
@@ -379,9 +399,9 @@ wants_step start taken s (inbound.Carried x) e a = by_tests (is_open x.conn s.qu
     more : AllByRecursion (IsWant start (taken ++ item ∷ [])) s.wanted
     more = wants_later start taken s item e (λ h. (refl, refl)) a
 
-    by_want : (hash : Hash) (b : Bool) → is_open x.conn s.queues ≡ true → named x.message ≡ Some hash → AllByRecursion (IsWant start (taken ++ item ∷ [])) (cond b (map (ask hash link) s.wanted) (s.wanted ++ new_want hash link ∷ []))
-    by_want hash true live names = wants_map start (taken ++ item ∷ []) (ask hash link) (ask-hash hash link) (ask-misses hash link) s.wanted more
-    by_want hash false live names = all_append (IsWant start (taken ++ item ∷ [])) s.wanted (new_want hash link ∷ []) more (
+    by_want : (hash : Hash) (b : Bool) → is_open x.conn s.queues ≡ true → named x.message ≡ Some hash → AllByRecursion (IsWant start (taken ++ item ∷ [])) (cond b (map (ask hash link x.conn) s.wanted) (s.wanted ++ new_want hash link x.conn ∷ []))
+    by_want hash true live names = wants_map start (taken ++ item ∷ []) (ask hash link x.conn) (ask-hash hash link x.conn) (ask-misses hash link x.conn) s.wanted more
+    by_want hash false live names = all_append (IsWant start (taken ++ item ∷ [])) s.wanted (new_want hash link x.conn ∷ []) more (
       (
         record {
           first = x;
@@ -395,20 +415,20 @@ wants_step start taken s (inbound.Carried x) e a = by_tests (is_open x.conn s.qu
       tt,
     )
 
-    by_name : (o : Option Hash) → is_open x.conn s.queues ≡ true → named x.message ≡ o → AllByRecursion (IsWant start (taken ++ item ∷ [])) (wanted_named link o s.wanted)
+    by_name : (o : Option Hash) → is_open x.conn s.queues ≡ true → named x.message ≡ o → AllByRecursion (IsWant start (taken ++ item ∷ [])) (wanted_named link x.conn o s.wanted)
     by_name None live names = more
     by_name (Some hash) live names = by_want hash (is_wanted hash s.wanted) live names
 
-    by_lookup : (o : Option QuorumTree) → is_open x.conn s.queues ≡ true → AllByRecursion (IsWant start (taken ++ item ∷ [])) (wanted_with link (found x o) s.wanted)
+    by_lookup : (o : Option QuorumTree) → is_open x.conn s.queues ≡ true → AllByRecursion (IsWant start (taken ++ item ∷ [])) (wanted_with link x.conn (found x o) s.wanted)
     by_lookup None live = by_name (named x.message) live refl
     by_lookup (Some set) live = more
 
-    by_entering : (o : Option Hash) → is_open x.conn s.queues ≡ true → AllByRecursion (IsWant start (taken ++ item ∷ [])) (wanted_with link (entering_by o s.store x) s.wanted)
+    by_entering : (o : Option Hash) → is_open x.conn s.queues ≡ true → AllByRecursion (IsWant start (taken ++ item ∷ [])) (wanted_with link x.conn (entering_by o s.store x) s.wanted)
     by_entering None live = more
     by_entering (Some hash) live = by_lookup (lookup hash s.store) live
 
     by_tests : (o f g : Bool) → is_open x.conn s.queues ≡ o → AllByRecursion (IsWant start (taken ++ item ∷ [])) (cond o (cond f (closed_off x.conn s) (cond g s (parks x (entering s.store x) s))) s).wanted
-    by_tests true true g live = all_filter (IsWant start (taken ++ item ∷ [])) (still_wanted (parked_of x.conn s.queues) (others x.conn s.queues)) s.wanted more
+    by_tests true true g live = wants_left start (taken ++ item ∷ []) x.conn s.wanted more
     by_tests true false true live = more
     by_tests true false false live = by_entering (named x.message) live
     by_tests false f g live = more
@@ -435,7 +455,7 @@ wants_step start taken s (inbound.Side d (NoSet hash)) e a = by_tests (is_open d
 wants_step start taken s (inbound.Closed d cause) e a = by_test (is_open d s.queues)
   where
     by_test : (o : Bool) → AllByRecursion (IsWant start (taken ++ inbound.Closed d cause ∷ [])) (cond o (closed_off d s) s).wanted
-    by_test true = all_filter (IsWant start (taken ++ inbound.Closed d cause ∷ [])) (still_wanted (parked_of d s.queues) (others d s.queues)) s.wanted (wants_later start taken s (inbound.Closed d cause) e (λ h. (refl, refl)) a)
+    by_test true = wants_left start (taken ++ inbound.Closed d cause ∷ []) d s.wanted (wants_later start taken s (inbound.Closed d cause) e (λ h. (refl, refl)) a)
     by_test false = wants_later start taken s (inbound.Closed d cause) e (λ h. (refl, refl)) a
 wants_step start taken s (inbound.Local Tick) e a = wants_missed start taken s All (inbound.Local Tick) e (λ h. (refl, refl)) a
 wants_step start taken s (inbound.Local (Propose slot value)) e a = wants_later start taken s (inbound.Local (Propose slot value)) e (λ h. (refl, refl)) a
@@ -451,17 +471,19 @@ pub record Sound (start : Settled) (taken : List Inbound) (s : Settled) (out : L
   pub single : AreSingle s.queues
   pub fits : AllByRecursion (Fits start taken s.wanted) s.queues
   pub wanted : AllByRecursion (IsWant start taken) s.wanted
+  pub listed : AreListed s.queues s.wanted
   pub causes : AllByRecursion (HasCause start taken) out
 
 pub sound_step : (start : Settled) (taken : List Inbound) (s : Settled) (out : List Ready) (item : Inbound) → Sound start taken s out → Sound start (taken ++ item ∷ []) (rules s item) (out ++ releases s item)
 sound_step start taken s out item k =
-    let step = fits_step start taken s item k.now k.sane k.wanted k.fits in
+    let step = fits_step start taken s item k.now k.sane k.single k.wanted k.listed k.fits in
     record {
       now = ap (λ (t : Settled). rules t item) k.now ∙ sym (settled-push start taken item);
       sane = store_step IsSaneStore s item (λ set sane h. stored_sane set s.store sane h) k.sane;
       single = single_step s item k.single;
       fits = step.0;
       wanted = wants_step start taken s item k.now k.wanted;
+      listed = listed_step s item k.single (λ hash c un. nothing_waits start taken s.wanted hash c s.queues un k.fits) k.listed;
       causes = all_append (HasCause start (taken ++ item ∷ [])) out (releases s item) (all_weaker (HasCause start taken) (HasCause start (taken ++ item ∷ [])) out (λ r h. HasCause-later start taken s item k.now r h) k.causes) step.1;
     }
 
@@ -472,6 +494,7 @@ sound_start me peers local sane = record {
   single = λ c. omega arith;
   fits = tt;
   wanted = tt;
+  listed = record { each = tt; apart = tt };
   causes = tt;
 }
 

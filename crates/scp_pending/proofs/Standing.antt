@@ -31,7 +31,7 @@ use Rattle.scp_pending.specs.Sanity.{is_sane, has_spelling, sane_of_test}
 use Rattle.scp_fetch.specs.Hashes.{same_hash}
 use Rattle.scp_fetch.specs.Wants.{is_for, is_wanted, is_missed, is_last, missed_by, without, gives_up}
 use Rattle.scp_fetch.specs.Store.{StoreView, has_hash, lookup}
-use Rattle.scp_pending.specs.Queues.{QueueView, is_open, parked_of, may_leave, leaves_of, stays_of, stays_in, served, leaves_in, leaving_of, named, is_hash, hash_of, waits_for, is_waited, resolved_one, resolved_in, resolved, with_set, lost_by}
+use Rattle.scp_pending.specs.Queues.{QueueView, is_open, parked_of, may_leave, leaves_of, stays_of, stays_in, served, leaves_in, leaving_of, named, is_hash, hash_of, waits_for, resolved_one, resolved_in, resolved, with_set, lost_by}
 use Rattle.scp_pending.specs.Rules.{Settled, settled_by, entering_by, entering, found, wanted_named, wanted_with, by_answer, is_given_up}
 use Rattle.scp_pending.specs.Causes.{is_set, is_bad, is_miss, has, plus, times, Place, behind, Waiting, misses_since, IsWaiting, IsTaken, IsBadSet, IsMissed, IsGivenUp, HasCause, HeadWaits}
 use Rattle.scp_pending.proofs.Basics.{append_nil, clash, or_none, or_right, and_both, not_false, same_hash-refl, same_hash-true, same_hash-sym, all_step, all_weaker, all_append, all_kept, all_filter, all_flat}
@@ -190,25 +190,25 @@ set_some (message.GetRecord slot) set e sane = absurd cc
 set_some (message.Record slot value) set e sane = absurd cc
 
 -- a message that comes just now
-pub new_stands : (start : Settled) (taken : List Inbound) (s : Settled) (link : ℕ) (y : Carried) → s ≡ settled_by start taken → IsSane s.store.local → AllByRecursion IsSane s.store.others → is_open y.conn s.queues ≡ true → Stands start (taken ++ inbound.Carried y ∷ []) (wanted_with link (entering s.store y) s.wanted) y.conn (entering s.store y)
+pub new_stands : (start : Settled) (taken : List Inbound) (s : Settled) (link : ℕ) (y : Carried) → s ≡ settled_by start taken → IsSane s.store.local → AllByRecursion IsSane s.store.others → is_open y.conn s.queues ≡ true → Stands start (taken ++ inbound.Carried y ∷ []) (wanted_with link y.conn (entering s.store y) s.wanted) y.conn (entering s.store y)
 new_stands start taken s link y e local sets live = by_named (named y.message) refl
   where
     place : Place start (taken ++ inbound.Carried y ∷ []) y
     place = record { before = taken; after = []; at = refl; live = subst (λ (t : Settled). is_open y.conn t.queues ≡ true) e live }
 
-    by_lookup : (hash : Hash) (o : Option QuorumTree) → named y.message ≡ Some hash → lookup hash s.store ≡ o → Stands start (taken ++ inbound.Carried y ∷ []) (wanted_with link (found y o) s.wanted) y.conn (found y o)
+    by_lookup : (hash : Hash) (o : Option QuorumTree) → named y.message ≡ Some hash → lookup hash s.store ≡ o → Stands start (taken ++ inbound.Carried y ∷ []) (wanted_with link y.conn (found y o) s.wanted) y.conn (found y o)
     by_lookup hash None names none = (
       refl,
       record {
         hash = hash;
         waiting = record { place = place; names = names; unknown = subst (λ (t : Settled). lookup hash t.store ≡ None) e none; no_set = refl };
-        wanted_still = ap (λ (o : Option Hash). is_wanted hash (wanted_named link o s.wanted)) names ∙ wanted_by-own hash link s.wanted;
-        least = zero_least hash (wanted_named link (named y.message) s.wanted);
+        wanted_still = ap (λ (o : Option Hash). is_wanted hash (wanted_named link y.conn o s.wanted)) names ∙ wanted_by-own hash link y.conn s.wanted;
+        least = zero_least hash (wanted_named link y.conn (named y.message) s.wanted);
       },
     )
     by_lookup hash (Some set) names there = let ok = lookup_ok hash s.store set local sets there in (refl, record { x = y; place = place; conn = refl; seq = refl; message = refl; set = set_some y.message set (names ∙ ap (λ (h : Hash). Some h) (sym ok.1)) ok.0 })
 
-    by_named : (o : Option Hash) → named y.message ≡ o → Stands start (taken ++ inbound.Carried y ∷ []) (wanted_with link (entering_by o s.store y) s.wanted) y.conn (entering_by o s.store y)
+    by_named : (o : Option Hash) → named y.message ≡ o → Stands start (taken ++ inbound.Carried y ∷ []) (wanted_with link y.conn (entering_by o s.store y) s.wanted) y.conn (entering_by o s.store y)
     by_named None names = (refl, record { x = y; place = place; conn = refl; seq = refl; message = refl; set = set_none y.message names })
     by_named (Some hash) names = by_lookup hash (lookup hash s.store) names refl
 

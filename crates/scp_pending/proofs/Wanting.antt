@@ -3,11 +3,12 @@ use Rattle.std.proofs.Common.{◌≡◌, ℕ, ◌+◌, ◌<◌, ◌≤◌, Bool,
 use Rattle.std.specs.Prelude.{◌&&◌, ◌||◌, nat_lt, filter, slice_set}
 use Rattle.std.specs.List.{list_any, AllByRecursion}
 use Rattle.std.proofs.lemmas.Bool.{ltb-true, ltb-false}
+use Rattle.scp_types.specs.declared.names.ConnId.{ConnId}
 use Rattle.scp_types.specs.declared.names.Hash.{Hash}
 use Rattle.scp_fetch.specs.declared.want.Want.{Want}
 use Rattle.scp_fetch.specs.declared.want.Miss.{Miss}
 use Rattle.scp_fetch.specs.Hashes.{same_hash}
-use Rattle.scp_fetch.specs.Wants.{is_for, is_wanted, ask, new_want, wanted_by, unask, unasked, without, is_missed, is_last, count_miss, missed_by, gives_up}
+use Rattle.scp_fetch.specs.Wants.{is_for, is_wanted, joined, waits_besides, leave, left_by, ask, new_want, wanted_by, unask, unasked, without, is_missed, is_last, count_miss, missed_by, gives_up}
 use Rattle.scp_pending.specs.Causes.{plus}
 use Rattle.scp_pending.proofs.Basics.{clash, or_none, if_any, or_left, or_right, and_both, not_false, same_hash-refl, same_hash-true, same_hash-sym, all_step, all_append, all_filter, all_kept}
 
@@ -15,17 +16,17 @@ pub wanted-map : (f : Want → Want) → ((w : Want) → (f w).hash ≡ w.hash) 
 wanted-map f same hash [] = refl
 wanted-map f same hash (w ∷ ws) = rw (same w, wanted-map f same hash ws) refl
 
-pub ask-hash : (hash : Hash) (link : ℕ) (w : Want) → (ask hash link w).hash ≡ w.hash
-ask-hash hash link w = by_test (is_for hash w)
+pub ask-hash : (hash : Hash) (link : ℕ) (c : ConnId) (w : Want) → (ask hash link c w).hash ≡ w.hash
+ask-hash hash link c w = by_test (is_for hash w)
   where
-    by_test : (b : Bool) → (cond b (record w { asked = slice_set w.asked link true }) w).hash ≡ w.hash
+    by_test : (b : Bool) → (cond b (record w { asked = slice_set w.asked link true; waiting = joined c w.waiting }) w).hash ≡ w.hash
     by_test true = refl
     by_test false = refl
 
-pub ask-misses : (hash : Hash) (link : ℕ) (w : Want) → (ask hash link w).misses ≡ w.misses
-ask-misses hash link w = by_test (is_for hash w)
+pub ask-misses : (hash : Hash) (link : ℕ) (c : ConnId) (w : Want) → (ask hash link c w).misses ≡ w.misses
+ask-misses hash link c w = by_test (is_for hash w)
   where
-    by_test : (b : Bool) → (cond b (record w { asked = slice_set w.asked link true }) w).misses ≡ w.misses
+    by_test : (b : Bool) → (cond b (record w { asked = slice_set w.asked link true; waiting = joined c w.waiting }) w).misses ≡ w.misses
     by_test true = refl
     by_test false = refl
 
@@ -51,19 +52,28 @@ any-last : (hash : Hash) (ws : List Want) (w : Want) → is_for hash w ≡ true 
 any-last hash [] w e = or_left (is_for hash w) false e
 any-last hash (v ∷ vs) w e = or_right (is_for hash v) (is_wanted hash (vs ++ w ∷ [])) (any-last hash vs w e)
 
-pub wanted_by-other : (hash other : Hash) (link : ℕ) (ws : List Want) → is_wanted hash ws ≡ true → is_wanted hash (wanted_by other link ws) ≡ true
-wanted_by-other hash other link ws e = by_test (is_wanted other ws)
+pub wanted_by-other : (hash other : Hash) (link : ℕ) (c : ConnId) (ws : List Want) → is_wanted hash ws ≡ true → is_wanted hash (wanted_by other link c ws) ≡ true
+wanted_by-other hash other link c ws e = by_test (is_wanted other ws)
   where
-    by_test : (b : Bool) → is_wanted hash (cond b (map (ask other link) ws) (ws ++ new_want other link ∷ [])) ≡ true
-    by_test true = wanted-map (ask other link) (ask-hash other link) hash ws ∙ e
-    by_test false = any-push hash ws (new_want other link) e
+    by_test : (b : Bool) → is_wanted hash (cond b (map (ask other link c) ws) (ws ++ new_want other link c ∷ [])) ≡ true
+    by_test true = wanted-map (ask other link c) (ask-hash other link c) hash ws ∙ e
+    by_test false = any-push hash ws (new_want other link c) e
 
-pub wanted_by-own : (hash : Hash) (link : ℕ) (ws : List Want) → is_wanted hash (wanted_by hash link ws) ≡ true
-wanted_by-own hash link ws = by_test (is_wanted hash ws) refl
+pub wanted_by-own : (hash : Hash) (link : ℕ) (c : ConnId) (ws : List Want) → is_wanted hash (wanted_by hash link c ws) ≡ true
+wanted_by-own hash link c ws = by_test (is_wanted hash ws) refl
   where
-    by_test : (b : Bool) → is_wanted hash ws ≡ b → is_wanted hash (cond b (map (ask hash link) ws) (ws ++ new_want hash link ∷ [])) ≡ true
-    by_test true e = wanted-map (ask hash link) (ask-hash hash link) hash ws ∙ e
-    by_test false e = any-last hash ws (new_want hash link) (same_hash-refl hash)
+    by_test : (b : Bool) → is_wanted hash ws ≡ b → is_wanted hash (cond b (map (ask hash link c) ws) (ws ++ new_want hash link c ∷ [])) ≡ true
+    by_test true e = wanted-map (ask hash link c) (ask-hash hash link c) hash ws ∙ e
+    by_test false e = any-last hash ws (new_want hash link c) (same_hash-refl hash)
+
+-- where all of this hash are kept, by what is known of each
+pub wanted-filter_of : (P : Want → Type 0) (keep : Want → Bool) (hash : Hash) (ws : List Want) → ((w : Want) → P w → is_for hash w ≡ true → keep w ≡ true) → AllByRecursion P ws → is_wanted hash ws ≡ true → is_wanted hash (filter keep ws) ≡ true
+wanted-filter_of P keep hash [] k a e = e
+wanted-filter_of P keep hash (w ∷ ws) k a e = by_test (keep w) refl (wanted-filter_of P keep hash ws k a.1)
+  where
+    by_test : (b : Bool) → keep w ≡ b → (is_wanted hash ws ≡ true → is_wanted hash (filter keep ws) ≡ true) → is_wanted hash (cond b (w ∷ filter keep ws) (filter keep ws)) ≡ true
+    by_test true kept rest = elim (if_any (is_for hash w) (is_wanted hash ws) e) as (λ _. (is_for hash w || is_wanted hash (filter keep ws)) ≡ true) [ inl l ↦ or_left (is_for hash w) (is_wanted hash (filter keep ws)) l | inr r ↦ or_right (is_for hash w) (is_wanted hash (filter keep ws)) (rest r) ]
+    by_test false gone rest = elim (if_any (is_for hash w) (is_wanted hash ws) e) as (λ _. is_wanted hash (filter keep ws) ≡ true) [ inl l ↦ clash (keep w) (k w a.0 l) gone | inr r ↦ rest r ]
 
 -- where all of this hash are kept
 pub wanted-filter : (keep : Want → Bool) (hash : Hash) (ws : List Want) → ((w : Want) → is_for hash w ≡ true → keep w ≡ true) → is_wanted hash ws ≡ true → is_wanted hash (filter keep ws) ≡ true
@@ -111,12 +121,12 @@ zero_least hash (w ∷ ws) = (λ e. omega arith, zero_least hash ws)
 pub least-map : (f : Want → Want) → ((w : Want) → (f w).hash ≡ w.hash) → ((w : Want) → (f w).misses ≡ w.misses) → (n : ℕ) (hash : Hash) (ws : List Want) → AtLeast n hash ws → AtLeast n hash (map f ws)
 least-map f same count n hash ws a = all_step _ (λ (w : Want). w.hash ≡ hash → n ≤ w.misses) f ws (λ w h e. rw (count w) (h (sym (same w) ∙ e))) a
 
-pub least-wanted_by : (other : Hash) (link n : ℕ) (hash : Hash) (ws : List Want) → is_wanted hash ws ≡ true → AtLeast n hash ws → AtLeast n hash (wanted_by other link ws)
-least-wanted_by other link n hash ws is a = by_test (is_wanted other ws) refl
+pub least-wanted_by : (other : Hash) (link : ℕ) (c : ConnId) (n : ℕ) (hash : Hash) (ws : List Want) → is_wanted hash ws ≡ true → AtLeast n hash ws → AtLeast n hash (wanted_by other link c ws)
+least-wanted_by other link c n hash ws is a = by_test (is_wanted other ws) refl
   where
-    by_test : (b : Bool) → is_wanted other ws ≡ b → AtLeast n hash (cond b (map (ask other link) ws) (ws ++ new_want other link ∷ []))
-    by_test true w = least-map (ask other link) (ask-hash other link) (ask-misses other link) n hash ws a
-    by_test false w = all_append (λ (want : Want). want.hash ≡ hash → n ≤ want.misses) ws (new_want other link ∷ []) a (λ e. clash (is_wanted hash ws) is (ap (λ h. is_wanted h ws) (sym e) ∙ w), tt)
+    by_test : (b : Bool) → is_wanted other ws ≡ b → AtLeast n hash (cond b (map (ask other link c) ws) (ws ++ new_want other link c ∷ []))
+    by_test true w = least-map (ask other link c) (ask-hash other link c) (ask-misses other link c) n hash ws a
+    by_test false w = all_append (λ (want : Want). want.hash ≡ hash → n ≤ want.misses) ws (new_want other link c ∷ []) a (λ e. clash (is_wanted hash ws) is (ap (λ h. is_wanted h ws) (sym e) ∙ w), tt)
 
 plus_le : (a b : ℕ) (c : Bool) → a ≤ b → plus a c ≤ plus b c
 plus_le a b true h = omega (arith, h)

@@ -2,13 +2,15 @@
 use Rattle.std.specs.Prelude.{ℕ, ◌+◌, ◌≡◌, ◌≤◌, ◌++◌, List, [], ◌∷◌, Some, slice_get, length}
 use Rattle.std.specs.List.{AllByRecursion}
 use Rattle.scp_types.specs.declared.names.ConnId.{ConnId}
+use Rattle.scp_types.specs.declared.names.Hash.{Hash}
 use Rattle.scp_types.specs.declared.names.NodeId.{NodeId}
 use Rattle.scp_types.specs.declared.names.Seq.{Seq}
 use Rattle.scp_wire.specs.declared.link.Inbound.{Inbound}
 use Rattle.scp_wire.specs.Connections.{conn_at}
 use Rattle.scp_wire.specs.Shape.{HasShape}
 use Rattle.scp_pending.specs.declared.ready.Ready.{Ready}
-use Rattle.scp_pending.specs.Queues.{is_open, parked_of}
+use Rattle.scp_fetch.specs.Wants.{has_conn, waiting_for}
+use Rattle.scp_pending.specs.Queues.{is_open, is_waiting, parked_of}
 use Rattle.scp_pending.specs.Rules.{PendingView}
 use Rattle.scp_pending.specs.Line.{Accounts, held}
 use Rattle.scp_pending.specs.Causes.{HasCause}
@@ -39,6 +41,10 @@ AllHaveCauses = (me : NodeId) (peers : List NodeId) (taken : List Inbound) (give
 -- at most 64 are parked of a connection
 abbrev pub FewAreParked : Type 0
 FewAreParked = (me : NodeId) (peers : List NodeId) (taken : List Inbound) (given : List Ready) (v : PendingView) → Pends me peers taken given v → (c : ConnId) → length (parked_of c v.settled.queues) ≤ 64
+
+-- the connections that stand in a hash's list are those of which something that is parked waits for it
+abbrev pub WaitersWait : Type 0
+WaitersWait = (me : NodeId) (peers : List NodeId) (taken : List Inbound) (given : List Ready) (v : PendingView) → Pends me peers taken given v → (hash : Hash) (c : ConnId) → has_conn c (waiting_for hash v.settled.wanted) ≡ is_waiting c hash v.settled.queues
 
 -- each local command other than Tick is given once, in order, and no other
 abbrev pub CommandsPass : Type 0

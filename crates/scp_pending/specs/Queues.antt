@@ -78,9 +78,9 @@ waited_by (Waits x) = named x.message
 waited_by (Free delivery) = None
 waited_by (Lost seq cause) = None
 
--- something that is parked waits for the hash
-abbrev pub is_waited : Hash → List QueueView → Bool
-is_waited hash queues = list_any (λ q. list_any (waits_for hash) q.parked) queues
+-- something that is parked of the connection waits for the hash
+abbrev pub is_waiting : ConnId → Hash → List QueueView → Bool
+is_waiting c hash queues = list_any (waits_for hash) (parked_of c queues)
 
 abbrev pub is_empty : List Parked → Bool
 is_empty [] = true

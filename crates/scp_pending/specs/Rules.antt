@@ -20,9 +20,9 @@ use Rattle.scp_wire.specs.Connections.{same_node}
 use Rattle.scp_pending.specs.Sanity.{is_sane, has_spelling}
 use Rattle.scp_fetch.specs.declared.want.Want.{Want}
 use Rattle.scp_fetch.specs.declared.want.Miss.TheVariants.{One, All}
-use Rattle.scp_fetch.specs.Wants.{is_wanted, is_asked, wanted_by, unasked, gives_up, last_missed, missed_by, without}
+use Rattle.scp_fetch.specs.Wants.{is_wanted, is_asked, wanted_by, left_by, unasked, gives_up, last_missed, missed_by, without}
 use Rattle.scp_fetch.specs.Store.{StoreView, lookup, stored}
-use Rattle.scp_pending.specs.Queues.{QueueView, is_open, is_link_open, parked_of, others, named, is_hash, hash_of, waits_for, waited_by, is_waited, is_empty, may_leave, leaves_of, served, leaving_of, in_order_of, resolved, with_set, lost_by, parked_in, dropped}
+use Rattle.scp_pending.specs.Queues.{QueueView, is_open, is_link_open, parked_of, others, named, is_hash, hash_of, waited_by, is_empty, may_leave, leaves_of, served, leaving_of, in_order_of, resolved, with_set, lost_by, parked_in, dropped}
 use Rattle.scp_pending.specs.declared.parked.Parked.{Parked}
 use Rattle.scp_pending.specs.declared.parked.Parked.TheVariants.{Waits, Free, Lost}
 use Rattle.scp_pending.specs.declared.ready.DropCause.TheVariants.{BadSet, GaveUp, Closed as ByClose, ParkedFull as ByFull}
@@ -63,12 +63,9 @@ opened c s = record s { queues = s.queues ++ record { conn = c; parked = [] } �
 
 -- ---- a connection ends
 
--- what waited for a hash of which nothing else is parked ends its want
-abbrev pub still_wanted : List Parked → List QueueView → Want → Bool
-still_wanted gone rest want = is_waited want.hash rest || not (list_any (waits_for want.hash) gone)
-
+-- it waits for nothing any more, and a hash for which no other connection waits isn't wanted any more
 abbrev pub closed_off : ConnId → Settled → Settled
-closed_off c s = record s { queues = others c s.queues; wanted = filter (still_wanted (parked_of c s.queues) (others c s.queues)) s.wanted }
+closed_off c s = record s { queues = others c s.queues; wanted = left_by c s.wanted }
 
 -- ---- a carried message
 
@@ -91,15 +88,15 @@ is_full c queues = nat_lt 63 (length (parked_of c queues))
 abbrev pub goes_through : ConnId → Parked → List QueueView → Bool
 goes_through c p queues = is_empty (parked_of c queues) && may_leave (p ∷ [])
 
-abbrev pub wanted_named : ℕ → Option Hash → List Want → List Want
-wanted_named link None wanted = wanted
-wanted_named link (Some hash) wanted = wanted_by hash link wanted
+abbrev pub wanted_named : ℕ → ConnId → Option Hash → List Want → List Want
+wanted_named link c None wanted = wanted
+wanted_named link c (Some hash) wanted = wanted_by hash link c wanted
 
-abbrev pub wanted_with : ℕ → Parked → List Want → List Want
-wanted_with link p wanted = wanted_named link (waited_by p) wanted
+abbrev pub wanted_with : ℕ → ConnId → Parked → List Want → List Want
+wanted_with link c p wanted = wanted_named link c (waited_by p) wanted
 
 abbrev pub parks : Carried → Parked → Settled → Settled
-parks x p s = record s { queues = parked_in x.conn p s.queues; wanted = wanted_with (link_number x.conn.from s) p s.wanted }
+parks x p s = record s { queues = parked_in x.conn p s.queues; wanted = wanted_with (link_number x.conn.from s) x.conn p s.wanted }
 
 abbrev pub enters : Carried → Parked → Settled → Settled
 enters x p s = if goes_through x.conn p s.queues then s else parks x p s

@@ -1,6 +1,6 @@
 //! What follows of the rules, for every list of takes: each law is the contract of a function that does nothing.
 ghost use Rattle.scp_pending.specs.Living.{OpenByPlace};
-ghost use Rattle.scp_pending.specs.Laws.{AllAccounts, AllExits, AllHaveCauses, CommandsPass, CutsAreConsecutive, FewAreParked};
+ghost use Rattle.scp_pending.specs.Laws.{AllAccounts, AllExits, AllHaveCauses, CommandsPass, CutsAreConsecutive, FewAreParked, WaitersWait};
 
 /// All that was given, and all that is ready, has its cause among what was taken.
 pub fn each_fate_has_its_cause()
@@ -10,6 +10,11 @@ pub fn each_fate_has_its_cause()
 /// At most 64 messages of a connection are parked.
 pub fn few_are_parked()
     ensures few { FewAreParked }
+{}
+
+/// The connections that stand in a hash's list are those of which an envelope waits for it.
+pub fn who_waits_is_listed()
+    ensures listed { WaitersWait }
 {}
 
 /// Where the items of each link have the shape that its reader gives them: of each connection, what was given and then what

@@ -1,11 +1,10 @@
 //! A parked message.
-ghost use Rattle.std.specs.Prelude.{◌≡◌, ◌∷◌, [], IfOk, IsOkUnless, IfSome, Some, None, true, filter, option_map};
-ghost use Rattle.scp_pending.specs.Rules.{is_given_up, still_wanted};
+ghost use Rattle.std.specs.Prelude.{◌≡◌, ◌∷◌, [], IfOk, IsOkUnless, IfSome, Some, None, true, option_map};
+ghost use Rattle.scp_pending.specs.Rules.{is_given_up};
 ghost use Rattle.scp_quorum.specs.QuorumKind.{set_hash};
 ghost use Rattle.scp_pending.specs.Queues.{named as named_by, hash_of, is_hash, waits_for as waits, waited_by, may_leave as head_may_leave, seq_of, resolved_one, lost_by, with_set};
 ghost use Rattle.scp_pending.specs.Outcome.{outcome_of, HasHash};
 
-use crate::queue::{Queue, is_waited};
 use crate::ready::{Delivery, DropCause};
 use scp_fetch::Fetcher;
 use scp_quorum::SaneSet;
@@ -120,18 +119,6 @@ impl Parked {
                 Parked::Lost(carried.seq, DropCause::GaveUp)
             }
             _ => Parked::Waits(carried),
-        }
-    }
-
-    /// The hash that it waits for isn't wanted any more, where nothing among these waits for it.
-    #[tactic(auto, using(crate::proofs::Freeing::forget_free, crate::proofs::Freeing::forget_still, crate::proofs::Freeing::forget_waits))]
-    pub(crate) fn forget(&self, rest: &[Queue], fetcher: &mut Fetcher)
-        ensures { fetcher.new ≡ filter (still_wanted (self.now ∷ []) rest.now) fetcher.old }
-    {
-        if let Some(hash) = self.waited() {
-            if !is_waited(rest, &hash) {
-                fetcher.forget(&hash);
-            }
         }
     }
 }

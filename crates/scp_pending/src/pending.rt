@@ -3,6 +3,7 @@ ghost use Rattle.std.specs.Prelude.{ℕ, ◌≡◌, ◌≤◌, ◌<◌, ◌^◌,
 ghost use Rattle.scp_types.specs.declared.names.NodeId.{NodeId};
 ghost use Rattle.scp_wire.specs.declared.link.Inbound.{Inbound};
 ghost use Rattle.scp_fetch.specs.Store.{lookup};
+ghost use Rattle.scp_fetch.specs.Wants.{waiting_for};
 ghost use Rattle.scp_pending.specs.Queues.{is_of, is_open, parked_of, others, changed, with_parked, parked_in, served, leaving_of, resolved, lost_by, dropped, is_hash, is_link_open, stays_in, leaves_in, may_leave as head_may_leave};
 ghost use Rattle.scp_pending.specs.Rules.{PendingView, Settled, fresh, rules, releases, reply, taken_in, entering as entering_with, link_number, opens, opened, closed_off, asks, brings, brought, enters, goes_through, parks, hears, heard_out, replies, answer as answer_for, is_full, wanted_with, asks_named, wanted_named};
 ghost use Rattle.scp_pending.specs.Outcome.{outcome_of, HasHash};
@@ -142,6 +143,14 @@ impl Pending {
         }
     }
 
+    /// The connections with an envelope that waits for this hash, each once, in the order of their first wait among those; none
+    /// where the hash isn't wanted. Takes no memory, and costs one look-up by a hash table.
+    pub fn waiting(&self, hash: &Hash) -> &[ConnId]
+        ensures { result.now ≡ waiting_for hash.now self.now.settled.wanted }
+    {
+        self.fetcher.waiting(hash)
+    }
+
     /// What an item does, and the message for one link.
     fn settle(&mut self, item: Inbound) -> Result<Option<(u8, Message)>, Fault>
         ensures reply { IfOk result (λ answer. answer ≡ reply self.old.settled item) }
@@ -250,7 +259,7 @@ impl Pending {
     {
         if let Some(queue) = take_queue(&mut self.queues, conn) {
             queue.drop_all(cause, &mut self.leaving)?;
-            queue.forget(&self.queues, &mut self.fetcher);
+            self.fetcher.closed(conn);
         }
         Ok(())
     }
@@ -260,25 +269,30 @@ impl Pending {
     fn park(&mut self, conn: ConnId, parked: Parked) -> Result<Option<(u8, Message)>, Fault>
         requires open { is_open conn self.old.settled.queues ≡ true }
         ensures reply { IfOk result (λ answer. answer ≡ asks (link_number conn.from self.old.settled) parked self.old.settled.wanted) }
-        ensures rules { OnOk result (self.new ≡ record self.old { settled = record self.old.settled { queues = parked_in conn parked self.old.settled.queues; wanted = wanted_with (link_number conn.from self.old.settled) parked self.old.settled.wanted } }) }
+        ensures rules { OnOk result (self.new ≡ record self.old { settled = record self.old.settled { queues = parked_in conn parked self.old.settled.queues; wanted = wanted_with (link_number conn.from self.old.settled) conn parked self.old.settled.wanted } }) }
     {
         let hash = parked.waited();
         let link = self.link_number(&conn.from);
-        let answer = self.ask(hash, link)?;
+        let answer = self.ask(hash, link, conn)?;
         push_to(&mut self.queues, &conn, parked)?;
         Ok(answer)
     }
 
     /// The quorum set of the hash is wanted, and the link is asked for it if it wasn't yet.
-    fn ask(&mut self, hash: Option<Hash>, link: u8) -> Result<Option<(u8, Message)>, Fault>
+    fn ask(
+        &mut self,
+        hash: Option<Hash>,
+        link: u8,
+        conn: ConnId,
+    ) -> Result<Option<(u8, Message)>, Fault>
         requires few { link < 8 }
         ensures reply { IfOk result (λ answer. answer ≡ asks_named link hash self.old.settled.wanted) }
-        ensures rules { OnOk result (self.new ≡ record self.old { settled = record self.old.settled { wanted = wanted_named link hash self.old.settled.wanted } }) }
+        ensures rules { OnOk result (self.new ≡ record self.old { settled = record self.old.settled { wanted = wanted_named link conn hash self.old.settled.wanted } }) }
     {
         let Some(hash) = hash else {
             return Ok(None);
         };
-        let asks = self.fetcher.want(&hash, link)?;
+        let asks = self.fetcher.want(&hash, link, &conn)?;
         if !asks {
             return Ok(None);
         }
@@ -339,7 +353,7 @@ impl Pending {
         }
         let shared = Arc::new(self.alloc, sane)?;
         self.store.insert(Arc::try_clone(&shared)?)?;
-        self.fetcher.forget(&hash);
+        let _ = self.fetcher.answer(&hash, true);
         self.resolve(&hash, Outcome::Has(shared))?;
         Ok(())
     }
@@ -355,7 +369,7 @@ impl Pending {
             Err(_) => return Err(Fault::NoMemory),
         };
         if self.fetcher.is_wanted(&hash) {
-            self.fetcher.forget(&hash);
+            let _ = self.fetcher.answer(&hash, false);
             self.resolve(&hash, Outcome::Lost(DropCause::BadSet))?;
         }
         Ok(())

@@ -2,9 +2,9 @@
 ghost use Rattle.std.specs.Prelude.{◌≡◌, ◌+◌, ◌<◌, ◌^◌, ◌++◌, ◌∷◌, [], IfOk, OnOk, IfSome, IsSomeAnd, IfNone, is_some, Some, None, true, false, length, map, filter, take, drop, position, option_to_list, remove, slice_get, slice_set as set, get_or};
 ghost use Rattle.std.specs.List.{list_any};
 ghost use Rattle.scp_wire.specs.Connections.{same_conn};
-ghost use Rattle.scp_fetch.specs.Wants.{last_missed, without};
-ghost use Rattle.scp_pending.specs.Queues.{is_of, is_open, is_link_open as link_open, parked_of, others, parked_in, resolved, served, leaving_of, is_hash, waits_for as waits, is_waited as waited, is_empty as none_parked, may_leave as head_may_leave, leaves_of, stays_of, stays_in, leaves_in, is_head_waiting as has_waiting_head, with_first, in_order_of, resolved_one, resolved_in, dropped, lost_by, with_parked};
-ghost use Rattle.scp_pending.specs.Rules.{is_given_up, still_wanted};
+ghost use Rattle.scp_fetch.specs.Wants.{last_missed};
+ghost use Rattle.scp_pending.specs.Queues.{is_of, is_open, is_link_open as link_open, parked_of, others, parked_in, resolved, served, leaving_of, is_hash, is_empty as none_parked, may_leave as head_may_leave, leaves_of, stays_of, stays_in, leaves_in, is_head_waiting as has_waiting_head, with_first, in_order_of, resolved_one, resolved_in, dropped, lost_by, with_parked};
+ghost use Rattle.scp_pending.specs.Rules.{is_given_up};
 ghost use Rattle.scp_pending.specs.Outcome.{outcome_of, HasHash, IsPlace};
 ghost use Rattle.scp_pending.specs.declared.parked.Parked.{Parked};
 
@@ -73,13 +73,6 @@ impl Queue {
         Ok(())
     }
 
-    /// Whether something in it waits for the hash.
-    pub(crate) fn waits_for(&self, hash: &Hash) -> bool
-        ensures { result ≡ list_any (waits hash.now) self.now.parked }
-    {
-        self.parked.iter().any(|parked| parked.waits_for(hash))
-    }
-
     /// Whether there is a head, and it waits for nothing.
     pub(crate) fn may_leave(&self) -> bool
         ensures { result ≡ head_may_leave self.now.parked }
@@ -129,13 +122,6 @@ impl Queue {
         ensures { OnOk result (self.new ≡ resolved_in (is_given_up fetcher.now) (lost_by DropCause.GaveUp) self.old) }
     {
         give_up_each(&mut self.parked, fetcher)
-    }
-
-    /// What waited here alone isn't wanted any more.
-    pub(crate) fn forget(&self, rest: &[Queue], fetcher: &mut Fetcher)
-        ensures { fetcher.new ≡ filter (still_wanted self.now.parked rest.now) fetcher.old }
-    {
-        forget_each(&self.parked, rest, fetcher);
     }
 }
 
@@ -221,15 +207,6 @@ fn give_up_each(parked: &mut VecDeque<Parked>, fetcher: &Fetcher) -> Result<(), 
     Ok(())
 }
 
-#[tactic(auto, using(crate::proofs::Freeing::forget_none, crate::proofs::Freeing::forget_more))]
-fn forget_each(parked: &VecDeque<Parked>, rest: &[Queue], fetcher: &mut Fetcher)
-    ensures { fetcher.new ≡ filter (still_wanted parked.now.items rest.now) fetcher.old }
-{
-    for i in 0..parked.len() {
-        parked[i].forget(rest, fetcher);
-    }
-}
-
 /// Gives what waits for nothing.
 pub(crate) fn give(conn: ConnId, parked: Parked, leaving: &mut VecDeque<Ready>) -> Result<(), Fault>
     ensures { OnOk result (leaving.new.items ≡ leaving.old.items ++ leaves_of conn (parked ∷ [])) }
@@ -240,13 +217,6 @@ pub(crate) fn give(conn: ConnId, parked: Parked, leaving: &mut VecDeque<Ready>) 
         Parked::Lost(seq, cause) => leaving.push_back(Ready::Dropped { conn, seq, cause })?,
     }
     Ok(())
-}
-
-/// Whether something that is parked waits for the hash.
-pub(crate) fn is_waited(queues: &[Queue], hash: &Hash) -> bool
-    ensures { result ≡ waited hash.now queues.now }
-{
-    queues.iter().any(|queue| queue.waits_for(hash))
 }
 
 /// The place of the connection's queue.

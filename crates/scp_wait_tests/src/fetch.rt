@@ -1,6 +1,6 @@
 use scp_fetch::*;
 use scp_quorum::SaneSet;
-use scp_types::{Fault, Hash, NodeId};
+use scp_types::{ConnId, Fault, Hash, NodeId};
 use std::alloc::Global;
 use std::process::Abort;
 use std::sync::Arc;
@@ -70,6 +70,15 @@ const fn hash_of(byte: u8) -> Hash {
     Hash([byte; 32])
 }
 
+/// The first life of this link.
+const fn conn(link: u8) -> ConnId {
+    ConnId {
+        from: NodeId([link; 32]),
+        to: NodeId([9; 32]),
+        life: 1,
+    }
+}
+
 /// So many misses of the hash, each of which leaves it wanted.
 fn all_wait(fetcher: &mut Fetcher, hash: &Hash, count: u8) -> bool {
     let mut all = true;
@@ -86,7 +95,7 @@ fn the_twelfth_miss_gives_up(rt: HostRuntime) -> Result<(), Fail> {
     let mut fetcher = Fetcher::new(rt.alloc());
     let hash = hash_of(7);
     assert!(rt; fetcher.miss(&hash) == Missed::Unwanted);
-    assert!(rt; fetcher.want(&hash, 0)?);
+    assert!(rt; fetcher.want(&hash, 0, &conn(0))?);
     assert!(rt; all_wait(&mut fetcher, &hash, 11));
     assert!(rt; fetcher.is_at_last_miss(&hash));
     assert!(rt; fetcher.miss(&hash) == Missed::GaveUp);
@@ -99,9 +108,9 @@ fn time_misses_each_wanted_hash(rt: HostRuntime) -> Result<(), Fail> {
     let mut fetcher = Fetcher::new(rt.alloc());
     let early = hash_of(1);
     let late = hash_of(2);
-    assert!(rt; fetcher.want(&early, 0)?);
+    assert!(rt; fetcher.want(&early, 0, &conn(0))?);
     assert!(rt; all_wait(&mut fetcher, &early, 11));
-    assert!(rt; fetcher.want(&late, 0)?);
+    assert!(rt; fetcher.want(&late, 0, &conn(0))?);
     fetcher.miss_all();
     assert!(rt; !fetcher.is_wanted(&early));
     assert!(rt; all_wait(&mut fetcher, &late, 10));
@@ -113,10 +122,10 @@ fn time_misses_each_wanted_hash(rt: HostRuntime) -> Result<(), Fail> {
 fn misses_begin_again_with_a_new_want(rt: HostRuntime) -> Result<(), Fail> {
     let mut fetcher = Fetcher::new(rt.alloc());
     let hash = hash_of(7);
-    assert!(rt; fetcher.want(&hash, 0)?);
+    assert!(rt; fetcher.want(&hash, 0, &conn(0))?);
     assert!(rt; all_wait(&mut fetcher, &hash, 11));
-    fetcher.forget(&hash);
-    assert!(rt; fetcher.want(&hash, 0)?);
+    fetcher.closed(&conn(0));
+    assert!(rt; fetcher.want(&hash, 0, &conn(0))?);
     assert!(rt; all_wait(&mut fetcher, &hash, 11));
     Ok(())
 }
@@ -125,14 +134,14 @@ fn misses_begin_again_with_a_new_want(rt: HostRuntime) -> Result<(), Fail> {
 fn a_link_is_asked_once_while_it_is_open(rt: HostRuntime) -> Result<(), Fail> {
     let mut fetcher = Fetcher::new(rt.alloc());
     let hash = hash_of(7);
-    assert!(rt; fetcher.want(&hash, 3)?);
+    assert!(rt; fetcher.want(&hash, 3, &conn(3))?);
     assert!(rt; fetcher.asked(&hash, 3));
-    assert!(rt; !fetcher.want(&hash, 3)?);
-    assert!(rt; fetcher.want(&hash, 4)?);
+    assert!(rt; !fetcher.want(&hash, 3, &conn(3))?);
+    assert!(rt; fetcher.want(&hash, 4, &conn(4))?);
     fetcher.opened(3);
     assert!(rt; !fetcher.asked(&hash, 3));
-    assert!(rt; fetcher.want(&hash, 3)?);
-    assert!(rt; !fetcher.want(&hash, 4)?);
+    assert!(rt; fetcher.want(&hash, 3, &conn(3))?);
+    assert!(rt; !fetcher.want(&hash, 4, &conn(4))?);
     Ok(())
 }
 
@@ -141,10 +150,27 @@ fn an_answer_ends_a_want(rt: HostRuntime) -> Result<(), Fail> {
     let mut fetcher = Fetcher::new(rt.alloc());
     let hash = hash_of(7);
     assert!(rt; fetcher.answer(&hash, true) == Answer::Unwanted);
-    assert!(rt; fetcher.want(&hash, 0)?);
+    assert!(rt; fetcher.want(&hash, 0, &conn(0))?);
     assert!(rt; fetcher.answer(&hash, true) == Answer::Sane);
-    assert!(rt; fetcher.want(&hash, 0)?);
+    assert!(rt; fetcher.want(&hash, 0, &conn(0))?);
     assert!(rt; fetcher.answer(&hash, false) == Answer::Insane);
     assert!(rt; fetcher.answer(&hash, false) == Answer::Unwanted);
+    Ok(())
+}
+
+#[test]
+fn who_waits_stands_in_the_order_of_the_first_wait(rt: HostRuntime) -> Result<(), Fail> {
+    let mut fetcher = Fetcher::new(rt.alloc());
+    let hash = hash_of(7);
+    assert!(rt; fetcher.waiting(&hash).is_empty());
+    fetcher.want(&hash, 1, &conn(1))?;
+    fetcher.want(&hash, 0, &conn(0))?;
+    fetcher.want(&hash, 1, &conn(1))?;
+    assert!(rt; fetcher.waiting(&hash) == [conn(1), conn(0)].as_slice());
+    fetcher.closed(&conn(1));
+    assert!(rt; fetcher.waiting(&hash) == [conn(0)].as_slice());
+    fetcher.closed(&conn(0));
+    assert!(rt; fetcher.waiting(&hash).is_empty());
+    assert!(rt; !fetcher.is_wanted(&hash));
     Ok(())
 }

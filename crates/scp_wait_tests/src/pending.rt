@@ -584,3 +584,24 @@ fn the_65th_is_held_until_it_is_given(rt: HostRuntime) -> Result<(), Fail> {
     assert_eq!(rt; held(rt.alloc())?, (64, 65, 0));
     Ok(())
 }
+
+/// Whether just these wait for set 2 after these events, on a stage with both links open.
+fn waits(alloc: Global, events: &[Event], want: &[ConnId]) -> Result<bool, Fault> {
+    let mut log = Vec::new(alloc);
+    let mut pending = stage(alloc)?;
+    play_all(alloc, &mut pending, &[Opened(TWO), Opened(THREE)], &mut log)?;
+    play_all(alloc, &mut pending, events, &mut log)?;
+    Ok(pending.waiting(&hash(alloc, 2)?) == want)
+}
+
+#[test]
+fn the_connections_that_wait_are_told(rt: HostRuntime) -> Result<(), Fail> {
+    let alloc = rt.alloc();
+    let three = [Names(TWO, 0, 2), Names(THREE, 0, 2), Names(TWO, 1, 2)];
+    assert!(rt; waits(alloc, &three, &[TWO, THREE])?);
+    let [first, second, third] = three;
+    assert!(rt; waits(alloc, &[first, second, third, Closed(TWO)], &[THREE])?);
+    assert!(rt; waits(alloc, &[first, second, third, Closed(TWO), Set(THREE, 2)], &[])?);
+    assert!(rt; waits(alloc, &[first, second, third, Closed(TWO), Ticks(12)], &[])?);
+    Ok(())
+}

@@ -9,4 +9,4 @@ pub returns-in_ok-resolve : goal.returns-in_ok-resolve
 returns-in_ok-resolve c =
     let fits : Fits set_kind (set_value c.args.set.now) = fits_unless c.args.set.now (λ none. search rules) in
     let v : PendingView = record { failed = c.self.inside.failed; settled = record { me = c.self.inside.me; peers = c.self.inside.peers.items; store = c.self.inside.store; wanted = c.self.inside.fetcher; queues = c.self.inside.queues.items }; leaving = c.self.inside.leaving.items } in
-    rw (← c.self.view_is, c.in_ok-resolve.ensures, c.forget.ensures) (answer_insane v c.args.set.now c.in-Ok.hash (search rules) (not_sane c.args.set.now c.requires.insane) fits (search rules))
+    rw (← c.self.view_is, c.in_ok-resolve.ensures, c.answer.ensures.ended) (answer_insane v c.args.set.now c.in-Ok.hash (search rules) (not_sane c.args.set.now c.requires.insane) fits (search rules))
