@@ -10,6 +10,7 @@ use Rattle.scp_types.specs.declared.names.ConnId.{ConnId}
 use Rattle.scp_types.specs.declared.names.Slot.{Slot}
 use Rattle.scp_wire.specs.declared.link.Command.{Command}
 use Rattle.scp_wire.specs.declared.link.Command.TheVariants.{Propose, Round, Timer, Tick, Ask}
+use Rattle.scp_wire.specs.declared.link.LinkItem.{LinkItem}
 use Rattle.scp_wire.specs.declared.link.Inbound.{Inbound}
 use Rattle.scp_wire.specs.declared.link.Inbound.TheVariants as inbound
 use Rattle.scp_wire.specs.Connections.{conn_at, same_conn}
@@ -19,12 +20,11 @@ use Rattle.scp_pending.specs.declared.ready.Ready.TheVariants as ready
 use Rattle.scp_pending.specs.Queues.{is_open}
 use Rattle.scp_pending.specs.Rules.{Settled, settled_by}
 use Rattle.scp_pending.specs.Causes.{IsTaken, HasCause, IsSettledBy}
-use Rattle.scp_pending.specs.Endings.{Way, went, over, way_by, way, ways, Exits, IsCutOff, commands_in, commands_of, passed, passing}
+use Rattle.scp_pending.specs.Endings.{Way, went, over, way_by, way, ways, Exits, commands_in, commands_of, passed, passing}
 use Rattle.scp_pending.specs.Pends.{IsSettled}
-use Rattle.scp_pending.specs.Laws.{AreFrom}
 use Rattle.scp_pending.proofs.Basics.{all_left}
 use Rattle.scp_pending.proofs.Passing.{all_have_causes}
-use Rattle.scp_pending.proofs.Ending.{commands_pass, all_exits, cuts_are_consecutive}
+use Rattle.scp_pending.proofs.Ending.{commands_pass, all_exits}
 use Rattle.scp_ledger.specs.declared.journal.Asking.{Asking}
 use Rattle.scp_ledger.specs.Seen.{is_asked}
 use Rattle.scp_ledger.specs.declared.journal.Fate.{Fate}
@@ -40,7 +40,8 @@ use Rattle.scp_core.specs.Theorem.{LedgerTheorem}
 use Rattle.scp_core.specs.Settled.{start_at, IsSettledAt, IdleIsSettled}
 use Rattle.scp_core.specs.Causes.{FateHasCause, ways_on, on_way_of, HaveCauses, TheoremGivesCauses}
 use Rattle.scp_core.proofs.OfLinks.{left, start_is}
-use Rattle.scp_core.proofs.Accounts.{shape}
+use Rattle.scp_core.specs.Accounts.{slots_sent}
+use Rattle.scp_core.proofs.Accounts.{shape, slots_fit}
 
 -- ---- idle
 
@@ -105,19 +106,18 @@ causes_at p v f =
 ways_are : (p : Past) (v : NodeView) (f : Flows p v) (c : ConnId) → ways c (f.given ++ v.pending.leaving) ≡ ways_on c v.ledger.journal ++ ways c (on_way_of v)
 ways_are p v f c = ap (ways c) (left p v f) ∙ flat_map-append (way c) f.took (on_way_of v) ∙ ap (λ ws. ws ++ ways c (on_way_of v)) (thing_ways c f.took ∙ ap (flat_map (entry_way c)) (sym f.journal.entries) ∙ sym (fate_ways c v.ledger.journal))
 
-ends_at : (p : Past) (v : NodeView) (f : Flows p v) (l : ℕ) (peer : NodeId) → slice_get v.config.peers l ≡ Some peer → (life : ℕ) → Exits (start_at v.config) f.arrived (conn_at peer v.config.me life) (is_open (conn_at peer v.config.me life) (settled_by (start_at v.config) f.arrived).queues) (ways_on (conn_at peer v.config.me life) v.ledger.journal ++ ways (conn_at peer v.config.me life) (on_way_of v))
+abbrev Ends : Config → NodeId → ℕ → List LinkItem → List Inbound → List Ready → List Fate → Type 0
+Ends c peer life items took later journal = Exits (start_at c) (slots_sent (conn_at peer c.me life) items) took (conn_at peer c.me life) (is_open (conn_at peer c.me life) (settled_by (start_at c) took).queues) (ways_on (conn_at peer c.me life) journal ++ ways (conn_at peer c.me life) later)
+
+ends_at : (p : Past) (v : NodeView) (f : Flows p v) (l : ℕ) (peer : NodeId) → slice_get v.config.peers l ≡ Some peer → (life : ℕ) → Ends v.config peer life (p.links l).items f.arrived (on_way_of v) v.ledger.journal
 ends_at p v f l peer at life =
     let c = conn_at peer v.config.me life in
     let by_rules : v.pending.settled ≡ settled_by (start_at v.config) f.arrived = f.pending.settled ∙ ap (λ (start : Settled). settled_by start f.arrived) (start_is p v f) in
-    let exits = all_exits v.config.me v.config.peers f.arrived f.given v.pending f.pending (shape p v f) l peer at life in
+    let exits = all_exits v.config.me v.config.peers f.arrived f.given v.pending f.pending (shape p v f) l peer at life (slots_sent c (p.links l).items) (slots_fit p v f l peer at life) in
     rw (← by_rules, ← ways_are p v f c, ← start_is p v f) exits
 
-consecutive_at : (p : Past) (v : NodeView) (f : Flows p v) (l : ℕ) (peer : NodeId) → slice_get v.config.peers l ≡ Some peer → (life : ℕ) → (cut : IsCutOff (start_at v.config) f.arrived (conn_at peer v.config.me life) (ways_on (conn_at peer v.config.me life) v.ledger.journal ++ ways (conn_at peer v.config.me life) (on_way_of v))) → AreFrom (length cut.front) (cut.seqs ++ cut.last.seq ∷ [])
-consecutive_at p v f l peer at life =
-    let c = conn_at peer v.config.me life in
-    subst (λ (ws : List Way). (cut : IsCutOff (start_at v.config) f.arrived c ws) → AreFrom (length cut.front) (cut.seqs ++ cut.last.seq ∷ [])) (ways_are p v f c)
-    (subst (λ (start : Settled). (cut : IsCutOff start f.arrived c (ways c (f.given ++ v.pending.leaving))) → AreFrom (length cut.front) (cut.seqs ++ cut.last.seq ∷ [])) (start_is p v f)
-    (cuts_are_consecutive v.config.me v.config.peers f.arrived f.given v.pending f.pending (shape p v f) l peer at life))
+of_config : (c c2 : Config) (peer : NodeId) (life : ℕ) (items : List LinkItem) (took : List Inbound) (later : List Ready) (journal journal2 : List Fate) → c2 ≡ c → journal2 ≡ journal → Ends c peer life items took later journal → Ends c2 peer life items took later journal2
+of_config c c2 peer life items took later journal journal2 same j e = subst (λ (d : Config). Ends d peer life items took later journal2) (sym same) (subst (λ (fates : List Fate). Ends c peer life items took later fates) (sym j) e)
 
 commands_at : (p : Past) (v : NodeView) (f : Flows p v) → commands_of (f.took ++ on_way_of v) ≡ commands_in f.arrived
 commands_at p v f = ap commands_of (sym (left p v f)) ∙ commands_pass v.config.me v.config.peers f.arrived f.given v.pending f.pending
@@ -160,8 +160,7 @@ caused past v h =
       came = h.flows.inbox;
       causes = rw (k.journal, k.config) (causes_at p m h.flows);
       on_way = on_way_of m;
-      ends = rw (k.journal, k.config) (ends_at p m h.flows);
-      consecutive = rw (k.journal, k.config) (consecutive_at p m h.flows);
+      ends = λ l peer at life. of_config m.config v.config peer life (p.links l).items h.flows.arrived (on_way_of m) m.ledger.journal v.ledger.journal k.config k.journal (ends_at p m h.flows l peer (subst (λ (c : Config). slice_get c.peers l ≡ Some peer) k.config at) life);
       took = h.flows.took;
       took_is = ap (map entry_in) k.journal ∙ h.flows.journal.entries;
       commands = commands_at p m h.flows;

@@ -22,7 +22,7 @@ use Rattle.scp_quorum.specs.QuorumKind.{set_hash}
 use Rattle.scp_pending.specs.Sanity.{is_sane, sane_of_test}
 use Rattle.scp_pending.specs.Queues.{is_open, waited_by}
 use Rattle.scp_pending.specs.Pends.{start_of}
-use Rattle.scp_pending.specs.Rules.{Settled, opens, is_full, goes_through, entering, enters, brings, is_answer, answered, hears, rules, settled_by, link_number, asks_named, asks, answer, replies, reply}
+use Rattle.scp_pending.specs.Rules.{Settled, opens, is_full, overflows, goes_through, entering, enters, brings, is_answer, answered, hears, rules, settled_by, link_number, asks_named, asks, answer, replies, reply}
 use Rattle.scp_core.specs.Node.{FitsLink}
 use Rattle.scp_core.specs.Handed.{RepliesFit}
 
@@ -63,7 +63,7 @@ hears_stores (Set q) s h = either Stores (is_answer q s) (answered q s) s (by_te
 hears_stores (NoSet hash) s h = either Stores (gives_up (One hash) s.wanted hash) _ _ h h
 
 brings_stores : (x : Carried) (s : Settled) → Stores s → Stores (brings x s)
-brings_stores x s h = either Stores (is_full x.conn s.queues) _ (enters x (entering s.store x) s) h (either Stores (goes_through x.conn (entering s.store x) s.queues) s _ h h)
+brings_stores x s h = either Stores (overflows x.conn (entering s.store x) s.queues) _ (enters x (entering s.store x) s) h (either Stores (goes_through x.conn (entering s.store x) s.queues) s _ h h)
 
 rules_store : (s : Settled) (item : Inbound) → Stores s → Stores (rules s item)
 rules_store s (inbound.Opened c) h = either Stores (opens c s) _ s h h

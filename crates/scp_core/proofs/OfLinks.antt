@@ -23,8 +23,8 @@ use Rattle.scp_pending.specs.declared.ready.DropCause.{DropCause}
 use Rattle.scp_pending.specs.declared.ready.DropCause.TheVariants.{GaveUp, Closed as ByClose, ParkedFull as ByFull}
 use Rattle.scp_pending.specs.declared.ready.Ready.{Ready}
 use Rattle.scp_pending.specs.declared.ready.Ready.TheVariants as ready
-use Rattle.scp_pending.specs.Queues.{QueueView, is_of, is_open, is_link_open, parked_of, leaves_of, leaving_of, in_order_of, is_hash, hash_of, resolved, resolved_in, lost_by, dropped as fallen}
-use Rattle.scp_pending.specs.Rules.{Settled, fresh, link_of, opens, rules, releases, is_full, goes_through, entering, by_answer, is_answer, is_given_up, heard_out, settled_by, released_by}
+use Rattle.scp_pending.specs.Queues.{QueueView, is_of, is_open, is_link_open, parked_of, is_held, fate, leaves_of, leaves_behind, leaving_of, in_order_of, is_hash, hash_of, resolved, resolved_in, lost_by, dropped as fallen}
+use Rattle.scp_pending.specs.Rules.{Settled, fresh, link_of, opens, rules, releases, overflows, goes_through, entering, by_answer, is_answer, is_given_up, heard_out, settled_by, released_by}
 use Rattle.scp_pending.specs.Causes.{HasCause}
 use Rattle.scp_pending.specs.Pends.{start_of}
 use Rattle.scp_pending.proofs.Basics.{or_none, same_conn-true, all_step, all_append, all_left}
@@ -103,26 +103,33 @@ all_end : (P : ConnId → Type 0) (c : ConnId) (cause : DropCause) (ps : List Pa
 all_end P c cause [] end k a = a
 all_end P c cause (p ∷ ps) end k a = (k, all_end P c cause ps end k a)
 
-all_leave : (P : ConnId → Type 0) (c : ConnId) (ps : List Parked) → P c → AllByRecursion (IsOn P) (leaves_of c ps)
-all_leave P c [] k = tt
-all_leave P c (Waits x ∷ ps) k = tt
-all_leave P c (Free delivery ∷ ps) k = (tt, all_leave P c ps k)
-all_leave P c (Lost seq cause ∷ ps) k = (k, all_leave P c ps k)
+all_fate : (P : ConnId → Type 0) (c : ConnId) (p : Parked) → P c → AllByRecursion (IsOn P) (fate c p)
+all_fate P c (Waits x) k = tt
+all_fate P c (Free delivery) k = (tt, tt)
+all_fate P c (Lost slot seq cause) k = (k, tt)
+
+all_leave : (P : ConnId → Type 0) (c : ConnId) (kept ps : List Parked) → P c → AllByRecursion (IsOn P) (leaves_behind c kept ps)
+all_leave P c kept [] k = tt
+all_leave P c kept (p ∷ ps) k = by_test (is_held kept p) (all_leave P c (kept ++ p ∷ []) ps k) (all_append (IsOn P) (fate c p) (leaves_behind c kept ps) (all_fate P c p k) (all_leave P c kept ps k))
+  where
+    by_test : (b : Bool) → AllByRecursion (IsOn P) (leaves_behind c (kept ++ p ∷ []) ps) → AllByRecursion (IsOn P) (fate c p ++ leaves_behind c kept ps) → AllByRecursion (IsOn P) (cond b (leaves_behind c (kept ++ p ∷ []) ps) (fate c p ++ leaves_behind c kept ps))
+    by_test true stays goes = stays
+    by_test false stays goes = goes
 
 all_served : (P : ConnId → Type 0) (qs : List QueueView) → AllConns P qs → AllByRecursion (IsOn P) (leaving_of qs)
 all_served P [] a = tt
-all_served P (q ∷ qs) a = all_append (IsOn P) (leaves_of q.conn q.parked) (leaving_of qs) (all_leave P q.conn q.parked a.0) (all_served P qs a.1)
+all_served P (q ∷ qs) a = all_append (IsOn P) (leaves_of q.conn q.parked) (leaving_of qs) (all_leave P q.conn [] q.parked a.0) (all_served P qs a.1)
 
 all_resolved : (P : ConnId → Type 0) (test : Option Hash → Bool) (f : Carried → Parked) (qs : List QueueView) → AllConns P qs → AllByRecursion (IsOn P) (leaving_of (resolved test f qs))
 all_resolved P test f qs a = all_served P (resolved test f qs) (all_step (λ (q : QueueView). P q.conn) (λ (q : QueueView). P q.conn) (resolved_in test f) qs (λ q h. h) a)
 
 released : (P : ConnId → Type 0) (s : Settled) (item : Inbound) → AllConns P s.queues → AllByRecursion (IsOn P) (releases s item)
 released P s (inbound.Opened d) a = tt
-released P s (inbound.Carried x) a = by_tests (is_open x.conn s.queues) (is_full x.conn s.queues) (goes_through x.conn (entering s.store x) s.queues) refl
+released P s (inbound.Carried x) a = by_tests (is_open x.conn s.queues) (overflows x.conn (entering s.store x) s.queues) (goes_through x.conn (entering s.store x) s.queues) refl
   where
-    by_tests : (o f g : Bool) → is_open x.conn s.queues ≡ o → AllByRecursion (IsOn P) (cond o (cond f (map (fallen x.conn ByFull) (parked_of x.conn s.queues) ++ ready.Dropped x.conn x.seq ByFull ∷ ready.Closed x.conn ParkedFull ∷ []) (cond g (leaves_of x.conn (entering s.store x ∷ [])) [])) [])
+    by_tests : (o f g : Bool) → is_open x.conn s.queues ≡ o → AllByRecursion (IsOn P) (cond o (cond f (map (fallen x.conn ByFull) (parked_of x.conn s.queues) ++ ready.Dropped x.conn x.seq ByFull ∷ ready.Closed x.conn ParkedFull ∷ []) (cond g (fate x.conn (entering s.store x)) [])) [])
     by_tests true true g o = (let k = open_conn P x.conn s.queues o a in all_end P x.conn ByFull (parked_of x.conn s.queues) (ready.Dropped x.conn x.seq ByFull ∷ ready.Closed x.conn ParkedFull ∷ []) k (k, (k, tt)))
-    by_tests true false true o = all_leave P x.conn (entering s.store x ∷ []) (open_conn P x.conn s.queues o a)
+    by_tests true false true o = all_fate P x.conn (entering s.store x) (open_conn P x.conn s.queues o a)
     by_tests true false false o = tt
     by_tests false f g o = tt
 released P s (inbound.Side d m) a = by_open (is_open d s.queues) m

@@ -13,8 +13,7 @@ use Rattle.scp_pending.specs.declared.ready.Ready.TheVariants as ready
 use Rattle.scp_pending.specs.Queues.{is_open}
 use Rattle.scp_pending.specs.Rules.{Settled, settled_by}
 use Rattle.scp_pending.specs.Causes.{IsTaken, HasCause}
-use Rattle.scp_pending.specs.Endings.{Way, went, over, way_by, ways, Exits, IsCutOff, commands_in, commands_of}
-use Rattle.scp_pending.specs.Laws.{AreFrom}
+use Rattle.scp_pending.specs.Endings.{Way, went, over, way_by, ways, Exits, commands_in, commands_of}
 use Rattle.scp_ledger.specs.declared.journal.Asking.{Asking}
 use Rattle.scp_ledger.specs.declared.journal.Fate.{Fate}
 use Rattle.scp_ledger.specs.declared.journal.Fate.TheVariants.{Taken, Dropped, Closed}
@@ -24,6 +23,7 @@ use Rattle.scp_core.specs.Stages.{entry_in, entry_of}
 use Rattle.scp_core.specs.Node.{NodeView}
 use Rattle.scp_core.specs.Settled.{start_at}
 use Rattle.scp_core.specs.Theorem.{LedgerTheorem}
+use Rattle.scp_core.specs.Accounts.{items_on, slots_sent}
 
 -- a taken message was taken live, and beside an envelope stands a sane set with its hash; one that is dropped because its set is
 -- bad or was given up has that cause; what is dropped by the end of its connection has its cause in what is said of that
@@ -46,7 +46,7 @@ abbrev pub on_way_of : NodeView → List Ready
 on_way_of v = (v.ready ++ option_to_list v.pend_hand) ++ v.pending.leaving
 
 -- by what the pending stage took, which is what came but for what waits in the inbox: each entry has its cause; each connection
--- ends by its cause, in the entries and then in what is on its way to the journal; and of what the slot stage took and what is
+-- ends by its cause, lane by lane by the slots of what was sent, in the entries and then in what is on its way to the journal; and of what the slot stage took and what is
 -- on its way the local commands are those that came, each once and in order, but for Tick
 pub record HaveCauses (past : List Exchange) (v : NodeView) : Type 0 where
   pub taken : List Inbound
@@ -54,9 +54,7 @@ pub record HaveCauses (past : List Exchange) (v : NodeView) : Type 0 where
   pub came : (past_of v.config past).came ≡ taken ++ waiting
   pub causes : AllByRecursion (FateHasCause (start_at v.config) taken) v.ledger.journal
   pub on_way : List Ready
-  pub ends : (l : ℕ) → (peer : NodeId) → slice_get v.config.peers l ≡ Some peer → (life : ℕ) → Exits (start_at v.config) taken (conn_at peer v.config.me life) (is_open (conn_at peer v.config.me life) (settled_by (start_at v.config) taken).queues) (ways_on (conn_at peer v.config.me life) v.ledger.journal ++ ways (conn_at peer v.config.me life) on_way)
-  -- of a connection that was cut off by one message too many, the 65 that are dropped have consecutive numbers
-  pub consecutive : (l : ℕ) → (peer : NodeId) → slice_get v.config.peers l ≡ Some peer → (life : ℕ) → (cut : IsCutOff (start_at v.config) taken (conn_at peer v.config.me life) (ways_on (conn_at peer v.config.me life) v.ledger.journal ++ ways (conn_at peer v.config.me life) on_way)) → AreFrom (length cut.front) (cut.seqs ++ cut.last.seq ∷ [])
+  pub ends : (l : ℕ) → (peer : NodeId) → slice_get v.config.peers l ≡ Some peer → (life : ℕ) → Exits (start_at v.config) (slots_sent (conn_at peer v.config.me life) (items_on v past l)) taken (conn_at peer v.config.me life) (is_open (conn_at peer v.config.me life) (settled_by (start_at v.config) taken).queues) (ways_on (conn_at peer v.config.me life) v.ledger.journal ++ ways (conn_at peer v.config.me life) on_way)
   pub took : List Ready
   pub took_is : map entry_in v.ledger.journal ≡ flat_map entry_of took
   pub commands : commands_of (took ++ on_way) ≡ commands_in taken

@@ -13,7 +13,7 @@ use Rattle.scp_core.specs.Theorem.{WasStep}
 abbrev pub start_at : Config → Settled
 start_at c = fresh c.me c.peers c.set
 
--- the pending stage is what the rules make of all that came; nothing is ready, and the head of each queue is an envelope that
+-- the pending stage is what the rules make of all that came; nothing is ready, and the head of each lane is an envelope that
 -- waits for its quorum set
 pub record IsSettledAt (c : Config) (p : Past) (pending : PendingView) : Type 0 where
   pub by_rules : pending.settled ≡ settled_by (start_at c) p.came

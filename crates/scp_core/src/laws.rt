@@ -13,8 +13,8 @@ pub fn what_holds_of_a_past_holds_with_one_step_more()
     ensures { StepsKeep }
 {}
 
-/// Each entry is of a connection of one of the links; each connection's carried messages have one fate each, from the first, in
-/// the order sent, none after its end; and while the node runs, nothing that was sent on it is lost.
+/// Each entry is of a connection of one of the links; each connection's carried messages have one fate each, and within each
+/// slot from the first, in the order sent, none after its end; and while the node runs, nothing that was sent on it is lost.
 pub fn each_message_has_its_fate()
     ensures fates { TheoremGivesFates }
 {}
@@ -37,7 +37,7 @@ pub fn each_fate_has_its_cause()
     ensures causes { TheoremGivesCauses }
 {}
 
-/// Where the pending stage answers Idle, the head of each of its queues is an envelope that waits for its quorum set.
+/// Where the pending stage answers Idle, the head of each lane that it holds is an envelope that waits for its quorum set.
 pub fn what_is_idle_is_settled()
     ensures settled { IdleIsSettled }
 {}

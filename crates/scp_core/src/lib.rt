@@ -2,8 +2,9 @@
 //! applier, with bounded queues between them. One event is one step of one stage.
 //!
 //! What it promises, for every list of events (`LedgerTheorem` in `specs/Theorem.antt`, by `run` and `Node::step`):
-//! - each connection's carried messages have one fate each, from the first, in the order sent, none after its close; and
-//!   while the node runs nothing that was sent is without its place: in the journal, a queue, a hand or the pending stage;
+//! - each connection's carried messages have one fate each, and within each slot from the first, in the order sent, none
+//!   after its close; and while the node runs nothing that was sent is without its place: in the journal, a queue, a hand or
+//!   the pending stage;
 //! - each fate has its cause, and beside each taken envelope stands a sane quorum set with the hash that it names;
 //! - at most one decision per slot, each with its certificate over the journal or named by a taken record of just that slot
 //!   and value, of a link that was asked for it; every verdict is the first that fits;

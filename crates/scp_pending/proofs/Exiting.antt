@@ -1,8 +1,8 @@
 -- How each message of a connection left, one item after another.
 use Rattle.std.proofs.Common.{◌≡◌, ◌≢◌, ℕ, ◌+◌, ◌<◌, ◌≤◌, Bool, true, false, cond, not, List, [], ◌∷◌, ◌++◌, length, refl, sym, ◌∙◌, ap, subst, arith, append_assoc, nat_eq, map, inl, inr, ◌⊎◌}
-use Rattle.std.specs.Prelude.{◌&&◌, ◌||◌, nat_lt, Option, Some, None, flat_map}
-use Rattle.std.specs.List.{AllByRecursion}
-use Rattle.std.proofs.lemmas.Bool.{ltb-true, ltb-false}
+use Rattle.std.specs.Prelude.{◌&&◌, ◌||◌, nat_lt, filter, Option, Some, None, flat_map}
+use Rattle.std.specs.List.{list_any, AllByRecursion}
+use Rattle.std.proofs.lemmas.Bool.{ltb-true, ltb-false, eqb-true}
 use Rattle.std.proofs.lemmas.List.{length-append, length-map}
 use Rattle.scp_types.specs.declared.names.ConnId.{ConnId}
 use Rattle.scp_types.specs.declared.names.Hash.{Hash}
@@ -18,6 +18,7 @@ use Rattle.scp_wire.specs.declared.link.Inbound.{Inbound}
 use Rattle.scp_wire.specs.declared.link.Inbound.TheVariants as inbound
 use Rattle.scp_wire.specs.Connections.{same_conn}
 use Rattle.scp_wire.specs.Marks.{Mark, number, ended, one_if}
+use Rattle.scp_wire.specs.Lanes.{slot_of, in_lane, HasSlot}
 use Rattle.scp_fetch.specs.declared.want.Want.{Want}
 use Rattle.scp_fetch.specs.declared.want.Miss.TheVariants.{One}
 use Rattle.scp_fetch.specs.Wants.{gives_up, last_missed}
@@ -29,16 +30,17 @@ use Rattle.scp_pending.specs.declared.ready.DropCause.TheVariants.{BadSet, GaveU
 use Rattle.scp_pending.specs.declared.ready.Ready.{Ready}
 use Rattle.scp_pending.specs.declared.ready.Ready.TheVariants.{Deliver, Dropped, Closed, Local}
 use Rattle.scp_pending.specs.Sanity.{is_sane}
-use Rattle.scp_pending.specs.Queues.{QueueView, is_of, is_open, parked_of, leaves_of, leaves_in, leaving_of, in_order_of, seq_of, named, is_hash, hash_of, resolved_one, resolved_in, resolved, with_set, lost_by, dropped}
-use Rattle.scp_pending.specs.Rules.{Settled, settled_by, rules, releases, entering_by, entering, found, is_full, goes_through, by_answer, is_answer, is_given_up, heard_out}
+use Rattle.scp_pending.specs.Queues.{QueueView, is_of, is_open, parked_of, lane_of, is_at, at_slot, waits, is_held, fate, leaves_of, leaves_in, leaving_of, in_order_of, seq_of, named, is_hash, hash_of, resolved_one, resolved_in, resolved, with_set, lost_by, dropped}
+use Rattle.scp_pending.specs.Rules.{Settled, settled_by, rules, releases, entering_by, entering, found, is_full, overflows, goes_through, by_answer, is_answer, is_given_up, heard_out}
 use Rattle.scp_pending.specs.Line.{ready_mark, marks_of, parked_mark, marks_parked}
 use Rattle.scp_pending.specs.Causes.{is_miss, IsWaiting, HeadWaits}
-use Rattle.scp_pending.specs.Endings.{Way, went, by_close, by_full, over, way_by, way, ways, HasWent, AllWent, FirstWaits, IsClosedOff, IsCutOff, Exits}
-use Rattle.scp_pending.proofs.Basics.{append_nil, clash, and_both, map-append, flat-append, same_conn-true, same_conn-refl, all_step, all_weaker, all_append}
+use Rattle.scp_pending.specs.Endings.{Way, went, by_close, by_full, over, way_by, way, ways, HasWent, AllWent, seqs_at, Ascend, FirstWaits, IsClosedOff, IsCutOff, Exits}
+use Rattle.scp_pending.proofs.Basics.{append_nil, clash, and_both, if_any, same_number, map-append, flat-append, same_conn-true, same_conn-refl, all_step, all_weaker, all_append}
 use Rattle.scp_pending.proofs.Later.{settled-push, times-later, Waiting-later}
+use Rattle.scp_pending.proofs.Laning.{HasLane, filter-append, leaves_all}
 use Rattle.scp_pending.proofs.Serving.{AreSingle, AreMine, parked_shut, all_in_order}
 use Rattle.scp_pending.proofs.Standing.{Stands, StandsLost, Fits, IsWant, head_waits}
-use Rattle.scp_pending.proofs.Lines.{added, line_step, open_after, open_step}
+use Rattle.scp_pending.proofs.Lines.{added, line_step, open_after, open_step, entering_seq, entering_lane}
 
 pub ways-append : (c : ConnId) (xs ys : List Ready) → ways c (xs ++ ys) ≡ ways c xs ++ ways c ys
 ways-append c xs ys = flat-append (way c) xs ys
@@ -71,7 +73,7 @@ none_front c rs rest e = none_ways c rs (nil_both (marks_of c rs) rest e).0
 abbrev pub HasOwnFate : Parked → Type 0
 HasOwnFate (Waits x) = Unit {0}
 HasOwnFate (Free d) = Unit {0}
-HasOwnFate (Lost seq cause) = HasWent (way_by cause seq)
+HasOwnFate (Lost slot seq cause) = HasWent (way_by cause seq)
 
 abbrev pub HaveOwnFates : QueueView → Type 0
 HaveOwnFates q = AllByRecursion HasOwnFate q.parked
@@ -85,7 +87,7 @@ own_lost start taken c seq ByFull h = absurd h
 own_of : (start : Settled) (taken : List Inbound) (wanted : List Want) (c : ConnId) (p : Parked) → Stands start taken wanted c p → HasOwnFate p
 own_of start taken wanted c (Waits x) w = tt
 own_of start taken wanted c (Free d) w = tt
-own_of start taken wanted c (Lost seq cause) w = own_lost start taken c seq cause w
+own_of start taken wanted c (Lost slot seq cause) w = own_lost start taken c seq cause w.1
 
 own_queues : (start : Settled) (taken : List Inbound) (wanted : List Want) (qs : List QueueView) → AllByRecursion (Fits start taken wanted) qs → AllByRecursion HaveOwnFates qs
 own_queues start taken wanted qs a = all_weaker (Fits start taken wanted) HaveOwnFates qs (λ q f. all_weaker (Stands start taken wanted q.conn) HasOwnFate q.parked (λ p w. own_of start taken wanted q.conn p w) f.stands) a
@@ -100,17 +102,23 @@ resolved_own test f h qs a = all_step HaveOwnFates HaveOwnFates (resolved_in tes
         by_test true = h x
         by_test false = tt
     one (Free d) k = k
-    one (Lost seq cause) k = k
+    one (Lost slot seq cause) k = k
 
 went_if : (b : Bool) (w : Way) → HasWent w → AllWent (one_if b w)
 went_if true w h = (h, tt)
 went_if false w h = tt
 
+fate_went : (c d : ConnId) (p : Parked) → HasOwnFate p → AllByRecursion (λ r. AllWent (way c r)) (fate d p)
+fate_went c d (Waits x) h = tt
+fate_went c d (Free y) h = (went_if (same_conn y.conn c) (went y.seq) tt, tt)
+fate_went c d (Lost slot seq cause) h = (went_if (same_conn d c) (way_by cause seq) h, tt)
+
+ways_went : (c : ConnId) (rs : List Ready) → AllByRecursion (λ r. AllWent (way c r)) rs → AllWent (ways c rs)
+ways_went c [] a = tt
+ways_went c (r ∷ rs) a = all_append HasWent (way c r) (ways c rs) a.0 (ways_went c rs a.1)
+
 leaves_went : (c d : ConnId) (ps : List Parked) → AllByRecursion HasOwnFate ps → AllWent (ways c (leaves_of d ps))
-leaves_went c d [] a = tt
-leaves_went c d (Waits x ∷ ps) a = tt
-leaves_went c d (Free y ∷ ps) a = all_append HasWent (one_if (same_conn y.conn c) (went y.seq)) (ways c (leaves_of d ps)) (went_if (same_conn y.conn c) (went y.seq) tt) (leaves_went c d ps a.1)
-leaves_went c d (Lost seq cause ∷ ps) a = all_append HasWent (one_if (same_conn d c) (way_by cause seq)) (ways c (leaves_of d ps)) (went_if (same_conn d c) (way_by cause seq) a.0) (leaves_went c d ps a.1)
+leaves_went c d ps a = ways_went c (leaves_of d ps) (leaves_all HasOwnFate (λ r. AllWent (way c r)) d [] ps (λ p h. fate_went c d p h) a)
 
 leaving_went : (c : ConnId) (qs : List QueueView) → AllByRecursion HaveOwnFates qs → AllWent (ways c (leaving_of qs))
 leaving_went c [] a = tt
@@ -156,19 +164,34 @@ full_ways c seq ps =
 
 -- ---- the first of what is dropped waits
 
-firsts : (start : Settled) (taken : List Inbound) (c : ConnId) (qs : List QueueView) → AllByRecursion (λ q. HeadWaits start taken q.conn q.parked) qs → FirstWaits start taken c (numbers c qs)
-firsts start taken c [] a = tt
-firsts start taken c (q ∷ qs) a = by_test (is_of c q) refl (firsts start taken c qs a.1)
+seqs_in : (slots : ℕ → ℕ) (n : ℕ) (ps : List Parked) → AllByRecursion (HasLane slots) ps → seqs_at slots n (map seq_of ps) ≡ map seq_of (at_slot n ps)
+seqs_in slots n [] l = refl
+seqs_in slots n (p ∷ ps) l = rw l.0 (by_test (nat_eq (lane_of p) n) (seqs_in slots n ps l.1))
+  where
+    by_test : (b : Bool) → seqs_at slots n (map seq_of ps) ≡ map seq_of (at_slot n ps) → cond b (seq_of p ∷ seqs_at slots n (map seq_of ps)) (seqs_at slots n (map seq_of ps)) ≡ map seq_of (cond b (p ∷ at_slot n ps) (at_slot n ps))
+    by_test true e = ap (λ zs. seq_of p ∷ zs) e
+    by_test false e = e
+
+-- what waits at the head of each lane
+abbrev pub AllHeads : Settled → List Inbound → QueueView → Type 0
+AllHeads start taken q = (n : ℕ) → HeadWaits start taken q.conn (at_slot n q.parked)
+
+heads_of : (start : Settled) (taken : List Inbound) (c : ConnId) (n : ℕ) (qs : List QueueView) → AllByRecursion (AllHeads start taken) qs → FirstWaits start taken c (map seq_of (at_slot n (parked_of c qs)))
+heads_of start taken c n [] a = tt
+heads_of start taken c n (q ∷ qs) a = by_test (is_of c q) refl (heads_of start taken c n qs a.1)
   where
     of_head : (ps : List Parked) → q.conn ≡ c → HeadWaits start taken q.conn ps → FirstWaits start taken c (map seq_of ps)
     of_head [] e h = tt
     of_head (Waits x ∷ ps) e h = (x, h.0 ∙ e, refl, h.1)
     of_head (Free d ∷ ps) e h = absurd h
-    of_head (Lost seq cause ∷ ps) e h = absurd h
+    of_head (Lost slot seq cause ∷ ps) e h = absurd h
 
-    by_test : (b : Bool) → is_of c q ≡ b → FirstWaits start taken c (numbers c qs) → FirstWaits start taken c (map seq_of (cond b q.parked (parked_of c qs)))
-    by_test true k rest = of_head q.parked (same_conn-true q.conn c k) a.0
+    by_test : (b : Bool) → is_of c q ≡ b → FirstWaits start taken c (map seq_of (at_slot n (parked_of c qs))) → FirstWaits start taken c (map seq_of (at_slot n (cond b q.parked (parked_of c qs))))
+    by_test true k rest = of_head (at_slot n q.parked) (same_conn-true q.conn c k) (a.0 n)
     by_test false k rest = rest
+
+firsts : (start : Settled) (slots : ℕ → ℕ) (taken : List Inbound) (c : ConnId) (qs : List QueueView) → AllByRecursion (HasLane slots) (parked_of c qs) → AllByRecursion (AllHeads start taken) qs → (n : ℕ) → FirstWaits start taken c (seqs_at slots n (numbers c qs))
+firsts start slots taken c qs l a n = subst (FirstWaits start taken c) (sym (seqs_in slots n (parked_of c qs) l)) (heads_of start taken c n qs a)
 
 waits_push : (start : Settled) (taken : List Inbound) (x y : Carried) → IsWaiting start taken x → IsWaiting start (taken ++ inbound.Carried y ∷ []) x
 waits_push start taken x y w = record {
@@ -177,9 +200,27 @@ waits_push start taken x y w = record {
   patient = subst (λ (n : ℕ). n < 12) (sym (times-later (is_miss w.hash) start taken (settled_by start taken) x (inbound.Carried y) w.waiting.place refl)) w.patient;
 }
 
-first_push : (start : Settled) (taken : List Inbound) (c : ConnId) (y : Carried) (seqs : List Seq) → 0 < length seqs → FirstWaits start taken c seqs → FirstWaits start (taken ++ inbound.Carried y ∷ []) c (seqs ++ y.seq ∷ [])
-first_push start taken c y [] some f = absurd (omega (arith, some))
-first_push start taken c y (seq ∷ seqs) some f = (f.0, f.1, f.2, waits_push start taken f.0 y f.3)
+-- one more: the first is as before, or it is this one, which waits
+first_push : (start : Settled) (taken : List Inbound) (c : ConnId) (y : Carried) (seqs more : List Seq) → (more ≡ [] ⊎ (more ≡ y.seq ∷ [])) → (seqs ≡ [] → more ≡ y.seq ∷ [] → (y.conn ≡ c) × IsWaiting start (taken ++ inbound.Carried y ∷ []) y) → FirstWaits start taken c seqs → FirstWaits start (taken ++ inbound.Carried y ∷ []) c (seqs ++ more)
+first_push start taken c y [] more (inl e) own f = rw e tt
+first_push start taken c y [] more (inr e) own f = (let k = own refl e in rw e (y, k.0, refl, k.1))
+first_push start taken c y (seq ∷ seqs) more o own f = (f.0, f.1, f.2, waits_push start taken f.0 y f.3)
+
+-- a message that waits just now
+waits_now : (start : Settled) (taken : List Inbound) (s : Settled) (y : Carried) → s ≡ settled_by start taken → is_open y.conn s.queues ≡ true → waits (entering s.store y) ≡ true → IsWaiting start (taken ++ inbound.Carried y ∷ []) y
+waits_now start taken s y e live w = by_named (named y.message) refl w
+  where
+    by_lookup : (hash : Hash) (o : Option QuorumTree) → named y.message ≡ Some hash → lookup hash s.store ≡ o → waits (found y o) ≡ true → IsWaiting start (taken ++ inbound.Carried y ∷ []) y
+    by_lookup hash None names none w = record {
+      hash = hash;
+      waiting = record { place = record { before = taken; after = []; at = refl; live = subst (λ (t : Settled). is_open y.conn t.queues ≡ true) e live }; names = names; unknown = subst (λ (t : Settled). lookup hash t.store ≡ None) e none; no_set = refl };
+      patient = omega arith;
+    }
+    by_lookup hash (Some set) names there w = absurd cc
+
+    by_named : (o : Option Hash) → named y.message ≡ o → waits (entering_by o s.store y) ≡ true → IsWaiting start (taken ++ inbound.Carried y ∷ []) y
+    by_named None names w = absurd cc
+    by_named (Some hash) names w = by_lookup hash (lookup hash s.store) names refl w
 
 pub few_of_conn : (start : Settled) (taken : List Inbound) (wanted : List Want) (c : ConnId) (qs : List QueueView) → AllByRecursion (Fits start taken wanted) qs → length (parked_of c qs) ≤ 64
 few_of_conn start taken wanted c [] a = omega arith
@@ -193,7 +234,7 @@ few_of_conn start taken wanted c (q ∷ qs) a = by_test (is_of c q) (few_of_conn
 
 added_shut : (c : ConnId) (s : Settled) (item : Inbound) → is_open c s.queues ≡ false → added c s item ≡ []
 added_shut c s (inbound.Opened d) e = refl
-added_shut c s (inbound.Carried x) e = by_tests (is_open x.conn s.queues) (is_full x.conn s.queues) (same_conn x.conn c) refl refl
+added_shut c s (inbound.Carried x) e = by_tests (is_open x.conn s.queues) (overflows x.conn (entering s.store x) s.queues) (same_conn x.conn c) refl refl
   where
     by_tests : (o f k : Bool) → is_open x.conn s.queues ≡ o → same_conn x.conn c ≡ k → cond o (one_if k (number x.seq.0) ++ cond f (one_if k (ended ParkedFull)) []) [] ≡ []
     by_tests true f true p q = clash (is_open c s.queues) (subst (λ (d : ConnId). is_open d s.queues ≡ true) (same_conn-true x.conn c q) p) e
@@ -209,16 +250,39 @@ added_shut c s (inbound.Closed d cause) e = by_tests (is_open d s.queues) (same_
     by_tests false k p q = refl
 added_shut c s (inbound.Local command) e = refl
 
+-- what is nothing in each lane is nothing
+pub no_lane : (slots : ℕ → ℕ) (xs : List Mark) → ((n : ℕ) → in_lane slots n xs ≡ []) → xs ≡ []
+no_lane slots [] h = refl
+no_lane slots (number k ∷ xs) h = absurd (let bad : cond true (number k ∷ in_lane slots (slots k) xs) (in_lane slots (slots k) xs) ≡ [] = ap (λ b. cond b (number k ∷ in_lane slots (slots k) xs) (in_lane slots (slots k) xs)) (sym (same_number (slots k))) ∙ h (slots k) in cc)
+no_lane slots (ended cause ∷ xs) h = absurd (let bad : ended cause ∷ in_lane slots 0 xs ≡ [] = h 0 in cc)
+
+-- slots that an item has
+abbrev slots_for : Inbound → ℕ → ℕ
+slots_for (inbound.Opened d) k = 0
+slots_for (inbound.Carried x) k = slot_of x.message
+slots_for (inbound.Side d message) k = 0
+slots_for (inbound.Closed d cause) k = 0
+slots_for (inbound.Local command) k = 0
+
+slots_fit : (c : ConnId) (item : Inbound) → HasSlot c (slots_for item) item
+slots_fit c (inbound.Opened d) = tt
+slots_fit c (inbound.Carried x) = λ e. refl
+slots_fit c (inbound.Side d message) = tt
+slots_fit c (inbound.Closed d cause) = tt
+slots_fit c (inbound.Local command) = tt
+
 pub shut_nothing : (c : ConnId) (s : Settled) (item : Inbound) → AreSingle s.queues → AllByRecursion AreMine s.queues → is_open c s.queues ≡ false → ways c (releases s item) ≡ []
 shut_nothing c s item single mine e =
-    let none : marks_parked c s.queues ≡ [] = ap (map parked_mark) (parked_shut c s.queues e) in
-    none_front c (releases s item) (marks_parked c (rules s item).queues) (line_step c s item single mine ∙ ap (λ ms. ms ++ added c s item) none ∙ added_shut c s item e)
+    let nil : parked_of c s.queues ≡ [] = parked_shut c s.queues e in
+    let slots = slots_for item in
+    let line : marks_parked c s.queues ++ added c s item ≡ [] = ap (λ ms. ms ++ added c s item) (ap (map parked_mark) nil) ∙ added_shut c s item e in
+    none_front c (releases s item) (marks_parked c (rules s item).queues) (no_lane slots _ (λ n. line_step slots n c s item single mine (subst (AllByRecursion (HasLane slots)) (sym nil) tt) (slots_fit c item) ∙ ap (in_lane slots n) line))
 
 -- ---- one item more
 
-ended_later : (start : Settled) (taken : List Inbound) (c : ConnId) (item : Inbound) (ws : List Way) → AllWent ws ⊎ (IsClosedOff start taken c ws ⊎ IsCutOff start taken c ws) → AllWent ws ⊎ (IsClosedOff start (taken ++ item ∷ []) c ws ⊎ IsCutOff start (taken ++ item ∷ []) c ws)
-ended_later start taken c item ws (inl a) = inl a
-ended_later start taken c item ws (inr (inl k)) = inr (inl (record {
+ended_later : (start : Settled) (slots : ℕ → ℕ) (taken : List Inbound) (c : ConnId) (item : Inbound) (ws : List Way) → AllWent ws ⊎ (IsClosedOff start slots taken c ws ⊎ IsCutOff start slots taken c ws) → AllWent ws ⊎ (IsClosedOff start slots (taken ++ item ∷ []) c ws ⊎ IsCutOff start slots (taken ++ item ∷ []) c ws)
+ended_later start slots taken c item ws (inl a) = inl a
+ended_later start slots taken c item ws (inr (inl k)) = inr (inl (record {
   front = k.front;
   seqs = k.seqs;
   cause = k.cause;
@@ -228,9 +292,10 @@ ended_later start taken c item ws (inr (inl k)) = inr (inl (record {
   outside = k.outside;
   ways_are = k.ways_are;
   fates = k.fates;
+  ascend = k.ascend;
   first = k.first;
 }))
-ended_later start taken c item ws (inr (inr k)) = inr (inr (record {
+ended_later start slots taken c item ws (inr (inr k)) = inr (inr (record {
   front = k.front;
   seqs = k.seqs;
   last = k.last;
@@ -241,18 +306,19 @@ ended_later start taken c item ws (inr (inr k)) = inr (inr (record {
   ways_are = k.ways_are;
   fates = k.fates;
   count = k.count;
+  ascend = k.ascend;
   shuts = k.shuts;
   first = k.first;
 }))
 
 -- what leaves by its own fates
-exits_on : (start : Settled) (taken : List Inbound) (c : ConnId) (item : Inbound) (o new : Bool) (ws more : List Way) → AllWent more → (new ≡ false → more ≡ []) → (new ≡ true → (o ≡ true) ⊎ (ws ≡ [])) → Exits start taken c o ws → Exits start (taken ++ item ∷ []) c new (ws ++ more)
-exits_on start taken c item o true ws more w none opens x = (let all : AllWent (ws ++ more) = all_append HasWent ws more (old (opens refl)) w in record { running = λ e. all; ended = inl all })
+exits_on : (start : Settled) (slots : ℕ → ℕ) (taken : List Inbound) (c : ConnId) (item : Inbound) (o new : Bool) (ws more : List Way) → AllWent more → (new ≡ false → more ≡ []) → (new ≡ true → (o ≡ true) ⊎ (ws ≡ [])) → Exits start slots taken c o ws → Exits start slots (taken ++ item ∷ []) c new (ws ++ more)
+exits_on start slots taken c item o true ws more w none opens x = (let all : AllWent (ws ++ more) = all_append HasWent ws more (old (opens refl)) w in record { running = λ e. all; ended = inl all })
   where
     old : (o ≡ true) ⊎ (ws ≡ []) → AllWent ws
     old (inl e) = x.running e
     old (inr e) = rw e tt
-exits_on start taken c item o false ws more w none opens x = rw (none refl, append_nil ws) (record { running = λ e. absurd cc; ended = ended_later start taken c item ws x.ended })
+exits_on start slots taken c item o false ws more w none opens x = rw (none refl, append_nil ws) (record { running = λ e. absurd cc; ended = ended_later start slots taken c item ws x.ended })
 
 -- what the shape says of an item: the connection begins with nothing said of it, and no reader ends it because too much waits
 abbrev pub Begins : ConnId → Inbound → List Way → Type 0
@@ -278,7 +344,7 @@ opened_by c s (inbound.Opened d) ws b e = by_tests _ (is_open c s.queues) (same_
     by_tests true false true q b e = inr (b refl)
     by_tests true false false q b e = absurd cc
     by_tests false false k q b e = absurd cc
-opened_by c s (inbound.Carried x) ws b e = by_tests (is_open x.conn s.queues && is_full x.conn s.queues) (is_open c s.queues) (same_conn x.conn c) refl e
+opened_by c s (inbound.Carried x) ws b e = by_tests (is_open x.conn s.queues && overflows x.conn (entering s.store x) s.queues) (is_open c s.queues) (same_conn x.conn c) refl e
   where
     by_tests : (p o k : Bool) → is_open c s.queues ≡ o → cond p (o && not k) o ≡ true → (is_open c s.queues ≡ true) ⊎ (ws ≡ [])
     by_tests p true k q e = inl q
@@ -293,8 +359,8 @@ opened_by c s (inbound.Closed d cause) ws b e = by_tests (is_open d s.queues) (i
     by_tests false false k q e = absurd cc
 opened_by c s (inbound.Local command) ws b e = inl e
 
-brought_went : (c : ConnId) (s : Settled) (x : Carried) → (is_open x.conn s.queues && (is_full x.conn s.queues && same_conn x.conn c)) ≡ false → AllWent (ways c (releases s (inbound.Carried x)))
-brought_went c s x none = by_tests (is_open x.conn s.queues) (is_full x.conn s.queues) (goes_through x.conn (entering s.store x) s.queues) none
+brought_went : (c : ConnId) (s : Settled) (x : Carried) → (is_open x.conn s.queues && (overflows x.conn (entering s.store x) s.queues && same_conn x.conn c)) ≡ false → AllWent (ways c (releases s (inbound.Carried x)))
+brought_went c s x none = by_tests (is_open x.conn s.queues) (overflows x.conn (entering s.store x) s.queues) (goes_through x.conn (entering s.store x) s.queues) none
   where
     other : (k : Bool) → (true && (true && k)) ≡ false → k ≡ false
     other k e = e
@@ -303,9 +369,9 @@ brought_went c s x none = by_tests (is_open x.conn s.queues) (is_full x.conn s.q
     at_end true e = absurd cc
     at_end false e = tt
 
-    by_tests : (o f g : Bool) → (o && (f && same_conn x.conn c)) ≡ false → AllWent (ways c (cond o (cond f (map (dropped x.conn ByFull) (parked_of x.conn s.queues) ++ Dropped x.conn x.seq ByFull ∷ Closed x.conn ParkedFull ∷ []) (cond g (leaves_of x.conn (entering s.store x ∷ [])) [])) []))
+    by_tests : (o f g : Bool) → (o && (f && same_conn x.conn c)) ≡ false → AllWent (ways c (cond o (cond f (map (dropped x.conn ByFull) (parked_of x.conn s.queues) ++ Dropped x.conn x.seq ByFull ∷ Closed x.conn ParkedFull ∷ []) (cond g (fate x.conn (entering s.store x)) [])) []))
     by_tests true true g e = rw (dropped_other c x.conn ByFull (parked_of x.conn s.queues) (Dropped x.conn x.seq ByFull ∷ Closed x.conn ParkedFull ∷ []) (other (same_conn x.conn c) e)) (at_end (same_conn x.conn c) (other (same_conn x.conn c) e))
-    by_tests true false true e = leaves_went c x.conn (entering s.store x ∷ []) (entering_own s x, tt)
+    by_tests true false true e = ways_went c (fate x.conn (entering s.store x)) (fate_went c x.conn (entering s.store x) (entering_own s x))
     by_tests true false false e = tt
     by_tests false f g e = tt
 
@@ -348,16 +414,21 @@ pub record Before (start : Settled) (taken : List Inbound) (s : Settled) : Type 
   pub fits : AllByRecursion (Fits start taken s.wanted) s.queues
   pub wanted : AllByRecursion (IsWant start taken) s.wanted
 
-heads : (start : Settled) (taken : List Inbound) (s : Settled) → Before start taken s → AllByRecursion (λ q. HeadWaits start taken q.conn q.parked) s.queues
-heads start taken s k = all_weaker (Fits start taken s.wanted) (λ (q : QueueView). HeadWaits start taken q.conn q.parked) s.queues (λ q f. head_waits start taken s.wanted k.wanted q f) k.fits
+heads : (start : Settled) (taken : List Inbound) (s : Settled) → Before start taken s → AllByRecursion (AllHeads start taken) s.queues
+heads start taken s k = all_weaker (Fits start taken s.wanted) (AllHeads start taken) s.queues (λ q f. head_waits start taken s.wanted k.wanted q f) k.fits
 
 and_false : (b : Bool) → (b && false) ≡ false
 and_false true = refl
 and_false false = refl
 
-cut_off : (start : Settled) (taken : List Inbound) (c : ConnId) (s : Settled) (x : Carried) (ws : List Way) → Before start taken s → x.conn ≡ c → is_open c s.queues ≡ true → is_full c s.queues ≡ true → Exits start taken c (is_open c s.queues) ws → Exits start (taken ++ inbound.Carried x ∷ []) c (is_open c (rules s (inbound.Carried x)).queues) (ws ++ ways c (releases s (inbound.Carried x)))
-cut_off start taken c s x ws k mine live full known =
-    let more : 63 < length (parked_of c s.queues) = ltb-true 63 (length (parked_of c s.queues)) full in
+-- the numbers of what is parked ascend, and so do they with that of a message that comes
+pub record Ascending (c : ConnId) (s : Settled) (item : Inbound) : Type 0 where
+  pub parked : Ascend 0 (numbers c s.queues)
+  pub with_one : (x : Carried) → item ≡ inbound.Carried x → x.conn ≡ c → Ascend 0 (numbers c s.queues ++ x.seq ∷ [])
+
+cut_off : (start : Settled) (slots : ℕ → ℕ) (taken : List Inbound) (c : ConnId) (s : Settled) (x : Carried) (ws : List Way) → Before start taken s → AllByRecursion (HasLane slots) (parked_of c s.queues) → HasSlot c slots (inbound.Carried x) → Ascending c s (inbound.Carried x) → x.conn ≡ c → is_open c s.queues ≡ true → overflows c (entering s.store x) s.queues ≡ true → Exits start slots taken c (is_open c s.queues) ws → Exits start slots (taken ++ inbound.Carried x ∷ []) c (is_open c (rules s (inbound.Carried x)).queues) (ws ++ ways c (releases s (inbound.Carried x)))
+cut_off start slots taken c s x ws k lanes slot up mine live over' known =
+    let more : 63 < length (parked_of c s.queues) = ltb-true 63 (length (parked_of c s.queues)) both.0 in
     let within : length (parked_of c s.queues) ≤ 64 = few_of_conn start taken s.wanted c s.queues k.fits in
     let same_count : length (numbers c s.queues) ≡ length (parked_of c s.queues) = length-map (parked_of c s.queues) seq_of in
     record {
@@ -373,22 +444,66 @@ cut_off start taken c s x ws k mine live full known =
         ways_are = ap (λ rs. ws ++ ways c rs) given ∙ ap (λ zs. ws ++ zs) (full_ways c x.seq (parked_of c s.queues));
         fates = known.running live;
         count = length-append (numbers c s.queues) (x.seq ∷ []) ∙ omega (arith, same_count, more, within);
+        ascend = up.with_one x refl mine;
         shuts = ap (λ (t : Settled). is_open c t.queues) (settled-push start taken item ∙ ap (λ (t : Settled). rules t item) (sym k.now)) ∙ shut;
-        first = first_push start taken c x (numbers c s.queues) (omega (arith, same_count, more)) (firsts start taken c s.queues (heads start taken s k));
+        first = λ n. subst (FirstWaits start (taken ++ item ∷ []) c) (sym (filter-append (λ (seq : Seq). nat_eq (slots seq.0) n) (numbers c s.queues) (x.seq ∷ []))) (first_push start taken c x (seqs_at slots n (numbers c s.queues)) (seqs_at slots n (x.seq ∷ [])) (one n) (own n) (firsts start slots taken c s.queues lanes (heads start taken s k) n));
       }));
     }
   where
     item : Inbound
     item = inbound.Carried x
 
+    p : Parked
+    p = entering s.store x
+
+    both : (is_full c s.queues ≡ true) × (not (goes_through c p s.queues) ≡ true)
+    both = and_both (is_full c s.queues) (not (goes_through c p s.queues)) over'
+
+    held : (b : Bool) → not (not b) ≡ true → b ≡ true
+    held true e = refl
+    held false e = absurd cc
+
+    one : (n : ℕ) → (seqs_at slots n (x.seq ∷ []) ≡ []) ⊎ (seqs_at slots n (x.seq ∷ []) ≡ x.seq ∷ [])
+    one n = by_test (nat_eq (slots x.seq.0) n)
+      where
+        by_test : (b : Bool) → (cond b (x.seq ∷ []) [] ≡ []) ⊎ (cond b (x.seq ∷ []) [] ≡ x.seq ∷ [])
+        by_test true = inr refl
+        by_test false = inl refl
+
+    mine' : same_conn x.conn c ≡ true
+    mine' = ap (λ (d : ConnId). same_conn d c) mine ∙ same_conn-refl c
+
+    -- where nothing of its lane is parked, it waits
+    own : (n : ℕ) → seqs_at slots n (numbers c s.queues) ≡ [] → seqs_at slots n (x.seq ∷ []) ≡ x.seq ∷ [] → (x.conn ≡ c) × IsWaiting start (taken ++ item ∷ []) x
+    own n none there = (mine, waits_now start taken s x k.now (subst (λ (d : ConnId). is_open d s.queues ≡ true) (sym mine) live) (by_held (if_any (waits p) (list_any (is_at (lane_of p)) (parked_of c s.queues)) (held (is_held (parked_of c s.queues) p) both.1))))
+      where
+        at_n : (b : Bool) → nat_eq (slots x.seq.0) n ≡ b → cond b (x.seq ∷ []) [] ≡ x.seq ∷ [] → b ≡ true
+        at_n true e t = refl
+        at_n false e t = absurd cc
+
+        lane : lane_of p ≡ n
+        lane = sym (entering_lane slots s x (slot mine')) ∙ ap (λ (q : ℕ). slots q) (entering_seq s x) ∙ eqb-true (slots x.seq.0) n (at_n (nat_eq (slots x.seq.0) n) refl there)
+
+        no_mate : (ps : List Parked) → AllByRecursion (HasLane slots) ps → seqs_at slots n (map seq_of ps) ≡ [] → list_any (is_at n) ps ≡ false
+        no_mate [] l e = refl
+        no_mate (q ∷ qs) l e = by_test (nat_eq (lane_of q) n) (ap (λ (m : ℕ). cond (nat_eq m n) (seq_of q ∷ seqs_at slots n (map seq_of qs)) (seqs_at slots n (map seq_of qs))) (sym l.0) ∙ e) (no_mate qs l.1)
+          where
+            by_test : (b : Bool) → cond b (seq_of q ∷ seqs_at slots n (map seq_of qs)) (seqs_at slots n (map seq_of qs)) ≡ [] → (seqs_at slots n (map seq_of qs) ≡ [] → list_any (is_at n) qs ≡ false) → (b || list_any (is_at n) qs) ≡ false
+            by_test true e rest = absurd cc
+            by_test false e rest = rest e
+
+        by_held : (waits p ≡ true) ⊎ (list_any (is_at (lane_of p)) (parked_of c s.queues) ≡ true) → waits p ≡ true
+        by_held (inl w) = w
+        by_held (inr h) = clash (list_any (is_at n) (parked_of c s.queues)) (subst (λ (m : ℕ). list_any (is_at m) (parked_of c s.queues) ≡ true) lane h) (no_mate (parked_of c s.queues) lanes none)
+
     shut : is_open c (rules s item).queues ≡ false
-    shut = open_step c s item k.single ∙ ap (λ (d : ConnId). cond (is_open d s.queues && is_full d s.queues) (is_open c s.queues && not (same_conn d c)) (is_open c s.queues)) mine ∙ rw (live, full, same_conn-refl c) refl
+    shut = open_step c s item k.single ∙ ap (λ (d : ConnId). cond (is_open d s.queues && overflows d p s.queues) (is_open c s.queues && not (same_conn d c)) (is_open c s.queues)) mine ∙ rw (live, over', same_conn-refl c) refl
 
     given : releases s item ≡ map (dropped c ByFull) (parked_of c s.queues) ++ Dropped c x.seq ByFull ∷ Closed c ParkedFull ∷ []
-    given = ap (λ (d : ConnId). cond (is_open d s.queues) (cond (is_full d s.queues) (map (dropped d ByFull) (parked_of d s.queues) ++ Dropped d x.seq ByFull ∷ Closed d ParkedFull ∷ []) (cond (goes_through d (entering s.store x) s.queues) (leaves_of d (entering s.store x ∷ [])) [])) []) mine ∙ rw (live, full) refl
+    given = ap (λ (d : ConnId). cond (is_open d s.queues) (cond (overflows d p s.queues) (map (dropped d ByFull) (parked_of d s.queues) ++ Dropped d x.seq ByFull ∷ Closed d ParkedFull ∷ []) (cond (goes_through d p s.queues) (fate d p) [])) []) mine ∙ rw (live, over') refl
 
-closed_off : (start : Settled) (taken : List Inbound) (c : ConnId) (s : Settled) (d : ConnId) (cause : Cause) (ws : List Way) → Before start taken s → d ≡ c → cause ≢ ParkedFull → is_open c s.queues ≡ true → Exits start taken c (is_open c s.queues) ws → Exits start (taken ++ inbound.Closed d cause ∷ []) c (is_open c (rules s (inbound.Closed d cause)).queues) (ws ++ ways c (releases s (inbound.Closed d cause)))
-closed_off start taken c s d cause ws k mine outside live known = record {
+closed_off : (start : Settled) (slots : ℕ → ℕ) (taken : List Inbound) (c : ConnId) (s : Settled) (d : ConnId) (cause : Cause) (ws : List Way) → Before start taken s → AllByRecursion (HasLane slots) (parked_of c s.queues) → Ascending c s (inbound.Closed d cause) → d ≡ c → cause ≢ ParkedFull → is_open c s.queues ≡ true → Exits start slots taken c (is_open c s.queues) ws → Exits start slots (taken ++ inbound.Closed d cause ∷ []) c (is_open c (rules s (inbound.Closed d cause)).queues) (ws ++ ways c (releases s (inbound.Closed d cause)))
+closed_off start slots taken c s d cause ws k lanes up mine outside live known = record {
   running = λ t. clash (is_open c (rules s item).queues) t shut;
   ended = inr (inl (record {
     front = ws;
@@ -400,7 +515,8 @@ closed_off start taken c s d cause ws k mine outside live known = record {
     outside = outside;
     ways_are = ap (λ rs. ws ++ ways c rs) given ∙ ap (λ zs. ws ++ zs) (close_ways c cause (parked_of c s.queues));
     fates = known.running live;
-    first = firsts start taken c s.queues (heads start taken s k);
+    ascend = up.parked;
+    first = firsts start slots taken c s.queues lanes (heads start taken s k);
   }));
 }
   where
@@ -413,15 +529,15 @@ closed_off start taken c s d cause ws k mine outside live known = record {
     given : releases s item ≡ map (dropped c ByClose) (parked_of c s.queues) ++ Closed c cause ∷ []
     given = ap (λ (b : ConnId). cond (is_open b s.queues) (map (dropped b ByClose) (parked_of b s.queues) ++ Closed b cause ∷ []) []) mine ∙ rw live refl
 
-pub exits_item : (start : Settled) (taken : List Inbound) (c : ConnId) (s : Settled) (item : Inbound) (ws : List Way) → Before start taken s → Begins c item ws → EndsOutside c item → Exits start taken c (is_open c s.queues) ws → Exits start (taken ++ item ∷ []) c (is_open c (rules s item).queues) (ws ++ ways c (releases s item))
-exits_item start taken c s (inbound.Opened d) ws k begins outside known = exits_on start taken c (inbound.Opened d) _ _ ws [] tt (λ e. refl) (λ e. opened_by c s (inbound.Opened d) ws begins (sym (open_step c s (inbound.Opened d) k.single) ∙ e)) known
-exits_item start taken c s (inbound.Side d m) ws k begins outside known = exits_on start taken c (inbound.Side d m) _ _ ws _ (heard_went c s d m (own_queues start taken s.wanted s.queues k.fits)) (λ e. shut_nothing c s (inbound.Side d m) k.single k.mine (sym (open_step c s (inbound.Side d m) k.single) ∙ e)) (λ e. inl (sym (open_step c s (inbound.Side d m) k.single) ∙ e)) known
-exits_item start taken c s (inbound.Local Tick) ws k begins outside known = exits_on start taken c (inbound.Local Tick) _ _ ws _ (leaving_went c (resolved (is_given_up s.wanted) (lost_by GaveUp) (in_order_of (last_missed s.wanted) s.queues)) (resolved_own (is_given_up s.wanted) (lost_by GaveUp) (λ x. tt) (in_order_of (last_missed s.wanted) s.queues) (all_in_order HaveOwnFates (last_missed s.wanted) s.queues (own_queues start taken s.wanted s.queues k.fits)))) (λ e. shut_nothing c s (inbound.Local Tick) k.single k.mine (sym (open_step c s (inbound.Local Tick) k.single) ∙ e)) (λ e. inl (sym (open_step c s (inbound.Local Tick) k.single) ∙ e)) known
-exits_item start taken c s (inbound.Local (Propose slot value)) ws k begins outside known = exits_on start taken c (inbound.Local (Propose slot value)) _ _ ws [] tt (λ e. refl) (λ e. inl (sym (open_step c s (inbound.Local (Propose slot value)) k.single) ∙ e)) known
-exits_item start taken c s (inbound.Local (Round slot)) ws k begins outside known = exits_on start taken c (inbound.Local (Round slot)) _ _ ws [] tt (λ e. refl) (λ e. inl (sym (open_step c s (inbound.Local (Round slot)) k.single) ∙ e)) known
-exits_item start taken c s (inbound.Local (Timer slot)) ws k begins outside known = exits_on start taken c (inbound.Local (Timer slot)) _ _ ws [] tt (λ e. refl) (λ e. inl (sym (open_step c s (inbound.Local (Timer slot)) k.single) ∙ e)) known
-exits_item start taken c s (inbound.Local (Ask link slot)) ws k begins outside known = exits_on start taken c (inbound.Local (Ask link slot)) _ _ ws [] tt (λ e. refl) (λ e. inl (sym (open_step c s (inbound.Local (Ask link slot)) k.single) ∙ e)) known
-exits_item start taken c s (inbound.Carried x) ws k begins outside known = by_cut (is_open x.conn s.queues && (is_full x.conn s.queues && same_conn x.conn c)) refl
+pub exits_item : (start : Settled) (slots : ℕ → ℕ) (taken : List Inbound) (c : ConnId) (s : Settled) (item : Inbound) (ws : List Way) → Before start taken s → AllByRecursion (HasLane slots) (parked_of c s.queues) → HasSlot c slots item → Ascending c s item → Begins c item ws → EndsOutside c item → Exits start slots taken c (is_open c s.queues) ws → Exits start slots (taken ++ item ∷ []) c (is_open c (rules s item).queues) (ws ++ ways c (releases s item))
+exits_item start slots taken c s (inbound.Opened d) ws k lanes fits up begins outside known = exits_on start slots taken c (inbound.Opened d) _ _ ws [] tt (λ e. refl) (λ e. opened_by c s (inbound.Opened d) ws begins (sym (open_step c s (inbound.Opened d) k.single) ∙ e)) known
+exits_item start slots taken c s (inbound.Side d m) ws k lanes fits up begins outside known = exits_on start slots taken c (inbound.Side d m) _ _ ws _ (heard_went c s d m (own_queues start taken s.wanted s.queues k.fits)) (λ e. shut_nothing c s (inbound.Side d m) k.single k.mine (sym (open_step c s (inbound.Side d m) k.single) ∙ e)) (λ e. inl (sym (open_step c s (inbound.Side d m) k.single) ∙ e)) known
+exits_item start slots taken c s (inbound.Local Tick) ws k lanes fits up begins outside known = exits_on start slots taken c (inbound.Local Tick) _ _ ws _ (leaving_went c (resolved (is_given_up s.wanted) (lost_by GaveUp) (in_order_of (last_missed s.wanted) s.queues)) (resolved_own (is_given_up s.wanted) (lost_by GaveUp) (λ x. tt) (in_order_of (last_missed s.wanted) s.queues) (all_in_order HaveOwnFates (last_missed s.wanted) s.queues (own_queues start taken s.wanted s.queues k.fits)))) (λ e. shut_nothing c s (inbound.Local Tick) k.single k.mine (sym (open_step c s (inbound.Local Tick) k.single) ∙ e)) (λ e. inl (sym (open_step c s (inbound.Local Tick) k.single) ∙ e)) known
+exits_item start slots taken c s (inbound.Local (Propose slot value)) ws k lanes fits up begins outside known = exits_on start slots taken c (inbound.Local (Propose slot value)) _ _ ws [] tt (λ e. refl) (λ e. inl (sym (open_step c s (inbound.Local (Propose slot value)) k.single) ∙ e)) known
+exits_item start slots taken c s (inbound.Local (Round slot)) ws k lanes fits up begins outside known = exits_on start slots taken c (inbound.Local (Round slot)) _ _ ws [] tt (λ e. refl) (λ e. inl (sym (open_step c s (inbound.Local (Round slot)) k.single) ∙ e)) known
+exits_item start slots taken c s (inbound.Local (Timer slot)) ws k lanes fits up begins outside known = exits_on start slots taken c (inbound.Local (Timer slot)) _ _ ws [] tt (λ e. refl) (λ e. inl (sym (open_step c s (inbound.Local (Timer slot)) k.single) ∙ e)) known
+exits_item start slots taken c s (inbound.Local (Ask link slot)) ws k lanes fits up begins outside known = exits_on start slots taken c (inbound.Local (Ask link slot)) _ _ ws [] tt (λ e. refl) (λ e. inl (sym (open_step c s (inbound.Local (Ask link slot)) k.single) ∙ e)) known
+exits_item start slots taken c s (inbound.Carried x) ws k lanes fits up begins outside known = by_cut (is_open x.conn s.queues && (overflows x.conn (entering s.store x) s.queues && same_conn x.conn c)) refl
   where
     kept : (o f k oc : Bool) → (o && (f && k)) ≡ false → cond (o && f) (oc && not k) oc ≡ false → oc ≡ false
     kept true true true oc n e = absurd cc
@@ -430,14 +546,14 @@ exits_item start taken c s (inbound.Carried x) ws k begins outside known = by_cu
     kept true false k oc n e = e
     kept false f k oc n e = e
 
-    by_cut : (b : Bool) → (is_open x.conn s.queues && (is_full x.conn s.queues && same_conn x.conn c)) ≡ b → Exits start (taken ++ inbound.Carried x ∷ []) c (is_open c (rules s (inbound.Carried x)).queues) (ws ++ ways c (releases s (inbound.Carried x)))
+    by_cut : (b : Bool) → (is_open x.conn s.queues && (overflows x.conn (entering s.store x) s.queues && same_conn x.conn c)) ≡ b → Exits start slots (taken ++ inbound.Carried x ∷ []) c (is_open c (rules s (inbound.Carried x)).queues) (ws ++ ways c (releases s (inbound.Carried x)))
     by_cut true e =
-        let one = and_both (is_open x.conn s.queues) (is_full x.conn s.queues && same_conn x.conn c) e in
-        let two = and_both (is_full x.conn s.queues) (same_conn x.conn c) one.1 in
+        let one = and_both (is_open x.conn s.queues) (overflows x.conn (entering s.store x) s.queues && same_conn x.conn c) e in
+        let two = and_both (overflows x.conn (entering s.store x) s.queues) (same_conn x.conn c) one.1 in
         let mine : x.conn ≡ c = same_conn-true x.conn c two.1 in
-        cut_off start taken c s x ws k mine (subst (λ (d : ConnId). is_open d s.queues ≡ true) mine one.0) (subst (λ (d : ConnId). is_full d s.queues ≡ true) mine two.0) known
-    by_cut false e = exits_on start taken c (inbound.Carried x) _ _ ws _ (brought_went c s x e) (λ n. shut_nothing c s (inbound.Carried x) k.single k.mine (kept (is_open x.conn s.queues) (is_full x.conn s.queues) (same_conn x.conn c) (is_open c s.queues) e (sym (open_step c s (inbound.Carried x) k.single) ∙ n))) (λ n. opened_by c s (inbound.Carried x) ws tt (sym (open_step c s (inbound.Carried x) k.single) ∙ n)) known
-exits_item start taken c s (inbound.Closed d cause) ws k begins outside known = by_close' (is_open d s.queues && same_conn d c) refl
+        cut_off start slots taken c s x ws k lanes fits up mine (subst (λ (d : ConnId). is_open d s.queues ≡ true) mine one.0) (subst (λ (d : ConnId). overflows d (entering s.store x) s.queues ≡ true) mine two.0) known
+    by_cut false e = exits_on start slots taken c (inbound.Carried x) _ _ ws _ (brought_went c s x e) (λ n. shut_nothing c s (inbound.Carried x) k.single k.mine (kept (is_open x.conn s.queues) (overflows x.conn (entering s.store x) s.queues) (same_conn x.conn c) (is_open c s.queues) e (sym (open_step c s (inbound.Carried x) k.single) ∙ n))) (λ n. opened_by c s (inbound.Carried x) ws tt (sym (open_step c s (inbound.Carried x) k.single) ∙ n)) known
+exits_item start slots taken c s (inbound.Closed d cause) ws k lanes fits up begins outside known = by_close' (is_open d s.queues && same_conn d c) refl
   where
     kept : (o k oc : Bool) → (o && k) ≡ false → cond o (oc && not k) oc ≡ false → oc ≡ false
     kept true true oc n e = absurd cc
@@ -445,9 +561,9 @@ exits_item start taken c s (inbound.Closed d cause) ws k begins outside known = 
     kept true false false n e = refl
     kept false k oc n e = e
 
-    by_close' : (b : Bool) → (is_open d s.queues && same_conn d c) ≡ b → Exits start (taken ++ inbound.Closed d cause ∷ []) c (is_open c (rules s (inbound.Closed d cause)).queues) (ws ++ ways c (releases s (inbound.Closed d cause)))
+    by_close' : (b : Bool) → (is_open d s.queues && same_conn d c) ≡ b → Exits start slots (taken ++ inbound.Closed d cause ∷ []) c (is_open c (rules s (inbound.Closed d cause)).queues) (ws ++ ways c (releases s (inbound.Closed d cause)))
     by_close' true e =
         let both = and_both (is_open d s.queues) (same_conn d c) e in
         let mine : d ≡ c = same_conn-true d c both.1 in
-        closed_off start taken c s d cause ws k mine (outside both.1) (subst (λ (b : ConnId). is_open b s.queues ≡ true) mine both.0) known
-    by_close' false e = exits_on start taken c (inbound.Closed d cause) _ _ ws _ (closed_went c s d cause e) (λ n. shut_nothing c s (inbound.Closed d cause) k.single k.mine (kept (is_open d s.queues) (same_conn d c) (is_open c s.queues) e (sym (open_step c s (inbound.Closed d cause) k.single) ∙ n))) (λ n. opened_by c s (inbound.Closed d cause) ws tt (sym (open_step c s (inbound.Closed d cause) k.single) ∙ n)) known
+        closed_off start slots taken c s d cause ws k lanes up mine (outside both.1) (subst (λ (b : ConnId). is_open b s.queues ≡ true) mine both.0) known
+    by_close' false e = exits_on start slots taken c (inbound.Closed d cause) _ _ ws _ (closed_went c s d cause e) (λ n. shut_nothing c s (inbound.Closed d cause) k.single k.mine (kept (is_open d s.queues) (same_conn d c) (is_open c s.queues) e (sym (open_step c s (inbound.Closed d cause) k.single) ∙ n))) (λ n. opened_by c s (inbound.Closed d cause) ws tt (sym (open_step c s (inbound.Closed d cause) k.single) ∙ n)) known

@@ -17,25 +17,27 @@ use Rattle.scp_wire.specs.declared.link.Inbound.{Inbound}
 use Rattle.scp_wire.specs.declared.link.Inbound.TheVariants as inbound
 use Rattle.scp_wire.specs.Connections.{conn_at, same_node, same_conn}
 use Rattle.scp_wire.specs.Shape.{Come, nothing_came, comes, MayCome, AreInOrder, is_from, of_peer, HasShape}
-use Rattle.scp_wire.specs.Marks.{Mark, number, ended, one_if, came_mark, marks_in, Follows, IsCut, IsWhole}
+use Rattle.scp_wire.specs.Marks.{Mark, number, ended, one_if, came_mark, marks_in}
+use Rattle.scp_wire.specs.Lanes.{in_lane, HasSlot}
 use Rattle.scp_fetch.specs.declared.want.Miss.TheVariants.{One, All}
 use Rattle.scp_pending.specs.declared.parked.Parked.{Parked}
 use Rattle.scp_pending.specs.declared.ready.DropCause.TheVariants.{GaveUp}
 use Rattle.scp_pending.specs.declared.ready.Ready.{Ready}
 use Rattle.scp_fetch.specs.Wants.{missed_by, last_missed, gives_up}
-use Rattle.scp_pending.specs.Queues.{QueueView, is_of, is_open, is_link_open, parked_of, others, changed, with_parked, parked_in, is_empty, may_leave, stays_in, served, in_order_of, is_hash, hash_of, resolved, resolved_in, lost_by}
-use Rattle.scp_pending.specs.Rules.{Settled, PendingView, fresh, rules, releases, opens, opened, closed_off, link_of, entering, is_full, goes_through, parks, by_answer, answered, is_answer, is_given_up, gives_up_one, hears, settled_by, released_by}
+use Rattle.scp_pending.specs.Queues.{QueueView, is_of, is_open, is_link_open, parked_of, others, changed, with_parked, parked_in, is_empty, stays_in, served, in_order_of, is_hash, hash_of, resolved, resolved_in, lost_by}
+use Rattle.scp_pending.specs.Rules.{Settled, PendingView, fresh, rules, releases, opens, opened, closed_off, link_of, entering, overflows, goes_through, parks, by_answer, answered, is_answer, is_given_up, gives_up_one, hears, settled_by, released_by}
 use Rattle.scp_pending.specs.Line.{marks_of, marks_parked, held}
 use Rattle.scp_pending.proofs.Basics.{append_nil, clash, or_none, if_any, or_left, fold-append, flat-append, all_append, all_step, all_filter, same_node-true, same_node-refl, same_conn-refl, same_conn-true, same_number}
+use Rattle.scp_pending.proofs.Laning.{HasLane, in_lane-append}
 use Rattle.scp_pending.proofs.Serving.{AreSingle, AreMine, marks_of-append, all_in_order}
 use Rattle.scp_pending.proofs.Lines.{added, line_step, open_after, open_step}
-use Rattle.scp_pending.proofs.Telling.{Told, IsCutHere, told_same, told_other, told_opens, told_number, told_cut, told_discard, told_close, told_close_cut, told_start}
+use Rattle.scp_pending.proofs.Telling.{Told, IsCutHere, NoEnd, told_same, told_other, told_opens, told_number, told_cut, told_discard, told_close, told_close_cut, told_start}
 
 -- ---- what all items keep
 
 pub frame_step : (P : NodeId → List NodeId → Type 0) (s : Settled) (item : Inbound) → P s.me s.peers → P (rules s item).me (rules s item).peers
 frame_step P s (inbound.Opened d) k = elim (opens d s) as (λ b. P (cond b (opened d s) s).me (cond b (opened d s) s).peers) [ true ↦ k | false ↦ k ]
-frame_step P s (inbound.Carried x) k = by_tests (is_open x.conn s.queues) (is_full x.conn s.queues) (goes_through x.conn (entering s.store x) s.queues)
+frame_step P s (inbound.Carried x) k = by_tests (is_open x.conn s.queues) (overflows x.conn (entering s.store x) s.queues) (goes_through x.conn (entering s.store x) s.queues)
   where
     at : Settled → Type 0
     at t = P t.me t.peers
@@ -88,9 +90,7 @@ conns_changed P c p (q ∷ qs) a = elim (is_of c q) as (λ b. AllConns P (cond b
 conns_served : (P : ConnId → Type 0) (test : _) (f : Carried → Parked) (qs : List QueueView) → AllConns P qs → AllConns P (served (resolved test f qs))
 conns_served P test f qs a =
     let k : AllConns P (resolved test f qs) = all_step (λ (q : QueueView). P q.conn) (λ (q : QueueView). P q.conn) (resolved_in test f) qs (λ q h. h) a in
-    all_append (λ (q : QueueView). P q.conn) (filter (λ q. not (may_leave q.parked)) (resolved test f qs)) (map stays_in (filter (λ q. may_leave q.parked) (resolved test f qs)))
-    (all_filter (λ (q : QueueView). P q.conn) (λ q. not (may_leave q.parked)) (resolved test f qs) k)
-    (all_step (λ (q : QueueView). P q.conn) (λ (q : QueueView). P q.conn) stays_in (filter (λ q. may_leave q.parked) (resolved test f qs)) (λ q h. h) (all_filter (λ (q : QueueView). P q.conn) (λ q. may_leave q.parked) (resolved test f qs) k))
+    all_step (λ (q : QueueView). P q.conn) (λ (q : QueueView). P q.conn) stays_in (resolved test f qs) (λ q h. h) k
 
 open_conn : (P : ConnId → Type 0) (c : ConnId) (qs : List QueueView) → is_open c qs ≡ true → AllConns P qs → P c
 open_conn P c [] e a = absurd cc
@@ -109,7 +109,7 @@ conns_step P s (inbound.Opened d) new a = by_test (opens d s) refl
     by_test : (b : Bool) → opens d s ≡ b → AllConns P (cond b (opened d s) s).queues
     by_test true e = all_append (λ (q : QueueView). P q.conn) s.queues (record { conn = d; parked = [] } ∷ []) a (new d e, tt)
     by_test false e = a
-conns_step P s (inbound.Carried x) new a = by_tests (is_open x.conn s.queues) (is_full x.conn s.queues) (goes_through x.conn (entering s.store x) s.queues) refl
+conns_step P s (inbound.Carried x) new a = by_tests (is_open x.conn s.queues) (overflows x.conn (entering s.store x) s.queues) (goes_through x.conn (entering s.store x) s.queues) refl
   where
     by_tests : (o f g : Bool) → is_open x.conn s.queues ≡ o → AllConns P (cond o (cond f (closed_off x.conn s) (cond g s (parks x (entering s.store x) s))) s).queues
     by_tests true true g o = conns_others P x.conn s.queues a
@@ -153,40 +153,55 @@ none = []
 pub same_at : (peer me : NodeId) (a b : ℕ) → same_conn (conn_at peer me a) (conn_at peer me b) ≡ nat_eq a b
 same_at peer me a b = rw (same_node-refl peer, same_node-refl me) refl
 
-told_brought : (life : ℕ) (h : Come) (seq : ℕ) (b o f oc : Bool) (S L : List Mark) → nat_eq h.life life ≡ b → (b ≡ true → o ≡ oc) → h.is_open ≡ true → seq ≡ h.next → Told life h oc S L → Told life (record h { next = h.next + 1 }) (cond (o && f) (oc && not b) oc) (S ++ one_if b (number seq)) (L ++ cond o (one_if b (number seq) ++ cond f (one_if b (ended ParkedFull)) []) [])
-told_brought life h seq true true true true S L e same running is a = told_cut life h seq S L running (eqb-true h.life life e) is a
-told_brought life h seq true true false true S L e same running is a = told_number life h seq S L running (eqb-true h.life life e) is a
-told_brought life h seq true true f false S L e same running is a = absurd (let bad : true ≡ false = same refl in cc)
-told_brought life h seq true false f true S L e same running is a = absurd (let bad : false ≡ true = same refl in cc)
-told_brought life h seq true false f false S L e same running is a = rw (append_nil L) (told_discard life h seq S L running (eqb-true h.life life e) is a)
-told_brought life h seq false o f oc S L e same running is a = rw (append_nil S, still o f, kept o f oc, append_nil L) (told_other life h (record h { next = h.next + 1 }) oc oc S L refl (eqb-false h.life life e) (λ k. k) a)
-  where
-    still : (o f : Bool) → cond o (none ++ cond f none none) none ≡ none
-    still true true = refl
-    still true false = refl
-    still false f = refl
+module _ (slots : ℕ → ℕ) (n : ℕ) where
+  -- of a lane
+  abbrev pub lane : List Mark → List Mark
+  lane xs = in_lane slots n xs
 
-    kept : (o f oc : Bool) → cond (o && f) (oc && true) oc ≡ oc
-    kept true true true = refl
-    kept true true false = refl
-    kept true false oc = refl
-    kept false f oc = refl
+  plain : (seq : ℕ) → NoEnd (lane (number seq ∷ []))
+  plain seq = by_test (nat_eq (slots seq) n)
+    where
+      by_test : (b : Bool) → NoEnd (cond b (number seq ∷ []) [])
+      by_test true = tt
+      by_test false = tt
 
-told_closed : (life : ℕ) (h : Come) (cause : Cause) (b o oc : Bool) (S L : List Mark) → nat_eq h.life life ≡ b → (b ≡ true → o ≡ oc) → h.is_open ≡ true → Told life h oc S L → Told life (record h { is_open = false }) (cond o (oc && not b) oc) (S ++ one_if b (ended cause)) (L ++ cond o (one_if b (ended cause)) [])
-told_closed life h cause true true true S L e same running a = told_close life h cause S L running (eqb-true h.life life e) a
-told_closed life h cause true true false S L e same running a = absurd (let bad : true ≡ false = same refl in cc)
-told_closed life h cause true false true S L e same running a = absurd (let bad : false ≡ true = same refl in cc)
-told_closed life h cause true false false S L e same running a = rw (append_nil L) (told_close_cut life h cause S L running (eqb-true h.life life e) a)
-told_closed life h cause false o oc S L e same running a = rw (append_nil S, still o, kept o oc, append_nil L) (told_other life h (record h { is_open = false }) oc oc S L refl (eqb-false h.life life e) (λ k. k) a)
-  where
-    still : (o : Bool) → cond o none none ≡ none
-    still true = refl
-    still false = refl
+  with_end : (seq : ℕ) → lane (number seq ∷ ended ParkedFull ∷ []) ≡ lane (number seq ∷ []) ++ ended ParkedFull ∷ []
+  with_end seq = in_lane-append slots n (number seq ∷ []) (ended ParkedFull ∷ [])
 
-    kept : (o oc : Bool) → cond o (oc && true) oc ≡ oc
-    kept true true = refl
-    kept true false = refl
-    kept false oc = refl
+  pub told_brought : (life : ℕ) (h : Come) (seq : ℕ) (b o f oc : Bool) (S L : List Mark) → nat_eq h.life life ≡ b → (b ≡ true → o ≡ oc) → h.is_open ≡ true → Told life h oc S L → Told life (record h { next = h.next + 1 }) (cond (o && f) (oc && not b) oc) (S ++ lane (one_if b (number seq))) (L ++ lane (cond o (one_if b (number seq) ++ cond f (one_if b (ended ParkedFull)) []) []))
+  told_brought life h seq true true true true S L e same running a = rw (with_end seq) (told_cut life h (lane (number seq ∷ [])) S L (plain seq) running (eqb-true h.life life e) a)
+  told_brought life h seq true true false true S L e same running a = told_number life h (lane (number seq ∷ [])) S L (plain seq) running (eqb-true h.life life e) a
+  told_brought life h seq true true f false S L e same running a = absurd (let bad : true ≡ false = same refl in cc)
+  told_brought life h seq true false f true S L e same running a = absurd (let bad : false ≡ true = same refl in cc)
+  told_brought life h seq true false f false S L e same running a = rw (append_nil L) (told_discard life h (lane (number seq ∷ [])) S L (plain seq) running (eqb-true h.life life e) a)
+  told_brought life h seq false o f oc S L e same running a = rw (append_nil S, still o f, kept o f oc, append_nil L) (told_other life h (record h { next = h.next + 1 }) oc oc S L refl (eqb-false h.life life e) (λ k. k) a)
+    where
+      still : (o f : Bool) → cond o (none ++ cond f none none) none ≡ none
+      still true true = refl
+      still true false = refl
+      still false f = refl
+
+      kept : (o f oc : Bool) → cond (o && f) (oc && true) oc ≡ oc
+      kept true true true = refl
+      kept true true false = refl
+      kept true false oc = refl
+      kept false f oc = refl
+
+  pub told_closed : (life : ℕ) (h : Come) (cause : Cause) (b o oc : Bool) (S L : List Mark) → nat_eq h.life life ≡ b → (b ≡ true → o ≡ oc) → h.is_open ≡ true → Told life h oc S L → Told life (record h { is_open = false }) (cond o (oc && not b) oc) (S ++ lane (one_if b (ended cause))) (L ++ lane (cond o (one_if b (ended cause)) []))
+  told_closed life h cause true true true S L e same running a = told_close life h cause S L running (eqb-true h.life life e) a
+  told_closed life h cause true true false S L e same running a = absurd (let bad : true ≡ false = same refl in cc)
+  told_closed life h cause true false true S L e same running a = absurd (let bad : false ≡ true = same refl in cc)
+  told_closed life h cause true false false S L e same running a = rw (append_nil L) (told_close_cut life h cause S L running (eqb-true h.life life e) a)
+  told_closed life h cause false o oc S L e same running a = rw (append_nil S, still o, kept o oc, append_nil L) (told_other life h (record h { is_open = false }) oc oc S L refl (eqb-false h.life life e) (λ k. k) a)
+    where
+      still : (o : Bool) → cond o none none ≡ none
+      still true = refl
+      still false = refl
+
+      kept : (o oc : Bool) → cond o (oc && true) oc ≡ oc
+      kept true true = refl
+      kept true false = refl
+      kept false oc = refl
 
 -- where no connection of the link is open, the link isn't
 no_link : (peer me : NodeId) (qs : List QueueView) → AllConns (λ (c : ConnId). same_node c.to me ≡ true) qs → ((life : ℕ) → is_open (conn_at peer me life) qs ≡ false) → is_link_open peer qs ≡ false
@@ -206,8 +221,8 @@ pub record OnLink (me peer : NodeId) (s : Settled) : Type 0 where
   pub single : AreSingle s.queues
   pub mine : AllByRecursion AreMine s.queues
 
-told_item : (me peer : NodeId) (s : Settled) (item : Inbound) (h : Come) (S L : ℕ → List Mark) → OnLink me peer s → MayCome peer me h item → ((life : ℕ) → Told life h (is_open (conn_at peer me life) s.queues) (S life) (L life)) → (life : ℕ) → Told life (comes h item) (open_after (conn_at peer me life) s item) (S life ++ came_mark (conn_at peer me life) item) (L life ++ added (conn_at peer me life) s item)
-told_item me peer s (inbound.Opened d) h S L on m known life =
+told_item : (slots : ℕ → ℕ → ℕ) (n : ℕ) (me peer : NodeId) (s : Settled) (item : Inbound) (h : Come) (S L : ℕ → List Mark) → OnLink me peer s → MayCome peer me h item → ((life : ℕ) → Told life h (is_open (conn_at peer me life) s.queues) (S life) (L life)) → (life : ℕ) → Told life (comes h item) (open_after (conn_at peer me life) s item) (S life ++ in_lane (slots life) n (came_mark (conn_at peer me life) item)) (L life ++ in_lane (slots life) n (added (conn_at peer me life) s item))
+told_item slots n me peer s (inbound.Opened d) h S L on m known life =
     let shut : (g : ℕ) → is_open (conn_at peer me g) s.queues ≡ false = λ g. none g (is_open (conn_at peer me g) s.queues) refl in
     let link : is_link_open peer s.queues ≡ false = no_link peer me s.queues on.to_me shut in
     let yes : opens d s ≡ true = rw (m.1, on.is_me, on.is_peer, same_node-refl me, link) refl in
@@ -217,14 +232,14 @@ told_item me peer s (inbound.Opened d) h S L on m known life =
     none : (g : ℕ) (b : Bool) → is_open (conn_at peer me g) s.queues ≡ b → b ≡ false
     none g true e = absurd (let o : h.is_open ≡ true = ((known g).open_here e).0 in let bad : true ≡ false = sym o ∙ m.0 in cc)
     none g false e = refl
-told_item me peer s (inbound.Carried x) h S L on m known life =
+told_item slots n me peer s (inbound.Carried x) h S L on m known life =
     let at : same_conn x.conn (conn_at peer me life) ≡ nat_eq h.life life = ap (λ (k : ConnId). same_conn k (conn_at peer me life)) m.1 ∙ same_at peer me h.life life in
-    rw at (told_brought life h x.seq.0 (nat_eq h.life life) (is_open x.conn s.queues) (is_full x.conn s.queues) (is_open (conn_at peer me life) s.queues) (S life) (L life) refl (λ e. ap (λ (k : ConnId). is_open k s.queues) (m.1 ∙ ap (conn_at peer me) (eqb-true h.life life e))) m.0 m.2 (known life))
-told_item me peer s (inbound.Side d message) h S L on m known life = rw (append_nil (S life), append_nil (L life)) (known life)
-told_item me peer s (inbound.Closed d cause) h S L on m known life =
+    rw at (told_brought (slots life) n life h x.seq.0 (nat_eq h.life life) (is_open x.conn s.queues) (overflows x.conn (entering s.store x) s.queues) (is_open (conn_at peer me life) s.queues) (S life) (L life) refl (λ e. ap (λ (k : ConnId). is_open k s.queues) (m.1 ∙ ap (conn_at peer me) (eqb-true h.life life e))) m.0 (known life))
+told_item slots n me peer s (inbound.Side d message) h S L on m known life = rw (append_nil (S life), append_nil (L life)) (known life)
+told_item slots n me peer s (inbound.Closed d cause) h S L on m known life =
     let at : same_conn d (conn_at peer me life) ≡ nat_eq h.life life = ap (λ (k : ConnId). same_conn k (conn_at peer me life)) m.1 ∙ same_at peer me h.life life in
-    rw at (told_closed life h cause (nat_eq h.life life) (is_open d s.queues) (is_open (conn_at peer me life) s.queues) (S life) (L life) refl (λ e. ap (λ (k : ConnId). is_open k s.queues) (m.1 ∙ ap (conn_at peer me) (eqb-true h.life life e))) m.0 (known life))
-told_item me peer s (inbound.Local command) h S L on m known life = absurd m
+    rw at (told_closed (slots life) n life h cause (nat_eq h.life life) (is_open d s.queues) (is_open (conn_at peer me life) s.queues) (S life) (L life) refl (λ e. ap (λ (k : ConnId). is_open k s.queues) (m.1 ∙ ap (conn_at peer me) (eqb-true h.life life e))) m.0 (known life))
+told_item slots n me peer s (inbound.Local command) h S L on m known life = absurd m
 
 -- ---- an item of another link
 
@@ -240,7 +255,7 @@ quiet_mark peer me life (inbound.Local command) e = refl
 
 quiet_added : (peer me : NodeId) (life : ℕ) (s : Settled) (item : Inbound) → is_from peer item ≡ false → added (conn_at peer me life) s item ≡ []
 quiet_added peer me life s (inbound.Opened d) e = refl
-quiet_added peer me life s (inbound.Carried x) e = rw (apart peer me x.conn life e) (by_tests (is_open x.conn s.queues) (is_full x.conn s.queues))
+quiet_added peer me life s (inbound.Carried x) e = rw (apart peer me x.conn life e) (by_tests (is_open x.conn s.queues) (overflows x.conn (entering s.store x) s.queues))
   where
     by_tests : (o f : Bool) → cond o (none ++ cond f none none) none ≡ none
     by_tests true true = refl
@@ -261,7 +276,7 @@ quiet_open peer me life s (inbound.Opened d) e = rw (apart peer me d life e) (by
     by_test true true = refl
     by_test true false = refl
     by_test false oc = refl
-quiet_open peer me life s (inbound.Carried x) e = rw (apart peer me x.conn life e) (by_test (is_open x.conn s.queues && is_full x.conn s.queues) (is_open (conn_at peer me life) s.queues))
+quiet_open peer me life s (inbound.Carried x) e = rw (apart peer me x.conn life e) (by_test (is_open x.conn s.queues && overflows x.conn (entering s.store x) s.queues) (is_open (conn_at peer me life) s.queues))
   where
     by_test : (b oc : Bool) → cond b (oc && true) oc ≡ oc
     by_test true true = refl
@@ -281,8 +296,8 @@ quiet_open peer me life s (inbound.Local command) e = refl
 abbrev pub come_of : NodeId → List Inbound → Come
 come_of peer taken = fold comes nothing_came (of_peer peer taken)
 
-abbrev pub AllTold : NodeId → NodeId → List Inbound → Settled → List Ready → Type 0
-AllTold me peer taken s out = (life : ℕ) → Told life (come_of peer taken) (is_open (conn_at peer me life) s.queues) (marks_in (conn_at peer me life) taken) (marks_of (conn_at peer me life) out ++ marks_parked (conn_at peer me life) s.queues)
+abbrev pub AllTold : (ℕ → ℕ → ℕ) → ℕ → NodeId → NodeId → List Inbound → Settled → List Ready → Type 0
+AllTold slots n me peer taken s out = (life : ℕ) → Told life (come_of peer taken) (is_open (conn_at peer me life) s.queues) (in_lane (slots life) n (marks_in (conn_at peer me life) taken)) (in_lane (slots life) n (marks_of (conn_at peer me life) out ++ marks_parked (conn_at peer me life) s.queues))
 
 pub of_peer-push : (peer : NodeId) (xs : List Inbound) (x : Inbound) → of_peer peer (xs ++ x ∷ []) ≡ of_peer peer xs ++ cond (is_from peer x) (x ∷ []) []
 of_peer-push peer [] x = refl
@@ -297,29 +312,39 @@ order_split peer me h [] x a = (tt, a.0)
 order_split peer me h (y ∷ ys) x a = let rest = order_split peer me (comes h y) ys x a.1 in ((a.0, rest.0), rest.1)
 
 -- the line after an item
-line_after : (c : ConnId) (s : Settled) (out : List Ready) (item : Inbound) → AreSingle s.queues → AllByRecursion AreMine s.queues → marks_of c (out ++ releases s item) ++ marks_parked c (rules s item).queues ≡ (marks_of c out ++ marks_parked c s.queues) ++ added c s item
-line_after c s out item single mine =
-    ap (λ ms. ms ++ marks_parked c (rules s item).queues) (marks_of-append c out (releases s item))
-    ∙ append_assoc (marks_of c out) (marks_of c (releases s item)) (marks_parked c (rules s item).queues)
-    ∙ ap (λ ms. marks_of c out ++ ms) (line_step c s item single mine)
-    ∙ sym (append_assoc (marks_of c out) (marks_parked c s.queues) (added c s item))
+line_after : (slots : ℕ → ℕ) (n : ℕ) (c : ConnId) (s : Settled) (out : List Ready) (item : Inbound) → AreSingle s.queues → AllByRecursion AreMine s.queues → AllByRecursion (HasLane slots) (parked_of c s.queues) → HasSlot c slots item → in_lane slots n (marks_of c (out ++ releases s item) ++ marks_parked c (rules s item).queues) ≡ in_lane slots n (marks_of c out ++ marks_parked c s.queues) ++ in_lane slots n (added c s item)
+line_after slots n c s out item single mine lanes slot =
+    ap (in_lane slots n) (ap (λ ms. ms ++ marks_parked c (rules s item).queues) (marks_of-append c out (releases s item)) ∙ append_assoc (marks_of c out) (marks_of c (releases s item)) (marks_parked c (rules s item).queues))
+    ∙ in_lane-append slots n (marks_of c out) (marks_of c (releases s item) ++ marks_parked c (rules s item).queues)
+    ∙ ap (λ ms. in_lane slots n (marks_of c out) ++ ms) (line_step slots n c s item single mine lanes slot)
+    ∙ sym (in_lane-append slots n (marks_of c out) (marks_parked c s.queues ++ added c s item))
+    ∙ ap (in_lane slots n) (sym (append_assoc (marks_of c out) (marks_parked c s.queues) (added c s item)))
+    ∙ in_lane-append slots n (marks_of c out ++ marks_parked c s.queues) (added c s item)
 
-marks_in-push : (c : ConnId) (taken : List Inbound) (item : Inbound) → marks_in c (taken ++ item ∷ []) ≡ marks_in c taken ++ came_mark c item
-marks_in-push c taken item = flat-append (came_mark c) taken (item ∷ []) ∙ ap (λ ms. marks_in c taken ++ ms) (append_nil (came_mark c item))
+marks_in-push : (slots : ℕ → ℕ) (n : ℕ) (c : ConnId) (taken : List Inbound) (item : Inbound) → in_lane slots n (marks_in c (taken ++ item ∷ [])) ≡ in_lane slots n (marks_in c taken) ++ in_lane slots n (came_mark c item)
+marks_in-push slots n c taken item = ap (in_lane slots n) (flat-append (came_mark c) taken (item ∷ []) ∙ ap (λ ms. marks_in c taken ++ ms) (append_nil (came_mark c item))) ∙ in_lane-append slots n (marks_in c taken) (came_mark c item)
 
-pub told_step : (me peer : NodeId) (taken : List Inbound) (s : Settled) (out : List Ready) (item : Inbound) → OnLink me peer s → AreInOrder peer me nothing_came (of_peer peer (taken ++ item ∷ [])) → AllTold me peer taken s out → AllTold me peer (taken ++ item ∷ []) (rules s item) (out ++ releases s item)
-told_step me peer taken s out item on shape known life = by_test (is_from peer item) refl
+-- what is parked of a connection has its lanes, and so does the item
+pub record HasLanes (slots : ℕ → ℕ) (c : ConnId) (s : Settled) (item : Inbound) : Type 0 where
+  pub parked : AllByRecursion (HasLane slots) (parked_of c s.queues)
+  pub item_is : HasSlot c slots item
+
+pub told_step : (slots : ℕ → ℕ → ℕ) (n : ℕ) (me peer : NodeId) (taken : List Inbound) (s : Settled) (out : List Ready) (item : Inbound) → OnLink me peer s → ((life : ℕ) → HasLanes (slots life) (conn_at peer me life) s item) → AreInOrder peer me nothing_came (of_peer peer (taken ++ item ∷ [])) → AllTold slots n me peer taken s out → AllTold slots n me peer (taken ++ item ∷ []) (rules s item) (out ++ releases s item)
+told_step slots n me peer taken s out item on lanes shape known life = by_test (is_from peer item) refl
   where
     c : ConnId
     c = conn_at peer me life
 
-    by_test : (b : Bool) → is_from peer item ≡ b → Told life (come_of peer (taken ++ item ∷ [])) (is_open c (rules s item).queues) (marks_in c (taken ++ item ∷ [])) (marks_of c (out ++ releases s item) ++ marks_parked c (rules s item).queues)
+    after : in_lane (slots life) n (marks_of c (out ++ releases s item) ++ marks_parked c (rules s item).queues) ≡ in_lane (slots life) n (marks_of c out ++ marks_parked c s.queues) ++ in_lane (slots life) n (added c s item)
+    after = line_after (slots life) n c s out item on.single on.mine (lanes life).parked (lanes life).item_is
+
+    by_test : (b : Bool) → is_from peer item ≡ b → Told life (come_of peer (taken ++ item ∷ [])) (is_open c (rules s item).queues) (in_lane (slots life) n (marks_in c (taken ++ item ∷ []))) (in_lane (slots life) n (marks_of c (out ++ releases s item) ++ marks_parked c (rules s item).queues))
     by_test true e =
         let pushed : of_peer peer (taken ++ item ∷ []) ≡ of_peer peer taken ++ item ∷ [] = of_peer-push peer taken item ∙ ap (λ b. of_peer peer taken ++ cond b (item ∷ []) []) e in
         let come : come_of peer (taken ++ item ∷ []) ≡ comes (come_of peer taken) item = ap (fold comes nothing_came) pushed ∙ fold-append comes nothing_came (of_peer peer taken) (item ∷ []) in
         let may : MayCome peer me (come_of peer taken) item = (order_split peer me nothing_came (of_peer peer taken) item (subst (AreInOrder peer me nothing_came) pushed shape)).1 in
-        rw (come, open_step c s item on.single, marks_in-push c taken item, line_after c s out item on.single on.mine) (told_item me peer s item (come_of peer taken) (λ g. marks_in (conn_at peer me g) taken) (λ g. marks_of (conn_at peer me g) out ++ marks_parked (conn_at peer me g) s.queues) on may known life)
+        rw (come, open_step c s item on.single, marks_in-push (slots life) n c taken item, after) (told_item slots n me peer s item (come_of peer taken) (λ g. in_lane (slots g) n (marks_in (conn_at peer me g) taken)) (λ g. in_lane (slots g) n (marks_of (conn_at peer me g) out ++ marks_parked (conn_at peer me g) s.queues)) on may known life)
     by_test false e =
         let pushed : of_peer peer (taken ++ item ∷ []) ≡ of_peer peer taken = of_peer-push peer taken item ∙ ap (λ b. of_peer peer taken ++ cond b (item ∷ []) []) e ∙ append_nil (of_peer peer taken) in
         let come : come_of peer (taken ++ item ∷ []) ≡ come_of peer taken = ap (fold comes nothing_came) pushed in
-        rw come (told_same life (come_of peer taken) _ _ _ _ _ _ (open_step c s item on.single ∙ quiet_open peer me life s item e) (marks_in-push c taken item ∙ ap (λ ms. marks_in c taken ++ ms) (quiet_mark peer me life item e) ∙ append_nil _) (line_after c s out item on.single on.mine ∙ ap (λ ms. (marks_of c out ++ marks_parked c s.queues) ++ ms) (quiet_added peer me life s item e) ∙ append_nil _) (known life))
+        rw come (told_same life (come_of peer taken) _ _ _ _ _ _ (open_step c s item on.single ∙ quiet_open peer me life s item e) (marks_in-push (slots life) n c taken item ∙ ap (λ ms. in_lane (slots life) n (marks_in c taken) ++ in_lane (slots life) n ms) (quiet_mark peer me life item e) ∙ append_nil _) (after ∙ ap (λ ms. in_lane (slots life) n (marks_of c out ++ marks_parked c s.queues) ++ in_lane (slots life) n ms) (quiet_added peer me life s item e) ∙ append_nil _) (known life))

@@ -1,23 +1,26 @@
 -- What a step of the code's loops does.
-use Rattle.std.proofs.Common.{◌≡◌, ℕ, ◌+◌, ◌<◌, Bool, true, false, cond, not, List, [], ◌∷◌, ◌++◌, length, refl, sym, ◌∙◌, ap, subst, arith, zero, suc, add-one, take, get_or, map}
+use Rattle.std.proofs.Common.{◌≡◌, ℕ, ◌+◌, ◌<◌, Bool, true, false, cond, not, List, [], ◌∷◌, ◌++◌, length, refl, sym, ◌∙◌, ap, subst, arith, zero, suc, add-one, take, get_or, map, append_assoc}
 use Rattle.std.specs.Prelude.{◌&&◌, ◌||◌, filter, flat_map, Option, Some, None}
 use Rattle.scp_types.specs.declared.names.ConnId.{ConnId}
 use Rattle.scp_types.specs.declared.names.Hash.{Hash}
 use Rattle.scp_pending.specs.declared.parked.Parked.{Parked}
 use Rattle.scp_pending.specs.declared.parked.Parked.TheVariants.{Waits, Free, Lost}
-use Rattle.scp_pending.specs.Queues.{QueueView, stays_in, leaves_in, leaving_of, may_leave, leaves_of, stays_of, is_head_waiting, with_first, in_order_of}
-use Rattle.scp_pending.proofs.Serving.{leaves_stuck}
+use Rattle.scp_pending.specs.Queues.{QueueView, stays_in, leaves_in, leaving_of, is_held, fate, leaves_behind, stays_behind, is_head_waiting, with_first, in_order_of}
 use Rattle.scp_pending.proofs.Basics.{append_nil, flat-append}
 
-pub leaves_next : (c : ConnId) (p : Parked) (ps : List Parked) → may_leave (p ∷ ps) ≡ true → leaves_of c (p ∷ ps) ≡ leaves_of c (p ∷ []) ++ leaves_of c ps
-leaves_next c (Waits x) ps e = absurd cc
-leaves_next c (Free d) ps e = refl
-leaves_next c (Lost seq cause) ps e = refl
+-- ---- one after another of a queue is looked at
 
-pub stays_next : (p : Parked) (ps : List Parked) → may_leave (p ∷ ps) ≡ true → stays_of (p ∷ ps) ≡ stays_of ps
-stays_next (Waits x) ps e = absurd cc
-stays_next (Free d) ps e = refl
-stays_next (Lost seq cause) ps e = refl
+pub stays_more : (kept : List Parked) (p : Parked) (ps : List Parked) → is_held kept p ≡ true → (kept ++ p ∷ []) ++ stays_behind (kept ++ p ∷ []) ps ≡ kept ++ stays_behind kept (p ∷ ps)
+stays_more kept p ps e = append_assoc kept (p ∷ []) (stays_behind (kept ++ p ∷ []) ps) ∙ ap (λ zs. kept ++ zs) (sym (ap (λ b. cond b (p ∷ stays_behind (kept ++ p ∷ []) ps) (stays_behind kept ps)) e))
+
+pub leaves_more : (c : ConnId) (kept : List Parked) (p : Parked) (ps : List Parked) → is_held kept p ≡ true → leaves_behind c (kept ++ p ∷ []) ps ≡ leaves_behind c kept (p ∷ ps)
+leaves_more c kept p ps e = sym (ap (λ b. cond b (leaves_behind c (kept ++ p ∷ []) ps) (fate c p ++ leaves_behind c kept ps)) e)
+
+pub stays_less : (kept : List Parked) (p : Parked) (ps : List Parked) → is_held kept p ≡ false → stays_behind kept ps ≡ stays_behind kept (p ∷ ps)
+stays_less kept p ps e = sym (ap (λ b. cond b (p ∷ stays_behind (kept ++ p ∷ []) ps) (stays_behind kept ps)) e)
+
+pub leaves_less : (c : ConnId) (kept : List Parked) (p : Parked) (ps : List Parked) → is_held kept p ≡ false → fate c p ++ leaves_behind c kept ps ≡ leaves_behind c kept (p ∷ ps)
+leaves_less c kept p ps e = sym (ap (λ b. cond b (leaves_behind c (kept ++ p ∷ []) ps) (fate c p ++ leaves_behind c kept ps)) e)
 
 -- ---- one queue after another is served
 
@@ -33,23 +36,11 @@ map_push : {X Y : Type 0} (f : X → Y) (xs : List X) (x : X) → map f (xs ++ x
 map_push f [] x = refl
 map_push f (y ∷ ys) x = ap (λ zs. f y ∷ zs) (map_push f ys x)
 
-pub waiting_stays : (ys : List QueueView) (q : QueueView) → may_leave q.parked ≡ false → filter (λ q. not (may_leave q.parked)) (ys ++ q ∷ []) ≡ filter (λ q. not (may_leave q.parked)) ys ++ q ∷ []
-waiting_stays ys q e = filter_push (λ q. not (may_leave q.parked)) ys q ∙ ap (λ b. filter (λ q. not (may_leave q.parked)) ys ++ cond (not b) (q ∷ []) []) e
-
-pub waiting_goes : (ys : List QueueView) (q : QueueView) → may_leave q.parked ≡ true → filter (λ q. not (may_leave q.parked)) (ys ++ q ∷ []) ≡ filter (λ q. not (may_leave q.parked)) ys
-waiting_goes ys q e = filter_push (λ q. not (may_leave q.parked)) ys q ∙ ap (λ b. filter (λ q. not (may_leave q.parked)) ys ++ cond (not b) (q ∷ []) []) e ∙ append_nil (filter (λ q. not (may_leave q.parked)) ys)
-
-pub going_goes : (ys : List QueueView) (q : QueueView) → may_leave q.parked ≡ true → map stays_in (filter (λ q. may_leave q.parked) (ys ++ q ∷ [])) ≡ map stays_in (filter (λ q. may_leave q.parked) ys) ++ stays_in q ∷ []
-going_goes ys q e = ap (map stays_in) (filter_push (λ q. may_leave q.parked) ys q ∙ ap (λ b. filter (λ q. may_leave q.parked) ys ++ cond b (q ∷ []) []) e) ∙ map_push stays_in (filter (λ q. may_leave q.parked) ys) q
-
-pub going_stays : (ys : List QueueView) (q : QueueView) → may_leave q.parked ≡ false → map stays_in (filter (λ q. may_leave q.parked) (ys ++ q ∷ [])) ≡ map stays_in (filter (λ q. may_leave q.parked) ys)
-going_stays ys q e = ap (map stays_in) (filter_push (λ q. may_leave q.parked) ys q ∙ ap (λ b. filter (λ q. may_leave q.parked) ys ++ cond b (q ∷ []) []) e ∙ append_nil (filter (λ q. may_leave q.parked) ys))
+pub served_more : (ys : List QueueView) (q : QueueView) → map stays_in (ys ++ q ∷ []) ≡ map stays_in ys ++ stays_in q ∷ []
+served_more ys q = map_push stays_in ys q
 
 pub leaving_goes : (ys : List QueueView) (q : QueueView) → leaving_of (ys ++ q ∷ []) ≡ leaving_of ys ++ leaves_in q
 leaving_goes ys q = flat-append leaves_in ys (q ∷ []) ∙ ap (λ zs. leaving_of ys ++ zs) (append_nil (leaves_in q))
-
-pub leaving_stays : (ys : List QueueView) (q : QueueView) → may_leave q.parked ≡ false → leaving_of (ys ++ q ∷ []) ≡ leaving_of ys
-leaving_stays ys q e = leaving_goes ys q ∙ ap (λ zs. leaving_of ys ++ zs) (leaves_stuck q.conn q.parked e) ∙ append_nil (leaving_of ys)
 
 -- ---- the queues of one hash first
 

@@ -1,6 +1,8 @@
 -- What a Set does, by whether it is wanted and whether it is sane.
-use Rattle.std.proofs.Common.{◌≡◌, ℕ, Bool, true, false, cond, List, [], ◌++◌, refl, sym, ◌∙◌, ap, subst}
-use Rattle.std.specs.Prelude.{◌&&◌, Some, Result, Ok, Err, OnOk}
+use Rattle.std.proofs.Common.{◌≡◌, ℕ, Bool, true, false, cond, List, [], ◌∷◌, ◌++◌, refl, sym, ◌∙◌, ap, subst}
+use Rattle.std.specs.List.{list_any}
+use Rattle.scp_wire.specs.Lanes.{slot_of}
+use Rattle.std.specs.Prelude.{◌&&◌, ◌||◌, Option, Some, None, Result, Ok, Err, OnOk}
 use Rattle.scp_types.specs.declared.names.Hash.{Hash}
 use Rattle.scp_quorum.specs.QuorumTree.{QuorumTree}
 use Rattle.scp_quorum.specs.QuorumKind.{set_hash, set_kind, set_value}
@@ -10,7 +12,7 @@ use Rattle.scp_wire.specs.declared.carried.Carried.{Carried}
 use Rattle.scp_wire.specs.declared.link.Command.TheVariants.{Tick}
 use Rattle.scp_wire.specs.declared.link.Inbound.TheVariants as inbound
 use Rattle.scp_wire.specs.declared.side.SideMessage.TheVariants.{Set}
-use Rattle.scp_fetch.specs.Store.{stored}
+use Rattle.scp_fetch.specs.Store.{StoreView, lookup, stored}
 use Rattle.scp_fetch.specs.declared.want.Want.{Want}
 use Rattle.scp_fetch.specs.declared.want.Miss.TheVariants.{All}
 use Rattle.scp_fetch.specs.Wants.{is_wanted, last_missed, missed_by, without}
@@ -18,8 +20,8 @@ use Rattle.scp_pending.specs.declared.parked.Parked.{Parked}
 use Rattle.scp_pending.specs.declared.ready.DropCause.TheVariants.{BadSet, GaveUp}
 use Rattle.scp_pending.specs.declared.ready.Ready.{Ready}
 use Rattle.scp_pending.specs.Sanity.{is_sane, has_spelling, test_of_sane, sane_of_test, test_of_fits, fits_of_test}
-use Rattle.scp_pending.specs.Queues.{QueueView, in_order_of, is_hash, hash_of, served, leaving_of, resolved, with_set, lost_by}
-use Rattle.scp_pending.specs.Rules.{PendingView, Settled, hears, heard_out, is_answer, answered, is_given_up, taken_in}
+use Rattle.scp_pending.specs.Queues.{QueueView, lane_of, is_at, waits, is_held, named, in_order_of, is_hash, hash_of, served, leaving_of, resolved, with_set, lost_by}
+use Rattle.scp_pending.specs.Rules.{PendingView, Settled, entering_by, entering, found, hears, heard_out, is_answer, answered, is_given_up, taken_in}
 use Rattle.scp_pending.proofs.Basics.{append_nil, clash}
 
 pub hash_is : (h : Hash) (set : QuorumTree) → h.0 ≡ set_hash set → h ≡ hash_of set
@@ -81,3 +83,15 @@ fits_unless set some = by_test (has_spelling set) refl
 pub ticked : {A E : Type 0} (r : Result A E) (v : PendingView) (wanted : List Want) (ordered queues : List QueueView) (leaving : List Ready) → wanted ≡ missed_by All v.settled.wanted → ordered ≡ resolved (is_given_up v.settled.wanted) (lost_by GaveUp) (in_order_of (last_missed v.settled.wanted) v.settled.queues) → OnOk r (queues ≡ served ordered) → OnOk r (leaving ≡ v.leaving ++ leaving_of ordered) → OnOk r (record v { settled = record v.settled { wanted = wanted; queues = queues }; leaving = leaving } ≡ taken_in v (inbound.Local Tick))
 ticked (Ok u) v wanted ordered queues leaving w o a b = rw (b, a, o, w) refl
 ticked (Err e) v wanted ordered queues leaving w o a b = tt
+
+-- what the code tests before a message is parked
+pub held_entering : (store : StoreView) (x : Carried) (ps : List Parked) → is_held ps (entering store x) ≡ (waits (entering store x) || list_any (is_at (slot_of x.message)) ps)
+held_entering store x ps = ap (λ s. waits (entering store x) || list_any (is_at s) ps) (by_name (named x.message))
+  where
+    by_lookup : (o : Option QuorumTree) → lane_of (found x o) ≡ slot_of x.message
+    by_lookup None = refl
+    by_lookup (Some set) = refl
+
+    by_name : (o : Option Hash) → lane_of (entering_by o store x) ≡ slot_of x.message
+    by_name None = refl
+    by_name (Some hash) = by_lookup (lookup hash store)

@@ -1,4 +1,5 @@
 pub mod Basics
+pub mod Laning
 pub mod Serving
 pub mod Later
 pub mod Wanting
@@ -15,6 +16,7 @@ pub mod Following
 pub mod Numbered
 pub mod Accounting
 pub mod Hearing
+pub mod Rising
 pub mod Exiting
 pub mod Ending
 pub mod Living

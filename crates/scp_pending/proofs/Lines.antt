@@ -15,6 +15,7 @@ use Rattle.scp_wire.specs.declared.link.Inbound.{Inbound}
 use Rattle.scp_wire.specs.declared.link.Inbound.TheVariants as inbound
 use Rattle.scp_wire.specs.Connections.{same_conn}
 use Rattle.scp_wire.specs.Marks.{Mark, number, ended, one_if}
+use Rattle.scp_wire.specs.Lanes.{slot_of, in_lane, HasSlot}
 use Rattle.scp_fetch.specs.declared.want.Miss.TheVariants.{One, All}
 use Rattle.scp_pending.specs.declared.parked.Parked.{Parked}
 use Rattle.scp_pending.specs.declared.parked.Parked.TheVariants.{Waits, Free, Lost}
@@ -25,12 +26,14 @@ use Rattle.scp_pending.specs.declared.ready.Ready.TheVariants.{Deliver, Dropped,
 use Rattle.scp_pending.specs.Sanity.{is_sane}
 use Rattle.scp_fetch.specs.Wants.{missed_by, last_missed, gives_up}
 use Rattle.scp_fetch.specs.Store.{lookup}
-use Rattle.scp_pending.specs.Queues.{QueueView, is_of, is_open, parked_of, others, parked_in, is_empty, may_leave, leaves_of, stays_of, served, leaving_of, in_order_of, seq_of, named, is_hash, hash_of, resolved_one, resolved_in, resolved, with_set, lost_by, dropped}
-use Rattle.scp_pending.specs.Rules.{Settled, rules, releases, opens, opened, closed_off, entering_by, entering, found, is_full, goes_through, parks, enters, brings, by_answer, answered, is_answer, is_given_up, gives_up_one, missed_one, missed_all, hears, heard_out}
+use Rattle.scp_pending.specs.Queues.{QueueView, is_of, is_open, parked_of, others, parked_in, lane_of, is_at, waits, is_held, fate, leaves_of, stays_of, served, leaving_of, in_order_of, seq_of, named, is_hash, hash_of, resolved_one, resolved_in, resolved, with_set, lost_by, dropped}
+use Rattle.scp_pending.specs.Rules.{Settled, rules, releases, opens, opened, closed_off, entering_by, entering, found, overflows, goes_through, parks, enters, brings, by_answer, answered, is_answer, is_given_up, gives_up_one, missed_one, missed_all, hears, heard_out}
 use Rattle.scp_pending.specs.Line.{ready_mark, marks_of, parked_mark, marks_parked}
 use Rattle.scp_pending.specs.Causes.{plus}
-use Rattle.scp_pending.proofs.Basics.{append_nil, clash, and_both, map-append, same_conn-true, same_conn-refl, same_conn-other, all_step, all_weaker}
-use Rattle.scp_pending.proofs.Serving.{how_many, AreSingle, how_many-append, how_many-map, how_many-served, how_many-parked_in, how_many-others_mine, how_many-others_other, shut_none, none_shut, open_as, parked_shut, parked-opened, parked-others_mine, parked-others_other, parked_in-mine, parked_in-other, parked-resolved, parked-served, IsMine, AreMine, marks-leaves, marks-leaves_other, marks-leaving, marks_of-append, all_in_order, how_many-in_order, parked-in_order, single-in_order}
+use Rattle.std.proofs.lemmas.Bool.{eqb-true}
+use Rattle.scp_pending.proofs.Basics.{append_nil, clash, or_none, map-append, same_conn-true, same_conn-refl, same_conn-other, all_step, all_weaker}
+use Rattle.scp_pending.proofs.Laning.{HasLane, in_lane-append, mark_in, marks-one, marks-fate, marks-fate_other}
+use Rattle.scp_pending.proofs.Serving.{how_many, AreSingle, how_many-append, how_many-map, how_many-served, how_many-parked_in, how_many-others_mine, how_many-others_other, shut_none, none_shut, open_as, parked_shut, parked-opened, parked-others_mine, parked-others_other, parked_in-mine, parked_in-other, parked-resolved, parked-served, IsMine, AreMine, marks-leaving, marks_of-append, all_in_order, how_many-in_order, parked-in_order, single-in_order}
 
 -- ---- a close
 
@@ -61,7 +64,7 @@ resolved_mark test f same (Waits x ∷ ps) = by_test (test (named x.message)) (r
     by_test true e = rw (same x, e) refl
     by_test false e = rw e refl
 resolved_mark test f same (Free d ∷ ps) = ap (λ ms. number d.seq.0 ∷ ms) (resolved_mark test f same ps)
-resolved_mark test f same (Lost seq cause ∷ ps) = ap (λ ms. number seq.0 ∷ ms) (resolved_mark test f same ps)
+resolved_mark test f same (Lost slot seq cause ∷ ps) = ap (λ ms. number seq.0 ∷ ms) (resolved_mark test f same ps)
 
 resolved_mine : (test : Option Hash → Bool) (f : Carried → Parked) → ((c : ConnId) (x : Carried) → x.conn ≡ c → IsMine c (f x)) → (q : QueueView) → AreMine q → AreMine (resolved_in test f q)
 resolved_mine test f mine q a = all_step (IsMine q.conn) (IsMine q.conn) (resolved_one test f) q.parked one a
@@ -73,27 +76,40 @@ resolved_mine test f mine q a = all_step (IsMine q.conn) (IsMine q.conn) (resolv
         by_test true = mine q.conn x h
         by_test false = h
     one (Free d) h = h
-    one (Lost seq cause) h = h
+    one (Lost slot seq cause) h = h
 
-serving : (d : ConnId) (test : Option Hash → Bool) (f : Carried → Parked) (qs : List QueueView) → ((x : Carried) → parked_mark (f x) ≡ number x.seq.0) → ((c : ConnId) (x : Carried) → x.conn ≡ c → IsMine c (f x)) → AreSingle qs → AllByRecursion AreMine qs → marks_of d (leaving_of (resolved test f qs)) ++ marks_parked d (served (resolved test f qs)) ≡ marks_parked d qs ++ []
-serving d test f qs same mine single a =
+-- what is resolved keeps its lane
+resolved_lane : (slots : ℕ → ℕ) (test : Option Hash → Bool) (f : Carried → Parked) → ((x : Carried) → slots x.seq.0 ≡ slot_of x.message → HasLane slots (f x)) → (ps : List Parked) → AllByRecursion (HasLane slots) ps → AllByRecursion (HasLane slots) (map (resolved_one test f) ps)
+resolved_lane slots test f same ps a = all_step (HasLane slots) (HasLane slots) (resolved_one test f) ps one a
+  where
+    one : (p : Parked) → HasLane slots p → HasLane slots (resolved_one test f p)
+    one (Waits x) h = by_test (test (named x.message))
+      where
+        by_test : (b : Bool) → HasLane slots (cond b (f x) (Waits x))
+        by_test true = same x h
+        by_test false = h
+    one (Free d) h = h
+    one (Lost slot seq cause) h = h
+
+serving : (slots : ℕ → ℕ) (n : ℕ) (d : ConnId) (test : Option Hash → Bool) (f : Carried → Parked) (qs : List QueueView) → ((x : Carried) → parked_mark (f x) ≡ number x.seq.0) → ((c : ConnId) (x : Carried) → x.conn ≡ c → IsMine c (f x)) → ((x : Carried) → slots x.seq.0 ≡ slot_of x.message → HasLane slots (f x)) → AreSingle qs → AllByRecursion AreMine qs → AllByRecursion (HasLane slots) (parked_of d qs) → in_lane slots n (marks_of d (leaving_of (resolved test f qs)) ++ marks_parked d (served (resolved test f qs))) ≡ in_lane slots n (marks_parked d qs ++ [])
+serving slots n d test f qs same mine lane single a l =
     let few : how_many d (resolved test f qs) ≤ 1 = subst (λ (n : ℕ). n ≤ 1) (sym (how_many-map d (resolved_in test f) (λ q. refl) qs)) (single d) in
-    ap (λ ps. marks_of d (leaving_of (resolved test f qs)) ++ map parked_mark ps) (parked-served d (resolved test f qs) few)
-    ∙ marks-leaving d (resolved test f qs) few (all_step AreMine AreMine (resolved_in test f) qs (resolved_mine test f mine) a)
-    ∙ ap (map parked_mark) (parked-resolved d test f qs)
-    ∙ resolved_mark test f same (parked_of d qs)
-    ∙ sym (append_nil (marks_parked d qs))
+    let lanes : AllByRecursion (HasLane slots) (parked_of d (resolved test f qs)) = subst (AllByRecursion (HasLane slots)) (sym (parked-resolved d test f qs)) (resolved_lane slots test f lane (parked_of d qs) l) in
+    in_lane-append slots n (marks_of d (leaving_of (resolved test f qs))) (marks_parked d (served (resolved test f qs)))
+    ∙ ap (λ ps. in_lane slots n (marks_of d (leaving_of (resolved test f qs))) ++ in_lane slots n (map parked_mark ps)) (parked-served d (resolved test f qs))
+    ∙ marks-leaving slots n d (resolved test f qs) few (all_step AreMine AreMine (resolved_in test f) qs (resolved_mine test f mine) a) lanes
+    ∙ ap (in_lane slots n) (ap (map parked_mark) (parked-resolved d test f qs) ∙ resolved_mark test f same (parked_of d qs) ∙ sym (append_nil (marks_parked d qs)))
 
 -- ---- what an item adds
 
 abbrev pub added : ConnId → Settled → Inbound → List Mark
 added c s (inbound.Opened d) = []
-added c s (inbound.Carried x) = cond (is_open x.conn s.queues) (one_if (same_conn x.conn c) (number x.seq.0) ++ cond (is_full x.conn s.queues) (one_if (same_conn x.conn c) (ended ParkedFull)) []) []
+added c s (inbound.Carried x) = cond (is_open x.conn s.queues) (one_if (same_conn x.conn c) (number x.seq.0) ++ cond (overflows x.conn (entering s.store x) s.queues) (one_if (same_conn x.conn c) (ended ParkedFull)) []) []
 added c s (inbound.Side d message) = []
 added c s (inbound.Closed d cause) = cond (is_open d s.queues) (one_if (same_conn d c) (ended cause)) []
 added c s (inbound.Local command) = []
 
-entering_seq : (s : Settled) (x : Carried) → (seq_of (entering s.store x)).0 ≡ x.seq.0
+pub entering_seq : (s : Settled) (x : Carried) → (seq_of (entering s.store x)).0 ≡ x.seq.0
 entering_seq s x = by_name (named x.message)
   where
     by_lookup : (o : Option QuorumTree) → (seq_of (found x o)).0 ≡ x.seq.0
@@ -115,11 +131,42 @@ entering_mine s x = by_name (named x.message)
     by_name None = refl
     by_name (Some hash) = by_lookup (lookup hash s.store)
 
+pub entering_lane : (slots : ℕ → ℕ) (s : Settled) (x : Carried) → slots x.seq.0 ≡ slot_of x.message → HasLane slots (entering s.store x)
+entering_lane slots s x e = by_name (named x.message)
+  where
+    by_lookup : (o : Option QuorumTree) → HasLane slots (found x o)
+    by_lookup None = e
+    by_lookup (Some set) = e
+
+    by_name : (o : Option Hash) → HasLane slots (entering_by o s.store x)
+    by_name None = e
+    by_name (Some hash) = by_lookup (lookup hash s.store)
+
 -- one that goes through
-through : (c d : ConnId) (p : Parked) → may_leave (p ∷ []) ≡ true → IsMine c p → marks_of d (leaves_of c (p ∷ [])) ≡ one_if (same_conn c d) (parked_mark p)
-through c d (Waits x) e m = absurd cc
-through c d (Free y) e m = (let same : same_conn y.conn d ≡ same_conn c d = ap (λ (k : ConnId). same_conn k d) m in ap (λ b. one_if b (number y.seq.0) ++ []) same ∙ append_nil (one_if (same_conn c d) (number y.seq.0)))
-through c d (Lost seq cause) e m = append_nil (one_if (same_conn c d) (number seq.0))
+through : (c d : ConnId) (p : Parked) → waits p ≡ false → IsMine c p → marks_of d (fate c p) ≡ one_if (same_conn c d) (parked_mark p)
+through c d p w m = by_test (same_conn c d) refl
+  where
+    by_test : (b : Bool) → same_conn c d ≡ b → marks_of d (fate c p) ≡ one_if b (parked_mark p)
+    by_test true e = subst (λ (k : ConnId). marks_of k (fate c p) ≡ parked_mark p ∷ []) (same_conn-true c d e) (marks-fate c p w m)
+    by_test false e = marks-fate_other c d p e m
+
+-- nothing of a lane of which nothing is parked
+none_in : (slots : ℕ → ℕ) (c : ConnId) (n : ℕ) (ps : List Parked) → AllByRecursion (HasLane slots) ps → list_any (is_at n) ps ≡ false → in_lane slots n (map parked_mark ps) ≡ []
+none_in slots c n [] l e = refl
+none_in slots c n (p ∷ ps) l e = (let both = or_none (is_at n p) (list_any (is_at n) ps) e in marks-one slots c n p ps false l.0 both.0 ∙ none_in slots c n ps l.1 both.1)
+
+-- in its lane it stands behind what is parked there, which is nothing
+passes_others : (slots : ℕ → ℕ) (c : ConnId) (n : ℕ) (p : Parked) (ps : List Parked) → HasLane slots p → AllByRecursion (HasLane slots) ps → list_any (is_at (lane_of p)) ps ≡ false → in_lane slots n (parked_mark p ∷ map parked_mark ps) ≡ in_lane slots n (map parked_mark ps ++ parked_mark p ∷ [])
+passes_others slots c n p ps l a none = by_test (is_at n p) refl
+  where
+    L : List Mark
+    L = in_lane slots n (map parked_mark ps)
+
+    by_test : (b : Bool) → is_at n p ≡ b → in_lane slots n (parked_mark p ∷ map parked_mark ps) ≡ in_lane slots n (map parked_mark ps ++ parked_mark p ∷ [])
+    by_test true k =
+        let gone : L ≡ [] = none_in slots c n ps a (subst (λ (m : ℕ). list_any (is_at m) ps ≡ false) (eqb-true (lane_of p) n k) none) in
+        marks-one slots c n p ps true l k ∙ ap (λ zs. parked_mark p ∷ zs) gone ∙ sym (in_lane-append slots n (map parked_mark ps) (parked_mark p ∷ []) ∙ ap (λ zs. zs ++ in_lane slots n (parked_mark p ∷ [])) gone ∙ mark_in slots c n p true l k)
+    by_test false k = marks-one slots c n p ps false l k ∙ sym (in_lane-append slots n (map parked_mark ps) (parked_mark p ∷ []) ∙ ap (λ zs. L ++ zs) (mark_in slots c n p false l k) ∙ append_nil L)
 
 parking : (c d : ConnId) (p : Parked) (s : Settled) → is_open c s.queues ≡ true → AreSingle s.queues → marks_parked d (parked_in c p s.queues) ≡ marks_parked d s.queues ++ one_if (same_conn c d) (parked_mark p)
 parking c d p s live single = by_test (same_conn c d) refl
@@ -128,13 +175,13 @@ parking c d p s live single = by_test (same_conn c d) refl
     by_test true e = subst (λ (k : ConnId). marks_parked k (parked_in c p s.queues) ≡ marks_parked k s.queues ++ parked_mark p ∷ []) (same_conn-true c d e) (ap (map parked_mark) (parked_in-mine c p s.queues live (single c)) ∙ map-append parked_mark (parked_of c s.queues) (p ∷ []))
     by_test false e = ap (map parked_mark) (parked_in-other c d p s.queues e) ∙ sym (append_nil (marks_parked d s.queues))
 
-pub line_step : (d : ConnId) (s : Settled) (item : Inbound) → AreSingle s.queues → AllByRecursion AreMine s.queues → marks_of d (releases s item) ++ marks_parked d (rules s item).queues ≡ marks_parked d s.queues ++ added d s item
-line_step d s (inbound.Opened c) single a = by_test (opens c s)
+pub line_step : (slots : ℕ → ℕ) (n : ℕ) (d : ConnId) (s : Settled) (item : Inbound) → AreSingle s.queues → AllByRecursion AreMine s.queues → AllByRecursion (HasLane slots) (parked_of d s.queues) → HasSlot d slots item → in_lane slots n (marks_of d (releases s item) ++ marks_parked d (rules s item).queues) ≡ in_lane slots n (marks_parked d s.queues ++ added d s item)
+line_step slots n d s (inbound.Opened c) single a l h = ap (in_lane slots n) (by_test (opens c s))
   where
     by_test : (b : Bool) → marks_parked d (cond b (opened c s) s).queues ≡ marks_parked d s.queues ++ []
     by_test true = ap (map parked_mark) (parked-opened d c s.queues) ∙ sym (append_nil _)
     by_test false = sym (append_nil _)
-line_step d s (inbound.Carried x) single a = by_tests (is_open x.conn s.queues) (is_full x.conn s.queues) (goes_through x.conn p s.queues) refl refl
+line_step slots n d s (inbound.Carried x) single a l h = by_tests (is_open x.conn s.queues) (overflows x.conn p s.queues) (goes_through x.conn p s.queues) refl refl
   where
     p : Parked
     p = entering s.store x
@@ -146,27 +193,26 @@ line_step d s (inbound.Carried x) single a = by_tests (is_open x.conn s.queues) 
     none_of true e = absurd cc
     none_of false e = refl
 
-    by_tests : (o f g : Bool) → is_open x.conn s.queues ≡ o → goes_through x.conn p s.queues ≡ g → marks_of d (cond o (cond f (map (dropped x.conn ByFull) (parked_of x.conn s.queues) ++ Dropped x.conn x.seq ByFull ∷ Closed x.conn ParkedFull ∷ []) (cond g (leaves_of x.conn (p ∷ [])) [])) []) ++ marks_parked d (cond o (cond f (closed_off x.conn s) (cond g s (parks x p s))) s).queues ≡ marks_parked d s.queues ++ cond o (one_if (same_conn x.conn d) (number x.seq.0) ++ cond f (one_if (same_conn x.conn d) (ended ParkedFull)) []) []
-    by_tests false f g o t = sym (append_nil _)
-    by_tests true true g o t = closing x.conn d ByFull (Dropped x.conn x.seq ByFull ∷ Closed x.conn ParkedFull ∷ []) s (same_conn x.conn d) refl single (none_of (same_conn x.conn d)) ∙ ap (λ ms. marks_parked d s.queues ++ (one_if (same_conn x.conn d) (number x.seq.0) ++ ms)) (append_nil (one_if (same_conn x.conn d) (ended ParkedFull)))
+    by_tests : (o f g : Bool) → is_open x.conn s.queues ≡ o → goes_through x.conn p s.queues ≡ g → in_lane slots n (marks_of d (cond o (cond f (map (dropped x.conn ByFull) (parked_of x.conn s.queues) ++ Dropped x.conn x.seq ByFull ∷ Closed x.conn ParkedFull ∷ []) (cond g (fate x.conn p) [])) []) ++ marks_parked d (cond o (cond f (closed_off x.conn s) (cond g s (parks x p s))) s).queues) ≡ in_lane slots n (marks_parked d s.queues ++ cond o (one_if (same_conn x.conn d) (number x.seq.0) ++ cond f (one_if (same_conn x.conn d) (ended ParkedFull)) []) [])
+    by_tests false f g o t = ap (in_lane slots n) (sym (append_nil _))
+    by_tests true true g o t = ap (in_lane slots n) (closing x.conn d ByFull (Dropped x.conn x.seq ByFull ∷ Closed x.conn ParkedFull ∷ []) s (same_conn x.conn d) refl single (none_of (same_conn x.conn d)) ∙ ap (λ ms. marks_parked d s.queues ++ (one_if (same_conn x.conn d) (number x.seq.0) ++ ms)) (append_nil (one_if (same_conn x.conn d) (ended ParkedFull))))
     by_tests true false true o t =
-        let empty : is_empty (parked_of x.conn s.queues) ≡ true = (and_both (is_empty (parked_of x.conn s.queues)) (may_leave (p ∷ [])) t).0 in
-        let goes : may_leave (p ∷ []) ≡ true = (and_both (is_empty (parked_of x.conn s.queues)) (may_leave (p ∷ [])) t).1 in
-        ap (λ ms. ms ++ marks_parked d s.queues) (through x.conn d p goes (entering_mine s x) ∙ ap (one_if (same_conn x.conn d)) mark)
-        ∙ alone (same_conn x.conn d) refl empty
+        let free = or_none (waits p) (list_any (is_at (lane_of p)) (parked_of x.conn s.queues)) (not_true (is_held (parked_of x.conn s.queues) p) t) in
+        ap (λ ms. in_lane slots n (ms ++ marks_parked d s.queues)) (through x.conn d p free.0 (entering_mine s x))
+        ∙ alone (same_conn x.conn d) refl free.1
       where
-        nil_of : (ps : List Parked) → is_empty ps ≡ true → ps ≡ []
-        nil_of [] e = refl
-        nil_of (q ∷ qs) e = absurd cc
+        not_true : (b : Bool) → not b ≡ true → b ≡ false
+        not_true true e = absurd cc
+        not_true false e = refl
 
-        alone : (b : Bool) → same_conn x.conn d ≡ b → is_empty (parked_of x.conn s.queues) ≡ true → one_if b (number x.seq.0) ++ marks_parked d s.queues ≡ marks_parked d s.queues ++ (one_if b (number x.seq.0) ++ [])
-        alone true k e = (let none : parked_of d s.queues ≡ [] = subst (λ (h : ConnId). parked_of h s.queues ≡ []) (same_conn-true x.conn d k) (nil_of (parked_of x.conn s.queues) e) in rw none refl)
-        alone false k e = sym (append_nil _)
-    by_tests true false false o t = parking x.conn d p s o single ∙ ap (λ m. marks_parked d s.queues ++ one_if (same_conn x.conn d) m) mark ∙ ap (λ ms. marks_parked d s.queues ++ ms) (sym (append_nil (one_if (same_conn x.conn d) (number x.seq.0))))
-line_step d s (inbound.Side c m) single a = by_open (is_open c s.queues) m
+        alone : (b : Bool) → same_conn x.conn d ≡ b → list_any (is_at (lane_of p)) (parked_of x.conn s.queues) ≡ false → in_lane slots n (one_if b (parked_mark p) ++ marks_parked d s.queues) ≡ in_lane slots n (marks_parked d s.queues ++ (one_if b (number x.seq.0) ++ []))
+        alone true k e = (let none : list_any (is_at (lane_of p)) (parked_of d s.queues) ≡ false = subst (λ (c : ConnId). list_any (is_at (lane_of p)) (parked_of c s.queues) ≡ false) (same_conn-true x.conn d k) e in passes_others slots d n p (parked_of d s.queues) (entering_lane slots s x (h k)) l none ∙ ap (λ m. in_lane slots n (marks_parked d s.queues ++ m ∷ [])) mark)
+        alone false k e = ap (in_lane slots n) (sym (append_nil _))
+    by_tests true false false o t = ap (in_lane slots n) (parking x.conn d p s o single ∙ ap (λ m. marks_parked d s.queues ++ one_if (same_conn x.conn d) m) mark ∙ ap (λ ms. marks_parked d s.queues ++ ms) (sym (append_nil (one_if (same_conn x.conn d) (number x.seq.0)))))
+line_step slots n d s (inbound.Side c m) single a l h = by_open (is_open c s.queues) m
   where
-    quiet : marks_parked d s.queues ≡ marks_parked d s.queues ++ []
-    quiet = sym (append_nil _)
+    quiet : in_lane slots n (marks_parked d s.queues) ≡ in_lane slots n (marks_parked d s.queues ++ [])
+    quiet = ap (in_lane slots n) (sym (append_nil _))
 
     by_answer_seq : (set : QuorumTree) (b : Bool) (x : Carried) → parked_mark ((cond b (with_set (Some set)) (lost_by BadSet)) x) ≡ number x.seq.0
     by_answer_seq set true x = refl
@@ -176,23 +222,27 @@ line_step d s (inbound.Side c m) single a = by_open (is_open c s.queues) m
     by_answer_mine set true k x e = e
     by_answer_mine set false k x e = tt
 
-    by_set : (set : QuorumTree) (b : Bool) → marks_of d (cond b (leaving_of (resolved (is_hash (hash_of set)) (by_answer set) s.queues)) []) ++ marks_parked d (cond b (answered set s) s).queues ≡ marks_parked d s.queues ++ []
-    by_set set true = serving d (is_hash (hash_of set)) (by_answer set) s.queues (by_answer_seq set (is_sane set)) (by_answer_mine set (is_sane set)) single a
+    by_answer_lane : (set : QuorumTree) (b : Bool) (x : Carried) → slots x.seq.0 ≡ slot_of x.message → HasLane slots ((cond b (with_set (Some set)) (lost_by BadSet)) x)
+    by_answer_lane set true x e = e
+    by_answer_lane set false x e = e
+
+    by_set : (set : QuorumTree) (b : Bool) → in_lane slots n (marks_of d (cond b (leaving_of (resolved (is_hash (hash_of set)) (by_answer set) s.queues)) []) ++ marks_parked d (cond b (answered set s) s).queues) ≡ in_lane slots n (marks_parked d s.queues ++ [])
+    by_set set true = serving slots n d (is_hash (hash_of set)) (by_answer set) s.queues (by_answer_seq set (is_sane set)) (by_answer_mine set (is_sane set)) (by_answer_lane set (is_sane set)) single a l
     by_set set false = quiet
 
-    by_miss : (hash : Hash) (b : Bool) → marks_of d (cond b (leaving_of (resolved (is_hash hash) (lost_by GaveUp) s.queues)) []) ++ marks_parked d (cond b (gives_up_one hash (record s { wanted = missed_by (One hash) s.wanted })) (record s { wanted = missed_by (One hash) s.wanted })).queues ≡ marks_parked d s.queues ++ []
-    by_miss hash true = serving d (is_hash hash) (lost_by GaveUp) s.queues (λ x. refl) (λ k x e. tt) single a
+    by_miss : (hash : Hash) (b : Bool) → in_lane slots n (marks_of d (cond b (leaving_of (resolved (is_hash hash) (lost_by GaveUp) s.queues)) []) ++ marks_parked d (cond b (gives_up_one hash (record s { wanted = missed_by (One hash) s.wanted })) (record s { wanted = missed_by (One hash) s.wanted })).queues) ≡ in_lane slots n (marks_parked d s.queues ++ [])
+    by_miss hash true = serving slots n d (is_hash hash) (lost_by GaveUp) s.queues (λ x. refl) (λ k x e. tt) (λ x e. e) single a l
     by_miss hash false = quiet
 
-    by_message : (m : SideMessage) → marks_of d (heard_out m s) ++ marks_parked d (hears m s).queues ≡ marks_parked d s.queues ++ []
+    by_message : (m : SideMessage) → in_lane slots n (marks_of d (heard_out m s) ++ marks_parked d (hears m s).queues) ≡ in_lane slots n (marks_parked d s.queues ++ [])
     by_message (GetSet hash) = quiet
     by_message (Set set) = by_set set (is_answer set s)
     by_message (NoSet hash) = by_miss hash (gives_up (One hash) s.wanted hash)
 
-    by_open : (b : Bool) (m : SideMessage) → marks_of d (cond b (heard_out m s) []) ++ marks_parked d (cond b (hears m s) s).queues ≡ marks_parked d s.queues ++ []
+    by_open : (b : Bool) (m : SideMessage) → in_lane slots n (marks_of d (cond b (heard_out m s) []) ++ marks_parked d (cond b (hears m s) s).queues) ≡ in_lane slots n (marks_parked d s.queues ++ [])
     by_open true m = by_message m
     by_open false m = quiet
-line_step d s (inbound.Closed c cause) single a = by_open (is_open c s.queues)
+line_step slots n d s (inbound.Closed c cause) single a l h = ap (in_lane slots n) (by_open (is_open c s.queues))
   where
     none_of : (mine : Bool) → mine ≡ false → one_if mine (ended cause) ++ [] ≡ []
     none_of true e = absurd cc
@@ -201,19 +251,20 @@ line_step d s (inbound.Closed c cause) single a = by_open (is_open c s.queues)
     by_open : (b : Bool) → marks_of d (cond b (map (dropped c ByClose) (parked_of c s.queues) ++ Closed c cause ∷ []) []) ++ marks_parked d (cond b (closed_off c s) s).queues ≡ marks_parked d s.queues ++ cond b (one_if (same_conn c d) (ended cause)) []
     by_open false = sym (append_nil _)
     by_open true = closing c d ByClose (Closed c cause ∷ []) s (same_conn c d) refl single (none_of (same_conn c d)) ∙ ap (λ ms. marks_parked d s.queues ++ ms) (append_nil (one_if (same_conn c d) (ended cause)))
-line_step d s (inbound.Local Tick) single a =
+line_step slots n d s (inbound.Local Tick) single a l h =
     let hashes = last_missed s.wanted in
-    serving d (is_given_up s.wanted) (lost_by GaveUp) (in_order_of hashes s.queues) (λ x. refl) (λ k x e. tt) (single-in_order hashes s.queues single) (all_in_order AreMine hashes s.queues a) ∙ ap (λ ps. map parked_mark ps ++ []) (parked-in_order d hashes s.queues (single d))
-line_step d s (inbound.Local (Propose slot value)) single a = sym (append_nil (marks_parked d s.queues))
-line_step d s (inbound.Local (Round slot)) single a = sym (append_nil (marks_parked d s.queues))
-line_step d s (inbound.Local (Timer slot)) single a = sym (append_nil (marks_parked d s.queues))
-line_step d s (inbound.Local (Ask link slot)) single a = sym (append_nil (marks_parked d s.queues))
+    let same : parked_of d (in_order_of hashes s.queues) ≡ parked_of d s.queues = parked-in_order d hashes s.queues (single d) in
+    serving slots n d (is_given_up s.wanted) (lost_by GaveUp) (in_order_of hashes s.queues) (λ x. refl) (λ k x e. tt) (λ x e. e) (single-in_order hashes s.queues single) (all_in_order AreMine hashes s.queues a) (subst (AllByRecursion (HasLane slots)) (sym same) l) ∙ ap (λ ps. in_lane slots n (map parked_mark ps ++ [])) same
+line_step slots n d s (inbound.Local (Propose slot value)) single a l h = ap (in_lane slots n) (sym (append_nil (marks_parked d s.queues)))
+line_step slots n d s (inbound.Local (Round slot)) single a l h = ap (in_lane slots n) (sym (append_nil (marks_parked d s.queues)))
+line_step slots n d s (inbound.Local (Timer slot)) single a l h = ap (in_lane slots n) (sym (append_nil (marks_parked d s.queues)))
+line_step slots n d s (inbound.Local (Ask link slot)) single a l h = ap (in_lane slots n) (sym (append_nil (marks_parked d s.queues)))
 
 -- ---- whether it is open
 
 abbrev pub open_after : ConnId → Settled → Inbound → Bool
 open_after c s (inbound.Opened d) = cond (opens d s) (is_open c s.queues || same_conn d c) (is_open c s.queues)
-open_after c s (inbound.Carried x) = cond (is_open x.conn s.queues && is_full x.conn s.queues) (is_open c s.queues && not (same_conn x.conn c)) (is_open c s.queues)
+open_after c s (inbound.Carried x) = cond (is_open x.conn s.queues && overflows x.conn (entering s.store x) s.queues) (is_open c s.queues && not (same_conn x.conn c)) (is_open c s.queues)
 open_after c s (inbound.Side d message) = is_open c s.queues
 open_after c s (inbound.Closed d cause) = cond (is_open d s.queues) (is_open c s.queues && not (same_conn d c)) (is_open c s.queues)
 open_after c s (inbound.Local command) = is_open c s.queues
@@ -254,7 +305,7 @@ open_step c s (inbound.Opened d) single = by_test (opens d s)
     by_test : (b : Bool) → is_open c (cond b (opened d s) s).queues ≡ cond b (is_open c s.queues || same_conn d c) (is_open c s.queues)
     by_test true = open-append c d s.queues
     by_test false = refl
-open_step c s (inbound.Carried x) single = by_tests (is_open x.conn s.queues) (is_full x.conn s.queues) (goes_through x.conn (entering s.store x) s.queues) refl
+open_step c s (inbound.Carried x) single = by_tests (is_open x.conn s.queues) (overflows x.conn (entering s.store x) s.queues) (goes_through x.conn (entering s.store x) s.queues) refl
   where
     by_tests : (o f g : Bool) → is_open x.conn s.queues ≡ o → is_open c (cond o (cond f (closed_off x.conn s) (cond g s (parks x (entering s.store x) s))) s).queues ≡ cond (o && f) (is_open c s.queues && not (same_conn x.conn c)) (is_open c s.queues)
     by_tests true true g o = open-others c x.conn s.queues single o

@@ -22,9 +22,9 @@ use Rattle.scp_pending.specs.declared.parked.Parked.TheVariants.{Waits, Free, Lo
 use Rattle.scp_pending.specs.declared.ready.DropCause.{DropCause}
 use Rattle.scp_pending.specs.declared.ready.DropCause.TheVariants.{BadSet, GaveUp}
 use Rattle.scp_pending.specs.Sanity.{is_sane, has_spelling}
-use Rattle.scp_pending.specs.Queues.{QueueView, is_of, is_open, parked_of, others, parked_in, stays_of, served, in_order_of, named, is_hash, hash_of, waits_for, waited_by, is_waiting, resolved_one, resolved, with_set, lost_by}
+use Rattle.scp_pending.specs.Queues.{QueueView, is_of, is_open, parked_of, others, parked_in, lane_of, is_at, waits, is_held, stays_behind, served, in_order_of, named, is_hash, hash_of, waits_for, waited_by, is_waiting, resolved_one, resolved, with_set, lost_by}
 use Rattle.scp_pending.specs.Causes.{plus}
-use Rattle.scp_pending.specs.Rules.{Settled, rules, opens, opened, closed_off, entering, is_full, goes_through, wanted_named, wanted_with, parks, by_answer, answered, is_answer, is_given_up, gives_up_one, hears, link_number}
+use Rattle.scp_pending.specs.Rules.{Settled, rules, opens, opened, closed_off, entering, overflows, goes_through, wanted_named, wanted_with, parks, by_answer, answered, is_answer, is_given_up, gives_up_one, hears, link_number}
 use Rattle.scp_pending.proofs.Basics.{append_nil, clash, or_none, if_any, and_both, not_false, same_hash-refl, same_hash-true, same_hash-sym, same_node-true, same_node-refl, same_conn-refl, same_conn-true, all_step, all_weaker, all_append, all_both, all_kept, all_filter}
 use Rattle.scp_pending.proofs.Wanting.{wanted-map, wanted-filter_of, ask-hash, count-hash, is_for-true, none_wanted}
 use Rattle.scp_pending.proofs.Serving.{how_many, AreSingle, how_many-append, how_many-others_mine, none_shut, shut_none, others_few, parked-append, parked-opened, parked-others_mine, parked-others_other, parked_in-mine, parked_in-other, parked-resolved, parked-served, how_many-map, parked-in_order, single-in_order}
@@ -188,11 +188,18 @@ others_else c qs single = all_both (λ (q : QueueView). same_conn c q.conn ≡ f
 
 -- ---- what is resolved and served
 
-stays_any : (hash : Hash) (ps : List Parked) → list_any (waits_for hash) (stays_of ps) ≡ list_any (waits_for hash) ps
-stays_any hash [] = refl
-stays_any hash (Waits x ∷ ps) = refl
-stays_any hash (Free d ∷ ps) = stays_any hash ps
-stays_any hash (Lost seq cause ∷ ps) = stays_any hash ps
+not_waits : (hash : Hash) (p : Parked) → waits p ≡ false → waits_for hash p ≡ false
+not_waits hash (Waits x) e = absurd cc
+not_waits hash (Free d) e = refl
+not_waits hash (Lost slot seq cause) e = refl
+
+stays_any : (hash : Hash) (kept ps : List Parked) → list_any (waits_for hash) (stays_behind kept ps) ≡ list_any (waits_for hash) ps
+stays_any hash kept [] = refl
+stays_any hash kept (p ∷ ps) = by_test (is_held kept p) refl (stays_any hash (kept ++ p ∷ []) ps) (stays_any hash kept ps)
+  where
+    by_test : (b : Bool) → is_held kept p ≡ b → list_any (waits_for hash) (stays_behind (kept ++ p ∷ []) ps) ≡ list_any (waits_for hash) ps → list_any (waits_for hash) (stays_behind kept ps) ≡ list_any (waits_for hash) ps → list_any (waits_for hash) (cond b (p ∷ stays_behind (kept ++ p ∷ []) ps) (stays_behind kept ps)) ≡ (waits_for hash p || list_any (waits_for hash) ps)
+    by_test true e stay go = ap (λ b. waits_for hash p || b) stay
+    by_test false e stay go = go ∙ ap (λ b. b || list_any (waits_for hash) ps) (sym (not_waits hash p (or_none (waits p) (list_any (is_at (lane_of p)) kept) e).0))
 
 not_named : (test : Option Hash → Bool) (hash : Hash) (o : Option Hash) → test (Some hash) ≡ false → test o ≡ true → is_hash hash o ≡ false
 not_named test hash None e t = refl
@@ -210,12 +217,11 @@ resolved_any test f hash none e (Waits x ∷ ps) = by_test (test (named x.messag
     by_test true t rest = rw (none x, not_named test hash (named x.message) e t) rest
     by_test false t rest = ap (λ b. is_hash hash (named x.message) || b) rest
 resolved_any test f hash none e (Free d ∷ ps) = resolved_any test f hash none e ps
-resolved_any test f hash none e (Lost seq cause ∷ ps) = resolved_any test f hash none e ps
+resolved_any test f hash none e (Lost slot seq cause ∷ ps) = resolved_any test f hash none e ps
 
 served_same : (test : Option Hash → Bool) (f : Carried → Parked) (hash : Hash) (qs : List QueueView) → ((x : Carried) → waits_for hash (f x) ≡ false) → test (Some hash) ≡ false → AreSingle qs → (c : ConnId) → is_waiting c hash (served (resolved test f qs)) ≡ is_waiting c hash qs
 served_same test f hash qs none e single c =
-    let few : how_many c (resolved test f qs) ≤ 1 = subst (λ (n : ℕ). n ≤ 1) (sym (how_many-map c _ (λ q. refl) qs)) (single c) in
-    ap (list_any (waits_for hash)) (parked-served c (resolved test f qs) few) ∙ stays_any hash (parked_of c (resolved test f qs)) ∙ ap (list_any (waits_for hash)) (parked-resolved c test f qs) ∙ resolved_any test f hash none e (parked_of c qs)
+    ap (list_any (waits_for hash)) (parked-served c (resolved test f qs)) ∙ stays_any hash [] (parked_of c (resolved test f qs)) ∙ ap (list_any (waits_for hash)) (parked-resolved c test f qs) ∙ resolved_any test f hash none e (parked_of c qs)
 
 answer_waits : (set : QuorumTree) (hash : Hash) (x : Carried) → waits_for hash (by_answer set x) ≡ false
 answer_waits set hash x = by_test (is_sane set)
@@ -271,7 +277,7 @@ missed_still miss qs ws l = missed_listed miss (λ o. false) qs qs ws (λ w g k.
 waits_as : (hash : Hash) (p : Parked) → waits_for hash p ≡ is_hash hash (waited_by p)
 waits_as hash (Waits x) = refl
 waits_as hash (Free d) = refl
-waits_as hash (Lost seq cause) = refl
+waits_as hash (Lost slot seq cause) = refl
 
 parked_waiting : (c d : ConnId) (hash : Hash) (p : Parked) (qs : List QueueView) → is_open d qs ≡ true → AreSingle qs → is_waiting c hash (parked_in d p qs) ≡ (is_waiting c hash qs || (same_conn d c && is_hash hash (waited_by p)))
 parked_waiting c d hash p qs live single = by_test (same_conn d c) refl
@@ -333,7 +339,7 @@ listed_step s (inbound.Opened d) single none l = by_test (opens d s)
       apart = apart-map (unask (link_number d.from s)) (λ w. refl) s.wanted l.apart;
     }
     by_test false = l
-listed_step s (inbound.Carried x) single none l = by_tests (is_open x.conn s.queues) (is_full x.conn s.queues) (goes_through x.conn (entering s.store x) s.queues) refl
+listed_step s (inbound.Carried x) single none l = by_tests (is_open x.conn s.queues) (overflows x.conn (entering s.store x) s.queues) (goes_through x.conn (entering s.store x) s.queues) refl
   where
     at : Settled → Type 0
     at t = AreListed t.queues t.wanted

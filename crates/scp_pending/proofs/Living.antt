@@ -10,7 +10,7 @@ use Rattle.scp_wire.specs.declared.link.Cause.TheVariants.{ParkedFull}
 use Rattle.scp_wire.specs.declared.link.Inbound.{Inbound}
 use Rattle.scp_wire.specs.Connections.{conn_at, same_conn}
 use Rattle.scp_wire.specs.Shape.{Come, HasShape}
-use Rattle.scp_wire.specs.Marks.{Mark, number, ended, one_if, marks_in}
+use Rattle.scp_wire.specs.Marks.{Mark, number, ended, one_if, marks_in, messages_in}
 use Rattle.scp_pending.specs.declared.parked.Parked.{Parked}
 use Rattle.scp_pending.specs.declared.ready.Ready.{Ready}
 use Rattle.scp_pending.specs.declared.ready.Ready.TheVariants.{Deliver, Dropped, Closed, Local}
@@ -20,7 +20,10 @@ use Rattle.scp_pending.specs.Line.{ready_mark, marks_of, parked_mark, marks_park
 use Rattle.scp_pending.specs.Pends.{Pends, start_of}
 use Rattle.scp_pending.specs.Living.{stands, is_too_many, cuts_off, is_cut_off, OpenByPlace}
 use Rattle.scp_pending.proofs.Basics.{same_number}
-use Rattle.scp_pending.proofs.Telling.{Told, IsCutHere, Runs}
+use Rattle.scp_pending.proofs.Telling.{Told, IsCutHere, NoEnd}
+use Rattle.scp_wire.specs.Lanes.{slots_of, in_lane}
+use Rattle.scp_pending.proofs.Numbered.{slots_are}
+use Rattle.scp_pending.proofs.Accounting.{numbered_of}
 use Rattle.scp_pending.proofs.Following.{come_of}
 use Rattle.scp_pending.proofs.Ending.{way_of}
 
@@ -74,10 +77,20 @@ full_marks c (r ∷ rs) = full-append (ready_mark c r) (marks_of c rs) ∙ two (
     two p q = rw (p, q) refl
 
 -- what runs on has no end in it
-running : (n m : ℕ) (xs : List Mark) → Runs n m xs → has_full xs ≡ false
-running n m [] r = refl
-running n m (number seq ∷ xs) r = running (n + 1) m xs r.1
-running n m (ended cause ∷ xs) r = absurd r
+running : (xs : List Mark) → NoEnd xs → has_full xs ≡ false
+running [] r = refl
+running (number seq ∷ xs) r = running xs r
+running (ended cause ∷ xs) r = absurd r
+
+-- each lane has each end
+full_in : (slots : ℕ → ℕ) (n : ℕ) (xs : List Mark) → has_full (in_lane slots n xs) ≡ has_full xs
+full_in slots n [] = refl
+full_in slots n (number seq ∷ xs) = by_test (nat_eq (slots seq) n) (full_in slots n xs)
+  where
+    by_test : (b : Bool) → has_full (in_lane slots n xs) ≡ has_full xs → has_full (cond b (number seq ∷ in_lane slots n xs) (in_lane slots n xs)) ≡ has_full xs
+    by_test true e = e
+    by_test false e = e
+full_in slots n (ended cause ∷ xs) = ap (λ b. is_too_many cause || b) (full_in slots n xs)
 
 -- what is cut off has
 cut_short : (front : List Mark) → has_full (front ++ ended ParkedFull ∷ []) ≡ true
@@ -102,8 +115,8 @@ line_full c rs qs = full-append (marks_of c rs) (marks_parked c qs) ∙ two (ful
 told_open : (life : ℕ) (h : Come) (o cut : Bool) (sent line : List Mark) → has_full line ≡ cut → Told life h o sent line → o ≡ (stands life h && not cut)
 told_open life h true cut sent line full t =
     let here = t.open_here refl in
-    let runs : Runs 0 h.next line = subst (Runs 0 h.next) (sym here.2) (t.runs here.0 here.1) in
-    let whole : cut ≡ false = sym full ∙ running 0 h.next line runs in
+    let runs : NoEnd line = subst NoEnd (sym here.2) (t.runs here.0 here.1) in
+    let whole : cut ≡ false = sym full ∙ running line runs in
     rw (whole, here.0, here.1, same_number life) refl
 told_open life h false cut sent line full t = by_tests h.is_open (nat_eq h.life life) refl refl
   where
@@ -118,4 +131,6 @@ told_open life h false cut sent line full t = by_tests h.is_open (nat_eq h.life 
 pub open_by_place : OpenByPlace
 open_by_place me peers taken given v p shape link peer at life =
     let c = conn_at peer me life in
-    told_open life (come_of peer taken) (is_open c v.settled.queues) (is_cut_off c (given ++ v.leaving)) (marks_in c taken) (marks_of c (given ++ v.leaving) ++ marks_parked c v.settled.queues) (line_full c (given ++ v.leaving) v.settled.queues) ((way_of me peer peers taken given v link p shape at).line.told life)
+    let slots = slots_of (messages_in c taken) in
+    let have = slots_are c (messages_in c taken) taken (numbered_of me peer taken life (shape link peer at)) in
+    told_open life (come_of peer taken) (is_open c v.settled.queues) (is_cut_off c (given ++ v.leaving)) _ _ (full_in _ 0 (marks_of c (given ++ v.leaving) ++ marks_parked c v.settled.queues) ∙ line_full c (given ++ v.leaving) v.settled.queues) ((way_of me peer peers taken given v link life slots p shape at have).line.told 0 life)

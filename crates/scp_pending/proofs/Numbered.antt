@@ -14,6 +14,7 @@ use Rattle.scp_wire.specs.declared.link.Inbound.TheVariants.{Opened, Carried, Si
 use Rattle.scp_wire.specs.Connections.{conn_at, same_conn, same_node}
 use Rattle.scp_wire.specs.Shape.{Come, nothing_came, comes, MayCome, AreInOrder, is_from, of_peer}
 use Rattle.scp_wire.specs.Marks.{one_if, came_message, messages_in}
+use Rattle.scp_wire.specs.Lanes.{slot_in, slots_of, HasSlot, HaveSlots}
 
 -- ---- connections
 
@@ -110,3 +111,15 @@ numbered_all c messages (x ∷ xs) a = by_test (is_from c.from x) refl (numbered
     by_test : (b : Bool) → is_from c.from x ≡ b → (AllByRecursion (IsNumbered c messages) (of_peer c.from xs) → AllByRecursion (IsNumbered c messages) xs) → AllByRecursion (IsNumbered c messages) (cond b (x ∷ of_peer c.from xs) (of_peer c.from xs)) → AllByRecursion (IsNumbered c messages) (x ∷ xs)
     by_test true e k h = (h.0, k h.1)
     by_test false e k h = (other_numbered c messages x e, k h)
+
+-- the slots of the messages that came are those of their numbers
+slot_is : (c : ConnId) (messages : List Message) (x : Inbound) → IsNumbered c messages x → HasSlot c (slots_of messages) x
+slot_is c messages (Opened conn) k = tt
+slot_is c messages (Carried x) k = λ e. ap slot_in (k e)
+slot_is c messages (Side conn message) k = tt
+slot_is c messages (Closed conn cause) k = tt
+slot_is c messages (Local command) k = tt
+
+pub slots_are : (c : ConnId) (messages : List Message) (xs : List Inbound) → AllByRecursion (IsNumbered c messages) xs → HaveSlots c (slots_of messages) xs
+slots_are c messages [] a = tt
+slots_are c messages (x ∷ xs) a = (slot_is c messages x a.0, slots_are c messages xs a.1)

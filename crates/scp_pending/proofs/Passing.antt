@@ -8,7 +8,7 @@ use Rattle.scp_quorum.specs.QuorumTree.{QuorumTree}
 use Rattle.scp_wire.specs.declared.link.Inbound.{Inbound}
 use Rattle.scp_pending.specs.declared.ready.Ready.{Ready}
 use Rattle.scp_pending.specs.declared.parked.Parked.{Parked}
-use Rattle.scp_pending.specs.Queues.{QueueView, is_of, parked_of}
+use Rattle.scp_pending.specs.Queues.{QueueView, is_of, at_slot, parked_of}
 use Rattle.scp_pending.specs.Rules.{PendingView, Settled, fresh, rules, releases, taken_in, settled_by, released_by}
 use Rattle.scp_pending.specs.Causes.{HasCause, HeadWaits, IsSettledBy}
 use Rattle.scp_pending.specs.Pends.{Pends, IsSettled, start_of}
@@ -58,7 +58,7 @@ IsSettled-of me peers taken given v none p =
     let k = sound_of me peers taken given v p in
     record {
       nothing_ready = none;
-      heads_wait = all_weaker (Fits (start_of me peers v) taken v.settled.wanted) (λ (q : QueueView). HeadWaits (start_of me peers v) taken q.conn q.parked) v.settled.queues (λ q f. head_waits (start_of me peers v) taken v.settled.wanted k.wanted q f) k.fits;
+      heads_wait = all_weaker (Fits (start_of me peers v) taken v.settled.wanted) (λ (q : QueueView). (n : ℕ) → HeadWaits (start_of me peers v) taken q.conn (at_slot n q.parked)) v.settled.queues (λ q f. head_waits (start_of me peers v) taken v.settled.wanted k.wanted q f) k.fits;
     }
 
 pub all_have_causes : AllHaveCauses

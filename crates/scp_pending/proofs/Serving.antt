@@ -11,9 +11,12 @@ use Rattle.scp_pending.specs.declared.parked.Parked.{Parked}
 use Rattle.scp_pending.specs.declared.parked.Parked.TheVariants.{Waits, Free, Lost}
 use Rattle.scp_pending.specs.declared.ready.Ready.{Ready}
 use Rattle.scp_pending.specs.declared.ready.Ready.TheVariants.{Deliver, Dropped}
-use Rattle.scp_pending.specs.Queues.{QueueView, is_of, is_open, parked_of, others, changed, with_parked, parked_in, is_empty, may_leave, leaves_of, stays_of, stays_in, served, leaves_in, leaving_of, is_head_waiting, with_first, in_order_of, seq_of, named, resolved_one, resolved_in, resolved}
+use Rattle.scp_pending.specs.Queues.{QueueView, is_of, is_open, parked_of, others, changed, with_parked, parked_in, is_empty, leaves_of, stays_of, stays_in, served, leaves_in, leaving_of, is_head_waiting, with_first, in_order_of, seq_of, named, resolved_one, resolved_in, resolved}
 use Rattle.scp_pending.specs.Line.{ready_mark, marks_of, parked_mark, marks_parked}
 use Rattle.scp_pending.specs.Causes.{plus}
+pub use Rattle.scp_pending.proofs.Laning.{IsMine}
+use Rattle.scp_pending.proofs.Laning.{HasLane, leaves-other, lane_apart}
+use Rattle.scp_wire.specs.Lanes.{in_lane}
 use Rattle.scp_pending.proofs.Basics.{append_nil, clash, same_conn-true, same_conn-refl, same_conn-other, flat-append, all_append, all_filter}
 
 -- ---- how many queues a connection has
@@ -64,7 +67,7 @@ stays-conn : (q : QueueView) → (stays_in q).conn ≡ q.conn
 stays-conn q = refl
 
 pub how_many-served : (c : ConnId) (qs : List QueueView) → how_many c (served qs) ≡ how_many c qs
-how_many-served c qs = how_many-append c (filter (λ q. not (may_leave q.parked)) qs) (map stays_in (filter (λ q. may_leave q.parked) qs)) ∙ ap (λ n. how_many c (filter (λ q. not (may_leave q.parked)) qs) + n) (how_many-map c stays_in stays-conn (filter (λ q. may_leave q.parked) qs)) ∙ how_many-split c (λ q. may_leave q.parked) qs
+how_many-served c qs = how_many-map c stays_in stays-conn qs
 
 pub how_many-others_mine : (c : ConnId) (qs : List QueueView) → is_open c qs ≡ true → how_many c (others c qs) + 1 ≡ how_many c qs
 how_many-others_mine c [] e = absurd cc
@@ -226,33 +229,13 @@ parked-resolved c test f (q ∷ qs) = by_test (is_of c q) (parked-resolved c tes
     by_test true e = refl
     by_test false e = e
 
-pub stays_stuck : (ps : List Parked) → may_leave ps ≡ false → stays_of ps ≡ ps
-stays_stuck [] e = refl
-stays_stuck (Waits x ∷ ps) e = refl
-stays_stuck (Free delivery ∷ ps) e = absurd cc
-stays_stuck (Lost seq cause ∷ ps) e = absurd cc
-
-pub leaves_stuck : (c : ConnId) (ps : List Parked) → may_leave ps ≡ false → leaves_of c ps ≡ []
-leaves_stuck c [] e = refl
-leaves_stuck c (Waits x ∷ ps) e = refl
-leaves_stuck c (Free delivery ∷ ps) e = absurd cc
-leaves_stuck c (Lost seq cause ∷ ps) e = absurd cc
-
-abbrev waiting : List QueueView → List QueueView
-waiting qs = filter (λ q. not (may_leave q.parked)) qs
-
-abbrev going : List QueueView → List QueueView
-going qs = map stays_in (filter (λ q. may_leave q.parked) qs)
-
-pub parked-served : (c : ConnId) (qs : List QueueView) → how_many c qs ≤ 1 → parked_of c (served qs) ≡ stays_of (parked_of c qs)
-parked-served c [] h = refl
-parked-served c (q ∷ qs) h = by_tests (may_leave q.parked) (is_of c q) refl refl h (parked-served c qs)
+pub parked-served : (c : ConnId) (qs : List QueueView) → parked_of c (served qs) ≡ stays_of (parked_of c qs)
+parked-served c [] = refl
+parked-served c (q ∷ qs) = by_test (is_of c q) (parked-served c qs)
   where
-    by_tests : (l m : Bool) → may_leave q.parked ≡ l → is_of c q ≡ m → plus (how_many c qs) m ≤ 1 → (how_many c qs ≤ 1 → parked_of c (waiting qs ++ going qs) ≡ stays_of (parked_of c qs)) → parked_of c (cond (not l) (q ∷ waiting qs) (waiting qs) ++ map stays_in (cond l (q ∷ filter (λ q. may_leave q.parked) qs) (filter (λ q. may_leave q.parked) qs))) ≡ stays_of (cond m q.parked (parked_of c qs))
-    by_tests false true l m h rest = rw m (sym (stays_stuck q.parked l))
-    by_tests false false l m h rest = rw m (rest h)
-    by_tests true true l m h rest = (let few : how_many c (waiting qs) ≡ 0 = omega (arith, h, how_many-split c (λ q. may_leave q.parked) qs) in parked-append c (waiting qs) (stays_in q ∷ going qs) (shut_none c (waiting qs) few) ∙ rw m refl)
-    by_tests true false l m h rest = parked-insert c (waiting qs) (going qs) (stays_in q) m ∙ rest h
+    by_test : (b : Bool) → parked_of c (served qs) ≡ stays_of (parked_of c qs) → cond b (stays_of q.parked) (parked_of c (served qs)) ≡ stays_of (cond b q.parked (parked_of c qs))
+    by_test true e = refl
+    by_test false e = e
 
 -- ---- queues in another order
 
@@ -298,26 +281,8 @@ single-in_order hashes qs a c = subst (λ (n : ℕ). n ≤ 1) (sym (how_many-in_
 
 -- ---- what leaves
 
--- what is parked here is of this connection
-abbrev pub IsMine : ConnId → Parked → Type 0
-IsMine c (Waits x) = x.conn ≡ c
-IsMine c (Free delivery) = delivery.conn ≡ c
-IsMine c (Lost seq cause) = Unit {0}
-
 abbrev pub AreMine : QueueView → Type 0
 AreMine q = AllByRecursion (IsMine q.conn) q.parked
-
-pub marks-leaves : (c : ConnId) (ps : List Parked) → AllByRecursion (IsMine c) ps → marks_of c (leaves_of c ps) ++ map parked_mark (stays_of ps) ≡ map parked_mark ps
-marks-leaves c [] a = refl
-marks-leaves c (Waits x ∷ ps) a = refl
-marks-leaves c (Free delivery ∷ ps) a = (let same : same_conn delivery.conn c ≡ true = rw a.0 (same_conn-refl c) in rw same (ap (λ ms. number delivery.seq.0 ∷ ms) (marks-leaves c ps a.1)))
-marks-leaves c (Lost seq cause ∷ ps) a = rw (same_conn-refl c) (ap (λ ms. number seq.0 ∷ ms) (marks-leaves c ps a.1))
-
-pub marks-leaves_other : (c d : ConnId) (ps : List Parked) → same_conn c d ≡ false → AllByRecursion (IsMine c) ps → marks_of d (leaves_of c ps) ≡ []
-marks-leaves_other c d [] o a = refl
-marks-leaves_other c d (Waits x ∷ ps) o a = refl
-marks-leaves_other c d (Free delivery ∷ ps) o a = (let other : same_conn delivery.conn d ≡ false = subst (λ (e : ConnId). same_conn e d ≡ false) (sym a.0) o in rw other (marks-leaves_other c d ps o a.1))
-marks-leaves_other c d (Lost seq cause ∷ ps) o a = rw o (marks-leaves_other c d ps o a.1)
 
 pub marks_of-append : (c : ConnId) (xs ys : List Ready) → marks_of c (xs ++ ys) ≡ marks_of c xs ++ marks_of c ys
 marks_of-append c xs ys = flat-append (ready_mark c) xs ys
@@ -328,18 +293,18 @@ marks-leaving_none c (q ∷ qs) h a = by_test (is_of c q) refl h (λ k. marks-le
   where
     by_test : (b : Bool) → is_of c q ≡ b → plus (how_many c qs) b ≡ 0 → (how_many c qs ≡ 0 → marks_of c (leaving_of qs) ≡ []) → marks_of c (leaves_in q ++ leaving_of qs) ≡ []
     by_test true k h rest = absurd (omega (arith, h))
-    by_test false k h rest = marks_of-append c (leaves_in q) (leaving_of qs) ∙ ap (λ ms. ms ++ marks_of c (leaving_of qs)) (marks-leaves_other q.conn c q.parked k a.0) ∙ rest h
+    by_test false k h rest = marks_of-append c (leaves_in q) (leaving_of qs) ∙ ap (λ ms. ms ++ marks_of c (leaving_of qs)) (leaves-other q.conn c [] q.parked k a.0) ∙ rest h
 
-pub marks-leaving : (c : ConnId) (qs : List QueueView) → how_many c qs ≤ 1 → AllByRecursion AreMine qs → marks_of c (leaving_of qs) ++ map parked_mark (stays_of (parked_of c qs)) ≡ map parked_mark (parked_of c qs)
-marks-leaving c [] h a = refl
-marks-leaving c (q ∷ qs) h a = by_test (is_of c q) refl h (λ k. marks-leaving c qs k a.1)
+pub marks-leaving : (slots : ℕ → ℕ) (s : ℕ) (c : ConnId) (qs : List QueueView) → how_many c qs ≤ 1 → AllByRecursion AreMine qs → AllByRecursion (HasLane slots) (parked_of c qs) → in_lane slots s (marks_of c (leaving_of qs)) ++ in_lane slots s (map parked_mark (stays_of (parked_of c qs))) ≡ in_lane slots s (map parked_mark (parked_of c qs))
+marks-leaving slots s c [] h a l = refl
+marks-leaving slots s c (q ∷ qs) h a l = by_test (is_of c q) refl h l (λ k. marks-leaving slots s c qs k a.1)
   where
-    by_test : (b : Bool) → is_of c q ≡ b → plus (how_many c qs) b ≤ 1 → (how_many c qs ≤ 1 → marks_of c (leaving_of qs) ++ map parked_mark (stays_of (parked_of c qs)) ≡ map parked_mark (parked_of c qs)) → marks_of c (leaves_in q ++ leaving_of qs) ++ map parked_mark (stays_of (cond b q.parked (parked_of c qs))) ≡ map parked_mark (cond b q.parked (parked_of c qs))
-    by_test true k h rest =
+    by_test : (b : Bool) → is_of c q ≡ b → plus (how_many c qs) b ≤ 1 → AllByRecursion (HasLane slots) (cond b q.parked (parked_of c qs)) → (how_many c qs ≤ 1 → AllByRecursion (HasLane slots) (parked_of c qs) → in_lane slots s (marks_of c (leaving_of qs)) ++ in_lane slots s (map parked_mark (stays_of (parked_of c qs))) ≡ in_lane slots s (map parked_mark (parked_of c qs))) → in_lane slots s (marks_of c (leaves_in q ++ leaving_of qs)) ++ in_lane slots s (map parked_mark (stays_of (cond b q.parked (parked_of c qs)))) ≡ in_lane slots s (map parked_mark (cond b q.parked (parked_of c qs)))
+    by_test true k h l rest =
         let same : q.conn ≡ c = same_conn-true q.conn c k in
         let none : marks_of c (leaving_of qs) ≡ [] = marks-leaving_none c qs (omega (arith, h)) a.1 in
-        ap (λ ms. ms ++ map parked_mark (stays_of q.parked)) (marks_of-append c (leaves_in q) (leaving_of qs) ∙ ap (λ ms. marks_of c (leaves_in q) ++ ms) none ∙ append_nil (marks_of c (leaves_in q)))
-        ∙ subst (λ (d : ConnId). marks_of d (leaves_of q.conn q.parked) ++ map parked_mark (stays_of q.parked) ≡ map parked_mark q.parked) same (marks-leaves q.conn q.parked a.0)
-    by_test false k h rest =
-        ap (λ ms. ms ++ map parked_mark (stays_of (parked_of c qs))) (marks_of-append c (leaves_in q) (leaving_of qs) ∙ ap (λ ms. ms ++ marks_of c (leaving_of qs)) (marks-leaves_other q.conn c q.parked k a.0))
-        ∙ rest h
+        ap (λ ms. in_lane slots s ms ++ in_lane slots s (map parked_mark (stays_of q.parked))) (marks_of-append c (leaves_in q) (leaving_of qs) ∙ ap (λ ms. marks_of c (leaves_in q) ++ ms) none ∙ append_nil (marks_of c (leaves_in q)))
+        ∙ subst (λ (d : ConnId). in_lane slots s (marks_of d (leaves_of q.conn q.parked)) ++ in_lane slots s (map parked_mark (stays_of q.parked)) ≡ in_lane slots s (map parked_mark q.parked)) same (lane_apart slots q.conn s [] q.parked refl a.0 l)
+    by_test false k h l rest =
+        ap (λ ms. in_lane slots s ms ++ in_lane slots s (map parked_mark (stays_of (parked_of c qs)))) (marks_of-append c (leaves_in q) (leaving_of qs) ∙ ap (λ ms. ms ++ marks_of c (leaving_of qs)) (leaves-other q.conn c [] q.parked k a.0))
+        ∙ rest h l

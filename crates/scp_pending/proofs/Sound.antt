@@ -31,15 +31,16 @@ use Rattle.scp_pending.specs.Sanity.{is_sane, has_spelling, sane_of_test}
 use Rattle.scp_fetch.specs.Hashes.{same_hash}
 use Rattle.scp_fetch.specs.Wants.{is_for, is_wanted, waits_besides, leave, left_by, ask, new_want, wanted_by, unask, unasked, is_missed, is_last, count_miss, missed_by, last_missed, without, gives_up}
 use Rattle.scp_fetch.specs.Store.{StoreView, lookup, pushed, stored}
-use Rattle.scp_pending.specs.Queues.{QueueView, is_of, is_open, is_link_open, parked_of, others, changed, with_parked, parked_in, is_empty, may_leave, leaves_of, served, leaving_of, in_order_of, named, is_hash, hash_of, waits_for, is_waiting, resolved, with_set, lost_by, dropped}
-use Rattle.scp_pending.specs.Rules.{Settled, settled_by, released_by, rules, releases, opens, opened, closed_off, entering_by, entering, found, is_full, goes_through, wanted_named, wanted_with, parks, enters, brings, brought, by_answer, answered, is_answer, is_given_up, gives_up_one, missed_one, missed_all, hears, heard_out, link_number, link_of, fresh}
+use Rattle.scp_pending.specs.Queues.{QueueView, is_of, is_open, is_link_open, parked_of, others, changed, with_parked, parked_in, is_empty, is_held, fate, leaves_of, served, leaving_of, in_order_of, named, is_hash, hash_of, waits_for, is_waiting, resolved, with_set, lost_by, dropped}
+use Rattle.scp_pending.specs.Rules.{Settled, settled_by, released_by, rules, releases, opens, opened, closed_off, entering_by, entering, found, is_full, overflows, goes_through, wanted_named, wanted_with, parks, enters, brings, brought, by_answer, answered, is_answer, is_given_up, gives_up_one, missed_one, missed_all, hears, heard_out, link_number, link_of, fresh}
 use Rattle.scp_pending.specs.Causes.{is_set, is_miss, plus, Place, IsMissed, HasCause}
 use Rattle.scp_pending.proofs.Basics.{append_nil, clash, or_none, or_left, or_right, and_both, not_false, same_hash-true, same_hash-sym, same_conn-true, all_step, all_weaker, all_append, all_left, all_both, all_kept, all_filter}
 use Rattle.scp_pending.proofs.Later.{settled-push, IsMissed-later, HasCause-later}
 use Rattle.scp_pending.proofs.Wanting.{AtLeast, wanted-map, ask-hash, ask-misses, count-hash, count-misses, wanted_by-other, is_for-true, least-map, least-wanted_by, none_wanted, few_missed}
 use Rattle.scp_pending.proofs.Serving.{how_many, AreSingle, how_many-append, how_many-map, how_many-served, how_many-parked_in, none_shut, others_few, all_in_order, single-in_order}
 use Rattle.scp_pending.proofs.Listing.{AreListed, StandsElse, others_else, still_left, listed_step}
-use Rattle.scp_pending.proofs.Standing.{Stands, AllStand, Fits, FitsButHead, Keeps, IsWant, stays, quiet, new_stands, answer_stands, miss_stands, keeps_missed, gives_up_other, served_fit, resolved_fit, leaves_caused}
+use Rattle.scp_pending.proofs.Standing.{Stands, AllStand, Fits, FitsButHead, Keeps, IsWant, stays, quiet, new_stands, answer_stands, miss_stands, keeps_missed, gives_up_other, served_fit, resolved_fit, fate_caused}
+use Rattle.scp_pending.proofs.Laning.{held-push}
 
 -- ---- each connection has at most one queue
 
@@ -86,7 +87,7 @@ single_step s (inbound.Opened d) a = by_test (opens d s) refl
     by_test : (b : Bool) → opens d s ≡ b → AreSingle (cond b (opened d s) s).queues
     by_test true e = opened_single d s.queues (single_open d s e) a
     by_test false e = a
-single_step s (inbound.Carried x) a = by_tests (is_open x.conn s.queues) (is_full x.conn s.queues) refl
+single_step s (inbound.Carried x) a = by_tests (is_open x.conn s.queues) (overflows x.conn (entering s.store x) s.queues) refl
   where
     by_tests : (o f : Bool) → is_open x.conn s.queues ≡ o → AreSingle (cond o (cond f (closed_off x.conn s) (enters x (entering s.store x) s)) s).queues
     by_tests true true e = closed_single x.conn s a
@@ -144,7 +145,7 @@ stored_sane set store sane k = by_there (is_some (lookup (hash_of set) store))
 -- a fact of the store that a sane set more keeps
 pub store_step : (P : StoreView → Type 0) (s : Settled) (item : Inbound) → ((set : QuorumTree) → IsSane set → P s.store → P (stored set s.store)) → P s.store → P (rules s item).store
 store_step P s (inbound.Opened d) more k = elim (opens d s) as (λ b. P (cond b (opened d s) s).store) [ true ↦ k | false ↦ k ]
-store_step P s (inbound.Carried x) more k = by_tests (is_open x.conn s.queues) (is_full x.conn s.queues) (goes_through x.conn (entering s.store x) s.queues)
+store_step P s (inbound.Carried x) more k = by_tests (is_open x.conn s.queues) (overflows x.conn (entering s.store x) s.queues) (goes_through x.conn (entering s.store x) s.queues)
   where
     by_tests : (o f g : Bool) → P (cond o (cond f (closed_off x.conn s) (cond g s (parks x (entering s.store x) s))) s).store
     by_tests true true g = k
@@ -224,33 +225,41 @@ closed_fit start taken s c item e single listed k a = all_both (Fits start taken
     }
 
 -- a message is parked behind others
-changed_fit : (start : Settled) (taken : List Inbound) (wanted : List Want) (c : ConnId) (p : Parked) (qs : List QueueView) → is_empty (parked_of c qs) ≡ false → nat_lt 63 (length (parked_of c qs)) ≡ false → Stands start taken wanted c p → AllByRecursion (Fits start taken wanted) qs → AllByRecursion (Fits start taken wanted) (changed c (with_parked p) qs)
-changed_fit start taken wanted c p [] some few w a = tt
-changed_fit start taken wanted c p (q ∷ qs) some few w a = by_test (is_of c q) refl some few (λ e f. changed_fit start taken wanted c p qs e f w a.1)
+changed_fit : (start : Settled) (taken : List Inbound) (wanted : List Want) (c : ConnId) (p : Parked) (qs : List QueueView) → is_held (parked_of c qs) p ≡ true → nat_lt 63 (length (parked_of c qs)) ≡ false → Stands start taken wanted c p → AllByRecursion (Fits start taken wanted) qs → AllByRecursion (Fits start taken wanted) (changed c (with_parked p) qs)
+changed_fit start taken wanted c p [] held few w a = tt
+changed_fit start taken wanted c p (q ∷ qs) held few w a = by_test (is_of c q) refl held few (λ e f. changed_fit start taken wanted c p qs e f w a.1)
   where
-    head : (ps : List Parked) → is_empty ps ≡ false → may_leave ps ≡ false → may_leave (ps ++ p ∷ []) ≡ false
-    head [] e h = absurd cc
-    head (Waits x ∷ ps) e h = refl
-    head (Free d ∷ ps) e h = absurd cc
-    head (Lost seq cause ∷ ps) e h = absurd cc
-
-    by_test : (b : Bool) → is_of c q ≡ b → is_empty (cond b q.parked (parked_of c qs)) ≡ false → nat_lt 63 (length (cond b q.parked (parked_of c qs))) ≡ false → (is_empty (parked_of c qs) ≡ false → nat_lt 63 (length (parked_of c qs)) ≡ false → AllByRecursion (Fits start taken wanted) (changed c (with_parked p) qs)) → AllByRecursion (Fits start taken wanted) (cond b (with_parked p q ∷ qs) (q ∷ changed c (with_parked p) qs))
-    by_test true k some few rest = (
+    by_test : (b : Bool) → is_of c q ≡ b → is_held (cond b q.parked (parked_of c qs)) p ≡ true → nat_lt 63 (length (cond b q.parked (parked_of c qs))) ≡ false → (is_held (parked_of c qs) p ≡ true → nat_lt 63 (length (parked_of c qs)) ≡ false → AllByRecursion (Fits start taken wanted) (changed c (with_parked p) qs)) → AllByRecursion (Fits start taken wanted) (cond b (with_parked p q ∷ qs) (q ∷ changed c (with_parked p) qs))
+    by_test true k held few rest = (
       record {
-        waits = head q.parked some a.0.waits;
+        waits = held-push [] q.parked p a.0.waits held;
         few = omega (arith, length-append q.parked (p ∷ []), ltb-false 63 (length q.parked) few);
         stands = all_append (Stands start taken wanted q.conn) q.parked (p ∷ []) a.0.stands (subst (λ (d : ConnId). Stands start taken wanted d p) (sym (same_conn-true q.conn c k)) w, tt);
       },
       a.1,
     )
-    by_test false k some few rest = (a.0, rest some few)
+    by_test false k held few rest = (a.0, rest held few)
+
+held_of : (b : Bool) → not b ≡ false → b ≡ true
+held_of true e = refl
+held_of false e = absurd cc
+
+-- where it doesn't go through, and not too many are parked
+few_of_flow : (f g : Bool) → (f && not g) ≡ false → g ≡ false → f ≡ false
+few_of_flow false g e h = refl
+few_of_flow true false e h = absurd cc
+few_of_flow true true e h = absurd cc
 
 entered_fit : (start : Settled) (taken : List Inbound) (wanted : List Want) (c : ConnId) (p : Parked) (qs : List QueueView) → goes_through c p qs ≡ false → nat_lt 63 (length (parked_of c qs)) ≡ false → Stands start taken wanted c p → AllByRecursion (Fits start taken wanted) qs → AllByRecursion (Fits start taken wanted) (parked_in c p qs)
-entered_fit start taken wanted c p qs through few w a = by_test (is_empty (parked_of c qs)) refl through
+entered_fit start taken wanted c p qs through few w a = by_test (is_empty (parked_of c qs)) refl (held_of (is_held (parked_of c qs) p) through)
   where
-    by_test : (b : Bool) → is_empty (parked_of c qs) ≡ b → (b && may_leave (p ∷ [])) ≡ false → AllByRecursion (Fits start taken wanted) (cond b (others c qs ++ record { conn = c; parked = p ∷ [] } ∷ []) (changed c (with_parked p) qs))
-    by_test true e t = all_append (Fits start taken wanted) (others c qs) (record { conn = c; parked = p ∷ [] } ∷ []) (all_others (Fits start taken wanted) c qs a) (record { waits = t; few = omega arith; stands = (w, tt) }, tt)
-    by_test false e t = changed_fit start taken wanted c p qs e few w a
+    nil_of : (ps : List Parked) → is_empty ps ≡ true → ps ≡ []
+    nil_of [] e = refl
+    nil_of (q ∷ qs) e = absurd cc
+
+    by_test : (b : Bool) → is_empty (parked_of c qs) ≡ b → is_held (parked_of c qs) p ≡ true → AllByRecursion (Fits start taken wanted) (cond b (others c qs ++ record { conn = c; parked = p ∷ [] } ∷ []) (changed c (with_parked p) qs))
+    by_test true e h = all_append (Fits start taken wanted) (others c qs) (record { conn = c; parked = p ∷ [] } ∷ []) (all_others (Fits start taken wanted) c qs a) (record { waits = (subst (λ (ps : List Parked). is_held ps p ≡ true) (nil_of (parked_of c qs) e) h, tt); few = omega arith; stands = (w, tt) }, tt)
+    by_test false e h = changed_fit start taken wanted c p qs h few w a
 
 -- nothing waits for a hash that isn't wanted
 pub nothing_waits : (start : Settled) (taken : List Inbound) (wanted : List Want) (hash : Hash) (c : ConnId) (qs : List QueueView) → is_wanted hash wanted ≡ false → AllByRecursion (Fits start taken wanted) qs → is_waiting c hash qs ≡ false
@@ -264,7 +273,7 @@ nothing_waits start taken wanted hash c (q ∷ qs) un a = by_test (is_of c q) (n
         by_same true k = clash (is_wanted hash wanted) (subst (λ (h : Hash). is_wanted h wanted ≡ true) (sym (same_hash-true hash w.1.hash k)) w.1.wanted_still) un
         by_same false k = ap (is_hash hash) w.1.waiting.names ∙ k
     one (Free d) w = refl
-    one (Lost seq cause) w = refl
+    one (Lost slot seq cause) w = refl
 
     none : (ps : List Parked) → AllByRecursion (Stands start taken wanted q.conn) ps → list_any (waits_for hash) ps ≡ false
     none [] b = refl
@@ -289,9 +298,9 @@ pub fits_step : (start : Settled) (taken : List Inbound) (s : Settled) (item : I
 fits_step start taken s (inbound.Opened d) e sane single ws listed a = by_test (opens d s)
   where
     by_test : (b : Bool) → StepFits start taken (cond b (opened d s) s) (inbound.Opened d) []
-    by_test true = (all_append (Fits start (taken ++ inbound.Opened d ∷ []) (unasked (link_number d.from s) s.wanted)) s.queues (record { conn = d; parked = [] } ∷ []) (quiet start taken s (unasked (link_number d.from s) s.wanted) (inbound.Opened d) s.queues e (λ hash is. (refl, wanted-map (unask (link_number d.from s)) (λ w. refl) hash s.wanted ∙ is, λ n l. least-map (unask (link_number d.from s)) (λ w. refl) (λ w. refl) n hash s.wanted l)) a) (record { waits = refl; few = omega arith; stands = tt }, tt), tt)
+    by_test true = (all_append (Fits start (taken ++ inbound.Opened d ∷ []) (unasked (link_number d.from s) s.wanted)) s.queues (record { conn = d; parked = [] } ∷ []) (quiet start taken s (unasked (link_number d.from s) s.wanted) (inbound.Opened d) s.queues e (λ hash is. (refl, wanted-map (unask (link_number d.from s)) (λ w. refl) hash s.wanted ∙ is, λ n l. least-map (unask (link_number d.from s)) (λ w. refl) (λ w. refl) n hash s.wanted l)) a) (record { waits = tt; few = omega arith; stands = tt }, tt), tt)
     by_test false = (quiet start taken s s.wanted (inbound.Opened d) s.queues e (λ hash is. (refl, is, λ n l. l)) a, tt)
-fits_step start taken s (inbound.Carried x) e sane single ws listed a = by_tests (is_open x.conn s.queues) (is_full x.conn s.queues) (goes_through x.conn p s.queues) refl refl refl
+fits_step start taken s (inbound.Carried x) e sane single ws listed a = by_tests (is_open x.conn s.queues) (overflows x.conn (entering s.store x) s.queues) (goes_through x.conn p s.queues) refl refl refl
   where
     item : Inbound
     item = inbound.Carried x
@@ -305,10 +314,10 @@ fits_step start taken s (inbound.Carried x) e sane single ws listed a = by_tests
     still : AllByRecursion (Fits start (taken ++ item ∷ []) s.wanted) s.queues
     still = quiet start taken s s.wanted item s.queues e (λ hash is. (refl, is, λ n l. l)) a
 
-    by_tests : (o f g : Bool) → is_open x.conn s.queues ≡ o → is_full x.conn s.queues ≡ f → goes_through x.conn p s.queues ≡ g → StepFits start taken (cond o (cond f (closed_off x.conn s) (cond g s (parks x p s))) s) item (cond o (cond f (map (dropped x.conn ByFull) (parked_of x.conn s.queues) ++ Dropped x.conn x.seq ByFull ∷ Closed x.conn ParkedFull ∷ []) (cond g (leaves_of x.conn (p ∷ [])) [])) [])
+    by_tests : (o f g : Bool) → is_open x.conn s.queues ≡ o → overflows x.conn p s.queues ≡ f → goes_through x.conn p s.queues ≡ g → StepFits start taken (cond o (cond f (closed_off x.conn s) (cond g s (parks x p s))) s) item (cond o (cond f (map (dropped x.conn ByFull) (parked_of x.conn s.queues) ++ Dropped x.conn x.seq ByFull ∷ Closed x.conn ParkedFull ∷ []) (cond g (fate x.conn p) [])) [])
     by_tests true true g o f t = (closed_fit start taken s x.conn item e single listed (λ hash. (refl, refl)) a, all_dropped start (taken ++ item ∷ []) x.conn ByFull (parked_of x.conn s.queues) (Dropped x.conn x.seq ByFull ∷ Closed x.conn ParkedFull ∷ []) (λ seq. tt) (tt, (tt, tt)))
-    by_tests true false true o f t = (still, leaves_caused start (taken ++ item ∷ []) (wanted_with link x.conn p s.wanted) x.conn (p ∷ []) (new_stands start taken s link x e sane.0 sane.1 o, tt))
-    by_tests true false false o f t = (entered_fit start (taken ++ item ∷ []) (wanted_with link x.conn p s.wanted) x.conn p s.queues t f (new_stands start taken s link x e sane.0 sane.1 o) (quiet start taken s (wanted_with link x.conn p s.wanted) item s.queues e (λ hash is. (refl, wants_named hash link x.conn _ s.wanted is, λ n l. least_named hash link x.conn n _ s.wanted is l)) a), tt)
+    by_tests true false true o f t = (still, fate_caused start (taken ++ item ∷ []) (wanted_with link x.conn p s.wanted) x.conn p (new_stands start taken s link x e sane.0 sane.1 o))
+    by_tests true false false o f t = (entered_fit start (taken ++ item ∷ []) (wanted_with link x.conn p s.wanted) x.conn p s.queues t (few_of_flow (is_full x.conn s.queues) (goes_through x.conn p s.queues) f t) (new_stands start taken s link x e sane.0 sane.1 o) (quiet start taken s (wanted_with link x.conn p s.wanted) item s.queues e (λ hash is. (refl, wants_named hash link x.conn _ s.wanted is, λ n l. least_named hash link x.conn n _ s.wanted is l)) a), tt)
     by_tests false f g o h t = (still, tt)
 fits_step start taken s (inbound.Side d (GetSet h)) e sane single ws listed a = elim (is_open d s.queues) as (λ b. StepFits start taken (cond b s s) (inbound.Side d (GetSet h)) (cond b [] [])) [ true ↦ (quiet start taken s s.wanted (inbound.Side d (GetSet h)) s.queues e (λ hash is. (refl, is, λ n l. l)) a, tt) | false ↦ (quiet start taken s s.wanted (inbound.Side d (GetSet h)) s.queues e (λ hash is. (refl, is, λ n l. l)) a, tt) ]
 fits_step start taken s (inbound.Side d (Set set)) e sane single ws listed a = by_tests (is_open d s.queues) (has_spelling set) (is_wanted (hash_of set) s.wanted) refl refl refl
@@ -388,7 +397,7 @@ wants_step start taken s (inbound.Opened d) e a = by_test (opens d s)
     by_test : (b : Bool) → AllByRecursion (IsWant start (taken ++ inbound.Opened d ∷ [])) (cond b (opened d s) s).wanted
     by_test true = wants_map start (taken ++ inbound.Opened d ∷ []) (unask (link_number d.from s)) (λ w. refl) (λ w. refl) s.wanted (wants_later start taken s (inbound.Opened d) e (λ h. (refl, refl)) a)
     by_test false = wants_later start taken s (inbound.Opened d) e (λ h. (refl, refl)) a
-wants_step start taken s (inbound.Carried x) e a = by_tests (is_open x.conn s.queues) (is_full x.conn s.queues) (goes_through x.conn (entering s.store x) s.queues) refl
+wants_step start taken s (inbound.Carried x) e a = by_tests (is_open x.conn s.queues) (overflows x.conn (entering s.store x) s.queues) (goes_through x.conn (entering s.store x) s.queues) refl
   where
     item : Inbound
     item = inbound.Carried x

@@ -7,6 +7,7 @@ use Rattle.std.proofs.lemmas.List.{length-append}
 use Rattle.scp_types.specs.declared.names.ConnId.{ConnId}
 use Rattle.scp_types.specs.declared.names.Hash.{Hash}
 use Rattle.scp_types.specs.declared.names.Seq.{Seq}
+use Rattle.scp_types.specs.declared.names.Slot.{Slot}
 use Rattle.scp_quorum.specs.QuorumTree.{QuorumTree}
 use Rattle.scp_quorum.specs.QuorumKind.{set_hash}
 use Rattle.scp_quorum.specs.Sane.{IsSane}
@@ -31,19 +32,30 @@ use Rattle.scp_pending.specs.Sanity.{is_sane, has_spelling, sane_of_test}
 use Rattle.scp_fetch.specs.Hashes.{same_hash}
 use Rattle.scp_fetch.specs.Wants.{is_for, is_wanted, is_missed, is_last, missed_by, without, gives_up}
 use Rattle.scp_fetch.specs.Store.{StoreView, has_hash, lookup}
-use Rattle.scp_pending.specs.Queues.{QueueView, is_open, parked_of, may_leave, leaves_of, stays_of, stays_in, served, leaves_in, leaving_of, named, is_hash, hash_of, waits_for, resolved_one, resolved_in, resolved, with_set, lost_by}
+use Rattle.scp_pending.specs.Queues.{QueueView, is_open, is_of, parked_of, waits, at_slot, fate, leaves_of, stays_of, stays_in, served, leaves_in, leaving_of, named, is_hash, hash_of, waits_for, resolved_one, resolved_in, resolved, with_set, lost_by}
 use Rattle.scp_pending.specs.Rules.{Settled, settled_by, entering_by, entering, found, wanted_named, wanted_with, by_answer, is_given_up}
 use Rattle.scp_pending.specs.Causes.{is_set, is_bad, is_miss, has, plus, times, Place, behind, Waiting, misses_since, IsWaiting, IsTaken, IsBadSet, IsMissed, IsGivenUp, HasCause, HeadWaits}
-use Rattle.scp_pending.proofs.Basics.{append_nil, clash, or_none, or_right, and_both, not_false, same_hash-refl, same_hash-true, same_hash-sym, all_step, all_weaker, all_append, all_kept, all_filter, all_flat}
+use Rattle.scp_pending.proofs.Basics.{append_nil, clash, or_none, or_right, and_both, not_false, same_hash-refl, same_hash-true, same_hash-sym, same_conn-refl, same_conn-true, all_step, all_weaker, all_left, all_append, all_kept, all_filter, all_flat}
 use Rattle.scp_pending.proofs.Later.{later, has-later, times-later, Waiting-later, IsTaken-later, IsBadSet-later, IsMissed-later, IsGivenUp-later}
 use Rattle.scp_pending.proofs.Wanting.{AtLeast, zero_least, wanted_by-own, is_for-true, wanted-without, wanted-missed, least-missed, few_of, one_of}
-use Rattle.scp_pending.proofs.Serving.{IsMine, AreMine, stays_stuck}
+use Rattle.scp_wire.specs.Connections.{same_conn}
+use Rattle.scp_wire.specs.Lanes.{slot_of, HasSlot, HaveSlots}
+use Rattle.scp_pending.proofs.Laning.{HasLane, AreHeld, stays_held, stays_few, stays_all, leaves_all, FirstIs, first_waits}
+use Rattle.scp_pending.proofs.Serving.{IsMine, AreMine}
 
 pub record WaitsWell (start : Settled) (taken : List Inbound) (wanted : List Want) (x : Carried) : Type 0 where
   pub hash : Hash
   pub waiting : Waiting start taken x hash
   pub wanted_still : is_wanted hash wanted ≡ true
   pub least : AtLeast (misses_since waiting) hash wanted
+
+-- a lost message was taken, and named this slot
+pub record WasTaken (start : Settled) (taken : List Inbound) (c : ConnId) (slot : Slot) (seq : Seq) : Type 0 where
+  pub x : Carried
+  pub place : Place start taken x
+  pub conn : x.conn ≡ c
+  pub seq_is : x.seq ≡ seq
+  pub slot_is : slot_of x.message ≡ slot.0
 
 abbrev pub StandsLost : Settled → List Inbound → ConnId → Seq → DropCause → Type 0
 StandsLost start taken c seq BadSet = IsBadSet start taken c seq
@@ -54,7 +66,7 @@ StandsLost start taken c seq ByFull = ⊥
 abbrev pub Stands : Settled → List Inbound → List Want → ConnId → Parked → Type 0
 Stands start taken wanted c (Waits x) = (x.conn ≡ c) × WaitsWell start taken wanted x
 Stands start taken wanted c (Free d) = (d.conn ≡ c) × IsTaken start taken d
-Stands start taken wanted c (Lost seq cause) = StandsLost start taken c seq cause
+Stands start taken wanted c (Lost slot seq cause) = WasTaken start taken c slot seq × StandsLost start taken c seq cause
 
 abbrev pub AllStand : Settled → List Inbound → List Want → QueueView → Type 0
 AllStand start taken wanted q = AllByRecursion (Stands start taken wanted q.conn) q.parked
@@ -71,6 +83,9 @@ waits_on start taken s wanted wanted' x item e w k = record {
   least = subst (λ (n : ℕ). AtLeast n w.hash wanted') (sym (times-later (is_miss w.hash) start taken s x item w.waiting.place e)) (k.2 (misses_since w.waiting) w.least);
 }
 
+WasTaken-later : (start : Settled) (taken : List Inbound) (item : Inbound) (c : ConnId) (slot : Slot) (seq : Seq) → WasTaken start taken c slot seq → WasTaken start (taken ++ item ∷ []) c slot seq
+WasTaken-later start taken item c slot seq k = record { x = k.x; place = later start taken k.x item k.place; conn = k.conn; seq_is = k.seq_is; slot_is = k.slot_is }
+
 lost_later : (start : Settled) (taken : List Inbound) (s : Settled) (item : Inbound) (c : ConnId) (seq : Seq) (cause : DropCause) → s ≡ settled_by start taken → StandsLost start taken c seq cause → StandsLost start (taken ++ item ∷ []) c seq cause
 lost_later start taken s item c seq BadSet e h = IsBadSet-later start taken s item c seq e h
 lost_later start taken s item c seq GaveUp e h = IsGivenUp-later start taken item c seq h
@@ -84,14 +99,14 @@ waits_named start taken wanted x w = ap (is_hash w.hash) w.waiting.names ∙ sam
 pub stays : (start : Settled) (taken : List Inbound) (s : Settled) (wanted wanted' : List Want) (item : Inbound) (c : ConnId) (p : Parked) → s ≡ settled_by start taken → ((hash : Hash) → waits_for hash p ≡ true → is_wanted hash wanted ≡ true → Keeps s wanted wanted' item hash) → Stands start taken wanted c p → Stands start (taken ++ item ∷ []) wanted' c p
 stays start taken s wanted wanted' item c (Waits x) e k w = (w.0, waits_on start taken s wanted wanted' x item e w.1 (k w.1.hash (waits_named start taken wanted x w.1) w.1.wanted_still))
 stays start taken s wanted wanted' item c (Free d) e k w = (w.0, IsTaken-later start taken item d w.1)
-stays start taken s wanted wanted' item c (Lost seq cause) e k w = lost_later start taken s item c seq cause e w
+stays start taken s wanted wanted' item c (Lost slot seq cause) e k w = (WasTaken-later start taken item c slot seq w.0, lost_later start taken s item c seq cause e w.1)
 
 -- ---- what leaves has its cause, and what stays stands
 
 pub mine_of : (start : Settled) (taken : List Inbound) (wanted : List Want) (c : ConnId) (p : Parked) → Stands start taken wanted c p → IsMine c p
 mine_of start taken wanted c (Waits x) w = w.0
 mine_of start taken wanted c (Free d) w = w.0
-mine_of start taken wanted c (Lost seq cause) w = tt
+mine_of start taken wanted c (Lost slot seq cause) w = tt
 
 lost_cause : (start : Settled) (taken : List Inbound) (c : ConnId) (seq : Seq) (cause : DropCause) → StandsLost start taken c seq cause → HasCause start taken (Dropped c seq cause)
 lost_cause start taken c seq BadSet h = h
@@ -99,33 +114,37 @@ lost_cause start taken c seq GaveUp h = h
 lost_cause start taken c seq ByClose h = absurd h
 lost_cause start taken c seq ByFull h = absurd h
 
+pub fate_caused : (start : Settled) (taken : List Inbound) (wanted : List Want) (c : ConnId) (p : Parked) → Stands start taken wanted c p → AllByRecursion (HasCause start taken) (fate c p)
+fate_caused start taken wanted c (Waits x) w = tt
+fate_caused start taken wanted c (Free d) w = (w.1, tt)
+fate_caused start taken wanted c (Lost slot seq cause) w = (lost_cause start taken c seq cause w.1, tt)
+
 pub leaves_caused : (start : Settled) (taken : List Inbound) (wanted : List Want) (c : ConnId) (ps : List Parked) → AllByRecursion (Stands start taken wanted c) ps → AllByRecursion (HasCause start taken) (leaves_of c ps)
-leaves_caused start taken wanted c [] a = tt
-leaves_caused start taken wanted c (Waits x ∷ ps) a = tt
-leaves_caused start taken wanted c (Free d ∷ ps) a = (a.0.1, leaves_caused start taken wanted c ps a.1)
-leaves_caused start taken wanted c (Lost seq cause ∷ ps) a = (lost_cause start taken c seq cause a.0, leaves_caused start taken wanted c ps a.1)
+leaves_caused start taken wanted c ps a = leaves_all (Stands start taken wanted c) (HasCause start taken) c [] ps (λ p w. fate_caused start taken wanted c p w) a
 
-stays_stand : (P : Parked → Type 0) (ps : List Parked) → AllByRecursion P ps → AllByRecursion P (stays_of ps)
-stays_stand P [] a = tt
-stays_stand P (Waits x ∷ ps) a = a
-stays_stand P (Free d ∷ ps) a = stays_stand P ps a.1
-stays_stand P (Lost seq cause ∷ ps) a = stays_stand P ps a.1
+-- each number is of its lane, by the slots of what was taken
+slot_at : (c : ConnId) (slots : ℕ → ℕ) (before after : List Inbound) (x : Carried) → HaveSlots c slots (before ++ inbound.Carried x ∷ after) → HasSlot c slots (inbound.Carried x)
+slot_at c slots before after x a = (all_left (HasSlot c slots) before (inbound.Carried x ∷ after) a).1.0
 
-stays_wait : (ps : List Parked) → may_leave (stays_of ps) ≡ false
-stays_wait [] = refl
-stays_wait (Waits x ∷ ps) = refl
-stays_wait (Free d ∷ ps) = stays_wait ps
-stays_wait (Lost seq cause ∷ ps) = stays_wait ps
+slot_of_place : (start : Settled) (taken : List Inbound) (c : ConnId) (slots : ℕ → ℕ) (x : Carried) → Place start taken x → x.conn ≡ c → HaveSlots c slots taken → slots x.seq.0 ≡ slot_of x.message
+slot_of_place start taken c slots x place mine a = slot_at c slots place.before place.after x (subst (HaveSlots c slots) place.at a) (ap (λ (d : ConnId). same_conn d c) mine ∙ same_conn-refl c)
 
-stays_few : (ps : List Parked) → length (stays_of ps) ≤ length ps
-stays_few [] = omega arith
-stays_few (Waits x ∷ ps) = omega arith
-stays_few (Free d ∷ ps) = omega (arith, stays_few ps)
-stays_few (Lost seq cause ∷ ps) = omega (arith, stays_few ps)
+lane_one : (start : Settled) (taken : List Inbound) (wanted : List Want) (c : ConnId) (slots : ℕ → ℕ) → HaveSlots c slots taken → (p : Parked) → Stands start taken wanted c p → HasLane slots p
+lane_one start taken wanted c slots a (Waits x) w = slot_of_place start taken c slots x w.1.waiting.place w.0 a
+lane_one start taken wanted c slots a (Free d) w = ap (λ (q : Seq). slots q.0) (sym w.1.seq) ∙ slot_of_place start taken c slots w.1.x w.1.place (w.1.conn ∙ w.0) a ∙ ap slot_of w.1.message
+lane_one start taken wanted c slots a (Lost slot seq cause) w = ap (λ (q : Seq). slots q.0) (sym w.0.seq_is) ∙ slot_of_place start taken c slots w.0.x w.0.place w.0.conn a ∙ w.0.slot_is
 
--- a queue between two takes: its head waits, at most 64 are in it, and all in it stand
+pub lanes_of_queues : (start : Settled) (taken : List Inbound) (wanted : List Want) (c : ConnId) (slots : ℕ → ℕ) (qs : List QueueView) → HaveSlots c slots taken → AllByRecursion (AllStand start taken wanted) qs → AllByRecursion (HasLane slots) (parked_of c qs)
+lanes_of_queues start taken wanted c slots [] h a = tt
+lanes_of_queues start taken wanted c slots (q ∷ qs) h a = by_test (is_of c q) refl (lanes_of_queues start taken wanted c slots qs h a.1)
+  where
+    by_test : (b : Bool) → is_of c q ≡ b → AllByRecursion (HasLane slots) (parked_of c qs) → AllByRecursion (HasLane slots) (cond b q.parked (parked_of c qs))
+    by_test true k rest = all_weaker (Stands start taken wanted c) (HasLane slots) q.parked (λ p w. lane_one start taken wanted c slots h p w) (subst (λ (d : ConnId). AllByRecursion (Stands start taken wanted d) q.parked) (same_conn-true q.conn c k) a.0)
+    by_test false k rest = rest
+
+-- a queue between two takes: each in it is held back, at most 64 are in it, and all in it stand
 pub record Fits (start : Settled) (taken : List Inbound) (wanted : List Want) (q : QueueView) : Type 0 where
-  pub waits : may_leave q.parked ≡ false
+  pub waits : AreHeld [] q.parked
   pub few : length q.parked ≤ 64
   pub stands : AllStand start taken wanted q
 
@@ -136,9 +155,7 @@ pub record FitsButHead (start : Settled) (taken : List Inbound) (wanted : List W
 
 pub served_fit : (start : Settled) (taken : List Inbound) (wanted : List Want) (qs : List QueueView) → AllByRecursion (FitsButHead start taken wanted) qs → AllByRecursion (Fits start taken wanted) (served qs) × AllByRecursion (HasCause start taken) (leaving_of qs)
 served_fit start taken wanted qs a = (
-  all_append (Fits start taken wanted) (filter (λ q. not (may_leave q.parked)) qs) (map stays_in (filter (λ q. may_leave q.parked) qs))
-      (all_kept (FitsButHead start taken wanted) (Fits start taken wanted) (λ q. not (may_leave q.parked)) qs (λ q h e. record { waits = not_false (may_leave q.parked) e; few = h.few; stands = h.stands }) a)
-      (all_step (FitsButHead start taken wanted) (Fits start taken wanted) stays_in (filter (λ q. may_leave q.parked) qs) (λ q h. record { waits = stays_wait q.parked; few = omega (arith, h.few, stays_few q.parked); stands = stays_stand (Stands start taken wanted q.conn) q.parked h.stands }) (all_filter (FitsButHead start taken wanted) (λ q. may_leave q.parked) qs a)),
+  all_step (FitsButHead start taken wanted) (Fits start taken wanted) stays_in qs (λ q h. record { waits = stays_held [] q.parked; few = omega (arith, h.few, stays_few [] q.parked); stands = stays_all (Stands start taken wanted q.conn) [] q.parked h.stands }) a,
   all_flat (FitsButHead start taken wanted) (HasCause start taken) leaves_in qs (λ q h. leaves_caused start taken wanted q.conn q.parked h.stands) a,
 )
 
@@ -216,7 +233,7 @@ new_stands start taken s link y e local sets live = by_named (named y.message) r
 
 pub answer_stands : (start : Settled) (taken : List Inbound) (s : Settled) (d : ConnId) (set : QuorumTree) → s ≡ settled_by start taken → is_open d s.queues ≡ true → has_spelling set ≡ true → (c : ConnId) (p : Parked) → Stands start taken s.wanted c p → Stands start (taken ++ inbound.Side d (Set set) ∷ []) (without (hash_of set) s.wanted) c (resolved_one (is_hash (hash_of set)) (by_answer set) p)
 answer_stands start taken s d set e live spelt c (Free delivery) w = (w.0, IsTaken-later start taken (inbound.Side d (Set set)) delivery w.1)
-answer_stands start taken s d set e live spelt c (Lost seq cause) w = lost_later start taken s (inbound.Side d (Set set)) c seq cause e w
+answer_stands start taken s d set e live spelt c (Lost slot seq cause) w = (WasTaken-later start taken (inbound.Side d (Set set)) c slot seq w.0, lost_later start taken s (inbound.Side d (Set set)) c seq cause e w.1)
 answer_stands start taken s d set e live spelt c (Waits x) w = by_test (is_hash (hash_of set) (named x.message)) refl
   where
     item : Inbound
@@ -229,7 +246,7 @@ answer_stands start taken s d set e live spelt c (Waits x) w = by_test (is_hash 
     has_it true sane same = (w.0, record { x = x; place = later start taken x item w.1.waiting.place; conn = refl; seq = refl; message = refl; set = set_some x.message set (w.1.waiting.names ∙ ap (λ (h : Hash). Some h) (sym same)) (sane_of_test set sane) })
     has_it false sane same =
         let mine : is_bad w.1.hash s item ≡ true = rw (live, spelt, ← same, same_hash-refl (hash_of set), sane) refl in
-        record {
+        (record { x = x; place = later start taken x item w.1.waiting.place; conn = w.0; seq_is = refl; slot_is = refl }, record {
           x = x;
           conn = w.0;
           seq_is = refl;
@@ -237,7 +254,7 @@ answer_stands start taken s d set e live spelt c (Waits x) w = by_test (is_hash 
           names = w.1.waiting.names;
           place = later start taken x item w.1.waiting.place;
           bad = has-later (is_bad w.1.hash) start taken s x item w.1.waiting.place e ∙ or_right (has (is_bad w.1.hash) (behind w.1.waiting.place) w.1.waiting.place.after) (is_bad w.1.hash s item) mine;
-        }
+        })
 
     by_test : (b : Bool) → is_hash (hash_of set) (named x.message) ≡ b → Stands start (taken ++ item ∷ []) (without (hash_of set) s.wanted) c (cond b (by_answer set x) (Waits x))
     by_test true k = has_it (is_sane set) refl (same_hash-true (hash_of set) w.1.hash (as_named true k))
@@ -278,14 +295,14 @@ keeps_missed s miss item hash none hit g is = (none, wanted-missed miss hash s.w
 
 pub miss_stands : (start : Settled) (taken : List Inbound) (s : Settled) (miss : Miss) (item : Inbound) (test : Option Hash → Bool) → s ≡ settled_by start taken → ((hash : Hash) → (is_set hash s item ≡ false) × (is_miss hash s item ≡ is_missed miss hash)) → ((hash : Hash) → is_wanted hash s.wanted ≡ true → test (Some hash) ≡ gives_up miss s.wanted hash) → AllByRecursion (IsWant start taken) s.wanted → (c : ConnId) (p : Parked) → Stands start taken s.wanted c p → Stands start (taken ++ item ∷ []) (missed_by miss s.wanted) c (resolved_one test (lost_by GaveUp) p)
 miss_stands start taken s miss item test e k t ws c (Free delivery) w = (w.0, IsTaken-later start taken item delivery w.1)
-miss_stands start taken s miss item test e k t ws c (Lost seq cause) w = lost_later start taken s item c seq cause e w
+miss_stands start taken s miss item test e k t ws c (Lost slot seq cause) w = (WasTaken-later start taken item c slot seq w.0, lost_later start taken s item c seq cause e w.1)
 miss_stands start taken s miss item test e k t ws c (Waits x) w = by_test (test (named x.message)) refl
   where
     as_named : (b : Bool) → test (named x.message) ≡ b → gives_up miss s.wanted w.1.hash ≡ b
     as_named b h = sym (t w.1.hash w.1.wanted_still) ∙ sym (ap test w.1.waiting.names) ∙ h
 
-    by_test : (b : Bool) → test (named x.message) ≡ b → Stands start (taken ++ item ∷ []) (missed_by miss s.wanted) c (cond b (Lost x.seq GaveUp) (Waits x))
-    by_test true h = given_up_now start taken s miss x item c w.1 w.0 e (k w.1.hash).0 (k w.1.hash).1 (as_named true h) ws
+    by_test : (b : Bool) → test (named x.message) ≡ b → Stands start (taken ++ item ∷ []) (missed_by miss s.wanted) c (cond b (Lost (record { 0 = slot_of x.message }) x.seq GaveUp) (Waits x))
+    by_test true h = (record { x = x; place = later start taken x item w.1.waiting.place; conn = w.0; seq_is = refl; slot_is = refl }, given_up_now start taken s miss x item c w.1 w.0 e (k w.1.hash).0 (k w.1.hash).1 (as_named true h) ws)
     by_test false h = (w.0, waits_on start taken s s.wanted (missed_by miss s.wanted) x item e w.1 (keeps_missed s miss item w.1.hash (k w.1.hash).0 (k w.1.hash).1 (as_named false h) w.1.wanted_still))
 
 -- a miss of one hash gives up no other
@@ -299,12 +316,12 @@ gives_up_other hash other (v ∷ vs) ne = rw (gives_up_other hash other vs ne) (
 
 -- ---- heads
 
--- the head of a queue that fits waits rightly
-pub head_waits : (start : Settled) (taken : List Inbound) (wanted : List Want) → AllByRecursion (IsWant start taken) wanted → (q : QueueView) → Fits start taken wanted q → HeadWaits start taken q.conn q.parked
-head_waits start taken wanted ws q f = by_head q.parked f.waits f.stands
+-- the head of a lane of a queue that fits waits rightly
+pub head_waits : (start : Settled) (taken : List Inbound) (wanted : List Want) → AllByRecursion (IsWant start taken) wanted → (q : QueueView) → Fits start taken wanted q → (s : ℕ) → HeadWaits start taken q.conn (at_slot s q.parked)
+head_waits start taken wanted ws q f s = by_head (at_slot s q.parked) (first_waits (Stands start taken wanted q.conn) s [] q.parked f.waits refl f.stands)
   where
-    by_head : (ps : List Parked) → may_leave ps ≡ false → AllByRecursion (Stands start taken wanted q.conn) ps → HeadWaits start taken q.conn ps
-    by_head [] e a = tt
-    by_head (Waits x ∷ ps) e a = (a.0.0, record { hash = a.0.1.hash; waiting = a.0.1.waiting; patient = few_of (misses_since a.0.1.waiting) a.0.1.hash wanted a.0.1.wanted_still (all_weaker (IsWant start taken) (λ (want : Want). want.misses < 12) wanted (λ want h. h.1) ws) a.0.1.least })
-    by_head (Free d ∷ ps) e a = absurd cc
-    by_head (Lost seq cause ∷ ps) e a = absurd cc
+    by_head : (ps : List Parked) → FirstIs (λ p. Stands start taken wanted q.conn p × (waits p ≡ true)) ps → HeadWaits start taken q.conn ps
+    by_head [] a = tt
+    by_head (Waits x ∷ ps) a = (a.0.0, record { hash = a.0.1.hash; waiting = a.0.1.waiting; patient = few_of (misses_since a.0.1.waiting) a.0.1.hash wanted a.0.1.wanted_still (all_weaker (IsWant start taken) (λ (want : Want). want.misses < 12) wanted (λ want h. h.1) ws) a.0.1.least })
+    by_head (Free d ∷ ps) a = absurd (let bad : false ≡ true = a.1 in cc)
+    by_head (Lost slot seq cause ∷ ps) a = absurd (let bad : false ≡ true = a.1 in cc)

@@ -12,29 +12,30 @@ use Rattle.scp_wire.specs.declared.link.Inbound.{Inbound}
 use Rattle.scp_wire.specs.declared.link.Inbound.TheVariants as inbound
 use Rattle.scp_wire.specs.Connections.{conn_at, same_node, same_conn}
 use Rattle.scp_wire.specs.Shape.{Come, nothing_came, comes, MayCome, AreInOrder, is_from, of_peer}
-use Rattle.scp_wire.specs.Marks.{Mark, number, ended, one_if, came_mark, marks_in, Follows, IsCut, IsWhole}
+use Rattle.scp_wire.specs.Marks.{Mark, number, ended, one_if, came_mark, marks_in, IsCut, IsWhole}
+use Rattle.scp_wire.specs.Lanes.{EndsLast}
 use Rattle.scp_pending.proofs.Basics.{append_nil, clash, fold-append, flat-append, same_node-true, same_node-refl, same_conn-refl, same_conn-true, same_number}
 
--- the numbers from n to m, and no end
-abbrev pub Runs : ℕ → ℕ → List Mark → Type 0
-Runs n m [] = n ≡ m
-Runs n m (number seq ∷ rest) = (seq ≡ n) × Runs (n + 1) m rest
-Runs n m (ended cause ∷ rest) = ⊥
+-- no end
+abbrev pub NoEnd : List Mark → Type 0
+NoEnd [] = Unit {0}
+NoEnd (number seq ∷ rest) = NoEnd rest
+NoEnd (ended cause ∷ rest) = ⊥
 
-Runs-push : (n m : ℕ) (xs : List Mark) → Runs n m xs → Runs n (m + 1) (xs ++ number m ∷ [])
-Runs-push n m [] r = (sym r, ap (λ k. k + 1) r)
-Runs-push n m (number seq ∷ xs) r = (r.0, Runs-push (n + 1) m xs r.1)
-Runs-push n m (ended cause ∷ xs) r = absurd r
+NoEnd-append : (xs ys : List Mark) → NoEnd xs → NoEnd ys → NoEnd (xs ++ ys)
+NoEnd-append [] ys a b = b
+NoEnd-append (number seq ∷ xs) ys a b = NoEnd-append xs ys a b
+NoEnd-append (ended cause ∷ xs) ys a b = absurd a
 
-Runs-follows : (n m : ℕ) (xs : List Mark) → Runs n m xs → Follows n xs
-Runs-follows n m [] r = tt
-Runs-follows n m (number seq ∷ xs) r = (r.0, Runs-follows (n + 1) m xs r.1)
-Runs-follows n m (ended cause ∷ xs) r = absurd r
+NoEnd-last : (xs : List Mark) → NoEnd xs → EndsLast xs
+NoEnd-last [] a = tt
+NoEnd-last (number seq ∷ xs) a = NoEnd-last xs a
+NoEnd-last (ended cause ∷ xs) a = absurd a
 
-Runs-end : (n m : ℕ) (xs : List Mark) (cause : Cause) → Runs n m xs → Follows n (xs ++ ended cause ∷ [])
-Runs-end n m [] cause r = refl
-Runs-end n m (number seq ∷ xs) cause r = (r.0, Runs-end (n + 1) m xs cause r.1)
-Runs-end n m (ended k ∷ xs) cause r = absurd r
+NoEnd-end : (xs : List Mark) (cause : Cause) → NoEnd xs → EndsLast (xs ++ ended cause ∷ [])
+NoEnd-end [] cause a = refl
+NoEnd-end (number seq ∷ xs) cause a = NoEnd-end xs cause a
+NoEnd-end (ended k ∷ xs) cause a = absurd a
 
 -- the line is a prefix of what was sent, ended as ParkedFull
 pub record IsCutHere (sent' line' : List Mark) : Type 0 where
@@ -47,9 +48,9 @@ pub record Told (life : ℕ) (h : Come) (open' : Bool) (sent' line' : List Mark)
   pub later : h.life < life → (sent' ≡ []) × (line' ≡ [])
   pub open_here : open' ≡ true → (h.is_open ≡ true) × (h.life ≡ life) × (line' ≡ sent')
   pub shut_here : open' ≡ false → h.is_open ≡ true → h.life ≡ life → IsCutHere sent' line'
-  pub runs : h.is_open ≡ true → h.life ≡ life → Runs 0 h.next sent'
+  pub runs : h.is_open ≡ true → h.life ≡ life → NoEnd sent'
   pub whole : (line' ≡ sent') ⊎ IsCutHere sent' line'
-  pub follows : Follows 0 line'
+  pub ends : EndsLast line'
 
 -- nothing is said of this connection, and its link stays
 pub told_same : (life : ℕ) (h : Come) (open' new : Bool) (s l s' l' : List Mark) → new ≡ open' → s' ≡ s → l' ≡ l → Told life h open' s l → Told life h new s' l'
@@ -63,7 +64,7 @@ told_other life h h' open' new s l same other still a = record {
   shut_here = λ o r e. absurd (other (sym same ∙ e));
   runs = λ r e. absurd (other (sym same ∙ e));
   whole = a.whole;
-  follows = a.follows;
+  ends = a.ends;
 }
 
 -- the link is opened: this life, or another
@@ -72,53 +73,53 @@ told_opens life h old s l a = record {
   later = λ lt. a.later (omega (arith, lt));
   open_here = λ o. (let e : h.life + 1 ≡ life = eqb-true (h.life + 1) life o in let none = a.later (omega (arith, e)) in (refl, e, none.1 ∙ sym none.0));
   shut_here = λ o r e. absurd (eqb-false (h.life + 1) life o e);
-  runs = λ r e. (let none = a.later (omega (arith, e)) in rw none.0 refl);
+  runs = λ r e. (let none = a.later (omega (arith, e)) in rw none.0 tt);
   whole = a.whole;
-  follows = a.follows;
+  ends = a.ends;
 }
 
--- a message of an open connection
-pub told_number : (life : ℕ) (h : Come) (seq : ℕ) (s l : List Mark) → h.is_open ≡ true → h.life ≡ life → seq ≡ h.next → Told life h true s l → Told life (record h { next = h.next + 1 }) true (s ++ number seq ∷ []) (l ++ number seq ∷ [])
-told_number life h seq s l running same is a =
-    let runs : Runs 0 (h.next + 1) (s ++ number seq ∷ []) = rw is (Runs-push 0 h.next s (a.runs running same)) in
+-- a message of an open connection, in this lane or in another
+pub told_number : (life : ℕ) (h : Come) (one s l : List Mark) → NoEnd one → h.is_open ≡ true → h.life ≡ life → Told life h true s l → Told life (record h { next = h.next + 1 }) true (s ++ one) (l ++ one)
+told_number life h one s l plain running same a =
+    let runs : NoEnd (s ++ one) = NoEnd-append s one (a.runs running same) plain in
     let line : l ≡ s = (a.open_here refl).2 in
     record {
       later = λ lt. absurd (omega (arith, same, lt));
-      open_here = λ o. (running, same, ap (λ ms. ms ++ number seq ∷ []) line);
+      open_here = λ o. (running, same, ap (λ ms. ms ++ one) line);
       shut_here = λ o r e. absurd cc;
       runs = λ r e. runs;
-      whole = inl (ap (λ ms. ms ++ number seq ∷ []) line);
-      follows = rw line (Runs-follows 0 (h.next + 1) _ runs);
+      whole = inl (ap (λ ms. ms ++ one) line);
+      ends = rw line (NoEnd-last (s ++ one) runs);
     }
 
--- the 65th: it and all before it leave, and the connection is cut off
-pub told_cut : (life : ℕ) (h : Come) (seq : ℕ) (s l : List Mark) → h.is_open ≡ true → h.life ≡ life → seq ≡ h.next → Told life h true s l → Told life (record h { next = h.next + 1 }) false (s ++ number seq ∷ []) (l ++ number seq ∷ ended ParkedFull ∷ [])
-told_cut life h seq s l running same is a =
-    let runs : Runs 0 (h.next + 1) (s ++ number seq ∷ []) = rw is (Runs-push 0 h.next s (a.runs running same)) in
+-- the 65th: it and all that is parked leave, and the connection is cut off
+pub told_cut : (life : ℕ) (h : Come) (one s l : List Mark) → NoEnd one → h.is_open ≡ true → h.life ≡ life → Told life h true s l → Told life (record h { next = h.next + 1 }) false (s ++ one) (l ++ (one ++ ended ParkedFull ∷ []))
+told_cut life h one s l plain running same a =
+    let runs : NoEnd (s ++ one) = NoEnd-append s one (a.runs running same) plain in
     let line : l ≡ s = (a.open_here refl).2 in
-    let ends : l ++ number seq ∷ ended ParkedFull ∷ [] ≡ (s ++ number seq ∷ []) ++ ended ParkedFull ∷ [] = ap (λ ms. ms ++ number seq ∷ ended ParkedFull ∷ []) line ∙ sym (append_assoc s (number seq ∷ []) (ended ParkedFull ∷ [])) in
-    let cut : IsCutHere (s ++ number seq ∷ []) (l ++ number seq ∷ ended ParkedFull ∷ []) = record { front = s ++ number seq ∷ []; rest = []; sent_is = sym (append_nil _); line_is = ends } in
+    let ends : l ++ (one ++ ended ParkedFull ∷ []) ≡ (s ++ one) ++ ended ParkedFull ∷ [] = ap (λ ms. ms ++ (one ++ ended ParkedFull ∷ [])) line ∙ sym (append_assoc s one (ended ParkedFull ∷ [])) in
+    let cut : IsCutHere (s ++ one) (l ++ (one ++ ended ParkedFull ∷ [])) = record { front = s ++ one; rest = []; sent_is = sym (append_nil _); line_is = ends } in
     record {
       later = λ lt. absurd (omega (arith, same, lt));
       open_here = λ o. absurd cc;
       shut_here = λ o r e. cut;
       runs = λ r e. runs;
       whole = inr cut;
-      follows = rw ends (Runs-end 0 (h.next + 1) _ ParkedFull runs);
+      ends = rw ends (NoEnd-end (s ++ one) ParkedFull runs);
     }
 
 -- a message that is discarded: its connection was cut off
-pub told_discard : (life : ℕ) (h : Come) (seq : ℕ) (s l : List Mark) → h.is_open ≡ true → h.life ≡ life → seq ≡ h.next → Told life h false s l → Told life (record h { next = h.next + 1 }) false (s ++ number seq ∷ []) l
-told_discard life h seq s l running same is a =
+pub told_discard : (life : ℕ) (h : Come) (one s l : List Mark) → NoEnd one → h.is_open ≡ true → h.life ≡ life → Told life h false s l → Told life (record h { next = h.next + 1 }) false (s ++ one) l
+told_discard life h one s l plain running same a =
     let old = a.shut_here refl running same in
-    let cut : IsCutHere (s ++ number seq ∷ []) l = record { front = old.front; rest = old.rest ++ number seq ∷ []; sent_is = ap (λ ms. ms ++ number seq ∷ []) old.sent_is ∙ append_assoc old.front old.rest (number seq ∷ []); line_is = old.line_is } in
+    let cut : IsCutHere (s ++ one) l = record { front = old.front; rest = old.rest ++ one; sent_is = ap (λ ms. ms ++ one) old.sent_is ∙ append_assoc old.front old.rest one; line_is = old.line_is } in
     record {
       later = λ lt. absurd (omega (arith, same, lt));
       open_here = λ o. absurd cc;
       shut_here = λ o r e. cut;
-      runs = λ r e. rw is (Runs-push 0 h.next s (a.runs running same));
+      runs = λ r e. NoEnd-append s one (a.runs running same) plain;
       whole = inr cut;
-      follows = a.follows;
+      ends = a.ends;
     }
 
 -- a close of an open connection
@@ -131,7 +132,7 @@ told_close life h cause s l running same a =
       shut_here = λ o r e. absurd cc;
       runs = λ r e. absurd cc;
       whole = inl (ap (λ ms. ms ++ ended cause ∷ []) line);
-      follows = rw line (Runs-end 0 h.next s cause (a.runs running same));
+      ends = rw line (NoEnd-end s cause (a.runs running same));
     }
 
 -- a close of one that was cut off
@@ -145,7 +146,7 @@ told_close_cut life h cause s l running same a =
       shut_here = λ o r e. absurd cc;
       runs = λ r e. absurd cc;
       whole = inr cut;
-      follows = a.follows;
+      ends = a.ends;
     }
 
 pub told_start : (life : ℕ) → Told life nothing_came false [] []
@@ -155,5 +156,5 @@ told_start life = record {
   shut_here = λ o r e. absurd cc;
   runs = λ r e. absurd cc;
   whole = inl refl;
-  follows = tt;
+  ends = tt;
 }

@@ -14,7 +14,7 @@ use Rattle.scp_pending.specs.Sanity.{is_sane, has_spelling}
 use Rattle.scp_fetch.specs.Hashes.{same_hash}
 use Rattle.scp_fetch.specs.Store.{lookup}
 use Rattle.scp_pending.specs.Delivery.{DeliveryView}
-use Rattle.scp_pending.specs.Queues.{QueueView, is_open, named, hash_of}
+use Rattle.scp_pending.specs.Queues.{QueueView, is_open, at_slot, named, hash_of}
 use Rattle.scp_pending.specs.Rules.{PendingView, Settled, rules, settled_by}
 use Rattle.scp_pending.specs.declared.parked.Parked.{Parked}
 use Rattle.scp_pending.specs.declared.parked.Parked.TheVariants.{Waits, Free, Lost}
@@ -160,13 +160,13 @@ HasCause start taken (Local command) = Unit {0}
 
 -- ---- where nothing is ready
 
--- the head of a queue is an envelope that waits
+-- the head of a lane is an envelope that waits
 abbrev pub HeadWaits : Settled → List Inbound → ConnId → List Parked → Type 0
 HeadWaits start taken c [] = Unit {0}
 HeadWaits start taken c (Waits x ∷ ps) = (x.conn ≡ c) × IsWaiting start taken x
 HeadWaits start taken c (Free delivery ∷ ps) = ⊥
-HeadWaits start taken c (Lost seq cause ∷ ps) = ⊥
+HeadWaits start taken c (Lost slot seq cause ∷ ps) = ⊥
 
 pub record IsSettledBy (start : Settled) (taken : List Inbound) (v : PendingView) : Type 0 where
   pub nothing_ready : v.leaving ≡ []
-  pub heads_wait : AllByRecursion (λ q. HeadWaits start taken q.conn q.parked) v.settled.queues
+  pub heads_wait : AllByRecursion (λ q. (s : ℕ) → HeadWaits start taken q.conn (at_slot s q.parked)) v.settled.queues

@@ -1,5 +1,5 @@
 -- How each message of a connection left, and how the connection ended.
-use Rattle.std.specs.Prelude.{ℕ, ◌≤◌, ◌≡◌, ◌≢◌, Bool, true, false, List, [], ◌∷◌, ◌++◌, ◌⊎◌, length, map, flat_map}
+use Rattle.std.specs.Prelude.{ℕ, ◌+◌, ◌≤◌, ◌≡◌, ◌≢◌, Bool, true, false, List, [], ◌∷◌, ◌++◌, ◌⊎◌, length, map, filter, nat_eq, flat_map}
 use Rattle.std.specs.List.{AllByRecursion}
 use Rattle.scp_types.specs.declared.names.ConnId.{ConnId}
 use Rattle.scp_types.specs.declared.names.Seq.{Seq}
@@ -51,13 +51,23 @@ HasWent (over cause) = ⊥
 abbrev pub AllWent : List Way → Type 0
 AllWent ws = AllByRecursion HasWent ws
 
+-- of these numbers, those of the messages that name the slot
+abbrev pub seqs_at : (ℕ → ℕ) → ℕ → List Seq → List Seq
+seqs_at slots s seqs = filter (λ seq. nat_eq (slots seq.0) s) seqs
+
+-- numbers from n on, ascending
+abbrev pub Ascend : ℕ → List Seq → Type 0
+Ascend n [] = Unit {0}
+Ascend n (seq ∷ seqs) = (n ≤ seq.0) × Ascend (seq.0 + 1) seqs
+
 -- the first of these numbers is of an envelope of the connection that waits
 abbrev pub FirstWaits : Settled → List Inbound → ConnId → List Seq → Type 0
 FirstWaits start taken c [] = Unit {0}
 FirstWaits start taken c (seq ∷ seqs) = (x : Carried) × (x.conn ≡ c) × (x.seq ≡ seq) × IsWaiting start taken x
 
--- it was closed from outside: after those that had their own fates, what was parked then is dropped, and then comes the end
-pub record IsClosedOff (start : Settled) (taken : List Inbound) (c : ConnId) (ws : List Way) : Type 0 where
+-- it was closed from outside: after those that had their own fates, what was parked then is dropped, by ascending numbers, and
+-- then comes the end; the first of each lane was waiting
+pub record IsClosedOff (start : Settled) (slots : ℕ → ℕ) (taken : List Inbound) (c : ConnId) (ws : List Way) : Type 0 where
   pub front : List Way
   pub seqs : List Seq
   pub cause : Cause
@@ -67,10 +77,12 @@ pub record IsClosedOff (start : Settled) (taken : List Inbound) (c : ConnId) (ws
   pub outside : cause ≢ ParkedFull
   pub ways_are : ws ≡ front ++ (map by_close seqs ++ over cause ∷ [])
   pub fates : AllWent front
-  pub first : FirstWaits start before c seqs
+  pub ascend : Ascend 0 seqs
+  pub first : (s : ℕ) → FirstWaits start before c (seqs_at slots s seqs)
 
--- it was cut off by one message too many: 65 are dropped, of which the last came then, and then comes the end
-pub record IsCutOff (start : Settled) (taken : List Inbound) (c : ConnId) (ws : List Way) : Type 0 where
+-- it was cut off by one message too many: 65 are dropped, by ascending numbers, of which the last came then, and then comes
+-- the end; the first of each lane was waiting
+pub record IsCutOff (start : Settled) (slots : ℕ → ℕ) (taken : List Inbound) (c : ConnId) (ws : List Way) : Type 0 where
   pub front : List Way
   pub seqs : List Seq
   pub last : Carried
@@ -81,13 +93,14 @@ pub record IsCutOff (start : Settled) (taken : List Inbound) (c : ConnId) (ws : 
   pub ways_are : ws ≡ front ++ (map by_full (seqs ++ last.seq ∷ []) ++ over ParkedFull ∷ [])
   pub fates : AllWent front
   pub count : length (seqs ++ last.seq ∷ []) ≡ 65
+  pub ascend : Ascend 0 (seqs ++ last.seq ∷ [])
   pub shuts : is_open c (settled_by start (before ++ inbound.Carried last ∷ [])).queues ≡ false
-  pub first : FirstWaits start (before ++ inbound.Carried last ∷ []) c (seqs ++ last.seq ∷ [])
+  pub first : (s : ℕ) → FirstWaits start (before ++ inbound.Carried last ∷ []) c (seqs_at slots s (seqs ++ last.seq ∷ []))
 
 -- while it is open, all that left had their own fates; afterwards too, or it was closed off or cut off
-pub record Exits (start : Settled) (taken : List Inbound) (c : ConnId) (open' : Bool) (ws : List Way) : Type 0 where
+pub record Exits (start : Settled) (slots : ℕ → ℕ) (taken : List Inbound) (c : ConnId) (open' : Bool) (ws : List Way) : Type 0 where
   pub running : open' ≡ true → AllWent ws
-  pub ended : AllWent ws ⊎ (IsClosedOff start taken c ws ⊎ IsCutOff start taken c ws)
+  pub ended : AllWent ws ⊎ (IsClosedOff start slots taken c ws ⊎ IsCutOff start slots taken c ws)
 
 -- the local commands that pass: all but Tick
 abbrev pub passing_command : Command → List Command

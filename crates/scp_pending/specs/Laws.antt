@@ -8,31 +8,23 @@ use Rattle.scp_types.specs.declared.names.Seq.{Seq}
 use Rattle.scp_wire.specs.declared.link.Inbound.{Inbound}
 use Rattle.scp_wire.specs.Connections.{conn_at}
 use Rattle.scp_wire.specs.Shape.{HasShape}
+use Rattle.scp_wire.specs.Lanes.{HaveSlots}
 use Rattle.scp_pending.specs.declared.ready.Ready.{Ready}
 use Rattle.scp_fetch.specs.Wants.{has_conn, waiting_for}
 use Rattle.scp_pending.specs.Queues.{is_open, is_waiting, parked_of}
 use Rattle.scp_pending.specs.Rules.{PendingView}
 use Rattle.scp_pending.specs.Line.{Accounts, held}
 use Rattle.scp_pending.specs.Causes.{HasCause}
-use Rattle.scp_pending.specs.Endings.{Exits, IsCutOff, ways, commands_in, commands_of}
+use Rattle.scp_pending.specs.Endings.{Exits, ways, commands_in, commands_of}
 use Rattle.scp_pending.specs.Pends.{Pends, start_of}
 
 -- of each connection of a peer's link
 abbrev pub AllAccounts : Type 0
-AllAccounts = (me : NodeId) (peers : List NodeId) (taken : List Inbound) (given : List Ready) (v : PendingView) → Pends me peers taken given v → HasShape me peers taken → (link : ℕ) (peer : NodeId) → slice_get peers link ≡ Some peer → (life : ℕ) → Accounts (conn_at peer me life) taken given (held (conn_at peer me life) v)
+AllAccounts = (me : NodeId) (peers : List NodeId) (taken : List Inbound) (given : List Ready) (v : PendingView) → Pends me peers taken given v → HasShape me peers taken → (link : ℕ) (peer : NodeId) → slice_get peers link ≡ Some peer → (life : ℕ) → (slots : ℕ → ℕ) → HaveSlots (conn_at peer me life) slots taken → Accounts (conn_at peer me life) slots taken given (held (conn_at peer me life) v)
 
 -- how the messages of each connection of a peer's link left, and how it ended
 abbrev pub AllExits : Type 0
-AllExits = (me : NodeId) (peers : List NodeId) (taken : List Inbound) (given : List Ready) (v : PendingView) → Pends me peers taken given v → HasShape me peers taken → (link : ℕ) (peer : NodeId) → slice_get peers link ≡ Some peer → (life : ℕ) → Exits (start_of me peers v) taken (conn_at peer me life) (is_open (conn_at peer me life) v.settled.queues) (ways (conn_at peer me life) (given ++ v.leaving))
-
--- numbers from n on
-abbrev pub AreFrom : ℕ → List Seq → Type 0
-AreFrom n [] = Unit {0}
-AreFrom n (seq ∷ seqs) = (seq.0 ≡ n) × AreFrom (n + 1) seqs
-
--- the 65 that are dropped together have consecutive numbers
-abbrev pub CutsAreConsecutive : Type 0
-CutsAreConsecutive = (me : NodeId) (peers : List NodeId) (taken : List Inbound) (given : List Ready) (v : PendingView) → Pends me peers taken given v → HasShape me peers taken → (link : ℕ) (peer : NodeId) → slice_get peers link ≡ Some peer → (life : ℕ) → (cut : IsCutOff (start_of me peers v) taken (conn_at peer me life) (ways (conn_at peer me life) (given ++ v.leaving))) → AreFrom (length cut.front) (cut.seqs ++ cut.last.seq ∷ [])
+AllExits = (me : NodeId) (peers : List NodeId) (taken : List Inbound) (given : List Ready) (v : PendingView) → Pends me peers taken given v → HasShape me peers taken → (link : ℕ) (peer : NodeId) → slice_get peers link ≡ Some peer → (life : ℕ) → (slots : ℕ → ℕ) → HaveSlots (conn_at peer me life) slots taken → Exits (start_of me peers v) slots taken (conn_at peer me life) (is_open (conn_at peer me life) v.settled.queues) (ways (conn_at peer me life) (given ++ v.leaving))
 
 -- all that was given, and all that is ready, has its cause
 abbrev pub AllHaveCauses : Type 0

@@ -6,7 +6,8 @@ use Rattle.scp_types.specs.declared.names.NodeId.{NodeId}
 use Rattle.scp_wire.specs.declared.message.Message.{Message}
 use Rattle.scp_wire.specs.declared.link.Inbound.{Inbound}
 use Rattle.scp_wire.specs.Connections.{same_conn}
-use Rattle.scp_wire.specs.Marks.{Mark, number, ended, one_if, marks_in, messages_in, Follows, IsWhole}
+use Rattle.scp_wire.specs.Marks.{Mark, number, ended, one_if, marks_in, messages_in, IsWhole}
+use Rattle.scp_wire.specs.Lanes.{in_lane, EndsLast}
 use Rattle.scp_pending.specs.declared.parked.Parked.{Parked}
 use Rattle.scp_pending.specs.declared.ready.Ready.{Ready}
 use Rattle.scp_pending.specs.declared.ready.Ready.TheVariants.{Deliver, Dropped, Closed, Local}
@@ -54,10 +55,9 @@ HasItsMessage c messages (Local command) = Unit {0}
 abbrev pub HaveMessages : ConnId → List Message → List Ready → Type 0
 HaveMessages c messages readies = AllByRecursion (HasItsMessage c messages) readies
 
--- What was given of a connection, and then what is held of it, is what came of it: whole up to the first end, or a prefix
--- of it where that end is ParkedFull; numbered 0, 1, 2, .. without a gap, with nothing after an end; and each message
--- that was given is that of its number.
-pub record Accounts (c : ConnId) (taken : List Inbound) (given : List Ready) (held' : List Mark) : Type 0 where
-  pub whole : IsWhole (marks_in c taken) (marks_of c given ++ held')
-  pub follows : Follows 0 (marks_of c given ++ held')
+-- In each lane of a connection, what was given, and then what is held, is what came: whole up to the first end, or a prefix
+-- of it where that end is ParkedFull; nothing stands after an end; and each message that was given is that of its number.
+pub record Accounts (c : ConnId) (slots : ℕ → ℕ) (taken : List Inbound) (given : List Ready) (held' : List Mark) : Type 0 where
+  pub whole : (s : ℕ) → IsWhole (in_lane slots s (marks_in c taken)) (in_lane slots s (marks_of c given ++ held'))
+  pub ends : (s : ℕ) → EndsLast (in_lane slots s (marks_of c given ++ held'))
   pub messages : HaveMessages c (messages_in c taken) given

@@ -1,5 +1,5 @@
 -- What is parked: a queue for each open connection.
-use Rattle.std.specs.Prelude.{ℕ, ◌≡◌, Bool, true, false, not, ◌&&◌, List, [], ◌∷◌, ◌++◌, Option, Some, None, nat_lt, length, map, filter, flat_map, if◌then◌else◌}
+use Rattle.std.specs.Prelude.{ℕ, ◌≡◌, Bool, true, false, not, ◌&&◌, ◌||◌, nat_eq, List, [], ◌∷◌, ◌++◌, Option, Some, None, nat_lt, length, map, filter, flat_map, if◌then◌else◌}
 use Rattle.std.specs.List.{list_any}
 use Rattle.scp_types.specs.declared.names.ConnId.{ConnId}
 use Rattle.scp_types.specs.declared.names.Hash.{Hash}
@@ -12,6 +12,7 @@ use Rattle.scp_wire.specs.declared.carried.Carried.{Carried}
 use Rattle.scp_wire.specs.declared.message.Message.{Message}
 use Rattle.scp_wire.specs.declared.message.Message.TheVariants.{Envelope, GetSet, Set, NoSet, GetRecord, Record}
 use Rattle.scp_wire.specs.Connections.{same_node, same_conn}
+use Rattle.scp_wire.specs.Lanes.{slot_of}
 use Rattle.scp_fetch.specs.Hashes.{same_hash}
 use Rattle.scp_pending.specs.Delivery.{DeliveryView}
 use Rattle.scp_pending.specs.declared.parked.Parked.{Parked}
@@ -70,50 +71,74 @@ is_hash hash (Some other) = same_hash hash other
 abbrev pub waits_for : Hash → Parked → Bool
 waits_for hash (Waits x) = is_hash hash (named x.message)
 waits_for hash (Free delivery) = false
-waits_for hash (Lost seq cause) = false
+waits_for hash (Lost slot seq cause) = false
 
 -- the hash that it waits for
 abbrev pub waited_by : Parked → Option Hash
 waited_by (Waits x) = named x.message
 waited_by (Free delivery) = None
-waited_by (Lost seq cause) = None
+waited_by (Lost slot seq cause) = None
 
 -- something that is parked of the connection waits for the hash
 abbrev pub is_waiting : ConnId → Hash → List QueueView → Bool
 is_waiting c hash queues = list_any (waits_for hash) (parked_of c queues)
 
+-- the slot that a parked message names: with its connection this is its lane
+abbrev pub lane_of : Parked → ℕ
+lane_of (Waits x) = slot_of x.message
+lane_of (Free delivery) = slot_of delivery.message
+lane_of (Lost slot seq cause) = slot.0
+
+abbrev pub is_at : ℕ → Parked → Bool
+is_at s p = nat_eq (lane_of p) s
+
+-- what is parked in the lane of this slot, in order
+abbrev pub at_slot : ℕ → List Parked → List Parked
+at_slot s ps = filter (is_at s) ps
+
+abbrev pub waits : Parked → Bool
+waits (Waits x) = true
+waits (Free delivery) = false
+waits (Lost slot seq cause) = false
+
+-- behind those that stay, one stays where it waits, and where one of its lane stays before it
+abbrev pub is_held : List Parked → Parked → Bool
+is_held kept p = waits p || list_any (is_at (lane_of p)) kept
+
 abbrev pub is_empty : List Parked → Bool
 is_empty [] = true
 is_empty (p ∷ ps) = false
 
--- there is a head, and it waits for nothing
-abbrev pub may_leave : List Parked → Bool
-may_leave [] = false
-may_leave (Waits x ∷ ps) = false
-may_leave (Free delivery ∷ ps) = true
-may_leave (Lost seq cause ∷ ps) = true
+-- what becomes of one that leaves
+abbrev pub fate : ConnId → Parked → List Ready
+fate c (Waits x) = []
+fate c (Free delivery) = Deliver delivery ∷ []
+fate c (Lost slot seq cause) = Dropped c seq cause ∷ []
 
--- what leaves a queue: all before the first that waits
+-- what leaves, behind those that stay
+abbrev pub leaves_behind : ConnId → List Parked → List Parked → List Ready
+leaves_behind c kept [] = []
+leaves_behind c kept (p ∷ ps) = if is_held kept p then leaves_behind c (kept ++ p ∷ []) ps else fate c p ++ leaves_behind c kept ps
+
+-- and what stays
+abbrev pub stays_behind : List Parked → List Parked → List Parked
+stays_behind kept [] = []
+stays_behind kept (p ∷ ps) = if is_held kept p then p ∷ stays_behind (kept ++ p ∷ []) ps else stays_behind kept ps
+
+-- what leaves a queue: of each lane all before the first that waits
 abbrev pub leaves_of : ConnId → List Parked → List Ready
-leaves_of c [] = []
-leaves_of c (Waits x ∷ ps) = []
-leaves_of c (Free delivery ∷ ps) = Deliver delivery ∷ leaves_of c ps
-leaves_of c (Lost seq cause ∷ ps) = Dropped c seq cause ∷ leaves_of c ps
+leaves_of c ps = leaves_behind c [] ps
 
--- and what stays: from the first that waits on
+-- and what stays: of each lane from the first that waits on
 abbrev pub stays_of : List Parked → List Parked
-stays_of [] = []
-stays_of (Waits x ∷ ps) = Waits x ∷ ps
-stays_of (Free delivery ∷ ps) = stays_of ps
-stays_of (Lost seq cause ∷ ps) = stays_of ps
+stays_of ps = stays_behind [] ps
 
--- the queues whose heads may leave are served; they stand behind the others from then on, so that all stand in the
--- order in which their heads began to wait
+-- the queues are served in their order
 abbrev pub stays_in : QueueView → QueueView
 stays_in q = record q { parked = stays_of q.parked }
 
 abbrev pub served : List QueueView → List QueueView
-served queues = filter (λ q. not (may_leave q.parked)) queues ++ map stays_in (filter (λ q. may_leave q.parked) queues)
+served queues = map stays_in queues
 
 abbrev pub leaves_in : QueueView → List Ready
 leaves_in q = leaves_of q.conn q.parked
@@ -140,7 +165,7 @@ in_order_of (hash ∷ hashes) queues = with_first hash (in_order_of hashes queue
 abbrev pub resolved_one : (Option Hash → Bool) → (Carried → Parked) → Parked → Parked
 resolved_one test f (Waits x) = if test (named x.message) then f x else Waits x
 resolved_one test f (Free delivery) = Free delivery
-resolved_one test f (Lost seq cause) = Lost seq cause
+resolved_one test f (Lost slot seq cause) = Lost slot seq cause
 
 abbrev pub resolved_in : (Option Hash → Bool) → (Carried → Parked) → QueueView → QueueView
 resolved_in test f q = record q { parked = map (resolved_one test f) q.parked }
@@ -153,7 +178,7 @@ abbrev pub with_set : Option QuorumTree → Carried → Parked
 with_set set x = Free (record { conn = x.conn; seq = x.seq; message = x.message; set = set })
 
 abbrev pub lost_by : DropCause → Carried → Parked
-lost_by cause x = Lost x.seq cause
+lost_by cause x = Lost (record { 0 = slot_of x.message }) x.seq cause
 
 -- a message is parked: at the end of its queue, and where it is the first there, its queue stands behind the others
 abbrev pub with_parked : Parked → QueueView → QueueView
@@ -165,7 +190,7 @@ parked_in c p queues = if is_empty (parked_of c queues) then others c queues ++ 
 abbrev pub seq_of : Parked → Seq
 seq_of (Waits x) = x.seq
 seq_of (Free delivery) = delivery.seq
-seq_of (Lost seq cause) = seq
+seq_of (Lost slot seq cause) = seq
 
 abbrev pub dropped : ConnId → DropCause → Parked → Ready
 dropped c cause p = Dropped c (seq_of p) cause

@@ -22,7 +22,7 @@ use Rattle.scp_fetch.specs.declared.want.Want.{Want}
 use Rattle.scp_fetch.specs.declared.want.Miss.TheVariants.{One, All}
 use Rattle.scp_fetch.specs.Wants.{is_wanted, is_asked, wanted_by, left_by, unasked, gives_up, last_missed, missed_by, without}
 use Rattle.scp_fetch.specs.Store.{StoreView, lookup, stored}
-use Rattle.scp_pending.specs.Queues.{QueueView, is_open, is_link_open, parked_of, others, named, is_hash, hash_of, waited_by, is_empty, may_leave, leaves_of, served, leaving_of, in_order_of, resolved, with_set, lost_by, parked_in, dropped}
+use Rattle.scp_pending.specs.Queues.{QueueView, is_open, is_link_open, parked_of, others, named, is_hash, hash_of, waited_by, is_held, fate, served, leaving_of, in_order_of, resolved, with_set, lost_by, parked_in, dropped}
 use Rattle.scp_pending.specs.declared.parked.Parked.{Parked}
 use Rattle.scp_pending.specs.declared.parked.Parked.TheVariants.{Waits, Free, Lost}
 use Rattle.scp_pending.specs.declared.ready.DropCause.TheVariants.{BadSet, GaveUp, Closed as ByClose, ParkedFull as ByFull}
@@ -35,7 +35,7 @@ pub record Settled : Type 0 where
   pub peers : List NodeId  -- by their links' numbers
   pub store : StoreView
   pub wanted : List Want
-  pub queues : List QueueView  -- of the open connections, in the order in which their heads began to wait
+  pub queues : List QueueView  -- of the open connections, in the order in which they are served
 
 -- and what is on its way out
 pub record PendingView : Type 0 where
@@ -85,8 +85,13 @@ entering store x = entering_by (named x.message) store x
 abbrev pub is_full : ConnId → List QueueView → Bool
 is_full c queues = nat_lt 63 (length (parked_of c queues))
 
+-- it waits for nothing, and nothing of its lane is parked
 abbrev pub goes_through : ConnId → Parked → List QueueView → Bool
-goes_through c p queues = is_empty (parked_of c queues) && may_leave (p ∷ [])
+goes_through c p queues = not (is_held (parked_of c queues) p)
+
+-- it would be parked, and 64 are
+abbrev pub overflows : ConnId → Parked → List QueueView → Bool
+overflows c p queues = is_full c queues && not (goes_through c p queues)
 
 abbrev pub wanted_named : ℕ → ConnId → Option Hash → List Want → List Want
 wanted_named link c None wanted = wanted
@@ -102,7 +107,7 @@ abbrev pub enters : Carried → Parked → Settled → Settled
 enters x p s = if goes_through x.conn p s.queues then s else parks x p s
 
 abbrev pub brings : Carried → Settled → Settled
-brings x s = if is_full x.conn s.queues then closed_off x.conn s else enters x (entering s.store x) s
+brings x s = if overflows x.conn (entering s.store x) s.queues then closed_off x.conn s else enters x (entering s.store x) s
 
 -- ---- quorum sets
 
@@ -150,7 +155,7 @@ rules s (inbound.Local (Timer slot)) = s
 rules s (inbound.Local (Ask link slot)) = s
 
 abbrev pub brought : Carried → Settled → List Ready
-brought x s = if is_full x.conn s.queues then map (dropped x.conn ByFull) (parked_of x.conn s.queues) ++ Dropped x.conn x.seq ByFull ∷ Closed x.conn ParkedFull ∷ [] else (if goes_through x.conn (entering s.store x) s.queues then leaves_of x.conn (entering s.store x ∷ []) else [])
+brought x s = if overflows x.conn (entering s.store x) s.queues then map (dropped x.conn ByFull) (parked_of x.conn s.queues) ++ Dropped x.conn x.seq ByFull ∷ Closed x.conn ParkedFull ∷ [] else (if goes_through x.conn (entering s.store x) s.queues then fate x.conn (entering s.store x) else [])
 
 abbrev pub heard_out : SideMessage → Settled → List Ready
 heard_out (GetSet hash) s = []

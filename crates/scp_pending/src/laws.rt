@@ -1,6 +1,6 @@
 //! What follows of the rules, for every list of takes: each law is the contract of a function that does nothing.
 ghost use Rattle.scp_pending.specs.Living.{OpenByPlace};
-ghost use Rattle.scp_pending.specs.Laws.{AllAccounts, AllExits, AllHaveCauses, CommandsPass, CutsAreConsecutive, FewAreParked, WaitersWait};
+ghost use Rattle.scp_pending.specs.Laws.{AllAccounts, AllExits, AllHaveCauses, CommandsPass, FewAreParked, WaitersWait};
 
 /// All that was given, and all that is ready, has its cause among what was taken.
 pub fn each_fate_has_its_cause()
@@ -17,20 +17,19 @@ pub fn who_waits_is_listed()
     ensures listed { WaitersWait }
 {}
 
-/// Where the items of each link have the shape that its reader gives them: of each connection, what was given and then what
-/// is held is what came, whole up to the first end, or a prefix where that end is parked-full; in order; and each delivered
-/// message is that of its number.
+/// Where the items of each link have the shape that its reader gives them: in each lane of a connection, what was given and
+/// then what is held is what came, whole up to the first end, or a prefix where that end is parked-full; in order; and each
+/// delivered message is that of its number.
 pub fn no_message_is_lost_or_overtaken()
     ensures accounts { AllAccounts }
 {}
 
 /// Where the items of each link have that shape: while a connection is open, what left of it had its own fate: delivered, or
-/// lost by its set. Where it was closed from outside, what was parked then was dropped, the first of it waiting still, and
-/// then came its end with the cause that it was closed with. Where one message too many came, it and the 64 that were
-/// parked were dropped, with consecutive numbers, the first of them waiting still, and then came its end as parked-full.
+/// lost by its set. Where it was closed from outside, what was parked then was dropped, the first of each lane waiting still,
+/// and then came its end with the cause that it was closed with. Where one message too many came, it and the 64 that were
+/// parked were dropped, with ascending numbers, the first of each lane waiting still, and then came its end as parked-full.
 pub fn each_connection_ends_by_its_cause()
     ensures exits { AllExits }
-    ensures consecutive { CutsAreConsecutive }
 {}
 
 /// Each local command other than Tick is given once, in order, and no other.

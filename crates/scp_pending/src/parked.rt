@@ -2,13 +2,14 @@
 ghost use Rattle.std.specs.Prelude.{◌≡◌, ◌∷◌, [], IfOk, IsOkUnless, IfSome, Some, None, true, option_map};
 ghost use Rattle.scp_pending.specs.Rules.{is_given_up};
 ghost use Rattle.scp_quorum.specs.QuorumKind.{set_hash};
-ghost use Rattle.scp_pending.specs.Queues.{named as named_by, hash_of, is_hash, waits_for as waits, waited_by, may_leave as head_may_leave, seq_of, resolved_one, lost_by, with_set};
+ghost use Rattle.scp_pending.specs.Queues.{named as named_by, hash_of, is_hash, waits_for as waits, waited_by, waits as is_waiting_one, lane_of, is_at, seq_of, resolved_one, lost_by, with_set};
+ghost use Rattle.scp_wire.specs.Lanes.{slot_of};
 ghost use Rattle.scp_pending.specs.Outcome.{outcome_of, HasHash};
 
 use crate::ready::{Delivery, DropCause};
 use scp_fetch::Fetcher;
 use scp_quorum::SaneSet;
-use scp_types::{Fault, Hash, Seq};
+use scp_types::{Fault, Hash, Seq, Slot};
 use scp_wire::{Carried, Message};
 use std::sync::Arc;
 
@@ -20,7 +21,7 @@ pub(crate) enum Parked {
     /// It waits for nothing.
     Free(Delivery),
     /// It will be dropped, for this cause.
-    Lost(Seq, DropCause),
+    Lost(Slot, Seq, DropCause),
 }
 
 /// What becomes of the envelopes that wait for a hash.
@@ -52,22 +53,54 @@ fn names(message: &Message, hash: &Hash) -> bool
     }
 }
 
+/// The slot that a carried message names; a side message names none.
+pub(crate) fn slot_in(message: &Message) -> Slot
+    ensures { result.0 ≡ slot_of message.now }
+{
+    match message {
+        Message::Envelope(envelope) => envelope.get().statement.slot,
+        Message::GetRecord(slot) => *slot,
+        Message::Record(slot, _) => *slot,
+        Message::GetSet(_) | Message::Set(_) | Message::NoSet(_) => Slot(0),
+    }
+}
+
 impl Parked {
+    /// The slot that it names: with its connection this is its lane.
+    pub(crate) fn slot(&self) -> Slot
+        ensures { result.0 ≡ lane_of self.now }
+    {
+        match self {
+            Parked::Waits(carried) => slot_in(&carried.message),
+            Parked::Free(delivery) => slot_in(delivery.message()),
+            Parked::Lost(slot, ..) => *slot,
+        }
+    }
+
+    pub(crate) fn is_at(&self, slot: Slot) -> bool
+        ensures { result ≡ is_at slot.0 self.now }
+    {
+        self.slot() == slot
+    }
+
     pub(crate) fn seq(&self) -> Seq
         ensures { result ≡ seq_of self.now }
     {
         match self {
             Parked::Waits(carried) => carried.seq,
             Parked::Free(delivery) => delivery.seq(),
-            Parked::Lost(seq, _) => *seq,
+            Parked::Lost(_, seq, _) => *seq,
         }
     }
 
-    /// Whether it waits for nothing.
-    pub(crate) fn is_free(&self) -> bool
-        ensures { result ≡ head_may_leave (self.now ∷ []) }
+    /// Whether it waits for its quorum set.
+    pub(crate) fn waits(&self) -> bool
+        ensures { result ≡ is_waiting_one self.now }
     {
-        !matches!(self, Parked::Waits(_))
+        match self {
+            Parked::Waits(_) => true,
+            Parked::Free(_) | Parked::Lost(..) => false,
+        }
     }
 
     /// The hash that it waits for.
@@ -116,7 +149,7 @@ impl Parked {
         };
         match named(&carried.message) {
             Some(hash) if fetcher.is_at_last_miss(&hash) => {
-                Parked::Lost(carried.seq, DropCause::GaveUp)
+                Parked::Lost(slot_in(&carried.message), carried.seq, DropCause::GaveUp)
             }
             _ => Parked::Waits(carried),
         }
@@ -135,7 +168,11 @@ impl Outcome {
                 carried,
                 Arc::try_clone(set)?,
             ))),
-            Outcome::Lost(cause) => Ok(Parked::Lost(carried.seq, *cause)),
+            Outcome::Lost(cause) => Ok(Parked::Lost(
+                slot_in(&carried.message),
+                carried.seq,
+                *cause,
+            )),
         }
     }
 }

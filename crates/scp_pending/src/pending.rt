@@ -4,8 +4,8 @@ ghost use Rattle.scp_types.specs.declared.names.NodeId.{NodeId};
 ghost use Rattle.scp_wire.specs.declared.link.Inbound.{Inbound};
 ghost use Rattle.scp_fetch.specs.Store.{lookup};
 ghost use Rattle.scp_fetch.specs.Wants.{waiting_for};
-ghost use Rattle.scp_pending.specs.Queues.{is_of, is_open, parked_of, others, changed, with_parked, parked_in, served, leaving_of, resolved, lost_by, dropped, is_hash, is_link_open, stays_in, leaves_in, may_leave as head_may_leave};
-ghost use Rattle.scp_pending.specs.Rules.{PendingView, Settled, fresh, rules, releases, reply, taken_in, entering as entering_with, link_number, opens, opened, closed_off, asks, brings, brought, enters, goes_through, parks, hears, heard_out, replies, answer as answer_for, is_full, wanted_with, asks_named, wanted_named};
+ghost use Rattle.scp_pending.specs.Queues.{is_of, is_open, parked_of, others, changed, with_parked, parked_in, served, leaving_of, resolved, lost_by, dropped, is_hash, is_link_open, stays_in, leaves_in, is_held, fate, waits};
+ghost use Rattle.scp_pending.specs.Rules.{PendingView, Settled, fresh, rules, releases, reply, taken_in, entering as entering_with, link_number, opens, opened, closed_off, asks, brings, brought, enters, goes_through, overflows, parks, hears, heard_out, replies, answer as answer_for, is_full, wanted_with, asks_named, wanted_named};
 ghost use Rattle.scp_pending.specs.Outcome.{outcome_of, HasHash};
 ghost use Rattle.scp_quorum.specs.Sane.{IsSane};
 ghost use Rattle.scp_wire.specs.Connections.{same_node};
@@ -14,9 +14,9 @@ ghost use Rattle.scp_pending.specs.Pends.{Pends, IsSettled};
 ghost use Rattle.scp_pending.specs.Passes.{Passes};
 ghost use Rattle.scp_pending.specs.declared.ready.Ready.{Ready};
 
-use crate::parked::{Outcome, Parked, named};
+use crate::parked::{Outcome, Parked, named, slot_in};
 use crate::queue::{
-    Queue, count_of, give, give_up_in_order, is_link_open as is_link_open_in, place_of, push_to,
+    Queue, count_of, give, give_up_in_order, has_lane_on, is_link_open as is_link_open_in, place_of, push_to,
     serve_all, settle_all, take_queue,
 };
 use crate::ready::{Delivery, DropCause, Ready};
@@ -209,22 +209,33 @@ impl Pending {
         let Some(count) = count_of(&self.queues, &conn) else {
             return Ok(None);
         };
-        if count >= PARKED_LIMIT {
+        let held = self.is_held_back(&carried);
+        if held && count >= PARKED_LIMIT {
             self.cut_off(carried)?;
             return Ok(None);
         }
         let parked = entering(&self.store, carried)?;
-        if count == 0 && parked.is_free() {
+        if !held {
             give(conn, parked, &mut self.leaving)?;
             return Ok(None);
         }
         self.park(conn, parked)
     }
 
-    /// One too many: all that is parked of the connection is dropped with it, and the connection is cut off.
+    /// Whether the message would be parked: its quorum set is unknown, or something of its lane is parked.
+    #[tactic(auto, using(crate::proofs::Hearing::held_entering))]
+    fn is_held_back(&self, carried: &Carried) -> bool
+        ensures { result ≡ is_held (parked_of carried.now.conn self.now.settled.queues) (entering_with self.now.settled.store carried.now) }
+    {
+        will_wait(&self.store, carried)
+            || has_lane_on(&self.queues, &carried.conn, slot_in(&carried.message))
+    }
+
+    /// One too many would be parked: all that is parked of the connection is dropped with it, and the connection is cut off.
     fn cut_off(&mut self, carried: Carried) -> Result<(), Fault>
         requires open { is_open carried.conn self.old.settled.queues ≡ true }
         requires full { is_full carried.conn self.old.settled.queues ≡ true }
+        requires held { is_held (parked_of carried.conn self.old.settled.queues) (entering_with self.old.settled.store carried) ≡ true }
         ensures { OnOk result (self.new ≡ taken_in self.old (Inbound.Carried carried)) }
     {
         let conn = carried.conn;
@@ -432,6 +443,16 @@ fn entering(store: &SetStore, carried: Carried) -> Result<Parked, Fault>
     match store.get(&hash) {
         Some(set) => Ok(Parked::Free(Delivery::with_set(carried, Arc::try_clone(set)?))),
         None => Ok(Parked::Waits(carried)),
+    }
+}
+
+/// Whether it is an envelope whose quorum set isn't stored.
+fn will_wait(store: &SetStore, carried: &Carried) -> bool
+    ensures { result ≡ waits (entering_with store.now carried.now) }
+{
+    match named(&carried.message) {
+        Some(hash) => store.get(&hash).is_none(),
+        None => false,
     }
 }
 

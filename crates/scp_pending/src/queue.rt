@@ -3,7 +3,7 @@ ghost use Rattle.std.specs.Prelude.{◌≡◌, ◌+◌, ◌<◌, ◌^◌, ◌++�
 ghost use Rattle.std.specs.List.{list_any};
 ghost use Rattle.scp_wire.specs.Connections.{same_conn};
 ghost use Rattle.scp_fetch.specs.Wants.{last_missed};
-ghost use Rattle.scp_pending.specs.Queues.{is_of, is_open, is_link_open as link_open, parked_of, others, parked_in, resolved, served, leaving_of, is_hash, is_empty as none_parked, may_leave as head_may_leave, leaves_of, stays_of, stays_in, leaves_in, is_head_waiting as has_waiting_head, with_first, in_order_of, resolved_one, resolved_in, dropped, lost_by, with_parked};
+ghost use Rattle.scp_pending.specs.Queues.{is_of, is_open, is_link_open as link_open, parked_of, others, parked_in, resolved, served, leaving_of, is_hash, is_empty as none_parked, is_at, is_held, fate, leaves_of, stays_of, stays_in, leaves_in, is_head_waiting as has_waiting_head, with_first, in_order_of, resolved_one, resolved_in, dropped, lost_by, with_parked};
 ghost use Rattle.scp_pending.specs.Rules.{is_given_up};
 ghost use Rattle.scp_pending.specs.Outcome.{outcome_of, HasHash, IsPlace};
 ghost use Rattle.scp_pending.specs.declared.parked.Parked.{Parked};
@@ -11,7 +11,7 @@ ghost use Rattle.scp_pending.specs.declared.parked.Parked.{Parked};
 use crate::parked::{Outcome, Parked, named};
 use crate::ready::{DropCause, Ready};
 use scp_fetch::Fetcher;
-use scp_types::{ConnId, Fault, Hash, NodeId, Seq};
+use scp_types::{ConnId, Fault, Hash, NodeId, Seq, Slot};
 use std::alloc::Global;
 use std::collections::VecDeque;
 use std::marker::Model;
@@ -73,11 +73,11 @@ impl Queue {
         Ok(())
     }
 
-    /// Whether there is a head, and it waits for nothing.
-    pub(crate) fn may_leave(&self) -> bool
-        ensures { result ≡ head_may_leave self.now.parked }
+    /// Whether something of the lane is parked.
+    pub(crate) fn has_lane(&self, slot: Slot) -> bool
+        ensures { result ≡ list_any (is_at slot.0) self.now.parked }
     {
-        head_goes(&self.parked)
+        has_lane(&self.parked, slot)
     }
 
     /// Whether its head waits for the hash.
@@ -90,12 +90,16 @@ impl Queue {
         }
     }
 
-    /// Gives all that stands before the first that waits.
-    pub(crate) fn serve(&mut self, leaving: &mut VecDeque<Ready>) -> Result<(), Fault>
+    /// Gives of each lane all that stands before the first that waits.
+    pub(crate) fn serve(
+        &mut self,
+        alloc: Global,
+        leaving: &mut VecDeque<Ready>,
+    ) -> Result<(), Fault>
         ensures stays { OnOk result (self.new ≡ stays_in self.old) }
         ensures leaves { OnOk result (leaving.new.items ≡ leaving.old.items ++ leaves_in self.old) }
     {
-        serve_from(self.conn, &mut self.parked, leaving)
+        serve_from(alloc, self.conn, &mut self.parked, leaving)
     }
 
     /// Gives all of it as dropped.
@@ -125,13 +129,16 @@ impl Queue {
     }
 }
 
-fn head_goes(parked: &VecDeque<Parked>) -> bool
-    ensures { result ≡ head_may_leave parked.now.items }
+fn is_held_by(kept: &VecDeque<Parked>, parked: &Parked) -> bool
+    ensures { result ≡ is_held kept.now.items parked.now }
 {
-    match parked.front() {
-        Some(Parked::Waits(_)) | None => false,
-        Some(_) => true,
-    }
+    parked.waits() || has_lane(kept, parked.slot())
+}
+
+fn has_lane(kept: &VecDeque<Parked>, slot: Slot) -> bool
+    ensures { result ≡ list_any (is_at slot.0) kept.now.items }
+{
+    kept.iter().any(|other| other.is_at(slot))
 }
 
 fn drop_each(
@@ -149,8 +156,9 @@ fn drop_each(
     Ok(())
 }
 
-#[tactic(auto, using(crate::proofs::Freeing::leaves_next, crate::proofs::Freeing::stays_next, crate::proofs::Serving::leaves_stuck, crate::proofs::Serving::stays_stuck))]
+#[tactic(auto, using(crate::proofs::Freeing::stays_more, crate::proofs::Freeing::leaves_more, crate::proofs::Freeing::stays_less, crate::proofs::Freeing::leaves_less))]
 fn serve_from(
+    alloc: Global,
     conn: ConnId,
     parked: &mut VecDeque<Parked>,
     leaving: &mut VecDeque<Ready>,
@@ -158,12 +166,15 @@ fn serve_from(
     ensures stays { OnOk result (parked.new.items ≡ stays_of parked.old.items) }
     ensures leaves { OnOk result (leaving.new.items ≡ leaving.old.items ++ leaves_of conn parked.old.items) }
 {
-    while head_goes(parked) {
-        let Some(p) = parked.pop_front() else {
-            return Ok(());
-        };
-        give(conn, p, leaving)?;
+    let mut kept = VecDeque::new(alloc);
+    while let Some(p) = parked.pop_front() {
+        if is_held_by(&kept, &p) {
+            kept.push_back(p)?;
+        } else {
+            give(conn, p, leaving)?;
+        }
     }
+    *parked = kept;
     Ok(())
 }
 
@@ -190,7 +201,7 @@ fn settle_at(
     requires place { place < length parked.old.items }
     ensures { OnOk result ((d : Parked) → parked.new.items ≡ set parked.old.items place (resolved_one (is_hash hash.now) (outcome_of outcome.now) (get_or parked.old.items place d))) }
 {
-    let waiting = mem::replace(&mut parked[place], Parked::Lost(Seq(0), DropCause::Closed));
+    let waiting = mem::replace(&mut parked[place], Parked::Lost(Slot(0), Seq(0), DropCause::Closed));
     parked[place] = waiting.settled(hash, outcome)?;
     Ok(())
 }
@@ -209,12 +220,12 @@ fn give_up_each(parked: &mut VecDeque<Parked>, fetcher: &Fetcher) -> Result<(), 
 
 /// Gives what waits for nothing.
 pub(crate) fn give(conn: ConnId, parked: Parked, leaving: &mut VecDeque<Ready>) -> Result<(), Fault>
-    ensures { OnOk result (leaving.new.items ≡ leaving.old.items ++ leaves_of conn (parked ∷ [])) }
+    ensures { OnOk result (leaving.new.items ≡ leaving.old.items ++ fate conn parked) }
 {
     match parked {
         Parked::Waits(_) => {}
         Parked::Free(delivery) => leaving.push_back(Ready::Deliver(delivery))?,
-        Parked::Lost(seq, cause) => leaving.push_back(Ready::Dropped { conn, seq, cause })?,
+        Parked::Lost(_, seq, cause) => leaving.push_back(Ready::Dropped { conn, seq, cause })?,
     }
     Ok(())
 }
@@ -347,8 +358,8 @@ fn put_in_order(alloc: Global, queues: &mut Vec<Queue>, hashes: Vec<Hash>) -> Re
     Ok(())
 }
 
-/// Gives what may leave; the queues whose heads left stand behind the others from then on.
-#[tactic(auto, using(crate::proofs::Freeing::waiting_stays, crate::proofs::Freeing::waiting_goes, crate::proofs::Freeing::going_goes, crate::proofs::Freeing::going_stays, crate::proofs::Freeing::leaving_goes, crate::proofs::Freeing::leaving_stays))]
+/// Gives what may leave, queue after queue.
+#[tactic(auto, using(crate::proofs::Freeing::served_more, crate::proofs::Freeing::leaving_goes))]
 pub(crate) fn serve_all(
     alloc: Global,
     queues: &mut Vec<Queue>,
@@ -357,17 +368,22 @@ pub(crate) fn serve_all(
     ensures stays { OnOk result (queues.new.items ≡ served queues.old.items) }
     ensures leaves { OnOk result (leaving.new.items ≡ leaving.old.items ++ leaving_of queues.old.items) }
 {
-    let mut behind = Vec::new(alloc);
-    let mut waiting = Vec::new(alloc);
+    let mut done = Vec::new(alloc);
     for mut queue in mem::replace(queues, Vec::new(alloc)) {
-        if queue.may_leave() {
-            queue.serve(leaving)?;
-            behind.push(queue)?;
-        } else {
-            waiting.push(queue)?;
-        }
+        queue.serve(alloc, leaving)?;
+        done.push(queue)?;
     }
-    waiting.append(&mut behind)?;
-    *queues = waiting;
+    *queues = done;
     Ok(())
+}
+
+/// Whether something of the lane is parked.
+#[tactic(auto, using(crate::proofs::Serving::parked_shut))]
+pub(crate) fn has_lane_on(queues: &[Queue], conn: &ConnId, slot: Slot) -> bool
+    ensures { result ≡ list_any (is_at slot.0) (parked_of conn.now queues.now) }
+{
+    match place_of(queues, conn) {
+        Some(place) => queues[place].has_lane(slot),
+        None => false,
+    }
 }

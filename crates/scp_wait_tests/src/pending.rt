@@ -21,6 +21,10 @@ enum Event {
     Closed(ConnId),
     /// An envelope with this number there, that names the set.
     Names(ConnId, u64, u8),
+    /// The same for this slot.
+    InSlot(ConnId, u64, u64, u8),
+    /// As many pairs: one for slot 1 that names the set, and one for slot 2 that names the own.
+    Pairs(ConnId, u64, u8),
     /// As many of them, with the numbers from 0 on.
     Many(ConnId, u64, u8),
     /// A request for a record, with this number there.
@@ -139,6 +143,7 @@ impl Event {
     fn count(&self) -> u64 {
         match self {
             Many(_, count, _) | Ticks(count) => *count,
+            Pairs(_, count, _) => *count * 2,
             _ => 1,
         }
     }
@@ -151,8 +156,15 @@ impl Event {
                 conn: *conn,
                 cause: Cause::Link,
             },
-            Names(conn, seq, set) => nominate(alloc, *conn, *seq, name(names, *set))?,
-            Many(conn, _, set) => nominate(alloc, *conn, at, name(names, *set))?,
+            Names(conn, seq, set) => nominate(alloc, *conn, *seq, 1, name(names, *set))?,
+            InSlot(conn, seq, slot, set) => {
+                nominate(alloc, *conn, *seq, *slot, name(names, *set))?
+            }
+            Pairs(conn, _, set) => {
+                let named = if at % 2 == 0 { *set } else { 1 };
+                nominate(alloc, *conn, at, 1 + at % 2, name(names, named))?
+            }
+            Many(conn, _, set) => nominate(alloc, *conn, at, 1, name(names, *set))?,
             GetRecord(conn, seq) => Inbound::Carried(Carried {
                 conn: *conn,
                 seq: Seq(*seq),
@@ -176,7 +188,7 @@ impl Event {
 }
 
 /// A NOMINATE envelope of node 2 for slot 1 that names the set of this hash, as message `seq` of the connection.
-fn nominate(alloc: Global, conn: ConnId, seq: u64, set_hash: Hash) -> Result<Inbound, Fault> {
+fn nominate(alloc: Global, conn: ConnId, seq: u64, slot: u64, set_hash: Hash) -> Result<Inbound, Fault> {
     let pledges = Pledges::Nominate(Nominate {
         set_hash,
         votes: ValueList::new(Vec::new(alloc)),
@@ -185,7 +197,7 @@ fn nominate(alloc: Global, conn: ConnId, seq: u64, set_hash: Hash) -> Result<Inb
     let envelope = Envelope {
         statement: Statement {
             node: node(2),
-            slot: Slot(1),
+            slot: Slot(slot),
             pledges,
         },
         signature: Signature::new(Vec::new(alloc)),
@@ -573,7 +585,7 @@ fn held(alloc: Global) -> Result<(usize, usize, usize), Fault> {
         &mut log,
     )?;
     let parked = pending.parked(&TWO);
-    let _ = pending.take(nominate(alloc, TWO, 64, name(&names, 2))?)?;
+    let _ = pending.take(nominate(alloc, TWO, 64, 1, name(&names, 2))?)?;
     let taken = pending.parked(&TWO);
     drain(&mut pending, &names, &mut log)?;
     Ok((parked, taken, pending.parked(&TWO)))
@@ -603,5 +615,48 @@ fn the_connections_that_wait_are_told(rt: HostRuntime) -> Result<(), Fail> {
     assert!(rt; waits(alloc, &[first, second, third, Closed(TWO)], &[THREE])?);
     assert!(rt; waits(alloc, &[first, second, third, Closed(TWO), Set(THREE, 2)], &[])?);
     assert!(rt; waits(alloc, &[first, second, third, Closed(TWO), Ticks(12)], &[])?);
+    Ok(())
+}
+
+#[test]
+fn a_lane_waits_for_no_other(rt: HostRuntime) -> Result<(), Fail> {
+    let alloc = rt.alloc();
+    let two = [InSlot(TWO, 0, 1, 2), InSlot(TWO, 1, 2, 1)];
+    let asked = Asked(0, 2);
+    let through = Left(TWO, 1, 1, With(1));
+    assert!(rt; gives(alloc, &two, &[asked, through])?);
+    let [first, second] = two;
+    assert!(rt; gives(alloc, &[first, second, Set(TWO, 2)], &[asked, through, Left(TWO, 0, 0, With(2))])?);
+    assert!(rt;
+        gives(
+            alloc,
+            &[first, second, Closed(TWO)],
+            &[
+                asked,
+                through,
+                Left(TWO, 0, 0, Dropped(DropCause::Closed)),
+                Ended(TWO, Cause::Link)
+            ],
+        )?
+    );
+    assert!(rt; gives(alloc, &[first, Names(TWO, 1, 1)], &[asked])?);
+    Ok(())
+}
+
+#[test]
+fn the_65_of_several_lanes_leave_in_the_order_of_their_numbers(
+    rt: HostRuntime,
+) -> Result<(), Fail> {
+    let alloc = rt.alloc();
+    let mut want = Vec::new(alloc);
+    want.push(Asked(0, 2))?;
+    for i in 0..64_u64 {
+        want.push(Left(TWO, 2 * i + 1, 2 * i + 1, With(1)))?;
+    }
+    for i in 0..65_u64 {
+        want.push(Left(TWO, 2 * i, 2 * i, Dropped(DropCause::ParkedFull)))?;
+    }
+    want.push(Ended(TWO, Cause::ParkedFull))?;
+    assert!(rt; gives(alloc, &[Pairs(TWO, 64, 2), InSlot(TWO, 128, 1, 2)], &want)?);
     Ok(())
 }

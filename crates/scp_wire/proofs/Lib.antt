@@ -5,3 +5,4 @@ pub mod Shapes
 pub mod Numbered
 pub mod Lines
 pub mod Sents
+pub mod Lanes

@@ -8,4 +8,5 @@ pub mod LinkReading
 pub mod Shape
 pub mod Marks
 pub mod Sent
+pub mod Lanes
 pub mod ReaderLaws

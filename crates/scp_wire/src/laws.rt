@@ -1,4 +1,5 @@
 //! Laws of the definitions, each the contract of a function that does nothing.
+ghost use Rattle.scp_wire.specs.Lanes.{LanesOfSent, WholeFollows};
 ghost use Rattle.scp_wire.specs.ReaderLaws.{ReadingsAreInOrder, ReadingsAreSent, ReadingsGrow, ReadingsGrowByOne};
 
 /// What is read of a link's items has its shape: lives 1, 2, .., on each the numbers 0, 1, 2, .., and nothing between the
@@ -17,4 +18,12 @@ pub fn what_is_read_is_what_was_sent()
 pub fn what_is_read_grows_with_the_items()
     ensures more { ReadingsGrow }
     ensures one { ReadingsGrowByOne }
+{}
+
+/// A lane of what was sent on a connection is the numbers of the messages that name its slot, in order, and then the end. What
+/// stands in front of a line that is whole, with nothing after its end, is the first of these numbers, in order, and at most
+/// an end.
+pub fn a_lane_follows_what_was_sent()
+    ensures lanes { LanesOfSent }
+    ensures follows { WholeFollows }
 {}

@@ -24,7 +24,7 @@ pub use boxed::BoxedEnvelope;
 pub use carried::Carried;
 pub use codec::{decode, encode, is_side_message, reading_of_is_what_is_spelt};
 pub use laws::{
-    what_is_read_grows_with_the_items, what_is_read_is_what_was_sent, what_is_read_keeps_the_shape,
+    a_lane_follows_what_was_sent, what_is_read_grows_with_the_items, what_is_read_is_what_was_sent, what_is_read_keeps_the_shape,
 };
 pub use link::{Bytes, Cause, Command, Inbound, LinkItem};
 pub use message::{MESSAGE_LIMIT, Message};

@@ -1,5 +1,5 @@
-use Rattle.scp_pending.proofs.Ending.{all_exits, cuts_are_consecutive}
+use Rattle.scp_pending.proofs.Ending.{all_exits}
 use Rattle.scp_pending.proofs.laws.each_connection_ends_by_its_cause.Goals as goal
 
 pub returns : goal.returns
-returns c = record { exits = all_exits; consecutive = cuts_are_consecutive }
+returns c = record { exits = all_exits }

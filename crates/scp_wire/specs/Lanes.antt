@@ -1,0 +1,74 @@
+-- Lanes: of a connection the messages that name one slot (this project's profile).
+use Rattle.std.specs.Prelude.{ℕ, ◌+◌, ◌≡◌, if◌then◌else◌, Bool, true, false, List, [], ◌∷◌, ◌++◌, Option, Some, None, nat_eq, filter, map, option_to_list, slice_get}
+use Rattle.std.specs.List.{AllByRecursion}
+use Rattle.scp_types.specs.declared.names.ConnId.{ConnId}
+use Rattle.scp_wire.specs.declared.message.Message.{Message}
+use Rattle.scp_wire.specs.declared.message.Message.TheVariants.{Envelope, GetSet, Set, NoSet, GetRecord, Record}
+use Rattle.scp_wire.specs.declared.link.Cause.{Cause}
+use Rattle.scp_wire.specs.declared.link.Inbound.{Inbound}
+use Rattle.scp_wire.specs.declared.link.Inbound.TheVariants.{Opened, Carried, Side, Closed, Local}
+use Rattle.scp_wire.specs.Connections.{same_conn}
+use Rattle.scp_wire.specs.Marks.{Mark, number, ended, IsWhole}
+use Rattle.scp_wire.specs.Sent.{numbers}
+
+-- the slot that a carried message names; a side message names none
+abbrev pub slot_of : Message → ℕ
+slot_of (Envelope envelope) = envelope.value.statement.slot.0
+slot_of (GetSet hash) = 0
+slot_of (Set set) = 0
+slot_of (NoSet hash) = 0
+slot_of (GetRecord slot) = slot.0
+slot_of (Record slot value) = slot.0
+
+abbrev pub slot_in : Option Message → ℕ
+slot_in None = 0
+slot_in (Some message) = slot_of message
+
+-- the slot of each number of a connection, by the connection's carried messages
+abbrev pub slots_of : List Message → ℕ → ℕ
+slots_of messages n = slot_in (slice_get messages n)
+
+-- of a line, the numbers of the messages that name the slot, and each end
+abbrev pub is_in_lane : (ℕ → ℕ) → ℕ → Mark → Bool
+is_in_lane slots s (number n) = nat_eq (slots n) s
+is_in_lane slots s (ended cause) = true
+
+abbrev pub in_lane : (ℕ → ℕ) → ℕ → List Mark → List Mark
+in_lane slots s marks = filter (is_in_lane slots s) marks
+
+-- nothing stands after an end
+abbrev pub EndsLast : List Mark → Type 0
+EndsLast [] = Unit {0}
+EndsLast (number n ∷ rest) = EndsLast rest
+EndsLast (ended cause ∷ rest) = rest ≡ []
+
+-- of one lane: the first of these numbers, in order, and then at most an end
+abbrev pub FollowsIn : List ℕ → List Mark → Type 0
+FollowsIn ns [] = Unit {0}
+FollowsIn ns (ended cause ∷ rest) = rest ≡ []
+FollowsIn [] (number n ∷ rest) = ⊥
+FollowsIn (m ∷ ns) (number n ∷ rest) = (n ≡ m) × FollowsIn ns rest
+
+-- the numbers, among these messages from n on, of those that name the slot
+abbrev pub lane_numbers : ℕ → ℕ → List Message → List ℕ
+lane_numbers s n [] = []
+lane_numbers s n (m ∷ ms) = if nat_eq (slot_of m) s then n ∷ lane_numbers s (n + 1) ms else lane_numbers s (n + 1) ms
+
+-- a lane of what was sent: its numbers, and then the end
+abbrev pub LanesOfSent : Type 0
+LanesOfSent = (messages : List Message) (end : Option Cause) (s : ℕ) → in_lane (slots_of messages) s (numbers 0 messages ++ map ended (option_to_list end)) ≡ map number (lane_numbers s 0 messages) ++ map ended (option_to_list end)
+
+-- what stands in front of a line that is whole, by what was sent so far, with nothing after its end, follows
+abbrev pub WholeFollows : Type 0
+WholeFollows = (ns : List ℕ) (end : Option Cause) (sent more front back : List Mark) → map number ns ++ map ended (option_to_list end) ≡ sent ++ more → IsWhole sent (front ++ back) → EndsLast (front ++ back) → FollowsIn ns front
+
+-- these slots are those of the messages that came of the connection
+abbrev pub HasSlot : ConnId → (ℕ → ℕ) → Inbound → Type 0
+HasSlot c slots (Opened conn) = Unit {0}
+HasSlot c slots (Carried x) = same_conn x.conn c ≡ true → slots x.seq.0 ≡ slot_of x.message
+HasSlot c slots (Side conn message) = Unit {0}
+HasSlot c slots (Closed conn cause) = Unit {0}
+HasSlot c slots (Local command) = Unit {0}
+
+abbrev pub HaveSlots : ConnId → (ℕ → ℕ) → List Inbound → Type 0
+HaveSlots c slots items = AllByRecursion (HasSlot c slots) items
