@@ -3,12 +3,13 @@ use Rattle.std.proofs.Common.{◌≡◌, ◌≢◌, ℕ, ◌+◌, ◌<◌, ◌�
 use Rattle.std.specs.Prelude.{IfOk, ◌↔◌}
 use Rattle.std.proofs.lemmas.List.{length-append, length-replicate}
 use Rattle.scp_types.specs.declared.fault.Fault.{Fault}
-use Rattle.scp_xdr.specs.Kind.{Values, Fits, Spells, spelling, word, long_word, padded, padding_len}
+use Rattle.scp_xdr.specs.Shared.{value_kind}
+use Rattle.scp_xdr.specs.Kind.{numbered, Values, Fits, Spells, spelling, word, long_word, padded, padding_len}
 use Rattle.scp_xdr.proofs.Lengths.{word_len, long_word_len}
 use Rattle.scp_quorum.specs.QuorumKind.{set_spelling}
 use Rattle.scp_envelope.specs.Kinds.{envelope_kind, envelope_value}
 use Rattle.scp_wire.specs.declared.message.Message.{Message}
-use Rattle.scp_wire.specs.declared.message.Message.TheVariants.{Envelope, GetSet, Set, NoSet, GetRecord, Record}
+use Rattle.scp_wire.specs.declared.message.Message.TheVariants.{Envelope, GetSet, Set, NoSet, GetRecord, Record, Records}
 use Rattle.scp_wire.specs.Message.{message_kind, message_value, SpellsMessage, FitsMessage, HasRanges, BreaksALimit}
 
 padded_len : (bytes : List ℕ) → length (padded bytes) ≤ length bytes + 3
@@ -92,3 +93,12 @@ over_is (Record slot value) range = (over, λ long. inl (λ fits. omega (arith, 
 
     over : IsOver (message_value (Record slot value)) → 4096 < length value
     over o = at (ltb 4096 (length value)) refl o
+over_is (Records first values) range = (over, back)
+  where
+    over : IsOver (message_value (Records first values)) → BreaksALimit (Records first values)
+    over (inl unfit) = inl (λ fits. unfit (other_tag 7 1 (omega arith), (other_tag 7 2 (omega arith), (other_tag 7 3 (omega arith), (other_tag 7 4 (omega arith), (other_tag 7 5 (omega arith), (other_tag 7 6 (omega arith), (omega arith, fits))))))))
+    over (inr longer) = inr (omega (arith, longer, text_len 7 (spelling (numbered 32 value_kind) (first.0, values))))
+
+    back : BreaksALimit (Records first values) → IsOver (message_value (Records first values))
+    back (inl unfit) = inl (λ fits. unfit fits.1.1.1.1.1.1.1)
+    back (inr longer) = inr (omega (arith, longer, text_len 7 (spelling (numbered 32 value_kind) (first.0, values))))

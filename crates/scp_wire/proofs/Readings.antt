@@ -10,7 +10,7 @@ use Rattle.scp_xdr.proofs.Laws.{whole_found, whole_again}
 use Rattle.scp_quorum.proofs.SetValues.{set_again, set_value_again}
 use Rattle.scp_envelope.proofs.EnvelopeValues.{envelope_again, envelope_value_again}
 use Rattle.scp_wire.specs.declared.message.Message.{Message}
-use Rattle.scp_wire.specs.declared.message.Message.TheVariants.{Envelope, GetSet, Set, NoSet, GetRecord, Record}
+use Rattle.scp_wire.specs.declared.message.Message.TheVariants.{Envelope, GetSet, Set, NoSet, GetRecord, Record, Records}
 use Rattle.scp_wire.specs.Message.{message_kind, message_value, message_of, message_reading, SpellsMessage}
 use Rattle.scp_wire.specs.Reading.{message_in, reading_of, AreBytes, ReadingIsSpelt}
 
@@ -23,6 +23,7 @@ message_again (Set set) = ap Set (set_again set)
 message_again (NoSet hash) = refl
 message_again (GetRecord slot) = refl
 message_again (Record slot value) = refl
+message_again (Records first values) = refl
 
 value_again : (v : Values message_kind) → message_value (message_of v) ≡ v
 value_again (inl v) = ap (λ e. inl e) (envelope_value_again v)
@@ -31,7 +32,8 @@ value_again (inr (inr (inl v))) = ap (λ t. inr (inr (inl t))) (set_value_again 
 value_again (inr (inr (inr (inl v)))) = refl
 value_again (inr (inr (inr (inr (inl v))))) = refl
 value_again (inr (inr (inr (inr (inr (inl v)))))) = refl
-value_again (inr (inr (inr (inr (inr (inr v)))))) = elim v [ ]
+value_again (inr (inr (inr (inr (inr (inr (inl v))))))) = refl
+value_again (inr (inr (inr (inr (inr (inr (inr v))))))) = elim v [ ]
 
 -- ---- what a call gave
 

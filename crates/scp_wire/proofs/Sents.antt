@@ -7,7 +7,7 @@ use Rattle.std.proofs.lemmas.Bool.Decides.{nat_tests}
 use Rattle.scp_types.specs.declared.names.ConnId.{ConnId}
 use Rattle.scp_types.specs.declared.names.NodeId.{NodeId}
 use Rattle.scp_wire.specs.declared.message.Message.{Message}
-use Rattle.scp_wire.specs.declared.message.Message.TheVariants.{Envelope, GetSet, Set, NoSet, GetRecord, Record}
+use Rattle.scp_wire.specs.declared.message.Message.TheVariants.{Envelope, GetSet, Set, NoSet, GetRecord, Record, Records}
 use Rattle.scp_wire.specs.declared.side.SideMessage.{SideMessage}
 use Rattle.scp_wire.specs.declared.side.SideMessage.TheVariants as side
 use Rattle.scp_wire.specs.declared.link.LinkItem.{LinkItem}
@@ -18,12 +18,14 @@ use Rattle.scp_wire.specs.declared.link.Cause.{Cause}
 use Rattle.scp_wire.specs.declared.link.Cause.TheVariants.{Malformed, Link, Spent}
 use Rattle.scp_wire.specs.Carried.{is_carried}
 use Rattle.scp_wire.specs.Reading.{reading_of}
-use Rattle.scp_wire.specs.LinkReading.{ReaderView, unread, reading, after, readings, brought, after_read, numbered}
+use Rattle.scp_wire.specs.LinkReading.{ReaderView, unread, reading, after, readings, brought, after_read, brought_one, brought_each, after_one, after_each, next_of, is_spent, singles, IsSingle, numbered}
 use Rattle.scp_wire.specs.Connections.{conn_at, same_conn}
 use Rattle.scp_wire.specs.Shape.{Tail, never_open, goes, MayGo, AreOfLink}
 use Rattle.scp_wire.specs.Marks.{Mark, number, ended, one_if, came_mark, marks_in, came_message, messages_in}
 use Rattle.scp_wire.specs.Sent.{sent_by, closed_by, sent, is_closed, readable, all_readable, all_carried, carried_of, end_of, numbers, line_of_sent, readable_from}
 use Rattle.scp_wire.specs.ReaderLaws.{IsSent, ReadingsAreSent}
+use Rattle.std.specs.List.{AllByRecursion}
+use Rattle.scp_wire.proofs.Shapes.{all_single}
 use Rattle.scp_wire.proofs.Lines.{same_conn-at, marks_in-append, messages_in-append}
 
 -- ---- an item of another life says nothing
@@ -37,34 +39,34 @@ silent-append c xs ys a b = (marks_in-append c xs ys ∙ rw (a.0, b.0) refl, mes
 other_end : (c conn : ConnId) (cause : Cause) → same_conn conn c ≡ false → Silent c (inbound.Closed conn cause ∷ [])
 other_end c conn cause e = (rw e refl, refl)
 
-other_read : (c conn : ConnId) (n : ℕ) (read : Option Message) → same_conn conn c ≡ false → Silent c (brought conn n read ∷ [])
-other_read c conn n None e = other_end c conn Malformed e
-other_read c conn n (Some (Envelope x)) e = spent_or (nat_eq n 1000000)
-  where
-    spent_or : (b : Bool) → Silent c ((if b then inbound.Closed conn Spent else numbered conn n (Envelope x)) ∷ [])
-    spent_or true = other_end c conn Spent e
-    spent_or false = (rw e refl, rw e refl)
-other_read c conn n (Some (GetSet x)) e = (refl, refl)
-other_read c conn n (Some (Set x)) e = (refl, refl)
-other_read c conn n (Some (NoSet x)) e = (refl, refl)
-other_read c conn n (Some (GetRecord x)) e = spent_or (nat_eq n 1000000)
-  where
-    spent_or : (b : Bool) → Silent c ((if b then inbound.Closed conn Spent else numbered conn n (GetRecord x)) ∷ [])
-    spent_or true = other_end c conn Spent e
-    spent_or false = (rw e refl, rw e refl)
-other_read c conn n (Some (Record x y)) e = spent_or (nat_eq n 1000000)
-  where
-    spent_or : (b : Bool) → Silent c ((if b then inbound.Closed conn Spent else numbered conn n (Record x y)) ∷ [])
-    spent_or true = other_end c conn Spent e
-    spent_or false = (rw e refl, rw e refl)
+other_one : (c conn : ConnId) (n : ℕ) (m : Message) → same_conn conn c ≡ false → Silent c (numbered conn n m ∷ [])
+other_one c conn n (Envelope x) e = (rw e refl, rw e refl)
+other_one c conn n (GetSet x) e = (refl, refl)
+other_one c conn n (Set x) e = (refl, refl)
+other_one c conn n (NoSet x) e = (refl, refl)
+other_one c conn n (GetRecord x) e = (rw e refl, rw e refl)
+other_one c conn n (Record x y) e = (rw e refl, rw e refl)
+other_one c conn n (Records x y) e = other_end c conn Malformed e
 
-if_silent : (c : ConnId) (b : Bool) (x : Inbound) → Silent c (x ∷ []) → Silent c (option_to_list (if b then None else Some x))
-if_silent c true x s = (refl, refl)
-if_silent c false x s = s
+other_each : (c conn : ConnId) (n : ℕ) (ms : List Message) → same_conn conn c ≡ false → Silent c (brought_each conn n ms)
+other_each c conn n [] e = (refl, refl)
+other_each c conn n (m ∷ ms) e = by_test (is_spent n m) (silent-append c (numbered conn n m ∷ []) (brought_each conn (next_of n m) ms) (other_one c conn n m e) (other_each c conn (next_of n m) ms e))
+  where
+    by_test : (b : Bool) → Silent c (numbered conn n m ∷ brought_each conn (next_of n m) ms) → Silent c ((if b then inbound.Closed conn Spent else numbered conn n m) ∷ (if b then [] else brought_each conn (next_of n m) ms))
+    by_test true s = other_end c conn Spent e
+    by_test false s = s
+
+other_read : (c conn : ConnId) (n : ℕ) (read : Option Message) → same_conn conn c ≡ false → Silent c (brought conn n read)
+other_read c conn n None e = other_end c conn Malformed e
+other_read c conn n (Some m) e = other_each c conn n (singles m) e
+
+if_silent : (c : ConnId) (b : Bool) (xs : List Inbound) → Silent c xs → Silent c (if b then [] else xs)
+if_silent c true xs s = (refl, refl)
+if_silent c false xs s = s
 
 -- an item of a life that isn't this one
 record IsOther (c : ConnId) (r : ReaderView) (x : LinkItem) : Type 0 where
-  read : Silent c (option_to_list (reading r x))
+  read : Silent c (reading r x)
   sent_none : sent_by c x ≡ []
   closed_none : closed_by c x ≡ false
 
@@ -77,7 +79,7 @@ other peer me life t r (item.Bytes conn bytes) ne g =
 other peer me life t r (item.Closed conn) ne g =
     let c = conn_at peer me life in
     let e : same_conn conn c ≡ false = ap (λ (d : ConnId). same_conn d c) g.1 ∙ same_conn-at peer me t.life life ∙ ne in
-    record { read = if_silent c r.ended (inbound.Closed conn Link) (other_end c conn Link e); sent_none = refl; closed_none = e }
+    record { read = if_silent c r.ended (inbound.Closed conn Link ∷ []) (other_end c conn Link e); sent_none = refl; closed_none = e }
 
 -- ---- the life is over
 
@@ -87,7 +89,7 @@ record IsOver (c : ConnId) (r : ReaderView) (items : List LinkItem) : Type 0 whe
   closed_none : is_closed c items ≡ false
 
 over-more : (c : ConnId) (r : ReaderView) (x : LinkItem) (xs : List LinkItem) → IsOther c r x → IsOver c (after r x) xs → IsOver c r (x ∷ xs)
-over-more c r x xs a k = record { read = silent-append c (option_to_list (reading r x)) (readings (after r x) xs) a.read k.read; sent_none = rw (a.sent_none) k.sent_none; closed_none = rw (a.closed_none) k.closed_none }
+over-more c r x xs a k = record { read = silent-append c (reading r x) (readings (after r x) xs) a.read k.read; sent_none = rw (a.sent_none) k.sent_none; closed_none = rw (a.closed_none) k.closed_none }
 
 later : (a life : ℕ) → life < a → nat_eq a life ≡ false
 later a life lt = grind (arith, nat_tests)
@@ -181,23 +183,32 @@ record Rest (c : ConnId) (xs : List LinkItem) (messages : List Message) (ok clos
 not_limit : (n limit : ℕ) → n + suc limit ≡ 1000000 → nat_eq n 1000000 ≡ false
 not_limit n limit e = let lt : n < 1000000 = omega (arith, e) in grind (arith, nat_tests)
 
-carried : (c conn : ConnId) (n limit : ℕ) (xs : List LinkItem) (m : Message) (messages : List Message) (ok closed : Bool) → (x : Inbound) → came_mark c x ≡ number n ∷ [] → came_message c x ≡ m ∷ [] → same_conn conn c ≡ true → n + limit ≡ 1000000 → Rest c xs messages ok closed
-    → Told c n limit ((if nat_eq n 1000000 then inbound.Closed conn Spent else x) ∷ readings (if nat_eq n 1000000 then record { ended = true; next = n } else record { ended = false; next = n + 1 }) xs) (m ∷ messages) ok closed
-carried c conn n zero xs m messages ok closed x mark message same e r =
+-- what messages in turn say, with what follows
+abbrev Says : ConnId → List LinkItem → ConnId → List Message → List Message → Bool → Bool → Type 0
+Says c xs conn ms messages ok closed = (n limit : ℕ) → n + limit ≡ 1000000 → Told c n limit (brought_each conn n ms ++ readings (after_each (goes_on n) ms) xs) messages ok closed
+
+carried : (c conn : ConnId) (n limit : ℕ) (xs : List LinkItem) (m : Message) (ms messages later' : List Message) (ok closed : Bool) → (x : Inbound) → came_mark c x ≡ number n ∷ [] → came_message c x ≡ m ∷ [] → same_conn conn c ≡ true → n + limit ≡ 1000000 → Rest c xs later' ok closed → Says c xs conn ms messages ok closed
+    → Told c n limit (((if nat_eq n 1000000 then inbound.Closed conn Spent else x) ∷ (if nat_eq n 1000000 then [] else brought_each conn (n + 1) ms)) ++ readings (if nat_eq n 1000000 then (if nat_eq n 1000000 then record { ended = true; next = n } else goes_on (n + 1)) else after_each (if nat_eq n 1000000 then record { ended = true; next = n } else goes_on (n + 1)) ms) xs) (m ∷ messages) ok closed
+carried c conn n zero xs m ms messages later' ok closed x mark message same e r says =
     let at : nat_eq n 1000000 ≡ true = let is : n ≡ 1000000 = omega (arith, e) in grind (arith, nat_tests) in
     rw at (told-spent c conn n (readings (record { ended = true; next = n }) xs) m messages ok closed same (r.dead' n))
-carried c conn n (suc limit) xs m messages ok closed x mark message same e r =
-    rw (not_limit n limit e) (told-carried c n limit x (readings (goes_on (n + 1)) xs) m messages ok closed mark message (r.live (n + 1) limit (omega (arith, e))))
+carried c conn n (suc limit) xs m ms messages later' ok closed x mark message same e r says =
+    rw (not_limit n limit e) (told-carried c n limit x (brought_each conn (n + 1) ms ++ readings (after_each (goes_on (n + 1)) ms) xs) m messages ok closed mark message (says (n + 1) limit (omega (arith, e))))
+
+each_told : (c conn : ConnId) (xs : List LinkItem) (ms later' : List Message) (ok closed : Bool) → AllByRecursion IsSingle ms → same_conn conn c ≡ true → Rest c xs (filter is_carried later') ok closed → Says c xs conn ms (filter is_carried (ms ++ later')) ok closed
+each_told c conn xs [] later' ok closed all same r = λ n limit e. r.live n limit e
+each_told c conn xs (Envelope x ∷ ms) later' ok closed all same r = λ n limit e. carried c conn n limit xs (Envelope x) ms (filter is_carried (ms ++ later')) (filter is_carried later') ok closed (numbered conn n (Envelope x)) (rw same refl) (rw same refl) same e r (each_told c conn xs ms later' ok closed all.1 same r)
+each_told c conn xs (GetSet x ∷ ms) later' ok closed all same r = λ n limit e. told-side c conn n limit (side.GetSet x) (brought_each conn n ms ++ readings (after_each (goes_on n) ms) xs) (filter is_carried (ms ++ later')) ok closed (each_told c conn xs ms later' ok closed all.1 same r n limit e)
+each_told c conn xs (Set x ∷ ms) later' ok closed all same r = λ n limit e. told-side c conn n limit (side.Set x) (brought_each conn n ms ++ readings (after_each (goes_on n) ms) xs) (filter is_carried (ms ++ later')) ok closed (each_told c conn xs ms later' ok closed all.1 same r n limit e)
+each_told c conn xs (NoSet x ∷ ms) later' ok closed all same r = λ n limit e. told-side c conn n limit (side.NoSet x) (brought_each conn n ms ++ readings (after_each (goes_on n) ms) xs) (filter is_carried (ms ++ later')) ok closed (each_told c conn xs ms later' ok closed all.1 same r n limit e)
+each_told c conn xs (GetRecord x ∷ ms) later' ok closed all same r = λ n limit e. carried c conn n limit xs (GetRecord x) ms (filter is_carried (ms ++ later')) (filter is_carried later') ok closed (numbered conn n (GetRecord x)) (rw same refl) (rw same refl) same e r (each_told c conn xs ms later' ok closed all.1 same r)
+each_told c conn xs (Record x y ∷ ms) later' ok closed all same r = λ n limit e. carried c conn n limit xs (Record x y) ms (filter is_carried (ms ++ later')) (filter is_carried later') ok closed (numbered conn n (Record x y)) (rw same refl) (rw same refl) same e r (each_told c conn xs ms later' ok closed all.1 same r)
+each_told c conn xs (Records x y ∷ ms) later' ok closed all same r = elim all.0 [ ]
 
 bytes_told : (c conn : ConnId) (n limit : ℕ) (xs : List LinkItem) (read : Option Message) (later' : List Message) (ok closed : Bool) → same_conn conn c ≡ true → n + limit ≡ 1000000 → Rest c xs (filter is_carried later') ok closed
-    → Told c n limit (brought conn n read ∷ readings (after_read (goes_on n) read) xs) (filter is_carried (readable_from read later')) (if is_some read then ok else false) closed
+    → Told c n limit (brought conn n read ++ readings (after_read (goes_on n) read) xs) (filter is_carried (readable_from read later')) (if is_some read then ok else false) closed
 bytes_told c conn n limit xs None later' ok closed same e r = told-end c conn Malformed n limit (readings (record { ended = true; next = n }) xs) false closed same (r.dead' n) refl
-bytes_told c conn n limit xs (Some (Envelope x)) later' ok closed same e r = carried c conn n limit xs (Envelope x) (filter is_carried later') ok closed (numbered conn n (Envelope x)) (rw same refl) (rw same refl) same e r
-bytes_told c conn n limit xs (Some (GetSet x)) later' ok closed same e r = told-side c conn n limit (side.GetSet x) (readings (goes_on n) xs) (filter is_carried later') ok closed (r.live n limit e)
-bytes_told c conn n limit xs (Some (Set x)) later' ok closed same e r = told-side c conn n limit (side.Set x) (readings (goes_on n) xs) (filter is_carried later') ok closed (r.live n limit e)
-bytes_told c conn n limit xs (Some (NoSet x)) later' ok closed same e r = told-side c conn n limit (side.NoSet x) (readings (goes_on n) xs) (filter is_carried later') ok closed (r.live n limit e)
-bytes_told c conn n limit xs (Some (GetRecord x)) later' ok closed same e r = carried c conn n limit xs (GetRecord x) (filter is_carried later') ok closed (numbered conn n (GetRecord x)) (rw same refl) (rw same refl) same e r
-bytes_told c conn n limit xs (Some (Record x y)) later' ok closed same e r = carried c conn n limit xs (Record x y) (filter is_carried later') ok closed (numbered conn n (Record x y)) (rw same refl) (rw same refl) same e r
+bytes_told c conn n limit xs (Some m) later' ok closed same e r = each_told c conn xs (singles m) later' ok closed (all_single m) same r n limit e
 
 same_here : (peer me : NodeId) (life : ℕ) (t : Tail) (conn : ConnId) → t.life ≡ life → conn ≡ conn_at peer me t.life → same_conn conn (conn_at peer me life) ≡ true
 same_here peer me life t conn l e = ap (λ (d : ConnId). same_conn d (conn_at peer me life)) e ∙ same_conn-at peer me t.life life ∙ ap (λ k. nat_eq k life) l ∙ same_nat life
@@ -212,7 +223,7 @@ living peer me life t n limit (item.Bytes conn bytes ∷ xs) l o e a =
     let c = conn_at peer me life in
     let same = same_here peer me life t conn l a.0.1 in
     let told = bytes_told c conn n limit xs (reading_of bytes) (readable (sent c xs)) (all_readable (sent c xs)) (is_closed c xs) same e (record { live = λ k m f. living peer me life t k m xs l o f a.1; dead' = λ k. dead peer me life t k xs l o a.1 }) in
-    subst (λ (bs : List (List ℕ)). Told c n limit (brought conn n (reading_of bytes) ∷ readings (after_read (goes_on n) (reading_of bytes)) xs) (all_carried bs) (all_readable bs) (is_closed c xs)) (ap (λ b. one_if b bytes ++ sent c xs) (sym same)) told
+    subst (λ (bs : List (List ℕ)). Told c n limit (brought conn n (reading_of bytes) ++ readings (after_read (goes_on n) (reading_of bytes)) xs) (all_carried bs) (all_readable bs) (is_closed c xs)) (ap (λ b. one_if b bytes ++ sent c xs) (sym same)) told
 living peer me life t n limit (item.Closed conn ∷ xs) l o e a =
     let c = conn_at peer me life in
     let same = same_here peer me life t conn l a.0.1 in
@@ -223,8 +234,8 @@ living peer me life t n limit (item.Closed conn ∷ xs) l o e a =
 
 told-other : (c : ConnId) (r : ReaderView) (x : LinkItem) (xs : List LinkItem) → IsOther c r x → Told c 0 1000000 (readings (after r x) xs) (all_carried (sent c xs)) (all_readable (sent c xs)) (is_closed c xs) → Told c 0 1000000 (readings r (x ∷ xs)) (all_carried (sent c (x ∷ xs))) (all_readable (sent c (x ∷ xs))) (is_closed c (x ∷ xs))
 told-other c r x xs a t = record {
-  are = messages_in-append c (option_to_list (reading r x)) (readings (after r x) xs) ∙ rw (a.read.1, a.sent_none) t.are;
-  line = marks_in-append c (option_to_list (reading r x)) (readings (after r x) xs) ∙ rw (a.read.0, a.sent_none, a.closed_none) t.line;
+  are = messages_in-append c (reading r x) (readings (after r x) xs) ∙ rw (a.read.1, a.sent_none) t.are;
+  line = marks_in-append c (reading r x) (readings (after r x) xs) ∙ rw (a.read.0, a.sent_none, a.closed_none) t.line;
 }
 
 before : (peer me : NodeId) (life : ℕ) (t : Tail) (r : ReaderView) (items : List LinkItem) → t.life < life → AreOfLink peer me t items → Told (conn_at peer me life) 0 1000000 (readings r items) (all_carried (sent (conn_at peer me life) items)) (all_readable (sent (conn_at peer me life) items)) (is_closed (conn_at peer me life) items)

@@ -2,7 +2,7 @@
 use Rattle.std.proofs.Common.{◌≡◌, ℕ, ◌<◌, ◌≤◌, ◌⊎◌, true, false, eqb, List, length, Some, Result, Ok, Err, refl, sym, subst, ◌∙◌, inl, inr, eqb-true}
 use Rattle.std.specs.Prelude.{is_ok}
 use Rattle.scp_types.specs.declared.fault.Fault.{Fault}
-use Rattle.scp_xdr.specs.Kind.{Values, ArmValues, Arms, no_arm, arm, tag_of, uint64, both}
+use Rattle.scp_xdr.specs.Kind.{Values, ArmValues, Arms, no_arm, arm, tag_of, uint64, numbered, both}
 use Rattle.scp_xdr.specs.Shared.{value_kind, hash_kind}
 use Rattle.scp_xdr.specs.Reading.{Cursor, start, ◌>>=◌, read_uint32, read_end, reading, reading_arm, reading_whole}
 use Rattle.scp_xdr.specs.Words.{PassesWhole}
@@ -16,7 +16,7 @@ use Rattle.scp_wire.specs.Reading.{has_side_word, reading_of}
 use Rattle.scp_wire.proofs.Readings.{reading_within, longer_has_none}
 
 abbrev arms : Arms
-arms = arm 1 envelope_kind (arm 2 hash_kind (arm 3 set_kind (arm 4 hash_kind (arm 5 uint64 (arm 6 (both uint64 value_kind) no_arm)))))
+arms = arm 1 envelope_kind (arm 2 hash_kind (arm 3 set_kind (arm 4 hash_kind (arm 5 uint64 (arm 6 (both uint64 value_kind) (arm 7 (numbered 32 value_kind) no_arm))))))
 
 -- the discriminant that was read is that of the arm
 arm_tag : (arms : Arms) (place tag : ℕ) (c : Cursor) (v : ArmValues arms) (d : Cursor) → reading_arm arms place tag c ≡ Ok (v, d) → tag ≡ tag_of arms v
@@ -35,7 +35,8 @@ side_word (inr (inr (inl v))) d = refl
 side_word (inr (inr (inr (inl v)))) d = refl
 side_word (inr (inr (inr (inr (inl v))))) d = refl
 side_word (inr (inr (inr (inr (inr (inl v)))))) d = refl
-side_word (inr (inr (inr (inr (inr (inr v)))))) d = elim v [ ]
+side_word (inr (inr (inr (inr (inr (inr (inl v))))))) d = refl
+side_word (inr (inr (inr (inr (inr (inr (inr v))))))) d = elim v [ ]
 
 -- the first word of bytes that spell a message
 word_of : (bytes : List ℕ) (v : Values message_kind) → reading_whole message_kind bytes ≡ Ok v → has_side_word (read_uint32 (start bytes)) ≡ is_side (Some (message_of v))

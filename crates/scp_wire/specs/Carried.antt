@@ -1,10 +1,11 @@
 -- Which messages are numbered on their connection.
-use Rattle.std.specs.Prelude.{◌≡◌, Bool, true, false, not, Option, Some, None}
+use Rattle.std.specs.Prelude.{◌≡◌, Bool, true, false, Option, Some, None}
 use Rattle.std.proofs.Math.Bool.{Bool-set}
 use Rattle.scp_wire.specs.declared.message.Message.{Message}
-use Rattle.scp_wire.specs.declared.message.Message.TheVariants.{Envelope, GetSet, Set, NoSet, GetRecord, Record}
+use Rattle.scp_wire.specs.declared.message.Message.TheVariants.{Envelope, GetSet, Set, NoSet, GetRecord, Record, Records}
 
--- envelopes, requests for a record and records are; what asks for a quorum set or answers is a side message
+-- envelopes, requests for a record and records are; what asks for a quorum set or answers is a side message; a batch is read
+-- as its records, which are
 abbrev pub is_carried : Message → Bool
 is_carried (Envelope envelope) = true
 is_carried (GetSet hash) = false
@@ -12,6 +13,7 @@ is_carried (Set set) = false
 is_carried (NoSet hash) = false
 is_carried (GetRecord slot) = true
 is_carried (Record slot value) = true
+is_carried (Records first values) = false
 
 abbrev pub IsCarried : Message → Type 0
 IsCarried message = is_carried message ≡ true
@@ -23,4 +25,10 @@ IsCarried-prop m = hlevel (Bool-set)
 -- what was read is a side message
 abbrev pub is_side : Option Message → Bool
 is_side None = false
-is_side (Some message) = not (is_carried message)
+is_side (Some (Envelope envelope)) = false
+is_side (Some (GetSet hash)) = true
+is_side (Some (Set set)) = true
+is_side (Some (NoSet hash)) = true
+is_side (Some (GetRecord slot)) = false
+is_side (Some (Record slot value)) = false
+is_side (Some (Records first values)) = false

@@ -1,9 +1,9 @@
--- What a link's items are read as (this project's profile): carried messages numbered 0, 1, 2, .. on each connection,
--- side messages, and the connection's end. What follows of a connection that ended is discarded up to the next Opened.
-use Rattle.std.specs.Prelude.{ℕ, ◌+◌, ◌≡◌, refl, Bool, true, false, ◌&&◌, List, [], ◌∷◌, ◌++◌, Option, Some, None, nat_eq, if◌then◌else◌, option_to_list, fold}
+-- What a link's items are read as (this project's profile): carried messages numbered 0, 1, 2, .. on each connection, a
+-- batch as its records, side messages, and the connection's end. What follows of a connection that ended is discarded up to the next Opened.
+use Rattle.std.specs.Prelude.{ℕ, ◌+◌, ◌^◌, ◌≤◌, length, ◌≡◌, refl, Bool, true, false, ◌&&◌, List, [], ◌∷◌, ◌++◌, Option, Some, None, nat_eq, if◌then◌else◌, fold, drop}
 use Rattle.scp_types.specs.declared.names.ConnId.{ConnId}
 use Rattle.scp_wire.specs.declared.message.Message.{Message}
-use Rattle.scp_wire.specs.declared.message.Message.TheVariants.{Envelope, GetSet, Set, NoSet, GetRecord, Record}
+use Rattle.scp_wire.specs.declared.message.Message.TheVariants.{Envelope, GetSet, Set, NoSet, GetRecord, Record, Records}
 use Rattle.scp_wire.specs.declared.side.SideMessage.TheVariants as side
 use Rattle.scp_wire.specs.declared.link.LinkItem.{LinkItem}
 use Rattle.scp_wire.specs.declared.link.LinkItem.TheVariants.{Opened, Bytes, Closed}
@@ -16,7 +16,12 @@ use Rattle.scp_wire.specs.Reading.{reading_of}
 -- where a reader stands on its link
 pub record ReaderView : Type 0 where
   pub ended : Bool  -- no connection is open, or what still comes of it is discarded
-  pub next : ℕ  -- the number of the next carried message
+  pub next : ℕ  -- the number of the next carried message that isn't read yet
+
+-- and what it read of a batch and is still to give
+pub record ReaderState : Type 0 where
+  pub at : ReaderView
+  pub rest : List Inbound
 
 -- the link was never open
 abbrev pub unread : ReaderView
@@ -30,41 +35,105 @@ numbered conn n (Set set) = inbound.Side conn (side.Set set)
 numbered conn n (NoSet hash) = inbound.Side conn (side.NoSet hash)
 numbered conn n (GetRecord slot) = inbound.Carried (record { conn = conn; seq = record { 0 = n }; message = GetRecord slot; carried = refl })
 numbered conn n (Record slot value) = inbound.Carried (record { conn = conn; seq = record { 0 = n }; message = Record slot value; carried = refl })
+numbered conn n (Records first values) = inbound.Closed conn Malformed  -- never: a batch is read as its records
+
+-- a batch is read as its records: the one at place i names slot first + i
+abbrev pub records_from : ℕ → List (List ℕ) → List Message
+records_from slot [] = []
+records_from slot (value ∷ values) = Record (record { 0 = slot }) value ∷ records_from (slot + 1) values
+
+abbrev pub singles : Message → List Message
+singles (Envelope envelope) = Envelope envelope ∷ []
+singles (GetSet hash) = GetSet hash ∷ []
+singles (Set set) = Set set ∷ []
+singles (NoSet hash) = NoSet hash ∷ []
+singles (GetRecord slot) = GetRecord slot ∷ []
+singles (Record slot value) = Record slot value ∷ []
+singles (Records first values) = records_from first.0 values
+
+-- a message that is read as itself
+abbrev pub IsSingle : Message → Type 0
+IsSingle (Envelope envelope) = Unit {0}
+IsSingle (GetSet hash) = Unit {0}
+IsSingle (Set set) = Unit {0}
+IsSingle (NoSet hash) = Unit {0}
+IsSingle (GetRecord slot) = Unit {0}
+IsSingle (Record slot value) = Unit {0}
+IsSingle (Records first values) = ⊥
+
+-- the last record of a batch names a slot
+abbrev pub HasRoom : Message → Type 0
+HasRoom (Envelope envelope) = Unit {0}
+HasRoom (GetSet hash) = Unit {0}
+HasRoom (Set set) = Unit {0}
+HasRoom (NoSet hash) = Unit {0}
+HasRoom (GetRecord slot) = Unit {0}
+HasRoom (Record slot value) = Unit {0}
+HasRoom (Records first values) = first.0 + length values ≤ 2 ^ 64
 
 -- 1,000,000 messages were carried, and this would be one more
 abbrev pub is_spent : ℕ → Message → Bool
 is_spent n message = is_carried message && nat_eq n 1000000
 
+-- the number after a message
+abbrev pub next_of : ℕ → Message → ℕ
+next_of n message = if is_carried message then n + 1 else n
+
+-- what one message brings
+abbrev pub brought_one : ConnId → ℕ → Message → Inbound
+brought_one conn n message = if is_spent n message then inbound.Closed conn Spent else numbered conn n message
+
+abbrev pub after_one : ReaderView → Message → ReaderView
+after_one r message = if is_spent r.next message then record r { ended = true } else record r { next = next_of r.next message }
+
+-- what messages bring in turn; one that is spent ends the connection, and what follows it is given up
+abbrev pub brought_each : ConnId → ℕ → List Message → List Inbound
+brought_each conn n [] = []
+brought_each conn n (m ∷ ms) = brought_one conn n m ∷ (if is_spent n m then [] else brought_each conn (next_of n m) ms)
+
+abbrev pub after_each : ReaderView → List Message → ReaderView
+after_each r [] = r
+after_each r (m ∷ ms) = if is_spent r.next m then after_one r m else after_each (after_one r m) ms
+
 -- what bytes bring that have this reading
-abbrev pub brought : ConnId → ℕ → Option Message → Inbound
-brought conn n None = inbound.Closed conn Malformed
-brought conn n (Some message) = if is_spent n message then inbound.Closed conn Spent else numbered conn n message
+abbrev pub brought : ConnId → ℕ → Option Message → List Inbound
+brought conn n None = inbound.Closed conn Malformed ∷ []
+brought conn n (Some message) = brought_each conn n (singles message)
 
 abbrev pub after_read : ReaderView → Option Message → ReaderView
 after_read r None = record r { ended = true }
-after_read r (Some message) = if is_spent r.next message then record r { ended = true } else (if is_carried message then record r { next = r.next + 1 } else r)
+after_read r (Some message) = after_each r (singles message)
 
 -- what an item gives, where it isn't discarded
-abbrev pub reading : ReaderView → LinkItem → Option Inbound
-reading r (Opened conn) = Some (inbound.Opened conn)
-reading r (Bytes conn bytes) = if r.ended then None else Some (brought conn r.next (reading_of bytes))
-reading r (Closed conn) = if r.ended then None else Some (inbound.Closed conn Link)
+abbrev pub reading : ReaderView → LinkItem → List Inbound
+reading r (Opened conn) = inbound.Opened conn ∷ []
+reading r (Bytes conn bytes) = if r.ended then [] else brought conn r.next (reading_of bytes)
+reading r (Closed conn) = if r.ended then [] else inbound.Closed conn Link ∷ []
+
+-- the first of what an item gives, and the others
+abbrev pub first_of : List Inbound → Option Inbound
+first_of [] = None
+first_of (x ∷ xs) = Some x
 
 -- the reader after an item
 abbrev pub after : ReaderView → LinkItem → ReaderView
-after r (Opened conn) = record { ended = false; next = 0 }
+after r (Opened conn) = record r { ended = false; next = 0 }
 after r (Bytes conn bytes) = if r.ended then r else after_read r (reading_of bytes)
 after r (Closed conn) = if r.ended then r else record r { ended = true }
 
 -- what a list of items gives, and the reader after it
 abbrev pub readings : ReaderView → List LinkItem → List Inbound
 readings r [] = []
-readings r (item ∷ items) = option_to_list (reading r item) ++ readings (after r item) items
+readings r (item ∷ items) = reading r item ++ readings (after r item) items
 
 abbrev pub after_all : ReaderView → List LinkItem → ReaderView
 after_all r items = fold after r items
 
--- a reader that took these items of its link from the first on, and gave this
-pub record HasRead (items : List LinkItem) (given : List Inbound) (r : ReaderView) : Type 0 where
-  pub given_is : given ≡ readings unread items
-  pub stands : r ≡ after_all unread items
+-- the reader after it took an item, of which it gave the first thing
+abbrev pub taken_by : ReaderState → LinkItem → ReaderState
+taken_by r item = record { at = after r.at item; rest = drop 1 (reading r.at item) }
+
+-- a reader that took these items of its link from the first on, and gave this: what it still has is the rest
+pub record HasRead (items : List LinkItem) (given : List Inbound) (r : ReaderState) : Type 0 where
+  pub given_is : given ++ r.rest ≡ readings unread items
+  pub stands : r.at ≡ after_all unread items

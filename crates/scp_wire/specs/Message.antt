@@ -3,17 +3,17 @@ use Rattle.std.specs.Prelude.{◌≡◌, ℕ, ◌^◌, ◌<◌, ◌≤◌, ◌�
 use Rattle.std.proofs.Common.{inl, inr}
 use Rattle.scp_types.specs.declared.fault.Fault.{Fault}
 use Rattle.scp_types.specs.declared.fault.Fault.TheVariants.{TooLong}
-use Rattle.scp_xdr.specs.Kind.{Kind, uint64, both, union, no_arm, arm, Values, Spells, Fits, spelling}
+use Rattle.scp_xdr.specs.Kind.{Kind, uint64, numbered, both, union, no_arm, arm, Values, Spells, Fits, spelling}
 use Rattle.scp_xdr.specs.Reading.{reading_whole}
 use Rattle.scp_xdr.specs.Shared.{value_kind, hash_kind}
 use Rattle.scp_quorum.specs.QuorumKind.{set_kind, set_value, set_spelling, quorum_set_of}
 use Rattle.scp_envelope.specs.Kinds.{envelope_kind, envelope_value}
 use Rattle.scp_envelope.specs.Envelopes.{envelope_of}
 use Rattle.scp_wire.specs.declared.message.Message.{Message}
-use Rattle.scp_wire.specs.declared.message.Message.TheVariants.{Envelope, GetSet, Set, NoSet, GetRecord, Record}
+use Rattle.scp_wire.specs.declared.message.Message.TheVariants.{Envelope, GetSet, Set, NoSet, GetRecord, Record, Records}
 
 abbrev pub message_kind : Kind
-message_kind = union (arm 1 envelope_kind (arm 2 hash_kind (arm 3 set_kind (arm 4 hash_kind (arm 5 uint64 (arm 6 (both uint64 value_kind) no_arm))))))
+message_kind = union (arm 1 envelope_kind (arm 2 hash_kind (arm 3 set_kind (arm 4 hash_kind (arm 5 uint64 (arm 6 (both uint64 value_kind) (arm 7 (numbered 32 value_kind) no_arm)))))))
 
 abbrev pub message_value : Message → Values message_kind
 message_value (Envelope envelope) = inl (envelope_value envelope.value)
@@ -22,6 +22,7 @@ message_value (Set set) = inr (inr (inl (set_value set)))
 message_value (NoSet hash) = inr (inr (inr (inl hash.0)))
 message_value (GetRecord slot) = inr (inr (inr (inr (inl slot.0))))
 message_value (Record slot value) = inr (inr (inr (inr (inr (inl (slot.0, value))))))
+message_value (Records first values) = inr (inr (inr (inr (inr (inr (inl (first.0, values)))))))
 
 -- back from the values of the kind
 abbrev pub message_of : Values message_kind → Message
@@ -31,7 +32,8 @@ message_of (inr (inr (inl set))) = Set (quorum_set_of set)
 message_of (inr (inr (inr (inl hash)))) = NoSet (record { 0 = hash })
 message_of (inr (inr (inr (inr (inl slot))))) = GetRecord (record { 0 = slot })
 message_of (inr (inr (inr (inr (inr (inl v)))))) = Record (record { 0 = v.0 }) v.1
-message_of (inr (inr (inr (inr (inr (inr v)))))) = elim v [ ]
+message_of (inr (inr (inr (inr (inr (inr (inl v))))))) = Records (record { 0 = v.0 }) v.1
+message_of (inr (inr (inr (inr (inr (inr (inr v))))))) = elim v [ ]
 
 -- the bytes are those of the message
 pub record SpellsMessage (bytes : List ℕ) (v : Values message_kind) : Type 0 where
@@ -51,6 +53,7 @@ HasRanges (Set set) = Unit {0}
 HasRanges (NoSet hash) = length hash.0 ≡ 32
 HasRanges (GetRecord slot) = slot.0 < 2 ^ 64
 HasRanges (Record slot value) = slot.0 < 2 ^ 64
+HasRanges (Records first values) = first.0 < 2 ^ 64
 
 -- the value of a record is over its limit, or the envelope or the quorum set over one of its own, or longer than a
 -- message lets it be
@@ -61,6 +64,7 @@ BreaksALimit (Set set) = (¬ (Fits set_kind (set_value set))) ⊎ (65532 < lengt
 BreaksALimit (NoSet hash) = ⊥
 BreaksALimit (GetRecord slot) = ⊥
 BreaksALimit (Record slot value) = 4096 < length value
+BreaksALimit (Records first values) = (¬ (Fits (numbered 32 value_kind) (first.0, values))) ⊎ (65532 < length (spelling (numbered 32 value_kind) (first.0, values)))
 
 -- the limit is tested before anything is read
 abbrev pub message_reading : List ℕ → Result (Values message_kind) Fault

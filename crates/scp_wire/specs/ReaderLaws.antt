@@ -32,7 +32,7 @@ ReadingsGrow = (r : ReaderView) (items more : List LinkItem) → Grows r items m
 
 -- and one item more adds what it is read as
 pub record GrowsByOne (r : ReaderView) (items : List LinkItem) (item : LinkItem) : Type 0 where
-  pub given : readings r (items ++ item ∷ []) ≡ readings r items ++ option_to_list (reading (after_all r items) item)
+  pub given : readings r (items ++ item ∷ []) ≡ readings r items ++ reading (after_all r items) item
   pub stands : after_all r (items ++ item ∷ []) ≡ after (after_all r items) item
 
 abbrev pub ReadingsGrowByOne : Type 0

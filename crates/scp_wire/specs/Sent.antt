@@ -8,6 +8,7 @@ use Rattle.scp_wire.specs.declared.link.Cause.{Cause}
 use Rattle.scp_wire.specs.declared.link.Cause.TheVariants.{Malformed, Link, Spent}
 use Rattle.scp_wire.specs.Carried.{is_carried}
 use Rattle.scp_wire.specs.Reading.{reading_of}
+use Rattle.scp_wire.specs.LinkReading.{singles}
 use Rattle.scp_wire.specs.Connections.{same_conn}
 use Rattle.scp_wire.specs.Marks.{Mark, number, ended, one_if}
 
@@ -30,10 +31,10 @@ abbrev pub is_closed : ConnId → List LinkItem → Bool
 is_closed c [] = false
 is_closed c (x ∷ xs) = closed_by c x || is_closed c xs
 
--- the messages up to the first bytes that have no reading, and whether there are none such
+-- the messages up to the first bytes that have no reading, a batch as its records, and whether there are none such
 abbrev pub readable_from : Option Message → List Message → List Message
 readable_from None rest = []
-readable_from (Some message) rest = message ∷ rest
+readable_from (Some message) rest = singles message ++ rest
 
 abbrev pub readable : List (List ℕ) → List Message
 readable [] = []

@@ -5,7 +5,7 @@ use Rattle.scp_quorum.specs.QuorumKind.{set_hash}
 use Rattle.scp_quorum.specs.Sane.{IsSane}
 use Rattle.scp_envelope.specs.Kinds.{set_hash_of}
 use Rattle.scp_wire.specs.declared.message.Message.{Message}
-use Rattle.scp_wire.specs.declared.message.Message.TheVariants.{Envelope, GetSet, Set, NoSet, GetRecord, Record}
+use Rattle.scp_wire.specs.declared.message.Message.TheVariants.{Envelope, GetSet, Set, NoSet, GetRecord, Record, Records}
 
 -- beside an envelope stands a sane set that has the hash that it names, beside another message none
 abbrev pub IsSetOf : Message → Option QuorumTree → Type 0
@@ -15,3 +15,4 @@ IsSetOf (Set inside) set = set ≡ None
 IsSetOf (NoSet hash) set = set ≡ None
 IsSetOf (GetRecord slot) set = set ≡ None
 IsSetOf (Record slot value) set = set ≡ None
+IsSetOf (Records first values) set = set ≡ None

@@ -11,10 +11,13 @@ ghost use Rattle.scp_wire.specs.Reading.{reading_of, has_side_word, ReadingIsSpe
 
 use crate::boxed::BoxedEnvelope;
 use crate::message::{MESSAGE_LIMIT, Message};
-use scp_envelope::Envelope;
+use scp_envelope::{Envelope, ValueList};
 use scp_quorum::QuorumSet;
 use scp_types::{Fault, Hash, Slot, Value};
-use scp_xdr::{Reader, Writer, Xdr, check, spend_u32, spend_u64};
+use scp_xdr::{
+    Reader, Writer, Xdr, check, numbered_fits, pass_numbered, read_numbered, spend_array, spend_u32,
+    spend_u64, write_numbered,
+};
 use std::alloc::Global;
 
 /// The discriminants of the kinds.
@@ -29,6 +32,11 @@ const NO_SET: u32 = 4;
 const GET_RECORD: u32 = 5;
 
 const RECORD: u32 = 6;
+
+const RECORDS: u32 = 7;
+
+/// The most records of a batch (this project's profile).
+pub const BATCH_LIMIT: u32 = 32;
 
 impl Xdr for Message {
     ghost kind = { message_kind };
@@ -50,6 +58,13 @@ impl Xdr for Message {
                 let slot = Slot(reader.u64()?);
                 Ok(Message::Record(slot, Value::read(alloc, reader)?))
             }
+            RECORDS => {
+                let (first, values) = read_numbered(alloc, BATCH_LIMIT, reader)?;
+                Ok(Message::Records {
+                    first: Slot(first),
+                    values: ValueList::new(values),
+                })
+            }
             _ => Err(Fault::Malformed(place)),
         }
     }
@@ -68,6 +83,7 @@ impl Xdr for Message {
                 reader.u64()?;
                 Value::pass(reader)
             }
+            RECORDS => pass_numbered::<Value>(BATCH_LIMIT, reader),
             _ => Err(Fault::Malformed(place)),
         }
     }
@@ -85,6 +101,9 @@ impl Xdr for Message {
                 let _number = slot.0;
                 value.fits()
             }
+            Message::Records { first, values } => {
+                numbered_fits(BATCH_LIMIT, first.0, values.as_slice())
+            }
         }
     }
 
@@ -101,6 +120,10 @@ impl Xdr for Message {
             Message::Record(slot, value) => {
                 let _number = slot.0;
                 value.spend(spend_u64(left)?)
+            }
+            Message::Records { first, values } => {
+                let _number = first.0;
+                spend_array(values.as_slice(), spend_u64(left)?)
             }
         }
     }
@@ -131,6 +154,10 @@ impl Xdr for Message {
                 writer.u32(RECORD)?;
                 writer.u64(slot.0)?;
                 value.write(writer)?;
+            }
+            Message::Records { first, values } => {
+                writer.u32(RECORDS)?;
+                write_numbered(writer, BATCH_LIMIT, first.0, values.as_slice())?;
             }
         }
         Ok(())
@@ -189,6 +216,7 @@ fn see_ranges(message: &Message)
         Message::GetSet(hash) | Message::NoSet(hash) => see_hash(*hash),
         Message::Envelope(_) | Message::Set(_) => {}
         Message::GetRecord(slot) | Message::Record(slot, _) => see_slot(*slot),
+        Message::Records { first, .. } => see_slot(*first),
     }
 }
 

@@ -3,6 +3,7 @@ ghost use Rattle.std.specs.Prelude.{◌≡◌, IfOk, IsOkUnless};
 ghost use Rattle.scp_wire.specs.Carried.{is_carried};
 
 use crate::boxed::BoxedEnvelope;
+use scp_envelope::ValueList;
 use scp_quorum::QuorumSet;
 use scp_types::{Fault, Hash, Slot, Value};
 
@@ -24,6 +25,8 @@ pub enum Message {
     GetRecord(Slot),
     /// Kind 6: the value that was decided for a slot.
     Record(Slot, Value),
+    /// Kind 7: the values that were decided for the slots from this one on, 1 to 32 of them. It is read as its records.
+    Records { first: Slot, values: ValueList },
 }
 
 impl Message {
@@ -41,16 +44,23 @@ impl Message {
             Message::NoSet(hash) => Ok(Message::NoSet(*hash)),
             Message::GetRecord(slot) => Ok(Message::GetRecord(*slot)),
             Message::Record(slot, value) => Ok(Message::Record(*slot, value.copy()?)),
+            Message::Records { first, values } => Ok(Message::Records {
+                first: *first,
+                values: values.copy()?,
+            }),
         }
     }
 
     /// Whether the message is numbered on its connection. What asks for a quorum set and what answers that is a side
-    /// message, and isn't.
+    /// message, and isn't; nor is a batch, since its records are.
     pub fn is_carried(&self) -> bool
         ensures { result ≡ is_carried self.now }
     {
         match self {
-            Message::GetSet(_) | Message::Set(_) | Message::NoSet(_) => false,
+            Message::GetSet(_)
+            | Message::Set(_)
+            | Message::NoSet(_)
+            | Message::Records { .. } => false,
             Message::Envelope(_) | Message::GetRecord(_) | Message::Record(..) => true,
         }
     }

@@ -1,64 +1,89 @@
 //! The reader of one link.
-ghost use Rattle.std.specs.Prelude.{List, [], ◌∷◌, ◌++◌, ◌≡◌, IfOk, OnOk, OnErr, IsOkUnless, Some, true, option_to_list};
+ghost use Rattle.std.specs.Prelude.{List, [], ◌∷◌, ◌++◌, ◌+◌, ◌^◌, ◌≤◌, length, false, ◌≡◌, ◌≢◌, ◌↔◌, IfOk, OnOk, OnErr, IfNone, IsTrue, IsOkUnless, Some, None, true, drop, option_to_list};
 ghost use Rattle.scp_wire.specs.declared.link.LinkItem.{LinkItem};
 ghost use Rattle.scp_wire.specs.declared.link.Inbound.{Inbound};
 ghost use Rattle.scp_wire.specs.Carried.{is_carried};
-ghost use Rattle.scp_wire.specs.LinkReading.{reading, after, unread, brought, after_read, HasRead};
+ghost use Rattle.scp_wire.specs.LinkReading.{reading, after, unread, brought_each, after_each, records_from, brought_one, after_one, brought, after_read, HasRoom, first_of, taken_by, HasRead};
 
 use crate::carried::Carried;
 use crate::codec::decode;
 use crate::link::{Cause, Inbound, LinkItem};
 use crate::message::Message;
 use crate::side::SideMessage;
-use scp_types::{ConnId, Fault, Seq};
+use scp_envelope::ValueList;
+use scp_types::{ConnId, Fault, Seq, Slot};
 use std::alloc::Global;
+use std::collections::VecDeque;
 use std::marker::Model;
 
 /// The most messages that one connection carries (this project's profile).
 pub const CARRIED_LIMIT: u64 = 1_000_000;
 
-/// Reads the items of one link in turn. Contracts see whether its connection is over, and the next number.
+/// Where a reader stands on its link.
 #[derive(Debug, Drop)]
-pub struct LinkReader {
+struct Place {
     ended: bool,
     next: u64,
 }
 
-impl Model for LinkReader {
+impl Model for Place {
     ghost use Rattle.std.specs.Prelude.{◌≤◌};
+    ghost use Rattle.std.specs.Coded.{codes};
     ghost use Rattle.scp_wire.specs.LinkReading.{ReaderView};
 
     ghost Value = { ReaderView };
+
+    ghost coded = { Prim.hlevel (codes) };
 
     ghost view = { λ a. record { ended = a.ended; next = a.next } };
 
     ghost invariant = { λ a. a.next ≤ 1000000 };
 }
 
+/// Reads the items of one link in turn. Contracts see whether its connection is over, the next number, and what was read of a
+/// batch and is still to be given.
+#[derive(Debug, Drop)]
+pub struct LinkReader {
+    at: Place,
+    rest: VecDeque<Inbound>,
+}
+
+impl Model for LinkReader {
+    ghost use Rattle.std.specs.Coded.{codes};
+    ghost use Rattle.scp_xdr.specs.TreeModel.{coded_row};
+    ghost use Rattle.scp_quorum.specs.QuorumTree.{coded_level};
+    ghost use Rattle.scp_wire.specs.LinkReading.{ReaderState};
+
+    ghost Value = { ReaderState };
+
+    ghost coded = { Prim.hlevel (codes, coded_row coded_level) };
+
+    ghost view = { λ a. record { at = a.at; rest = a.rest.items } };
+}
+
 impl LinkReader {
-    /// A reader of a link that was never open.
-    pub fn new() -> LinkReader
-        ensures unread { result ≡ unread }
+    /// A reader of a link that was never open. Takes no memory.
+    pub fn new(alloc: Global) -> LinkReader
+        ensures unread { result ≡ record { at = unread; rest = [] } }
         ensures nothing { HasRead [] [] result }
     {
         LinkReader {
-            ended: true,
-            next: 0,
+            at: Place {
+                ended: true,
+                next: 0,
+            },
+            rest: VecDeque::new(alloc),
         }
     }
 
-    /// Reads the link's next item. `None` where it is discarded, since its connection ended before.
-    ///
-    /// Envelopes, requests for a record and records are carried, and numbered 0, 1, 2, .. on their connection; the message
-    /// after 1,000,000 of them ends it with `Cause::Spent`. What asks for a quorum set or answers is a side message.
-    /// Bytes that spell no message end the connection with `Cause::Malformed`, and a close with `Cause::Link`. The one
-    /// refusal is `Fault::NoMemory`, for a message that has none; the item is gone then, and the reader stands before
-    /// it as it stood. It takes time in proportion to the bytes, and copies each value's bytes once.
+    /// Reads the link's next item, where nothing is left of a batch. `None` where it is discarded, since its connection ended
+    /// before. Of a batch it gives the first record, and `rest` gives the others.
     pub fn take(&mut self, alloc: Global, item: LinkItem) -> Result<Option<Inbound>, Fault>
-        // What is given is what the item is read as.
-        ensures reading { IfOk result (λ got. got ≡ reading self.old item) }
-        // The reader has gone past it.
-        ensures after { OnOk result (self.new ≡ after self.old item) }
+        requires no_rest { self.old.rest ≡ [] }
+        // What is given is the first that the item is read as.
+        ensures reading { IfOk result (λ got. got ≡ first_of (reading self.old.at item)) }
+        // The reader has gone past it, and keeps the others.
+        ensures after { OnOk result (self.new ≡ taken_by self.old item) }
         // What was read of a list of items is what is read of the list with this item.
         ensures reads { (items : List LinkItem) → (given : List Inbound) → HasRead items given self.old → IfOk result (λ got. HasRead (items ++ item ∷ []) (given ++ option_to_list got) self.new) }
         // A refusal leaves the reader as it was.
@@ -69,36 +94,120 @@ impl LinkReader {
         self.read(alloc, item)
     }
 
+    /// Whether something is left of a batch.
+    pub fn has_rest(&self) -> bool
+        ensures { IsTrue result ↔ (self.now.rest ≢ []) }
+    {
+        !self.rest.is_empty()
+    }
+
+    /// The next of what is left of a batch. Takes no memory.
+    pub fn rest(&mut self) -> Option<Inbound>
+        ensures gives { self.old.rest ≡ option_to_list result ++ self.new.rest }
+        ensures none { result ≡ None ↔ self.old.rest ≡ [] }
+        ensures same { self.new.at ≡ self.old.at }
+        ensures reads { (items : List LinkItem) → (given : List Inbound) → HasRead items given self.old → HasRead items (given ++ option_to_list result) self.new }
+    {
+        next(&mut self.rest)
+    }
+
     /// What an item is read as.
     fn read(&mut self, alloc: Global, item: LinkItem) -> Result<Option<Inbound>, Fault>
-        ensures reading { IfOk result (λ got. got ≡ reading self.old item) }
-        ensures after { OnOk result (self.new ≡ after self.old item) }
+        requires no_rest { self.old.rest ≡ [] }
+        ensures reading { IfOk result (λ got. got ≡ first_of (reading self.old.at item)) }
+        ensures after { OnOk result (self.new ≡ taken_by self.old item) }
         ensures unchanged { OnErr result (self.new ≡ self.old) }
         ensures only_memory { IsOkUnless result Fault.NoMemory }
     {
         match item {
             LinkItem::Opened(conn) => {
-                self.ended = false;
-                self.next = 0;
+                self.at = Place {
+                    ended: false,
+                    next: 0,
+                };
                 Ok(Some(Inbound::Opened(conn)))
             }
             LinkItem::Bytes(conn, bytes) => {
-                if self.ended {
+                if self.at.ended {
                     return Ok(None);
                 }
                 match decode(alloc, bytes.as_slice()) {
-                    Ok(message) => Ok(Some(self.number(conn, message))),
+                    Ok(message) => self.bring(alloc, conn, message),
                     Err(Fault::NoMemory) => Err(Fault::NoMemory),
-                    Err(_) => Ok(Some(self.end(conn, Cause::Malformed))),
+                    Err(_) => Ok(Some(self.at.end(conn, Cause::Malformed))),
                 }
             }
             LinkItem::Closed(conn) => {
-                if self.ended {
+                if self.at.ended {
                     return Ok(None);
                 }
-                Ok(Some(self.end(conn, Cause::Link)))
+                Ok(Some(self.at.end(conn, Cause::Link)))
             }
         }
+    }
+
+    /// What a message brings.
+    #[tactic(auto, using(crate::proofs::Shapes::carried_alone))]
+    fn bring(
+        &mut self,
+        alloc: Global,
+        conn: ConnId,
+        message: Message,
+    ) -> Result<Option<Inbound>, Fault>
+        requires no_rest { self.old.rest ≡ [] }
+        requires runs { self.old.at.ended ≡ false }
+        requires room { HasRoom message }
+        ensures reading { IfOk result (λ got. got ≡ first_of (brought conn self.old.at.next (Some message))) }
+        ensures after { OnOk result (self.new ≡ record { at = after_read self.old.at (Some message); rest = drop 1 (brought conn self.old.at.next (Some message)) }) }
+        ensures unchanged { OnErr result (self.new ≡ self.old) }
+        ensures only_memory { IsOkUnless result Fault.NoMemory }
+    {
+        let message = match message {
+            Message::GetSet(hash) => SideMessage::GetSet(hash),
+            Message::Set(set) => SideMessage::Set(set),
+            Message::NoSet(hash) => SideMessage::NoSet(hash),
+            Message::Records { first, values } => {
+                self.rest = self.at.number_all(alloc, conn, first, values)?;
+                return Ok(next(&mut self.rest));
+            }
+            Message::Envelope(_) | Message::GetRecord(_) | Message::Record(..) => {
+                return Ok(Some(self.at.carry(conn, message)));
+            }
+        };
+        Ok(Some(Inbound::Side { conn, message }))
+    }
+}
+
+impl Place {
+    /// The records of a batch, each under its number, up to the one that is too many.
+    fn number_all(
+        &mut self,
+        alloc: Global,
+        conn: ConnId,
+        first: Slot,
+        values: ValueList,
+    ) -> Result<VecDeque<Inbound>, Fault>
+        requires last { first.0 + length values ≤ 2 ^ 64 }
+        requires runs { self.old.ended ≡ false }
+        ensures read { IfOk result (λ read. read.items ≡ brought_each conn self.old.next (records_from first.0 values)) }
+        ensures after { OnOk result (self.new ≡ after_each self.old (records_from first.0 values)) }
+        ensures unchanged { OnErr result (self.new ≡ self.old) }
+        ensures only_memory { IsOkUnless result Fault.NoMemory }
+    {
+        let mut read = VecDeque::with_capacity(alloc, values.as_slice().len())?;
+        let mut at = Place {
+            ended: self.ended,
+            next: self.next,
+        };
+        for value in values.into_vec() {
+            if !at.ended {
+                let slot = Slot(first.0 + read.len() as u64);
+                read.push_back(at.carry(conn, Message::Record(slot, value)))?;
+            }
+        }
+        self.ended = at.ended;
+        self.next = at.next;
+        Ok(read)
     }
 
     /// The connection ends.
@@ -110,27 +219,11 @@ impl LinkReader {
         Inbound::Closed { conn, cause }
     }
 
-    /// What a message brings.
-    fn number(&mut self, conn: ConnId, message: Message) -> Inbound
-        ensures read { result ≡ brought conn self.old.next (Some message) }
-        ensures after { self.new ≡ after_read self.old (Some message) }
-    {
-        let message = match message {
-            Message::GetSet(hash) => SideMessage::GetSet(hash),
-            Message::Set(set) => SideMessage::Set(set),
-            Message::NoSet(hash) => SideMessage::NoSet(hash),
-            Message::Envelope(_) | Message::GetRecord(_) | Message::Record(..) => {
-                return self.carry(conn, message);
-            }
-        };
-        Inbound::Side { conn, message }
-    }
-
     /// What a carried message brings.
     fn carry(&mut self, conn: ConnId, message: Message) -> Inbound
         requires { is_carried message ≡ true }
-        ensures read { result ≡ brought conn self.old.next (Some message) }
-        ensures after { self.new ≡ after_read self.old (Some message) }
+        ensures read { result ≡ brought_one conn self.old.next message }
+        ensures after { self.new ≡ after_one self.old message }
     {
         if self.next == CARRIED_LIMIT {
             return self.end(conn, Cause::Spent);
@@ -139,4 +232,11 @@ impl LinkReader {
         self.next += 1;
         Inbound::Carried(Carried { conn, seq, message })
     }
+}
+
+fn next(rest: &mut VecDeque<Inbound>) -> Option<Inbound>
+    ensures items { rest.old.items ≡ option_to_list result ++ rest.new.items }
+    ensures none { IfNone result (rest.old.items ≡ []) }
+{
+    rest.pop_front()
 }

@@ -1,0 +1,10 @@
+use Rattle.std.proofs.Common.{rules, arith, ◌≡◌, ◌∙◌, ap, refl, sym, false, nat_eq}
+use Rattle.std.proofs.lemmas.Bool.Decides.{nat_tests}
+use Rattle.scp_wire.specs.LinkReading.{brought_one}
+use Rattle.scp_wire.proofs.Numbered.{brought_one_carried}
+use Rattle.scp_wire.proofs.reader.Place.carry.Goals as goal
+
+pub returns-clause-read : goal.returns-clause-read
+returns-clause-read c =
+    let not_limit : nat_eq c.self.inside.next 1000000 ≡ false = grind (arith, nat_tests, c.if-self-eq-CARRIED_LIMIT.false) in
+    brought_one_carried c.args.conn c.self.inside.next c.args.message _ not_limit ∙ ap (λ n. brought_one c.args.conn n c.args.message) (rw (← c.self.view_is) refl)
