@@ -39,7 +39,7 @@ impl ValueList {
     }
 
     /// Another list of the same values, in the same allocator.
-    pub(crate) fn copy(&self) -> Result<ValueList, Fault>
+    pub fn copy(&self) -> Result<ValueList, Fault>
         ensures same { IfOk result (λ list. list ≡ self.now) }
         ensures only_memory { IsOkUnless result Fault.NoMemory }
     {

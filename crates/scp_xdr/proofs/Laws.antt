@@ -5,12 +5,12 @@ use Rattle.std.proofs.lemmas.Bool.{eqb-true, eqb-false, ne_eqb, eq-eqb}
 use Rattle.std.proofs.lemmas.List.{append-nil, nil_from_length}
 use Rattle.scp_types.specs.declared.fault.Fault.{Fault}
 use Rattle.scp_types.specs.declared.fault.Fault.TheVariants.{Malformed}
-use Rattle.scp_xdr.specs.Kind.{Kind, uint32, uint64, fixed, opaque, optional, array, both, union, tree, Arms, no_arm, arm, Values, ArmValues, word, spelling, arm_spelling, tag_of, Fits, ArmFits, Spells}
-use Rattle.scp_xdr.specs.Reading.{Cursor, start, ◌>>=◌, read_uint32, read_count, read_items, reading, reading_arm, read_end, reading_whole}
+use Rattle.scp_xdr.specs.Kind.{Kind, uint32, uint64, fixed, opaque, optional, array, numbered, both, union, tree, Arms, no_arm, arm, Values, ArmValues, word, long_word, spelling, arm_spelling, tag_of, Fits, ArmFits, Spells}
+use Rattle.scp_xdr.specs.Reading.{Cursor, start, ◌>>=◌, read_uint32, read_count, read_run, read_items, reading, reading_arm, read_end, reading_whole}
 use Rattle.scp_xdr.specs.Words.{Gives}
 use Rattle.std.specs.Prelude.{IfOk}
 use Rattle.scp_xdr.proofs.Items.{chosen, IsFound, IsAgain, items_found, items_again, optional_found, optional_again, read_tree_found, read_tree_again}
-use Rattle.scp_xdr.proofs.Parts.{IsBytes, bind_ok, ok_is, Takes, Takes-join, between, Takes-first, Takes-second, Takes-bytes, uint32_takes, uint32_again, uint64_takes, uint64_again, bytes_take, bytes_again, count_takes, count_again, opaque_takes, opaque_again}
+use Rattle.scp_xdr.proofs.Parts.{IsBytes, bind_ok, ok_is, Takes, Takes-join, between, Takes-first, Takes-second, Takes-bytes, uint32_takes, uint32_again, uint64_takes, uint64_again, bytes_take, bytes_again, count_takes, count_again, run_takes, run_again, opaque_takes, opaque_again}
 
 -- ---- one kind, from those in it
 
@@ -31,6 +31,16 @@ found_array max k law c vs d fits e =
     let u = items_found (λ c. reading k c) (λ v. spelling k v) (λ v. Fits k v) law a.0.0 a.0.1 vs d (Takes-bytes c (word a.0.0) a.0.1 t.0 fits) a.2 in
     let first : Takes c (word (length vs)) a.0.1 = subst (λ (n : ℕ). Takes c (word n) a.0.1) (sym u.1) t.0 in
     (Takes-join c (word (length vs)) a.0.1 (flat_map (λ v. spelling k v) vs) d first u.0, (omega (arith, u.1, t.1), omega (arith, u.1, t.2), u.2))
+
+found_numbered : (max : ℕ) (k : Kind) → KindFound k → KindFound (numbered max k)
+found_numbered max k law c v d fits e =
+    let a = bind_ok (read_run max c) (λ r. read_items (λ d. reading k d) r.0.1 r.1 >>= λ xs. Ok ((r.0.0, xs.0), xs.1)) (v, d) e in
+    let t = run_takes max c a.0.0 a.0.1 fits a.1 in
+    let b = bind_ok (read_items (λ d. reading k d) a.0.0.1 a.0.1) (λ xs. Ok ((a.0.0.0, xs.0), xs.1)) (v, d) a.2 in
+    let u = items_found (λ c. reading k c) (λ v. spelling k v) (λ v. Fits k v) law a.0.0.1 a.0.1 b.0.0 b.0.1 (Takes-bytes c (long_word a.0.0.0 ++ word a.0.0.1) a.0.1 t.takes fits) b.1 in
+    let head : Takes c (long_word a.0.0.0 ++ word (length b.0.0)) a.0.1 = subst (λ (n : ℕ). Takes c (long_word a.0.0.0 ++ word n) a.0.1) (sym u.1) t.takes in
+    subst (λ (z : (ℕ × List (Values k)) × Cursor). Takes c (spelling (numbered max k) z.0) z.1 × Fits (numbered max k) z.0) (ok_is ((a.0.0.0, b.0.0), b.0.1) (v, d) b.2)
+    (Takes-join c (long_word a.0.0.0 ++ word (length b.0.0)) a.0.1 (flat_map (λ v. spelling k v) b.0.0) b.0.1 head u.0, (t.in_range, omega (arith, u.1, t.some), omega (arith, u.1, t.few), omega (arith, u.1, t.small), omega (arith, u.1, t.last), u.2))
 
 -- one arm of a union, and the others
 found_one : (t : ℕ) (k : Kind) (others : Arms) (place tag : ℕ) (b c : Cursor) (v : Values k ⊎ ArmValues others) (d : Cursor) → IsBytes b.rest → Takes b (word tag) c → tag < 2 ^ 32 → KindFound k
@@ -62,6 +72,7 @@ mutual
   found (opaque max) c v d fits e = let t = opaque_takes max c v d fits e in (t.0, (t.2, t.3))
   found (optional k) c v d fits e = found_optional k (λ x y z p q. found k x y z p q) c v d fits e
   found (array max k) c v d fits e = found_array max k (λ x y z p q. found k x y z p q) c v d fits e
+  found (numbered max k) c v d fits e = found_numbered max k (λ x y z p q. found k x y z p q) c v d fits e
   found (both a b) c v d fits e =
       let x = bind_ok (reading a c) (λ x. reading b x.1 >>= λ y. Ok ((x.0, y.0), y.1)) (v, d) e in
       let y = bind_ok (reading b x.0.1) (λ y. Ok ((x.0.0, y.0), y.1)) (v, d) x.2 in
@@ -94,6 +105,13 @@ again_array max k law c vs d fits t =
     let m = between c (word (length vs)) text d in
     rw (count_again max c (length vs) m fits.0 fits.1 (Takes-first c (word (length vs)) text d t)) (items_again (λ c. reading k c) (λ v. spelling k v) (λ v. Fits k v) law vs m d fits.2 (Takes-second c (word (length vs)) text d t))
 
+again_numbered : (max : ℕ) (k : Kind) → KindAgain k → KindAgain (numbered max k)
+again_numbered max k law c v d fits t =
+    let head = long_word v.0 ++ word (length v.1) in
+    let text = flat_map (λ x. spelling k x) v.1 in
+    let m = between c head text d in
+    rw (run_again max c v.0 (length v.1) m fits.0 fits.1 fits.2 fits.3 fits.4 (Takes-first c head text d t), items_again (λ c. reading k c) (λ v. spelling k v) (λ v. Fits k v) law v.1 m d fits.5 (Takes-second c head text d t)) refl
+
 -- the discriminant, and the arm that it names
 pub record ArmAgain (arms : Arms) (place : ℕ) (c : Cursor) (v : ArmValues arms) (d : Cursor) : Type 0 where
   pub next : Cursor
@@ -120,6 +138,7 @@ mutual
   again (opaque max) c v d fits t = opaque_again max c v d fits.0 fits.1 t
   again (optional k) c v d fits t = again_optional k (λ x y z p q. again k x y z p q) c v d fits t
   again (array max k) c v d fits t = again_array max k (λ x y z p q. again k x y z p q) c v d fits t
+  again (numbered max k) c v d fits t = again_numbered max k (λ x y z p q. again k x y z p q) c v d fits t
   again (both a b) c v d fits t =
       let m = between c (spelling a v.0) (spelling b v.1) d in
       rw (again a c v.0 m fits.0 (Takes-first c (spelling a v.0) (spelling b v.1) d t), again b m v.1 d fits.1 (Takes-second c (spelling a v.0) (spelling b v.1) d t)) refl

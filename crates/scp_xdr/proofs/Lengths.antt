@@ -5,7 +5,7 @@ use Rattle.std.specs.List.{flat_map, sum_by}
 use Rattle.std.proofs.lemmas.List.{length-append, length-replicate}
 use Rattle.std.proofs.lemmas.List.Sums.{sum_by-cons}
 use Rattle.scp_xdr.specs.Tree.{Trees, no_trees, tree_then}
-use Rattle.scp_xdr.specs.Kind.{Kind, uint32, uint64, fixed, opaque, optional, array, both, union, tree, Arms, no_arm, arm, Values, ArmValues, padding_len, word, long_word, padded, row_spelling, spelling, arm_spelling, row_spelling}
+use Rattle.scp_xdr.specs.Kind.{Kind, uint32, uint64, fixed, opaque, optional, array, numbered, both, union, tree, Arms, no_arm, arm, Values, ArmValues, padding_len, word, long_word, padded, row_spelling, spelling, arm_spelling, row_spelling}
 use Rattle.scp_xdr.specs.Tree.{row_len}
 use Rattle.scp_xdr.specs.Length.{padded_len, row_size, spelled_len, arm_len}
 
@@ -50,6 +50,8 @@ mutual
   length_is (optional k) (Some v) = word_then 1 (spelling k v) (spelled_len k v) (length_is k v)
   length_is (array max k) vs =
       word_then (length vs) (flat_map (λ v. spelling k v) vs) (sum_by (λ v. spelled_len k v) vs) (each_len (λ v. spelling k v) (λ v. spelled_len k v) (λ v. length_is k v) vs)
+  length_is (numbered max k) v =
+      omega (arith, length-append (long_word v.0 ++ word (length v.1)) (flat_map (λ x. spelling k x) v.1), length-append (long_word v.0) (word (length v.1)), long_word_len v.0, word_len (length v.1), each_len (λ x. spelling k x) (λ x. spelled_len k x) (λ x. length_is k x) v.1)
   length_is (both a b) v = omega (arith, length-append (spelling a v.0) (spelling b v.1), length_is a v.0, length_is b v.1)
   length_is (union arms) v = arm_length arms v
   length_is (tree levels max head) t =

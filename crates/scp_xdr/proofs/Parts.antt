@@ -4,13 +4,13 @@ use Rattle.std.specs.Prelude.{replicate}
 use Rattle.std.specs.Int.{Width, w32, w64, byte_len, from_be_bytes, to_be_bytes}
 use Rattle.std.specs.List.{prefix_len}
 use lib.Dec.{eqb-suc-zero}
-use Rattle.std.proofs.lemmas.Bool.{cases_lt, ltb-false, le-ltb}
+use Rattle.std.proofs.lemmas.Bool.{cases_lt, ltb-false, le-ltb, ne_eqb}
 use Rattle.std.proofs.lemmas.List.{take_at, drop_at, take-append-drop, length-append, length-take, length-replicate, get_or-drop, get_or-take, get_or_past}
 use Rattle.std.proofs.lemmas.Nat.{be_bytes_4, be_bytes_8, from_be_bytes-to_be_bytes_4, from_be_bytes-to_be_bytes_8}
 use Rattle.scp_types.specs.declared.fault.Fault.{Fault}
 use Rattle.scp_types.specs.declared.fault.Fault.TheVariants.{Malformed, TooLong}
 use Rattle.scp_xdr.specs.Kind.{padding_len, padded, word, long_word}
-use Rattle.scp_xdr.specs.Reading.{Cursor, skip, Read, ◌>>=◌, read_uint32, read_uint64, first_nonzero, unless_nonzero, read_padded, read_bytes, read_count, read_opaque, flag_of, read_flag}
+use Rattle.scp_xdr.specs.Reading.{Cursor, skip, Read, ◌>>=◌, read_uint32, read_uint64, first_nonzero, unless_nonzero, read_padded, read_bytes, read_count, read_opaque, run_of, read_run, flag_of, read_flag}
 
 -- ---- steps that did not fail
 
@@ -224,6 +224,45 @@ unfolding read_count
 count_again max c n d le lt p =
     let within : ltb max n ≡ false = le-ltb _ _ le in
     rw (uint32_again c n d lt p, within) refl
+
+run_ok : (max first_place count_place first n : ℕ) (c : Cursor) (r : ℕ × ℕ) (d : Cursor) → run_of max first_place count_place first n c ≡ Ok (r, d) → (0 < n) × (n ≤ max) × (first + n ≤ 2 ^ 64) × ((first, n) ≡ r) × (c ≡ d)
+run_ok max first_place count_place first n c r d e =
+    let some = guard_ok (eqb n 0) (Malformed count_place) (cond (ltb max n) (Err TooLong) (cond (ltb (2 ^ 64) (first + n)) (Err (Malformed first_place)) (Ok ((first, n), c)))) (r, d) e in
+    let few = guard_ok (ltb max n) TooLong (cond (ltb (2 ^ 64) (first + n)) (Err (Malformed first_place)) (Ok ((first, n), c))) (r, d) some.1 in
+    let last = guard_ok (ltb (2 ^ 64) (first + n)) (Malformed first_place) (Ok ((first, n), c)) (r, d) few.1 in
+    let same : ((first, n), c) ≡ (r, d) = ok_is ((first, n), c) (r, d) last.1 in
+    let positive : 0 < n = by_zero n some.0 in
+    (positive, ltb-false max n few.0, ltb-false (2 ^ 64) (first + n) last.0, ap (λ (x : (ℕ × ℕ) × Cursor). x.0) same, ap (λ (x : (ℕ × ℕ) × Cursor). x.1) same)
+  where
+    by_zero : (n : ℕ) → eqb n 0 ≡ false → 0 < n
+    by_zero zero e = absurd cc
+    by_zero (suc n) e = omega arith
+
+pub record RunTakes (max : ℕ) (c : Cursor) (first n : ℕ) (d : Cursor) : Type 0 where
+  pub takes : Takes c (long_word first ++ word n) d
+  pub in_range : first < 2 ^ 64
+  pub some : 0 < n
+  pub few : n ≤ max
+  pub small : n < 2 ^ 32
+  pub last : first + n ≤ 2 ^ 64
+
+pub run_takes : (max : ℕ) (c : Cursor) (r : ℕ × ℕ) (d : Cursor) → IsBytes c.rest → read_run max c ≡ Ok (r, d) → RunTakes max c r.0 r.1 d
+unfolding read_run
+run_takes max c r d fits e =
+    let a = bind_ok (read_uint64 c) (λ first. read_uint32 first.1 >>= λ n. run_of max c.place first.1.place first.0 n.0 n.1) (r, d) e in
+    let t = uint64_takes c a.0.0 a.0.1 fits a.1 in
+    let b = bind_ok (read_uint32 a.0.1) (λ n. run_of max c.place a.0.1.place a.0.0 n.0 n.1) (r, d) a.2 in
+    let u = uint32_takes a.0.1 b.0.0 b.0.1 (Takes-bytes c (long_word a.0.0) a.0.1 t.0 fits) b.1 in
+    let k = run_ok max c.place a.0.1.place a.0.0 b.0.0 b.0.1 r d b.2 in
+    let here : RunTakes max c a.0.0 b.0.0 b.0.1 = record { takes = Takes-join c (long_word a.0.0) a.0.1 (word b.0.0) b.0.1 t.0 u.0; in_range = t.1; some = k.0; few = k.1; small = u.1; last = k.2 } in
+    subst (λ (z : Cursor). RunTakes max c r.0 r.1 z) k.4 (subst (λ (x : ℕ × ℕ). RunTakes max c x.0 x.1 b.0.1) k.3 here)
+
+pub run_again : (max : ℕ) (c : Cursor) (first n : ℕ) (d : Cursor) → first < 2 ^ 64 → 0 < n → n ≤ max → n < 2 ^ 32 → first + n ≤ 2 ^ 64 → Takes c (long_word first ++ word n) d → read_run max c ≡ Ok ((first, n), d)
+unfolding read_run
+run_again max c first n d range some few small last t =
+    let m = between c (long_word first) (word n) d in
+    let zero_no : eqb n 0 ≡ false = ne_eqb n 0 (λ e. absurd (omega (arith, e, some))) in
+    rw (uint64_again c first m range (Takes-first c (long_word first) (word n) d t), uint32_again m n d small (Takes-second c (long_word first) (word n) d t), zero_no, le-ltb _ _ few, le-ltb _ _ last) refl
 
 flag_ok : (place n : ℕ) (b : Bool) → flag_of place n ≡ Ok b → n ≡ cond b 1 0
 flag_ok place zero b e = ap (λ (x : Bool). cond x 1 0) (ok_is false b e)

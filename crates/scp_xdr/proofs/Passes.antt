@@ -1,12 +1,12 @@
 -- Passing over a value ends where reading it ends, at the same fault, and never for want of memory.
-use Rattle.std.proofs.Common.{◌≡◌, ◌≢◌, ℕ, zero, suc, ◌+◌, Bool, true, false, cond, ltb, eqb, List, [], ◌∷◌, ◌⊎◌, length, take, drop, Option, Some, None, Result, Ok, Err, refl, sym, ◌∙◌, inl, inr}
+use Rattle.std.proofs.Common.{◌≡◌, ◌≢◌, ℕ, zero, suc, ◌+◌, ◌^◌, Bool, true, false, cond, ltb, eqb, List, [], ◌∷◌, ◌⊎◌, length, take, drop, Option, Some, None, Result, Ok, Err, refl, sym, ◌∙◌, inl, inr}
 use Rattle.std.specs.Prelude.{IfErr, IfOk, IsOk, IsTrue, ◌↔◌, MatchResult, is_ok}
 use Rattle.std.specs.Int.{w32, w64, from_be_bytes}
 use Rattle.scp_types.specs.declared.fault.Fault.{Fault}
 use Rattle.scp_types.specs.declared.fault.Fault.TheVariants.{NoMemory, Malformed, TooLong}
 use Rattle.scp_xdr.specs.Tree.{Tree, tree_of}
-use Rattle.scp_xdr.specs.Kind.{Kind, uint32, uint64, fixed, opaque, optional, array, both, union, tree, Arms, no_arm, arm, Values, Spells, padding_len}
-use Rattle.scp_xdr.specs.Reading.{Cursor, start, skip, Read, ◌>>=◌, read_uint32, read_uint64, read_bytes, unless_nonzero, first_nonzero, read_count, read_opaque, flag_of, read_flag, read_items, read_optional, tree_with, read_inner, reading, reading_arm, read_end, reading_whole}
+use Rattle.scp_xdr.specs.Kind.{Kind, uint32, uint64, fixed, opaque, optional, array, numbered, both, union, tree, Arms, no_arm, arm, Values, Spells, padding_len}
+use Rattle.scp_xdr.specs.Reading.{Cursor, start, skip, Read, ◌>>=◌, read_uint32, read_uint64, read_bytes, unless_nonzero, first_nonzero, read_count, read_run, run_of, read_opaque, flag_of, read_flag, read_items, read_optional, tree_with, read_inner, reading, reading_arm, read_end, reading_whole}
 use Rattle.scp_xdr.specs.Passing.{left_of, pass_items, pass_optional, pass_inner, passing, passing_arm, passing_whole}
 use Rattle.scp_xdr.specs.Words.{PassesWhole, Gives, IsReadingFault}
 use Rattle.scp_xdr.proofs.Parts.{IsBytes}
@@ -81,6 +81,9 @@ mutual
   left_is (optional k) c = optional_left (λ d. reading k d) (λ d. passing k d) (λ d. left_is k d) c
   left_is (array max k) c =
       then_left (read_count max c) (λ n d. read_items (λ e. reading k e) n d) (λ n d. pass_items (λ e. passing k e) n d) (λ n d. items_left (λ e. reading k e) (λ e. passing k e) (λ e. left_is k e) n d)
+  left_is (numbered max k) c =
+      then_left (read_run max c) (λ r d. read_items (λ e. reading k e) r.1 d >>= λ xs. Ok ((r.0, xs.0), xs.1)) (λ r d. pass_items (λ e. passing k e) r.1 d)
+      (λ r d. items_left (λ e. reading k e) (λ e. passing k e) (λ e. left_is k e) r.1 d ∙ sym (last_left (λ (xs : List (Values k)). (r.0, xs)) (read_items (λ e. reading k e) r.1 d)))
   left_is (both a b) c = two_left (λ (x : Values a) (y : Values b). (x, y)) (reading a c) (λ d. reading b d) (passing a c) (λ d. passing b d) (left_is a c) (λ d. left_is b d)
   left_is (union arms) c = then_left (read_uint32 c) (λ n d. reading_arm arms c.place n d) (λ n d. passing_arm arms c.place n d) (λ n d. left_is_arm arms c.place n d)
   left_is (tree levels max head) c =
@@ -171,6 +174,10 @@ known_inner pass law (suc levels) max c =
     known_then (read_count max c) (λ n. pass_items (λ d. pass d >>= λ e. pass_inner pass levels max e) n.0 n.1) (known_count max c)
     (λ n. known_items (λ d. pass d >>= λ e. pass_inner pass levels max e) (λ d. known_then (pass d) (λ e. pass_inner pass levels max e) (law d) (λ e. known_inner pass law levels max e)) n.0 n.1)
 
+known_run : (max : ℕ) (c : Cursor) → Known (read_run max c)
+unfolding read_run
+known_run max c = known_then (read_uint64 c) (λ first. read_uint32 first.1 >>= λ n. run_of max c.place first.1.place first.0 n.0 n.1) (known_uint64 c) (λ first. known_then (read_uint32 first.1) (λ n. run_of max c.place first.1.place first.0 n.0 n.1) (known_uint32 first.1) (λ n. known_if (eqb n.0 0) (Err (Malformed first.1.place)) (cond (ltb max n.0) (Err TooLong) (cond (ltb (2 ^ 64) (first.0 + n.0)) (Err (Malformed c.place)) (Ok ((first.0, n.0), n.1)))) (malformed first.1.place) (known_if (ltb max n.0) (Err TooLong) (cond (ltb (2 ^ 64) (first.0 + n.0)) (Err (Malformed c.place)) (Ok ((first.0, n.0), n.1))) too_long (known_if (ltb (2 ^ 64) (first.0 + n.0)) (Err (Malformed c.place)) (Ok ((first.0, n.0), n.1)) (malformed c.place) tt))))
+
 mutual
   known : (k : Kind) → AreKnown (λ c. passing k c)
   known uint32 c = known_left (read_uint32 c) (known_uint32 c)
@@ -179,6 +186,7 @@ mutual
   known (opaque max) c = known_left (read_opaque max c) (known_opaque max c)
   known (optional k) c = known_optional (λ d. passing k d) (λ d. known k d) c
   known (array max k) c = known_then (read_count max c) (λ n. pass_items (λ d. passing k d) n.0 n.1) (known_count max c) (λ n. known_items (λ d. passing k d) (λ d. known k d) n.0 n.1)
+  known (numbered max k) c = known_then (read_run max c) (λ r. pass_items (λ d. passing k d) r.0.1 r.1) (known_run max c) (λ r. known_items (λ d. passing k d) (λ d. known k d) r.0.1 r.1)
   known (both a b) c = known_then (passing a c) (λ d. passing b d) (known a c) (λ d. known b d)
   known (union arms) c = known_then (read_uint32 c) (λ tag. passing_arm arms c.place tag.0 tag.1) (known_uint32 c) (λ tag. known_arm arms c.place tag.0 tag.1)
   known (tree levels max head) c = known_then (passing head c) (λ d. pass_inner (λ e. passing head e) levels max d) (known head c) (λ d. known_inner (λ e. passing head e) (λ e. known head e) levels max d)

@@ -1,5 +1,5 @@
 -- The kinds of XDR that are used here, the values of each, and the one spelling of each value (RFC 4506).
-use Rattle.std.specs.Prelude.{◌≡◌, ◌≢◌, ℕ, zero, suc, ◌-◌, ◌%◌, ◌<◌, ◌≤◌, ◌^◌, List, [], ◌++◌, ◌⊎◌, length, replicate, Option, Some, None}
+use Rattle.std.specs.Prelude.{◌≡◌, ◌≢◌, ℕ, zero, suc, ◌+◌, ◌-◌, ◌%◌, ◌<◌, ◌≤◌, ◌^◌, List, [], ◌++◌, ◌⊎◌, length, replicate, Option, Some, None}
 use Rattle.std.proofs.Common.{inl, inr}
 use Rattle.std.specs.List.{flat_map, AllByRecursion}
 use Rattle.std.specs.Int.{w32, w64, to_be_bytes}
@@ -13,6 +13,8 @@ mutual
     opaque : ℕ → Kind
     optional : Kind → Kind
     array : ℕ → Kind → Kind
+    -- a number, and items that are numbered on from it: at least one, at most so many
+    numbered : ℕ → Kind → Kind
     both : Kind → Kind → Kind
     union : Arms → Kind
     -- heads in a tree: how many levels of inner trees, and how many inner trees of one tree
@@ -32,6 +34,7 @@ abbrev mutual
   Values (opaque max) = List ℕ
   Values (optional k) = Option (Values k)
   Values (array max k) = List (Values k)
+  Values (numbered max k) = ℕ × List (Values k)
   Values (both a b) = Values a × Values b
   Values (union arms) = ArmValues arms
   Values (tree levels max head) = Tree (Values head)
@@ -71,6 +74,7 @@ abbrev mutual
   spelling (optional k) None = word 0
   spelling (optional k) (Some v) = word 1 ++ spelling k v
   spelling (array max k) vs = word (length vs) ++ flat_map (λ v. spelling k v) vs
+  spelling (numbered max k) v = (long_word v.0 ++ word (length v.1)) ++ flat_map (λ x. spelling k x) v.1
   spelling (both a b) v = spelling a v.0 ++ spelling b v.1
   spelling (union arms) v = arm_spelling arms v
   spelling (tree levels max head) t = tree_spelling (λ v. spelling head v) t
@@ -109,6 +113,8 @@ abbrev mutual
   Fits (optional k) None = Unit {0}
   Fits (optional k) (Some v) = Fits k v
   Fits (array max k) vs = (length vs ≤ max) × (length vs < 2 ^ 32) × AllByRecursion (λ v. Fits k v) vs
+  -- each item's number has 64 bits
+  Fits (numbered max k) v = (v.0 < 2 ^ 64) × (0 < length v.1) × (length v.1 ≤ max) × (length v.1 < 2 ^ 32) × (v.0 + length v.1 ≤ 2 ^ 64) × AllByRecursion (λ x. Fits k x) v.1
   Fits (both a b) v = Fits a v.0 × Fits b v.1
   Fits (union arms) v = ArmFits arms v
   Fits (tree levels max head) t = TreeFits (λ v. Fits head v) levels max t

@@ -3,7 +3,7 @@ use Rattle.std.specs.Prelude.{ℕ, ◌+◌, length, Some, None}
 use Rattle.std.proofs.Common.{inl, inr}
 use Rattle.std.specs.List.{sum_by}
 use Rattle.scp_xdr.specs.Tree.{Trees, no_trees, tree_then, Tree}
-use Rattle.scp_xdr.specs.Kind.{Kind, uint32, uint64, fixed, opaque, optional, array, both, union, tree, Arms, no_arm, arm, Values, ArmValues, padding_len}
+use Rattle.scp_xdr.specs.Kind.{Kind, uint32, uint64, fixed, opaque, optional, array, numbered, both, union, tree, Arms, no_arm, arm, Values, ArmValues, padding_len}
 
 -- n bytes and their padding
 unfoldable pub padded_len : ℕ → ℕ
@@ -25,6 +25,7 @@ abbrev mutual
   spelled_len (optional k) None = 4
   spelled_len (optional k) (Some v) = 4 + spelled_len k v
   spelled_len (array max k) vs = 4 + sum_by (λ v. spelled_len k v) vs
+  spelled_len (numbered max k) v = 12 + sum_by (λ x. spelled_len k x) v.1
   spelled_len (both a b) v = spelled_len a v.0 + spelled_len b v.1
   spelled_len (union arms) v = arm_len arms v
   spelled_len (tree levels max head) t = tree_size (λ v. spelled_len head v) t

@@ -2,8 +2,8 @@
 use Rattle.std.specs.Prelude.{ℕ, zero, suc, Result, Ok, Err, List, ◌==◌, if◌then◌else◌}
 use Rattle.scp_types.specs.declared.fault.Fault.{Fault}
 use Rattle.scp_types.specs.declared.fault.Fault.TheVariants.{Malformed}
-use Rattle.scp_xdr.specs.Kind.{Kind, uint32, uint64, fixed, opaque, optional, array, both, union, tree, Arms, no_arm, arm}
-use Rattle.scp_xdr.specs.Reading.{Cursor, start, Read, ◌>>=◌, read_uint32, read_uint64, read_bytes, read_count, read_opaque, read_flag, read_end}
+use Rattle.scp_xdr.specs.Kind.{Kind, uint32, uint64, fixed, opaque, optional, array, numbered, both, union, tree, Arms, no_arm, arm}
+use Rattle.scp_xdr.specs.Reading.{Cursor, start, Read, ◌>>=◌, read_uint32, read_uint64, read_bytes, read_count, read_run, read_opaque, read_flag, read_end}
 
 -- where a reader stands after what it read
 abbrev pub left_of : {X : Type 0} → Read X → Result Cursor Fault
@@ -29,6 +29,7 @@ abbrev mutual
   passing (opaque max) c = left_of (read_opaque max c)
   passing (optional k) c = pass_optional (λ d. passing k d) c
   passing (array max k) c = read_count max c >>= λ n. pass_items (λ d. passing k d) n.0 n.1
+  passing (numbered max k) c = read_run max c >>= λ r. pass_items (λ d. passing k d) r.0.1 r.1
   passing (both a b) c = passing a c >>= λ d. passing b d
   passing (union arms) c = read_uint32 c >>= λ tag. passing_arm arms c.place tag.0 tag.1
   passing (tree levels max head) c = passing head c >>= λ d. pass_inner (λ e. passing head e) levels max d

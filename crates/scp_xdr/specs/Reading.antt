@@ -1,11 +1,11 @@
 -- Reading from left to right, with the first fault and its place.
-use Rattle.std.specs.Prelude.{ℕ, zero, suc, ◌+◌, Bool, true, false, not, List, [], ◌∷◌, length, take, drop, position, Option, Some, None, Result, Ok, Err, nat_lt, ◌==◌, if◌then◌else◌}
+use Rattle.std.specs.Prelude.{ℕ, zero, suc, ◌+◌, ◌^◌, Bool, true, false, not, List, [], ◌∷◌, length, take, drop, position, Option, Some, None, Result, Ok, Err, nat_lt, ◌==◌, if◌then◌else◌}
 use Rattle.std.proofs.Common.{inl, inr}
 use Rattle.std.specs.Int.{w32, w64, from_be_bytes}
 use Rattle.scp_types.specs.declared.fault.Fault.{Fault}
 use Rattle.scp_types.specs.declared.fault.Fault.TheVariants.{Malformed, TooLong}
 use Rattle.scp_xdr.specs.Tree.{Tree, tree_of}
-use Rattle.scp_xdr.specs.Kind.{Kind, uint32, uint64, fixed, opaque, optional, array, both, union, tree, Arms, no_arm, arm, Values, ArmValues, padding_len}
+use Rattle.scp_xdr.specs.Kind.{Kind, uint32, uint64, fixed, opaque, optional, array, numbered, both, union, tree, Arms, no_arm, arm, Values, ArmValues, padding_len}
 
 -- where a reader stands: its place in the whole, and the bytes from there on
 pub record Cursor : Type 0 where
@@ -98,6 +98,16 @@ read_inner head (suc levels) max c = read_count max c >>= λ n. read_items (tree
 abbrev pub read_tree : {X : Type 0} → (Cursor → Read X) → ℕ → ℕ → Cursor → Read (Tree X)
 read_tree head levels max c = tree_with head (read_inner head levels max) c
 
+-- the first number and the count of what is numbered on from it, at least one and at most so many, the last below 2^64
+abbrev pub run_of : ℕ → ℕ → ℕ → ℕ → ℕ → Cursor → Read (ℕ × ℕ)
+run_of max first_place count_place first n c = if n == 0 then Err (Malformed count_place) else (if nat_lt max n then Err TooLong else (if nat_lt (2 ^ 64) (first + n) then Err (Malformed first_place) else Ok ((first, n), c)))
+
+unfoldable pub read_run : ℕ → Cursor → Read (ℕ × ℕ)
+read_run max c = do
+  first ← read_uint64 c
+  n ← read_uint32 first.1
+  run_of max c.place first.1.place first.0 n.0 n.1
+
 abbrev mutual
   pub reading : (k : Kind) → Cursor → Read (Values k)
   reading uint32 c = read_uint32 c
@@ -106,6 +116,7 @@ abbrev mutual
   reading (opaque max) c = read_opaque max c
   reading (optional k) c = read_optional (λ d. reading k d) c
   reading (array max k) c = read_count max c >>= λ n. read_items (λ d. reading k d) n.0 n.1
+  reading (numbered max k) c = read_run max c >>= λ r. read_items (λ d. reading k d) r.0.1 r.1 >>= λ xs. Ok ((r.0.0, xs.0), xs.1)
   reading (both a b) c = reading a c >>= λ x. reading b x.1 >>= λ y. Ok ((x.0, y.0), y.1)
   reading (union arms) c = read_uint32 c >>= λ tag. reading_arm arms c.place tag.0 tag.1
   reading (tree levels max head) c = read_tree (λ d. reading head d) levels max c

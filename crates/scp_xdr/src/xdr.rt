@@ -1,10 +1,10 @@
 ghost use Rattle.std.specs.Prelude.{◌≡◌, ◌≢◌, ◌↔◌, ◌⊎◌, ◌+◌, ◌<◌, ◌≤◌, ◌^◌, length, map, option_map, All, List, ℕ, ◌++◌, IfOk, IfErr, IsOk, MatchResult, Err, IsErrOf, IsOkUnless, IsTrue, Ok};
 ghost use Rattle.std.specs.List.{flat_map, sum_by};
-ghost use Rattle.scp_xdr.specs.Kind.{Kind, Values, Fits, Spells, spelling, optional, array};
+ghost use Rattle.scp_xdr.specs.Kind.{Kind, Values, Fits, Spells, spelling, optional, array, numbered};
 ghost use Rattle.scp_xdr.specs.Length.{spelled_len};
-ghost use Rattle.scp_xdr.specs.Reading.{Cursor, reading, reading_whole, read_items};
+ghost use Rattle.scp_xdr.specs.Reading.{Cursor, reading, reading_whole, read_items, read_run};
 ghost use Rattle.scp_xdr.specs.Passing.{left_of, passing, passing_whole, pass_items};
-ghost use Rattle.scp_xdr.specs.Words.{IsReadingFault, GoesPast, PassesWhole, Decodes, Gives, Extends, Leaves};
+ghost use Rattle.scp_xdr.specs.Words.{IsReadingFault, GoesPast, PassesWhole, Parses, Decodes, Gives, Extends, Leaves};
 
 use crate::reader::Reader;
 use crate::room::spend_u32;
@@ -155,6 +155,42 @@ pub fn read_array<T: Xdr>(alloc: Global, max: u32, reader: &mut Reader<'_>) -> R
     read_times(alloc, count, reader)
 }
 
+/// A first number, and at least one and at most `max` values behind their count, which are numbered on from it. No value is
+/// `Fault::Malformed` at the count, a larger count is `Fault::TooLong`, and a last number over 64 bits is
+/// `Fault::Malformed` at the first number; these are tested before any value is read.
+pub fn read_numbered<T: Xdr>(
+    alloc: Global,
+    max: u32,
+    reader: &mut Reader<'_>,
+) -> Result<(u64, Vec<T>), Fault>
+    ensures { Decodes (λ x. (x.0, map T.value x.1.items)) reader.new result (reading (numbered max T.kind) reader.old) }
+{
+    let (first, count) = read_run(max, reader)?;
+    let items = read_times(alloc, count, reader)?;
+    Ok((first, items))
+}
+
+/// The first number, and the count of what is numbered on from it.
+#[tactic(auto, unfolding(crate::specs::Reading::read_run))]
+fn read_run(max: u32, reader: &mut Reader<'_>) -> Result<(u64, u32), Fault>
+    ensures { Parses (λ x. x) reader.new result (read_run max reader.old) }
+{
+    let first_place = reader.place();
+    let first = reader.u64()?;
+    let count_place = reader.place();
+    let count = reader.u32()?;
+    if count == 0 {
+        return Err(Fault::Malformed(count_place));
+    }
+    if count > max {
+        return Err(Fault::TooLong);
+    }
+    if first > u64::MAX - (count - 1) as u64 {
+        return Err(Fault::Malformed(first_place));
+    }
+    Ok((first, count))
+}
+
 /// A value after a flag, or none (RFC 4506, section 4.19); another flag than 0 and 1 is `Fault::Malformed`.
 #[tactic(auto, unfolding(crate::specs::Reading::read_optional))]
 pub fn read_optional<T: Xdr>(alloc: Global, reader: &mut Reader<'_>) -> Result<Option<T>, Fault>
@@ -182,6 +218,14 @@ pub fn pass_array<T: Xdr>(max: u32, reader: &mut Reader<'_>) -> Result<(), Fault
     ensures { GoesPast reader.new result (passing (array max T.kind) reader.old) }
 {
     let count = reader.count(max)?;
+    pass_times::<T>(count, reader)
+}
+
+/// Passes over a first number and the values that are numbered on from it, without memory.
+pub fn pass_numbered<T: Xdr>(max: u32, reader: &mut Reader<'_>) -> Result<(), Fault>
+    ensures { GoesPast reader.new result (passing (numbered max T.kind) reader.old) }
+{
+    let (_, count) = read_run(max, reader)?;
     pass_times::<T>(count, reader)
 }
 
@@ -226,6 +270,35 @@ pub fn write_array<T: Xdr>(writer: &mut Writer, max: u32, items: &[T]) -> Result
 {
     writer.count(max, items.len())?;
     write_times(writer, items)
+}
+
+/// Writes a first number and the values that are numbered on from it, behind their count. A refusal leaves a part of them.
+pub fn write_numbered<T: Xdr>(
+    writer: &mut Writer,
+    max: u32,
+    first: u64,
+    items: &[T],
+) -> Result<(), Fault>
+    requires { Fits (numbered max T.kind) (first, map T.value items.now) }
+    ensures { Extends writer.old writer.new result (spelling (numbered max T.kind) (first, map T.value items.now)) }
+{
+    writer.u64(first)?;
+    writer.count(max, items.len())?;
+    write_times(writer, items)
+}
+
+/// Whether the values are at least one and at most `max`, keep their limits, and the last number has 64 bits.
+pub fn numbered_fits<T: Xdr>(max: u32, first: u64, items: &[T]) -> bool
+    ensures { IsTrue result ↔ Fits (numbered max T.kind) (first, map T.value items.now) }
+{
+    let count = items.len();
+    if count == 0 {
+        return false;
+    }
+    if count > max as usize {
+        return false;
+    }
+    first <= u64::MAX - (count as u64 - 1) && all_fit(items)
 }
 
 /// Writes a flag and the value, if there is one. A refusal leaves a part of it.
