@@ -261,3 +261,34 @@ given_up conn r (x ∷ ms) m runs over = by_test (is_spent r.next x) refl (λ en
         let step : after_each r (x ∷ ms) ≡ after_each (record r { next = next_of r.next x }) ms = rw e refl in
         let k = more (subst (λ (q : ReaderView). q.ended ≡ true) step over) in
         (rw e (ap (λ xs. numbered conn r.next x ∷ xs) k.0), rw e k.1)
+
+-- ---- a value more of a batch
+
+records_from-length : (slot : ℕ) (vs : List (List ℕ)) → length (records_from slot vs) ≡ length vs
+records_from-length slot [] = refl
+records_from-length slot (v ∷ vs) = ap suc (records_from-length (slot + 1) vs)
+
+pub record BatchRuns (conn : ConnId) (r : ReaderView) (first : ℕ) (vs : List (List ℕ)) (v : List ℕ) : Type 0 where
+  pub brings : brought_each conn r.next (records_from first (vs ++ v ∷ [])) ≡ brought_each conn r.next (records_from first vs) ++ brought_one conn (after_each r (records_from first vs)).next (Record (record { 0 = first + length vs }) v) ∷ []
+  pub goes_past : after_each r (records_from first (vs ++ v ∷ [])) ≡ after_one (after_each r (records_from first vs)) (Record (record { 0 = first + length vs }) v)
+  pub so_many : length (brought_each conn r.next (records_from first vs)) ≡ length vs
+
+pub batch_runs : (conn : ConnId) (r : ReaderView) (first : ℕ) (vs : List (List ℕ)) (v : List ℕ) → (after_each r (records_from first vs)).ended ≡ false → BatchRuns conn r first vs v
+batch_runs conn r first vs v runs =
+    let k = reads_more conn r (records_from first vs) (Record (record { 0 = first + length vs }) v) runs in
+    let e = records_from-more first vs v in
+    record {
+      brings = ap (λ ms. brought_each conn r.next ms) e ∙ k.brings;
+      goes_past = ap (λ ms. after_each r ms) e ∙ k.goes_past;
+      so_many = k.so_many ∙ records_from-length first vs;
+    }
+
+pub record BatchIsOver (conn : ConnId) (r : ReaderView) (first : ℕ) (vs : List (List ℕ)) (v : List ℕ) : Type 0 where
+  pub brings : brought_each conn r.next (records_from first (vs ++ v ∷ [])) ≡ brought_each conn r.next (records_from first vs)
+  pub goes_past : after_each r (records_from first (vs ++ v ∷ [])) ≡ after_each r (records_from first vs)
+
+pub batch_is_over : (conn : ConnId) (r : ReaderView) (first : ℕ) (vs : List (List ℕ)) (v : List ℕ) → r.ended ≡ false → (after_each r (records_from first vs)).ended ≡ true → BatchIsOver conn r first vs v
+batch_is_over conn r first vs v runs over =
+    let k = given_up conn r (records_from first vs) (Record (record { 0 = first + length vs }) v) runs over in
+    let e = records_from-more first vs v in
+    record { brings = ap (λ ms. brought_each conn r.next ms) e ∙ k.0; goes_past = ap (λ ms. after_each r ms) e ∙ k.1 }
