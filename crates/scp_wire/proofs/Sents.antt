@@ -19,14 +19,14 @@ use Rattle.scp_wire.specs.declared.link.Cause.{Cause}
 use Rattle.scp_wire.specs.declared.link.Cause.TheVariants.{Malformed, Link, Spent}
 use Rattle.scp_wire.specs.Carried.{is_carried}
 use Rattle.scp_wire.specs.Reading.{reading_of}
-use Rattle.scp_wire.specs.LinkReading.{ReaderView, unread, reading, after, readings, brought, after_read, brought_one, brought_each, after_one, after_each, next_of, is_spent, singles, IsSingle, numbered}
+use Rattle.scp_wire.specs.LinkReading.{ReaderView, unread, reading, after, readings, brought, after_read, brought_one, brought_each, after_one, after_each, next_of, is_spent, singles, numbered}
 use Rattle.scp_wire.specs.Connections.{conn_at, same_conn}
 use Rattle.scp_wire.specs.Shape.{Tail, never_open, goes, MayGo, AreOfLink}
 use Rattle.scp_wire.specs.Marks.{Mark, number, ended, one_if, came_mark, marks_in, came_message, messages_in, is_of, of_conn}
 use Rattle.scp_wire.specs.Sent.{sent_by, closed_by, sent, is_closed, readable, all_readable, all_carried, carried_of, end_of, numbers, line_of_sent, readable_from, opened_by, opened, up_to, in_turn, read_of_sent}
 use Rattle.scp_wire.specs.ReaderLaws.{IsSent, ReadingsAreSent}
 use Rattle.std.specs.List.{AllByRecursion}
-use Rattle.scp_wire.proofs.Shapes.{all_single}
+use Rattle.scp_wire.proofs.Shapes.{IsSingle, all_single}
 use Rattle.scp_wire.proofs.Lines.{same_conn-at, marks_in-append, messages_in-append}
 
 -- ---- an item of another life says nothing
@@ -193,11 +193,14 @@ less_suc a b = grind (arith, nat_tests)
 
 -- a side message more, which has no number
 told-side : (c conn : ConnId) (n limit : ℕ) (x : Inbound) (rest : List Inbound) (m : Message) (ms : List Message) (ok closed : Bool) → is_carried m ≡ false → came_mark c x ≡ [] → came_message c x ≡ [] → is_of c x ≡ true → x ≡ numbered c n m → Told c n limit rest ms ok closed → Told c n limit (x ∷ rest) (m ∷ ms) ok closed
-told-side c conn n limit x rest m ms ok closed is mark message mine same t = record {
-  are = rw (is, message) t.are;
-  line = rw (is, mark) t.line;
-  all = rw (is, mine) (ap (λ d. d ∷ of_conn c rest) same ∙ ap (λ ys. numbered c n m ∷ ys) t.all);
-}
+told-side c conn n limit x rest m ms ok closed is mark message mine same t =
+    let end : List Inbound = map (inbound.Closed c) (option_to_list (end_by limit (filter is_carried ms) ok closed)) in
+    let next : n ≡ next_of n m = rw is refl in
+    record {
+      are = rw (is, message) t.are;
+      line = rw (is, mark) t.line;
+      all = rw (is, mine) (ap (λ d. d ∷ of_conn c rest) same ∙ ap (λ ys. numbered c n m ∷ ys) (t.all ∙ ap (λ k. in_turn c k (up_to limit ms) ++ end) next));
+    }
 
 -- one carried message more, as an item that says so
 told-carried : (c : ConnId) (n limit : ℕ) (x : Inbound) (rest : List Inbound) (m : Message) (ms : List Message) (ok closed : Bool) → is_carried m ≡ true → came_mark c x ≡ number n ∷ [] → came_message c x ≡ m ∷ [] → is_of c x ≡ true → x ≡ numbered c n m → Told c (n + 1) limit rest ms ok closed → Told c n (suc limit) (x ∷ rest) (m ∷ ms) ok closed
@@ -205,10 +208,12 @@ told-carried c n limit x rest m ms ok closed is mark message mine same t =
     let less : nat_lt (suc limit) (length (m ∷ filter is_carried ms)) ≡ nat_lt limit (length (filter is_carried ms)) = less_suc limit (length (filter is_carried ms)) in
     let some : nat_eq (suc limit) 0 ≡ false = grind (arith, nat_tests) in
     let one_less : suc limit - 1 ≡ limit = omega arith in
+    let end : List Inbound = map (inbound.Closed c) (option_to_list (end_by limit (filter is_carried ms) ok closed)) in
+    let next : n + 1 ≡ next_of n m = rw is refl in
     record {
       are = rw (is, message) (ap (λ ns. m ∷ ns) t.are);
       line = rw (is, mark, less) (ap (λ ns. number n ∷ ns) t.line);
-      all = rw (is, mine, some, less, one_less) (ap (λ d. d ∷ of_conn c rest) same ∙ ap (λ ys. numbered c n m ∷ ys) t.all);
+      all = rw (is, mine, some, less, one_less) (ap (λ d. d ∷ of_conn c rest) same ∙ ap (λ ys. numbered c n m ∷ ys) (t.all ∙ ap (λ k. in_turn c k (up_to limit ms) ++ end) next));
     }
 
 -- what follows of the connection, where a message was carried, and where it ended
@@ -329,8 +334,8 @@ before peer me life t r (item.Opened conn ∷ xs) lt a = by_test (nat_eq (t.life
         let is : t.life + 1 ≡ life = eqb-true (t.life + 1) life e in
         let here : conn ≡ conn_at peer me life = a.0.1 ∙ ap (λ n. conn_at peer me n) is in
         tells-opened (conn_at peer me life) conn r xs (ap (λ (d : ConnId). same_conn d (conn_at peer me life)) a.0.1 ∙ same_conn-at peer me (t.life + 1) life ∙ e) here
-          (opened_before peer me life (record { life = t.life + 1; is_open = true }) xs (omega (arith, is)) a.1)
-          (living peer me life (record { life = t.life + 1; is_open = true }) 0 1000000 xs is refl refl a.1)
+        (opened_before peer me life (record { life = t.life + 1; is_open = true }) xs (omega (arith, is)) a.1)
+        (living peer me life (record { life = t.life + 1; is_open = true }) 0 1000000 xs is refl refl a.1)
     by_test false e k =
         let ne : t.life + 1 ≢ life = eqb-false (t.life + 1) life e in
         tells-other (conn_at peer me life) r (item.Opened conn) xs (opened_other (conn_at peer me life) r conn (other_conn peer me life (t.life + 1) conn e a.0.1)) (k (omega (arith, lt, ne)) a.1)

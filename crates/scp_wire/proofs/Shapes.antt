@@ -16,12 +16,22 @@ use Rattle.scp_wire.specs.declared.link.Cause.{Cause}
 use Rattle.scp_wire.specs.declared.link.Cause.TheVariants.{Malformed, Link, Spent, ParkedFull}
 use Rattle.scp_wire.specs.Carried.{is_carried}
 use Rattle.scp_wire.specs.Reading.{reading_of}
-use Rattle.scp_wire.specs.LinkReading.{ReaderView, unread, reading, after, readings, after_all, brought, after_read, brought_one, brought_each, after_one, after_each, next_of, is_spent, singles, IsSingle, records_from, numbered, first_of, ReaderState, taken_by, HasRead}
+use Rattle.scp_wire.specs.LinkReading.{ReaderView, unread, reading, after, readings, after_all, brought, after_read, brought_one, brought_each, after_one, after_each, next_of, is_spent, singles, records_from, numbered, first_of, ReaderState, taken_by, HasRead}
 use Rattle.scp_wire.specs.declared.side.SideMessage.{SideMessage}
 use Rattle.scp_wire.specs.declared.side.SideMessage.TheVariants as side
 use Rattle.scp_wire.specs.Connections.{conn_at}
 use Rattle.scp_wire.specs.Shape.{Tail, never_open, goes, MayGo, AreOfLink, Come, nothing_came, comes, MayCome, AreInOrder}
 use Rattle.scp_wire.specs.ReaderLaws.{ReadingsAreInOrder, ReadingsGrow, Grows, ReadingsGrowByOne, GrowsByOne}
+
+-- a message that is read as itself
+abbrev pub IsSingle : Message → Type 0
+IsSingle (Envelope envelope) = Unit {0}
+IsSingle (GetSet hash) = Unit {0}
+IsSingle (Set set) = Unit {0}
+IsSingle (NoSet hash) = Unit {0}
+IsSingle (GetRecord slot) = Unit {0}
+IsSingle (Record slot value) = Unit {0}
+IsSingle (Records first values) = ⊥
 
 -- ---- readings of two lists
 
@@ -58,12 +68,12 @@ has_read_one items given old new x got none h read stands =
     let all : given ≡ readings unread items = sym (ap (λ zs. given ++ zs) none ∙ append-nil given) ∙ h.given_is in
     record {
       given_is = ap (λ (r : ReaderState). (given ++ option_to_list got) ++ r.rest) stands
-        ∙ ap (λ o. (given ++ option_to_list o) ++ drop 1 (reading old.at x)) read
-        ∙ append_assoc given (option_to_list (first_of (reading old.at x))) (drop 1 (reading old.at x))
-        ∙ ap (λ zs. given ++ zs) (first_and_others (reading old.at x))
-        ∙ ap (λ zs. zs ++ reading old.at x) all
-        ∙ ap (λ r. readings unread items ++ reading r x) h.stands
-        ∙ sym g.given;
+          ∙ ap (λ o. (given ++ option_to_list o) ++ drop 1 (reading old.at x)) read
+          ∙ append_assoc given (option_to_list (first_of (reading old.at x))) (drop 1 (reading old.at x))
+          ∙ ap (λ zs. given ++ zs) (first_and_others (reading old.at x))
+          ∙ ap (λ zs. zs ++ reading old.at x) all
+          ∙ ap (λ r. readings unread items ++ reading r x) h.stands
+          ∙ sym g.given;
       stands = ap (λ (r : ReaderState). r.at) stands ∙ ap (λ r. after r x) h.stands ∙ sym g.stands;
     }
 

@@ -42,7 +42,7 @@ loop-value-preserved-in-Continue-branch-2 c =
     let k = batch_runs c.args.conn c.args.self.now c.args.first.0 at.yielded c.in-Some.value runs in
     let place : c.len.result ≡ length at.yielded = c.len.ensures ∙ at.invariant.count ∙ ap length at.invariant.read ∙ k.so_many in
     let one : c.carry.result ≡ brought_one c.args.conn (after_each c.args.self.now (records_from c.args.first.0 at.yielded)).next (Record (record { 0 = c.args.first.0 + length at.yielded }) c.in-Some.value) =
-        c.carry.ensures.read ∙ rw (at.invariant.stands, place) refl in
+    c.carry.ensures.read ∙ rw (at.invariant.stands, place) refl in
     let items : c.push_back.new.self.items ≡ at.read.items ++ c.carry.result ∷ [] = c.in_ok-push_back.ensures.items in
     record {
       read = items ∙ rw (at.invariant.read, one) refl ∙ sym k.brings;
