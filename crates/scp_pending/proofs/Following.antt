@@ -92,7 +92,7 @@ conns_served P test f qs a =
     let k : AllConns P (resolved test f qs) = all_step (λ (q : QueueView). P q.conn) (λ (q : QueueView). P q.conn) (resolved_in test f) qs (λ q h. h) a in
     all_step (λ (q : QueueView). P q.conn) (λ (q : QueueView). P q.conn) stays_in (resolved test f qs) (λ q h. h) k
 
-open_conn : (P : ConnId → Type 0) (c : ConnId) (qs : List QueueView) → is_open c qs ≡ true → AllConns P qs → P c
+pub open_conn : (P : ConnId → Type 0) (c : ConnId) (qs : List QueueView) → is_open c qs ≡ true → AllConns P qs → P c
 open_conn P c [] e a = absurd cc
 open_conn P c (q ∷ qs) e a = elim (if_any (is_of c q) (is_open c qs) e) as (λ _. P c) [ inl l ↦ subst P (same_conn-true q.conn c l) a.0 | inr r ↦ open_conn P c qs r a.1 ]
 

@@ -21,3 +21,6 @@ pub mod Exiting
 pub mod Ending
 pub mod Living
 pub mod Settling
+pub mod Firsts
+pub mod Numbers
+pub mod Ordering

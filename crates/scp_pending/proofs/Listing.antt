@@ -32,15 +32,15 @@ use Rattle.scp_pending.proofs.Standing.{gives_up_other}
 
 -- ---- tests
 
-and_none : (b : Bool) → (b && false) ≡ false
+pub and_none : (b : Bool) → (b && false) ≡ false
 and_none true = refl
 and_none false = refl
 
-and_all : (b : Bool) → (b && true) ≡ b
+pub and_all : (b : Bool) → (b && true) ≡ b
 and_all true = refl
 and_all false = refl
 
-or_none_of : (b : Bool) → (b || false) ≡ b
+pub or_none_of : (b : Bool) → (b || false) ≡ b
 or_none_of true = refl
 or_none_of false = refl
 
@@ -48,11 +48,11 @@ or_three : (a b c : Bool) → (a || (b || c)) ≡ ((a || b) || c)
 or_three true b c = refl
 or_three false b c = refl
 
-any_push : {X : Type 0} (test : X → Bool) (xs : List X) (x : X) → list_any test (xs ++ x ∷ []) ≡ (list_any test xs || test x)
+pub any_push : {X : Type 0} (test : X → Bool) (xs : List X) (x : X) → list_any test (xs ++ x ∷ []) ≡ (list_any test xs || test x)
 any_push test [] x = or_none_of (test x)
 any_push test (y ∷ ys) x = ap (λ b. test y || b) (any_push test ys x) ∙ or_three (test y) (list_any test ys) (test x)
 
-conn_sym : (c d : ConnId) → same_conn c d ≡ same_conn d c
+pub conn_sym : (c d : ConnId) → same_conn c d ≡ same_conn d c
 conn_sym c d = by_tests (same_conn c d) (same_conn d c) refl refl
   where
     by_tests : (a b : Bool) → same_conn c d ≡ a → same_conn d c ≡ b → a ≡ b
@@ -63,7 +63,7 @@ conn_sym c d = by_tests (same_conn c d) (same_conn d c) refl refl
 
 -- ---- a list of connections
 
-has-joined : (c d : ConnId) (conns : List ConnId) → has_conn c (joined d conns) ≡ (has_conn c conns || same_conn d c)
+pub has-joined : (c d : ConnId) (conns : List ConnId) → has_conn c (joined d conns) ≡ (has_conn c conns || same_conn d c)
 has-joined c d conns = by_test (has_conn d conns) refl
   where
     same : (b : Bool) → same_conn d c ≡ b → has_conn d conns ≡ true → has_conn c conns ≡ (has_conn c conns || b)
@@ -74,7 +74,7 @@ has-joined c d conns = by_test (has_conn d conns) refl
     by_test true h = same (same_conn d c) refl h
     by_test false h = any_push (same_conn c) conns d ∙ ap (λ b. has_conn c conns || b) (conn_sym c d)
 
-has-left : (c d : ConnId) (conns : List ConnId) → has_conn c (filter (λ e. not (same_conn d e)) conns) ≡ (has_conn c conns && not (same_conn d c))
+pub has-left : (c d : ConnId) (conns : List ConnId) → has_conn c (filter (λ e. not (same_conn d e)) conns) ≡ (has_conn c conns && not (same_conn d c))
 has-left c d [] = refl
 has-left c d (e ∷ es) = by_tests (same_conn d e) (same_conn c e) refl refl (has-left c d es)
   where
@@ -111,7 +111,7 @@ apart-map : (f : Want → Want) → ((w : Want) → (f w).hash ≡ w.hash) → (
 apart-map f same [] a = tt
 apart-map f same (w ∷ ws) a = (wanted-map f same (f w).hash ws ∙ ap (λ h. is_wanted h ws) (same w) ∙ a.0, apart-map f same ws a.1)
 
-unwanted-filter : (keep : Want → Bool) (hash : Hash) (ws : List Want) → is_wanted hash ws ≡ false → is_wanted hash (filter keep ws) ≡ false
+pub unwanted-filter : (keep : Want → Bool) (hash : Hash) (ws : List Want) → is_wanted hash ws ≡ false → is_wanted hash (filter keep ws) ≡ false
 unwanted-filter keep hash [] e = refl
 unwanted-filter keep hash (w ∷ ws) e = (let both = or_none (is_for hash w) (is_wanted hash ws) e in by_test (keep w) both.0 (unwanted-filter keep hash ws both.1))
   where
@@ -157,7 +157,7 @@ pub record StandsElse (c : ConnId) (qs : List QueueView) (q : QueueView) : Type 
   pub other : same_conn c q.conn ≡ false
   pub own : parked_of q.conn qs ≡ q.parked
 
-own_from : (front qs : List QueueView) → AreSingle (front ++ qs) → AllByRecursion (λ q. parked_of q.conn (front ++ qs) ≡ q.parked) qs
+pub own_from : (front qs : List QueueView) → AreSingle (front ++ qs) → AllByRecursion (λ q. parked_of q.conn (front ++ qs) ≡ q.parked) qs
 own_from front [] a = tt
 own_from front (q ∷ qs) a = (
   (let few : how_many q.conn (q ∷ qs) ≡ how_many q.conn qs + 1 = ap (plus_one (how_many q.conn qs)) (same_conn-refl q.conn) in let none : how_many q.conn front ≡ 0 = omega (arith, a q.conn, how_many-append q.conn front (q ∷ qs), few) in parked-append q.conn front (q ∷ qs) (shut_none q.conn front none) ∙ rw (same_conn-refl q.conn) refl),
@@ -201,7 +201,7 @@ stays_any hash kept (p ∷ ps) = by_test (is_held kept p) refl (stays_any hash (
     by_test true e stay go = ap (λ b. waits_for hash p || b) stay
     by_test false e stay go = go ∙ ap (λ b. b || list_any (waits_for hash) ps) (sym (not_waits hash p (or_none (waits p) (list_any (is_at (lane_of p)) kept) e).0))
 
-not_named : (test : Option Hash → Bool) (hash : Hash) (o : Option Hash) → test (Some hash) ≡ false → test o ≡ true → is_hash hash o ≡ false
+pub not_named : (test : Option Hash → Bool) (hash : Hash) (o : Option Hash) → test (Some hash) ≡ false → test o ≡ true → is_hash hash o ≡ false
 not_named test hash None e t = refl
 not_named test hash (Some other) e t = by_test (same_hash hash other) refl
   where
@@ -223,7 +223,7 @@ served_same : (test : Option Hash → Bool) (f : Carried → Parked) (hash : Has
 served_same test f hash qs none e single c =
     ap (list_any (waits_for hash)) (parked-served c (resolved test f qs)) ∙ stays_any hash [] (parked_of c (resolved test f qs)) ∙ ap (list_any (waits_for hash)) (parked-resolved c test f qs) ∙ resolved_any test f hash none e (parked_of c qs)
 
-answer_waits : (set : QuorumTree) (hash : Hash) (x : Carried) → waits_for hash (by_answer set x) ≡ false
+pub answer_waits : (set : QuorumTree) (hash : Hash) (x : Carried) → waits_for hash (by_answer set x) ≡ false
 answer_waits set hash x = by_test (is_sane set)
   where
     by_test : (b : Bool) → waits_for hash ((cond b (with_set (Some set)) (lost_by BadSet)) x) ≡ false
@@ -252,7 +252,7 @@ given_each miss (v ∷ vs) a = (
     by_own true e = refl
     by_own false e = e
 
-count-waiting : (miss : Miss) (w : Want) → (count_miss miss w).waiting ≡ w.waiting
+pub count-waiting : (miss : Miss) (w : Want) → (count_miss miss w).waiting ≡ w.waiting
 count-waiting miss w = by_test (is_missed miss w.hash)
   where
     by_test : (b : Bool) → (cond b (record w { misses = w.misses + 1 }) w).waiting ≡ w.waiting
@@ -274,7 +274,7 @@ missed_still miss qs ws l = missed_listed miss (λ o. false) qs qs ws (λ w g k.
 
 -- ---- a message is parked
 
-waits_as : (hash : Hash) (p : Parked) → waits_for hash p ≡ is_hash hash (waited_by p)
+pub waits_as : (hash : Hash) (p : Parked) → waits_for hash p ≡ is_hash hash (waited_by p)
 waits_as hash (Waits x) = refl
 waits_as hash (Free d) = refl
 waits_as hash (Lost slot seq cause) = refl

@@ -86,7 +86,7 @@ others_part c d qs single n m r = by_test (same_conn d c) refl
     by_test true e = subst (λ (ps : List Parked). Rises n m (map seq_of ps)) (sym (subst (λ (k : ConnId). parked_of k (others d qs) ≡ []) (same_conn-true d c e) (parked-others_mine d qs (single d)))) (rises_within n m (seqs_of c qs) r)
     by_test false e = subst (λ (ps : List Parked). Rises n m (map seq_of ps)) (sym (parked-others_other d c qs e)) r
 
-entering_as : (s : Settled) (x : Carried) → seq_of (entering s.store x) ≡ x.seq
+pub entering_as : (s : Settled) (x : Carried) → seq_of (entering s.store x) ≡ x.seq
 entering_as s x = by_name (named x.message)
   where
     by_lookup : (o : Option QuorumTree) → seq_of (found x o) ≡ x.seq

@@ -1,5 +1,5 @@
 -- What follows of the rules, for every list of takes.
-use Rattle.std.specs.Prelude.{ℕ, ◌+◌, ◌≡◌, ◌≤◌, ◌++◌, List, [], ◌∷◌, Some, slice_get, length}
+use Rattle.std.specs.Prelude.{ℕ, ◌+◌, ◌≡◌, ◌≤◌, ◌++◌, List, [], ◌∷◌, Some, slice_get, length, map, filter}
 use Rattle.std.specs.List.{AllByRecursion}
 use Rattle.scp_types.specs.declared.names.ConnId.{ConnId}
 use Rattle.scp_types.specs.declared.names.Hash.{Hash}
@@ -10,8 +10,9 @@ use Rattle.scp_wire.specs.Connections.{conn_at}
 use Rattle.scp_wire.specs.Shape.{HasShape}
 use Rattle.scp_wire.specs.Lanes.{HaveSlots}
 use Rattle.scp_pending.specs.declared.ready.Ready.{Ready}
-use Rattle.scp_fetch.specs.Wants.{has_conn, waiting_for}
+use Rattle.scp_fetch.specs.Wants.{has_conn, is_wanted, waiting_for}
 use Rattle.scp_pending.specs.Queues.{is_open, is_waiting, parked_of}
+use Rattle.scp_pending.specs.Waiters.{carried_in, waits_here, once, is_waited}
 use Rattle.scp_pending.specs.Rules.{PendingView}
 use Rattle.scp_pending.specs.Line.{Accounts, held}
 use Rattle.scp_pending.specs.Causes.{HasCause}
@@ -37,6 +38,15 @@ FewAreParked = (me : NodeId) (peers : List NodeId) (taken : List Inbound) (given
 -- the connections that stand in a hash's list are those of which something that is parked waits for it
 abbrev pub WaitersWait : Type 0
 WaitersWait = (me : NodeId) (peers : List NodeId) (taken : List Inbound) (given : List Ready) (v : PendingView) → Pends me peers taken given v → (hash : Hash) (c : ConnId) → has_conn c (waiting_for hash v.settled.wanted) ≡ is_waiting c hash v.settled.queues
+
+-- where the items of each link have their shape, the connections that stand in a hash's list are those of the messages that
+-- were taken and wait for it still, the first of each, in order
+abbrev pub WaitersInOrder : Type 0
+WaitersInOrder = (me : NodeId) (peers : List NodeId) (taken : List Inbound) (given : List Ready) (v : PendingView) → Pends me peers taken given v → HasShape me peers taken → (hash : Hash) → waiting_for hash v.settled.wanted ≡ once (map (λ x. x.conn) (filter (waits_here hash v.settled.queues) (carried_in taken)))
+
+-- a hash is wanted just while something that is parked waits for it
+abbrev pub WantedWhileWaited : Type 0
+WantedWhileWaited = (me : NodeId) (peers : List NodeId) (taken : List Inbound) (given : List Ready) (v : PendingView) → Pends me peers taken given v → (hash : Hash) → is_wanted hash v.settled.wanted ≡ is_waited hash v.settled.queues
 
 -- each local command other than Tick is given once, in order, and no other
 abbrev pub CommandsPass : Type 0

@@ -9,4 +9,5 @@ pub mod Endings
 pub mod Pends
 pub mod Passes
 pub mod Living
+pub mod Waiters
 pub mod Laws

@@ -1,6 +1,6 @@
 //! What follows of the rules, for every list of takes: each law is the contract of a function that does nothing.
 ghost use Rattle.scp_pending.specs.Living.{OpenByPlace};
-ghost use Rattle.scp_pending.specs.Laws.{AllAccounts, AllExits, AllHaveCauses, CommandsPass, FewAreParked, WaitersWait};
+ghost use Rattle.scp_pending.specs.Laws.{AllAccounts, AllExits, AllHaveCauses, CommandsPass, FewAreParked, WaitersWait, WaitersInOrder, WantedWhileWaited};
 
 /// All that was given, and all that is ready, has its cause among what was taken.
 pub fn each_fate_has_its_cause()
@@ -15,6 +15,17 @@ pub fn few_are_parked()
 /// The connections that stand in a hash's list are those of which an envelope waits for it.
 pub fn who_waits_is_listed()
     ensures listed { WaitersWait }
+{}
+
+/// Where the items of each link have the shape that its reader gives them: the connections that stand in a hash's list are
+/// those of the messages that were taken and wait for it still, each once, in the order of their first such message.
+pub fn who_waits_stands_in_order()
+    ensures order { WaitersInOrder }
+{}
+
+/// A hash is wanted just while something that is parked waits for it.
+pub fn a_hash_is_wanted_while_something_waits()
+    ensures wanted { WantedWhileWaited }
 {}
 
 /// Where the items of each link have the shape that its reader gives them: in each lane of a connection, what was given and

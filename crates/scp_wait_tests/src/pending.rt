@@ -14,7 +14,8 @@ use std::sync::Arc;
 use std::test::*;
 
 /// An item to take, on a life of the link from a node. A quorum set goes by its number: 1 to 4 is the set of that node
-/// alone, of which the first is the stage's own, and 0 is a set that isn't sane, 0 of node 2.
+/// alone, 0 is a set that isn't sane, 0 of node 2, and 5 is 3 of the nodes 1 to 3. The stage's own is 1, or 5 where a test
+/// says so.
 #[derive(Clone, Copy)]
 enum Event {
     Opened(ConnId),
@@ -60,7 +61,7 @@ enum Out {
 }
 
 /// The hashes of the sets, by their numbers.
-type Names = [Hash; 5];
+type Names = [Hash; 6];
 
 /// The node whose 32 bytes all are this number.
 const fn node(number: u8) -> NodeId {
@@ -88,11 +89,20 @@ const THREE: ConnId = ConnId {
     life: 1,
 };
 
+/// The number of the set of three nodes, all of which it needs.
+const ALL_THREE: u8 = 5;
+
 /// The set of this number.
 fn set(alloc: Global, number: u8) -> Result<QuorumSet, Fault> {
-    let (threshold, of) = if number == 0 { (0, 2) } else { (1, number) };
+    let (threshold, first, last) = match number {
+        0 => (0, 2, 2),
+        ALL_THREE => (3, 1, 3),
+        _ => (1, number, number),
+    };
     let mut nodes = Vec::new(alloc);
-    nodes.push(node(of))?;
+    for of in first..=last {
+        nodes.push(node(of))?;
+    }
     Ok(QuorumSet::of_nodes(threshold, nodes))
 }
 
@@ -107,12 +117,13 @@ fn names(alloc: Global) -> Result<Names, Fault> {
         hash(alloc, 2)?,
         hash(alloc, 3)?,
         hash(alloc, 4)?,
+        hash(alloc, ALL_THREE)?,
     ])
 }
 
 /// The number of the set of this hash.
 fn number(names: &Names, hash: &Hash) -> u8 {
-    for i in 0..5_u8 {
+    for i in 0..6_u8 {
         if names[i as usize] == *hash {
             return i;
         }
@@ -121,18 +132,18 @@ fn number(names: &Names, hash: &Hash) -> u8 {
 }
 
 fn name(names: &Names, number: u8) -> Hash {
-    names[(number % 5) as usize]
+    names[(number % 6) as usize]
 }
 
-/// The pending stage of node 1, with links from nodes 2 and 3.
-fn stage(alloc: Global) -> Result<Pending, Fault>
+/// The pending stage of node 1 with this set, with links from nodes 2 and 3.
+fn stage(alloc: Global, own: u8) -> Result<Pending, Fault>
     ensures runs { IfOk result (λ pending. pending.failed ≡ false) }
     ensures ready { IfOk result (λ pending. pending.leaving ≡ []) }
 {
     let mut peers = Vec::new(alloc);
     peers.push(node(2))?;
     peers.push(node(3))?;
-    let Ok(own) = set(alloc, 1)?.into_sane() else {
+    let Ok(own) = set(alloc, own)?.into_sane() else {
         return Err(Fault::NoMemory);
     };
     Ok(Pending::new(alloc, node(1), peers, Arc::new(alloc, own)?))
@@ -188,7 +199,13 @@ impl Event {
 }
 
 /// A NOMINATE envelope of node 2 for slot 1 that names the set of this hash, as message `seq` of the connection.
-fn nominate(alloc: Global, conn: ConnId, seq: u64, slot: u64, set_hash: Hash) -> Result<Inbound, Fault> {
+fn nominate(
+    alloc: Global,
+    conn: ConnId,
+    seq: u64,
+    slot: u64,
+    set_hash: Hash,
+) -> Result<Inbound, Fault> {
     let pledges = Pledges::Nominate(Nominate {
         set_hash,
         votes: ValueList::new(Vec::new(alloc)),
@@ -343,8 +360,13 @@ fn play_all(
 
 /// Whether just this is given where these are taken, on a stage with both links open.
 fn gives(alloc: Global, events: &[Event], want: &[Out]) -> Result<bool, Fault> {
+    gives_with(alloc, 1, events, want)
+}
+
+/// The same on a stage with this own set.
+fn gives_with(alloc: Global, own: u8, events: &[Event], want: &[Out]) -> Result<bool, Fault> {
     let mut log = Vec::new(alloc);
-    let mut pending = stage(alloc)?;
+    let mut pending = stage(alloc, own)?;
     play_all(alloc, &mut pending, &[Opened(TWO), Opened(THREE)], &mut log)?;
     play_all(alloc, &mut pending, events, &mut log)?;
     Ok(log.as_slice() == want)
@@ -534,6 +556,41 @@ fn each_link_is_asked_once_a_life(rt: HostRuntime) -> Result<(), Fail> {
 }
 
 #[test]
+fn each_link_is_asked_again_when_both_opened_anew(rt: HostRuntime) -> Result<(), Fail> {
+    let again = conn(2, 2);
+    assert!(rt;
+        gives_with(
+            rt.alloc(),
+            ALL_THREE,
+            &[
+                Names(TWO, 0, 2),
+                Names(TWO, 1, 2),
+                Names(THREE, 0, 2),
+                GetSet(TWO, ALL_THREE),
+                GetSet(TWO, 2),
+                Closed(TWO),
+                Closed(THREE),
+                Opened(again),
+                Opened(conn(3, 2)),
+                Names(again, 0, 2),
+            ],
+            &[
+                Asked(0, 2),
+                Asked(1, 2),
+                Given(0, ALL_THREE),
+                Missing(0, 2),
+                Left(TWO, 0, 1, Dropped(DropCause::Closed)),
+                Ended(TWO, Cause::Link),
+                Left(THREE, 0, 0, Dropped(DropCause::Closed)),
+                Ended(THREE, Cause::Link),
+                Asked(0, 2),
+            ],
+        )?
+    );
+    Ok(())
+}
+
+#[test]
 fn a_get_set_is_answered(rt: HostRuntime) -> Result<(), Fail> {
     assert!(rt;
         gives(
@@ -577,7 +634,7 @@ fn what_comes_of_no_open_connection_is_discarded(rt: HostRuntime) -> Result<(), 
 fn held(alloc: Global) -> Result<(usize, usize, usize), Fault> {
     let mut log = Vec::new(alloc);
     let names = names(alloc)?;
-    let mut pending = stage(alloc)?;
+    let mut pending = stage(alloc, 1)?;
     play_all(
         alloc,
         &mut pending,
@@ -597,10 +654,10 @@ fn the_65th_is_held_until_it_is_given(rt: HostRuntime) -> Result<(), Fail> {
     Ok(())
 }
 
-/// Whether just these wait for set 2 after these events, on a stage with both links open.
+/// Whether just these wait for set 2 after these events, on a stage of three nodes with both links open.
 fn waits(alloc: Global, events: &[Event], want: &[ConnId]) -> Result<bool, Fault> {
     let mut log = Vec::new(alloc);
-    let mut pending = stage(alloc)?;
+    let mut pending = stage(alloc, ALL_THREE)?;
     play_all(alloc, &mut pending, &[Opened(TWO), Opened(THREE)], &mut log)?;
     play_all(alloc, &mut pending, events, &mut log)?;
     Ok(pending.waiting(&hash(alloc, 2)?) == want)
@@ -609,12 +666,33 @@ fn waits(alloc: Global, events: &[Event], want: &[ConnId]) -> Result<bool, Fault
 #[test]
 fn the_connections_that_wait_are_told(rt: HostRuntime) -> Result<(), Fail> {
     let alloc = rt.alloc();
-    let three = [Names(TWO, 0, 2), Names(THREE, 0, 2), Names(TWO, 1, 2)];
+    let three = [Names(TWO, 0, 2), InSlot(THREE, 0, 2, 2), Names(TWO, 1, 2)];
     assert!(rt; waits(alloc, &three, &[TWO, THREE])?);
     let [first, second, third] = three;
     assert!(rt; waits(alloc, &[first, second, third, Closed(TWO)], &[THREE])?);
-    assert!(rt; waits(alloc, &[first, second, third, Closed(TWO), Set(THREE, 2)], &[])?);
+    assert!(rt;
+        waits(
+            alloc,
+            &[first, second, third, Closed(TWO), Set(THREE, 2)],
+            &[]
+        )?
+    );
     assert!(rt; waits(alloc, &[first, second, third, Closed(TWO), Ticks(12)], &[])?);
+    Ok(())
+}
+
+#[test]
+fn who_waits_again_stands_last(rt: HostRuntime) -> Result<(), Fail> {
+    let alloc = rt.alloc();
+    let again = conn(2, 2);
+    let events = [
+        Names(TWO, 0, 2),
+        Names(THREE, 0, 2),
+        Closed(TWO),
+        Opened(again),
+        Names(again, 0, 2),
+    ];
+    assert!(rt; waits(alloc, &events, &[THREE, again])?);
     Ok(())
 }
 
@@ -626,7 +704,13 @@ fn a_lane_waits_for_no_other(rt: HostRuntime) -> Result<(), Fail> {
     let through = Left(TWO, 1, 1, With(1));
     assert!(rt; gives(alloc, &two, &[asked, through])?);
     let [first, second] = two;
-    assert!(rt; gives(alloc, &[first, second, Set(TWO, 2)], &[asked, through, Left(TWO, 0, 0, With(2))])?);
+    assert!(rt;
+        gives(
+            alloc,
+            &[first, second, Set(TWO, 2)],
+            &[asked, through, Left(TWO, 0, 0, With(2))]
+        )?
+    );
     assert!(rt;
         gives(
             alloc,
