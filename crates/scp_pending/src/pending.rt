@@ -16,8 +16,8 @@ ghost use Rattle.scp_pending.specs.declared.ready.Ready.{Ready};
 
 use crate::parked::{Outcome, Parked, named, slot_in};
 use crate::queue::{
-    Queue, count_of, give, give_up_in_order, has_lane_on, is_link_open as is_link_open_in, place_of, push_to,
-    serve_all, settle_all, take_queue,
+    Queue, count_of, give, give_up_in_order, has_lane_on, is_link_open as is_link_open_in,
+    place_of, push_to, serve_all, settle_all, take_queue,
 };
 use crate::ready::{Delivery, DropCause, Ready};
 use scp_fetch::{Fetcher, Missed, SetStore};

@@ -11,7 +11,7 @@ ghost use Rattle.scp_pending.specs.declared.parked.Parked.{Parked};
 use crate::parked::{Outcome, Parked, named};
 use crate::ready::{DropCause, Ready};
 use scp_fetch::Fetcher;
-use scp_types::{ConnId, Fault, Hash, NodeId, Seq, Slot};
+use scp_types::{ConnId, Fault, Hash, NodeId, Slot};
 use std::alloc::Global;
 use std::collections::VecDeque;
 use std::marker::Model;
@@ -201,7 +201,7 @@ fn settle_at(
     requires place { place < length parked.old.items }
     ensures { OnOk result ((d : Parked) → parked.new.items ≡ set parked.old.items place (resolved_one (is_hash hash.now) (outcome_of outcome.now) (get_or parked.old.items place d))) }
 {
-    let waiting = mem::replace(&mut parked[place], Parked::Lost(Slot(0), Seq(0), DropCause::Closed));
+    let waiting = mem::replace(&mut parked[place], Parked::nothing());
     parked[place] = waiting.settled(hash, outcome)?;
     Ok(())
 }
@@ -223,9 +223,13 @@ pub(crate) fn give(conn: ConnId, parked: Parked, leaving: &mut VecDeque<Ready>) 
     ensures { OnOk result (leaving.new.items ≡ leaving.old.items ++ fate conn parked) }
 {
     match parked {
-        Parked::Waits(_) => {}
+        Parked::Waits(_carried) => {}
         Parked::Free(delivery) => leaving.push_back(Ready::Deliver(delivery))?,
-        Parked::Lost(_, seq, cause) => leaving.push_back(Ready::Dropped { conn, seq, cause })?,
+        Parked::Lost(carried, cause) => {
+            let seq = carried.seq;
+            drop(carried);
+            leaving.push_back(Ready::Dropped { conn, seq, cause })?;
+        }
     }
     Ok(())
 }
