@@ -21,3 +21,7 @@ pub mod Exiting
 pub mod Ending
 pub mod Living
 pub mod Settling
+pub mod Linked
+pub mod Messaging
+pub mod Ascending
+pub mod Keeping

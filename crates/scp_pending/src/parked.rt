@@ -4,6 +4,7 @@ ghost use Rattle.scp_pending.specs.Rules.{is_given_up};
 ghost use Rattle.scp_quorum.specs.QuorumKind.{set_hash};
 ghost use Rattle.scp_pending.specs.Queues.{named as named_by, hash_of, is_hash, waits_for as waits, waited_by, waits as is_waiting_one, lane_of, is_at, seq_of, resolved_one, lost_by, with_set};
 ghost use Rattle.scp_wire.specs.Lanes.{slot_of};
+ghost use Rattle.scp_pending.specs.Messages.{IsParkedAs};
 ghost use Rattle.scp_pending.specs.Outcome.{outcome_of, HasHash};
 
 use crate::ready::{Delivery, DropCause};
@@ -81,6 +82,20 @@ impl Parked {
             },
             DropCause::Closed,
         )
+    }
+
+    /// The message. Takes no memory.
+    pub(crate) fn into_message(self) -> Carried
+        ensures { IsParkedAs self result }
+    {
+        match self {
+            Parked::Waits(carried) => carried,
+            Parked::Free(delivery) => {
+                let (conn, seq, message, _set) = delivery.into_parts();
+                Carried { conn, seq, message }
+            }
+            Parked::Lost(carried, _cause) => carried,
+        }
     }
 
     /// The slot that it names: with its connection this is its lane.
