@@ -1,5 +1,5 @@
 -- What is parked ascends, once its queues stand in the order of their connections.
-use Rattle.std.proofs.Common.{◌≡◌, ℕ, zero, suc, ◌+◌, ◌≤◌, ◌<◌, Bool, true, false, cond, List, [], ◌∷◌, ◌++◌, length, refl, sym, ◌∙◌, ap, subst, arith, map, get_or, nat_eq}
+use Rattle.std.proofs.Common.{◌≡◌, ℕ, zero, suc, ◌+◌, ◌≤◌, ◌<◌, Bool, true, false, List, [], ◌∷◌, ◌++◌, length, refl, sym, ◌∙◌, ap, subst, arith, map, get_or, nat_eq}
 use Rattle.std.specs.Prelude.{◌&&◌, All, slice_index_or, slice_get, Some}
 use Rattle.std.specs.Cmp.{IsTotalOrder, unsigned_ties, nat_cmp_is}
 use Rattle.std.specs.Cmp.Lexicographic.{slice_cmp, texts_ties}
@@ -30,7 +30,7 @@ use Rattle.scp_pending.specs.Endings.{Ascend}
 use Rattle.scp_pending.specs.Outcome.{parked_in_all}
 use Rattle.scp_pending.specs.Pends.{Pends}
 use Rattle.scp_pending.specs.Messages.{IsParkedAs, message_cmp}
-use Rattle.scp_pending.proofs.Basics.{clash, all_weaker, all_append, same_conn-refl, same_conn-true}
+use Rattle.scp_pending.proofs.Basics.{all_weaker, all_append, same_conn-refl}
 use Rattle.scp_pending.proofs.Serving.{how_many, AreSingle, IsMine, AreMine}
 use Rattle.scp_pending.proofs.Rising.{rises_ascend, seqs_of}
 use Rattle.scp_pending.proofs.Following.{AllConns, come_of}
@@ -39,7 +39,7 @@ use Rattle.scp_pending.proofs.Accounting.{numbered_of}
 use Rattle.scp_pending.proofs.Ending.{way_of}
 use Rattle.scp_pending.proofs.Passing.{sound_of}
 use Rattle.scp_pending.proofs.Linked.{IsLinked, linked_is, all_linked}
-use Rattle.scp_pending.proofs.Messaging.{Parts, parts, its_conn, its_seq, single_same, own_parked, moved, all_mine}
+use Rattle.scp_pending.proofs.Messaging.{parts, its_conn, its_seq, single_same, own_parked, moved, all_mine}
 
 -- ---- the order of connections
 

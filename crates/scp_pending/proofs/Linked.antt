@@ -1,6 +1,6 @@
 -- Each queue is of a connection of a peer's link.
 use Rattle.std.proofs.Common.{◌≡◌, ℕ, zero, suc, Bool, true, false, cond, not, List, [], ◌∷◌, length, refl, sym, ◌∙◌, ap, subst, arith}
-use Rattle.std.specs.Prelude.{◌&&◌, ◌||◌, nat_lt, Option, Some, None, is_some, position, slice_get}
+use Rattle.std.specs.Prelude.{◌&&◌, ◌||◌, nat_lt, Some, None, is_some, position, slice_get}
 use Rattle.std.specs.List.{list_any, position_or_len}
 use Rattle.std.proofs.lemmas.Bool.{ltb-true}
 use Rattle.scp_types.specs.declared.names.ConnId.{ConnId}
@@ -8,7 +8,7 @@ use Rattle.scp_types.specs.declared.names.NodeId.{NodeId}
 use Rattle.scp_wire.specs.declared.link.Inbound.{Inbound}
 use Rattle.scp_wire.specs.Connections.{conn_at, same_node}
 use Rattle.scp_pending.specs.declared.ready.Ready.{Ready}
-use Rattle.scp_pending.specs.Queues.{QueueView, is_link_open}
+use Rattle.scp_pending.specs.Queues.{is_link_open}
 use Rattle.scp_pending.specs.Rules.{Settled, PendingView, link_of, opens, rules, settled_by}
 use Rattle.scp_pending.specs.Pends.{Pends, start_of}
 use Rattle.scp_pending.proofs.Basics.{or_none, same_node-true}

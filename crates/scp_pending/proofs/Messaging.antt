@@ -1,7 +1,7 @@
 -- What is parked, as messages: each came, and those of a connection are its queue.
-use Rattle.std.proofs.Common.{◌≡◌, ℕ, ◌+◌, ◌≤◌, ◌<◌, Bool, true, false, cond, List, [], ◌∷◌, ◌++◌, refl, sym, ◌∙◌, ap, subst, arith, map, length, append_assoc}
-use Rattle.std.specs.Prelude.{flat_map, All, sum_by, filter, slice_index_or, ◌||◌}
-use Rattle.std.specs.List.{list_any, AllByRecursion, AllZip}
+use Rattle.std.proofs.Common.{◌≡◌, ℕ, ◌+◌, ◌≤◌, Bool, true, false, cond, List, [], ◌∷◌, ◌++◌, refl, sym, ◌∙◌, ap, subst, arith, map, append_assoc}
+use Rattle.std.specs.Prelude.{flat_map, All, sum_by, slice_index_or, ◌||◌}
+use Rattle.std.specs.List.{AllByRecursion, AllZip}
 use Rattle.std.specs.List.Sorted.{IsPermutation}
 use Rattle.std.proofs.lemmas.List.Elements.{All-nil, All-cons, All-head, All-tail, All-from_recursion, recursion_from_All, filter-append}
 use Rattle.std.proofs.lemmas.List.Sums.{sum_by-cons}
@@ -14,7 +14,7 @@ use Rattle.scp_wire.specs.declared.carried.Carried.{Carried}
 use Rattle.scp_wire.specs.declared.message.Message.{Message}
 use Rattle.scp_wire.specs.declared.link.Inbound.{Inbound}
 use Rattle.scp_wire.specs.Connections.{same_conn}
-use Rattle.scp_wire.specs.Marks.{Mark, number}
+use Rattle.scp_wire.specs.Marks.{number}
 use Rattle.scp_fetch.specs.declared.want.Want.{Want}
 use Rattle.scp_pending.specs.declared.parked.Parked.{Parked}
 use Rattle.scp_pending.specs.declared.parked.Parked.TheVariants.{Waits, Free, Lost}
@@ -22,14 +22,13 @@ use Rattle.scp_pending.specs.declared.ready.Ready.{Ready}
 use Rattle.scp_pending.specs.Queues.{QueueView, is_of, is_open, parked_of, seq_of}
 use Rattle.scp_pending.specs.Rules.{Settled, PendingView}
 use Rattle.scp_pending.specs.Causes.{Place, plus}
-use Rattle.scp_pending.specs.Line.{parked_mark, marks_parked}
+use Rattle.scp_pending.specs.Line.{parked_mark}
 use Rattle.scp_pending.specs.Outcome.{Adds, parked_in_all}
 use Rattle.scp_pending.specs.Pends.{Pends, start_of}
-use Rattle.scp_pending.specs.Messages.{IsParkedAs, is_on, messages_on, AreParked, message_mark, marks_of_messages, StandFor, ParkedStandFor}
+use Rattle.scp_pending.specs.Messages.{IsParkedAs, is_on, messages_on, AreParked, message_mark, StandFor, ParkedStandFor}
 use Rattle.scp_pending.proofs.Basics.{append_nil, clash, flat-append, same_conn-refl, same_conn-true, all_weaker}
 use Rattle.scp_pending.proofs.Serving.{how_many, AreSingle, IsMine, AreMine, parked_shut}
 use Rattle.scp_pending.proofs.Standing.{Stands, AllStand, Fits, mine_of}
-use Rattle.scp_pending.proofs.Sound.{Sound}
 use Rattle.scp_pending.proofs.Passing.{sound_of}
 
 -- ---- one message

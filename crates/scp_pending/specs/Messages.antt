@@ -1,5 +1,5 @@
 -- What is parked, as messages.
-use Rattle.std.specs.Prelude.{ℕ, ◌≡◌, Bool, List, map, filter}
+use Rattle.std.specs.Prelude.{◌≡◌, Bool, List, map, filter}
 use Rattle.std.specs.List.{AllByRecursion, AllZip}
 use Rattle.std.specs.Cmp.Lexicographic.{slice_cmp}
 use Rattle.std.specs.Ordering.{nat_cmp, ordering_then}

@@ -1,5 +1,5 @@
 -- What holds of what the pending stage took, what it gave, and what it holds.
-use Rattle.std.specs.Prelude.{◌≡◌, Bool, false, List, [], ◌++◌}
+use Rattle.std.specs.Prelude.{◌≡◌, false, List, [], ◌++◌}
 use Rattle.scp_types.specs.declared.names.NodeId.{NodeId}
 use Rattle.scp_quorum.specs.Sane.{IsSane}
 use Rattle.scp_wire.specs.declared.link.Inbound.{Inbound}

@@ -1,6 +1,5 @@
 use Rattle.std.proofs.Common.{rules}
 use Rattle.std.proofs.lemmas.List.Sorted.{answers_always}
-use Rattle.scp_pending.specs.Queues.{QueueView}
 use Rattle.scp_pending.proofs.queue.in_order.Goals as goal
 
 pub returns-clause-sorted : goal.returns-clause-sorted
