@@ -24,4 +24,4 @@ pub mod Settling
 pub mod Linked
 pub mod Messaging
 pub mod Ascending
-pub mod Keeping
+pub mod Here

@@ -3,10 +3,9 @@ use Rattle.std.proofs.Common.{◌≡◌, List, [], ◌++◌, sym, subst}
 use Rattle.scp_types.specs.declared.names.NodeId.{NodeId}
 use Rattle.scp_wire.specs.declared.link.Inbound.{Inbound}
 use Rattle.scp_pending.specs.declared.ready.Ready.{Ready}
-use Rattle.scp_pending.specs.Pends.{Pends, PendsHere, IsIdle, HereFromNothing, HerePasses}
+use Rattle.scp_pending.specs.Pends.{Pends, PendsHere, HereFromNothing, HerePasses}
 use Rattle.scp_pending.specs.Rules.{PendingView}
 use Rattle.scp_pending.proofs.Linked.{its_node}
-use Rattle.scp_pending.proofs.Passing.{IsSettled-of}
 
 here : (me : NodeId) (peers : List NodeId) (taken : List Inbound) (given : List Ready) (v : PendingView) → Pends me peers taken given v → PendsHere taken given v
 here me peers taken given v p =
@@ -18,7 +17,3 @@ here_from_nothing = λ me peers v p. (here me peers [] [] v p, p.left)
 
 pub here_passes : HerePasses
 here_passes = λ more out old new passes taken given p. here old.settled.me old.settled.peers (taken ++ more) (given ++ out) new (passes old.settled.me old.settled.peers taken given p)
-
--- where nothing is ready, all that is parked waits
-pub idle : (v : PendingView) → v.leaving ≡ [] → IsIdle v
-idle v none = λ me peers taken given p. IsSettled-of me peers taken given v none p
