@@ -24,3 +24,7 @@ pub mod Settling
 pub mod Firsts
 pub mod Numbers
 pub mod Ordering
+pub mod Linked
+pub mod Messaging
+pub mod Ascending
+pub mod Here
