@@ -108,7 +108,7 @@ message_items (GetRecord slot) f l = (plain_item (codes "getrecord") refl refl, 
 message_items (Record slot value) f l = (plain_item (codes "record") refl refl, (decimal_item slot.0 f.1.1.1.1.1.1.0, (value_item value l.1, tt)))
 message_items (Records first values) f l =
     let fits = f.1.1.1.1.1.1.1 in
-    let item = values_item (codes "values(") values opens_values (good_values values fits.1.1.1.1.1 l) in
+    let item = values_item (codes "values(") values opens_values (good_values values fits.5 l) in
     (plain_item (codes "records") refl refl, (decimal_item first.0 fits.0, (item, tt)))
 
 abbrev pub IsFilled : List (List ℕ) → Type 0

@@ -167,4 +167,4 @@ words_again (GetRecord slot) f l = get_record_again slot f.1.1.1.1.1
 words_again (Record slot value) f l = record_again slot value f.1.1.1.1.1.1.0 l.1 f.1.1.1.1.1.1.1.0
 words_again (Records first values) f l =
     let fits = f.1.1.1.1.1.1.1 in
-    records_again first values fits.0 (good_values values fits.1.1.1.1.1 l)
+    records_again first values fits.0 (good_values values fits.5 l)
