@@ -16,12 +16,22 @@ use Rattle.scp_wire.specs.declared.link.Cause.{Cause}
 use Rattle.scp_wire.specs.declared.link.Cause.TheVariants.{Malformed, Link, Spent, ParkedFull}
 use Rattle.scp_wire.specs.Carried.{is_carried}
 use Rattle.scp_wire.specs.Reading.{reading_of}
-use Rattle.scp_wire.specs.LinkReading.{ReaderView, unread, reading, after, readings, after_all, brought, after_read, brought_one, brought_each, after_one, after_each, next_of, is_spent, singles, IsSingle, records_from, numbered, first_of, ReaderState, taken_by, HasRead}
+use Rattle.scp_wire.specs.LinkReading.{ReaderView, unread, reading, after, readings, after_all, brought, after_read, brought_one, brought_each, after_one, after_each, next_of, is_spent, singles, records_from, numbered, first_of, ReaderState, taken_by, HasRead}
 use Rattle.scp_wire.specs.declared.side.SideMessage.{SideMessage}
 use Rattle.scp_wire.specs.declared.side.SideMessage.TheVariants as side
 use Rattle.scp_wire.specs.Connections.{conn_at}
 use Rattle.scp_wire.specs.Shape.{Tail, never_open, goes, MayGo, AreOfLink, Come, nothing_came, comes, MayCome, AreInOrder}
 use Rattle.scp_wire.specs.ReaderLaws.{ReadingsAreInOrder, ReadingsGrow, Grows, ReadingsGrowByOne, GrowsByOne}
+
+-- a message that is read as itself
+abbrev pub IsSingle : Message → Type 0
+IsSingle (Envelope envelope) = Unit {0}
+IsSingle (GetSet hash) = Unit {0}
+IsSingle (Set set) = Unit {0}
+IsSingle (NoSet hash) = Unit {0}
+IsSingle (GetRecord slot) = Unit {0}
+IsSingle (Record slot value) = Unit {0}
+IsSingle (Records first values) = ⊥
 
 -- ---- readings of two lists
 
@@ -58,12 +68,12 @@ has_read_one items given old new x got none h read stands =
     let all : given ≡ readings unread items = sym (ap (λ zs. given ++ zs) none ∙ append-nil given) ∙ h.given_is in
     record {
       given_is = ap (λ (r : ReaderState). (given ++ option_to_list got) ++ r.rest) stands
-        ∙ ap (λ o. (given ++ option_to_list o) ++ drop 1 (reading old.at x)) read
-        ∙ append_assoc given (option_to_list (first_of (reading old.at x))) (drop 1 (reading old.at x))
-        ∙ ap (λ zs. given ++ zs) (first_and_others (reading old.at x))
-        ∙ ap (λ zs. zs ++ reading old.at x) all
-        ∙ ap (λ r. readings unread items ++ reading r x) h.stands
-        ∙ sym g.given;
+          ∙ ap (λ o. (given ++ option_to_list o) ++ drop 1 (reading old.at x)) read
+          ∙ append_assoc given (option_to_list (first_of (reading old.at x))) (drop 1 (reading old.at x))
+          ∙ ap (λ zs. given ++ zs) (first_and_others (reading old.at x))
+          ∙ ap (λ zs. zs ++ reading old.at x) all
+          ∙ ap (λ r. readings unread items ++ reading r x) h.stands
+          ∙ sym g.given;
       stands = ap (λ (r : ReaderState). r.at) stands ∙ ap (λ r. after r x) h.stands ∙ sym g.stands;
     }
 
@@ -261,3 +271,34 @@ given_up conn r (x ∷ ms) m runs over = by_test (is_spent r.next x) refl (λ en
         let step : after_each r (x ∷ ms) ≡ after_each (record r { next = next_of r.next x }) ms = rw e refl in
         let k = more (subst (λ (q : ReaderView). q.ended ≡ true) step over) in
         (rw e (ap (λ xs. numbered conn r.next x ∷ xs) k.0), rw e k.1)
+
+-- ---- a value more of a batch
+
+records_from-length : (slot : ℕ) (vs : List (List ℕ)) → length (records_from slot vs) ≡ length vs
+records_from-length slot [] = refl
+records_from-length slot (v ∷ vs) = ap suc (records_from-length (slot + 1) vs)
+
+pub record BatchRuns (conn : ConnId) (r : ReaderView) (first : ℕ) (vs : List (List ℕ)) (v : List ℕ) : Type 0 where
+  pub brings : brought_each conn r.next (records_from first (vs ++ v ∷ [])) ≡ brought_each conn r.next (records_from first vs) ++ brought_one conn (after_each r (records_from first vs)).next (Record (record { 0 = first + length vs }) v) ∷ []
+  pub goes_past : after_each r (records_from first (vs ++ v ∷ [])) ≡ after_one (after_each r (records_from first vs)) (Record (record { 0 = first + length vs }) v)
+  pub so_many : length (brought_each conn r.next (records_from first vs)) ≡ length vs
+
+pub batch_runs : (conn : ConnId) (r : ReaderView) (first : ℕ) (vs : List (List ℕ)) (v : List ℕ) → (after_each r (records_from first vs)).ended ≡ false → BatchRuns conn r first vs v
+batch_runs conn r first vs v runs =
+    let k = reads_more conn r (records_from first vs) (Record (record { 0 = first + length vs }) v) runs in
+    let e = records_from-more first vs v in
+    record {
+      brings = ap (λ ms. brought_each conn r.next ms) e ∙ k.brings;
+      goes_past = ap (λ ms. after_each r ms) e ∙ k.goes_past;
+      so_many = k.so_many ∙ records_from-length first vs;
+    }
+
+pub record BatchIsOver (conn : ConnId) (r : ReaderView) (first : ℕ) (vs : List (List ℕ)) (v : List ℕ) : Type 0 where
+  pub brings : brought_each conn r.next (records_from first (vs ++ v ∷ [])) ≡ brought_each conn r.next (records_from first vs)
+  pub goes_past : after_each r (records_from first (vs ++ v ∷ [])) ≡ after_each r (records_from first vs)
+
+pub batch_is_over : (conn : ConnId) (r : ReaderView) (first : ℕ) (vs : List (List ℕ)) (v : List ℕ) → r.ended ≡ false → (after_each r (records_from first vs)).ended ≡ true → BatchIsOver conn r first vs v
+batch_is_over conn r first vs v runs over =
+    let k = given_up conn r (records_from first vs) (Record (record { 0 = first + length vs }) v) runs over in
+    let e = records_from-more first vs v in
+    record { brings = ap (λ ms. brought_each conn r.next ms) e ∙ k.0; goes_past = ap (λ ms. after_each r ms) e ∙ k.1 }

@@ -3,7 +3,7 @@ use Rattle.std.specs.Prelude.{ℕ, ◌+◌, ◌≡◌, if◌then◌else◌, Bool
 use Rattle.std.specs.List.{AllByRecursion}
 use Rattle.scp_types.specs.declared.names.ConnId.{ConnId}
 use Rattle.scp_wire.specs.declared.message.Message.{Message}
-use Rattle.scp_wire.specs.declared.message.Message.TheVariants.{Envelope, GetSet, Set, NoSet, GetRecord, Record}
+use Rattle.scp_wire.specs.declared.message.Message.TheVariants.{Envelope, GetSet, Set, NoSet, GetRecord, Record, Records}
 use Rattle.scp_wire.specs.declared.link.Cause.{Cause}
 use Rattle.scp_wire.specs.declared.link.Inbound.{Inbound}
 use Rattle.scp_wire.specs.declared.link.Inbound.TheVariants.{Opened, Carried, Side, Closed, Local}
@@ -11,7 +11,7 @@ use Rattle.scp_wire.specs.Connections.{same_conn}
 use Rattle.scp_wire.specs.Marks.{Mark, number, ended, IsWhole}
 use Rattle.scp_wire.specs.Sent.{numbers}
 
--- the slot that a carried message names; a side message names none
+-- the slot that a carried message names; a side message names none, and a batch is read as its records
 abbrev pub slot_of : Message → ℕ
 slot_of (Envelope envelope) = envelope.value.statement.slot.0
 slot_of (GetSet hash) = 0
@@ -19,6 +19,7 @@ slot_of (Set set) = 0
 slot_of (NoSet hash) = 0
 slot_of (GetRecord slot) = slot.0
 slot_of (Record slot value) = slot.0
+slot_of (Records first values) = 0
 
 abbrev pub slot_in : Option Message → ℕ
 slot_in None = 0

@@ -51,16 +51,6 @@ singles (GetRecord slot) = GetRecord slot ∷ []
 singles (Record slot value) = Record slot value ∷ []
 singles (Records first values) = records_from first.0 values
 
--- a message that is read as itself
-abbrev pub IsSingle : Message → Type 0
-IsSingle (Envelope envelope) = Unit {0}
-IsSingle (GetSet hash) = Unit {0}
-IsSingle (Set set) = Unit {0}
-IsSingle (NoSet hash) = Unit {0}
-IsSingle (GetRecord slot) = Unit {0}
-IsSingle (Record slot value) = Unit {0}
-IsSingle (Records first values) = ⊥
-
 -- the last record of a batch names a slot
 abbrev pub HasRoom : Message → Type 0
 HasRoom (Envelope envelope) = Unit {0}

@@ -1,5 +1,5 @@
--- What a list of things says of one connection: the numbers of its messages, and its end.
-use Rattle.std.specs.Prelude.{ℕ, ◌+◌, ◌≡◌, Bool, List, [], ◌∷◌, ◌++◌, ◌⊎◌, flat_map, if◌then◌else◌}
+-- What a list of things says of one connection: all that is of it; of that the numbers of its messages, and its end.
+use Rattle.std.specs.Prelude.{ℕ, ◌+◌, ◌≡◌, Bool, false, List, [], ◌∷◌, ◌++◌, ◌⊎◌, filter, flat_map, if◌then◌else◌}
 use Rattle.scp_types.specs.declared.names.ConnId.{ConnId}
 use Rattle.scp_wire.specs.declared.message.Message.{Message}
 use Rattle.scp_wire.specs.declared.link.Cause.{Cause}
@@ -7,6 +7,17 @@ use Rattle.scp_wire.specs.declared.link.Cause.TheVariants.{ParkedFull}
 use Rattle.scp_wire.specs.declared.link.Inbound.{Inbound}
 use Rattle.scp_wire.specs.declared.link.Inbound.TheVariants.{Opened, Carried, Side, Closed, Local}
 use Rattle.scp_wire.specs.Connections.{same_conn}
+
+-- the things that are of the connection
+abbrev pub is_of : ConnId → Inbound → Bool
+is_of c (Opened conn) = same_conn conn c
+is_of c (Carried x) = same_conn x.conn c
+is_of c (Side conn message) = same_conn conn c
+is_of c (Closed conn cause) = same_conn conn c
+is_of c (Local command) = false
+
+abbrev pub of_conn : ConnId → List Inbound → List Inbound
+of_conn c items = filter (is_of c) items
 
 -- a carried message stood here, by its number; or the connection ended
 pub data Mark : Type 0 where

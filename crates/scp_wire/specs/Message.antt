@@ -55,7 +55,7 @@ HasRanges (GetRecord slot) = slot.0 < 2 ^ 64
 HasRanges (Record slot value) = slot.0 < 2 ^ 64
 HasRanges (Records first values) = first.0 < 2 ^ 64
 
--- the value of a record is over its limit, or the envelope or the quorum set over one of its own, or longer than a
+-- the value of a record is over its limit, or the envelope, the quorum set or the batch over one of its own, or longer than a
 -- message lets it be
 abbrev pub BreaksALimit : Message → Type 0
 BreaksALimit (Envelope envelope) = (¬ (Fits envelope_kind (envelope_value envelope.value))) ⊎ (65532 < length (spelling envelope_kind (envelope_value envelope.value)))

@@ -6,14 +6,16 @@ use Rattle.scp_wire.specs.declared.link.LinkItem.{LinkItem}
 use Rattle.scp_wire.specs.declared.link.Inbound.{Inbound}
 use Rattle.scp_wire.specs.Connections.{conn_at}
 use Rattle.scp_wire.specs.Shape.{AreOfLink, never_open, AreInOrder, nothing_came}
-use Rattle.scp_wire.specs.Marks.{marks_in, messages_in}
-use Rattle.scp_wire.specs.Sent.{sent, is_closed, carried_of, line_of_sent}
+use Rattle.scp_wire.specs.Marks.{marks_in, messages_in, of_conn}
+use Rattle.scp_wire.specs.Sent.{sent, is_closed, carried_of, line_of_sent, read_of_sent}
 use Rattle.scp_wire.specs.LinkReading.{ReaderView, unread, reading, after, readings, after_all}
 
--- what is read of a connection is what was sent on it: its carried messages, numbered, and then its end
+-- what is read of a connection is what was sent on it: its carried messages, numbered, and then its end; and all of it in its
+-- place, that it was opened, and the side messages between the carried ones
 pub record IsSent (c : ConnId) (items : List LinkItem) : Type 0 where
   pub messages : messages_in c (readings unread items) ≡ carried_of 1000000 (sent c items)
   pub line : marks_in c (readings unread items) ≡ line_of_sent 0 1000000 (sent c items) (is_closed c items)
+  pub all : of_conn c (readings unread items) ≡ read_of_sent c items
 
 abbrev pub ReadingsAreSent : Type 0
 ReadingsAreSent = (peer me : NodeId) (items : List LinkItem) → AreOfLink peer me never_open items → (life : ℕ) → IsSent (conn_at peer me life) items

@@ -1,14 +1,16 @@
--- What was sent on a connection, by the items that its link took; and what of it is carried.
-use Rattle.std.specs.Prelude.{ℕ, ◌+◌, Bool, true, false, ◌||◌, not, List, [], ◌∷◌, ◌++◌, Option, Some, None, nat_lt, if◌then◌else◌, length, filter, flat_map, take, is_some, option_to_list, map}
+-- What was sent on a connection, by the items that its link took; what of it is carried; and what is to be read of it.
+use Rattle.std.specs.Prelude.{ℕ, ◌+◌, ◌-◌, Bool, true, false, ◌||◌, not, List, [], ◌∷◌, ◌++◌, Option, Some, None, nat_eq, nat_lt, if◌then◌else◌, length, filter, flat_map, take, is_some, option_to_list, map}
 use Rattle.scp_types.specs.declared.names.ConnId.{ConnId}
 use Rattle.scp_wire.specs.declared.message.Message.{Message}
 use Rattle.scp_wire.specs.declared.link.LinkItem.{LinkItem}
 use Rattle.scp_wire.specs.declared.link.LinkItem.TheVariants.{Opened, Bytes, Closed}
+use Rattle.scp_wire.specs.declared.link.Inbound.{Inbound}
+use Rattle.scp_wire.specs.declared.link.Inbound.TheVariants as inbound
 use Rattle.scp_wire.specs.declared.link.Cause.{Cause}
 use Rattle.scp_wire.specs.declared.link.Cause.TheVariants.{Malformed, Link, Spent}
 use Rattle.scp_wire.specs.Carried.{is_carried}
 use Rattle.scp_wire.specs.Reading.{reading_of}
-use Rattle.scp_wire.specs.LinkReading.{singles}
+use Rattle.scp_wire.specs.LinkReading.{singles, numbered, next_of}
 use Rattle.scp_wire.specs.Connections.{same_conn}
 use Rattle.scp_wire.specs.Marks.{Mark, number, ended, one_if}
 
@@ -62,3 +64,28 @@ numbers n (m ∷ ms) = number n ∷ numbers (n + 1) ms
 -- what is sent makes a line of its messages, numbered, and then its end
 abbrev pub line_of_sent : ℕ → ℕ → List (List ℕ) → Bool → List Mark
 line_of_sent n limit bytes closed = numbers n (carried_of limit bytes) ++ map ended (option_to_list (end_of limit bytes closed))
+
+-- ---- all that is to be read of a connection, side messages and its opening too
+
+-- that it was opened
+abbrev pub opened_by : ConnId → LinkItem → List Inbound
+opened_by c (Opened conn) = one_if (same_conn conn c) (inbound.Opened c)
+opened_by c (Bytes conn bytes) = []
+opened_by c (Closed conn) = []
+
+abbrev pub opened : ConnId → List LinkItem → List Inbound
+opened c items = flat_map (opened_by c) items
+
+-- of these messages all before the first that would be one carried message too many
+abbrev pub up_to : ℕ → List Message → List Message
+up_to limit [] = []
+up_to limit (m ∷ ms) = if is_carried m then (if nat_eq limit 0 then [] else m ∷ up_to (limit - 1) ms) else m ∷ up_to limit ms
+
+-- these messages as they are read, the carried ones under the numbers from n on
+abbrev pub in_turn : ConnId → ℕ → List Message → List Inbound
+in_turn c n [] = []
+in_turn c n (m ∷ ms) = numbered c n m ∷ in_turn c (next_of n m) ms
+
+-- that it was opened, its messages in the order sent, and then its end
+abbrev pub read_of_sent : ConnId → List LinkItem → List Inbound
+read_of_sent c items = opened c items ++ (in_turn c 0 (up_to 1000000 (readable (sent c items))) ++ map (inbound.Closed c) (option_to_list (end_of 1000000 (sent c items) (is_closed c items))))

@@ -15,8 +15,8 @@ use scp_envelope::{Envelope, ValueList};
 use scp_quorum::QuorumSet;
 use scp_types::{Fault, Hash, Slot, Value};
 use scp_xdr::{
-    Reader, Writer, Xdr, check, numbered_fits, pass_numbered, read_numbered, spend_array, spend_u32,
-    spend_u64, write_numbered,
+    Reader, Writer, Xdr, check, numbered_fits, pass_numbered, read_numbered, spend_array,
+    spend_u32, spend_u64, write_numbered,
 };
 use std::alloc::Global;
 
@@ -168,7 +168,7 @@ impl Xdr for Message {
 ///
 /// Over 65,536 bytes are `TooLong` before anything of them is read. From then on the first fault from left to right
 /// is answered, `Malformed` with its place, or `TooLong` for a length or a count over its limit and for a quorum set of
-/// five inner levels; at last `NoMemory` where there is none for the envelope, the quorum set or the value. It takes time
+/// five inner levels; a batch of no record is malformed at its count, and one that passes the last slot at its first slot; at last `NoMemory` where there is none for the envelope, the quorum set or the value. It takes time
 /// in proportion to the bytes, and copies each value's bytes once.
 pub fn decode(alloc: Global, bytes: &[u8]) -> Result<Message, Fault>
     // What is read is spelt by just these bytes.
@@ -193,13 +193,13 @@ pub fn decode(alloc: Global, bytes: &[u8]) -> Result<Message, Fault>
 }
 
 /// The one spelling of the message (RFC 4506). `TooLong` where a value of over 4,096 bytes, an envelope or a quorum set
-/// over its limits, or over 65,536 bytes in all, would be written.
+/// over its limits, a batch of no record, of over 32 or past the last slot, or over 65,536 bytes in all, would be written.
 pub fn encode(alloc: Global, message: &Message) -> Result<Vec<u8>, Fault>
     // What is written spells the message.
     ensures spells { IfOk result (λ bytes. SpellsMessage bytes.items (message_value message.now)) }
     // It is too long just where it breaks a limit.
     ensures too_long { IsErrOf result Fault.TooLong ↔ ¬ (FitsMessage (message_value message.now)) }
-    // That is where its value is over 4,096 bytes, or its envelope or quorum set over one of its limits or 65,532 bytes.
+    // That is where its value is over 4,096 bytes, or its envelope, quorum set or batch over one of its limits or 65,532 bytes.
     ensures limits { IsErrOf result Fault.TooLong ↔ BreaksALimit message.now }
     // There are two reasons to refuse.
     ensures only { IfErr result (λ f. (f ≡ Fault.NoMemory) ⊎ (f ≡ Fault.TooLong)) }

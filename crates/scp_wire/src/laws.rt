@@ -9,7 +9,8 @@ pub fn what_is_read_keeps_the_shape()
 {}
 
 /// What is read of a connection is what was sent on it: its carried messages, numbered, up to the first bytes without a
-/// reading and 1,000,000 at most, and then its end.
+/// reading and 1,000,000 at most, and then its end. A batch is sent as its records. All of it stands in its place: that the
+/// connection was opened, and the side messages between the carried ones.
 pub fn what_is_read_is_what_was_sent()
     ensures { ReadingsAreSent }
 {}

@@ -7,8 +7,9 @@
 //! - `is_side_message` tells of bytes, without memory, whether they spell a message about quorum sets: one that
 //!   asks for a set, or answers.
 //! - A `Carried` message is one that is numbered on its connection: an envelope, a request for a record, or a record.
-//! - A `LinkReader` reads the items of one link: carried messages are numbered 0, 1, 2, .. on each connection, and each
-//!   connection ends once, with its cause. What is read of a connection is what was sent on it, up to its end.
+//! - A `LinkReader` reads the items of one link: carried messages are numbered 0, 1, 2, .. on each connection, a batch of
+//!   records is read as its records, and each connection ends once, with its cause. What is read of a connection is what
+//!   was sent on it, each message in its place, up to its end.
 #![tactic(auto)]
 
 mod boxed;
@@ -22,9 +23,10 @@ mod side;
 
 pub use boxed::BoxedEnvelope;
 pub use carried::Carried;
-pub use codec::{decode, encode, is_side_message, reading_of_is_what_is_spelt};
+pub use codec::{BATCH_LIMIT, decode, encode, is_side_message, reading_of_is_what_is_spelt};
 pub use laws::{
-    a_lane_follows_what_was_sent, what_is_read_grows_with_the_items, what_is_read_is_what_was_sent, what_is_read_keeps_the_shape,
+    a_lane_follows_what_was_sent, what_is_read_grows_with_the_items, what_is_read_is_what_was_sent,
+    what_is_read_keeps_the_shape,
 };
 pub use link::{Bytes, Cause, Command, Inbound, LinkItem};
 pub use message::{MESSAGE_LIMIT, Message};

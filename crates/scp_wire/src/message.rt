@@ -57,10 +57,8 @@ impl Message {
         ensures { result ≡ is_carried self.now }
     {
         match self {
-            Message::GetSet(_)
-            | Message::Set(_)
-            | Message::NoSet(_)
-            | Message::Records { .. } => false,
+            Message::GetSet(_) | Message::Set(_) | Message::NoSet(_) | Message::Records { .. } =>
+                false,
             Message::Envelope(_) | Message::GetRecord(_) | Message::Record(..) => true,
         }
     }
