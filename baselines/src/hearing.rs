@@ -65,6 +65,19 @@ fn prepare(node: &NodeId, slot: u64, set_hash: &Hash, counter: u32) -> Vec<u8> {
     bytes
 }
 
+/// The message of the records of so many slots from the first one on.
+fn batch(first: u32, records: u32) -> Vec<u8> {
+    let mut bytes = Vec::with_capacity(16 + 28 * records as usize);
+    bytes.extend_from_slice(&[0, 0, 0, 7]);
+    bytes.extend_from_slice(&u64::from(first).to_be_bytes());
+    bytes.extend_from_slice(&records.to_be_bytes());
+    for slot in first..first + records {
+        bytes.extend_from_slice(&[0, 0, 0, 24]);
+        bytes.extend_from_slice(&value_of(slot));
+    }
+    bytes
+}
+
 pub fn slot_at(place: u32) -> u64 {
     let place = place as u64;
     if place % 16 < 8 {
@@ -256,6 +269,25 @@ pub fn hear_records(size: u32) -> Result<String, Fault> {
 
 pub fn hear_flow(size: u32) -> Result<String, Fault> {
     hear_over("flow", LINKS, size)
+}
+
+/// Records in batches of as many as are asked for.
+pub fn hear_batches(size: u32) -> Result<String, Fault> {
+    let mut ledgers = Ledgers::default();
+    for records in portions(size, HEARD) {
+        let mut node = new_node(1, both_nodes())?;
+        for before in (0..records).step_by(ASKED as usize) {
+            let count = ASKED.min(records - before);
+            for slot in before + 1..=before + count {
+                let slot = Slot(u64::from(slot));
+                hear(&mut node, Event::Local(Command::Ask(0, slot)))?;
+            }
+            send(&mut node, 1, 0, batch(before + 1, count))?;
+            settle(&mut node, 1)?;
+        }
+        ledgers.count(&node);
+    }
+    Ok(ledgers.tell("batches", size))
 }
 
 #[derive(Default)]

@@ -1,7 +1,7 @@
 //! A link's receiving end: its queue, its reader, and the reader's hand.
 use crate::ledger::Command;
 use crate::node::Reply;
-use crate::types::{ConnId, NodeId, Seq};
+use crate::types::{ConnId, NodeId, Seq, Slot};
 use crate::wire::{Message, decode};
 use std::collections::VecDeque;
 
@@ -40,7 +40,8 @@ pub struct Link {
     queue: VecDeque<Item>,
     has_ended: bool,
     next: u64,
-    hand: Option<Inbound>,
+    /// What was read of one item, and isn't put yet.
+    hand: VecDeque<Inbound>,
 }
 
 impl Link {
@@ -54,7 +55,7 @@ impl Link {
             queue: VecDeque::with_capacity(room),
             has_ended: true,
             next: 0,
-            hand: None,
+            hand: VecDeque::new(),
         }
     }
 
@@ -117,46 +118,63 @@ impl Link {
     }
 
     pub fn take(&mut self) -> Reply {
-        if self.hand.is_some() {
+        if !self.hand.is_empty() {
             return Reply::Blocked;
         }
         let Some(item) = self.queue.pop_front() else {
             return Reply::Idle;
         };
-        self.hand = self.read(item);
+        self.read(item);
         Reply::Moved
     }
 
     pub fn give(&mut self, is_full: bool) -> Result<Inbound, Reply> {
-        if self.hand.is_some() && is_full {
+        if !self.hand.is_empty() && is_full {
             return Err(Reply::Blocked);
         }
-        self.hand.take().ok_or(Reply::Idle)
+        self.hand.pop_front().ok_or(Reply::Idle)
     }
 
-    fn read(&mut self, item: Item) -> Option<Inbound> {
+    fn read(&mut self, item: Item) {
         match item {
             Item::Opened(conn) => {
                 self.has_ended = false;
                 self.next = 0;
-                Some(Inbound::Opened(conn))
+                self.hand.push_back(Inbound::Opened(conn));
             }
-            _ if self.has_ended => None,
-            Item::Bytes(conn, bytes) => Some(match decode(&bytes) {
+            _ if self.has_ended => {}
+            Item::Bytes(conn, bytes) => match decode(&bytes) {
                 Err(_) => self.end(conn, Cause::Malformed),
-                Ok(message) if message.is_side() => Inbound::Side(conn, message),
-                Ok(_) if self.next == CARRIED_LIMIT => self.end(conn, Cause::Spent),
-                Ok(message) => {
-                    self.next += 1;
-                    Inbound::Carried(conn, Seq(self.next - 1), message)
+                Ok(message) if message.is_side() => {
+                    self.hand.push_back(Inbound::Side(conn, message))
                 }
-            }),
-            Item::Closed(conn) => Some(self.end(conn, Cause::Link)),
+                Ok(Message::Records { first, values }) => {
+                    for (place, value) in (0..).zip(values) {
+                        self.carry(conn, Message::Record(Slot(first.0 + place), value));
+                    }
+                }
+                Ok(message) => self.carry(conn, message),
+            },
+            Item::Closed(conn) => self.end(conn, Cause::Link),
         }
     }
 
-    fn end(&mut self, conn: ConnId, cause: Cause) -> Inbound {
+    /// Numbers a message, or ends the connection where it has carried as many as it may; behind an end nothing comes.
+    fn carry(&mut self, conn: ConnId, message: Message) {
+        if self.has_ended {
+            return;
+        }
+        if self.next == CARRIED_LIMIT {
+            self.end(conn, Cause::Spent);
+            return;
+        }
+        self.next += 1;
+        let seq = Seq(self.next - 1);
+        self.hand.push_back(Inbound::Carried(conn, seq, message));
+    }
+
+    fn end(&mut self, conn: ConnId, cause: Cause) {
         self.has_ended = true;
-        Inbound::Closed(conn, cause)
+        self.hand.push_back(Inbound::Closed(conn, cause));
     }
 }

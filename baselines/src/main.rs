@@ -131,7 +131,7 @@ fn main() -> ExitCode {
     let words: Vec<String> = std::env::args().collect();
     let [_, workload, size] = &words[..] else {
         eprintln!(
-            "usage: plain decode|records|envelopes|flow|parked|script|votes-one|votes-each|consensus-4|consensus-8|consensus-16|decide|network SIZE"
+            "usage: plain decode|records|batches|envelopes|flow|parked|script|votes-one|votes-each|consensus-4|consensus-8|consensus-16|decide|network SIZE"
         );
         return ExitCode::from(2);
     };
@@ -141,6 +141,7 @@ fn main() -> ExitCode {
     let line = match workload.as_str() {
         "decode" => decode_records(size),
         "records" => hearing::hear_records(size),
+        "batches" => hearing::hear_batches(size),
         "envelopes" => hearing::hear_envelopes(size),
         "flow" => hearing::hear_flow(size),
         "parked" => hearing::park_envelopes(size),

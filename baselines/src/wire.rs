@@ -6,6 +6,9 @@ use crate::xdr::{Reader, Writer};
 
 pub const MESSAGE_LIMIT: usize = 65_536;
 
+/// The most records of a batch.
+const BATCH_LIMIT: u32 = 32;
+
 #[derive(Clone, Debug)]
 pub enum Message {
     Envelope(Box<Envelope>),
@@ -14,6 +17,11 @@ pub enum Message {
     NoSet(Hash),
     GetRecord(Slot),
     Record(Slot, Value),
+    /// The values of the slots from the first one on.
+    Records {
+        first: Slot,
+        values: Vec<Value>,
+    },
 }
 
 impl Message {
@@ -24,6 +32,25 @@ impl Message {
             Message::GetSet(_) | Message::Set(_) | Message::NoSet(_)
         )
     }
+}
+
+/// A batch: each of its slots has 64 bits.
+fn records(reader: &mut Reader) -> Result<Message, Fault> {
+    let place = reader.place();
+    let first = reader.u64()?;
+    let count_place = reader.place();
+    let count = reader.count(BATCH_LIMIT)?;
+    let further = u64::from(count)
+        .checked_sub(1)
+        .ok_or(Fault::Malformed(count_place))?;
+    first.checked_add(further).ok_or(Fault::Malformed(place))?;
+    let values = (0..count)
+        .map(|_| reader.value())
+        .collect::<Result<_, _>>()?;
+    Ok(Message::Records {
+        first: Slot(first),
+        values,
+    })
 }
 
 /// The message that the bytes spell, all of them.
@@ -39,6 +66,7 @@ pub fn decode(bytes: &[u8]) -> Result<Message, Fault> {
         4 => Message::NoSet(reader.hash()?),
         5 => Message::GetRecord(Slot(reader.u64()?)),
         6 => Message::Record(Slot(reader.u64()?), reader.value()?),
+        7 => records(&mut reader)?,
         _ => return Err(Fault::Malformed(0)),
     };
     reader.end()?;
@@ -73,6 +101,11 @@ pub fn encode(message: &Message) -> Vec<u8> {
             writer.u32(6);
             writer.u64(slot.0);
             writer.opaque(&value.0);
+        }
+        Message::Records { first, values } => {
+            writer.u32(7);
+            writer.u64(first.0);
+            writer.values(values);
         }
     }
     writer.bytes

@@ -235,7 +235,7 @@ def main():
     for program in asked.programs:
         jobs += [(os.path.abspath(program), *case, asked.budget, False) for case in cases_of(os.path.abspath(asked.examples), scripts)]
     for program in asked.bench:
-        for words in ("decode 3", "records 20", "envelopes 20", "script 20", "quorum-shared 5", "quorum-own 5", "quorum-chain 5", "quorum-missing 5", "quorums 5", "decode x", ""):
+        for words in ("decode 3", "records 20", "batches 20", "envelopes 20", "script 20", "quorum-shared 5", "quorum-own 5", "quorum-chain 5", "quorum-missing 5", "quorums 5", "decode x", ""):
             jobs.append((os.path.abspath(program), f"bench {words}", words.split(), "/dev/null", asked.budget, True))
     jobs = [job for job in jobs if asked.only in job[1]]
     bad = False

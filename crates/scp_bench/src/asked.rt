@@ -17,9 +17,10 @@ pub enum Asked {
     Usage,
 }
 
-static WORKLOADS: [&str; 17] = [
+static WORKLOADS: [&str; 18] = [
     "decode",
     "records",
+    "batches",
     "envelopes",
     "flow",
     "parked",
@@ -58,6 +59,7 @@ fn one(name: &str, size: Option<&str>) -> Asked {
     let workload = match name {
         "decode" => Workload::Decode,
         "records" => Workload::Records,
+        "batches" => Workload::Batches,
         "envelopes" => Workload::Envelopes,
         "flow" => Workload::Flow,
         "parked" => Workload::Parked,

@@ -5,6 +5,7 @@
 #![tactic(auto)]
 
 mod asked;
+mod batches;
 mod consensus;
 mod decide;
 mod decode;
@@ -30,7 +31,7 @@ use std::{env, io};
 
 /// What is printed where no workload is asked for.
 const USAGE: &str =
-    "usage: scp_bench [decode|records|envelopes|flow|parked|script|quorum-shared|quorum-own|quorum-chain|quorum-missing|votes-one|votes-each|consensus-4|consensus-8|consensus-16|decide|network [SIZE]]\n";
+    "usage: scp_bench [decode|records|batches|envelopes|flow|parked|script|quorum-shared|quorum-own|quorum-chain|quorum-missing|votes-one|votes-each|consensus-4|consensus-8|consensus-16|decide|network [SIZE]]\n";
 
 /// What is printed where there is no memory for a fault's line.
 const NO_MEMORY: &str = "out of memory\n";

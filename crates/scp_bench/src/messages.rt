@@ -21,6 +21,19 @@ pub fn value_of(slot: u32) -> [u8; 24] {
     ]
 }
 
+/// The message of a batch (RFC 4506): kind 7, the first slot, and for each of so many slots the value of 24 bytes that puts
+/// "1" at the slot's own key.
+pub fn batch(alloc: Global, first: u32, records: u32) -> Result<Vec<u8>, AllocError> {
+    let mut bytes = Vec::from_slice(alloc, &[0, 0, 0, 7])?;
+    bytes.extend_from_slice(&u64::from(first).to_be_bytes())?;
+    bytes.extend_from_slice(&records.to_be_bytes())?;
+    for place in 0..records {
+        bytes.extend_from_slice(&[0, 0, 0, 24])?;
+        bytes.extend_from_slice(&value_of(first.wrapping_add(place)))?;
+    }
+    Ok(bytes)
+}
+
 /// The message of an envelope (RFC 4506): kind 1, a PREPARE of the node for the slot with this set hash and a ballot of
 /// this counter, whose value is the empty operation list; the rest of it is absent, 0 or empty.
 pub fn prepare(

@@ -1,3 +1,4 @@
+use crate::batches::hear_batches;
 use crate::consensus::{Consensus, decide_slots};
 use crate::decide::decide_by_envelopes;
 use crate::decode::{Decoded, decode_records};
@@ -25,6 +26,8 @@ pub enum Workload {
     Decode,
     /// Records go through a node of one link.
     Records,
+    /// Records go through a node of one link in batches.
+    Batches,
     /// Envelopes go through a node.
     Envelopes,
     /// Records go through a node of seven links.
@@ -147,6 +150,9 @@ fn run(alloc: Global, workload: Workload, size: u32) -> Result<String, Fault> {
         Workload::Records => {
             tell_ledgers("records", hear_records(alloc, 1, size)?, size, &mut text)?
         }
+        Workload::Batches => {
+            tell_ledgers("batches", hear_batches(alloc, size)?, size, &mut text)?
+        }
         Workload::Flow => tell_ledgers("flow", hear_records(alloc, 7, size)?, size, &mut text)?,
         Workload::Envelopes => tell_judged(
             "envelopes",
@@ -202,6 +208,7 @@ pub fn write_one<W: ReportOut>(
 pub fn write_all<W: ReportOut>(alloc: Global, writer: &mut W) -> Result<(), Fault> {
     write_one(alloc, Workload::Decode, SMALL, writer)?;
     write_one(alloc, Workload::Records, SMALL, writer)?;
+    write_one(alloc, Workload::Batches, SMALL, writer)?;
     write_one(alloc, Workload::Envelopes, SMALL, writer)?;
     write_one(alloc, Workload::Flow, SMALL, writer)?;
     write_one(alloc, Workload::Parked, FEW, writer)?;

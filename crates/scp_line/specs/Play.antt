@@ -9,7 +9,7 @@ use Rattle.scp_envelope.specs.declared.statement.Statement.{Statement}
 use Rattle.scp_envelope.specs.declared.statement.Pledges.{Pledges}
 use Rattle.scp_envelope.specs.declared.statement.Pledges.TheVariants.{Prepare, Confirm, Externalize, Nominate}
 use Rattle.scp_wire.specs.declared.message.Message.{Message}
-use Rattle.scp_wire.specs.declared.message.Message.TheVariants.{Envelope, GetSet, Set, NoSet, GetRecord, Record}
+use Rattle.scp_wire.specs.declared.message.Message.TheVariants.{Envelope, GetSet, Set, NoSet, GetRecord, Record, Records}
 use Rattle.scp_wire.specs.declared.link.Command.TheVariants.{Propose, Round, Timer, Tick, Ask}
 use Rattle.scp_wire.specs.Message.{message_reading}
 use Rattle.scp_wire.specs.Reading.{reading_of}
@@ -228,6 +228,10 @@ pledges_word (Nominate p) = codes "nominate"
 abbrev pub statement_words : Statement → List ℕ
 statement_words s = hex_word s.node.0 ++ codes " " ++ decimal s.slot.0 ++ codes " " ++ pledges_word s.pledges
 
+-- a value of a batch, behind a space
+abbrev pub value_word : List ℕ → List ℕ
+value_word value = codes " " ++ hex_word value
+
 -- the line of a message: the number and the word of its kind, and what it says; a quorum set is told by its hash
 abbrev pub message_line : Message → List ℕ
 message_line (Envelope envelope) = codes "1 envelope " ++ statement_words envelope.value.statement ++ codes "\n"
@@ -236,6 +240,7 @@ message_line (Set set) = codes "3 set " ++ hex_word (set_hash set) ++ codes "\n"
 message_line (NoSet hash) = codes "4 noset " ++ hex_word hash.0 ++ codes "\n"
 message_line (GetRecord slot) = codes "5 getrecord " ++ decimal slot.0 ++ codes "\n"
 message_line (Record slot value) = codes "6 record " ++ decimal slot.0 ++ codes " " ++ hex_word value ++ codes "\n"
+message_line (Records first values) = codes "7 records " ++ decimal first.0 ++ flat_map value_word values ++ codes "\n"
 
 -- the text shows the message that the digits spell
 pub record IsShown (digits text : List ℕ) : Type 0 where

@@ -1,12 +1,12 @@
 //! The line that shows a message.
-ghost use Rattle.std.specs.Prelude.{◌≡◌, ◌++◌, IfOk, IsOkUnless, string_bytes, codes};
+ghost use Rattle.std.specs.Prelude.{◌≡◌, ◌++◌, IfOk, OnOk, IsOkUnless, string_bytes, codes, flat_map};
 ghost use Rattle.scp_wire.specs.Message.{message_kind, message_value};
 ghost use Rattle.scp_xdr.specs.Kind.{Fits};
 ghost use Rattle.scp_line.specs.Report.{hex_word};
-ghost use Rattle.scp_line.specs.Play.{message_line, pledges_word, statement_words};
+ghost use Rattle.scp_line.specs.Play.{message_line, pledges_word, statement_words, value_word};
 
 use crate::report::write_hex;
-use scp_envelope::{Pledges, Statement};
+use scp_envelope::{Pledges, Statement, ValueList};
 use scp_types::{Fault, Hash, Slot, Value};
 use scp_wire::Message;
 use std::alloc::{AllocError, Global};
@@ -66,6 +66,29 @@ fn record_line(alloc: Global, slot: Slot, value: &Value) -> Result<String, Alloc
     Ok(text)
 }
 
+/// Adds the values of a batch, each behind a space.
+fn write_values(text: &mut String, values: &[Value]) -> Result<(), AllocError>
+    ensures { OnOk result (string_bytes text.new ≡ string_bytes text.old ++ flat_map value_word values.now) }
+{
+    for value in values {
+        text.push_str(" ")?;
+        write_hex(text, value.as_slice())?;
+    }
+    Ok(())
+}
+
+/// The line of a batch of records.
+fn records_line(alloc: Global, first: Slot, values: &ValueList) -> Result<String, AllocError>
+    ensures { IfOk result (λ text. string_bytes text ≡ message_line (Message.Records first values.now)) }
+{
+    let number = first.0;
+    let mut text = String::new(alloc);
+    write!(&mut text, "7 records {number}")?;
+    write_values(&mut text, values.as_slice())?;
+    text.push_str("\n")?;
+    Ok(text)
+}
+
 /// The line of a message that keeps its limits.
 pub fn line_of(alloc: Global, message: &Message) -> Result<String, Fault>
     requires { Fits message_kind (message_value message.now) }
@@ -79,5 +102,6 @@ pub fn line_of(alloc: Global, message: &Message) -> Result<String, Fault>
         Message::NoSet(hash) => Ok(hash_line(alloc, "4 noset ", hash)?),
         Message::GetRecord(slot) => Ok(request_line(alloc, *slot)?),
         Message::Record(slot, value) => Ok(record_line(alloc, *slot, value)?),
+        Message::Records { first, values } => Ok(records_line(alloc, *first, values)?),
     }
 }

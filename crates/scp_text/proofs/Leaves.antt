@@ -4,7 +4,7 @@ use Rattle.std.specs.Prelude.{slice_index, flat_map, ◌⊎◌}
 use Rattle.std.specs.List.{AllByRecursion}
 use Rattle.hex.specs.Hex.{IsBytes}
 use Rattle.scp_xdr.specs.Tree.{Trees, no_trees, tree_then, Tree, row_len}
-use Rattle.scp_xdr.specs.Kind.{Kind, uint32, uint64, fixed, opaque, optional, array, both, union, tree, Arms, no_arm, arm, Values, ArmValues, word, padded, row_spelling, spelling, arm_spelling}
+use Rattle.scp_xdr.specs.Kind.{Kind, uint32, uint64, fixed, opaque, optional, array, numbered, both, union, tree, Arms, no_arm, arm, Values, ArmValues, word, long_word, padded, row_spelling, spelling, arm_spelling}
 
 abbrev pub AreBytes : List ℕ → Type 0
 AreBytes bytes = AllByRecursion (λ b. b < 256) bytes
@@ -43,6 +43,7 @@ abbrev mutual
   Leaves (optional k) None = Unit {0}
   Leaves (optional k) (Some v) = Leaves k v
   Leaves (array max k) vs = AllByRecursion (λ v. Leaves k v) vs
+  Leaves (numbered max k) v = AllByRecursion (λ x. Leaves k x) v.1
   Leaves (both a b) v = Leaves a v.0 × Leaves b v.1
   Leaves (union arms) v = ArmLeaves arms v
   Leaves (tree levels max head) t = Leaves head t.head × RowLeaves (λ v. Leaves head v) t.inner
@@ -77,6 +78,7 @@ mutual
   leaves (optional k) None h = tt
   leaves (optional k) (Some v) h = leaves k v (back (word 1) (spelling k v) h)
   leaves (array max k) vs h = items_leaves (λ v. spelling k v) (λ v. Leaves k v) (λ v b. leaves k v b) vs (back (word (length vs)) (flat_map (λ v. spelling k v) vs) h)
+  leaves (numbered max k) v h = items_leaves (λ x. spelling k x) (λ x. Leaves k x) (λ x b. leaves k x b) v.1 (back (long_word v.0 ++ word (length v.1)) (flat_map (λ x. spelling k x) v.1) h)
   leaves (both a b) v h = (leaves a v.0 (front (spelling a v.0) (spelling b v.1) h), leaves b v.1 (back (spelling a v.0) (spelling b v.1) h))
   leaves (union arms) v h = arm_leaves arms v h
   leaves (tree levels max head) t h =

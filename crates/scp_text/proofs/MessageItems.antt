@@ -12,7 +12,7 @@ use Rattle.scp_envelope.specs.declared.statement.Pledges.{Pledges}
 use Rattle.scp_envelope.specs.declared.statement.Pledges.TheVariants.{Prepare as Preparing, Confirm as Confirming, Externalize as Externalizing, Nominate as Nominating}
 use Rattle.scp_envelope.specs.Kinds.{pledges_kind, pledges_value}
 use Rattle.scp_wire.specs.declared.message.Message.{Message}
-use Rattle.scp_wire.specs.declared.message.Message.TheVariants.{Envelope as OfEnvelope, GetSet, Set, NoSet, GetRecord, Record}
+use Rattle.scp_wire.specs.declared.message.Message.TheVariants.{Envelope as OfEnvelope, GetSet, Set, NoSet, GetRecord, Record, Records}
 use Rattle.scp_wire.specs.Message.{message_kind, message_value, SpellsMessage}
 use Rattle.scp_text.specs.Pieces.{parts, listed, bracketed}
 use Rattle.scp_text.specs.Messages.{nominate_words, prepare_words, confirm_words, externalize_words, words_with, signature_words, pledges_words, message_words, message_text, message_in, words_of}
@@ -32,6 +32,10 @@ opens_votes = record { some = refl; visible = refl; passes = λ depth rest. refl
 opens_accepted : IsOpen (codes "accepted(")
 unfolding parts
 opens_accepted = record { some = refl; visible = refl; passes = λ depth rest. refl }
+
+opens_values : IsOpen (codes "values(")
+unfolding parts
+opens_values = record { some = refl; visible = refl; passes = λ depth rest. refl }
 
 opens_ballot : IsOpen (codes "ballot(")
 unfolding parts
@@ -102,6 +106,10 @@ message_items (Set set) f l = (plain_item (codes "set") refl refl, (set_item set
 message_items (NoSet hash) f l = (plain_item (codes "noset") refl refl, (hash_item hash f.1.1.1.1 l, tt))
 message_items (GetRecord slot) f l = (plain_item (codes "getrecord") refl refl, (decimal_item slot.0 f.1.1.1.1.1, tt))
 message_items (Record slot value) f l = (plain_item (codes "record") refl refl, (decimal_item slot.0 f.1.1.1.1.1.1.0, (value_item value l.1, tt)))
+message_items (Records first values) f l =
+    let fits = f.1.1.1.1.1.1.1 in
+    let item = values_item (codes "values(") values opens_values (good_values values fits.5 l) in
+    (plain_item (codes "records") refl refl, (decimal_item first.0 fits.0, (item, tt)))
 
 abbrev pub IsFilled : List (List ℕ) → Type 0
 IsFilled [] = ⊥
@@ -120,6 +128,7 @@ filled (Set set) = tt
 filled (NoSet hash) = tt
 filled (GetRecord slot) = tt
 filled (Record slot value) = tt
+filled (Records first values) = tt
 
 clear_all : (ws : List (List ℕ)) → AllByRecursion IsItem ws → AllByRecursion (IsClear 32) ws
 clear_all [] h = tt

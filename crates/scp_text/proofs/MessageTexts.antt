@@ -16,7 +16,7 @@ use Rattle.scp_envelope.specs.declared.statement.Pledges.{Pledges}
 use Rattle.scp_envelope.specs.declared.statement.Pledges.TheVariants.{Prepare as Preparing, Confirm as Confirming, Externalize as Externalizing, Nominate as Nominating}
 use Rattle.scp_envelope.specs.Kinds.{pledges_kind, pledges_value}
 use Rattle.scp_wire.specs.declared.message.Message.{Message}
-use Rattle.scp_wire.specs.declared.message.Message.TheVariants.{Envelope as OfEnvelope, GetSet, Set, NoSet, GetRecord, Record}
+use Rattle.scp_wire.specs.declared.message.Message.TheVariants.{Envelope as OfEnvelope, GetSet, Set, NoSet, GetRecord, Record, Records}
 use Rattle.scp_wire.specs.Message.{message_kind, message_value, SpellsMessage}
 use Rattle.scp_text.specs.Pieces.{listed, bracketed}
 use Rattle.scp_text.specs.Messages.{words_with, signature_words, nominate_words, prepare_words, confirm_words, externalize_words, pledges_words, at, ended, signature_at, nominate_in, prepare_in, confirm_in, externalize_in, envelope_in, get_set_in, no_set_in, the_set_in, get_record_in, record_in, message_in, message_words, message_text, words_of}
@@ -28,7 +28,7 @@ use Rattle.scp_quorum.specs.QuorumTree.{Level, QuorumTree}
 use Rattle.scp_quorum.specs.QuorumKind.{level_kind, level_value, set_kind, set_value}
 use Rattle.scp_text.specs.Sets.{row_texts, set_text, set_in}
 use Rattle.scp_text.proofs.Items.{IsItem, IsOpen}
-use Rattle.scp_text.proofs.Records.{get_record_again, record_again}
+use Rattle.scp_text.proofs.Records.{get_record_again, record_again, records_again}
 use Rattle.scp_text.proofs.Numbers.{number_again}
 use Rattle.scp_text.proofs.Leaves.{AreBytes, Leaves, RowLeaves}
 use Rattle.scp_text.proofs.SetTexts.{node_again, hash_again}
@@ -165,3 +165,6 @@ words_again (Set set) f l = the_set_again set f.1.1.1 l
 words_again (NoSet hash) f l = no_set_again hash f.1.1.1.1 l
 words_again (GetRecord slot) f l = get_record_again slot f.1.1.1.1.1
 words_again (Record slot value) f l = record_again slot value f.1.1.1.1.1.1.0 l.1 f.1.1.1.1.1.1.1.0
+words_again (Records first values) f l =
+    let fits = f.1.1.1.1.1.1.1 in
+    records_again first values fits.0 (good_values values fits.5 l)

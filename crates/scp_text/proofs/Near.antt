@@ -7,7 +7,7 @@ use Rattle.scp_wire.specs.declared.message.Message.{Message}
 use Rattle.scp_text.specs.declared.refusal.Refusal.{Refusal}
 use Rattle.scp_text.specs.declared.refusal.Expected.{Expected}
 use Rattle.scp_text.specs.Pieces.{same}
-use Rattle.scp_text.specs.Messages.{◌>>=◌, or_refused, said_by, at, no_word, ended, signature_in, signature_by, signature_at, nominate_in, prepare_in, confirm_in, externalize_in, envelope_in, get_set_in, the_set_in, no_set_in, get_record_in, record_in, envelope_by, message_by, message_in}
+use Rattle.scp_text.specs.Messages.{◌>>=◌, or_refused, said_by, at, no_word, ended, signature_in, signature_by, signature_at, nominate_in, prepare_in, confirm_in, externalize_in, envelope_in, get_set_in, the_set_in, no_set_in, get_record_in, record_in, records_in, envelope_by, message_by, message_in}
 
 abbrev pub IsSmall : {A : Type 0} → Result A Refusal → Type 0
 IsSmall (Ok x) = Unit {0}
@@ -90,6 +90,10 @@ record_small : (words : List (List ℕ)) → IsSmall (record_in words)
 unfolding record_in
 record_small words = bind_small _ _ (at_small _ _ words 1 (omega arith)) (λ a. bind_small _ _ (at_small _ _ words 2 (omega arith)) (λ b. bind_small _ _ (ended_small words 3 (omega arith)) (λ c. tt)))
 
+records_small : (words : List (List ℕ)) → IsSmall (records_in words)
+unfolding records_in
+records_small words = bind_small _ _ (at_small _ _ words 1 (omega arith)) (λ a. bind_small _ _ (at_small _ _ words 2 (omega arith)) (λ b. bind_small _ _ (ended_small words 3 (omega arith)) (λ c. tt)))
+
 envelope_by_small : (verb : List ℕ) (words : List (List ℕ)) → IsSmall (envelope_by verb words)
 envelope_by_small verb words =
     if_small (same verb (codes "nominate")) _ _ (envelope_small nominate_in 6 words (nominate_small words) (omega arith))
@@ -102,10 +106,11 @@ unfolding message_in
 message_small words =
     let verb = unwrap_or (slice_get words 0) [] in
     if_small (same verb (codes "record")) _ _ (record_small words)
+    (if_small (same verb (codes "records")) _ _ (records_small words)
     (if_small (same verb (codes "getrecord")) _ _ (get_record_small words)
     (if_small (same verb (codes "getset")) _ _ (get_set_small words)
     (if_small (same verb (codes "set")) _ _ (the_set_small words)
-    (if_small (same verb (codes "noset")) _ _ (no_set_small words) (envelope_by_small verb words)))))
+    (if_small (same verb (codes "noset")) _ _ (no_set_small words) (envelope_by_small verb words))))))
 
 pub near_refusal : (words : List (List ℕ)) (refusal : Refusal) → message_in words ≡ Err refusal → refusal.word ≤ 16
 near_refusal words refusal h = subst IsSmall h (message_small words)

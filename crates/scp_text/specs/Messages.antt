@@ -17,7 +17,7 @@ use Rattle.scp_envelope.specs.declared.statement.Envelope.{Envelope as SignedEnv
 use Rattle.scp_envelope.specs.declared.statement.Pledges.{Pledges}
 use Rattle.scp_envelope.specs.declared.statement.Pledges.TheVariants.{Prepare as Preparing, Confirm as Confirming, Externalize as Externalizing, Nominate as Nominating}
 use Rattle.scp_wire.specs.declared.message.Message.{Message}
-use Rattle.scp_wire.specs.declared.message.Message.TheVariants.{Envelope, GetSet, Set, NoSet, GetRecord, Record}
+use Rattle.scp_wire.specs.declared.message.Message.TheVariants.{Envelope, GetSet, Set, NoSet, GetRecord, Record, Records}
 use Rattle.scp_wire.specs.Message.{message_value, FitsMessage}
 use Rattle.scp_text.specs.Pieces.{and_then, same, listed, bracketed, inside, items_in, all_of, number_in, digits_in}
 use Rattle.scp_text.specs.Values.{value_text, value_in}
@@ -26,7 +26,7 @@ use Rattle.scp_text.specs.declared.refusal.Refusal.{Refusal}
 use Rattle.scp_text.specs.declared.refusal.TextError.{TextError}
 use Rattle.scp_text.specs.declared.refusal.TextError.TheVariants.{NoMemory, Refused}
 use Rattle.scp_text.specs.declared.refusal.Expected.{Expected}
-use Rattle.scp_text.specs.declared.refusal.Expected.TheVariants.{AMessage, ASlot, AValue, AHash, ASet, ANode, ABallot, ACounter, Votes, Accepted, Prepared, Prime, Commit, ASignature, NoMore, WithinLimits}
+use Rattle.scp_text.specs.declared.refusal.Expected.TheVariants.{AMessage, ASlot, AValue, Values, AHash, ASet, ANode, ABallot, ACounter, Votes, Accepted, Prepared, Prime, Commit, ASignature, NoMore, WithinLimits}
 
 -- ---- written
 
@@ -73,6 +73,7 @@ message_words (Set set) = codes "set" ∷ set_text set ∷ []
 message_words (NoSet hash) = codes "noset" ∷ hash_text hash ∷ []
 message_words (GetRecord slot) = codes "getrecord" ∷ decimal slot.0 ∷ []
 message_words (Record slot value) = codes "record" ∷ decimal slot.0 ∷ value_text value ∷ []
+message_words (Records first values) = codes "records" ∷ decimal first.0 ∷ values_text (codes "values(") values ∷ []
 
 -- the words, with a space between them
 unfoldable pub message_text : Message → List ℕ
@@ -212,6 +213,13 @@ record_in words = do
   done ← ended words 3
   Ok (Record slot value)
 
+unfoldable pub records_in : List (List ℕ) → Result Message Refusal
+records_in words = do
+  first ← at slot_in ASlot words 1
+  values ← at (values_in (codes "values(")) Values words 2
+  done ← ended words 3
+  Ok (Records first values)
+
 abbrev pub envelope_by : List ℕ → List (List ℕ) → Result Message Refusal
 envelope_by verb words =
     if same verb (codes "nominate") then envelope_in nominate_in 6 words
@@ -223,11 +231,12 @@ envelope_by verb words =
 abbrev pub message_by : List ℕ → List (List ℕ) → Result Message Refusal
 message_by verb words =
     if same verb (codes "record") then record_in words
+    else (if same verb (codes "records") then records_in words
     else (if same verb (codes "getrecord") then get_record_in words
     else (if same verb (codes "getset") then get_set_in words
     else (if same verb (codes "set") then the_set_in words
     else (if same verb (codes "noset") then no_set_in words
-    else envelope_by verb words))))
+    else envelope_by verb words)))))
 
 -- the message that the words say, or the first word that is refused, and what was expected there
 unfoldable pub message_in : List (List ℕ) → Result Message Refusal

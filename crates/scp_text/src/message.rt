@@ -5,7 +5,7 @@ ghost use Rattle.std.specs.Option.{unwrap_or};
 ghost use Rattle.scp_wire.specs.Message.{message_value, SpellsMessage, FitsMessage};
 ghost use Rattle.hex.specs.Hex.{IsBytes};
 ghost use Rattle.scp_text.specs.Pieces.{items_in, listed};
-ghost use Rattle.scp_text.specs.Messages.{IsNear, envelope_by, words_with, nominate_words, prepare_words, confirm_words, externalize_words, pledges_words, IsRefusedMessage, at, or_refused, ended, ballot_from, record_in, get_record_in, get_set_in, the_set_in, no_set_in, signature_at, signature_words, ballot_text, optional_text, values_text, ballot_in, optional_in, values_in, signature_in, words_of, message_text, nominate_in, prepare_in, confirm_in, externalize_in, envelope_in, message_by, message_in, Answers};
+ghost use Rattle.scp_text.specs.Messages.{IsNear, envelope_by, words_with, nominate_words, prepare_words, confirm_words, externalize_words, pledges_words, IsRefusedMessage, at, or_refused, ended, ballot_from, record_in, records_in, get_record_in, get_set_in, the_set_in, no_set_in, signature_at, signature_words, ballot_text, optional_text, values_text, ballot_in, optional_in, values_in, signature_in, words_of, message_text, nominate_in, prepare_in, confirm_in, externalize_in, envelope_in, message_by, message_in, Answers};
 
 use crate::pieces::{digits, inside, items, write_digits};
 use crate::refusal::{Expected, Refusal, TextError};
@@ -376,6 +376,16 @@ fn record(alloc: Global, words: &[&[u8]]) -> Result<Message, TextError>
     Ok(Message::Record(slot, value))
 }
 
+#[tactic(auto, unfolding(crate::specs::Messages::records_in))]
+fn records(alloc: Global, words: &[&[u8]]) -> Result<Message, TextError>
+    ensures { Answers result (records_in (map (λ word. word.now) words.now)) }
+{
+    let first: Slot = term_at(alloc, words, 1, Expected::ASlot)?;
+    let values = values_at(alloc, b"values(", words, 2, Expected::Values)?;
+    end_at(words, 3)?;
+    Ok(Message::Records { first, values })
+}
+
 #[tactic(auto, unfolding(crate::specs::Messages::get_record_in))]
 fn get_record(alloc: Global, words: &[&[u8]]) -> Result<Message, TextError>
     ensures { Answers result (get_record_in (map (λ word. word.now) words.now)) }
@@ -450,6 +460,9 @@ fn read_by(alloc: Global, verb: &[u8], words: &[&[u8]]) -> Result<Message, TextE
 {
     if verb == b"record".as_slice() {
         return record(alloc, words);
+    }
+    if verb == b"records".as_slice() {
+        return records(alloc, words);
     }
     if verb == b"getrecord".as_slice() {
         return get_record(alloc, words);
@@ -679,6 +692,11 @@ fn write_message(out: &mut String, message: &Message) -> Result<(), Fault>
             out.push_str("record")?;
             write_term(out, slot)?;
             write_term(out, value)
+        }
+        Message::Records { first, values } => {
+            out.push_str("records")?;
+            write_term(out, first)?;
+            write_values(out, " values(", values)
         }
     }
 }
