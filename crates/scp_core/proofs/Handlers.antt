@@ -9,9 +9,9 @@ use Rattle.scp_core.specs.declared.event.Reply.{Reply}
 use Rattle.scp_core.specs.declared.event.Reply.TheVariants.{NoLink, AlreadyOpen, LivesSpent, NotOpen, Full, Accepted, Blocked, Idle, Moved, Sent, JournalFull, NoMemory}
 use Rattle.scp_pending.specs.declared.ready.Ready.{Ready}
 use Rattle.scp_pending.specs.Rules.{PendingView}
-use Rattle.scp_pending.specs.Pends.{Pends, IsSettled}
+use Rattle.scp_pending.specs.Pends.{Pends, IsSettled, IsIdle}
 use Rattle.scp_core.specs.History.{peer_at}
-use Rattle.scp_core.specs.Node.{LinkView, NodeView, with_link, Step, Fails, Hands, life_of, IsIdle}
+use Rattle.scp_core.specs.Node.{LinkView, NodeView, with_link, Step, Fails, Hands, life_of}
 use Rattle.scp_ledger.specs.Takes.{adds_entry}
 use Rattle.scp_core.specs.Stages.{KvLedger, KvTakes}
 use Rattle.scp_wire.specs.declared.message.Message.{Message}

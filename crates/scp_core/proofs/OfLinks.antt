@@ -106,7 +106,7 @@ all_end P c cause (p ∷ ps) end k a = (k, all_end P c cause ps end k a)
 all_fate : (P : ConnId → Type 0) (c : ConnId) (p : Parked) → P c → AllByRecursion (IsOn P) (fate c p)
 all_fate P c (Waits x) k = tt
 all_fate P c (Free delivery) k = (tt, tt)
-all_fate P c (Lost slot seq cause) k = (k, tt)
+all_fate P c (Lost x cause) k = (k, tt)
 
 all_leave : (P : ConnId → Type 0) (c : ConnId) (kept ps : List Parked) → P c → AllByRecursion (IsOn P) (leaves_behind c kept ps)
 all_leave P c kept [] k = tt

@@ -18,7 +18,7 @@ use Rattle.scp_sent.specs.Handing.{HandsOut, to_link, GivesNext, GivesThere}
 use Rattle.scp_pending.specs.declared.ready.Ready.{Ready}
 use Rattle.scp_pending.specs.Passes.{Passes}
 use Rattle.scp_pending.specs.Rules.{PendingView, taken_in, reply as reply_to}
-use Rattle.scp_pending.specs.Pends.{Pends, IsSettled}
+use Rattle.scp_pending.specs.Pends.{Pends, IsIdle}
 use Rattle.scp_ledger.specs.declared.took.Onward.{Onward}
 use Rattle.scp_ledger.specs.declared.took.Outgoing.{Outgoing}
 use Rattle.scp_ledger.specs.declared.took.Outgoing.TheVariants.{ToAll, To}
@@ -87,10 +87,6 @@ Accepts old (Send l bytes) new = AtLink old l (λ k. (k.is_open ≡ true) × (le
 Accepts old (Close l) new = AtLink old l (λ k. (k.is_open ≡ true) × (length k.queue ≢ k.room) × (new ≡ with_link old l (record k { is_open = false; queue = k.queue ++ item.Closed (conn_at (peer_at old.config l) old.config.me k.life) ∷ [] })))
 Accepts old (Local command) new = HasLink old command × (length old.inbox ≢ old.inbox_room) × (new ≡ record old { inbox = old.inbox ++ inbound.Local command ∷ [] })
 Accepts old event new = ⊥
-
--- nothing is ready, and what the pending stage holds waits rightly
-abbrev pub IsIdle : PendingView → Type 0
-IsIdle v = (me : NodeId) → (peers : List NodeId) → (taken : List Inbound) → (given : List Ready) → Pends me peers taken given v → IsSettled me peers taken v
 
 abbrev pub FitsLink : Option (ℕ × Message) → Type 0
 FitsLink None = Unit {0}

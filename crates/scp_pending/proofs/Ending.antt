@@ -200,7 +200,7 @@ all_exits me peers taken given v p shape link peer at life slots have = subst (�
 none_fate : (c : ConnId) (p : Parked) → commands_of (fate c p) ≡ []
 none_fate c (Waits x) = refl
 none_fate c (Free d) = refl
-none_fate c (Lost slot seq cause) = refl
+none_fate c (Lost x cause) = refl
 
 none_behind : (c : ConnId) (kept ps : List Parked) → commands_of (leaves_behind c kept ps) ≡ []
 none_behind c kept [] = refl

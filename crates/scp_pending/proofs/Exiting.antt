@@ -73,7 +73,7 @@ none_front c rs rest e = none_ways c rs (nil_both (marks_of c rs) rest e).0
 abbrev pub HasOwnFate : Parked → Type 0
 HasOwnFate (Waits x) = Unit {0}
 HasOwnFate (Free d) = Unit {0}
-HasOwnFate (Lost slot seq cause) = HasWent (way_by cause seq)
+HasOwnFate (Lost x cause) = HasWent (way_by cause x.seq)
 
 abbrev pub HaveOwnFates : QueueView → Type 0
 HaveOwnFates q = AllByRecursion HasOwnFate q.parked
@@ -87,7 +87,7 @@ own_lost start taken c seq ByFull h = absurd h
 own_of : (start : Settled) (taken : List Inbound) (wanted : List Want) (c : ConnId) (p : Parked) → Stands start taken wanted c p → HasOwnFate p
 own_of start taken wanted c (Waits x) w = tt
 own_of start taken wanted c (Free d) w = tt
-own_of start taken wanted c (Lost slot seq cause) w = own_lost start taken c seq cause w.1
+own_of start taken wanted c (Lost x cause) w = own_lost start taken c x.seq cause w.2
 
 own_queues : (start : Settled) (taken : List Inbound) (wanted : List Want) (qs : List QueueView) → AllByRecursion (Fits start taken wanted) qs → AllByRecursion HaveOwnFates qs
 own_queues start taken wanted qs a = all_weaker (Fits start taken wanted) HaveOwnFates qs (λ q f. all_weaker (Stands start taken wanted q.conn) HasOwnFate q.parked (λ p w. own_of start taken wanted q.conn p w) f.stands) a
@@ -102,7 +102,7 @@ resolved_own test f h qs a = all_step HaveOwnFates HaveOwnFates (resolved_in tes
         by_test true = h x
         by_test false = tt
     one (Free d) k = k
-    one (Lost slot seq cause) k = k
+    one (Lost x cause) k = k
 
 went_if : (b : Bool) (w : Way) → HasWent w → AllWent (one_if b w)
 went_if true w h = (h, tt)
@@ -111,7 +111,7 @@ went_if false w h = tt
 fate_went : (c d : ConnId) (p : Parked) → HasOwnFate p → AllByRecursion (λ r. AllWent (way c r)) (fate d p)
 fate_went c d (Waits x) h = tt
 fate_went c d (Free y) h = (went_if (same_conn y.conn c) (went y.seq) tt, tt)
-fate_went c d (Lost slot seq cause) h = (went_if (same_conn d c) (way_by cause seq) h, tt)
+fate_went c d (Lost x cause) h = (went_if (same_conn d c) (way_by cause x.seq) h, tt)
 
 ways_went : (c : ConnId) (rs : List Ready) → AllByRecursion (λ r. AllWent (way c r)) rs → AllWent (ways c rs)
 ways_went c [] a = tt
@@ -184,7 +184,7 @@ heads_of start taken c n (q ∷ qs) a = by_test (is_of c q) refl (heads_of start
     of_head [] e h = tt
     of_head (Waits x ∷ ps) e h = (x, h.0 ∙ e, refl, h.1)
     of_head (Free d ∷ ps) e h = absurd h
-    of_head (Lost slot seq cause ∷ ps) e h = absurd h
+    of_head (Lost x cause ∷ ps) e h = absurd h
 
     by_test : (b : Bool) → is_of c q ≡ b → FirstWaits start taken c (map seq_of (at_slot n (parked_of c qs))) → FirstWaits start taken c (map seq_of (at_slot n (cond b q.parked (parked_of c qs))))
     by_test true k rest = of_head (at_slot n q.parked) (same_conn-true q.conn c k) (a.0 n)

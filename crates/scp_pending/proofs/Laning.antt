@@ -43,7 +43,7 @@ in_lane-append slots s xs ys = filter-append (is_in_lane slots s) xs ys
 abbrev pub IsMine : ConnId → Parked → Type 0
 IsMine c (Waits x) = x.conn ≡ c
 IsMine c (Free delivery) = delivery.conn ≡ c
-IsMine c (Lost slot seq cause) = Unit {0}
+IsMine c (Lost x cause) = x.conn ≡ c
 
 -- its number is of its lane
 abbrev pub HasLane : (ℕ → ℕ) → Parked → Type 0
@@ -52,12 +52,12 @@ HasLane slots p = slots (seq_of p).0 ≡ lane_of p
 pub marks-fate : (c : ConnId) (p : Parked) → waits p ≡ false → IsMine c p → marks_of c (fate c p) ≡ parked_mark p ∷ []
 marks-fate c (Waits x) w m = absurd cc
 marks-fate c (Free d) w m = rw (ap (λ (k : ConnId). same_conn k c) m ∙ same_conn-refl c) refl
-marks-fate c (Lost slot seq cause) w m = rw (same_conn-refl c) refl
+marks-fate c (Lost x cause) w m = rw (same_conn-refl c) refl
 
 pub marks-fate_other : (c d : ConnId) (p : Parked) → same_conn c d ≡ false → IsMine c p → marks_of d (fate c p) ≡ []
 marks-fate_other c d (Waits x) o m = refl
 marks-fate_other c d (Free y) o m = rw (ap (λ (k : ConnId). same_conn k d) m ∙ o) refl
-marks-fate_other c d (Lost slot seq cause) o m = rw o refl
+marks-fate_other c d (Lost x cause) o m = rw o refl
 
 -- one more of its lane, or of another
 abbrev has : ℕ → List Parked → Bool

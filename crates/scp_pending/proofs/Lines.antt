@@ -64,7 +64,7 @@ resolved_mark test f same (Waits x ∷ ps) = by_test (test (named x.message)) (r
     by_test true e = rw (same x, e) refl
     by_test false e = rw e refl
 resolved_mark test f same (Free d ∷ ps) = ap (λ ms. number d.seq.0 ∷ ms) (resolved_mark test f same ps)
-resolved_mark test f same (Lost slot seq cause ∷ ps) = ap (λ ms. number seq.0 ∷ ms) (resolved_mark test f same ps)
+resolved_mark test f same (Lost x cause ∷ ps) = ap (λ ms. number x.seq.0 ∷ ms) (resolved_mark test f same ps)
 
 resolved_mine : (test : Option Hash → Bool) (f : Carried → Parked) → ((c : ConnId) (x : Carried) → x.conn ≡ c → IsMine c (f x)) → (q : QueueView) → AreMine q → AreMine (resolved_in test f q)
 resolved_mine test f mine q a = all_step (IsMine q.conn) (IsMine q.conn) (resolved_one test f) q.parked one a
@@ -76,7 +76,7 @@ resolved_mine test f mine q a = all_step (IsMine q.conn) (IsMine q.conn) (resolv
         by_test true = mine q.conn x h
         by_test false = h
     one (Free d) h = h
-    one (Lost slot seq cause) h = h
+    one (Lost x cause) h = h
 
 -- what is resolved keeps its lane
 resolved_lane : (slots : ℕ → ℕ) (test : Option Hash → Bool) (f : Carried → Parked) → ((x : Carried) → slots x.seq.0 ≡ slot_of x.message → HasLane slots (f x)) → (ps : List Parked) → AllByRecursion (HasLane slots) ps → AllByRecursion (HasLane slots) (map (resolved_one test f) ps)
@@ -89,7 +89,7 @@ resolved_lane slots test f same ps a = all_step (HasLane slots) (HasLane slots) 
         by_test true = same x h
         by_test false = h
     one (Free d) h = h
-    one (Lost slot seq cause) h = h
+    one (Lost x cause) h = h
 
 serving : (slots : ℕ → ℕ) (n : ℕ) (d : ConnId) (test : Option Hash → Bool) (f : Carried → Parked) (qs : List QueueView) → ((x : Carried) → parked_mark (f x) ≡ number x.seq.0) → ((c : ConnId) (x : Carried) → x.conn ≡ c → IsMine c (f x)) → ((x : Carried) → slots x.seq.0 ≡ slot_of x.message → HasLane slots (f x)) → AreSingle qs → AllByRecursion AreMine qs → AllByRecursion (HasLane slots) (parked_of d qs) → in_lane slots n (marks_of d (leaving_of (resolved test f qs)) ++ marks_parked d (served (resolved test f qs))) ≡ in_lane slots n (marks_parked d qs ++ [])
 serving slots n d test f qs same mine lane single a l =
@@ -220,7 +220,7 @@ line_step slots n d s (inbound.Side c m) single a l h = by_open (is_open c s.que
 
     by_answer_mine : (set : QuorumTree) (b : Bool) (k : ConnId) (x : Carried) → x.conn ≡ k → IsMine k ((cond b (with_set (Some set)) (lost_by BadSet)) x)
     by_answer_mine set true k x e = e
-    by_answer_mine set false k x e = tt
+    by_answer_mine set false k x e = e
 
     by_answer_lane : (set : QuorumTree) (b : Bool) (x : Carried) → slots x.seq.0 ≡ slot_of x.message → HasLane slots ((cond b (with_set (Some set)) (lost_by BadSet)) x)
     by_answer_lane set true x e = e
@@ -231,7 +231,7 @@ line_step slots n d s (inbound.Side c m) single a l h = by_open (is_open c s.que
     by_set set false = quiet
 
     by_miss : (hash : Hash) (b : Bool) → in_lane slots n (marks_of d (cond b (leaving_of (resolved (is_hash hash) (lost_by GaveUp) s.queues)) []) ++ marks_parked d (cond b (gives_up_one hash (record s { wanted = missed_by (One hash) s.wanted })) (record s { wanted = missed_by (One hash) s.wanted })).queues) ≡ in_lane slots n (marks_parked d s.queues ++ [])
-    by_miss hash true = serving slots n d (is_hash hash) (lost_by GaveUp) s.queues (λ x. refl) (λ k x e. tt) (λ x e. e) single a l
+    by_miss hash true = serving slots n d (is_hash hash) (lost_by GaveUp) s.queues (λ x. refl) (λ k x e. e) (λ x e. e) single a l
     by_miss hash false = quiet
 
     by_message : (m : SideMessage) → in_lane slots n (marks_of d (heard_out m s) ++ marks_parked d (hears m s).queues) ≡ in_lane slots n (marks_parked d s.queues ++ [])
@@ -254,7 +254,7 @@ line_step slots n d s (inbound.Closed c cause) single a l h = ap (in_lane slots 
 line_step slots n d s (inbound.Local Tick) single a l h =
     let hashes = last_missed s.wanted in
     let same : parked_of d (in_order_of hashes s.queues) ≡ parked_of d s.queues = parked-in_order d hashes s.queues (single d) in
-    serving slots n d (is_given_up s.wanted) (lost_by GaveUp) (in_order_of hashes s.queues) (λ x. refl) (λ k x e. tt) (λ x e. e) (single-in_order hashes s.queues single) (all_in_order AreMine hashes s.queues a) (subst (AllByRecursion (HasLane slots)) (sym same) l) ∙ ap (λ ps. in_lane slots n (map parked_mark ps ++ [])) same
+    serving slots n d (is_given_up s.wanted) (lost_by GaveUp) (in_order_of hashes s.queues) (λ x. refl) (λ k x e. e) (λ x e. e) (single-in_order hashes s.queues single) (all_in_order AreMine hashes s.queues a) (subst (AllByRecursion (HasLane slots)) (sym same) l) ∙ ap (λ ps. in_lane slots n (map parked_mark ps ++ [])) same
 line_step slots n d s (inbound.Local (Propose slot value)) single a l h = ap (in_lane slots n) (sym (append_nil (marks_parked d s.queues)))
 line_step slots n d s (inbound.Local (Round slot)) single a l h = ap (in_lane slots n) (sym (append_nil (marks_parked d s.queues)))
 line_step slots n d s (inbound.Local (Timer slot)) single a l h = ap (in_lane slots n) (sym (append_nil (marks_parked d s.queues)))

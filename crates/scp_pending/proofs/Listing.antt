@@ -191,7 +191,7 @@ others_else c qs single = all_both (λ (q : QueueView). same_conn c q.conn ≡ f
 not_waits : (hash : Hash) (p : Parked) → waits p ≡ false → waits_for hash p ≡ false
 not_waits hash (Waits x) e = absurd cc
 not_waits hash (Free d) e = refl
-not_waits hash (Lost slot seq cause) e = refl
+not_waits hash (Lost x cause) e = refl
 
 stays_any : (hash : Hash) (kept ps : List Parked) → list_any (waits_for hash) (stays_behind kept ps) ≡ list_any (waits_for hash) ps
 stays_any hash kept [] = refl
@@ -217,7 +217,7 @@ resolved_any test f hash none e (Waits x ∷ ps) = by_test (test (named x.messag
     by_test true t rest = rw (none x, not_named test hash (named x.message) e t) rest
     by_test false t rest = ap (λ b. is_hash hash (named x.message) || b) rest
 resolved_any test f hash none e (Free d ∷ ps) = resolved_any test f hash none e ps
-resolved_any test f hash none e (Lost slot seq cause ∷ ps) = resolved_any test f hash none e ps
+resolved_any test f hash none e (Lost x cause ∷ ps) = resolved_any test f hash none e ps
 
 served_same : (test : Option Hash → Bool) (f : Carried → Parked) (hash : Hash) (qs : List QueueView) → ((x : Carried) → waits_for hash (f x) ≡ false) → test (Some hash) ≡ false → AreSingle qs → (c : ConnId) → is_waiting c hash (served (resolved test f qs)) ≡ is_waiting c hash qs
 served_same test f hash qs none e single c =
@@ -277,7 +277,7 @@ missed_still miss qs ws l = missed_listed miss (λ o. false) qs qs ws (λ w g k.
 pub waits_as : (hash : Hash) (p : Parked) → waits_for hash p ≡ is_hash hash (waited_by p)
 waits_as hash (Waits x) = refl
 waits_as hash (Free d) = refl
-waits_as hash (Lost slot seq cause) = refl
+waits_as hash (Lost x cause) = refl
 
 parked_waiting : (c d : ConnId) (hash : Hash) (p : Parked) (qs : List QueueView) → is_open d qs ≡ true → AreSingle qs → is_waiting c hash (parked_in d p qs) ≡ (is_waiting c hash qs || (same_conn d c && is_hash hash (waited_by p)))
 parked_waiting c d hash p qs live single = by_test (same_conn d c) refl

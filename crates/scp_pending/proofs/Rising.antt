@@ -74,7 +74,7 @@ resolved_seqs test f same (Waits x ∷ ps) = by_test (test (named x.message)) (r
     by_test true e = rw (same x, e) refl
     by_test false e = rw e refl
 resolved_seqs test f same (Free d ∷ ps) = ap (λ zs. d.seq ∷ zs) (resolved_seqs test f same ps)
-resolved_seqs test f same (Lost slot seq cause ∷ ps) = ap (λ zs. seq ∷ zs) (resolved_seqs test f same ps)
+resolved_seqs test f same (Lost x cause ∷ ps) = ap (λ zs. x.seq ∷ zs) (resolved_seqs test f same ps)
 
 served_part : (c : ConnId) (test : Option Hash → Bool) (f : Carried → Parked) → ((x : Carried) → seq_of (f x) ≡ x.seq) → (qs : List QueueView) → IsPart (seqs_of c (served (resolved test f qs))) (seqs_of c qs)
 served_part c test f same qs n m r = subst (λ (ps : List Parked). Rises n m (map seq_of ps)) (sym (parked-served c (resolved test f qs))) (stays_part [] (parked_of c (resolved test f qs)) n m (subst (λ (seqs : List Seq). Rises n m seqs) (sym (ap (map seq_of) (parked-resolved c test f qs) ∙ resolved_seqs test f same (parked_of c qs))) r))

@@ -23,4 +23,4 @@ kept_more f xs ys i x within is at same =
 pub other_stays : (hash : Hash) (g : Carried → Parked) (p : Parked) → waits_for hash p ≡ false → resolved_one (is_hash hash) g p ≡ p
 other_stays hash g (Waits x) e = ap (λ (b : Bool). if b then g x else Waits x) e
 other_stays hash g (Free delivery) e = refl
-other_stays hash g (Lost slot seq cause) e = refl
+other_stays hash g (Lost x cause) e = refl

@@ -273,7 +273,7 @@ nothing_waits start taken wanted hash c (q ∷ qs) un a = by_test (is_of c q) (n
         by_same true k = clash (is_wanted hash wanted) (subst (λ (h : Hash). is_wanted h wanted ≡ true) (sym (same_hash-true hash w.1.hash k)) w.1.wanted_still) un
         by_same false k = ap (is_hash hash) w.1.waiting.names ∙ k
     one (Free d) w = refl
-    one (Lost slot seq cause) w = refl
+    one (Lost x cause) w = refl
 
     none : (ps : List Parked) → AllByRecursion (Stands start taken wanted q.conn) ps → list_any (waits_for hash) ps ≡ false
     none [] b = refl

@@ -7,7 +7,6 @@ use Rattle.std.proofs.lemmas.List.{length-append}
 use Rattle.scp_types.specs.declared.names.ConnId.{ConnId}
 use Rattle.scp_types.specs.declared.names.Hash.{Hash}
 use Rattle.scp_types.specs.declared.names.Seq.{Seq}
-use Rattle.scp_types.specs.declared.names.Slot.{Slot}
 use Rattle.scp_quorum.specs.QuorumTree.{QuorumTree}
 use Rattle.scp_quorum.specs.QuorumKind.{set_hash}
 use Rattle.scp_quorum.specs.Sane.{IsSane}
@@ -49,14 +48,6 @@ pub record WaitsWell (start : Settled) (taken : List Inbound) (wanted : List Wan
   pub wanted_still : is_wanted hash wanted ≡ true
   pub least : AtLeast (misses_since waiting) hash wanted
 
--- a lost message was taken, and named this slot
-pub record WasTaken (start : Settled) (taken : List Inbound) (c : ConnId) (slot : Slot) (seq : Seq) : Type 0 where
-  pub x : Carried
-  pub place : Place start taken x
-  pub conn : x.conn ≡ c
-  pub seq_is : x.seq ≡ seq
-  pub slot_is : slot_of x.message ≡ slot.0
-
 abbrev pub StandsLost : Settled → List Inbound → ConnId → Seq → DropCause → Type 0
 StandsLost start taken c seq BadSet = IsBadSet start taken c seq
 StandsLost start taken c seq GaveUp = IsGivenUp start taken c seq
@@ -66,7 +57,7 @@ StandsLost start taken c seq ByFull = ⊥
 abbrev pub Stands : Settled → List Inbound → List Want → ConnId → Parked → Type 0
 Stands start taken wanted c (Waits x) = (x.conn ≡ c) × WaitsWell start taken wanted x
 Stands start taken wanted c (Free d) = (d.conn ≡ c) × IsTaken start taken d
-Stands start taken wanted c (Lost slot seq cause) = WasTaken start taken c slot seq × StandsLost start taken c seq cause
+Stands start taken wanted c (Lost x cause) = (x.conn ≡ c) × Place start taken x × StandsLost start taken c x.seq cause
 
 abbrev pub AllStand : Settled → List Inbound → List Want → QueueView → Type 0
 AllStand start taken wanted q = AllByRecursion (Stands start taken wanted q.conn) q.parked
@@ -83,9 +74,6 @@ waits_on start taken s wanted wanted' x item e w k = record {
   least = subst (λ (n : ℕ). AtLeast n w.hash wanted') (sym (times-later (is_miss w.hash) start taken s x item w.waiting.place e)) (k.2 (misses_since w.waiting) w.least);
 }
 
-WasTaken-later : (start : Settled) (taken : List Inbound) (item : Inbound) (c : ConnId) (slot : Slot) (seq : Seq) → WasTaken start taken c slot seq → WasTaken start (taken ++ item ∷ []) c slot seq
-WasTaken-later start taken item c slot seq k = record { x = k.x; place = later start taken k.x item k.place; conn = k.conn; seq_is = k.seq_is; slot_is = k.slot_is }
-
 lost_later : (start : Settled) (taken : List Inbound) (s : Settled) (item : Inbound) (c : ConnId) (seq : Seq) (cause : DropCause) → s ≡ settled_by start taken → StandsLost start taken c seq cause → StandsLost start (taken ++ item ∷ []) c seq cause
 lost_later start taken s item c seq BadSet e h = IsBadSet-later start taken s item c seq e h
 lost_later start taken s item c seq GaveUp e h = IsGivenUp-later start taken item c seq h
@@ -99,14 +87,14 @@ waits_named start taken wanted x w = ap (is_hash w.hash) w.waiting.names ∙ sam
 pub stays : (start : Settled) (taken : List Inbound) (s : Settled) (wanted wanted' : List Want) (item : Inbound) (c : ConnId) (p : Parked) → s ≡ settled_by start taken → ((hash : Hash) → waits_for hash p ≡ true → is_wanted hash wanted ≡ true → Keeps s wanted wanted' item hash) → Stands start taken wanted c p → Stands start (taken ++ item ∷ []) wanted' c p
 stays start taken s wanted wanted' item c (Waits x) e k w = (w.0, waits_on start taken s wanted wanted' x item e w.1 (k w.1.hash (waits_named start taken wanted x w.1) w.1.wanted_still))
 stays start taken s wanted wanted' item c (Free d) e k w = (w.0, IsTaken-later start taken item d w.1)
-stays start taken s wanted wanted' item c (Lost slot seq cause) e k w = (WasTaken-later start taken item c slot seq w.0, lost_later start taken s item c seq cause e w.1)
+stays start taken s wanted wanted' item c (Lost x cause) e k w = (w.0, later start taken x item w.1, lost_later start taken s item c x.seq cause e w.2)
 
 -- ---- what leaves has its cause, and what stays stands
 
 pub mine_of : (start : Settled) (taken : List Inbound) (wanted : List Want) (c : ConnId) (p : Parked) → Stands start taken wanted c p → IsMine c p
 mine_of start taken wanted c (Waits x) w = w.0
 mine_of start taken wanted c (Free d) w = w.0
-mine_of start taken wanted c (Lost slot seq cause) w = tt
+mine_of start taken wanted c (Lost x cause) w = w.0
 
 lost_cause : (start : Settled) (taken : List Inbound) (c : ConnId) (seq : Seq) (cause : DropCause) → StandsLost start taken c seq cause → HasCause start taken (Dropped c seq cause)
 lost_cause start taken c seq BadSet h = h
@@ -117,7 +105,7 @@ lost_cause start taken c seq ByFull h = absurd h
 pub fate_caused : (start : Settled) (taken : List Inbound) (wanted : List Want) (c : ConnId) (p : Parked) → Stands start taken wanted c p → AllByRecursion (HasCause start taken) (fate c p)
 fate_caused start taken wanted c (Waits x) w = tt
 fate_caused start taken wanted c (Free d) w = (w.1, tt)
-fate_caused start taken wanted c (Lost slot seq cause) w = (lost_cause start taken c seq cause w.1, tt)
+fate_caused start taken wanted c (Lost x cause) w = (lost_cause start taken c x.seq cause w.2, tt)
 
 pub leaves_caused : (start : Settled) (taken : List Inbound) (wanted : List Want) (c : ConnId) (ps : List Parked) → AllByRecursion (Stands start taken wanted c) ps → AllByRecursion (HasCause start taken) (leaves_of c ps)
 leaves_caused start taken wanted c ps a = leaves_all (Stands start taken wanted c) (HasCause start taken) c [] ps (λ p w. fate_caused start taken wanted c p w) a
@@ -132,7 +120,7 @@ slot_of_place start taken c slots x place mine a = slot_at c slots place.before 
 lane_one : (start : Settled) (taken : List Inbound) (wanted : List Want) (c : ConnId) (slots : ℕ → ℕ) → HaveSlots c slots taken → (p : Parked) → Stands start taken wanted c p → HasLane slots p
 lane_one start taken wanted c slots a (Waits x) w = slot_of_place start taken c slots x w.1.waiting.place w.0 a
 lane_one start taken wanted c slots a (Free d) w = ap (λ (q : Seq). slots q.0) (sym w.1.seq) ∙ slot_of_place start taken c slots w.1.x w.1.place (w.1.conn ∙ w.0) a ∙ ap slot_of w.1.message
-lane_one start taken wanted c slots a (Lost slot seq cause) w = ap (λ (q : Seq). slots q.0) (sym w.0.seq_is) ∙ slot_of_place start taken c slots w.0.x w.0.place w.0.conn a ∙ w.0.slot_is
+lane_one start taken wanted c slots a (Lost x cause) w = slot_of_place start taken c slots x w.1 w.0 a
 
 pub lanes_of_queues : (start : Settled) (taken : List Inbound) (wanted : List Want) (c : ConnId) (slots : ℕ → ℕ) (qs : List QueueView) → HaveSlots c slots taken → AllByRecursion (AllStand start taken wanted) qs → AllByRecursion (HasLane slots) (parked_of c qs)
 lanes_of_queues start taken wanted c slots [] h a = tt
@@ -233,7 +221,7 @@ new_stands start taken s link y e local sets live = by_named (named y.message) r
 
 pub answer_stands : (start : Settled) (taken : List Inbound) (s : Settled) (d : ConnId) (set : QuorumTree) → s ≡ settled_by start taken → is_open d s.queues ≡ true → has_spelling set ≡ true → (c : ConnId) (p : Parked) → Stands start taken s.wanted c p → Stands start (taken ++ inbound.Side d (Set set) ∷ []) (without (hash_of set) s.wanted) c (resolved_one (is_hash (hash_of set)) (by_answer set) p)
 answer_stands start taken s d set e live spelt c (Free delivery) w = (w.0, IsTaken-later start taken (inbound.Side d (Set set)) delivery w.1)
-answer_stands start taken s d set e live spelt c (Lost slot seq cause) w = (WasTaken-later start taken (inbound.Side d (Set set)) c slot seq w.0, lost_later start taken s (inbound.Side d (Set set)) c seq cause e w.1)
+answer_stands start taken s d set e live spelt c (Lost x cause) w = (w.0, later start taken x (inbound.Side d (Set set)) w.1, lost_later start taken s (inbound.Side d (Set set)) c x.seq cause e w.2)
 answer_stands start taken s d set e live spelt c (Waits x) w = by_test (is_hash (hash_of set) (named x.message)) refl
   where
     item : Inbound
@@ -246,15 +234,19 @@ answer_stands start taken s d set e live spelt c (Waits x) w = by_test (is_hash 
     has_it true sane same = (w.0, record { x = x; place = later start taken x item w.1.waiting.place; conn = refl; seq = refl; message = refl; set = set_some x.message set (w.1.waiting.names ∙ ap (λ (h : Hash). Some h) (sym same)) (sane_of_test set sane) })
     has_it false sane same =
         let mine : is_bad w.1.hash s item ≡ true = rw (live, spelt, ← same, same_hash-refl (hash_of set), sane) refl in
-        (record { x = x; place = later start taken x item w.1.waiting.place; conn = w.0; seq_is = refl; slot_is = refl }, record {
-          x = x;
-          conn = w.0;
-          seq_is = refl;
-          hash = w.1.hash;
-          names = w.1.waiting.names;
-          place = later start taken x item w.1.waiting.place;
-          bad = has-later (is_bad w.1.hash) start taken s x item w.1.waiting.place e ∙ or_right (has (is_bad w.1.hash) (behind w.1.waiting.place) w.1.waiting.place.after) (is_bad w.1.hash s item) mine;
-        })
+        let place : Place start (taken ++ item ∷ []) x = later start taken x item w.1.waiting.place in (
+          w.0,
+          place,
+          record {
+            x = x;
+            conn = w.0;
+            seq_is = refl;
+            hash = w.1.hash;
+            names = w.1.waiting.names;
+            place = place;
+            bad = has-later (is_bad w.1.hash) start taken s x item w.1.waiting.place e ∙ or_right (has (is_bad w.1.hash) (behind w.1.waiting.place) w.1.waiting.place.after) (is_bad w.1.hash s item) mine;
+          },
+        )
 
     by_test : (b : Bool) → is_hash (hash_of set) (named x.message) ≡ b → Stands start (taken ++ item ∷ []) (without (hash_of set) s.wanted) c (cond b (by_answer set x) (Waits x))
     by_test true k = has_it (is_sane set) refl (same_hash-true (hash_of set) w.1.hash (as_named true k))
@@ -295,14 +287,14 @@ keeps_missed s miss item hash none hit g is = (none, wanted-missed miss hash s.w
 
 pub miss_stands : (start : Settled) (taken : List Inbound) (s : Settled) (miss : Miss) (item : Inbound) (test : Option Hash → Bool) → s ≡ settled_by start taken → ((hash : Hash) → (is_set hash s item ≡ false) × (is_miss hash s item ≡ is_missed miss hash)) → ((hash : Hash) → is_wanted hash s.wanted ≡ true → test (Some hash) ≡ gives_up miss s.wanted hash) → AllByRecursion (IsWant start taken) s.wanted → (c : ConnId) (p : Parked) → Stands start taken s.wanted c p → Stands start (taken ++ item ∷ []) (missed_by miss s.wanted) c (resolved_one test (lost_by GaveUp) p)
 miss_stands start taken s miss item test e k t ws c (Free delivery) w = (w.0, IsTaken-later start taken item delivery w.1)
-miss_stands start taken s miss item test e k t ws c (Lost slot seq cause) w = (WasTaken-later start taken item c slot seq w.0, lost_later start taken s item c seq cause e w.1)
+miss_stands start taken s miss item test e k t ws c (Lost x cause) w = (w.0, later start taken x item w.1, lost_later start taken s item c x.seq cause e w.2)
 miss_stands start taken s miss item test e k t ws c (Waits x) w = by_test (test (named x.message)) refl
   where
     as_named : (b : Bool) → test (named x.message) ≡ b → gives_up miss s.wanted w.1.hash ≡ b
     as_named b h = sym (t w.1.hash w.1.wanted_still) ∙ sym (ap test w.1.waiting.names) ∙ h
 
-    by_test : (b : Bool) → test (named x.message) ≡ b → Stands start (taken ++ item ∷ []) (missed_by miss s.wanted) c (cond b (Lost (record { 0 = slot_of x.message }) x.seq GaveUp) (Waits x))
-    by_test true h = (record { x = x; place = later start taken x item w.1.waiting.place; conn = w.0; seq_is = refl; slot_is = refl }, given_up_now start taken s miss x item c w.1 w.0 e (k w.1.hash).0 (k w.1.hash).1 (as_named true h) ws)
+    by_test : (b : Bool) → test (named x.message) ≡ b → Stands start (taken ++ item ∷ []) (missed_by miss s.wanted) c (cond b (Lost x GaveUp) (Waits x))
+    by_test true h = (w.0, later start taken x item w.1.waiting.place, given_up_now start taken s miss x item c w.1 w.0 e (k w.1.hash).0 (k w.1.hash).1 (as_named true h) ws)
     by_test false h = (w.0, waits_on start taken s s.wanted (missed_by miss s.wanted) x item e w.1 (keeps_missed s miss item w.1.hash (k w.1.hash).0 (k w.1.hash).1 (as_named false h) w.1.wanted_still))
 
 -- a miss of one hash gives up no other
@@ -324,4 +316,4 @@ head_waits start taken wanted ws q f s = by_head (at_slot s q.parked) (first_wai
     by_head [] a = tt
     by_head (Waits x ∷ ps) a = (a.0.0, record { hash = a.0.1.hash; waiting = a.0.1.waiting; patient = few_of (misses_since a.0.1.waiting) a.0.1.hash wanted a.0.1.wanted_still (all_weaker (IsWant start taken) (λ (want : Want). want.misses < 12) wanted (λ want h. h.1) ws) a.0.1.least })
     by_head (Free d ∷ ps) a = absurd (let bad : false ≡ true = a.1 in cc)
-    by_head (Lost slot seq cause ∷ ps) a = absurd (let bad : false ≡ true = a.1 in cc)
+    by_head (Lost x cause ∷ ps) a = absurd (let bad : false ≡ true = a.1 in cc)

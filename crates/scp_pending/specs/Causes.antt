@@ -165,7 +165,7 @@ abbrev pub HeadWaits : Settled → List Inbound → ConnId → List Parked → T
 HeadWaits start taken c [] = Unit {0}
 HeadWaits start taken c (Waits x ∷ ps) = (x.conn ≡ c) × IsWaiting start taken x
 HeadWaits start taken c (Free delivery ∷ ps) = ⊥
-HeadWaits start taken c (Lost slot seq cause ∷ ps) = ⊥
+HeadWaits start taken c (Lost x cause ∷ ps) = ⊥
 
 pub record IsSettledBy (start : Settled) (taken : List Inbound) (v : PendingView) : Type 0 where
   pub nothing_ready : v.leaving ≡ []

@@ -11,3 +11,4 @@ pub mod Passes
 pub mod Living
 pub mod Waiters
 pub mod Laws
+pub mod Messages

@@ -1,11 +1,12 @@
 -- What holds of what the pending stage took, what it gave, and what it holds.
-use Rattle.std.specs.Prelude.{◌≡◌, Bool, false, List, ◌++◌}
+use Rattle.std.specs.Prelude.{◌≡◌, false, List, [], ◌++◌}
 use Rattle.scp_types.specs.declared.names.NodeId.{NodeId}
 use Rattle.scp_quorum.specs.Sane.{IsSane}
 use Rattle.scp_wire.specs.declared.link.Inbound.{Inbound}
 use Rattle.scp_pending.specs.declared.ready.Ready.{Ready}
 use Rattle.scp_pending.specs.Rules.{PendingView, Settled, fresh, settled_by, released_by}
 use Rattle.scp_pending.specs.Causes.{IsSettledBy}
+use Rattle.scp_pending.specs.Passes.{Passes}
 
 -- what is settled before anything is taken
 abbrev pub start_of : NodeId → List NodeId → PendingView → Settled
@@ -20,3 +21,19 @@ pub record Pends (me : NodeId) (peers : List NodeId) (taken : List Inbound) (giv
 
 abbrev pub IsSettled : NodeId → List NodeId → List Inbound → PendingView → Type 0
 IsSettled me peers taken v = IsSettledBy (start_of me peers v) taken v
+
+-- nothing is ready, and what is held waits rightly, whatever was taken
+abbrev pub IsIdle : PendingView → Type 0
+IsIdle v = (me : NodeId) → (peers : List NodeId) → (taken : List Inbound) → (given : List Ready) → Pends me peers taken given v → IsSettled me peers taken v
+
+-- the same, for the node and the peers that it was made for
+abbrev pub PendsHere : List Inbound → List Ready → PendingView → Type 0
+PendsHere taken given v = Pends v.settled.me v.settled.peers taken given v
+
+-- a stage that took nothing stands so, and has nothing ready
+abbrev pub HereFromNothing : Type 0
+HereFromNothing = (me : NodeId) (peers : List NodeId) (v : PendingView) → Pends me peers [] [] v → PendsHere [] [] v × (v.leaving ≡ [])
+
+-- and what passes for every node and peers passes so
+abbrev pub HerePasses : Type 0
+HerePasses = (more : List Inbound) (out : List Ready) (old new : PendingView) → ((me : NodeId) → (peers : List NodeId) → Passes (Pends me peers) more out old new) → Passes PendsHere more out old new

@@ -71,13 +71,13 @@ is_hash hash (Some other) = same_hash hash other
 abbrev pub waits_for : Hash → Parked → Bool
 waits_for hash (Waits x) = is_hash hash (named x.message)
 waits_for hash (Free delivery) = false
-waits_for hash (Lost slot seq cause) = false
+waits_for hash (Lost x cause) = false
 
 -- the hash that it waits for
 abbrev pub waited_by : Parked → Option Hash
 waited_by (Waits x) = named x.message
 waited_by (Free delivery) = None
-waited_by (Lost slot seq cause) = None
+waited_by (Lost x cause) = None
 
 -- something that is parked of the connection waits for the hash
 abbrev pub is_waiting : ConnId → Hash → List QueueView → Bool
@@ -87,7 +87,7 @@ is_waiting c hash queues = list_any (waits_for hash) (parked_of c queues)
 abbrev pub lane_of : Parked → ℕ
 lane_of (Waits x) = slot_of x.message
 lane_of (Free delivery) = slot_of delivery.message
-lane_of (Lost slot seq cause) = slot.0
+lane_of (Lost x cause) = slot_of x.message
 
 abbrev pub is_at : ℕ → Parked → Bool
 is_at s p = nat_eq (lane_of p) s
@@ -99,7 +99,7 @@ at_slot s ps = filter (is_at s) ps
 abbrev pub waits : Parked → Bool
 waits (Waits x) = true
 waits (Free delivery) = false
-waits (Lost slot seq cause) = false
+waits (Lost x cause) = false
 
 -- behind those that stay, one stays where it waits, and where one of its lane stays before it
 abbrev pub is_held : List Parked → Parked → Bool
@@ -113,7 +113,7 @@ is_empty (p ∷ ps) = false
 abbrev pub fate : ConnId → Parked → List Ready
 fate c (Waits x) = []
 fate c (Free delivery) = Deliver delivery ∷ []
-fate c (Lost slot seq cause) = Dropped c seq cause ∷ []
+fate c (Lost x cause) = Dropped c x.seq cause ∷ []
 
 -- what leaves, behind those that stay
 abbrev pub leaves_behind : ConnId → List Parked → List Parked → List Ready
@@ -165,7 +165,7 @@ in_order_of (hash ∷ hashes) queues = with_first hash (in_order_of hashes queue
 abbrev pub resolved_one : (Option Hash → Bool) → (Carried → Parked) → Parked → Parked
 resolved_one test f (Waits x) = if test (named x.message) then f x else Waits x
 resolved_one test f (Free delivery) = Free delivery
-resolved_one test f (Lost slot seq cause) = Lost slot seq cause
+resolved_one test f (Lost x cause) = Lost x cause
 
 abbrev pub resolved_in : (Option Hash → Bool) → (Carried → Parked) → QueueView → QueueView
 resolved_in test f q = record q { parked = map (resolved_one test f) q.parked }
@@ -178,7 +178,7 @@ abbrev pub with_set : Option QuorumTree → Carried → Parked
 with_set set x = Free (record { conn = x.conn; seq = x.seq; message = x.message; set = set })
 
 abbrev pub lost_by : DropCause → Carried → Parked
-lost_by cause x = Lost (record { 0 = slot_of x.message }) x.seq cause
+lost_by cause x = Lost x cause
 
 -- a message is parked: at the end of its queue, and where it is the first there, its queue stands behind the others
 abbrev pub with_parked : Parked → QueueView → QueueView
@@ -190,7 +190,7 @@ parked_in c p queues = if is_empty (parked_of c queues) then others c queues ++ 
 abbrev pub seq_of : Parked → Seq
 seq_of (Waits x) = x.seq
 seq_of (Free delivery) = delivery.seq
-seq_of (Lost slot seq cause) = seq
+seq_of (Lost x cause) = x.seq
 
 abbrev pub dropped : ConnId → DropCause → Parked → Ready
 dropped c cause p = Dropped c (seq_of p) cause

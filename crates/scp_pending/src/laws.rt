@@ -1,5 +1,7 @@
 //! What follows of the rules, for every list of takes: each law is the contract of a function that does nothing.
 ghost use Rattle.scp_pending.specs.Living.{OpenByPlace};
+ghost use Rattle.scp_pending.specs.Messages.{ParkedStandFor};
+ghost use Rattle.scp_pending.specs.Pends.{HereFromNothing, HerePasses};
 ghost use Rattle.scp_pending.specs.Laws.{AllAccounts, AllExits, AllHaveCauses, CommandsPass, FewAreParked, WaitersWait, WaitersInOrder, WantedWhileWaited};
 
 /// All that was given, and all that is ready, has its cause among what was taken.
@@ -53,4 +55,16 @@ pub fn each_command_passes_once()
 /// on its way.
 pub fn what_is_live_is_so_by_its_place()
     ensures live { OpenByPlace }
+{}
+
+/// The messages that are parked came live, each with its connection, its number and its content; and of each connection they
+/// have the numbers of what is parked of it, in order.
+pub fn what_is_parked_came()
+    ensures parked { ParkedStandFor }
+{}
+
+/// What holds of all that a stage took, gave and is, for the node and the peers that it was made for, holds with one call more.
+pub fn what_holds_of_a_stage_holds_with_one_call_more()
+    ensures nothing { HereFromNothing }
+    ensures more { HerePasses }
 {}

@@ -4,12 +4,13 @@ ghost use Rattle.scp_pending.specs.Rules.{is_given_up};
 ghost use Rattle.scp_quorum.specs.QuorumKind.{set_hash};
 ghost use Rattle.scp_pending.specs.Queues.{named as named_by, hash_of, is_hash, waits_for as waits, waited_by, waits as is_waiting_one, lane_of, is_at, seq_of, resolved_one, lost_by, with_set};
 ghost use Rattle.scp_wire.specs.Lanes.{slot_of};
+ghost use Rattle.scp_pending.specs.Messages.{IsParkedAs};
 ghost use Rattle.scp_pending.specs.Outcome.{outcome_of, HasHash};
 
 use crate::ready::{Delivery, DropCause};
 use scp_fetch::Fetcher;
 use scp_quorum::SaneSet;
-use scp_types::{Fault, Hash, Seq, Slot};
+use scp_types::{ConnId, Fault, Hash, NodeId, Seq, Slot};
 use scp_wire::{Carried, Message};
 use std::sync::Arc;
 
@@ -21,7 +22,7 @@ pub(crate) enum Parked {
     /// It waits for nothing.
     Free(Delivery),
     /// It will be dropped, for this cause.
-    Lost(Slot, Seq, DropCause),
+    Lost(Carried, DropCause),
 }
 
 /// What becomes of the envelopes that wait for a hash.
@@ -66,6 +67,37 @@ pub(crate) fn slot_in(message: &Message) -> Slot
 }
 
 impl Parked {
+    /// Stands where another was taken out. Takes no memory.
+    pub(crate) fn nothing() -> Parked {
+        let nobody = NodeId([0; 32]);
+        Parked::Lost(
+            Carried {
+                conn: ConnId {
+                    from: nobody,
+                    to: nobody,
+                    life: 0,
+                },
+                seq: Seq(0),
+                message: Message::GetRecord(Slot(0)),
+            },
+            DropCause::Closed,
+        )
+    }
+
+    /// The message. Takes no memory.
+    pub(crate) fn into_message(self) -> Carried
+        ensures { IsParkedAs self result }
+    {
+        match self {
+            Parked::Waits(carried) => carried,
+            Parked::Free(delivery) => {
+                let (conn, seq, message, _set) = delivery.into_parts();
+                Carried { conn, seq, message }
+            }
+            Parked::Lost(carried, _cause) => carried,
+        }
+    }
+
     /// The slot that it names: with its connection this is its lane.
     pub(crate) fn slot(&self) -> Slot
         ensures { result.0 ≡ lane_of self.now }
@@ -73,7 +105,7 @@ impl Parked {
         match self {
             Parked::Waits(carried) => slot_in(&carried.message),
             Parked::Free(delivery) => slot_in(delivery.message()),
-            Parked::Lost(slot, ..) => *slot,
+            Parked::Lost(carried, _) => slot_in(&carried.message),
         }
     }
 
@@ -89,7 +121,7 @@ impl Parked {
         match self {
             Parked::Waits(carried) => carried.seq,
             Parked::Free(delivery) => delivery.seq(),
-            Parked::Lost(_, seq, _) => *seq,
+            Parked::Lost(carried, _) => carried.seq,
         }
     }
 
@@ -149,7 +181,7 @@ impl Parked {
         };
         match named(&carried.message) {
             Some(hash) if fetcher.is_at_last_miss(&hash) => {
-                Parked::Lost(slot_in(&carried.message), carried.seq, DropCause::GaveUp)
+                Parked::Lost(carried, DropCause::GaveUp)
             }
             _ => Parked::Waits(carried),
         }
@@ -168,11 +200,7 @@ impl Outcome {
                 carried,
                 Arc::try_clone(set)?,
             ))),
-            Outcome::Lost(cause) => Ok(Parked::Lost(
-                slot_in(&carried.message),
-                carried.seq,
-                *cause,
-            )),
+            Outcome::Lost(cause) => Ok(Parked::Lost(carried, *cause)),
         }
     }
 }

@@ -10,14 +10,18 @@ ghost use Rattle.scp_pending.specs.Outcome.{outcome_of, HasHash};
 ghost use Rattle.scp_quorum.specs.Sane.{IsSane};
 ghost use Rattle.scp_wire.specs.Connections.{same_node};
 ghost use Rattle.scp_pending.specs.Line.{is_message_of, count_held};
-ghost use Rattle.scp_pending.specs.Pends.{Pends, IsSettled};
+ghost use Rattle.std.specs.List.Sorted.{IsStrictlySortedBy};
+ghost use Rattle.scp_wire.specs.Shape.{HasShape};
+ghost use Rattle.scp_pending.specs.Messages.{AreParked, message_cmp};
+ghost use Rattle.scp_pending.specs.Pends.{Pends, IsSettled, IsIdle};
 ghost use Rattle.scp_pending.specs.Passes.{Passes};
 ghost use Rattle.scp_pending.specs.declared.ready.Ready.{Ready};
 
 use crate::parked::{Outcome, Parked, named, slot_in};
 use crate::queue::{
-    Queue, count_of, give, give_up_in_order, has_lane_on, is_link_open as is_link_open_in,
-    place_of, push_to, serve_all, settle_all, take_queue,
+    Queue, count_of, give, give_up_in_order, has_lane_on, in_order,
+    is_link_open as is_link_open_in, messages_of, place_of, push_to, serve_all, settle_all,
+    take_queue,
 };
 use crate::ready::{Delivery, DropCause, Ready};
 use scp_fetch::{Fetcher, Missed, SetStore};
@@ -75,6 +79,8 @@ impl Pending {
         requires few { length peers.items ≤ 7 }
         ensures settled { result.settled ≡ fresh me peers.items local.value }
         ensures pends { Pends me peers.items [] [] result }
+        ensures nothing_ready { result.leaving ≡ [] }
+        ensures idle { IsIdle result }
     {
         let _ = local.set();
         Pending {
@@ -149,6 +155,19 @@ impl Pending {
         ensures { result.now ≡ waiting_for hash.now self.now.settled.wanted }
     {
         self.fetcher.waiting(hash)
+    }
+
+    /// The messages that are parked, once nothing more is taken: ascending by the senders and the lives of their connections,
+    /// and by their numbers; of each connection those that are parked of it. No message is copied. It fails for want of
+    /// memory alone.
+    pub fn into_parked(self) -> Result<Vec<Carried>, Fault>
+        ensures parked { IfOk result (λ messages. (me : NodeId) → (peers : List NodeId) → (taken : List Inbound) → (given : List Ready) → Pends me peers taken given self → AreParked self messages.items) }
+        ensures ascending { IfOk result (λ messages. (me : NodeId) → (peers : List NodeId) → (taken : List Inbound) → (given : List Ready) → Pends me peers taken given self → HasShape me peers taken → IsStrictlySortedBy message_cmp messages.items) }
+        ensures only_memory { IsOkUnless result Fault.NoMemory }
+    {
+        let Pending { alloc, queues, .. } = self;
+        let queues = in_order(queues)?;
+        messages_of(alloc, queues)
     }
 
     /// What an item does, and the message for one link.

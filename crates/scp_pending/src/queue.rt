@@ -1,17 +1,20 @@
 //! The queue of an open connection.
-ghost use Rattle.std.specs.Prelude.{◌≡◌, ◌+◌, ◌<◌, ◌^◌, ◌++◌, ◌∷◌, [], IfOk, OnOk, IfSome, IsSomeAnd, IfNone, is_some, Some, None, true, false, length, map, filter, take, drop, position, option_to_list, remove, slice_get, slice_set as set, get_or};
+ghost use Rattle.std.specs.Prelude.{◌≡◌, ◌+◌, ◌<◌, ◌^◌, ◌++◌, ◌∷◌, [], IfOk, OnOk, IsOkUnless, IfSome, IsSomeAnd, IfNone, is_some, Some, None, true, false, length, map, filter, take, drop, position, option_to_list, remove, slice_get, slice_set as set, get_or};
 ghost use Rattle.std.specs.List.{list_any};
 ghost use Rattle.scp_wire.specs.Connections.{same_conn};
 ghost use Rattle.scp_fetch.specs.Wants.{last_missed};
 ghost use Rattle.scp_pending.specs.Queues.{is_of, is_open, is_link_open as link_open, parked_of, others, parked_in, resolved, served, leaving_of, is_hash, is_empty as none_parked, is_at, is_held, fate, leaves_of, stays_of, stays_in, leaves_in, is_head_waiting as has_waiting_head, with_first, in_order_of, resolved_one, resolved_in, dropped, lost_by, with_parked};
 ghost use Rattle.scp_pending.specs.Rules.{is_given_up};
-ghost use Rattle.scp_pending.specs.Outcome.{outcome_of, HasHash, IsPlace};
+ghost use Rattle.std.specs.List.Sorted.{IsPermutation, IsSortedByKey};
+ghost use Rattle.scp_types.specs.Order.{conn_cmp};
+ghost use Rattle.scp_pending.specs.Outcome.{outcome_of, HasHash, IsPlace, Adds, parked_in_all};
 ghost use Rattle.scp_pending.specs.declared.parked.Parked.{Parked};
 
 use crate::parked::{Outcome, Parked, named};
 use crate::ready::{DropCause, Ready};
 use scp_fetch::Fetcher;
-use scp_types::{ConnId, Fault, Hash, NodeId, Seq, Slot};
+use scp_types::{ConnId, Fault, Hash, NodeId, Slot};
+use scp_wire::Carried;
 use std::alloc::Global;
 use std::collections::VecDeque;
 use std::marker::Model;
@@ -38,6 +41,15 @@ impl Model for Queue {
 }
 
 impl Queue {
+    /// Adds its messages, in order.
+    pub(crate) fn add_messages(self, messages: &mut Vec<Carried>) -> Result<(), Fault>
+        ensures added { OnOk result (Adds self.parked messages.old.items messages.new.items) }
+        ensures only_memory { IsOkUnless result Fault.NoMemory }
+    {
+        let Queue { conn: _, parked } = self;
+        add_each(parked, messages)
+    }
+
     pub(crate) fn new(alloc: Global, conn: ConnId) -> Queue
         ensures { result ≡ record { conn = conn; parked = [] } }
     {
@@ -141,6 +153,45 @@ fn has_lane(kept: &VecDeque<Parked>, slot: Slot) -> bool
     kept.iter().any(|other| other.is_at(slot))
 }
 
+fn add_each(mut parked: VecDeque<Parked>, messages: &mut Vec<Carried>) -> Result<(), Fault>
+    ensures added { OnOk result (Adds parked.items messages.old.items messages.new.items) }
+    ensures only_memory { IsOkUnless result Fault.NoMemory }
+{
+    while let Some(p) = next_parked(&mut parked) {
+        messages.push(p.into_message())?;
+    }
+    Ok(())
+}
+
+fn next_parked(parked: &mut VecDeque<Parked>) -> Option<Parked>
+    ensures items { parked.old.items ≡ option_to_list result ++ parked.new.items }
+    ensures none { IfNone result (parked.old.items ≡ []) }
+{
+    parked.pop_front()
+}
+
+/// The messages of the queues, queue after queue.
+pub(crate) fn messages_of(alloc: Global, queues: Vec<Queue>) -> Result<Vec<Carried>, Fault>
+    ensures added { IfOk result (λ messages. Adds (parked_in_all queues.items) [] messages.items) }
+    ensures only_memory { IsOkUnless result Fault.NoMemory }
+{
+    let mut messages = Vec::new(alloc);
+    for queue in queues {
+        queue.add_messages(&mut messages)?;
+    }
+    Ok(messages)
+}
+
+/// The queues in the order of their connections.
+pub(crate) fn in_order(mut queues: Vec<Queue>) -> Result<Vec<Queue>, Fault>
+    ensures same { IfOk result (λ sorted. IsPermutation queues.items sorted.items) }
+    ensures sorted { IfOk result (λ sorted. IsSortedByKey (λ q. q.conn) conn_cmp sorted.items) }
+    ensures only_memory { IsOkUnless result Fault.NoMemory }
+{
+    queues.sort_by_key(|queue: &Queue| queue.conn())?;
+    Ok(queues)
+}
+
 fn drop_each(
     conn: ConnId,
     parked: &VecDeque<Parked>,
@@ -201,7 +252,7 @@ fn settle_at(
     requires place { place < length parked.old.items }
     ensures { OnOk result ((d : Parked) → parked.new.items ≡ set parked.old.items place (resolved_one (is_hash hash.now) (outcome_of outcome.now) (get_or parked.old.items place d))) }
 {
-    let waiting = mem::replace(&mut parked[place], Parked::Lost(Slot(0), Seq(0), DropCause::Closed));
+    let waiting = mem::replace(&mut parked[place], Parked::nothing());
     parked[place] = waiting.settled(hash, outcome)?;
     Ok(())
 }
@@ -223,9 +274,13 @@ pub(crate) fn give(conn: ConnId, parked: Parked, leaving: &mut VecDeque<Ready>) 
     ensures { OnOk result (leaving.new.items ≡ leaving.old.items ++ fate conn parked) }
 {
     match parked {
-        Parked::Waits(_) => {}
+        Parked::Waits(_carried) => {}
         Parked::Free(delivery) => leaving.push_back(Ready::Deliver(delivery))?,
-        Parked::Lost(_, seq, cause) => leaving.push_back(Ready::Dropped { conn, seq, cause })?,
+        Parked::Lost(carried, cause) => {
+            let seq = carried.seq;
+            drop(carried);
+            leaving.push_back(Ready::Dropped { conn, seq, cause })?;
+        }
     }
     Ok(())
 }

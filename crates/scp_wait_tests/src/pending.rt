@@ -744,3 +744,56 @@ fn the_65_of_several_lanes_leave_in_the_order_of_their_numbers(
     assert!(rt; gives(alloc, &[Pairs(TWO, 64, 2), InSlot(TWO, 128, 1, 2)], &want)?);
     Ok(())
 }
+
+/// A parked envelope: its connection, its number there, its slot, and the set that it names.
+type Place = (ConnId, u64, u64, u8);
+
+fn place(names: &Names, carried: &Carried) -> Place {
+    let (slot, set) = match &carried.message {
+        Message::Envelope(envelope) => (envelope.get().statement.slot.0, number(names, &envelope.set_hash())),
+        _ => (0, 9),
+    };
+    (carried.conn, carried.seq.0, slot, set)
+}
+
+/// Whether just these are parked after these events, on a stage with both links open.
+fn parks(alloc: Global, events: &[Event], want: &[Place]) -> Result<bool, Fault> {
+    let mut log = Vec::new(alloc);
+    let mut pending = stage(alloc, 1)?;
+    play_all(alloc, &mut pending, &[Opened(TWO), Opened(THREE)], &mut log)?;
+    play_all(alloc, &mut pending, events, &mut log)?;
+    let names = names(alloc)?;
+    let mut places = Vec::new(alloc);
+    for carried in pending.into_parked()? {
+        places.push(place(&names, &carried))?;
+    }
+    Ok(places.as_slice() == want)
+}
+
+/// The queue of node 3 begins to wait first. Of node 2 the second message is lost, and stays behind the first of its lane;
+/// the third has its set.
+#[test]
+fn what_is_parked_is_told_by_sender_and_number(rt: HostRuntime) -> Result<(), Fail> {
+    assert!(rt;
+        parks(
+            rt.alloc(),
+            &[
+                Names(THREE, 0, 2),
+                InSlot(TWO, 0, 7, 3),
+                InSlot(TWO, 1, 7, 0),
+                InSlot(TWO, 2, 7, 1),
+                InSlot(TWO, 3, 8, 1),
+                InSlot(THREE, 1, 9, 4),
+                Set(THREE, 0)
+            ],
+            &[
+                (TWO, 0, 7, 3),
+                (TWO, 1, 7, 0),
+                (TWO, 2, 7, 1),
+                (THREE, 0, 1, 2),
+                (THREE, 1, 9, 4)
+            ],
+        )?
+    );
+    Ok(())
+}
