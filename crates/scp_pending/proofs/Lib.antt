@@ -21,10 +21,10 @@ pub mod Exiting
 pub mod Ending
 pub mod Living
 pub mod Settling
-pub mod Firsts
-pub mod Numbers
-pub mod Ordering
 pub mod Linked
 pub mod Messaging
 pub mod Ascending
 pub mod Here
+pub mod Firsts
+pub mod Numbers
+pub mod Ordering

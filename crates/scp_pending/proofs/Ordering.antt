@@ -47,7 +47,7 @@ use Rattle.scp_pending.proofs.Numbers.{HasOther, IsOther, OfPeer, others_came}
 under-not : (hash : Hash) (seq : Seq) (p : Parked) → waits p ≡ false → waits_under hash seq p ≡ false
 under-not hash seq (Waits x) e = absurd cc
 under-not hash seq (Free d) e = refl
-under-not hash seq (Lost slot q cause) e = refl
+under-not hash seq (Lost x cause) e = refl
 
 under-stays : (hash : Hash) (seq : Seq) (kept ps : List Parked) → list_any (waits_under hash seq) (stays_behind kept ps) ≡ list_any (waits_under hash seq) ps
 under-stays hash seq kept [] = refl
@@ -61,7 +61,7 @@ under-stays hash seq kept (p ∷ ps) = by_test (is_held kept p) refl (under-stay
 module _ (test : Option Hash → Bool) (f : Carried → Parked) (hash : Hash) (none : (x : Carried) → waits_for hash (f x) ≡ false) where
   under-one : (seq : Seq) (p : Parked) → waits_under hash seq (resolved_one test f p) ≡ (waits_under hash seq p && not (test (Some hash)))
   under-one seq (Free d) = refl
-  under-one seq (Lost slot q cause) = refl
+  under-one seq (Lost x cause) = refl
   under-one seq (Waits x) = by_tests (test (named x.message)) (test (Some hash)) refl refl
     where
       number : Bool
@@ -122,7 +122,7 @@ unparked start taken wanted hash x (q ∷ qs) o a = by_test (is_of x.conn q) ref
         let number : nat_eq y.seq.0 x.seq.0 ≡ false = came (ap (λ (c : ConnId). same_conn c x.conn) w.0 ∙ mine) in
         ap (λ b. is_hash hash (named y.message) && b) number ∙ and_none (is_hash hash (named y.message))
     one mine (Free d) w = refl
-    one mine (Lost slot seq cause) w = refl
+    one mine (Lost x cause) w = refl
 
     none : same_conn q.conn x.conn ≡ true → (ps : List Parked) → AllByRecursion (Stands start taken wanted q.conn) ps → list_any (waits_under hash x.seq) ps ≡ false
     none mine [] b = refl

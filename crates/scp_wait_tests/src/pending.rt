@@ -759,7 +759,7 @@ fn place(names: &Names, carried: &Carried) -> Place {
 /// Whether just these are parked after these events, on a stage with both links open.
 fn parks(alloc: Global, events: &[Event], want: &[Place]) -> Result<bool, Fault> {
     let mut log = Vec::new(alloc);
-    let mut pending = stage(alloc)?;
+    let mut pending = stage(alloc, 1)?;
     play_all(alloc, &mut pending, &[Opened(TWO), Opened(THREE)], &mut log)?;
     play_all(alloc, &mut pending, events, &mut log)?;
     let names = names(alloc)?;
