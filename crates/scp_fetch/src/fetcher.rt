@@ -19,7 +19,8 @@ pub const MISS_LIMIT: u8 = 12;
 pub const LINK_LIMIT: u8 = 8;
 
 /// The hashes that are wanted, in the order in which they became so, each with its misses, the links that were asked, and the
-/// connections that wait for it.
+/// connections that wait for it. A look-up is one by a hash table; a miss of all, an opened link and the end of a connection
+/// walk them, and the end of a want moves those behind it.
 #[derive(Debug, Drop)]
 pub struct Fetcher {
     wants: IndexMap<[u8; 32], Want>,

@@ -157,7 +157,8 @@ fn note(want: &mut Want, link: usize, conn: &ConnId) -> Result<bool, Fault>
     Ok(asks)
 }
 
-/// The link is asked and the connection waits, where the hash is wanted: then whether the link wasn't asked before.
+/// The link is asked and the connection waits, where the hash is wanted: then whether the link wasn't asked before. One look-up
+/// does all of it, since each message that waits needs it.
 pub fn note_asked(
     wants: &mut IndexMap<[u8; 32], Want>,
     hash: &Hash,
