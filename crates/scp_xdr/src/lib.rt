@@ -24,7 +24,8 @@ pub use room::{spend_fixed, spend_opaque, spend_u32, spend_u64};
 pub use writer::Writer;
 pub use xdr::{
     Xdr, a_spelling_has_its_length, array_fits, check, decode, encode, encode_within, is_spelling,
-    no_spelling_begins_another, numbered_fits, optional_fits, pass_array, pass_numbered, pass_optional,
-    passing_is_reading_without_the_value, read_array, read_numbered, read_optional, spend_array, spend_optional,
-    what_is_written_is_read_back, write_array, write_numbered, write_optional,
+    no_spelling_begins_another, numbered_fits, optional_fits, pass_array, pass_numbered,
+    pass_optional, passing_is_reading_without_the_value, read_array, read_numbered, read_optional,
+    spend_array, spend_optional, what_is_written_is_read_back, write_array, write_numbered,
+    write_optional,
 };
