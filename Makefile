@@ -1,11 +1,15 @@
 # What the README names. `rt` is the toolchain's command.
 SCRIPT ?= examples/four_nodes.scp
 
-.PHONY: run build test check try bench wrong-bodies
+.PHONY: run quick build test check try bench wrong-bodies
 
 # prints the report of the first script, on an unproved build, within two minutes
 run:
 	@scripts/run
+
+# leaves the programs unproved as out/unproved/scp_line, scp_text and scp_slot, in a minute or two for each
+quick:
+	@scripts/quick
 
 # proves and builds what the program stands on, and leaves it as out/scp_line
 build:
@@ -19,7 +23,7 @@ test:
 check:
 	@rt all check
 
-# runs a script unproved: make try SCRIPT=FILE
+# runs a script unproved, or each of a folder: make try SCRIPT=FILE (on what make quick left, where that is newer than the sources)
 try:
 	@scripts/run $(SCRIPT)
 

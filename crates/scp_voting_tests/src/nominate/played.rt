@@ -18,7 +18,7 @@ pub type Values = &'static [&'static [u8]];
 /// What a nominator is given: another node's votes and accepted values, a proposal, or one round more.
 #[derive(Clone, Copy)]
 pub enum Input {
-    Hear(Values, Values),
+    Hear(NodeId, Values, Values),
     Propose(&'static [u8]),
     Round,
 }
@@ -129,21 +129,24 @@ fn is_wanted(given: &Nominated, me: NodeId, set_hash: Hash, row: &Row) -> bool {
     said && composite
 }
 
-/// One input, in which `other` is heard.
+/// One input to this node's nominator, which doesn't hear itself.
 fn put<D: Driver + Drop>(
     alloc: Global,
     nominator: &mut Nominator<D>,
-    other: NodeId,
+    me: NodeId,
     set: &Arc<SaneSet>,
     input: Input,
 ) -> Result<Nominated, Fault>
     requires sound { IsSound D.level D.place nominator.old }
-    requires other { other ≢ (nomination nominator.old).board.me }
+    requires me { (nomination nominator.old).board.me ≡ me }
     ensures sound { IsSound D.level D.place nominator.new }
-    ensures me { OnOk result ((nomination nominator.new).board.me ≡ (nomination nominator.old).board.me) }
+    ensures me { OnOk result ((nomination nominator.new).board.me ≡ me) }
 {
     match input {
-        Input::Hear(votes, accepted) => {
+        Input::Hear(other, votes, accepted) => {
+            if other == me {
+                return Err(Fault::BadConfig);
+            }
             let envelope = nominate(alloc, other, set.hash(), votes, accepted)?;
             nominator.take(SharedEnvelope::new(alloc, envelope)?, set.clone()?)
         }
@@ -157,17 +160,13 @@ pub fn gives<D: Driver + Drop>(
     alloc: Global,
     driver: D,
     me: NodeId,
-    other: NodeId,
     rows: &[Row],
 ) -> Result<bool, Fault> {
-    if me == other {
-        return Ok(false);
-    }
     let set = both(alloc)?;
     let mut nominator = Nominator::new(alloc, me, Slot(1), set.clone()?, driver)?;
     let mut all = true;
     for row in rows {
-        let given = put(alloc, &mut nominator, other, &set, row.input)?;
+        let given = put(alloc, &mut nominator, me, &set, row.input)?;
         if !is_wanted(&given, me, set.hash(), row) {
             all = false;
         }

@@ -1,9 +1,9 @@
-use Rattle.std.proofs.Common.{◌≢◌}
+use Rattle.std.proofs.Common.{◌≡◌}
 use Rattle.scp_nominate.specs.Nomination.{nomination, IsSound}
 use Rattle.scp_voting_tests.proofs.nominate.played.gives.Given as goal
 
 abbrev pub invariant-loop-row : goal.invariant-loop-row
 invariant-loop-row g l = record {
   sound : IsSound g.D.Driver.level g.D.Driver.place l.nominator;
-  other : l.other ≢ (nomination l.nominator).board.me;
+  me : (nomination l.nominator).board.me ≡ l.me;
 }
