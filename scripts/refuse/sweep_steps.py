@@ -3,11 +3,12 @@
 
 usage: sweep_steps.py PROGRAM
 
-PROGRAM is scp_line_cli as it was built. The script is made here: node 1 takes its messages, and after it node 2, each a record whose value
-has a length of its own. An allocation of just so many bytes is made where a step reads or keeps that value, and nowhere else: reading the
+PROGRAM is scp_line_cli as it was built. The script is made here: node 1 takes records in one batch, and after it node 2 takes records one by
+one, and the value of each has a length of its own. An allocation of just so many bytes is made where a step reads or keeps that value, and nowhere else: reading the
 script asks for the digits' bytes, which are more, and a report for its text. From the first such allocation of a node to its last
 nothing runs but its steps, so each refusal in that range must print `fault 10 node I`, with that node, and nothing else, with status 3;
-between the ranges of the two nodes one of the two must be named; farther off a refusal is the failure of the nearer node or want of memory.
+between the ranges of the two nodes, where the lines of node 2 are played too, one of the two is named or memory is wanted; farther off a
+refusal is the failure of the nearer node or want of memory.
 It ends with status 1 where one is told otherwise, or where a node has no such allocation.
 """
 
@@ -20,18 +21,26 @@ from runs import Room
 LENGTHS = {1: (3001, 3005, 3009), 2: (3013, 3017, 3021)}  # of the values that each node takes, in the order of their slots
 
 
-def record(slot, length):
-    """A record of this slot with a value of so many bytes, as digits."""
-    value = bytes([slot]) * length + bytes(-length % 4)
-    return (b"\0\0\0\6" + slot.to_bytes(8, "big") + length.to_bytes(4, "big") + value).hex()
+def value(slot, length):
+    """A value of so many bytes, with its length and its padding."""
+    return length.to_bytes(4, "big") + bytes([slot]) * length + bytes(-length % 4)
+
+
+def messages(node):
+    """The records of a node, those of node 1 in one batch, as digits."""
+    values = [value(slot, length) for slot, length in enumerate(LENGTHS[node], 1)]
+    if node == 1:
+        return [(b"\0\0\0\7" + (1).to_bytes(8, "big") + len(values).to_bytes(4, "big") + b"".join(values)).hex()]
+    return [(b"\0\0\0\6" + slot.to_bytes(8, "big") + it).hex() for slot, it in enumerate(values, 1)]
 
 
 def script():
-    """The lines of both nodes: the messages of node 1 come before those of node 2."""
+    """The lines of both nodes: node 1 takes its messages before node 2 does."""
     lines = ["nodes 2 2"]
     for node, lengths in LENGTHS.items():
         lines.append(f"open {3 - node} {node}")
-        lines += [f"send {3 - node} {node} {record(slot, length)}" for slot, length in enumerate(lengths, 1)]
+        lines += [f"ask {node} {3 - node} {slot}" for slot, _ in enumerate(lengths, 1)]
+        lines += [f"send {3 - node} {node} {digits}" for digits in messages(node)] + ["settle"]
     return "\n".join([*lines, "report 1", "report 2", ""])
 
 
@@ -67,7 +76,7 @@ def main(program):
                 return {failures[node]}
         if k < ranges[1].start:
             return elsewhere | {failures[1]}
-        return set(failures.values()) if k < ranges[2].start else elsewhere | {failures[2]}
+        return elsewhere | (set(failures.values()) if k < ranges[2].start else {failures[2]})
 
     bad = 0
     for k, it in ended.items():
