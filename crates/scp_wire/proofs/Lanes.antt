@@ -1,9 +1,9 @@
 -- Lines seen lane by lane.
-use Rattle.std.proofs.Common.{length, length-append, append_assoc, arith, ◌≡◌, ℕ, ◌+◌, Bool, true, false, cond, List, [], ◌∷◌, ◌++◌, refl, sym, ◌∙◌, ap, subst, map, inl, inr, ◌⊎◌}
+use Rattle.std.proofs.Common.{length, length-append, append_assoc, ◌≡◌, ℕ, ◌+◌, Bool, true, false, cond, List, [], ◌∷◌, ◌++◌, refl, sym, ◌∙◌, ap, subst, map, inl, inr}
 use Rattle.std.specs.Prelude.{Option, Some, None, option_to_list, filter, nat_eq, slice_get}
 use Rattle.scp_wire.specs.declared.link.Cause.{Cause}
 use Rattle.scp_wire.specs.declared.link.Cause.TheVariants.{ParkedFull}
-use Rattle.scp_wire.specs.Marks.{Mark, number, ended, IsCut, IsWhole}
+use Rattle.scp_wire.specs.Marks.{Mark, number, ended}
 use Rattle.scp_wire.specs.declared.message.Message.{Message}
 use Rattle.scp_wire.specs.Sent.{numbers}
 use Rattle.scp_wire.specs.Lanes.{slot_of, slot_in, slots_of, is_in_lane, in_lane, lane_numbers, LanesOfSent, EndsLast, FollowsIn, WholeFollows}

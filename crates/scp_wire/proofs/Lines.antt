@@ -1,18 +1,18 @@
 -- What comes in order makes a line of numbers without a gap.
-use Rattle.std.proofs.Common.{◌≡◌, ◌≢◌, ℕ, ◌+◌, ◌<◌, ◌≤◌, Bool, true, false, cond, List, [], ◌∷◌, ◌++◌, refl, sym, ◌∙◌, ap, subst, nat_eq, arith, append_assoc, length, eq-eqb, zero, suc, add-one, length-append}
-use Rattle.std.specs.Prelude.{Option, Some, None, fold, if◌then◌else◌, filter, flat_map, slice_get, ◌&&◌}
+use Rattle.std.proofs.Common.{◌≡◌, ◌≢◌, ℕ, ◌+◌, ◌<◌, Bool, true, false, cond, List, [], ◌∷◌, ◌++◌, refl, sym, ◌∙◌, ap, subst, nat_eq, arith, append_assoc, length, zero, suc, length-append}
+use Rattle.std.specs.Prelude.{Some, filter, flat_map, slice_get, ◌&&◌}
 use Rattle.std.specs.List.{AllByRecursion}
 use Rattle.std.proofs.lemmas.Grind.{flat_map-append}
 use Rattle.std.proofs.lemmas.List.{append-nil}
 use Rattle.std.proofs.lemmas.Cmp.{nat_list_eq_equiv}
-use Rattle.std.proofs.lemmas.Bool.{ne_eqb, eqb-true, eqb-false}
+use Rattle.std.proofs.lemmas.Bool.{eqb-true, eqb-false}
 use Rattle.scp_types.specs.declared.names.ConnId.{ConnId}
 use Rattle.scp_types.specs.declared.names.NodeId.{NodeId}
 use Rattle.scp_wire.specs.declared.message.Message.{Message}
 use Rattle.scp_wire.specs.declared.link.Inbound.{Inbound}
 use Rattle.scp_wire.specs.declared.link.Inbound.TheVariants.{Opened, Carried, Side, Closed, Local}
 use Rattle.scp_wire.specs.Connections.{conn_at, same_conn, same_node}
-use Rattle.scp_wire.specs.Shape.{Come, nothing_came, comes, MayCome, AreInOrder, is_from, of_peer}
+use Rattle.scp_wire.specs.Shape.{Come, nothing_came, AreInOrder, is_from, of_peer}
 use Rattle.scp_wire.specs.Marks.{Mark, number, ended, one_if, came_mark, marks_in, came_message, messages_in, Follows}
 
 -- ---- connections

@@ -1,5 +1,5 @@
 -- A carried message under its number.
-use Rattle.std.proofs.Common.{◌≡◌, ℕ, Bool, true, false, refl, sym, ◌∙◌, ap, nat_eq, cond}
+use Rattle.std.proofs.Common.{◌≡◌, ℕ, Bool, false, refl, ap, nat_eq}
 use Rattle.std.specs.Prelude.{if◌then◌else◌}
 use Rattle.scp_types.specs.declared.names.ConnId.{ConnId}
 use Rattle.scp_wire.specs.declared.message.Message.{Message}

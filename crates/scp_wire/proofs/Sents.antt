@@ -1,9 +1,8 @@
 -- What is read of a connection is what was sent on it.
-use Rattle.std.proofs.Common.{◌≡◌, ◌≢◌, ℕ, ◌+◌, ◌-◌, ◌<◌, ◌≤◌, Bool, true, false, cond, List, [], ◌∷◌, ◌++◌, refl, sym, ◌∙◌, ap, subst, nat_eq, arith, append_assoc, length, zero, suc, add-one, take, inl, inr, ◌⊎◌}
-use Rattle.std.specs.Prelude.{Option, Some, None, fold, option_to_list, if◌then◌else◌, flat_map, nat_lt, ◌||◌, ◌&&◌, map, filter, not, is_some}
-use Rattle.std.proofs.lemmas.List.{append-nil}
+use Rattle.std.proofs.Common.{◌≡◌, ◌≢◌, ℕ, ◌+◌, ◌-◌, ◌<◌, ◌≤◌, Bool, true, false, List, [], ◌∷◌, ◌++◌, refl, sym, ◌∙◌, ap, subst, nat_eq, arith, length, zero, suc, take}
+use Rattle.std.specs.Prelude.{Option, Some, None, option_to_list, if◌then◌else◌, nat_lt, map, filter, not, is_some}
 use Rattle.std.proofs.lemmas.List.Elements.{filter-append}
-use Rattle.std.proofs.lemmas.Bool.{ne_eqb, eqb-true, eqb-false}
+use Rattle.std.proofs.lemmas.Bool.{eqb-true, eqb-false}
 use Rattle.std.proofs.lemmas.Bool.Decides.{nat_tests}
 use Rattle.scp_types.specs.declared.names.ConnId.{ConnId}
 use Rattle.scp_types.specs.declared.names.NodeId.{NodeId}
@@ -19,11 +18,11 @@ use Rattle.scp_wire.specs.declared.link.Cause.{Cause}
 use Rattle.scp_wire.specs.declared.link.Cause.TheVariants.{Malformed, Link, Spent}
 use Rattle.scp_wire.specs.Carried.{is_carried}
 use Rattle.scp_wire.specs.Reading.{reading_of}
-use Rattle.scp_wire.specs.LinkReading.{ReaderView, unread, reading, after, readings, brought, after_read, brought_one, brought_each, after_one, after_each, next_of, is_spent, singles, numbered}
+use Rattle.scp_wire.specs.LinkReading.{ReaderView, unread, reading, after, readings, brought, after_read, brought_each, after_each, next_of, is_spent, singles, numbered}
 use Rattle.scp_wire.specs.Connections.{conn_at, same_conn}
-use Rattle.scp_wire.specs.Shape.{Tail, never_open, goes, MayGo, AreOfLink}
-use Rattle.scp_wire.specs.Marks.{Mark, number, ended, one_if, came_mark, marks_in, came_message, messages_in, is_of, of_conn}
-use Rattle.scp_wire.specs.Sent.{sent_by, closed_by, sent, is_closed, readable, all_readable, all_carried, carried_of, end_of, numbers, line_of_sent, readable_from, opened_by, opened, up_to, in_turn, read_of_sent}
+use Rattle.scp_wire.specs.Shape.{Tail, never_open, AreOfLink}
+use Rattle.scp_wire.specs.Marks.{number, ended, one_if, came_mark, marks_in, came_message, messages_in, is_of, of_conn}
+use Rattle.scp_wire.specs.Sent.{sent_by, closed_by, sent, is_closed, readable, all_readable, carried_of, numbers, line_of_sent, readable_from, opened_by, opened, up_to, in_turn, read_of_sent}
 use Rattle.scp_wire.specs.ReaderLaws.{IsSent, ReadingsAreSent}
 use Rattle.std.specs.List.{AllByRecursion}
 use Rattle.scp_wire.proofs.Shapes.{IsSingle, all_single}

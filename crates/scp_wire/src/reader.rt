@@ -96,7 +96,8 @@ impl LinkReader {
 
     /// Whether something is left of a batch.
     pub fn has_rest(&self) -> bool
-        ensures { IsTrue result ↔ (self.now.rest ≢ []) }
+        ensures some { IsTrue result ↔ (self.now.rest ≢ []) }
+        ensures none { (result ≡ false) ↔ (self.now.rest ≡ []) }
     {
         !self.rest.is_empty()
     }

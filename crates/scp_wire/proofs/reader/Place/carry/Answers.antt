@@ -1,4 +1,4 @@
-use Rattle.std.proofs.Common.{rules, arith, ◌≡◌, ◌∙◌, ap, refl, sym, false, nat_eq}
+use Rattle.std.proofs.Common.{arith, ◌≡◌, ◌∙◌, ap, refl, false, nat_eq}
 use Rattle.std.proofs.lemmas.Bool.Decides.{nat_tests}
 use Rattle.scp_wire.specs.LinkReading.{brought_one}
 use Rattle.scp_wire.proofs.Numbered.{brought_one_carried}

@@ -1,6 +1,5 @@
-use Rattle.std.proofs.Common.{◌≡◌, ℕ, ◌+◌, ◌<◌, ◌≤◌, true, false, List, [], ◌∷◌, ◌++◌, length, refl, sym, ap, ◌∙◌, append_assoc, length-append, arith}
-use Rattle.std.specs.Vec.Iter.{into_iter_items}
-use Rattle.scp_wire.specs.LinkReading.{ReaderView, brought_each, after_each, records_from, brought_one, after_one}
+use Rattle.std.proofs.Common.{◌≡◌, ◌+◌, ◌<◌, true, false, List, [], ◌∷◌, ◌++◌, length, refl, sym, ap, ◌∙◌, append_assoc, length-append, arith}
+use Rattle.scp_wire.specs.LinkReading.{ReaderView, after_each, records_from, brought_one, after_one}
 use Rattle.scp_wire.specs.declared.message.Message.TheVariants.{Record}
 use Rattle.scp_wire.proofs.Shapes.{batch_runs, batch_is_over}
 use Rattle.scp_wire.proofs.reader.Place.number_all.Goals as goal
