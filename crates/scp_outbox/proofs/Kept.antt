@@ -14,7 +14,7 @@ use Rattle.circular_buffer.specs.Buffer.{keep_last}
 use Rattle.scp_envelope.specs.declared.statement.Statement.{Statement}
 use Rattle.scp_wire.specs.Boxed.{Boxed}
 use Rattle.scp_wire.specs.declared.message.Message.{Message}
-use Rattle.scp_wire.specs.declared.message.Message.TheVariants.{Envelope, GetSet, Set, NoSet, GetRecord, Record}
+use Rattle.scp_wire.specs.declared.message.Message.TheVariants.{Envelope, GetSet, Set, NoSet, GetRecord, Record, Records}
 use Rattle.scp_outbox.specs.Fitting.{IsFitting}
 use Rattle.scp_outbox.specs.declared.mark.Mark.{Mark}
 use Rattle.scp_outbox.specs.declared.mark.Out.{Out}
@@ -152,6 +152,7 @@ puts_known v (Set set) new h fits k = subst IsOutbox (sym k) (ring_takes_known v
 puts_known v (NoSet hash) new h fits k = subst IsOutbox (sym k) (ring_takes_known v (NoSet hash) h fits)
 puts_known v (GetRecord slot) new h fits k = subst IsOutbox (sym k) (ring_takes_known v (GetRecord slot) h fits)
 puts_known v (Record slot value) new h fits k = subst IsOutbox (sym k) (ring_takes_known v (Record slot value) h fits)
+puts_known v (Records first values) new h fits k = subst IsOutbox (sym k) (ring_takes_known v (Records first values) h fits)
 
 statements_given_known : (v : OutboxView) (xs : List Boxed) → v.statements ≡ xs → IsOutbox v → IsOutbox (given_statements v xs).1 × IfMessage (given_statements v xs).0 IsFitting
 statements_given_known v [] is h = (h, tt)
