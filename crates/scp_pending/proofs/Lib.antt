@@ -21,3 +21,4 @@ pub mod Exiting
 pub mod Ending
 pub mod Living
 pub mod Settling
+pub mod Placing

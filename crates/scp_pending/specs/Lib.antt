@@ -10,3 +10,4 @@ pub mod Pends
 pub mod Passes
 pub mod Living
 pub mod Laws
+pub mod Placing

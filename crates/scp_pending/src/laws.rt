@@ -1,5 +1,6 @@
 //! What follows of the rules, for every list of takes: each law is the contract of a function that does nothing.
 ghost use Rattle.scp_pending.specs.Living.{OpenByPlace};
+ghost use Rattle.scp_pending.specs.Placing.{CommandsKeepPlace};
 ghost use Rattle.scp_pending.specs.Laws.{AllAccounts, AllExits, AllHaveCauses, CommandsPass, FewAreParked, WaitersWait};
 
 /// All that was given, and all that is ready, has its cause among what was taken.
@@ -42,4 +43,10 @@ pub fn each_command_passes_once()
 /// on its way.
 pub fn what_is_live_is_so_by_its_place()
     ensures live { OpenByPlace }
+{}
+
+/// Each local command stands among what is given where it came: behind just what left by what came before it, each with its
+/// cause among that.
+pub fn each_command_keeps_its_place()
+    ensures place { CommandsKeepPlace }
 {}
