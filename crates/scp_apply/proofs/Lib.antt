@@ -1,3 +1,4 @@
 pub mod Applying
 pub mod Values
 pub mod Next
+pub mod Taking

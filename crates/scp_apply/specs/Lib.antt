@@ -2,3 +2,4 @@ pub mod Applied
 pub mod Applier
 pub mod Inside
 pub mod Laws
+pub mod Applies

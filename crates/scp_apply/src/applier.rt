@@ -70,6 +70,19 @@ impl Applier {
         Some(&self.slots.state)
     }
 
+    /// What is applied, and the state, which is none once failed; once nothing more is taken. Takes no memory.
+    pub fn into_applied(self) -> (Vec<SharedDecision>, Option<KvState>)
+        ensures applied { result.0.items ≡ self.applied }
+        ensures state { result.1 ≡ self.state }
+    {
+        let Applier { slots, failed } = self;
+        let Slots { applied, state, .. } = slots;
+        if failed {
+            return (applied, None);
+        }
+        (applied, Some(state))
+    }
+
     /// The value of a slot, if it is applied. Constant time.
     pub fn value_at(&self, slot: Slot) -> Option<&Value>
         ensures { option_copied result ≡ value_of slot.0 self.now.applied }

@@ -14,4 +14,6 @@ mod laws;
 mod slots;
 
 pub use applier::Applier;
-pub use laws::the_next_decision_can_be_taken;
+pub use laws::{
+    the_next_decision_can_be_taken, what_holds_of_an_applier_holds_with_one_thing_more,
+};

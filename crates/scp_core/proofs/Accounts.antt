@@ -33,7 +33,8 @@ use Rattle.scp_ledger.specs.Marks.{marks_of as marks_on}
 use Rattle.scp_ledger.specs.declared.journal.Fate.{Fate}
 use Rattle.scp_ledger.specs.declared.journal.Fate.TheVariants.{Taken, Dropped, Closed}
 use Rattle.scp_ledger.specs.declared.took.Onward.{Onward}
-use Rattle.scp_core.specs.Stages.{Entry, taken, dropped, closed, entry_in, entry_of, KvLedger, Journals}
+use Rattle.scp_ledger.specs.Journals.{Entry, taken, dropped, closed, entry_in, entry_of}
+use Rattle.scp_core.specs.Stages.{KvLedger, KvJournals}
 use Rattle.scp_core.specs.declared.config.Config.{Config}
 use Rattle.scp_core.specs.History.{Exchange, Past, past_of, readings_of, read_so_far}
 use Rattle.scp_core.specs.Node.{LinkView, NodeView}
@@ -72,7 +73,7 @@ ready_marks c (ready.Dropped conn seq cause ∷ rs) = ap (λ ms. one_if (same_co
 ready_marks c (ready.Closed conn cause ∷ rs) = ap (λ ms. one_if (same_conn conn c) (ended cause) ++ ms) (ready_marks c rs)
 ready_marks c (ready.Local command ∷ rs) = ready_marks c rs
 
-pub same_marks : (c : ConnId) (me : NodeId) (local : QuorumTree) (peers : List NodeId) (took : List Ready) (onwards : List Onward) (v : KvLedger) → Journals me local peers took onwards v → marks_on c v.journal ≡ marks_of c took
+pub same_marks : (c : ConnId) (me : NodeId) (local : QuorumTree) (peers : List NodeId) (took : List Ready) (onwards : List Onward) (v : KvLedger) → KvJournals me local peers took onwards v → marks_on c v.journal ≡ marks_of c took
 same_marks c me local peers took onwards v j = journal_marks c v.journal ∙ ap (flat_map (entry_mark c)) j.entries ∙ sym (ready_marks c took)
 
 pub entries_right : (c : ConnId) (messages : List Message) (readies : List Ready) → HaveMessages c messages readies → AllByRecursion (IsRight c messages) (flat_map entry_of readies)

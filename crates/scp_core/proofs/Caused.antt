@@ -21,10 +21,12 @@ use Rattle.scp_pending.specs.Queues.{is_open}
 use Rattle.scp_pending.specs.Rules.{Settled, settled_by}
 use Rattle.scp_pending.specs.Causes.{IsTaken, HasCause, IsSettledBy}
 use Rattle.scp_pending.specs.Endings.{Way, went, over, way_by, way, ways, Exits, commands_in, commands_of, passed, passing}
-use Rattle.scp_pending.specs.Pends.{IsSettled}
+use Rattle.scp_pending.specs.Pends.{IsSettled, start_of}
+use Rattle.scp_pending.specs.Placing.{StandsAt}
 use Rattle.scp_pending.proofs.Basics.{all_left}
 use Rattle.scp_pending.proofs.Passing.{all_have_causes}
 use Rattle.scp_pending.proofs.Ending.{commands_pass, all_exits}
+use Rattle.scp_pending.proofs.Placing.{commands_keep_place}
 use Rattle.scp_ledger.specs.declared.journal.Asking.{Asking}
 use Rattle.scp_ledger.specs.Seen.{is_asked}
 use Rattle.scp_ledger.specs.declared.journal.Fate.{Fate}
@@ -33,7 +35,7 @@ use Rattle.scp_core.specs.declared.config.Config.{Config}
 use Rattle.scp_core.specs.declared.event.Event.TheVariants.{PendTake}
 use Rattle.scp_core.specs.declared.event.Reply.TheVariants.{Idle}
 use Rattle.scp_core.specs.History.{Exchange, Past, past_of}
-use Rattle.scp_core.specs.Stages.{Entry, taken, dropped, closed, entry_in, entry_of}
+use Rattle.scp_ledger.specs.Journals.{Entry, taken, dropped, closed, entry_in, entry_of}
 use Rattle.scp_core.specs.Node.{NodeView, Step}
 use Rattle.scp_core.specs.Flow.{Flows}
 use Rattle.scp_core.specs.Theorem.{LedgerTheorem}
@@ -122,6 +124,12 @@ of_config c c2 peer life items took later journal journal2 same j e = subst (λ 
 commands_at : (p : Past) (v : NodeView) (f : Flows p v) → commands_of (f.took ++ on_way_of v) ≡ commands_in f.arrived
 commands_at p v f = ap commands_of (sym (left p v f)) ∙ commands_pass v.config.me v.config.peers f.arrived f.given v.pending f.pending
 
+places_at : (p : Past) (v : NodeView) (f : Flows p v) (before : List Inbound) (command : Command) (after' : List Inbound) → f.arrived ≡ before ++ inbound.Local command ∷ after' → StandsAt (start_at v.config) before command (f.took ++ on_way_of v)
+places_at p v f before command after' at =
+    subst (λ (start : Settled). StandsAt start before command (f.took ++ on_way_of v)) (start_is p v f)
+    (subst (λ (rs : List Ready). StandsAt (start_of v.config.me v.config.peers v.pending) before command rs) (left p v f)
+    (commands_keep_place v.config.me v.config.peers f.arrived f.given v.pending f.pending before command after' at))
+
 only : (c d : Command) → Contains (c ∷ []) d → d ≡ c
 only c d h = All-contains (λ (e : Command). e ≡ c) (c ∷ []) d (All-cons (λ (e : Command). e ≡ c) c [] refl (All-nil (λ (e : Command). e ≡ c))) h
 
@@ -164,6 +172,7 @@ caused past v h =
       took = h.flows.took;
       took_is = ap (map entry_in) k.journal ∙ h.flows.journal.entries;
       commands = commands_at p m h.flows;
+      places = λ before command after' at. subst (λ (c : Config). StandsAt (start_at c) before command (h.flows.took ++ on_way_of m)) (sym k.config) (places_at p m h.flows before command after' at);
       asked = rw k.asked (asked_at p m h.flows);
       now = λ runs. (ap (λ (u : NodeView). u.inbox) (sym (h.now runs)), ap on_way_of (sym (h.now runs)));
     }

@@ -1,19 +1,24 @@
 -- What is decided, and what is applied.
 use Rattle.std.proofs.Common.{◌≡◌, ℕ, ◌+◌, List, [], ◌∷◌, ◌++◌, refl, sym, ◌∙◌, ap, subst, append_assoc, length, take, All, arith}
-use Rattle.std.specs.Prelude.{option_to_list, Contains}
+use Rattle.std.specs.Prelude.{option_to_list, Contains, map, flat_map}
 use Rattle.std.specs.List.Sorted.{IsPermutation}
 use Rattle.std.proofs.lemmas.Grind.{flat_map-append}
 use Rattle.std.proofs.lemmas.List.Elements.{All-take, All-contains_itself, All-weaker}
 use Rattle.std.proofs.lemmas.List.Sorted.{IsPermutation-append, IsPermutation-refl, All-permutation}
+use Rattle.scp_driver.specs.Kv.{kv_level}
 use Rattle.scp_ledger.specs.declared.journal.Decision.{Decision}
 use Rattle.scp_ledger.specs.Decisions.{IsLowest}
+use Rattle.scp_ledger.specs.Journals.{entry_in, entry_of}
+use Rattle.scp_ledger.specs.Runs.{AreJudged, verdict_in}
 use Rattle.scp_apply.specs.Applier.{IsLater}
+use Rattle.scp_core.specs.declared.config.Config.{Config}
 use Rattle.scp_core.specs.History.{Exchange, Past, past_of}
-use Rattle.scp_core.specs.Stages.{decisions_on, decision_on}
+use Rattle.scp_ledger.specs.Onwards.{decisions_on, decision_on}
 use Rattle.scp_core.specs.Node.{NodeView}
 use Rattle.scp_core.specs.Flow.{Flows}
 use Rattle.scp_core.specs.Theorem.{LedgerTheorem}
 use Rattle.scp_core.specs.Decisions.{AreDecided, TheoremGivesDecisions}
+use Rattle.scp_core.specs.Verdicts.{AreJudgedInTurn, TheoremGivesVerdicts}
 use Rattle.scp_core.specs.Applied.{AreSharedOut, AreApplied, TheoremGivesApplied}
 
 decided : (past : List Exchange) (v : NodeView) → LedgerTheorem past v → AreDecided v
@@ -36,6 +41,21 @@ theorem_gives_decisions = λ past v h. decided past v h
 take_front : {X : Type 0} (xs ys : List X) → take (length xs) (xs ++ ys) ≡ xs
 take_front [] ys = refl
 take_front (x ∷ xs) ys = ap (λ zs. x ∷ zs) (take_front xs ys)
+
+judged : (past : List Exchange) (v : NodeView) → LedgerTheorem past v → AreJudgedInTurn v
+judged past v h =
+    let k = h.keeps in
+    let j = h.flows.journal in
+    record {
+      takes = j.takes;
+      entries = ap (map entry_in) k.journal ∙ j.entries ∙ ap (flat_map entry_of) (sym j.took_are);
+      verdicts = ap (flat_map verdict_in) k.journal ∙ j.run.verdicts;
+      judged = subst (λ (c : Config). AreJudged (λ slot value. kv_level value) c.me c.peers [] j.takes) (sym k.config) j.run.judged;
+      decided = k.decisions ∙ j.run.decided;
+    }
+
+pub theorem_gives_verdicts : TheoremGivesVerdicts
+theorem_gives_verdicts = λ past v h. judged past v h
 
 -- the decisions of a node that runs
 shared : (p : Past) (v : NodeView) → Flows p v → IsPermutation v.ledger.decisions (v.applier.applied ++ (v.applier.buffer ++ decisions_on (v.decided ++ option_to_list v.slot_hand)))

@@ -35,7 +35,7 @@ use Rattle.scp_ledger.specs.declared.journal.Fate.{Fate}
 use Rattle.scp_ledger.specs.declared.journal.Fate.TheVariants.{Taken, Dropped, Closed}
 use Rattle.scp_core.specs.declared.config.Config.{Config}
 use Rattle.scp_core.specs.Config.{is_among}
-use Rattle.scp_core.specs.Stages.{Entry, taken, dropped, closed, entry_in, entry_of}
+use Rattle.scp_ledger.specs.Journals.{Entry, taken, dropped, closed, entry_in, entry_of}
 use Rattle.scp_core.specs.Settled.{start_at}
 use Rattle.scp_core.specs.Causes.{on_way_of}
 use Rattle.scp_core.specs.Flow.{Flows}

@@ -10,11 +10,12 @@ use Rattle.scp_pending.specs.declared.ready.Ready.{Ready}
 use Rattle.scp_ledger.specs.declared.took.Outgoing.{Outgoing}
 use Rattle.scp_ledger.specs.declared.took.Onward.{Onward}
 use Rattle.scp_ledger.specs.declared.took.Took.{Took}
+use Rattle.scp_ledger.specs.Journals.{IsToAll}
 use Rattle.scp_ledger.specs.Ledger.{IsLedger}
 use Rattle.scp_ledger.specs.Takes.{adds_entry}
 use Rattle.scp_core.specs.declared.stage.Shown.{Shown}
 use Rattle.scp_core.specs.Stages.{KvLedger, KvTakes, KvRuns}
-use Rattle.scp_core.specs.Node.{HandsOne, HandsEach, IsToAll}
+use Rattle.scp_core.specs.Node.{HandsOne, HandsEach}
 use Rattle.scp_core.specs.inside.Stage.{shown, Shows, TakesOut}
 use Rattle.scp_core.proofs.Deciding.{shown_before, runs_on}
 

@@ -9,6 +9,7 @@ use Rattle.scp_core.specs.Node.{LinkView, NodeView, new_link}
 use Rattle.scp_core.specs.Flow.{LinkFlows, Flows, AreApart}
 use Rattle.scp_core.specs.Theorem.{LedgerTheorem}
 use Rattle.scp_core.specs.inside.Starting.{IsNew}
+use Rattle.scp_core.proofs.Deciding.{journals_begin}
 use Rattle.scp_core.proofs.Steps.{same_node-refl}
 
 pub replicate-push : {X : Type 0} (n : ℕ) (x : X) → replicate n x ++ x ∷ [] ≡ replicate (suc n) x
@@ -80,7 +81,7 @@ starts v n = record {
   took = [];
   ready = rw (n.ready.0, n.hands.0) refl;
   onwards = [];
-  journal = n.ledger;
+  journal = journals_begin v.config.me v.config.set v.config.peers v.ledger n.ledger n.known n.deciding;
   applied = [];
   decided = rw (n.decided.0, n.hands.1) refl;
   applier = n.applier;

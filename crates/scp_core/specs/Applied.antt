@@ -2,9 +2,9 @@
 use Rattle.std.specs.Prelude.{◌+◌, ◌≡◌, ◌≢◌, false, List, ◌++◌, Some, All, Contains, length, option_to_list}
 use Rattle.std.specs.List.Sorted.{IsPermutation}
 use Rattle.scp_kv.specs.State.{fold_of}
+use Rattle.scp_ledger.specs.Onwards.{decisions_on}
 use Rattle.scp_apply.specs.Applied.{AreInOrder, values_of}
 use Rattle.scp_core.specs.History.{Exchange}
-use Rattle.scp_core.specs.Stages.{decisions_on}
 use Rattle.scp_core.specs.Node.{NodeView}
 use Rattle.scp_core.specs.Theorem.{LedgerTheorem}
 

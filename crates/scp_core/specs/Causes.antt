@@ -3,6 +3,7 @@ use Rattle.std.specs.Prelude.{ℕ, ◌≡◌, true, false, Contains, List, [], �
 use Rattle.std.specs.List.{AllByRecursion}
 use Rattle.scp_types.specs.declared.names.NodeId.{NodeId}
 use Rattle.scp_types.specs.declared.names.ConnId.{ConnId}
+use Rattle.scp_wire.specs.declared.link.Command.{Command}
 use Rattle.scp_wire.specs.declared.link.Command.TheVariants.{Ask}
 use Rattle.scp_wire.specs.declared.link.Inbound.{Inbound}
 use Rattle.scp_wire.specs.declared.link.Inbound.TheVariants as inbound
@@ -14,12 +15,13 @@ use Rattle.scp_pending.specs.Queues.{is_open}
 use Rattle.scp_pending.specs.Rules.{Settled, settled_by}
 use Rattle.scp_pending.specs.Causes.{IsTaken, HasCause}
 use Rattle.scp_pending.specs.Endings.{Way, went, over, way_by, ways, Exits, commands_in, commands_of}
+use Rattle.scp_pending.specs.Placing.{StandsAt}
 use Rattle.scp_ledger.specs.declared.journal.Asking.{Asking}
 use Rattle.scp_ledger.specs.declared.journal.Fate.{Fate}
 use Rattle.scp_ledger.specs.declared.journal.Fate.TheVariants.{Taken, Dropped, Closed}
+use Rattle.scp_ledger.specs.Journals.{entry_in, entry_of}
 use Rattle.scp_ledger.specs.Seen.{is_asked}
 use Rattle.scp_core.specs.History.{Exchange, past_of}
-use Rattle.scp_core.specs.Stages.{entry_in, entry_of}
 use Rattle.scp_core.specs.Node.{NodeView}
 use Rattle.scp_core.specs.Settled.{start_at}
 use Rattle.scp_core.specs.Theorem.{LedgerTheorem}
@@ -58,6 +60,8 @@ pub record HaveCauses (past : List Exchange) (v : NodeView) : Type 0 where
   pub took : List Ready
   pub took_is : map entry_in v.ledger.journal ≡ flat_map entry_of took
   pub commands : commands_of (took ++ on_way) ≡ commands_in taken
+  -- each stands there where it came: behind just what left by what came before it
+  pub places : (before : List Inbound) (command : Command) (after' : List Inbound) → taken ≡ before ++ inbound.Local command ∷ after' → StandsAt (start_at v.config) before command (took ++ on_way)
   -- each link that was asked for a slot has its Ask there
   pub asked : (a : Asking) → is_asked v.ledger.asked a ≡ true → Contains taken (inbound.Local (Ask a.link a.slot))
   -- while the node runs, what waits is the inbox, and what is on its way is there

@@ -7,7 +7,8 @@ use Rattle.scp_wire.specs.Shape.{AreOfLink, never_open, of_peer}
 use Rattle.scp_pending.specs.declared.ready.Ready.{Ready}
 use Rattle.scp_pending.specs.Pends.{Pends}
 use Rattle.scp_ledger.specs.declared.took.Onward.{Onward}
-use Rattle.scp_core.specs.Stages.{Journals, Applies}
+use Rattle.scp_apply.specs.Applies.{Applies}
+use Rattle.scp_core.specs.Stages.{KvJournals}
 use Rattle.scp_core.specs.History.{OnLink, Past, tail_of, readings_of, read_so_far}
 use Rattle.scp_core.specs.Node.{LinkView, NodeView}
 
@@ -47,7 +48,7 @@ pub record Flows (p : Past) (v : NodeView) : Type 0 where
   pub took : List Ready
   pub ready : IsOnWay given took v.ready v.pend_hand
   pub onwards : List Onward
-  pub journal : Journals v.config.me v.config.set v.config.peers took onwards v.ledger
+  pub journal : KvJournals v.config.me v.config.set v.config.peers took onwards v.ledger
   pub applied : List Onward
   pub decided : IsOnWay onwards applied v.decided v.slot_hand
   pub applier : Applies applied v.applier

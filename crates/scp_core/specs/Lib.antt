@@ -12,3 +12,4 @@ pub mod Causes
 pub mod Room
 pub mod inside
 pub mod Handed
+pub mod Verdicts

@@ -105,10 +105,6 @@ abbrev pub FitsOut : Outgoing → Type 0
 FitsOut (ToAll envelope) = IsFitting (Envelope (record { value = envelope }))
 FitsOut (To l message) = IsFitting message
 
-abbrev pub IsToAll : Outgoing → Type 0
-IsToAll (ToAll envelope) = Unit {0}
-IsToAll (To l message) = ⊥
-
 -- one thing that goes out is put into the outboxes of its links; what is too long for a link isn't
 abbrev pub HandsOne : List OutboxView → Outgoing → List OutboxView → Type 0
 HandsOne old outgoing new = (FitsOut outgoing × HandsOut old (handed_by (outgoing ∷ [])) new) ⊎ ((¬ (FitsOut outgoing)) × (new ≡ old))

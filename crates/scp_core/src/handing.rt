@@ -1,6 +1,7 @@
 //! What stages hand out for links, put into the outboxes, and what is sent out of them.
 ghost use Rattle.std.specs.Prelude.{◌≡◌, OnOk, OnErr, Any};
-ghost use Rattle.scp_core.specs.Node.{Hands, HandsOne, HandsEach, IsToAll};
+ghost use Rattle.scp_ledger.specs.Journals.{IsToAll};
+ghost use Rattle.scp_core.specs.Node.{Hands, HandsOne, HandsEach};
 ghost use Rattle.scp_core.specs.inside.Draining.{Draws, IsSpelt, empty_reply};
 
 use crate::event::Reply;

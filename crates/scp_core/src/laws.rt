@@ -4,6 +4,7 @@ ghost use Rattle.scp_core.specs.Accounts.{TheoremGivesFates};
 ghost use Rattle.scp_core.specs.Applied.{TheoremGivesApplied};
 ghost use Rattle.scp_core.specs.Causes.{TheoremGivesCauses};
 ghost use Rattle.scp_core.specs.Decisions.{TheoremGivesDecisions};
+ghost use Rattle.scp_core.specs.Verdicts.{TheoremGivesVerdicts};
 ghost use Rattle.scp_core.specs.Room.{TheoremGivesRoom};
 ghost use Rattle.scp_core.specs.Settled.{IdleIsSettled};
 ghost use Rattle.scp_core.specs.Handed.{StepsPutAll, DrainsGiveNext, RepliesFit};
@@ -23,6 +24,11 @@ pub fn each_message_has_its_fate()
 /// for the slot; and each entry with the verdict Decided has its decision.
 pub fn each_decision_has_its_ground()
     ensures decisions { TheoremGivesDecisions }
+{}
+
+/// In each entry stands the first verdict that fits, over what the slot stage had taken before it and what that gave.
+pub fn each_verdict_is_the_first_that_fits()
+    ensures verdicts { TheoremGivesVerdicts }
 {}
 
 /// Slots 1 to n are applied once each, in order; while the node runs, each other decision is in a queue, a hand or the

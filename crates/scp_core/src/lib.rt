@@ -33,9 +33,9 @@ pub use config::{Capacities, Config, Peers};
 pub use event::{Event, Reply};
 pub use laws::{
     decisions_are_applied_in_order, each_decision_has_its_ground, each_fate_has_its_cause,
-    each_message_has_its_fate, queues_hold_what_was_put_and_not_taken,
-    what_holds_of_a_past_holds_with_one_step_more, what_is_handed_out_is_put,
-    what_is_idle_is_settled, whatever_is_replied_fits,
+    each_message_has_its_fate, each_verdict_is_the_first_that_fits,
+    queues_hold_what_was_put_and_not_taken, what_holds_of_a_past_holds_with_one_step_more,
+    what_is_handed_out_is_put, what_is_idle_is_settled, whatever_is_replied_fits,
 };
 pub use link::LIVES;
 pub use node::Node;

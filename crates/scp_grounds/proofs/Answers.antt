@@ -34,7 +34,8 @@ use Rattle.scp_core.specs.Causes.{on_way_of}
 use Rattle.scp_core.specs.Flow.{Flows}
 use Rattle.scp_core.specs.History.{Past}
 use Rattle.scp_core.specs.Node.{NodeView}
-use Rattle.scp_core.specs.Stages.{request_by, request_on, requests_on}
+use Rattle.scp_ledger.specs.Journals.{request_by}
+use Rattle.scp_ledger.specs.Onwards.{request_on, requests_on}
 use Rattle.scp_core.proofs.OfLinks.{of_links_at, left}
 use Rattle.scp_grounds.specs.Sent.{Grounds, IsLifeOf, TellsToAsk, AsksForRecord, IsApplied, grounds_of}
 use Rattle.scp_grounds.proofs.Basics.{any_here, any_later, none_some, some_same}

@@ -7,3 +7,5 @@ pub mod Ran
 pub mod Standing
 pub mod Stated
 pub mod Outcomes
+pub mod Judging
+pub mod Journaling

@@ -11,3 +11,6 @@ pub mod Window
 pub mod Entering
 pub mod Inside
 pub mod Coding
+pub mod Onwards
+pub mod Runs
+pub mod Journals

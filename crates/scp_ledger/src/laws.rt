@@ -1,5 +1,7 @@
 //! Laws of the definitions, each the contract of a function that does nothing.
+ghost use Rattle.scp_ledger.specs.Journals.{JournalsPass, LedgerKeepsWindow, TakesGrow};
 ghost use Rattle.scp_ledger.specs.Laws.{JournalStands};
+ghost use Rattle.scp_ledger.specs.Onwards.{WindowIsKept};
 
 use scp_driver::Driver;
 
@@ -7,4 +9,18 @@ use scp_driver::Driver;
 /// its end.
 pub fn the_journal_stands_for_what_was_taken<D: Driver + Drop + Copy>()
     ensures { JournalStands D.level D.combined }
+{}
+
+/// What holds of all that a ledger took, of what each thing gave, of the verdict on each and of what the ledger is: it holds of
+/// a new ledger, and with one thing more, which only adds to the journal and the decisions.
+pub fn what_holds_of_a_ledger_holds_with_one_thing_more<D: Driver + Drop + Copy>()
+    ensures journals { JournalsPass D.level D.combined D.place }
+    ensures grows { TakesGrow D.level D.combined }
+{}
+
+/// Each decision that a ledger gives on is of one of the 16 slots from the least one on that none before it has, and none of
+/// those has its slot. This holds of the front of what was given, and with one thing more that may be given.
+pub fn what_is_given_on_keeps_the_window<D: Driver + Drop + Copy>()
+    ensures kept { WindowIsKept }
+    ensures given { LedgerKeepsWindow D.level D.combined D.place }
 {}

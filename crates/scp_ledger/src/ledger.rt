@@ -92,6 +92,15 @@ impl<D: Driver + Drop + Copy> Ledger<D> {
         self.state.window.lowest
     }
 
+    /// The journal alone, once nothing more is taken. Takes no memory.
+    pub fn into_journal(self) -> Vec<Fate>
+        ensures same { result.items ≡ self.journal }
+    {
+        let Ledger { state, failed: _ } = self;
+        let State { journal, .. } = state;
+        journal
+    }
+
     /// Takes one thing: adds its entry, with the verdict on a message, runs the machine of an open slot, and gives what goes on
     /// to the applier and out to peers. Refused by `JournalFull` where an entry more would be one above the limit, which leaves
     /// the ledger as it was; by `NoMemory`, after which it is failed; and a failed one by `Failed`, and it stays as it is. The

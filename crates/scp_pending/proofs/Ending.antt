@@ -259,7 +259,7 @@ passed_at s (inbound.Local (Round slot)) = refl
 passed_at s (inbound.Local (Timer slot)) = refl
 passed_at s (inbound.Local (Ask link slot)) = refl
 
-passed_along : (s : Settled) (items : List Inbound) → commands_of (released_by s items) ≡ commands_in items
+pub passed_along : (s : Settled) (items : List Inbound) → commands_of (released_by s items) ≡ commands_in items
 passed_along s [] = refl
 passed_along s (item ∷ items) = flat-append passed (releases s item) (released_by (rules s item) items) ∙ ap (λ cs. cs ++ commands_of (released_by (rules s item) items)) (passed_at s item) ∙ ap (λ cs. passing item ++ cs) (passed_along (rules s item) items)
 

@@ -12,3 +12,4 @@ pub mod Living
 pub mod Waiters
 pub mod Laws
 pub mod Messages
+pub mod Placing

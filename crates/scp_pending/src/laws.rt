@@ -2,6 +2,7 @@
 ghost use Rattle.scp_pending.specs.Living.{OpenByPlace};
 ghost use Rattle.scp_pending.specs.Messages.{ParkedStandFor};
 ghost use Rattle.scp_pending.specs.Pends.{HereFromNothing, HerePasses};
+ghost use Rattle.scp_pending.specs.Placing.{CommandsKeepPlace};
 ghost use Rattle.scp_pending.specs.Laws.{AllAccounts, AllExits, AllHaveCauses, CommandsPass, FewAreParked, WaitersWait, WaitersInOrder, WantedWhileWaited};
 
 /// All that was given, and all that is ready, has its cause among what was taken.
@@ -67,4 +68,10 @@ pub fn what_is_parked_came()
 pub fn what_holds_of_a_stage_holds_with_one_call_more()
     ensures nothing { HereFromNothing }
     ensures more { HerePasses }
+{}
+
+/// Each local command stands among what is given where it came: behind just what left by what came before it, each with its
+/// cause among that.
+pub fn each_command_keeps_its_place()
+    ensures place { CommandsKeepPlace }
 {}

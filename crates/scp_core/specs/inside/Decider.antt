@@ -10,6 +10,7 @@ use Rattle.scp_ledger.specs.declared.journal.Decision.{Decision}
 use Rattle.scp_ledger.specs.declared.took.Onward.{Onward}
 use Rattle.scp_ledger.specs.declared.took.Took.{Took}
 use Rattle.scp_ledger.specs.Ledger.{IsLedger}
+use Rattle.scp_ledger.specs.Onwards.{decisions_on}
 use Rattle.scp_ledger.specs.Takes.{adds_entry}
 use Rattle.scp_apply.specs.Applier.{ApplierView, IsApplier, IsRunning}
 use Rattle.scp_apply.specs.Applier.{Takes as ApplierTakes}
@@ -18,7 +19,7 @@ use Rattle.scp_core.specs.declared.event.Reply.{Reply}
 use Rattle.scp_core.specs.declared.event.Reply.TheVariants.{Blocked, Idle, Moved, JournalFull, NoMemory}
 use Rattle.scp_core.specs.Node.{HandsEach}
 use Rattle.scp_core.specs.inside.Stage.{new_ledger}
-use Rattle.scp_core.specs.Stages.{KvLedger, KvTakes, KvRuns, decisions_on}
+use Rattle.scp_core.specs.Stages.{KvLedger, KvTakes, KvRuns}
 
 pub record DeciderView : Type 0 where
   pub failed : Bool

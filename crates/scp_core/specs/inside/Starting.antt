@@ -1,13 +1,16 @@
 -- What a new node is, and what one event of a run does; nothing here need be believed.
 use Rattle.std.specs.Prelude.{◌≡◌, false, List, [], ◌∷◌, ◌++◌, None, length, replicate}
 use Rattle.scp_pending.specs.Pends.{Pends}
+use Rattle.scp_ledger.specs.Ledger.{IsLedger}
+use Rattle.scp_ledger.specs.Runs.{nothing_taken}
 use Rattle.scp_sent.specs.Handing.{empty_outbox}
 use Rattle.scp_core.specs.declared.event.Event.{Event}
 use Rattle.scp_core.specs.declared.event.Reply.{Reply}
 use Rattle.scp_core.specs.Config.{IsFit}
 use Rattle.scp_core.specs.History.{Exchange}
 use Rattle.scp_core.specs.Theorem.{LedgerTheorem, IsMade}
-use Rattle.scp_core.specs.Stages.{Journals, Applies}
+use Rattle.scp_apply.specs.Applies.{Applies}
+use Rattle.scp_core.specs.Stages.{KvRuns}
 use Rattle.scp_core.specs.Node.{NodeView, new_link}
 
 pub record IsNew (v : NodeView) : Type 0 where
@@ -21,7 +24,9 @@ pub record IsNew (v : NodeView) : Type 0 where
   pub hands : (v.pend_hand ≡ None) × (v.slot_hand ≡ None)
   pub local : v.pending.settled.store.local ≡ v.config.set
   pub pending : Pends v.config.me v.config.peers [] [] v.pending
-  pub ledger : Journals v.config.me v.config.set v.config.peers [] [] v.ledger
+  pub ledger : v.ledger ≡ nothing_taken v.config.me v.config.set v.ledger.driver v.config.peers
+  pub known : IsLedger v.ledger
+  pub deciding : KvRuns v.ledger
   pub applier : Applies [] v.applier
   pub outboxes : v.outboxes ≡ replicate (length v.config.peers) empty_outbox
 

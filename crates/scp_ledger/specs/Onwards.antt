@@ -1,0 +1,40 @@
+-- What goes on to the applier, and the window of its decisions.
+use Rattle.std.specs.Prelude.{List, [], ◌∷◌, ◌++◌, flat_map}
+use Rattle.scp_ledger.specs.declared.journal.Decision.{Decision}
+use Rattle.scp_ledger.specs.declared.took.Onward.{Onward}
+use Rattle.scp_ledger.specs.declared.took.Onward.TheVariants.{Decided, Asked}
+use Rattle.scp_ledger.specs.Decisions.{IsNext, AreInWindow}
+
+abbrev pub decision_on : Onward → List Decision
+decision_on (Decided d) = d ∷ []
+decision_on (Asked link slot) = []
+
+-- the decisions among what goes on
+abbrev pub decisions_on : List Onward → List Decision
+decisions_on onwards = flat_map decision_on onwards
+
+abbrev pub request_on : Onward → List Onward
+request_on (Decided d) = []
+request_on (Asked link slot) = Asked link slot ∷ []
+
+-- the requests among what goes on
+abbrev pub requests_on : List Onward → List Onward
+requests_on onwards = flat_map request_on onwards
+
+-- ---- the window
+
+-- after these the thing may be sent: the slot of a decision is one of the 16 from the least slot of at least 1 that none of them
+-- has, and none of them has it
+abbrev pub MaySend : List Onward → Onward → Type 0
+MaySend earlier (Decided d) = IsNext (decisions_on earlier) d
+MaySend earlier (Asked link slot) = Unit {0}
+
+-- each thing might be sent where it stands
+abbrev pub KeepsWindow : List Onward → Type 0
+KeepsWindow sent = AreInWindow [] (decisions_on sent)
+
+-- it holds of each beginning of a list, and with one thing more just where that may be sent
+pub record WindowIsKept : Type 0 where
+  pub begins : (xs ys : List Onward) → KeepsWindow (xs ++ ys) → KeepsWindow xs
+  pub more : (xs : List Onward) (x : Onward) → KeepsWindow xs → MaySend xs x → KeepsWindow (xs ++ x ∷ [])
+  pub last : (xs : List Onward) (x : Onward) → KeepsWindow (xs ++ x ∷ []) → MaySend xs x

@@ -1,0 +1,187 @@
+-- A run of the slot stage: what it took, one thing after another, what each gave, and which verdict stands on each.
+use Rattle.std.specs.Prelude.{ℕ, ◌≡◌, Bool, true, false, ◌&&◌, if◌then◌else◌, List, [], ◌∷◌, ◌++◌, Option, Some, None, IsSomeAnd, option_to_list, map, filter, flat_map}
+use Rattle.std.specs.List.{list_any}
+use Rattle.std.specs.BTreeMap as tree
+use Rattle.scp_types.specs.declared.names.ConnId.{ConnId}
+use Rattle.scp_types.specs.declared.names.NodeId.{NodeId}
+use Rattle.scp_driver.specs.declared.driver.Level.{Level}
+use Rattle.scp_quorum.specs.QuorumTree.{QuorumTree}
+use Rattle.scp_vote.specs.Board.{kind_of_pledges}
+use Rattle.scp_wire.specs.declared.link.Command.{Command}
+use Rattle.scp_wire.specs.declared.link.Command.TheVariants.{Propose, Round, Timer, Tick, Ask}
+use Rattle.scp_wire.specs.declared.message.Message.{Message}
+use Rattle.scp_wire.specs.declared.message.Message.TheVariants.{Envelope, GetSet, Set, NoSet, GetRecord, Record, Records}
+use Rattle.scp_pending.specs.declared.ready.Ready.{Ready}
+use Rattle.scp_pending.specs.declared.ready.Ready.TheVariants as ready
+use Rattle.scp_slot.specs.declared.output.Verdict.{Verdict as Found}
+use Rattle.scp_ledger.specs.declared.journal.Asking.{Asking}
+use Rattle.scp_ledger.specs.declared.journal.Decision.{Decision}
+use Rattle.scp_ledger.specs.declared.journal.Fate.{Fate}
+use Rattle.scp_ledger.specs.declared.journal.Fate.TheVariants.{Taken, Dropped, Closed}
+use Rattle.scp_ledger.specs.declared.journal.Verdict.{Verdict}
+use Rattle.scp_ledger.specs.declared.journal.Verdict.TheVariants.{Unasked, Idle, Fresh, Forwarded, Decided}
+use Rattle.scp_ledger.specs.declared.took.Onward.{Onward}
+use Rattle.scp_ledger.specs.declared.took.Took.{Took}
+use Rattle.scp_ledger.specs.Decisions.{IsLowest}
+use Rattle.scp_ledger.specs.Journal.{Heard, is_fresh, is_of, last_of, fresh_in}
+use Rattle.scp_ledger.specs.Onwards.{decisions_on}
+use Rattle.scp_ledger.specs.Seen.{LedgerView, is_asked, asking_cmp}
+use Rattle.scp_ledger.specs.Takes.{Takes, verdict_from}
+use Rattle.scp_ledger.specs.Verdicts.{FirstOf, BehindGate, BehindAlready, IsHeardAs, link_of}
+
+-- a thing that was taken, and what came of it
+pub record Taking : Type 0 where
+  pub thing : Ready
+  pub gave : Took
+
+abbrev pub thing_of : Taking → Ready
+thing_of t = t.thing
+
+abbrev pub things : List Taking → List Ready
+things takes = map thing_of takes
+
+abbrev pub onward_of : Taking → List Onward
+onward_of t = option_to_list t.gave.onward
+
+-- what went on to the applier
+abbrev pub onwards_of : List Taking → List Onward
+onwards_of takes = flat_map onward_of takes
+
+-- ---- one after another
+
+-- a ledger of this node, set, driver and peers that took nothing
+abbrev pub nothing_taken : {D : Type 0} → NodeId → QuorumTree → D → List NodeId → LedgerView D
+nothing_taken me local driver peers = record { me = me; local = local; driver = driver; peers = peers; failed = false; journal = []; decisions = []; lowest = 1; asked = []; machines = [] }
+
+-- each was taken by the ledger that the one before it left
+abbrev pub Leads : {D : Type 0} → (D → ℕ → List ℕ → Level) → (D → ℕ → List (List ℕ) → List ℕ) → LedgerView D → List Taking → LedgerView D → Type 0
+Leads {D} level combined old [] new = new ≡ old
+Leads {D} level combined old (t ∷ takes) new = (between : LedgerView D) × Takes level combined old t.thing t.gave between × Leads level combined between takes new
+
+-- ---- what stood before a thing was taken
+
+abbrev pub was_fresh : Option Verdict → Bool
+was_fresh None = false
+was_fresh (Some verdict) = is_fresh verdict
+
+-- an envelope's statement, with the set beside it
+abbrev pub heard_beside : Message → Option QuorumTree → List Heard
+heard_beside (Envelope envelope) (Some set) = record { statement = envelope.value.statement; set = set } ∷ []
+heard_beside (Envelope envelope) None = []
+heard_beside (GetSet hash) set = []
+heard_beside (Set inside) set = []
+heard_beside (NoSet hash) set = []
+heard_beside (GetRecord slot) set = []
+heard_beside (Record slot value) set = []
+heard_beside (Records first values) set = []
+
+abbrev pub heard_on : Ready → List Heard
+heard_on (ready.Deliver d) = heard_beside d.message d.set
+heard_on (ready.Dropped conn seq cause) = []
+heard_on (ready.Closed conn cause) = []
+heard_on (ready.Local command) = []
+
+abbrev pub freshly_heard : Taking → List Heard
+freshly_heard t = if was_fresh t.gave.verdict then heard_on t.thing else []
+
+-- the command to ask this link for this slot
+abbrev pub is_asking : Asking → Command → Bool
+is_asking a (Propose slot value) = false
+is_asking a (Round slot) = false
+is_asking a (Timer slot) = false
+is_asking a Tick = false
+is_asking a (Ask link slot) = tree.is_at (asking_cmp (record { link = link; slot = slot })) a
+
+abbrev pub is_ask : Asking → Ready → Bool
+is_ask a (ready.Deliver d) = false
+is_ask a (ready.Dropped conn seq cause) = false
+is_ask a (ready.Closed conn cause) = false
+is_ask a (ready.Local command) = is_asking a command
+
+abbrev pub freshly_asks : Asking → Taking → Bool
+freshly_asks a t = was_fresh t.gave.verdict && is_ask a t.thing
+
+-- the decisions that were made, the envelopes that were fresh, and which link was asked for which slot
+pub record Stood : Type 0 where
+  pub decisions : List Decision
+  pub heard : List Heard
+  pub asked : Asking → Bool
+
+-- by what was taken, and what that gave
+abbrev pub stood_by : List Taking → Stood
+stood_by takes = record { decisions = decisions_on (onwards_of takes); heard = flat_map freshly_heard takes; asked = λ a. list_any (freshly_asks a) takes }
+
+-- ---- the verdict on each: the first that fits, over what stood before it
+
+-- on a message that came over a connection
+abbrev pub IsMessageVerdict : (ℕ → List ℕ → Level) → NodeId → List NodeId → ℕ → Stood → ConnId → Message → Verdict → Type 0
+IsMessageVerdict level me peers lowest stood conn (Envelope e) verdict =
+    BehindGate lowest stood.decisions e.value.statement.slot.0
+    (IsHeardAs (level e.value.statement.slot.0) me (last_of (filter (is_of e.value.statement.slot.0 (kind_of_pledges e.value.statement.pledges) e.value.statement.node) stood.heard)) e.value.statement)
+    verdict
+IsMessageVerdict level me peers lowest stood conn (GetSet hash) verdict = ⊥
+IsMessageVerdict level me peers lowest stood conn (Set inside) verdict = ⊥
+IsMessageVerdict level me peers lowest stood conn (NoSet hash) verdict = ⊥
+IsMessageVerdict level me peers lowest stood conn (Records first values) verdict = ⊥
+IsMessageVerdict level me peers lowest stood conn (GetRecord at) verdict = verdict ≡ Forwarded
+IsMessageVerdict level me peers lowest stood conn (Record at value) verdict =
+    BehindAlready lowest stood.decisions at.0 (FirstOf (stood.asked (record { link = link_of peers conn; slot = at }) ≡ false) Unasked (λ later. later ≡ Decided)) verdict
+
+-- what a slot's machine finds
+abbrev pub IsFound : Verdict → Type 0
+IsFound verdict = (found : Found) × (verdict ≡ verdict_from found)
+
+-- on a command; a Tick has none
+abbrev pub IsCommandVerdict : ℕ → Stood → Command → Option Verdict → Type 0
+IsCommandVerdict lowest stood (Propose at value) said = IsSomeAnd said (BehindGate lowest stood.decisions at.0 IsFound)
+IsCommandVerdict lowest stood (Round at) said = IsSomeAnd said (BehindGate lowest stood.decisions at.0 IsFound)
+IsCommandVerdict lowest stood (Timer at) said = IsSomeAnd said (BehindGate lowest stood.decisions at.0 IsFound)
+IsCommandVerdict lowest stood Tick said = said ≡ None
+IsCommandVerdict lowest stood (Ask link at) said =
+    IsSomeAnd said (BehindAlready lowest stood.decisions at.0 (FirstOf (stood.asked (record { link = link; slot = at }) ≡ true) Idle (λ later. later ≡ Fresh)))
+
+-- on each thing; what is dropped, and the end of a connection, has none
+abbrev pub IsVerdict : (ℕ → List ℕ → Level) → NodeId → List NodeId → ℕ → Stood → Ready → Option Verdict → Type 0
+IsVerdict level me peers lowest stood (ready.Deliver d) said = IsSomeAnd said (IsMessageVerdict level me peers lowest stood d.conn d.message)
+IsVerdict level me peers lowest stood (ready.Dropped conn seq cause) said = said ≡ None
+IsVerdict level me peers lowest stood (ready.Closed conn cause) said = said ≡ None
+IsVerdict level me peers lowest stood (ready.Local command) said = IsCommandVerdict lowest stood command said
+
+-- by the lowest slot without a decision then
+abbrev pub IsJudged : (ℕ → List ℕ → Level) → NodeId → List NodeId → Stood → Taking → Type 0
+IsJudged level me peers stood t = (lowest : ℕ) × IsLowest stood.decisions lowest × IsVerdict level me peers lowest stood t.thing t.gave.verdict
+
+-- each is judged so where it stands
+abbrev pub AreJudged : (ℕ → List ℕ → Level) → NodeId → List NodeId → List Taking → List Taking → Type 0
+AreJudged level me peers earlier [] = Unit {0}
+AreJudged level me peers earlier (t ∷ takes) = IsJudged level me peers (stood_by earlier) t × AreJudged level me peers (earlier ++ t ∷ []) takes
+
+-- ---- the journal's verdicts
+
+abbrev pub verdict_in : Fate → List Verdict
+verdict_in (Taken conn seq message set verdict) = verdict ∷ []
+verdict_in (Dropped conn seq cause) = []
+verdict_in (Closed conn cause) = []
+
+abbrev pub verdict_on : Ready → Option Verdict → List Verdict
+verdict_on (ready.Deliver d) said = option_to_list said
+verdict_on (ready.Dropped conn seq cause) said = []
+verdict_on (ready.Closed conn cause) said = []
+verdict_on (ready.Local command) said = []
+
+-- the verdict that the take of a message gave
+abbrev pub verdict_by : Taking → List Verdict
+verdict_by t = verdict_on t.thing t.gave.verdict
+
+-- A ledger of this node, set and peers took these, one after another, and each gave what stands beside it.
+pub record IsRun {D : Type 0} (level : D → ℕ → List ℕ → Level) (combined : D → ℕ → List (List ℕ) → List ℕ) (me : NodeId) (local : QuorumTree) (peers : List NodeId) (takes : List Taking) (v : LedgerView D) : Type 0 where
+  -- the first was taken by a ledger that took nothing, each other one by that which the one before it left
+  pub leads : Leads level combined (nothing_taken me local v.driver peers) takes v
+  -- each verdict is the first that fits over what stood before it
+  pub judged : AreJudged (level v.driver) me peers [] takes
+  -- and those on messages stand in the journal's entries, in order
+  pub verdicts : flat_map verdict_in v.journal ≡ flat_map verdict_by takes
+  -- the decisions, the fresh statements in the journal and the asked slots are those of what was taken
+  pub decided : v.decisions ≡ (stood_by takes).decisions
+  pub heard : fresh_in v.journal ≡ (stood_by takes).heard
+  pub asked : (a : Asking) → is_asked v.asked a ≡ (stood_by takes).asked a
