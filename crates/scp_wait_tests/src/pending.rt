@@ -188,7 +188,13 @@ impl Event {
 }
 
 /// A NOMINATE envelope of node 2 for slot 1 that names the set of this hash, as message `seq` of the connection.
-fn nominate(alloc: Global, conn: ConnId, seq: u64, slot: u64, set_hash: Hash) -> Result<Inbound, Fault> {
+fn nominate(
+    alloc: Global,
+    conn: ConnId,
+    seq: u64,
+    slot: u64,
+    set_hash: Hash,
+) -> Result<Inbound, Fault> {
     let pledges = Pledges::Nominate(Nominate {
         set_hash,
         votes: ValueList::new(Vec::new(alloc)),
@@ -613,7 +619,13 @@ fn the_connections_that_wait_are_told(rt: HostRuntime) -> Result<(), Fail> {
     assert!(rt; waits(alloc, &three, &[TWO, THREE])?);
     let [first, second, third] = three;
     assert!(rt; waits(alloc, &[first, second, third, Closed(TWO)], &[THREE])?);
-    assert!(rt; waits(alloc, &[first, second, third, Closed(TWO), Set(THREE, 2)], &[])?);
+    assert!(rt;
+        waits(
+            alloc,
+            &[first, second, third, Closed(TWO), Set(THREE, 2)],
+            &[]
+        )?
+    );
     assert!(rt; waits(alloc, &[first, second, third, Closed(TWO), Ticks(12)], &[])?);
     Ok(())
 }
@@ -626,7 +638,13 @@ fn a_lane_waits_for_no_other(rt: HostRuntime) -> Result<(), Fail> {
     let through = Left(TWO, 1, 1, With(1));
     assert!(rt; gives(alloc, &two, &[asked, through])?);
     let [first, second] = two;
-    assert!(rt; gives(alloc, &[first, second, Set(TWO, 2)], &[asked, through, Left(TWO, 0, 0, With(2))])?);
+    assert!(rt;
+        gives(
+            alloc,
+            &[first, second, Set(TWO, 2)],
+            &[asked, through, Left(TWO, 0, 0, With(2))]
+        )?
+    );
     assert!(rt;
         gives(
             alloc,
@@ -666,7 +684,10 @@ type Place = (ConnId, u64, u64, u8);
 
 fn place(names: &Names, carried: &Carried) -> Place {
     let (slot, set) = match &carried.message {
-        Message::Envelope(envelope) => (envelope.get().statement.slot.0, number(names, &envelope.set_hash())),
+        Message::Envelope(envelope) => (
+            envelope.get().statement.slot.0,
+            number(names, &envelope.set_hash()),
+        ),
         _ => (0, 9),
     };
     (carried.conn, carried.seq.0, slot, set)
