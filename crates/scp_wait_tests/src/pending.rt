@@ -154,7 +154,7 @@ impl Event {
     fn count(&self) -> u64 {
         match self {
             Many(_, count, _) | Ticks(count) => *count,
-            Pairs(_, count, _) => *count * 2,
+            Pairs(_, count, _) => count.saturating_mul(2),
             _ => 1,
         }
     }
