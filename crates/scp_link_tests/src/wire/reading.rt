@@ -90,16 +90,11 @@ fn asks(slot: u64) -> [u8; 12] {
     bytes
 }
 
-/// The reader reads so many requests of slot 9, from this number on.
-fn reads_requests(
-    reader: &mut LinkReader,
-    alloc: Global,
-    first: u64,
-    count: u64,
-) -> Result<bool, Fault> {
+/// Whether so many requests of slot 9 are read under the numbers from 0 on.
+fn reads_requests(reader: &mut LinkReader, alloc: Global, count: u64) -> Result<bool, Fault> {
     let mut right = true;
-    for n in 0..count {
-        if bytes(reader, alloc, 1, &asks(9))? != Read::Asks(1, first + n, 9) {
+    for number in 0..count {
+        if bytes(reader, alloc, 1, &asks(9))? != Read::Asks(1, number, 9) {
             right = false;
         }
     }
@@ -171,7 +166,7 @@ fn side_messages_stand_between_the_carried_ones(rt: HostRuntime) -> Result<(), F
 #[test]
 fn a_batch_that_passes_the_last_number_ends_the_connection(rt: HostRuntime) -> Result<(), Fail> {
     let mut reader = opened(rt.alloc())?;
-    assert!(rt; reads_requests(&mut reader, rt.alloc(), 0, CARRIED_LIMIT - 1)?);
+    assert!(rt; reads_requests(&mut reader, rt.alloc(), CARRIED_LIMIT - 1)?);
     assert_eq!(rt;
         bytes(&mut reader, rt.alloc(), 1, &batches::BATCH)?,
         Read::Record(1, 999_999, 1)
@@ -186,7 +181,7 @@ fn a_batch_that_passes_the_last_number_ends_the_connection(rt: HostRuntime) -> R
 #[test]
 fn a_side_message_may_follow_the_last_number(rt: HostRuntime) -> Result<(), Fail> {
     let mut reader = opened(rt.alloc())?;
-    assert!(rt; reads_requests(&mut reader, rt.alloc(), 0, CARRIED_LIMIT)?);
+    assert!(rt; reads_requests(&mut reader, rt.alloc(), CARRIED_LIMIT)?);
     assert_eq!(rt;
         bytes(&mut reader, rt.alloc(), 1, &of_hash(2))?,
         Read::Side(1)
