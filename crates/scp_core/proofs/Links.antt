@@ -1,11 +1,11 @@
 -- One event on one link.
 use Rattle.std.proofs.Common.{◌≡◌, ℕ, ◌+◌, ◌≤◌, List, [], ◌∷◌, ◌++◌, refl, sym, ◌∙◌, ap, arith, length, add-one, length-append, take, drop}
-use Rattle.std.specs.Prelude.{fold}
+use Rattle.std.specs.Prelude.{option_to_list, fold}
 use Rattle.std.proofs.lemmas.List.{take-append-drop, take-append-le, drop-append-le}
 use Rattle.scp_types.specs.declared.names.NodeId.{NodeId}
 use Rattle.scp_wire.specs.declared.link.LinkItem.{LinkItem}
 use Rattle.scp_wire.specs.declared.link.Inbound.{Inbound}
-use Rattle.scp_wire.specs.LinkReading.{ReaderView, unread, reading, readings, after, after_all}
+use Rattle.scp_wire.specs.LinkReading.{ReaderView, unread, reading, readings, after, after_all, first_of}
 use Rattle.scp_wire.specs.Shape.{goes, MayGo, never_open, AreInOrder, nothing_came}
 use Rattle.scp_wire.proofs.Shapes.{readings-append, after_all-append, readings-one, of_link-push, readings_in_order}
 use Rattle.scp_core.specs.History.{OnLink, tail_of, readings_of, read_so_far}
@@ -96,3 +96,13 @@ give_more me peer room o k x xs some f = rw add-one (drop-next (readings_of o) o
 -- what is read of a link is in order, and of its peer
 pub in_order : (me peer : NodeId) (room : ℕ) (o : OnLink) (k : LinkView) → LinkFlows me peer room o k → AreInOrder peer me nothing_came (readings_of o)
 in_order me peer room o k f = readings_in_order peer me o.items f.shape
+
+-- ---- the hand: the first of what the reader read, and the others
+
+first_and_others : (xs : List Inbound) → option_to_list (first_of xs) ++ drop 1 xs ≡ xs
+first_and_others [] = refl
+first_and_others (x ∷ xs) = refl
+
+-- an item was read
+pub read_into : (k : LinkView) (x : LinkItem) (rest : List LinkItem) (xs : List Inbound) → record k { queue = rest; reader = after k.reader x; hand = option_to_list (first_of xs) ++ drop 1 xs } ≡ record k { queue = rest; reader = after k.reader x; hand = xs }
+read_into k x rest xs = ap (λ (hand : List Inbound). record k { queue = rest; reader = after k.reader x; hand = hand }) (first_and_others xs)
