@@ -115,7 +115,7 @@ regroup a b c d e = simp append_assoc
 
 -- what is on the link and not yet with the pending stage
 abbrev behind : ConnId → NodeView → LinkView → List Mark
-behind c v k = marks_in c v.inbox ++ (marks_in c (option_to_list k.hand) ++ marks_in c (readings k.reader k.queue))
+behind c v k = marks_in c v.inbox ++ (marks_in c k.hand ++ marks_in c (readings k.reader k.queue))
 
 sent_is : (p : Past) (v : NodeView) (f : Flows p v) (l : ℕ) (k : LinkView) → slice_get v.links l ≡ Some k → (peer : NodeId) → slice_get v.config.peers l ≡ Some peer → (life : ℕ) → marks_in (conn_at peer v.config.me life) (readings_of (p.links l)) ≡ marks_in (conn_at peer v.config.me life) f.arrived ++ behind (conn_at peer v.config.me life) v k
 sent_is p v f l k there peer at life =
@@ -123,8 +123,8 @@ sent_is p v f l k there peer at life =
     let o = p.links l in
     let g = f.links l k there peer at in
     let came : marks_in c (take o.given (read_so_far o)) ≡ marks_in c f.arrived ++ marks_in c v.inbox = ap (marks_in c) (sym (f.came l peer at ∙ front v.config.me peer v.config.capacities.link o k g)) ∙ marks_of_peer c p.came ∙ ap (marks_in c) f.inbox ∙ marks_in-append c f.arrived v.inbox in
-    let far : marks_in c (read_so_far o) ≡ (marks_in c f.arrived ++ marks_in c v.inbox) ++ marks_in c (option_to_list k.hand) = ap (marks_in c) (sym (take-append-drop o.given (read_so_far o))) ∙ marks_in-append c (take o.given (read_so_far o)) (drop o.given (read_so_far o)) ∙ ap (λ xs. xs ++ marks_in c (drop o.given (read_so_far o))) came ∙ ap (λ (ys : List Inbound). (marks_in c f.arrived ++ marks_in c v.inbox) ++ marks_in c ys) (sym g.hand) in
-    ap (marks_in c) (whole v.config.me peer v.config.capacities.link o k g) ∙ marks_in-append c (read_so_far o) (readings k.reader k.queue) ∙ ap (λ xs. xs ++ marks_in c (readings k.reader k.queue)) far ∙ regroup4 (marks_in c f.arrived) (marks_in c v.inbox) (marks_in c (option_to_list k.hand)) (marks_in c (readings k.reader k.queue))
+    let far : marks_in c (read_so_far o) ≡ (marks_in c f.arrived ++ marks_in c v.inbox) ++ marks_in c k.hand = ap (marks_in c) (sym (take-append-drop o.given (read_so_far o))) ∙ marks_in-append c (take o.given (read_so_far o)) (drop o.given (read_so_far o)) ∙ ap (λ xs. xs ++ marks_in c (drop o.given (read_so_far o))) came ∙ ap (λ (ys : List Inbound). (marks_in c f.arrived ++ marks_in c v.inbox) ++ marks_in c ys) (sym g.hand) in
+    ap (marks_in c) (whole v.config.me peer v.config.capacities.link o k g) ∙ marks_in-append c (read_so_far o) (readings k.reader k.queue) ∙ ap (λ xs. xs ++ marks_in c (readings k.reader k.queue)) far ∙ regroup4 (marks_in c f.arrived) (marks_in c v.inbox) (marks_in c k.hand) (marks_in c (readings k.reader k.queue))
   where
     regroup4 : {X : Type 0} (a b d e : List X) → ((a ++ b) ++ d) ++ e ≡ a ++ (b ++ (d ++ e))
     regroup4 a b d e = simp append_assoc

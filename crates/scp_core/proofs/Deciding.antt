@@ -14,7 +14,7 @@ use Rattle.scp_types.specs.declared.names.NodeId.{NodeId}
 use Rattle.scp_types.specs.declared.names.Seq.{Seq}
 use Rattle.scp_types.specs.declared.names.Slot.{Slot}
 use Rattle.scp_wire.specs.declared.message.Message.{Message}
-use Rattle.scp_wire.specs.declared.message.Message.TheVariants.{Envelope, GetSet, Set, NoSet, GetRecord, Record}
+use Rattle.scp_wire.specs.declared.message.Message.TheVariants.{Envelope, GetSet, Set, NoSet, GetRecord, Record, Records}
 use Rattle.scp_wire.specs.declared.link.Command.{Command}
 use Rattle.scp_wire.specs.declared.link.Command.TheVariants.{Propose, Round, Timer, Tick, Ask}
 use Rattle.scp_pending.specs.declared.ready.Ready.{Ready}
@@ -214,6 +214,7 @@ of_message old conn seq (Envelope e) beside t new h =
 of_message old conn seq (GetSet hash) beside t new h = absurd h
 of_message old conn seq (Set inside) beside t new h = absurd h
 of_message old conn seq (NoSet hash) beside t new h = absurd h
+of_message old conn seq (Records first values) beside t new h = absurd h
 of_message old conn seq (GetRecord at) beside t new h = forwarded old conn seq at h.0 beside t new h.1 h.2
 of_message old conn seq (Record at value) beside t new h = elim h.2.3 [
   | inl p ↦ passed_on old (delivered conn seq (Record at value) beside) t new (Taken conn seq (Record at value) h.0 h.2.0 ∷ []) p.1 (ap (λ (s : Option QuorumTree). Entry.taken conn seq (Record at value) s ∷ []) h.1) refl

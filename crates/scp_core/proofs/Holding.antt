@@ -27,7 +27,7 @@ accepts-config old new event a = absurd a
 
 moves-config : (old new : NodeView) (event : Event) → Moves old event new → SameConfig old new
 moves-config old new (ReaderTake l) a = same-view old new _ refl a.2.4
-moves-config old new (ReaderPut l) a = same-view old new _ refl a.2.3
+moves-config old new (ReaderPut l) a = same-view old new _ refl a.2.4
 moves-config old new PendTake a = elim a.1 [ inl b ↦ same-view old new _ refl b.is | inr b ↦ same-view old new _ refl b.is ]
 moves-config old new PendPut a = same-view old new _ refl a.3
 moves-config old new SlotTake a = same-view old new _ refl a.1.is

@@ -1,11 +1,11 @@
 -- One event on one link.
 use Rattle.std.proofs.Common.{◌≡◌, ℕ, ◌+◌, ◌≤◌, List, [], ◌∷◌, ◌++◌, refl, sym, ◌∙◌, ap, arith, length, add-one, length-append, take, drop}
-use Rattle.std.specs.Prelude.{Some, None, option_to_list, fold}
+use Rattle.std.specs.Prelude.{option_to_list, fold}
 use Rattle.std.proofs.lemmas.List.{take-append-drop, take-append-le, drop-append-le}
 use Rattle.scp_types.specs.declared.names.NodeId.{NodeId}
 use Rattle.scp_wire.specs.declared.link.LinkItem.{LinkItem}
 use Rattle.scp_wire.specs.declared.link.Inbound.{Inbound}
-use Rattle.scp_wire.specs.LinkReading.{ReaderView, unread, reading, readings, after, after_all}
+use Rattle.scp_wire.specs.LinkReading.{ReaderView, unread, reading, readings, after, after_all, first_of}
 use Rattle.scp_wire.specs.Shape.{goes, MayGo, never_open, AreInOrder, nothing_came}
 use Rattle.scp_wire.proofs.Shapes.{readings-append, after_all-append, readings-one, of_link-push, readings_in_order}
 use Rattle.scp_core.specs.History.{OnLink, tail_of, readings_of, read_so_far}
@@ -46,20 +46,20 @@ link-put me peer room o k x k2 may tail queue room2 reader hand f =
       queue = queue ∙ ap (λ xs. xs ++ x ∷ []) f.queue ∙ sym (drop-append-le o.taken o.items (x ∷ []) f.within);
       reader = reader ∙ f.reader ∙ ap (after_all unread) (sym same);
       given = rw same f.given;
-      hand = ap option_to_list hand ∙ f.hand ∙ ap (λ xs. drop o.given (readings unread xs)) (sym same);
+      hand = hand ∙ f.hand ∙ ap (λ xs. drop o.given (readings unread xs)) (sym same);
     }
 
 pub put_same : (me peer : NodeId) (room : ℕ) (o : OnLink) (k : LinkView) (x : LinkItem) → LinkFlows me peer room o k → take o.given (readings_of (more o x)) ≡ take o.given (readings_of o)
 put_same me peer room o k x f = ap (take o.given) (readings-append unread o.items (x ∷ [])) ∙ take-append-le o.given (readings_of o) (readings (after_all unread o.items) (x ∷ [])) (in_all me peer room o k f)
 
 -- the reader takes an item
-pub link-take : (me peer : NodeId) (room : ℕ) (o : OnLink) (k : LinkView) (x : LinkItem) (rest : List LinkItem) → k.hand ≡ None → k.queue ≡ x ∷ rest → LinkFlows me peer room o k → LinkFlows me peer room (record o { taken = o.taken + 1 }) (record k { queue = rest; reader = after k.reader x; hand = reading k.reader x })
+pub link-take : (me peer : NodeId) (room : ℕ) (o : OnLink) (k : LinkView) (x : LinkItem) (rest : List LinkItem) → k.hand ≡ [] → k.queue ≡ x ∷ rest → LinkFlows me peer room o k → LinkFlows me peer room (record o { taken = o.taken + 1 }) (record k { queue = rest; reader = after k.reader x; hand = reading k.reader x })
 link-take me peer room o k x rest empty queue f =
     let cut = drop-next o.items o.taken x rest (sym f.queue ∙ queue) in
     let more' : take (o.taken + 1) o.items ≡ take o.taken o.items ++ x ∷ [] = rw add-one cut.0 in
-    let read : readings unread (take (o.taken + 1) o.items) ≡ read_so_far o ++ option_to_list (reading k.reader x) =
-    ap (readings unread) more' ∙ readings-append unread (take o.taken o.items) (x ∷ []) ∙ ap (λ xs. read_so_far o ++ xs) (readings-one (after_all unread (take o.taken o.items)) x ∙ ap (λ (r : ReaderView). option_to_list (reading r x)) (sym f.reader)) in
-    let none : drop o.given (read_so_far o) ≡ [] = sym f.hand ∙ ap option_to_list empty in
+    let read : readings unread (take (o.taken + 1) o.items) ≡ read_so_far o ++ reading k.reader x =
+    ap (readings unread) more' ∙ readings-append unread (take o.taken o.items) (x ∷ []) ∙ ap (λ xs. read_so_far o ++ xs) (readings-one (after_all unread (take o.taken o.items)) x ∙ ap (λ (r : ReaderView). reading r x) (sym f.reader)) in
+    let none : drop o.given (read_so_far o) ≡ [] = sym f.hand ∙ empty in
     record {
       tail = f.tail;
       shape = f.shape;
@@ -67,18 +67,18 @@ link-take me peer room o k x rest empty queue f =
       within = rw add-one cut.2;
       queue = rw add-one (sym cut.1);
       reader = ap (λ (r : ReaderView). after r x) f.reader ∙ sym (after_all-append unread (take o.taken o.items) (x ∷ [])) ∙ ap (after_all unread) (sym more');
-      given = rw read (omega (arith, f.given, length-append (read_so_far o) (option_to_list (reading k.reader x))));
-      hand = sym (ap (drop o.given) read ∙ drop-append-le o.given (read_so_far o) (option_to_list (reading k.reader x)) f.given ∙ ap (λ xs. xs ++ option_to_list (reading k.reader x)) none);
+      given = rw read (omega (arith, f.given, length-append (read_so_far o) (reading k.reader x)));
+      hand = sym (ap (drop o.given) read ∙ drop-append-le o.given (read_so_far o) (reading k.reader x) f.given ∙ ap (λ xs. xs ++ reading k.reader x) none);
     }
 
--- the hand's item is the next reading
-pub hand_cut : (me peer : NodeId) (room : ℕ) (o : OnLink) (k : LinkView) (x : Inbound) → k.hand ≡ Some x → LinkFlows me peer room o k → drop o.given (readings_of o) ≡ x ∷ readings k.reader k.queue
-hand_cut me peer room o k x some f = ap (drop o.given) (whole me peer room o k f) ∙ drop-append-le o.given (read_so_far o) (readings k.reader k.queue) f.given ∙ ap (λ xs. xs ++ readings k.reader k.queue) (sym f.hand ∙ ap option_to_list some)
+-- the first in the hand is the next reading
+pub hand_cut : (me peer : NodeId) (room : ℕ) (o : OnLink) (k : LinkView) (x : Inbound) (xs : List Inbound) → k.hand ≡ x ∷ xs → LinkFlows me peer room o k → drop o.given (readings_of o) ≡ x ∷ (xs ++ readings k.reader k.queue)
+hand_cut me peer room o k x xs some f = ap (drop o.given) (whole me peer room o k f) ∙ drop-append-le o.given (read_so_far o) (readings k.reader k.queue) f.given ∙ ap (λ ys. ys ++ readings k.reader k.queue) (sym f.hand ∙ some)
 
--- the reader puts its item
-pub link-give : (me peer : NodeId) (room : ℕ) (o : OnLink) (k : LinkView) (x : Inbound) → k.hand ≡ Some x → LinkFlows me peer room o k → LinkFlows me peer room (record o { given = o.given + 1 }) (record k { hand = None })
-link-give me peer room o k x some f =
-    let cut = drop-next (read_so_far o) o.given x [] (sym f.hand ∙ ap option_to_list some) in
+-- the reader puts the first in its hand
+pub link-give : (me peer : NodeId) (room : ℕ) (o : OnLink) (k : LinkView) (x : Inbound) (xs : List Inbound) → k.hand ≡ x ∷ xs → LinkFlows me peer room o k → LinkFlows me peer room (record o { given = o.given + 1 }) (record k { hand = xs })
+link-give me peer room o k x xs some f =
+    let cut = drop-next (read_so_far o) o.given x xs (sym f.hand ∙ some) in
     record {
       tail = f.tail;
       shape = f.shape;
@@ -90,9 +90,19 @@ link-give me peer room o k x some f =
       hand = rw add-one (sym cut.1);
     }
 
-pub give_more : (me peer : NodeId) (room : ℕ) (o : OnLink) (k : LinkView) (x : Inbound) → k.hand ≡ Some x → LinkFlows me peer room o k → take (o.given + 1) (readings_of o) ≡ take o.given (readings_of o) ++ x ∷ []
-give_more me peer room o k x some f = rw add-one (drop-next (readings_of o) o.given x (readings k.reader k.queue) (hand_cut me peer room o k x some f)).0
+pub give_more : (me peer : NodeId) (room : ℕ) (o : OnLink) (k : LinkView) (x : Inbound) (xs : List Inbound) → k.hand ≡ x ∷ xs → LinkFlows me peer room o k → take (o.given + 1) (readings_of o) ≡ take o.given (readings_of o) ++ x ∷ []
+give_more me peer room o k x xs some f = rw add-one (drop-next (readings_of o) o.given x (xs ++ readings k.reader k.queue) (hand_cut me peer room o k x xs some f)).0
 
 -- what is read of a link is in order, and of its peer
 pub in_order : (me peer : NodeId) (room : ℕ) (o : OnLink) (k : LinkView) → LinkFlows me peer room o k → AreInOrder peer me nothing_came (readings_of o)
 in_order me peer room o k f = readings_in_order peer me o.items f.shape
+
+-- ---- the hand: the first of what the reader read, and the others
+
+first_and_others : (xs : List Inbound) → option_to_list (first_of xs) ++ drop 1 xs ≡ xs
+first_and_others [] = refl
+first_and_others (x ∷ xs) = refl
+
+-- an item was read
+pub read_into : (k : LinkView) (x : LinkItem) (rest : List LinkItem) (xs : List Inbound) → record k { queue = rest; reader = after k.reader x; hand = option_to_list (first_of xs) ++ drop 1 xs } ≡ record k { queue = rest; reader = after k.reader x; hand = xs }
+read_into k x rest xs = ap (λ (hand : List Inbound). record k { queue = rest; reader = after k.reader x; hand = hand }) (first_and_others xs)

@@ -60,7 +60,7 @@ boxes_stay old new w same is = ap (λ (v : NodeView). v.outboxes) is ∙ same
 
 puts_all : (old new : NodeView) (event : Event) → Moves old event new → Puts old event new
 puts_all old new (ReaderTake l) m = ([], refl, boxes_stay old new _ refl m.2.4)
-puts_all old new (ReaderPut l) m = ([], refl, boxes_stay old new _ refl m.2.3)
+puts_all old new (ReaderPut l) m = ([], refl, boxes_stay old new _ refl m.2.4)
 puts_all old new PendTake m = elim m.1 [
   | inl b ↦ ([], inl (b, refl), boxes_stay old new _ refl b.is)
   | inr t ↦ (out_of (reply_to old.pending.settled t.x), inr (t, refl), hands_each old.outboxes new.outboxes (reply_to old.pending.settled t.x) t.hands)

@@ -239,42 +239,42 @@ Flows-outboxes p v boxes f = record {
 
 -- ---- moves
 
-Flows-reader-take : (p : Past) (v : NodeView) (l : ℕ) (k : LinkView) (x : LinkItem) (rest : List LinkItem) → slice_get v.links l ≡ Some k → k.hand ≡ None → k.queue ≡ x ∷ rest → Flows p v → Flows (moves p (ReaderTake l)) (with_link v l (record k { queue = rest; reader = after k.reader x; hand = reading k.reader x }))
+Flows-reader-take : (p : Past) (v : NodeView) (l : ℕ) (k : LinkView) (x : LinkItem) (rest : List LinkItem) → slice_get v.links l ≡ Some k → k.hand ≡ [] → k.queue ≡ x ∷ rest → Flows p v → Flows (moves p (ReaderTake l)) (with_link v l (record k { queue = rest; reader = after k.reader x; hand = reading k.reader x }))
 Flows-reader-take p v l k x rest there empty queue f =
     on-link p v l k (record (p.links l) { taken = (p.links l).taken + 1 }) _ there
     (λ peer at g. link-take v.config.me peer v.config.capacities.link (p.links l) k x rest empty queue g)
     (λ peer at g. refl)
     f
 
--- the hand's item brings one reading more
-Flows-reader-put : (p : Past) (v : NodeView) (l : ℕ) (k : LinkView) (x : Inbound) → slice_get v.links l ≡ Some k → k.hand ≡ Some x → Flows p v → Flows (moves p (ReaderPut l)) (record v { links = slice_set v.links l (record k { hand = None }); inbox = v.inbox ++ x ∷ [] })
-Flows-reader-put p v l k x there some f =
+-- the first in the hand brings one reading more
+Flows-reader-put : (p : Past) (v : NodeView) (l : ℕ) (k : LinkView) (x : Inbound) (xs : List Inbound) → slice_get v.links l ≡ Some k → k.hand ≡ x ∷ xs → Flows p v → Flows (moves p (ReaderPut l)) (record v { links = slice_set v.links l (record k { hand = xs }); inbox = v.inbox ++ x ∷ [] })
+Flows-reader-put p v l k x xs there some f =
     let o = p.links l in
     let o2 = record o { given = o.given + 1 } in
     let at_l = there_is v.config.peers l (rw (← f.count) (within v.links l k there)) in
     let g = f.links l k there at_l.0 at_l.1 in
-    let next : take 1 (drop o.given (readings_of o)) ≡ x ∷ [] = ap (take 1) (hand_cut v.config.me at_l.0 v.config.capacities.link o k x some g) in
-    let whole' : readings_of o ≡ take o.given (readings_of o) ++ x ∷ readings k.reader k.queue = sym (take-append-drop o.given (readings_of o)) ∙ ap (λ xs. take o.given (readings_of o) ++ xs) (hand_cut v.config.me at_l.0 v.config.capacities.link o k x some g) in
-    let from : (q : NodeId) → is_from q x ≡ same_node at_l.0 q = λ q. from_is at_l.0 v.config.me q nothing_came (take o.given (readings_of o)) x (readings k.reader k.queue) (subst (λ (xs : List Inbound). AreInOrder at_l.0 v.config.me nothing_came xs) whole' (in_order v.config.me at_l.0 v.config.capacities.link o k g)) in
+    let next : take 1 (drop o.given (readings_of o)) ≡ x ∷ [] = ap (take 1) (hand_cut v.config.me at_l.0 v.config.capacities.link o k x xs some g) in
+    let whole' : readings_of o ≡ take o.given (readings_of o) ++ x ∷ (xs ++ readings k.reader k.queue) = sym (take-append-drop o.given (readings_of o)) ∙ ap (λ ys. take o.given (readings_of o) ++ ys) (hand_cut v.config.me at_l.0 v.config.capacities.link o k x xs some g) in
+    let from : (q : NodeId) → is_from q x ≡ same_node at_l.0 q = λ q. from_is at_l.0 v.config.me q nothing_came (take o.given (readings_of o)) x (xs ++ readings k.reader k.queue) (subst (λ (ys : List Inbound). AreInOrder at_l.0 v.config.me nothing_came ys) whole' (in_order v.config.me at_l.0 v.config.capacities.link o k g)) in
     let came' : (m : ℕ) → (peer : NodeId) → slice_get v.config.peers m ≡ Some peer → of_peer peer (p.came ++ x ∷ []) ≡ take (changed p.links l o2 m).given (readings_of (changed p.links l o2 m)) = λ m peer at.
     at_changed (λ (y : OnLink). of_peer peer (p.came ++ x ∷ []) ≡ take y.given (readings_of y)) p.links l o2 m
     (λ e.
     let at2 : slice_get v.config.peers l ≡ Some peer = subst (λ n. slice_get v.config.peers n ≡ Some peer) e at in
     let same : at_l.0 ≡ peer = some_is at_l.0 peer (sym at_l.1 ∙ at2) in
-    of_peer-push peer p.came x true (from peer ∙ ap (λ (q : NodeId). same_node q peer) same ∙ same_node-refl peer) ∙ ap (λ xs. xs ++ x ∷ []) (f.came l peer at2) ∙ sym (give_more v.config.me at_l.0 v.config.capacities.link o k x some g))
+    of_peer-push peer p.came x true (from peer ∙ ap (λ (q : NodeId). same_node q peer) same ∙ same_node-refl peer) ∙ ap (λ ys. ys ++ x ∷ []) (f.came l peer at2) ∙ sym (give_more v.config.me at_l.0 v.config.capacities.link o k x xs some g))
     (λ ne.
     let other : at_l.0 ≢ peer = λ e. ne (f.apart m l peer at (at_l.1 ∙ ap (λ (q : NodeId). Some q) e)) in
     of_peer-push peer p.came x false (from peer ∙ not_same at_l.0 peer other) ∙ append-nil (of_peer peer p.came) ∙ f.came m peer at) in
     record {
       runs = f.runs;
       rooms = f.rooms;
-      count = length-set v.links l (record k { hand = None }) ∙ f.count;
+      count = length-set v.links l (record k { hand = xs }) ∙ f.count;
       apart = f.apart;
-      links = links-set v.config.me v.config.peers v.config.capacities.link p.links v.links l o2 (record k { hand = None }) (λ peer at. link-give v.config.me peer v.config.capacities.link o k x some (f.links l k there peer at)) f.links;
+      links = links-set v.config.me v.config.peers v.config.capacities.link p.links v.links l o2 (record k { hand = xs }) (λ peer at. link-give v.config.me peer v.config.capacities.link o k x xs some (f.links l k there peer at)) f.links;
       came = λ m peer at. rw next (came' m peer at);
       local = f.local;
       arrived = f.arrived;
-      inbox = rw next (ap (λ xs. xs ++ x ∷ []) f.inbox ∙ append_assoc f.arrived v.inbox (x ∷ []));
+      inbox = rw next (ap (λ ys. ys ++ x ∷ []) f.inbox ∙ append_assoc f.arrived v.inbox (x ∷ []));
       given = f.given;
       pending = f.pending;
       took = f.took;
@@ -440,7 +440,7 @@ Flows-apply-take p v x rest after' answer queue takes known running f = record {
 
 pub Flows-moves : (p : Past) (old new : NodeView) (event : Event) → Moves old event new → Flows p old → Flows (moves p event) new
 Flows-moves p old new (ReaderTake l) a f = subst (λ (v : NodeView). Flows (moves p (ReaderTake l)) v) (sym a.2.4) (Flows-reader-take p old l a.0 a.2.1 a.2.2 a.1 a.2.0 a.2.3 f)
-Flows-moves p old new (ReaderPut l) a f = subst (λ (v : NodeView). Flows (moves p (ReaderPut l)) v) (sym a.2.3) (Flows-reader-put p old l a.0 a.2.1 a.1 a.2.2 f)
+Flows-moves p old new (ReaderPut l) a f = subst (λ (v : NodeView). Flows (moves p (ReaderPut l)) v) (sym a.2.4) (Flows-reader-put p old l a.0 a.2.1 a.2.2 a.1 a.2.3 f)
 Flows-moves p old new PendTake a f = elim a.1 [
   | inl b ↦ subst (λ (v : NodeView). Flows p v) (sym b.is) (Flows-brings p old b.thing b.after' a.0 b.passes b.same f)
   | inr b ↦ subst (λ (v : NodeView). Flows p v) (sym b.is) (Flows-outboxes p (record old { inbox = b.rest; pending = b.after'; pend_hand = b.thing }) new.outboxes (Flows-pend-take p old b.x b.rest b.between b.after' b.thing a.0 b.inbox b.rules b.same b.takes b.gives f))

@@ -33,7 +33,7 @@ pub record Fates (c : ConnId) (messages : List Message) (journal : List Fate) : 
 
 -- a connection's line: its entries, then what is held of it, up to the link's queue
 abbrev pub line_of : ConnId → NodeView → LinkView → List Mark
-line_of c v k = marks_on c v.ledger.journal ++ (marks_of c v.ready ++ (marks_of c (option_to_list v.pend_hand) ++ (held c v.pending ++ (marks_in c v.inbox ++ (marks_in c (option_to_list k.hand) ++ marks_in c (readings k.reader k.queue))))))
+line_of c v k = marks_on c v.ledger.journal ++ (marks_of c v.ready ++ (marks_of c (option_to_list v.pend_hand) ++ (held c v.pending ++ (marks_in c v.inbox ++ (marks_in c k.hand ++ marks_in c (readings k.reader k.queue))))))
 
 abbrev pub conn_of : Fate → ConnId
 conn_of (Taken conn seq message set verdict) = conn

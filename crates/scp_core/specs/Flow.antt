@@ -20,7 +20,7 @@ pub record LinkFlows (me peer : NodeId) (room : ℕ) (o : OnLink) (k : LinkView)
   pub queue : k.queue ≡ drop o.taken o.items
   pub reader : k.reader ≡ after_all unread (take o.taken o.items)
   pub given : o.given ≤ length (read_so_far o)
-  pub hand : option_to_list k.hand ≡ drop o.given (read_so_far o)
+  pub hand : k.hand ≡ drop o.given (read_so_far o)
 
 -- what went on from a stage: what the next one took, then the queue between, then the stage's hand
 abbrev pub IsOnWay : {X : Type 0} → List X → List X → List X → Option X → Type 0

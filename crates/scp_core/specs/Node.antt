@@ -41,11 +41,11 @@ pub record LinkView : Type 0 where
   pub queue : List LinkItem
   pub room : ℕ  -- the most items that the queue holds
   pub reader : ReaderView
-  pub hand : Option Inbound
+  pub hand : List Inbound  -- what was read of the last item and isn't put yet
 
 -- a link that was never open
 abbrev pub new_link : ℕ → LinkView
-new_link room = record { life = 0; is_open = false; queue = []; room = room; reader = unread; hand = None }
+new_link room = record { life = 0; is_open = false; queue = []; room = room; reader = unread; hand = [] }
 
 pub record NodeView : Type 0 where
   pub config : Config
@@ -188,8 +188,8 @@ SendsOut old event bytes new = ⊥
 
 -- an event that moves something
 abbrev pub Moves : NodeView → Event → NodeView → Type 0
-Moves old (ReaderTake l) new = AtLink old l (λ k. (k.hand ≡ None) × (x : LinkItem) × (rest : List LinkItem) × (k.queue ≡ x ∷ rest) × (new ≡ with_link old l (record k { queue = rest; reader = after k.reader x; hand = reading k.reader x })))
-Moves old (ReaderPut l) new = AtLink old l (λ k. (length old.inbox ≢ old.inbox_room) × (x : Inbound) × (k.hand ≡ Some x) × (new ≡ record old { links = slice_set old.links l (record k { hand = None }); inbox = old.inbox ++ x ∷ [] }))
+Moves old (ReaderTake l) new = AtLink old l (λ k. (k.hand ≡ []) × (x : LinkItem) × (rest : List LinkItem) × (k.queue ≡ x ∷ rest) × (new ≡ with_link old l (record k { queue = rest; reader = after k.reader x; hand = reading k.reader x })))
+Moves old (ReaderPut l) new = AtLink old l (λ k. (length old.inbox ≢ old.inbox_room) × (x : Inbound) × (xs : List Inbound) × (k.hand ≡ x ∷ xs) × (new ≡ record old { links = slice_set old.links l (record k { hand = xs }); inbox = old.inbox ++ x ∷ [] }))
 Moves old PendTake new = (old.pend_hand ≡ None) × (PendBrings old new ⊎ PendTakes old new)
 Moves old PendPut new = (length old.ready ≢ old.ready_room) × (x : Ready) × (old.pend_hand ≡ Some x) × (new ≡ record old { pend_hand = None; ready = old.ready ++ x ∷ [] })
 Moves old SlotTake new = (old.slot_hand ≡ None) × SlotTakes old new
@@ -219,10 +219,10 @@ Refuses v (Send l bytes) Full = AtLink v l (λ k. (k.is_open ≡ true) × is_ful
 Refuses v (Close l) NotOpen = AtLink v l (λ k. k.is_open ≡ false)
 Refuses v (Close l) Full = AtLink v l (λ k. (k.is_open ≡ true) × is_full k)
 Refuses v (Local command) Full = HasLink v command × (length v.inbox ≡ v.inbox_room)
-Refuses v (ReaderTake l) Blocked = AtLink v l (λ k. IsSome k.hand)
-Refuses v (ReaderTake l) Idle = AtLink v l (λ k. (k.hand ≡ None) × (k.queue ≡ []))
-Refuses v (ReaderPut l) Idle = AtLink v l (λ k. k.hand ≡ None)
-Refuses v (ReaderPut l) Blocked = AtLink v l (λ k. IsSome k.hand × (length v.inbox ≡ v.inbox_room))
+Refuses v (ReaderTake l) Blocked = AtLink v l (λ k. k.hand ≢ [])
+Refuses v (ReaderTake l) Idle = AtLink v l (λ k. (k.hand ≡ []) × (k.queue ≡ []))
+Refuses v (ReaderPut l) Idle = AtLink v l (λ k. k.hand ≡ [])
+Refuses v (ReaderPut l) Blocked = AtLink v l (λ k. (k.hand ≢ []) × (length v.inbox ≡ v.inbox_room))
 Refuses v PendTake Blocked = IsSome v.pend_hand
 Refuses v PendTake Idle = (v.pend_hand ≡ None) × (v.inbox ≡ []) × IsIdle v.pending
 Refuses v PendPut Idle = v.pend_hand ≡ None
@@ -259,7 +259,7 @@ FillsJournal v event = ⊥
 
 -- an event that can fail for want of memory: no other reply fits
 abbrev pub TakesMemory : NodeView → Event → Type 0
-TakesMemory v (ReaderTake l) = AtLink v l (λ k. (k.hand ≡ None) × (k.queue ≢ []))
+TakesMemory v (ReaderTake l) = AtLink v l (λ k. (k.hand ≡ []) × (k.queue ≢ []))
 TakesMemory v PendTake = (v.pend_hand ≡ None) × (v.inbox ≢ []) × IsIdle v.pending
 TakesMemory v SlotTake = (v.slot_hand ≡ None) × (v.ready ≢ []) × (¬ (FillsJournal v SlotTake))
 TakesMemory v ApplyTake = v.decided ≢ []

@@ -15,9 +15,9 @@ pub enum Event {
     Close(u8),
     /// A local command enters the inbox.
     Local(Command),
-    /// The link's reader takes the next item of the link's queue, and what it reads comes to its hand.
+    /// The link's reader takes the next item of the link's queue, and what it reads comes to its hand: of a batch its records.
     ReaderTake(u8),
-    /// What is in the reader's hand goes into the inbox.
+    /// The first of what is in the reader's hand goes into the inbox.
     ReaderPut(u8),
     /// The next ready thing of the pending stage comes to its hand; where there is none, the stage takes the next item of
     /// the inbox first.

@@ -16,6 +16,8 @@ use std::marker::Model;
 /// The most times that a link is opened (this project's profile).
 pub const LIVES: u32 = 65_535;
 
+/// A link. Its hand is what its reader read of the last item and isn't put yet: the first of that, and of a batch the rest,
+/// which the reader has.
 #[derive(Drop)]
 pub struct Link {
     life: u32,
@@ -36,11 +38,11 @@ impl Model for Link {
 
     ghost coded = { Prim.hlevel (codes, coded_row coded_level) };
 
-    ghost view = { λ a. record { life = a.life; is_open = a.is_open; queue = a.queue.items; room = a.queue.capacity; reader = a.reader; hand = a.hand } };
+    ghost use Rattle.std.specs.Prelude.{◌≤◌, ◌≡◌, [], ◌++◌, None, option_to_list};
 
-    ghost use Rattle.std.specs.Prelude.{◌≤◌};
+    ghost view = { λ a. record { life = a.life; is_open = a.is_open; queue = a.queue.items; room = a.queue.capacity; reader = a.reader.at; hand = option_to_list a.hand ++ a.reader.rest } };
 
-    ghost invariant = { λ a. a.life ≤ 65535 };
+    ghost invariant = { λ a. (a.life ≤ 65535) × (a.hand ≡ None → a.reader.rest ≡ []) };
 }
 
 impl Link {
@@ -52,7 +54,7 @@ impl Link {
             life: 0,
             is_open: false,
             queue: HeapCircularBuffer::with_capacity(alloc, room)?,
-            reader: LinkReader::new(),
+            reader: LinkReader::new(alloc),
             hand: None,
         })
     }
@@ -147,7 +149,7 @@ impl Link {
         }
     }
 
-    /// What is in the reader's hand, out of it where there is room for it.
+    /// The first of what is in the hand, out of it where there is room for it; then the next is the first.
     fn give(&mut self, is_full: bool) -> Result<Inbound, Stop>
         ensures { Gives self.old is_full (told result) self.new }
     {
@@ -158,7 +160,10 @@ impl Link {
             return Err(Stop::Blocked);
         }
         match self.hand.take() {
-            Some(item) => Ok(item),
+            Some(item) => {
+                self.hand = self.reader.rest();
+                Ok(item)
+            }
             None => Err(Stop::Idle),
         }
     }
@@ -201,7 +206,7 @@ pub fn read(alloc: Global, links: &mut Vec<Link>, link: u8) -> Reply
     }
 }
 
-/// What is in the reader's hand, out of it, unless there is no such link, nothing in the hand, or no room for it.
+/// The first of what is in the reader's hand, out of it, unless there is no such link, nothing in the hand, or no room for it.
 pub fn give(links: &mut Vec<Link>, link: u8, is_full: bool) -> Result<Inbound, Stop>
     ensures { Puts links.old.items link is_full (told result) links.new.items }
 {

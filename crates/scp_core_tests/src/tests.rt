@@ -23,6 +23,8 @@ enum Act {
     Close(u8),
     /// A record of this slot, that puts a 1.
     Record(u64),
+    /// A batch of three such records, the first of this slot.
+    Records(u64),
     GetRecord,
     /// A nomination of node 2 for slot 1 that names this set.
     Names(u8),
@@ -197,6 +199,18 @@ fn externalize(alloc: Global, node: NodeId, set_hash: Hash) -> Result<Message, F
     says(alloc, node, Pledges::Externalize(externalize))
 }
 
+/// Three records in a batch, the first of this slot.
+fn batch(alloc: Global, first: u64) -> Result<Message, Fault> {
+    let mut values = Vec::new(alloc);
+    for _ in 0..3 {
+        values.push(value(alloc)?)?;
+    }
+    Ok(Message::Records {
+        first: Slot(first),
+        values: ValueList::new(values),
+    })
+}
+
 /// The message is sent on link 0.
 fn sends(alloc: Global, message: &Message) -> Result<Event, Fault> {
     Ok(Event::Send(0, Bytes::new(encode(alloc, message)?)))
@@ -210,6 +224,7 @@ impl Act {
             Record(slot) => {
                 return sends(alloc, &Message::Record(Slot(slot), value(alloc)?));
             }
+            Records(first) => return sends(alloc, &batch(alloc, first)?),
             GetRecord => return sends(alloc, &Message::GetRecord(Slot(1))),
             Names(number) => {
                 let hash = set(alloc, number)?.hash()?;
@@ -433,6 +448,38 @@ fn a_hand_blocks_until_the_next_queue_has_room(rt: HostRuntime) -> Result<(), Fa
             ],
         )?
     );
+    Ok(())
+}
+
+/// Whether the records of a batch leave the reader one by one, and the reader takes no item before the last has left.
+fn puts_one_by_one(alloc: Global, node: &mut Node) -> Result<bool, Fault> {
+    bring(alloc, node, &[(1, Open(0))])?;
+    replies(
+        alloc,
+        node,
+        &[
+            (Records(1), Reply::Accepted),
+            (ReaderTake(0), Reply::Moved),
+            (ReaderPut(0), Reply::Moved),
+            (ReaderTake(0), Reply::Blocked),
+            (ReaderPut(0), Reply::Blocked),
+            (PendTake, Reply::Moved),
+            (ReaderPut(0), Reply::Moved),
+            (ReaderTake(0), Reply::Blocked),
+            (PendTake, Reply::Blocked),
+            (PendPut, Reply::Moved),
+            (PendTake, Reply::Moved),
+            (ReaderPut(0), Reply::Moved),
+            (ReaderPut(0), Reply::Idle),
+            (ReaderTake(0), Reply::Idle),
+        ],
+    )
+}
+
+#[test]
+fn a_batch_is_put_record_by_record(rt: HostRuntime) -> Result<(), Fail> {
+    let alloc = rt.alloc();
+    assert!(rt; is_so_of_one_link(alloc, ONE, |node| puts_one_by_one(alloc, node))?);
     Ok(())
 }
 

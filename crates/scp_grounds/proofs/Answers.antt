@@ -114,6 +114,7 @@ first_entry peers (Taken conn seq (message.GetSet hash) set verdict) journal lin
 first_entry peers (Taken conn seq (message.Set inside) set verdict) journal link slot h = absurd (none (Asked link slot) h)
 first_entry peers (Taken conn seq (message.NoSet hash) set verdict) journal link slot h = absurd (none (Asked link slot) h)
 first_entry peers (Taken conn seq (message.Record at value) set verdict) journal link slot h = absurd (none (Asked link slot) h)
+first_entry peers (Taken conn seq (message.Records first values) set verdict) journal link slot h = absurd (none (Asked link slot) h)
 first_entry peers (Dropped conn seq cause) journal link slot h = absurd (none (Asked link slot) h)
 first_entry peers (Closed conn cause) journal link slot h = absurd (none (Asked link slot) h)
 

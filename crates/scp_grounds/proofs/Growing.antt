@@ -48,6 +48,7 @@ may_more g h link (message.GetSet hash) k a = any_more (NamesSet hash) g.taken h
 may_more g h link (message.Set set) k a = set_more g h link (hash_of set) k a
 may_more g h link (message.NoSet hash) k a = set_more g h link hash k a
 may_more g h link (message.GetRecord slot) k a = any_more (TellsToAsk link slot) g.taken h.taken k.taken a
+may_more g h link (message.Records first values) k a = absurd a
 may_more g h link (message.Record slot value) k a = (
   any_more (λ (d : Decision). (d.slot ≡ slot) × (d.value ≡ value)) g.applied h.applied k.applied a.0,
   record {

@@ -15,7 +15,7 @@ use Rattle.scp_envelope.specs.declared.statement.Statement.{Statement}
 use Rattle.scp_wire.specs.declared.link.Command.{Command}
 use Rattle.scp_wire.specs.declared.link.Command.TheVariants.{Propose, Round, Timer, Tick, Ask}
 use Rattle.scp_wire.specs.declared.message.Message.{Message}
-use Rattle.scp_wire.specs.declared.message.Message.TheVariants.{Envelope, GetSet, Set, NoSet, GetRecord, Record}
+use Rattle.scp_wire.specs.declared.message.Message.TheVariants.{Envelope, GetSet, Set, NoSet, GetRecord, Record, Records}
 use Rattle.scp_pending.specs.Queues.{hash_of}
 use Rattle.scp_pending.specs.declared.ready.Ready.{Ready}
 use Rattle.scp_pending.specs.declared.ready.Ready.TheVariants as ready
@@ -138,6 +138,7 @@ module _ (c : Config) (old : KvLedger) (x : Ready) (took : Took) (new : KvLedger
   takes_message conn seq (GetSet hash) beside h = absurd h
   takes_message conn seq (Set inside) beside h = absurd h
   takes_message conn seq (NoSet hash) beside h = absurd h
+  takes_message conn seq (Records first values) beside h = absurd h
   takes_message conn seq (GetRecord at) beside h = forwards conn seq at h.0 h.2
   takes_message conn seq (Record at value) beside h = elim h.2.3 [ inl w ↦ passes _ _ w.1 | inr w ↦ decides conn seq at value h.0 w.1 ]
 

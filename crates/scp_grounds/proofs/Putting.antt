@@ -7,7 +7,7 @@ use Rattle.std.proofs.lemmas.Bool.{eqb-true}
 use Rattle.scp_envelope.specs.declared.statement.Envelope.{Envelope as Enveloped}
 use Rattle.scp_envelope.specs.declared.statement.Statement.{Statement}
 use Rattle.scp_wire.specs.declared.message.Message.{Message}
-use Rattle.scp_wire.specs.declared.message.Message.TheVariants.{Envelope, GetSet, Set, NoSet, GetRecord, Record}
+use Rattle.scp_wire.specs.declared.message.Message.TheVariants.{Envelope, GetSet, Set, NoSet, GetRecord, Record, Records}
 use Rattle.scp_outbox.specs.Outbox.{OutboxView, is_nomination, same_bool}
 use Rattle.scp_sent.specs.Handing.{to_link}
 use Rattle.scp_sent.specs.Sent.{statement_of, IsStep, AreNewer}
@@ -101,6 +101,7 @@ step_told g old new link e (Set set) may said tell = tt
 step_told g old new link e (NoSet hash) may said tell = tt
 step_told g old new link e (GetRecord slot) may said tell = tt
 step_told g old new link e (Record slot value) may said tell = tt
+step_told g old new link e (Records first values) may said tell = tt
 
 -- the message of a statement
 abbrev told : Enveloped → Message

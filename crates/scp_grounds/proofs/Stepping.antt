@@ -155,9 +155,9 @@ moved p sent old new (ReaderPut l) f a st =
     let x = a.2.1 in
     let o = p.links l in
     let at = there_is old.config.peers l (rw (← f.count) (within old.links l k a.1)) in
-    let next : take 1 (drop o.given (readings_of o)) ≡ x ∷ [] = ap (take 1) (hand_cut old.config.me at.0 old.config.capacities.link o k x a.2.2 (f.links l k a.1 at.0 at.1)) in
-    subst (λ (v : NodeView). State (moves p (ReaderPut l)) sent v) (sym a.2.3)
-    (state_of (moves p (ReaderPut l)) sent (record old { links = slice_set old.links l (record k { hand = None }); inbox = old.inbox ++ x ∷ [] }) f.arrived (ap (λ (xs : List Inbound). p.came ++ xs) next ∙ ap (λ (xs : List Inbound). xs ++ x ∷ []) f.inbox ∙ append_assoc f.arrived old.inbox (x ∷ [])) st)
+    let next : take 1 (drop o.given (readings_of o)) ≡ x ∷ [] = ap (take 1) (hand_cut old.config.me at.0 old.config.capacities.link o k x a.2.2 a.2.3 (f.links l k a.1 at.0 at.1)) in
+    subst (λ (v : NodeView). State (moves p (ReaderPut l)) sent v) (sym a.2.4)
+    (state_of (moves p (ReaderPut l)) sent (record old { links = slice_set old.links l (record k { hand = a.2.2 }); inbox = old.inbox ++ x ∷ [] }) f.arrived (ap (λ (xs : List Inbound). p.came ++ xs) next ∙ ap (λ (xs : List Inbound). xs ++ x ∷ []) f.inbox ∙ append_assoc f.arrived old.inbox (x ∷ [])) st)
 moved p sent old new PendTake f a st = elim a.1 [
   | inl b ↦ subst (λ (v : NodeView). State p sent v) (sym b.is) (state_of p sent (record old { pending = b.after'; pend_hand = Some b.thing }) f.arrived f.inbox st)
   | inr b ↦ pend_takes p sent old new f b st

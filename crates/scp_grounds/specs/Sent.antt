@@ -139,6 +139,7 @@ MaySend g link (message.Set set) = AsksForSet g link (hash_of set)
 MaySend g link (message.NoSet hash) = AsksForSet g link hash
 MaySend g link (message.GetRecord slot) = Any (TellsToAsk link slot) g.taken
 MaySend g link (message.Record slot value) = IsApplied g slot value × AsksForRecord g link slot
+MaySend g link (message.Records first values) = ⊥  -- never: each record is sent by itself
 
 -- ---- all that was sent
 

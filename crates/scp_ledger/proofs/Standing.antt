@@ -11,7 +11,7 @@ use Rattle.scp_wire.specs.Marks.{Mark}
 use Rattle.scp_wire.specs.declared.link.Command.{Command}
 use Rattle.scp_wire.specs.declared.link.Command.TheVariants.{Propose, Round, Timer, Tick, Ask}
 use Rattle.scp_wire.specs.declared.message.Message.{Message}
-use Rattle.scp_wire.specs.declared.message.Message.TheVariants.{Envelope, GetSet, Set, NoSet, GetRecord, Record}
+use Rattle.scp_wire.specs.declared.message.Message.TheVariants.{Envelope, GetSet, Set, NoSet, GetRecord, Record, Records}
 use Rattle.scp_pending.specs.declared.ready.Ready.{Ready}
 use Rattle.scp_pending.specs.declared.ready.Ready.TheVariants as ready
 use Rattle.scp_pending.specs.Line.{ready_mark}
@@ -53,6 +53,7 @@ module _ {D : Type 0} (level : D → ℕ → List ℕ → Level) (combined : D �
   stands_message conn seq (Set inside) beside t = absurd t
   stands_message conn seq (NoSet hash) beside t = absurd t
   stands_message conn seq (GetRecord at) beside t = (_, ap (λ (v : LedgerView D). v.journal) t.2.same, refl)
+  stands_message conn seq (Records first values) beside t = absurd t
   stands_message conn seq (Record at value) beside t = (let r = recorded conn seq at value t.0 t.2 in (Taken conn seq (Record at value) t.0 r.0, r.1, refl))
 
   ran_or_passed : (at : Slot) (given : SlotInput) → Commands level combined old at given took new → new.journal ≡ old.journal

@@ -10,7 +10,7 @@ use Rattle.scp_vote.specs.Board.{kind_of_pledges}
 use Rattle.scp_vote.specs.declared.claim.StatementKind.{StatementKind}
 use Rattle.scp_vote.specs.declared.claim.StatementKind.TheVariants.{Nomination, Balloting}
 use Rattle.scp_wire.specs.declared.message.Message.{Message}
-use Rattle.scp_wire.specs.declared.message.Message.TheVariants.{Envelope, GetSet, Set, NoSet, GetRecord, Record}
+use Rattle.scp_wire.specs.declared.message.Message.TheVariants.{Envelope, GetSet, Set, NoSet, GetRecord, Record, Records}
 use Rattle.scp_ledger.specs.declared.journal.Fate.{Fate}
 use Rattle.scp_ledger.specs.declared.journal.Fate.TheVariants.{Taken, Dropped, Closed}
 use Rattle.scp_ledger.specs.declared.journal.Verdict.{Verdict}
@@ -44,6 +44,7 @@ heard_in (Set inside) set = None
 heard_in (NoSet hash) set = None
 heard_in (GetRecord slot) set = None
 heard_in (Record slot value) set = None
+heard_in (Records first values) set = None
 
 -- that of an entry which was taken as fresh
 abbrev pub fresh_heard : Fate → Option Heard

@@ -14,7 +14,7 @@ use Rattle.scp_wire.specs.Boxed.{Boxed}
 use Rattle.scp_wire.specs.declared.link.Command.{Command}
 use Rattle.scp_wire.specs.declared.link.Command.TheVariants.{Propose, Round, Timer, Tick, Ask}
 use Rattle.scp_wire.specs.declared.message.Message.{Message}
-use Rattle.scp_wire.specs.declared.message.Message.TheVariants.{Envelope, GetSet, Set, NoSet, GetRecord, Record}
+use Rattle.scp_wire.specs.declared.message.Message.TheVariants.{Envelope, GetSet, Set, NoSet, GetRecord, Record, Records}
 use Rattle.scp_pending.specs.declared.ready.Ready.{Ready}
 use Rattle.scp_pending.specs.declared.ready.Ready.TheVariants as ready
 use Rattle.scp_ballot.specs.declared.balloted.Certified.{Certified}
@@ -141,6 +141,7 @@ TakesMessage level combined old conn seq (Set inside) beside took new = ⊥
 TakesMessage level combined old conn seq (NoSet hash) beside took new = ⊥
 TakesMessage level combined old conn seq (GetRecord at) beside took new = WithSet beside (λ set. Forwards old conn seq at set took new)
 TakesMessage level combined old conn seq (Record at value) beside took new = WithSet beside (λ set. TakesRecord old conn seq at value set took new)
+TakesMessage level combined old conn seq (Records first values) beside took new = ⊥
 
 -- ---- commands
 

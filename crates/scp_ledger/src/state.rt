@@ -607,7 +607,9 @@ impl<D: Driver + Drop + Copy> State<D> {
             Message::GetRecord(slot) => self.take_request(conn, seq, slot, set),
             Message::Record(slot, value) => self.take_record(conn, seq, slot, value, set),
             // not reached, since these aren't delivered
-            Message::GetSet(_) | Message::Set(_) | Message::NoSet(_) => Ok(self.pass_command(None)),
+            Message::GetSet(_) | Message::Set(_) | Message::NoSet(_) | Message::Records { .. } => {
+                Ok(self.pass_command(None))
+            }
         }
     }
 

@@ -54,7 +54,7 @@ moved_tails v w (event.Send m bytes) a = absurd a
 moved_tails v w (event.Close m) a = absurd a
 moved_tails v w (event.Local command) a = absurd a
 moved_tails v w (event.ReaderTake m) a = linked v w m _ a.2.4 ∙ put_back v m a.0 a.1
-moved_tails v w (event.ReaderPut m) a = ap (λ (u : NodeView). tails u) a.2.3 ∙ map-set tail_at v.links m (record a.0 { hand = None }) ∙ put_back v m a.0 a.1
+moved_tails v w (event.ReaderPut m) a = ap (λ (u : NodeView). tails u) a.2.4 ∙ map-set tail_at v.links m (record a.0 { hand = a.2.2 }) ∙ put_back v m a.0 a.1
 moved_tails v w event.PendTake a = ⊎_elim (λ b. ap (λ (u : NodeView). tails u) b.is) (λ t. ap (λ (u : NodeView). tails u) t.is) a.1
 moved_tails v w event.PendPut a = ap (λ (u : NodeView). tails u) a.3
 moved_tails v w event.SlotTake a = ap (λ (u : NodeView). tails u) a.1.is

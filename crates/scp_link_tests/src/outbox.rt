@@ -39,6 +39,18 @@ fn nomination(alloc: Global, slot: u64, votes: usize) -> Result<Message, Fault> 
     said(alloc, slot, Pledges::Nominate(nominate))
 }
 
+/// A batch of so many values of one byte, from the slot on.
+fn batch(alloc: Global, first: u64, count: usize) -> Result<Message, Fault> {
+    let mut values = Vec::new(alloc);
+    for _ in 0..count {
+        values.push(value(alloc, 1)?)?;
+    }
+    Ok(Message::Records {
+        first: Slot(first),
+        values: ValueList::new(values),
+    })
+}
+
 /// A PREPARE of the ballot of this counter.
 fn prepare(alloc: Global, slot: u64, counter: u32) -> Result<Message, Fault> {
     let ballot = Ballot {
@@ -67,12 +79,13 @@ fn put(outbox: &mut Outbox, message: Message) -> bool {
     }
 }
 
-/// What was given, in short: a mark, the first byte of a hash that is asked for, or the slot and the count of votes or the
-/// ballot's counter of a statement.
+/// What was given, in short: a mark, the first byte of a hash that is asked for, the first slot and the count of a batch, or
+/// the slot and the count of votes or the ballot's counter of a statement.
 #[derive(Clone, Copy, Debug, PartialEq, Eq)]
 enum Given {
     Mark(Mark),
     Asks(u8),
+    Records(u64, usize),
     Nominates(u64, usize),
     Prepares(u64, u32),
     Other,
@@ -83,6 +96,9 @@ fn next(outbox: &mut Outbox) -> Given {
     match outbox.next() {
         Out::Mark(mark) => Given::Mark(mark),
         Out::Message(Message::GetSet(hash)) => Given::Asks(hash.0[0]),
+        Out::Message(Message::Records { first, values }) => {
+            Given::Records(first.0, values.as_slice().len())
+        }
         Out::Message(Message::Envelope(envelope)) => statement(&envelope.get().statement),
         Out::Message(_) => Given::Other,
         Out::Nothing => Given::Nothing,
@@ -229,5 +245,34 @@ fn what_fits_is_what_is_written(rt: HostRuntime) -> Result<(), Fail> {
     assert!(rt; fits_as_it_is_written(alloc, Message::GetRecord(Slot(0)), true)?);
     assert!(rt; fits_as_it_is_written(alloc, nomination(alloc, 1, 64)?, true)?);
     assert!(rt; fits_as_it_is_written(alloc, nomination(alloc, 1, 65)?, false)?);
+    Ok(())
+}
+
+#[test]
+fn a_batch_waits_among_the_answers(rt: HostRuntime) -> Result<(), Fail> {
+    let alloc = rt.alloc();
+    let mut outbox = Outbox::new(alloc, true)?;
+    assert!(rt; put(&mut outbox, nomination(alloc, 1, 1)?));
+    assert!(rt; put(&mut outbox, batch(alloc, 4, 2)?));
+    assert!(rt; ask(&mut outbox, 5, 6));
+    assert_eq!(rt; next(&mut outbox), Given::Records(4, 2));
+    assert_eq!(rt; next(&mut outbox), Given::Asks(5));
+    assert_eq!(rt; next(&mut outbox), Given::Nominates(1, 1));
+    Ok(())
+}
+
+#[test]
+fn a_batch_that_fits_is_one_that_is_written(rt: HostRuntime) -> Result<(), Fail> {
+    let alloc = rt.alloc();
+    for (first, count, fits) in [
+        (1, 0, false),
+        (1, 1, true),
+        (1, 32, true),
+        (1, 33, false),
+        (u64::MAX, 1, true),
+        (u64::MAX, 2, false),
+    ] {
+        assert!(rt; fits_as_it_is_written(alloc, batch(alloc, first, count)?, fits)?);
+    }
     Ok(())
 }

@@ -6,8 +6,10 @@ use std::process::Abort;
 use std::test::*;
 
 mod again;
+mod batches;
 mod envelopes;
 mod kinds;
+mod reading;
 
 /// The record of slot 1 whose value is the operation list "put a 1".
 const RECORD: [u8; 40] = [
@@ -355,7 +357,7 @@ fn the_first_wrong_byte_of_padding_is_named(rt: HostRuntime) -> Result<(), Fail>
 
 #[test]
 fn every_other_kind_is_refused(rt: HostRuntime) {
-    for kind in [0, 7, 8, 255] {
+    for kind in [0, 8, 9, 255] {
         let mut other = RECORD;
         other[3] = kind;
         assert_eq!(rt; place_of_fault(rt.alloc(), &other), Some(0));

@@ -10,11 +10,11 @@ use Rattle.std.proofs.lemmas.List.Quantifiers.{all_pairs_push, position-Some}
 use Rattle.std.proofs.lemmas.List.Elements.{All-head, All-tail, All-push, All-drop, All-set}
 use Rattle.std.proofs.lemmas.Option.{get_or_from_slice_get}
 use Rattle.std.proofs.Math.ListN.{length-set}
-use Rattle.circular_buffer.specs.Buffer.{keep_last}
+use Rattle.circular_buffer.specs.Buffer.{Buffer, buffer, keep_last}
 use Rattle.scp_envelope.specs.declared.statement.Statement.{Statement}
 use Rattle.scp_wire.specs.Boxed.{Boxed}
 use Rattle.scp_wire.specs.declared.message.Message.{Message}
-use Rattle.scp_wire.specs.declared.message.Message.TheVariants.{Envelope, GetSet, Set, NoSet, GetRecord, Record}
+use Rattle.scp_wire.specs.declared.message.Message.TheVariants.{Envelope, GetSet, Set, NoSet, GetRecord, Record, Records}
 use Rattle.scp_outbox.specs.Fitting.{IsFitting}
 use Rattle.scp_outbox.specs.declared.mark.Mark.{Mark}
 use Rattle.scp_outbox.specs.declared.mark.Out.{Out}
@@ -152,6 +152,7 @@ puts_known v (Set set) new h fits k = subst IsOutbox (sym k) (ring_takes_known v
 puts_known v (NoSet hash) new h fits k = subst IsOutbox (sym k) (ring_takes_known v (NoSet hash) h fits)
 puts_known v (GetRecord slot) new h fits k = subst IsOutbox (sym k) (ring_takes_known v (GetRecord slot) h fits)
 puts_known v (Record slot value) new h fits k = subst IsOutbox (sym k) (ring_takes_known v (Record slot value) h fits)
+puts_known v (Records first values) new h fits k = subst IsOutbox (sym k) (ring_takes_known v (Records first values) h fits)
 
 statements_given_known : (v : OutboxView) (xs : List Boxed) → v.statements ≡ xs → IsOutbox v → IsOutbox (given_statements v xs).1 × IfMessage (given_statements v xs).0 IsFitting
 statements_given_known v [] is h = (h, tt)
@@ -173,3 +174,16 @@ pub gives_known : (v : OutboxView) (given_out : Out) (new : OutboxView) → IsOu
 gives_known v given_out new h k =
     let r = marks_given_known v v.marks refl h in
     subst (λ (p : Out × OutboxView). IsOutbox p.1 × IfMessage p.0 IsFitting) (sym k) r
+
+-- a message that isn't a statement was pushed
+pub record Pushed (v : OutboxView) (new : Buffer Message) : Type 0 where
+  pub known : IsOutbox (record v { ring = new.items })
+  pub capacity : new.capacity ≡ 64
+
+pub pushed_known : (v : OutboxView) (m : Message) (capacity : ℕ) (new : Buffer Message) → capacity ≡ 64 → new ≡ buffer (keep_last capacity (v.ring ++ m ∷ [])) capacity → IsOutbox v → IsFitting m → Pushed v new
+pushed_known v m capacity new full is h fits =
+    let at : new ≡ buffer (keep_last 64 (v.ring ++ m ∷ [])) 64 = subst (λ k. new ≡ buffer (keep_last k (v.ring ++ m ∷ [])) k) full is in
+    record {
+      known = subst (λ (xs : List Message). IsOutbox (record v { ring = xs })) (sym (ap (λ (b : Buffer Message). b.items) at)) (ring_takes_known v m h fits);
+      capacity = ap (λ (b : Buffer Message). b.capacity) at;
+    }

@@ -5,7 +5,7 @@ use Rattle.std.proofs.lemmas.List.Elements.{All-head, All-tail, All-push, All-dr
 use Rattle.circular_buffer.specs.Buffer.{keep_last}
 use Rattle.scp_wire.specs.Boxed.{Boxed}
 use Rattle.scp_wire.specs.declared.message.Message.{Message}
-use Rattle.scp_wire.specs.declared.message.Message.TheVariants.{Envelope, GetSet, Set, NoSet, GetRecord, Record}
+use Rattle.scp_wire.specs.declared.message.Message.TheVariants.{Envelope, GetSet, Set, NoSet, GetRecord, Record, Records}
 use Rattle.scp_outbox.specs.declared.mark.Mark.{Mark}
 use Rattle.scp_outbox.specs.declared.mark.Out.{Out}
 use Rattle.scp_outbox.specs.Outbox.{OutboxView, are_alike, Replaces, Puts, Gives, given_statements, given_messages, given_live, given_from, IfMessage}
@@ -34,6 +34,7 @@ module _ (P : Message → Type 0) where
   put_keeps v (NoSet hash) new k p h = ring_put v (NoSet hash) new k p h
   put_keeps v (GetRecord slot) new k p h = ring_put v (GetRecord slot) new k p h
   put_keeps v (Record slot value) new k p h = ring_put v (Record slot value) new k p h
+  put_keeps v (Records first values) new k p h = ring_put v (Records first values) new k p h
 
   statements_given : (v : OutboxView) (xs : List Boxed) → v.statements ≡ xs → AllWait P v → AllWait P (given_statements v xs).1 × IfMessage (given_statements v xs).0 P
   statements_given v [] is h = (h, tt)

@@ -7,7 +7,7 @@ use Rattle.scp_envelope.specs.declared.statement.Statement.{Statement}
 use Rattle.scp_envelope.specs.Newer.{IsNewer}
 use Rattle.scp_wire.specs.Boxed.{Boxed}
 use Rattle.scp_wire.specs.declared.message.Message.{Message}
-use Rattle.scp_wire.specs.declared.message.Message.TheVariants.{Envelope, GetSet, Set, NoSet, GetRecord, Record}
+use Rattle.scp_wire.specs.declared.message.Message.TheVariants.{Envelope, GetSet, Set, NoSet, GetRecord, Record, Records}
 use Rattle.scp_outbox.specs.Fitting.{IsFitting}
 use Rattle.scp_outbox.specs.declared.mark.Mark.{Mark}
 use Rattle.scp_outbox.specs.declared.mark.Mark.TheVariants.{Opened, Closed, Stop}
@@ -56,6 +56,7 @@ is_statement (Set set) = false
 is_statement (NoSet hash) = false
 is_statement (GetRecord slot) = false
 is_statement (Record slot value) = false
+is_statement (Records first values) = false
 
 -- another message goes last in the ring, and over 64 the first goes
 abbrev pub RingTakes : OutboxView → Message → OutboxView → Type 0
@@ -73,6 +74,7 @@ Puts old (Set set) new = RingTakes old (Set set) new
 Puts old (NoSet hash) new = RingTakes old (NoSet hash) new
 Puts old (GetRecord slot) new = RingTakes old (GetRecord slot) new
 Puts old (Record slot value) new = RingTakes old (Record slot value) new
+Puts old (Records first values) new = RingTakes old (Records first values) new
 
 -- whether messages may be given once the mark was given
 abbrev pub live_after : Mark → Bool → Bool

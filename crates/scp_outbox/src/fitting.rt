@@ -1,12 +1,16 @@
 //! Messages that fit a link.
 ghost use Rattle.std.specs.Prelude.{◌≡◌, ◌↔◌, ◌≤◌, length, IfOk, IfErr, IsOk, IsTrue};
-ghost use Rattle.scp_xdr.specs.Kind.{Fits, spelling};
+ghost use Rattle.scp_xdr.specs.Kind.{Fits, numbered, spelling};
+ghost use Rattle.scp_xdr.specs.Length.{spelled_len};
+ghost use Rattle.scp_xdr.specs.Shared.{value_kind};
+ghost use Rattle.scp_xdr.specs.Words.{Leaves};
 ghost use Rattle.scp_outbox.specs.Fitting.{IsFitting};
 
-use scp_wire::Message;
-use scp_xdr::Xdr;
+use scp_types::Value;
+use scp_wire::{BATCH_LIMIT, Message};
+use scp_xdr::{Xdr, numbered_fits, spend_array, spend_u64};
 
-/// The most bytes of an envelope or a quorum set in a link message: 65,536 without the 4 of its kind (this project's
+/// The most bytes of an envelope, a quorum set or a batch in a link message: 65,536 without the 4 of its kind (this project's
 /// profile).
 const PART_LIMIT: usize = 65_532;
 
@@ -22,8 +26,8 @@ pub struct FittingMessage {
 }
 
 impl FittingMessage {
-    /// The message, where it fits: a record's value has at most 4,096 bytes, and an envelope or a quorum set keeps its own
-    /// limits and has at most 65,532 bytes. Else the message is handed back. Takes no memory, and time in proportion to
+    /// The message, where it fits: a record's value has at most 4,096 bytes, and an envelope, a quorum set or a batch keeps its
+    /// own limits and has at most 65,532 bytes. Else the message is handed back. Takes no memory, and time in proportion to
     /// the message.
     pub fn new(message: Message) -> Result<FittingMessage, Message>
         // It is made just where the message fits.
@@ -49,6 +53,7 @@ fn is_fitting(message: &Message) -> bool
         Message::Envelope(envelope) => is_part(envelope.get()),
         Message::Set(set) => is_part(set),
         Message::Record(_, value) => value.as_slice().len() <= VALUE_LIMIT,
+        Message::Records { first, values } => is_batch(first.0, values.as_slice()),
         Message::GetSet(_) | Message::NoSet(_) | Message::GetRecord(_) => true,
     }
 }
@@ -58,4 +63,20 @@ fn is_part<T: Xdr>(part: &T) -> bool
     ensures { IsTrue result ↔ (Fits T.kind (T.value part.now) × (length (spelling T.kind (T.value part.now)) ≤ PART_LIMIT)) }
 {
     part.fits() && part.spend(PART_LIMIT).is_some()
+}
+
+/// Whether the batch keeps its limits, and has few enough bytes.
+#[tactic(auto, using(crate::proofs::Room::within_room))]
+fn is_batch(first: u64, values: &[Value]) -> bool
+    ensures { IsTrue result ↔ (Fits (numbered BATCH_LIMIT value_kind) (first, values.now) × (length (spelling (numbered BATCH_LIMIT value_kind) (first, values.now)) ≤ PART_LIMIT)) }
+{
+    numbered_fits(BATCH_LIMIT, first, values) && spend_batch(first, values, PART_LIMIT).is_some()
+}
+
+/// Takes the length of the batch's spelling off the room.
+fn spend_batch(first: u64, values: &[Value], room: usize) -> Option<usize>
+    ensures { Leaves room result (spelled_len (numbered BATCH_LIMIT value_kind) (first, values.now)) }
+{
+    let _number = first;
+    spend_array(values, spend_u64(room)?)
 }

@@ -197,6 +197,7 @@ set_none (message.Set set) e = refl
 set_none (message.NoSet hash) e = refl
 set_none (message.GetRecord slot) e = refl
 set_none (message.Record slot value) e = refl
+set_none (message.Records first values) e = refl
 
 pub set_some : (m : Message) (set : QuorumTree) → named m ≡ Some (hash_of set) → IsSane set → IsSetOf m (Some set)
 set_some (message.Envelope envelope) set e sane = (sane, ap (λ (h : Hash). h.0) (some_eq _ _ e))
@@ -205,6 +206,7 @@ set_some (message.Set inside) set e sane = absurd cc
 set_some (message.NoSet hash) set e sane = absurd cc
 set_some (message.GetRecord slot) set e sane = absurd cc
 set_some (message.Record slot value) set e sane = absurd cc
+set_some (message.Records first values) set e sane = absurd cc
 
 -- a message that comes just now
 pub new_stands : (start : Settled) (taken : List Inbound) (s : Settled) (link : ℕ) (y : Carried) → s ≡ settled_by start taken → IsSane s.store.local → AllByRecursion IsSane s.store.others → is_open y.conn s.queues ≡ true → Stands start (taken ++ inbound.Carried y ∷ []) (wanted_with link y.conn (entering s.store y) s.wanted) y.conn (entering s.store y)

@@ -10,7 +10,7 @@ use Rattle.scp_quorum.specs.QuorumKind.{set_hash}
 use Rattle.scp_envelope.specs.Kinds.{set_hash_of}
 use Rattle.scp_wire.specs.declared.carried.Carried.{Carried}
 use Rattle.scp_wire.specs.declared.message.Message.{Message}
-use Rattle.scp_wire.specs.declared.message.Message.TheVariants.{Envelope, GetSet, Set, NoSet, GetRecord, Record}
+use Rattle.scp_wire.specs.declared.message.Message.TheVariants.{Envelope, GetSet, Set, NoSet, GetRecord, Record, Records}
 use Rattle.scp_wire.specs.Connections.{same_node, same_conn}
 use Rattle.scp_wire.specs.Lanes.{slot_of}
 use Rattle.scp_fetch.specs.Hashes.{same_hash}
@@ -59,6 +59,7 @@ named (Set set) = None
 named (NoSet hash) = None
 named (GetRecord slot) = None
 named (Record slot value) = None
+named (Records first values) = None
 
 -- the hash that names the set: the SHA-256 (FIPS 180-4) of its spelling
 abbrev pub hash_of : QuorumTree → Hash

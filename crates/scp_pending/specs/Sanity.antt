@@ -5,7 +5,7 @@ use Rattle.std.proofs.Math.Decide.{dec_le, dec_lt, map_dec}
 use Rattle.std.specs.List.{AllByRecursion, IsDistinct}
 use Rattle.std.specs.Ordering.{eq_by_cmp}
 use Rattle.scp_xdr.specs.Tree.{Trees, no_trees, tree_then, Tree, row_len}
-use Rattle.scp_xdr.specs.Kind.{Kind, uint32, uint64, fixed, opaque, optional, array, both, union, tree, Arms, no_arm, arm, Values, ArmValues, Fits, ArmFits, tag_of, RowFits, TreeFits, limit_at}
+use Rattle.scp_xdr.specs.Kind.{Kind, uint32, uint64, fixed, opaque, optional, array, numbered, both, union, tree, Arms, no_arm, arm, Values, ArmValues, Fits, ArmFits, tag_of, RowFits, TreeFits, limit_at}
 use Rattle.scp_quorum.specs.NodeSet.{node_cmp}
 use Rattle.scp_quorum.specs.QuorumTree.{Level, QuorumTree}
 use Rattle.scp_quorum.specs.QuorumKind.{set_kind, set_value, set_spelling}
@@ -28,6 +28,12 @@ decide_four (yes a) (yes b) (yes c) (no n) = no (λ p. n p.3)
 decide_four (yes a) (yes b) (no n) e = no (λ p. n p.2)
 decide_four (yes a) (no n) d e = no (λ p. n p.1)
 decide_four (no n) c d e = no (λ p. n p.0)
+
+decide_six : {A B C D E F : Type 0} → Dec A → Dec B → Dec C → Dec D → Dec E → Dec F → Dec (A × B × C × D × E × F)
+decide_six {A} {B} {C} {D} {E} {F} a b c d e f = map_dec
+    (λ (h : (A × B × C) × (D × E × F)). (h.0.0, h.0.1, h.0.2, h.1.0, h.1.1, h.1.2))
+    (λ (h : A × B × C × D × E × F). ((h.0, h.1, h.2), (h.3, h.4, h.5)))
+    (decide_both (decide_three a b c) (decide_three d e f))
 
 decide_all : {X : Type 0} (P : X → Type 0) → ((x : X) → Dec (P x)) → (xs : List X) → Dec (AllByRecursion P xs)
 decide_all P d [] = yes tt
@@ -65,6 +71,7 @@ mutual
   decide_fits (optional k) None = yes tt
   decide_fits (optional k) (Some v) = decide_fits k v
   decide_fits (array max k) vs = decide_three (dec_le (length vs) max) (dec_lt (length vs) (2 ^ 32)) (decide_all (λ v. Fits k v) (λ v. decide_fits k v) vs)
+  decide_fits (numbered max k) v = decide_six (dec_lt v.0 (2 ^ 64)) (dec_lt 0 (length v.1)) (dec_le (length v.1) max) (dec_lt (length v.1) (2 ^ 32)) (dec_le (v.0 + length v.1) (2 ^ 64)) (decide_all (λ x. Fits k x) (λ x. decide_fits k x) v.1)
   decide_fits (both a b) v = decide_both (decide_fits a v.0) (decide_fits b v.1)
   decide_fits (union arms) v = decide_arm arms v
   decide_fits (tree deep max head) t = decide_four (decide_fits head t.head) (dec_le (row_len t.inner) (limit_at deep max)) (dec_lt (row_len t.inner) (2 ^ 32)) (decide_row (λ v. Fits head v) (λ v. decide_fits head v) (deep - 1) max t.inner)

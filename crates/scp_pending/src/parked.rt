@@ -61,7 +61,9 @@ pub(crate) fn slot_in(message: &Message) -> Slot
         Message::Envelope(envelope) => envelope.get().statement.slot,
         Message::GetRecord(slot) => *slot,
         Message::Record(slot, _) => *slot,
-        Message::GetSet(_) | Message::Set(_) | Message::NoSet(_) => Slot(0),
+        Message::GetSet(_) | Message::Set(_) | Message::NoSet(_) | Message::Records { .. } => Slot(
+            0,
+        ),
     }
 }
 

@@ -12,7 +12,7 @@ use Rattle.scp_envelope.specs.Kinds.{envelope_kind, envelope_value, pledges_kind
 use Rattle.scp_envelope.specs.declared.statement.Pledges.{Pledges}
 use Rattle.scp_envelope.specs.declared.statement.Pledges.TheVariants.{Prepare, Confirm, Externalize, Nominate}
 use Rattle.scp_wire.specs.declared.message.Message.{Message}
-use Rattle.scp_wire.specs.declared.message.Message.TheVariants.{Envelope, GetSet, Set, NoSet, GetRecord, Record}
+use Rattle.scp_wire.specs.declared.message.Message.TheVariants.{Envelope, GetSet, Set, NoSet, GetRecord, Record, Records}
 use Rattle.scp_wire.specs.Message.{message_kind, message_value, SpellsMessage, FitsMessage, HasRanges}
 use Rattle.scp_wire.proofs.Limits.{over_breaks, over_is}
 use Rattle.scp_outbox.specs.Fitting.{IsFitting}
@@ -84,6 +84,7 @@ spelt_fits bytes (Set q) s = spelt_by bytes (Set q) tt s
 spelt_fits bytes (NoSet hash) s = λ b. b
 spelt_fits bytes (GetRecord slot) s = λ b. b
 spelt_fits bytes (Record slot value) s = λ longer. omega (arith, longer, s.spells.fits.1.1.1.1.1.1.1.0)
+spelt_fits bytes (Records first values) s = spelt_by bytes (Records first values) s.spells.fits.1.1.1.1.1.1.1.0 s
 
 pub spelt : WhatIsSpeltFits
 spelt = spelt_fits

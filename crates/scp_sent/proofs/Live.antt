@@ -2,7 +2,7 @@
 use Rattle.std.proofs.Common.{◌≡◌, Bool, List, [], ◌∷◌, refl, sym, ◌∙◌, ap, subst}
 use Rattle.scp_wire.specs.Boxed.{Boxed}
 use Rattle.scp_wire.specs.declared.message.Message.{Message}
-use Rattle.scp_wire.specs.declared.message.Message.TheVariants.{Envelope, GetSet, Set, NoSet, GetRecord, Record}
+use Rattle.scp_wire.specs.declared.message.Message.TheVariants.{Envelope, GetSet, Set, NoSet, GetRecord, Record, Records}
 use Rattle.scp_outbox.specs.Outbox.{OutboxView, Puts, Gives, given_from, given_live, given_messages, given_statements}
 use Rattle.scp_outbox.specs.declared.mark.Mark.{Mark}
 use Rattle.scp_outbox.specs.declared.mark.Out.{Out}
@@ -22,6 +22,7 @@ puts_live old (Set set) new p h = same_live old new _ p refl refl h
 puts_live old (NoSet hash) new p h = same_live old new _ p refl refl h
 puts_live old (GetRecord slot) new p h = same_live old new _ p refl refl h
 puts_live old (Record slot value) new p h = same_live old new _ p refl refl h
+puts_live old (Records first values) new p h = same_live old new _ p refl refl h
 
 -- what a live outbox without marks gives is what is first among its messages
 pub unmarked : (old : OutboxView) (g : Out) (new : OutboxView) → IsLive old → Gives old g new → (g, new) ≡ given_messages old old.ring

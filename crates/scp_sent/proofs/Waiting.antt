@@ -5,7 +5,7 @@ use Rattle.std.proofs.lemmas.List.{get_or_append_left, get_or-append-add, get_or
 use Rattle.std.proofs.lemmas.List.Elements.{All-push, All-set, All-drop, All-tail, Contains-append_left, Contains-append_right, Contains-get_or}
 use Rattle.scp_wire.specs.Boxed.{Boxed}
 use Rattle.scp_wire.specs.declared.message.Message.{Message}
-use Rattle.scp_wire.specs.declared.message.Message.TheVariants.{Envelope, GetSet, Set, NoSet, GetRecord, Record}
+use Rattle.scp_wire.specs.declared.message.Message.TheVariants.{Envelope, GetSet, Set, NoSet, GetRecord, Record, Records}
 use Rattle.scp_outbox.specs.Outbox.{OutboxView, keep_last, are_alike, Takes, Replaces, Puts, IsOutbox}
 use Rattle.scp_outbox.proofs.Kept.{puts_known}
 use Rattle.scp_sent.specs.Handing.{PutsAll, empty_outbox}
@@ -72,6 +72,7 @@ owes_put handed ms o (Set set) p next puts known h = put_ring handed ms o (Set s
 owes_put handed ms o (NoSet hash) p next puts known h = put_ring handed ms o (NoSet hash) p refl next puts known h
 owes_put handed ms o (GetRecord slot) p next puts known h = put_ring handed ms o (GetRecord slot) p refl next puts known h
 owes_put handed ms o (Record slot value) p next puts known h = put_ring handed ms o (Record slot value) p refl next puts known h
+owes_put handed ms o (Records first values) p next puts known h = put_ring handed ms o (Records first values) p refl next puts known h
 
 -- all that is handed out is put
 owes_puts : (handed ms : List Message) (o : OutboxView) (more : List Message) (p : OutboxView) → All (IsNext handed ms) more → PutsAll o more p → Owes handed ms o → Owes handed ms p

@@ -5,7 +5,7 @@ use Rattle.scp_envelope.specs.declared.statement.Statement.{Statement}
 use Rattle.scp_envelope.specs.Newer.{IsNewer}
 use Rattle.scp_wire.specs.Message.{message_value, SpellsMessage}
 use Rattle.scp_wire.specs.declared.message.Message.{Message}
-use Rattle.scp_wire.specs.declared.message.Message.TheVariants.{Envelope, GetSet, Set, NoSet, GetRecord, Record}
+use Rattle.scp_wire.specs.declared.message.Message.TheVariants.{Envelope, GetSet, Set, NoSet, GetRecord, Record, Records}
 use Rattle.scp_outbox.specs.Outbox.{are_alike}
 
 abbrev pub statement_of : Message → Option Statement
@@ -15,6 +15,7 @@ statement_of (Set set) = None
 statement_of (NoSet hash) = None
 statement_of (GetRecord slot) = None
 statement_of (Record slot value) = None
+statement_of (Records first values) = None
 
 -- of two statements of one slot and kind the later is newer
 abbrev pub IsStep : Option Statement → Option Statement → Type 0

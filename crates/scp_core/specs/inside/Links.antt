@@ -1,5 +1,5 @@
 -- What one event does to one link; nothing here need be believed.
-use Rattle.std.specs.Prelude.{ℕ, ◌+◌, ◌<◌, ◌≡◌, ◌≢◌, ◌⊎◌, Bool, true, false, List, [], ◌∷◌, ◌++◌, Some, None, IsSome, length, slice_get, slice_set, Result, Ok, Err}
+use Rattle.std.specs.Prelude.{ℕ, ◌+◌, ◌<◌, ◌≡◌, ◌≢◌, ◌⊎◌, Bool, true, false, List, [], ◌∷◌, ◌++◌, Some, None, length, slice_get, slice_set, Result, Ok, Err}
 use Rattle.scp_types.specs.declared.names.NodeId.{NodeId}
 use Rattle.scp_wire.specs.declared.link.LinkItem.{LinkItem}
 use Rattle.scp_wire.specs.declared.link.LinkItem.TheVariants as item
@@ -30,21 +30,21 @@ Closes peer me k Accepted k2 = (k.is_open ≡ true) × (length k.queue ≢ k.roo
 Closes peer me k reply k2 = ⊥
 
 abbrev pub Reads : LinkView → Reply → LinkView → Type 0
-Reads k Blocked k2 = IsSome k.hand × (k2 ≡ k)
-Reads k Idle k2 = (k.hand ≡ None) × (k.queue ≡ []) × (k2 ≡ k)
-Reads k Moved k2 = (k.hand ≡ None) × (x : LinkItem) × (rest : List LinkItem) × (k.queue ≡ x ∷ rest) × (k2 ≡ record k { queue = rest; reader = after k.reader x; hand = reading k.reader x })
-Reads k NoMemory k2 = (k.hand ≡ None) × (k.queue ≢ []) × (k2.life ≡ k.life)
+Reads k Blocked k2 = (k.hand ≢ []) × (k2 ≡ k)
+Reads k Idle k2 = (k.hand ≡ []) × (k.queue ≡ []) × (k2 ≡ k)
+Reads k Moved k2 = (k.hand ≡ []) × (x : LinkItem) × (rest : List LinkItem) × (k.queue ≡ x ∷ rest) × (k2 ≡ record k { queue = rest; reader = after k.reader x; hand = reading k.reader x })
+Reads k NoMemory k2 = (k.hand ≡ []) × (k.queue ≢ []) × (k2.life ≡ k.life)
 Reads k reply k2 = ⊥
 
 -- one of the links, if it is there
 abbrev pub OnLinks : (LinkView → Reply → LinkView → Type 0) → List LinkView → ℕ → Reply → List LinkView → Type 0
 OnLinks does old l reply new = ((slice_get old l ≡ None) × (reply ≡ NoLink) × (new ≡ old)) ⊎ ((k : LinkView) × (k2 : LinkView) × (slice_get old l ≡ Some k) × does k reply k2 × (new ≡ slice_set old l k2))
 
--- what is in the hand goes out where there is room for it
+-- the first of what is in the hand goes out where there is room for it
 abbrev pub Gives : LinkView → Bool → Result Inbound Reply → LinkView → Type 0
-Gives k full (Err Idle) k2 = (k.hand ≡ None) × (k2 ≡ k)
-Gives k full (Err Blocked) k2 = IsSome k.hand × (full ≡ true) × (k2 ≡ k)
-Gives k full (Ok x) k2 = (full ≡ false) × (k.hand ≡ Some x) × (k2 ≡ record k { hand = None })
+Gives k full (Err Idle) k2 = (k.hand ≡ []) × (k2 ≡ k)
+Gives k full (Err Blocked) k2 = (k.hand ≢ []) × (full ≡ true) × (k2 ≡ k)
+Gives k full (Ok x) k2 = (full ≡ false) × (xs : List Inbound) × (k.hand ≡ x ∷ xs) × (k2 ≡ record k { hand = xs })
 Gives k full (Err reply) k2 = ⊥
 
 abbrev pub Puts : List LinkView → ℕ → Bool → Result Inbound Reply → List LinkView → Type 0

@@ -73,6 +73,28 @@ fn a_record_is_applied(rt: HostRuntime) -> Result<(), Fail> {
 }
 
 #[test]
+fn a_batch_is_applied(rt: HostRuntime) -> Result<(), Fail> {
+    let story = Story {
+        set: 1,
+        acts: &[
+            (1, Open(0)),
+            (1, Ask(1)),
+            (1, Ask(2)),
+            (1, Ask(3)),
+            (1, Records(1)),
+        ],
+        journal: &[
+            Taken(0, Verdict::Decided),
+            Taken(1, Verdict::Decided),
+            Taken(2, Verdict::Decided),
+        ],
+        applied: 3,
+    };
+    expect_right(&rt, rt.alloc(), &story)?;
+    Ok(())
+}
+
+#[test]
 fn both_are_taken_once_the_set_came(rt: HostRuntime) -> Result<(), Fail> {
     let story = Story {
         set: 1,

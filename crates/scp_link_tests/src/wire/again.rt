@@ -60,6 +60,7 @@ fn refused_messages_are_read_written_and_copied_again(rt: HostRuntime) -> Result
         &GET_RECORD,
         &RECORD,
         &ONE_BYTE,
+        &batches::BATCH,
     ] {
         expect_again(&rt, rt.alloc(), bytes)?;
     }

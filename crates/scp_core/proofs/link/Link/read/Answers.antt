@@ -1,5 +1,8 @@
-use Rattle.std.proofs.Common.{rules, refl}
+use Rattle.std.proofs.Common.{rules}
+use Rattle.scp_wire.specs.LinkReading.{reading}
+use Rattle.scp_core.specs.contracts.link.Link.{the_view}
+use Rattle.scp_core.proofs.Links.{read_into}
 use Rattle.scp_core.proofs.link.Link.read.Goals as goal
 
 pub returns-in-Ok : goal.returns-in-Ok
-returns-in-Ok c = (search rules, c.in-Some.item, c.next.new.queue.items, rw (← c.self.view_is) c.in-Some.ensures.item, rw (← c.self.view_is, c.next.ensures.room, c.in-Ok.ensures.reading, c.in-Ok.ensures.after) refl)
+returns-in-Ok c = (search rules, c.in-Some.item, c.next.new.queue.items, rw (← c.self.view_is) c.in-Some.ensures.item, rw (← c.self.view_is, c.next.ensures.room, c.in-Ok.ensures.reading, c.in-Ok.ensures.after) (read_into (the_view c.self.inside) c.in-Some.item c.next.new.queue.items (reading c.self.inside.reader.at c.in-Some.item)))
