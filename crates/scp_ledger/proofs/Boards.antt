@@ -1,12 +1,11 @@
 -- What an input of a slot's machine does to its board, and what it keeps.
-use Rattle.std.proofs.Common.{◌≡◌, ◌≢◌, ℕ, Bool, true, false, cond, List, [], refl, sym, ◌∙◌, ap, subst, inl, inr}
-use Rattle.std.specs.Prelude.{Option, Some, None, ◌&&◌, ◌⊎◌, is_some, IsSome, IsSomeAnd, if◌then◌else◌}
-use Rattle.std.specs.Option.{option_map, ForSome}
+use Rattle.std.proofs.Common.{◌≡◌, ℕ, Bool, true, false, cond, List, refl, sym, ◌∙◌, ap, subst, inl, inr}
+use Rattle.std.specs.Prelude.{Option, Some, None, ◌&&◌, IsSome, if◌then◌else◌}
+use Rattle.std.specs.Option.{option_map}
 use Rattle.std.specs.BTreeMap.{is_at}
 use Rattle.scp_types.specs.declared.names.NodeId.{NodeId}
 use Rattle.scp_quorum.specs.NodeSet.{node_cmp}
 use Rattle.scp_driver.specs.declared.driver.Level.{Level}
-use Rattle.scp_driver.specs.declared.driver.Level.TheVariants.{FullyValidated}
 use Rattle.scp_envelope.specs.declared.statement.Envelope.{Envelope as Enveloped}
 use Rattle.scp_envelope.specs.declared.statement.Statement.{Statement}
 use Rattle.scp_vote.specs.Board.{kind_of_pledges, KeepsOwn}
@@ -22,7 +21,7 @@ use Rattle.scp_slot.specs.Newest.{Puts}
 use Rattle.scp_slot.specs.Judged.{IsBehind}
 use Rattle.scp_slot.specs.Takes as slot
 use Rattle.scp_ledger.specs.declared.journal.Verdict.{Verdict}
-use Rattle.scp_ledger.specs.declared.journal.Verdict.TheVariants.{OldSlot, FarSlot, Already, Own, BadStatement, BadValue, Stale, Idle, Fresh}
+use Rattle.scp_ledger.specs.declared.journal.Verdict.TheVariants.{Fresh}
 use Rattle.scp_slot.specs.declared.output.Verdict.{Verdict as Found}
 use Rattle.scp_slot.specs.declared.output.Verdict.TheVariants as found
 use Rattle.scp_ledger.specs.Journal.{Heard, is_fresh, is_its, same_kind}

@@ -1,6 +1,6 @@
 -- The certificate on a machine's board, as one over the last fresh statements.
-use Rattle.std.proofs.Common.{◌≡◌, ◌≢◌, ◌⊎◌, ℕ, ◌≤◌, Bool, true, false, cond, List, [], refl, sym, ◌∙◌, ap, subst, inl, inr, arith}
-use Rattle.std.specs.Prelude.{Option, Some, None, IsSome, IsSomeAnd}
+use Rattle.std.proofs.Common.{◌≡◌, ◌≢◌, ◌⊎◌, ℕ, Bool, true, false, cond, List, refl, sym, ◌∙◌, ap, subst, inl, inr, arith}
+use Rattle.std.specs.Prelude.{Option, Some, None, IsSomeAnd}
 use Rattle.std.specs.Option.{option_map}
 use Rattle.std.specs.BTreeMap.{is_at}
 use Rattle.std.specs.BTreeSet as tree_set
@@ -20,9 +20,8 @@ use Rattle.scp_ballot.specs.declared.balloted.Certified.{Certified}
 use Rattle.scp_ballot.specs.Balloting as ballot
 use Rattle.scp_slot.specs.declared.newest.Heard.{Heard as Kept}
 use Rattle.scp_slot.specs.Slot.{SlotView, Shows, IsRunning}
-use Rattle.scp_ledger.specs.Journal.{Heard}
 use Rattle.scp_ledger.specs.Ledger.{heard_of, heard_at}
-use Rattle.scp_ledger.specs.Certificate.{counted, counted_of, is_among, Externalizes, IsOwnExternalize, IsCertificate}
+use Rattle.scp_ledger.specs.Certificate.{counted, counted_of, Externalizes, IsOwnExternalize, IsCertificate}
 
 which : (b : Bool) → (b ≡ true) ⊎ (b ≡ false)
 which true = inl refl

@@ -20,7 +20,6 @@ use Rattle.scp_wire.specs.declared.link.Command.{Command}
 use Rattle.scp_wire.specs.declared.link.Command.TheVariants.{Propose, Round, Timer, Tick, Ask}
 use Rattle.scp_pending.specs.declared.ready.Ready.{Ready}
 use Rattle.scp_pending.specs.declared.ready.Ready.TheVariants as ready
-use Rattle.scp_pending.specs.Passes.{Passes as Pass}
 use Rattle.scp_ledger.specs.declared.journal.Decision.{Decision}
 use Rattle.scp_ledger.specs.declared.journal.Fate.{Fate}
 use Rattle.scp_ledger.specs.declared.journal.Fate.TheVariants.{Taken, Dropped, Closed}
@@ -45,7 +44,7 @@ use Rattle.scp_pending.specs.Endings.{passed, commands_of}
 use Rattle.scp_quorum.specs.QuorumTree.{QuorumTree}
 use Rattle.scp_ledger.specs.Journal.{Heard, is_fresh, fresh_in}
 use Rattle.scp_ledger.specs.Onwards.{decision_on, decisions_on, request_on, requests_on, MaySend, KeepsWindow, WindowIsKept}
-use Rattle.scp_ledger.specs.Runs.{Taking, thing_of, things, onward_of, onwards_of, nothing_taken, Leads, was_fresh, heard_beside, freshly_heard, is_asking, freshly_asks, stood_by, IsJudged, AreJudged, verdict_in, verdict_by, IsRun}
+use Rattle.scp_ledger.specs.Runs.{Taking, thing_of, onward_of, onwards_of, nothing_taken, Leads, was_fresh, heard_beside, freshly_heard, is_asking, freshly_asks, stood_by, IsJudged, AreJudged, verdict_in, verdict_by, IsRun}
 use Rattle.scp_ledger.specs.Journals.{Entry, entry_in, entry_of, request_by, IsToAll, TakesGrow, Journals, JournalsPass, LedgerKeepsWindow}
 use Rattle.scp_ledger.proofs.Judging.{fresh_in-append, decisions_pushed, heard_pushed, asked_pushed, judged_here, leads_push, judged_push}
 

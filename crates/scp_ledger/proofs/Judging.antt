@@ -1,5 +1,5 @@
 -- A run with one thing more: the verdict on it is the first that fits over what stood before it.
-use Rattle.std.proofs.Common.{◌≡◌, ℕ, Bool, true, false, List, [], ◌∷◌, ◌++◌, ◌⊎◌, ◌<◌, inl, inr, refl, sym, ◌∙◌, ap, subst, append_assoc, arith}
+use Rattle.std.proofs.Common.{◌≡◌, ℕ, Bool, true, false, List, [], ◌∷◌, ◌++◌, ◌<◌, inl, inr, refl, sym, ◌∙◌, ap, subst, append_assoc, arith}
 use Rattle.std.specs.Prelude.{Option, Some, None, IsSomeAnd, ◌||◌, flat_map, option_to_list}
 use Rattle.std.specs.List.{list_any}
 use Rattle.std.proofs.lemmas.Grind.{flat_map-append}
@@ -24,15 +24,14 @@ use Rattle.scp_ledger.specs.declared.journal.Decision.{Decision}
 use Rattle.scp_ledger.specs.declared.journal.Fate.{Fate}
 use Rattle.scp_ledger.specs.declared.journal.Verdict.{Verdict}
 use Rattle.scp_ledger.specs.declared.journal.Verdict.TheVariants.{Unasked, Idle, Fresh, Forwarded, Decided}
-use Rattle.scp_ledger.specs.declared.took.Onward.{Onward}
 use Rattle.scp_ledger.specs.declared.took.Took.{Took}
 use Rattle.scp_ledger.specs.Decisions.{IsLowest, is_decided}
 use Rattle.scp_ledger.specs.Journal.{Heard, fresh_heard, fresh_in}
 use Rattle.scp_ledger.specs.Onwards.{decision_on, decisions_on}
-use Rattle.scp_ledger.specs.Runs.{Taking, thing_of, things, onward_of, onwards_of, Leads, freshly_heard, freshly_asks, Stood, stood_by, IsMessageVerdict, IsFound, IsCommandVerdict, IsVerdict, IsJudged, AreJudged}
+use Rattle.scp_ledger.specs.Runs.{Taking, onward_of, onwards_of, Leads, freshly_heard, freshly_asks, Stood, stood_by, IsMessageVerdict, IsFound, IsCommandVerdict, IsVerdict, IsJudged, AreJudged}
 use Rattle.scp_ledger.specs.Seen.{LedgerView, is_asked}
 use Rattle.scp_ledger.specs.Takes.{Takes, TakesMessage, TakesCommand, Commands}
-use Rattle.scp_ledger.specs.Verdicts.{FirstOf, BehindGate, BehindAlready, IsFar, IsOpen, link_of}
+use Rattle.scp_ledger.specs.Verdicts.{FirstOf, BehindGate, BehindAlready, IsOpen, link_of}
 
 -- ---- lists
 

@@ -1,27 +1,25 @@
 -- Decisions and machines as the journal grows.
-use Rattle.std.proofs.Common.{◌≡◌, ◌≢◌, ℕ, ◌+◌, ◌<◌, ◌≤◌, Bool, true, false, cond, List, [], ◌∷◌, ◌++◌, refl, sym, ◌∙◌, ap, subst, All, length, get_or, arith, nat_eq, inl, inr, append_assoc}
-use Rattle.std.specs.Prelude.{Option, Some, None, ◌&&◌, ◌||◌, IfSome, IsSome, IsSomeAnd, Contains, option_to_list, is_some}
-use Rattle.std.specs.Option.{option_map, ForSome}
-use Rattle.std.specs.List.{list_any}
+use Rattle.std.proofs.Common.{◌≡◌, ◌≢◌, ℕ, ◌+◌, ◌≤◌, Bool, true, false, cond, List, [], ◌∷◌, ◌++◌, refl, sym, ◌∙◌, ap, subst, All, length, get_or, nat_eq, inl, inr, append_assoc}
+use Rattle.std.specs.Prelude.{Option, Some, None, ◌&&◌, ◌||◌, IfSome, IsSome, IsSomeAnd, Contains, option_to_list}
+use Rattle.std.specs.Option.{option_map}
 use Rattle.std.specs.BTreeMap.{is_at as is_key}
 use Rattle.std.specs.BTreeSet as tree_set
-use Rattle.std.proofs.lemmas.Bool.{cases_lt, eqb-true, eq-eqb}
+use Rattle.std.proofs.lemmas.Bool.{cases_lt, eq-eqb}
 use Rattle.std.proofs.lemmas.List.{append-nil}
 use Rattle.std.proofs.lemmas.List.Elements.{All-nil, All-cons, All-push, All-append, All-weaker, All-contains, All-contains_itself, All-get_or, Contains-append_left}
 use Rattle.std.proofs.lemmas.List.Folds.{list_any-append}
 use Rattle.std.proofs.lemmas.List.Quantifiers.{all_pairs_push}
 use Rattle.scp_types.specs.declared.names.ConnId.{ConnId}
 use Rattle.scp_types.specs.declared.names.NodeId.{NodeId}
-use Rattle.scp_types.specs.declared.names.Seq.{Seq}
 use Rattle.scp_types.specs.declared.names.Slot.{Slot}
 use Rattle.scp_driver.specs.declared.driver.Level.{Level}
-use Rattle.scp_quorum.specs.NodeSet.{node_cmp, is_in}
+use Rattle.scp_quorum.specs.NodeSet.{node_cmp}
 use Rattle.scp_quorum.specs.QuorumTree.{QuorumTree}
 use Rattle.scp_quorum.specs.QuorumKind.{set_hash}
 use Rattle.scp_quorum.specs.Satisfies.{Satisfies}
 use Rattle.scp_envelope.specs.Claims.{AcceptsCommit}
 use Rattle.scp_vote.specs.declared.claim.StatementKind.{StatementKind}
-use Rattle.scp_vote.specs.declared.claim.StatementKind.TheVariants.{Nomination, Balloting}
+use Rattle.scp_vote.specs.declared.claim.StatementKind.TheVariants.{Balloting}
 use Rattle.scp_ballot.specs.declared.balloted.Certified.{Certified}
 use Rattle.scp_ballot.specs.Balloting as ballot
 use Rattle.scp_slot.specs.declared.machine.SlotMachine.{SlotMachine}
@@ -34,13 +32,13 @@ use Rattle.scp_ledger.specs.declared.journal.Decision.{Decision}
 use Rattle.scp_ledger.specs.declared.journal.Fate.{Fate}
 use Rattle.scp_ledger.specs.declared.journal.Origin.{Origin}
 use Rattle.scp_ledger.specs.declared.journal.Origin.TheVariants.{Machine, Named}
-use Rattle.scp_ledger.specs.Journal.{Heard, newest, is_of, is_its, fresh_heard}
-use Rattle.scp_ledger.specs.Certificate.{IsCertificate, IsOwnExternalize, counted, counted_of, is_among}
-use Rattle.scp_ledger.specs.Decisions.{is_at, is_decided, OnePerSlot, IsFounded, RestsOn, IsNamed, HasItsDecision, decision_by, IsLowest, IsNext, AreInWindow}
+use Rattle.scp_ledger.specs.Journal.{Heard, newest, is_of, is_its}
+use Rattle.scp_ledger.specs.Certificate.{IsCertificate, IsOwnExternalize, counted_of, is_among}
+use Rattle.scp_ledger.specs.Decisions.{is_at, is_decided, OnePerSlot, IsFounded, RestsOn, HasItsDecision, decision_by, IsLowest, IsNext, AreInWindow}
 use Rattle.scp_ledger.specs.Seen.{LedgerView, is_asked}
-use Rattle.scp_ledger.specs.Verdicts.{IsOpen, IsFar, HasItsSet, link_of}
+use Rattle.scp_ledger.specs.Verdicts.{IsOpen, HasItsSet, link_of}
 use Rattle.scp_ledger.specs.Ledger.{IsLedger, IsMachineOf, FitsMachine, heard_of, heard_at}
-use Rattle.scp_ledger.specs.Takes.{decision_of, verdict_from}
+use Rattle.scp_ledger.specs.Takes.{verdict_from}
 use Rattle.scp_ledger.proofs.Boards.{Boards, Stepped, brings}
 use Rattle.scp_ledger.proofs.Certified.{certified_here, own_here}
 

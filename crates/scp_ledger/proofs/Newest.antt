@@ -1,6 +1,6 @@
 -- The last fresh statement of a slot, kind and node, with one entry more.
 use Rattle.std.proofs.Common.{◌≡◌, ℕ, Bool, true, false, cond, List, [], ◌∷◌, ◌++◌, refl, sym, ◌∙◌, ap, append_assoc}
-use Rattle.std.specs.Prelude.{Option, Some, None, ◌&&◌, filter, fold, option_to_list}
+use Rattle.std.specs.Prelude.{Option, Some, None, filter, fold, option_to_list}
 use Rattle.std.proofs.lemmas.List.Elements.{filter-append}
 use Rattle.std.proofs.lemmas.List.{append-nil}
 use Rattle.scp_types.specs.declared.names.NodeId.{NodeId}

@@ -1,5 +1,5 @@
 -- What came of an envelope, and of a record.
-use Rattle.std.proofs.Common.{◌≡◌, ◌≢◌, ℕ, Bool, true, false, List, [], ◌∷◌, refl, sym, ◌∙◌, ap, subst, inl, inr, Result, Ok, Err}
+use Rattle.std.proofs.Common.{◌≡◌, ℕ, Bool, true, false, List, refl, sym, ◌∙◌, ap, subst, inl, inr, Result, Ok, Err}
 use Rattle.std.proofs.Common.{cond, ◌++◌}
 use Rattle.std.specs.Prelude.{Option, Some, None, IfOk, OnOk, option_map, option_to_list}
 use Rattle.scp_types.specs.declared.names.ConnId.{ConnId}

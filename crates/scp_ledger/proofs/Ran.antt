@@ -1,12 +1,12 @@
 -- A ledger after the run of a slot's machine.
-use Rattle.std.proofs.Common.{◌≡◌, ◌≢◌, ℕ, ◌+◌, ◌<◌, ◌≤◌, Bool, true, false, cond, List, [], ◌∷◌, ◌++◌, refl, sym, ◌∙◌, ap, subst, All, length, arith, nat_eq, inl, inr}
-use Rattle.std.specs.Prelude.{Option, Some, None, IfSome, IsSome, Contains, option_to_list, is_some, if◌then◌else◌}
+use Rattle.std.proofs.Common.{◌≡◌, ℕ, Bool, true, false, cond, List, [], ◌∷◌, ◌++◌, refl, sym, ◌∙◌, ap, subst, All, arith, nat_eq, inr}
+use Rattle.std.specs.Prelude.{Option, Some, None, IfSome, IsSome, option_to_list, is_some, if◌then◌else◌}
 use Rattle.std.specs.Option.{ForSome, option_map}
 use Rattle.std.specs.BTreeMap as tree
 use Rattle.std.specs.BTreeSet.{keys}
 use Rattle.std.specs.Ordering.{nat_cmp}
 use Rattle.std.specs.Cmp.{unsigned_tied}
-use Rattle.std.proofs.lemmas.Bool.{eqb-true, eq-eqb}
+use Rattle.std.proofs.lemmas.Bool.{eqb-true}
 use Rattle.std.proofs.lemmas.List.{append-nil}
 use Rattle.std.proofs.lemmas.List.Elements.{All-nil, All-cons}
 use Rattle.scp_types.specs.declared.names.NodeId.{NodeId}
@@ -14,7 +14,6 @@ use Rattle.scp_types.specs.declared.names.Slot.{Slot}
 use Rattle.scp_driver.specs.declared.driver.Level.{Level}
 use Rattle.scp_quorum.specs.SharedSet.{SharedSet}
 use Rattle.scp_envelope.specs.declared.statement.Envelope.{Envelope as Enveloped}
-use Rattle.scp_envelope.specs.declared.statement.Statement.{Statement}
 use Rattle.scp_vote.specs.Board.{kind_of_pledges}
 use Rattle.scp_vote.specs.declared.claim.StatementKind.{StatementKind}
 use Rattle.scp_wire.specs.declared.message.Message.TheVariants.{Envelope}
@@ -24,7 +23,7 @@ use Rattle.scp_slot.specs.declared.machine.SlotMachine.{SlotMachine}
 use Rattle.scp_slot.specs.declared.output.SlotInput.{SlotInput}
 use Rattle.scp_slot.specs.declared.output.SlotInput.TheVariants.{Propose, Round, Timer, Envelope as Hear}
 use Rattle.scp_slot.specs.declared.output.SlotOutput.{SlotOutput}
-use Rattle.scp_slot.specs.Slot.{SlotView, slot_view, driver_of, IsSound as IsSlotSound, IsRunning as IsSlotRunning}
+use Rattle.scp_slot.specs.Slot.{slot_view, driver_of, IsSound as IsSlotSound, IsRunning as IsSlotRunning}
 use Rattle.scp_slot.specs.Takes as slot
 use Rattle.scp_ledger.specs.declared.journal.Decision.{Decision}
 use Rattle.scp_ledger.specs.declared.journal.Fate.{Fate}
@@ -41,7 +40,7 @@ use Rattle.scp_ledger.specs.Ledger.{IsLedger, IsMachineOf, FitsMachine, HasMachi
 use Rattle.scp_ledger.specs.Entering.{Enters, entries_of}
 use Rattle.scp_ledger.specs.Takes.{decision_of, verdict_from, IsMachineFor}
 use Rattle.scp_ledger.proofs.Newest.{newest-passed, newest-pushed}
-use Rattle.scp_ledger.proofs.Boards.{Stepped, brings, stepped, taken_in, judged}
+use Rattle.scp_ledger.proofs.Boards.{Stepped, brings, taken_in, judged}
 use Rattle.scp_ledger.proofs.Kept.{Hears, hears_elsewhere, Adds, IsLedger-grown, next_open, fits_elsewhere, fits_decided, fits_here, rests_on_machine}
 
 -- ---- what an entry lets be heard

@@ -1,5 +1,5 @@
 -- A journal grows by what the things said that were taken.
-use Rattle.std.proofs.Common.{◌≡◌, ℕ, List, [], ◌∷◌, ◌++◌, refl, sym, ◌∙◌, ap, subst, inl, inr}
+use Rattle.std.proofs.Common.{◌≡◌, ℕ, List, [], ◌∷◌, ◌++◌, refl, sym, ◌∙◌, ap, inl, inr}
 use Rattle.std.proofs.lemmas.Grind.{flat_map-append}
 use Rattle.std.proofs.lemmas.List.{append-nil}
 use Rattle.std.specs.Prelude.{Option, Some, None}
@@ -24,7 +24,7 @@ use Rattle.scp_ledger.specs.declared.journal.Verdict.TheVariants.{Idle}
 use Rattle.scp_types.specs.declared.names.Slot.{Slot}
 use Rattle.scp_quorum.specs.SharedSet.{SharedSet}
 use Rattle.scp_ledger.specs.Seen.{LedgerView}
-use Rattle.scp_ledger.specs.Takes.{Takes, TakesMessage, TakesCommand, TakesRecord, Commands, Passes, RunsAt, Decides, Forwards}
+use Rattle.scp_ledger.specs.Takes.{Takes, TakesMessage, TakesCommand, TakesRecord, Commands, Passes}
 use Rattle.scp_ledger.specs.Marks.{entry_mark, marks_of}
 
 -- the journal with one entry more, or with none

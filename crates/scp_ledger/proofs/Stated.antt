@@ -1,6 +1,6 @@
 -- The state after a run, after an entry alone, after an ask, and after a record that decides.
-use Rattle.std.proofs.Common.{◌≡◌, ◌≢◌, ℕ, ◌+◌, ◌<◌, ◌≤◌, Bool, true, false, cond, List, [], ◌∷◌, ◌++◌, refl, sym, ◌∙◌, ap, subst, All, length, length-append, arith, Result, Ok, Err}
-use Rattle.std.specs.Prelude.{Option, Some, None, IfSome, Contains, option_to_list, is_some, OnOk, IfOk}
+use Rattle.std.proofs.Common.{◌≡◌, ℕ, ◌+◌, ◌<◌, ◌≤◌, Bool, true, false, cond, List, [], ◌∷◌, ◌++◌, refl, sym, ◌∙◌, ap, subst, length, length-append, arith, Result, Ok, Err}
+use Rattle.std.specs.Prelude.{Option, Some, None, IfSome, Contains, option_to_list, OnOk}
 use Rattle.std.specs.BTreeMap as tree
 use Rattle.std.specs.BTreeSet as tree_set
 use Rattle.std.specs.BTreeSet.{BTreeSet}
@@ -9,12 +9,10 @@ use Rattle.std.specs.Ordering.{nat_cmp}
 use Rattle.std.proofs.lemmas.List.{append-nil}
 use Rattle.std.proofs.lemmas.List.Elements.{All-nil, All-cons, Contains-push}
 use Rattle.scp_types.specs.declared.names.ConnId.{ConnId}
-use Rattle.scp_types.specs.declared.names.NodeId.{NodeId}
 use Rattle.scp_types.specs.declared.names.Seq.{Seq}
 use Rattle.scp_types.specs.declared.names.Slot.{Slot}
 use Rattle.scp_driver.specs.declared.driver.Level.{Level}
 use Rattle.scp_quorum.specs.SharedSet.{SharedSet}
-use Rattle.scp_vote.specs.declared.claim.StatementKind.{StatementKind}
 use Rattle.scp_wire.specs.declared.message.Message.TheVariants.{Record}
 use Rattle.scp_slot.specs.declared.machine.SlotMachine.{SlotMachine}
 use Rattle.scp_slot.specs.declared.output.SlotInput.{SlotInput}
@@ -29,10 +27,10 @@ use Rattle.scp_ledger.specs.declared.journal.Verdict.{Verdict}
 use Rattle.scp_ledger.specs.declared.journal.Verdict.TheVariants.{Decided}
 use Rattle.scp_ledger.specs.declared.state.Entering.{Entering}
 use Rattle.scp_ledger.specs.declared.state.State.{State}
-use Rattle.scp_ledger.specs.Journal.{newest, fresh_heard}
-use Rattle.scp_ledger.specs.Decisions.{HasItsDecision, decision_by, named_by}
+use Rattle.scp_ledger.specs.Journal.{newest}
+use Rattle.scp_ledger.specs.Decisions.{HasItsDecision, named_by}
 use Rattle.scp_ledger.specs.Verdicts.{IsOpen, HasItsSet, link_of}
-use Rattle.scp_ledger.specs.Seen.{LedgerView, machine_at, is_asked, asking_cmp}
+use Rattle.scp_ledger.specs.Seen.{machine_at, is_asked, asking_cmp}
 use Rattle.scp_ledger.specs.Ledger.{HasMachines, FitsMachine, IsMachineOf}
 use Rattle.scp_ledger.specs.Entering.{Enters, entries_of, IsQuiet}
 use Rattle.scp_ledger.specs.Window.{IsWindow}

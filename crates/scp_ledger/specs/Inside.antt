@@ -1,5 +1,5 @@
 -- What a ledger keeps; nothing here need be believed.
-use Rattle.std.specs.Prelude.{ℕ, ◌≤◌, ◌≡◌, Bool, true, false, cond, List, Option, Some, None, is_some, length}
+use Rattle.std.specs.Prelude.{ℕ, ◌≤◌, ◌≡◌, Bool, false, cond, List, Option, Some, None, is_some, length}
 use Rattle.std.specs.BTreeMap as tree
 use Rattle.std.specs.Ordering.{nat_cmp}
 use Rattle.scp_types.specs.declared.names.Slot.{Slot}

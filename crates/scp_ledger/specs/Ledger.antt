@@ -1,5 +1,5 @@
 -- What holds of a ledger.
-use Rattle.std.specs.Prelude.{ℕ, ◌+◌, ◌<◌, ◌≤◌, ◌≡◌, Bool, true, false, List, [], Option, Some, None, All, length}
+use Rattle.std.specs.Prelude.{ℕ, ◌≤◌, ◌≡◌, false, List, [], Option, Some, None, All, length}
 use Rattle.std.specs.Option.{option_map}
 use Rattle.scp_types.specs.declared.names.NodeId.{NodeId}
 use Rattle.scp_driver.specs.declared.driver.Level.{Level}

@@ -1,5 +1,5 @@
 -- Which slots are open, as a ledger finds them; nothing here need be believed.
-use Rattle.std.specs.Prelude.{ℕ, ◌<◌, ◌≤◌, ◌≡◌, Bool, true, false, List}
+use Rattle.std.specs.Prelude.{ℕ, ◌<◌, ◌≤◌, ◌≡◌, Bool, true, List}
 use Rattle.std.specs.BTreeSet as tree_set
 use Rattle.std.specs.Ordering.{nat_cmp}
 use Rattle.scp_ledger.specs.declared.journal.Decision.{Decision}

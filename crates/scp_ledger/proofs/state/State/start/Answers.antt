@@ -1,8 +1,7 @@
-use Rattle.std.proofs.Common.{◌≡◌, ℕ, Bool, Option, cond, sym, subst}
+use Rattle.std.proofs.Common.{◌≡◌, ℕ, Bool, cond, sym, subst}
 use Rattle.std.specs.Prelude.{Some, None}
 use Rattle.std.specs.BTreeMap as tree
 use Rattle.std.specs.Ordering.{nat_cmp}
-use Rattle.scp_slot.specs.declared.machine.SlotMachine.{SlotMachine}
 use Rattle.scp_slot.specs.Takes.{IsOfSlot}
 use Rattle.scp_ledger.specs.Seen.{machine_at}
 use Rattle.scp_ledger.specs.Inside.{IsTakenOut}
