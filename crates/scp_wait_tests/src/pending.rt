@@ -750,7 +750,10 @@ type Place = (ConnId, u64, u64, u8);
 
 fn place(names: &Names, carried: &Carried) -> Place {
     let (slot, set) = match &carried.message {
-        Message::Envelope(envelope) => (envelope.get().statement.slot.0, number(names, &envelope.set_hash())),
+        Message::Envelope(envelope) => (
+            envelope.get().statement.slot.0,
+            number(names, &envelope.set_hash()),
+        ),
         _ => (0, 9),
     };
     (carried.conn, carried.seq.0, slot, set)
