@@ -28,3 +28,4 @@ pub mod Here
 pub mod Firsts
 pub mod Numbers
 pub mod Ordering
+pub mod Keeping
