@@ -1,9 +1,6 @@
 -- How the wants lie in memory: each under its hash, in the order in which they began. Contracts of public calls don't speak of
 -- it.
-use Rattle.std.specs.Prelude.{ℕ, ◌≡◌, List, map, nat_eq}
-use Rattle.std.specs.List.{AllByRecursion, IsDistinct}
-use Rattle.std.specs.Map.{keys_of}
-use Rattle.std.specs.Cmp.Lexicographic.{pointwise}
+use Rattle.std.specs.Prelude.{ℕ, ◌≡◌, List, map}
 use Rattle.scp_fetch.specs.declared.want.Want.{Want}
 
 abbrev pub WantEntry : Type 0
@@ -17,8 +14,3 @@ wants_in es = map want_in es
 
 abbrev pub IsUnderHash : WantEntry → Type 0
 IsUnderHash e = e.0 ≡ e.1.hash.0
-
--- each under its own hash, and none twice
-pub record IsTable (es : List WantEntry) : Type 0 where
-  pub under : AllByRecursion IsUnderHash es
-  pub distinct : IsDistinct (pointwise nat_eq) (keys_of es)

@@ -105,7 +105,3 @@ miss_of hash wants = if gives_up (One hash) wants hash then missed.GaveUp else (
 
 abbrev pub answer_of : Hash → Bool → List Want → Answer
 answer_of hash sane wants = if is_wanted hash wants then (if sane then answer.Sane else answer.Insane) else answer.Unwanted
-
--- the twelfth miss ends a want
-abbrev pub IsPatient : Want → Type 0
-IsPatient want = want.misses < 12

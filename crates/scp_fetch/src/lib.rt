@@ -4,9 +4,9 @@
 //! - A `SetStore` holds the local set and at most 256 others, each under its own hash; one more takes out the one that was
 //!   stored first. `get` gives a set of just the hash that it is asked for.
 //! - A `Fetcher` keeps the hashes that are wanted. `want` says whether a link is to be asked: that is where it wasn't asked
-//!   since both the hash became wanted and the link last opened. Each keeps the connections that wait for it, in the order of
-//!   their first wait; one that ended waits for nothing, and a hash for which none waits isn't wanted. The twelfth miss of a hash gives it up; misses count from
-//!   the first want, and end with it.
+//!   since both the hash became wanted and the link last opened. Each hash keeps the connections that wait for it, each once, in
+//!   the order of their first wait, and `waiting` tells them; one that ended waits for nothing, and a hash for which none waits
+//!   isn't wanted. The twelfth miss of a hash gives it up; misses count from the first want, and end with it.
 //! - A refusal leaves the value as it was.
 #![tactic(auto)]
 

@@ -11,8 +11,8 @@ use indexmap::IndexMap;
 use scp_types::{ConnId, Fault, Hash};
 use std::alloc::Global;
 
-/// A wanted hash, with its misses since it became so, below 12, of each link whether it was asked since both the hash
-/// became wanted and the link last opened, and the connections that wait for it.
+/// A wanted hash, with its misses since it became so, of each link whether it was asked since both the hash became wanted and
+/// the link last opened, and the connections that wait for it.
 #[derive(Debug, Drop)]
 pub struct Want {
     /// The hash of a quorum set.

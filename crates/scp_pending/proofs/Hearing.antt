@@ -10,18 +10,19 @@ use Rattle.scp_quorum.specs.Sane.{IsSane}
 use Rattle.scp_xdr.specs.Kind.{Fits}
 use Rattle.scp_wire.specs.declared.carried.Carried.{Carried}
 use Rattle.scp_wire.specs.declared.link.Command.TheVariants.{Tick}
+use Rattle.scp_wire.specs.declared.link.Inbound.{Inbound}
 use Rattle.scp_wire.specs.declared.link.Inbound.TheVariants as inbound
-use Rattle.scp_wire.specs.declared.side.SideMessage.TheVariants.{Set}
+use Rattle.scp_wire.specs.declared.side.SideMessage.TheVariants.{Set, NoSet}
 use Rattle.scp_fetch.specs.Store.{StoreView, lookup, stored}
 use Rattle.scp_fetch.specs.declared.want.Want.{Want}
-use Rattle.scp_fetch.specs.declared.want.Miss.TheVariants.{All}
-use Rattle.scp_fetch.specs.Wants.{is_wanted, last_missed, missed_by, without}
+use Rattle.scp_fetch.specs.declared.want.Miss.TheVariants.{One, All}
+use Rattle.scp_fetch.specs.Wants.{is_wanted, last_missed, missed_by, gives_up, without}
 use Rattle.scp_pending.specs.declared.parked.Parked.{Parked}
 use Rattle.scp_pending.specs.declared.ready.DropCause.TheVariants.{BadSet, GaveUp}
 use Rattle.scp_pending.specs.declared.ready.Ready.{Ready}
 use Rattle.scp_pending.specs.Sanity.{is_sane, has_spelling, test_of_sane, sane_of_test, test_of_fits, fits_of_test}
 use Rattle.scp_pending.specs.Queues.{QueueView, lane_of, is_at, waits, is_held, named, in_order_of, is_hash, hash_of, served, leaving_of, resolved, with_set, lost_by}
-use Rattle.scp_pending.specs.Rules.{PendingView, Settled, entering_by, entering, found, hears, heard_out, is_answer, answered, is_given_up, taken_in}
+use Rattle.scp_pending.specs.Rules.{PendingView, Settled, entering_by, entering, found, rules, releases, hears, heard_out, is_answer, answered, is_given_up, taken_in}
 use Rattle.scp_pending.proofs.Basics.{append_nil, clash}
 
 pub hash_is : (h : Hash) (set : QuorumTree) → h.0 ≡ set_hash set → h ≡ hash_of set
@@ -80,9 +81,26 @@ fits_unless set some = by_test (has_spelling set) refl
 
 -- ---- a Tick
 
-pub ticked : {A E : Type 0} (r : Result A E) (v : PendingView) (wanted : List Want) (ordered queues : List QueueView) (leaving : List Ready) → wanted ≡ missed_by All v.settled.wanted → ordered ≡ resolved (is_given_up v.settled.wanted) (lost_by GaveUp) (in_order_of (last_missed v.settled.wanted) v.settled.queues) → OnOk r (queues ≡ served ordered) → OnOk r (leaving ≡ v.leaving ++ leaving_of ordered) → OnOk r (record v { settled = record v.settled { wanted = wanted; queues = queues }; leaving = leaving } ≡ taken_in v (inbound.Local Tick))
-ticked (Ok u) v wanted ordered queues leaving w o a b = rw (b, a, o, w) refl
-ticked (Err e) v wanted ordered queues leaving w o a b = tt
+pub ticked : (v : PendingView) (wanted : List Want) (queues : List QueueView) (leaving : List Ready) → wanted ≡ missed_by All v.settled.wanted → queues ≡ served (resolved (is_given_up v.settled.wanted) (lost_by GaveUp) (in_order_of (last_missed v.settled.wanted) v.settled.queues)) → leaving ≡ v.leaving ++ leaving_of (resolved (is_given_up v.settled.wanted) (lost_by GaveUp) (in_order_of (last_missed v.settled.wanted) v.settled.queues)) → record v { settled = record v.settled { wanted = wanted; queues = queues }; leaving = leaving } ≡ taken_in v (inbound.Local Tick)
+ticked v wanted queues leaving w a b = rw (b, a, w) refl
+
+-- ---- a take
+
+pub taken_is : (v p : PendingView) (failed : Bool) (item : Inbound) → record p { failed = failed } ≡ v → taken_in v item ≡ record { failed = failed; settled = rules p.settled item; leaving = p.leaving ++ releases p.settled item }
+taken_is v p failed item e = rw (← e) refl
+
+-- ---- what waits has its outcome
+
+pub answered_by : (v : PendingView) (hash : Hash) (f : Carried → Parked) (wanted : List Want) (queues : List QueueView) (leaving : List Ready) → wanted ≡ without hash v.settled.wanted → queues ≡ served (resolved (is_hash hash) f v.settled.queues) → leaving ≡ v.leaving ++ leaving_of (resolved (is_hash hash) f v.settled.queues) → record v { settled = record v.settled { wanted = wanted; queues = queues }; leaving = leaving } ≡ record v { settled = record v.settled { wanted = without hash v.settled.wanted; queues = served (resolved (is_hash hash) f v.settled.queues) }; leaving = v.leaving ++ leaving_of (resolved (is_hash hash) f v.settled.queues) }
+answered_by v hash f wanted queues leaving w a b = rw (b, a, w) refl
+
+-- ---- a NoSet
+
+pub missed_last : (v : PendingView) (hash : Hash) (wanted : List Want) (queues : List QueueView) (leaving : List Ready) → gives_up (One hash) v.settled.wanted hash ≡ true → wanted ≡ missed_by (One hash) v.settled.wanted → queues ≡ served (resolved (is_hash hash) (lost_by GaveUp) v.settled.queues) → leaving ≡ v.leaving ++ leaving_of (resolved (is_hash hash) (lost_by GaveUp) v.settled.queues) → record v { settled = record v.settled { wanted = wanted; queues = queues }; leaving = leaving } ≡ record v { settled = hears (NoSet hash) v.settled; leaving = v.leaving ++ heard_out (NoSet hash) v.settled }
+missed_last v hash wanted queues leaving g w a b = rw (b, a, w, g) refl
+
+pub missed_once : (v : PendingView) (hash : Hash) (wanted : List Want) → gives_up (One hash) v.settled.wanted hash ≡ false → wanted ≡ missed_by (One hash) v.settled.wanted → record v { settled = record v.settled { wanted = wanted } } ≡ record v { settled = hears (NoSet hash) v.settled; leaving = v.leaving ++ heard_out (NoSet hash) v.settled }
+missed_once v hash wanted g w = rw (w, g, append_nil v.leaving) refl
 
 -- what the code tests before a message is parked
 pub held_entering : (store : StoreView) (x : Carried) (ps : List Parked) → is_held ps (entering store x) ≡ (waits (entering store x) || list_any (is_at (slot_of x.message)) ps)

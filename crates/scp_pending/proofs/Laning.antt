@@ -14,6 +14,7 @@ use Rattle.scp_pending.specs.declared.ready.Ready.{Ready}
 use Rattle.scp_pending.specs.declared.ready.Ready.TheVariants.{Deliver, Dropped}
 use Rattle.scp_pending.specs.Queues.{lane_of, is_at, at_slot, waits, is_held, fate, leaves_behind, stays_behind, leaves_of, stays_of, seq_of}
 use Rattle.scp_pending.specs.Line.{ready_mark, marks_of, parked_mark}
+pub use Rattle.scp_pending.specs.Kept.{AreHeld}
 use Rattle.scp_pending.proofs.Basics.{append_nil, clash, or_none, or_right, or_left, flat-append, same_conn-refl, all_append}
 
 -- ---- lists
@@ -140,11 +141,6 @@ leaves-other c d kept (p ∷ ps) o a = by_test (is_held kept p) (leaves-other c 
     by_test false stay go = flat-append (ready_mark d) (fate c p) (leaves_behind c kept ps) ∙ ap (λ zs. zs ++ marks_of d (leaves_behind c kept ps)) (marks-fate_other c d p o a.0) ∙ go
 
 -- ---- at rest
-
--- behind those that stay each is held back
-abbrev pub AreHeld : List Parked → List Parked → Type 0
-AreHeld kept [] = Unit {0}
-AreHeld kept (p ∷ ps) = (is_held kept p ≡ true) × AreHeld (kept ++ p ∷ []) ps
 
 pub stays_held : (kept ps : List Parked) → AreHeld kept (stays_behind kept ps)
 stays_held kept [] = tt

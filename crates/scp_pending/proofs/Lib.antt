@@ -29,3 +29,4 @@ pub mod Firsts
 pub mod Numbers
 pub mod Ordering
 pub mod Placing
+pub mod Keeping

@@ -24,6 +24,7 @@ use Rattle.scp_pending.specs.declared.ready.DropCause.TheVariants.{BadSet, GaveU
 use Rattle.scp_pending.specs.Sanity.{is_sane, has_spelling}
 use Rattle.scp_pending.specs.Queues.{QueueView, is_of, is_open, parked_of, others, parked_in, lane_of, is_at, waits, is_held, stays_behind, served, in_order_of, named, is_hash, hash_of, waits_for, waited_by, is_waiting, resolved_one, resolved, with_set, lost_by}
 use Rattle.scp_pending.specs.Causes.{plus}
+pub use Rattle.scp_pending.specs.Kept.{IsListed, AreApart, AreListed}
 use Rattle.scp_pending.specs.Rules.{Settled, rules, opens, opened, closed_off, entering, overflows, goes_through, wanted_named, wanted_with, parks, by_answer, answered, is_answer, is_given_up, gives_up_one, hears, link_number}
 use Rattle.scp_pending.proofs.Basics.{append_nil, clash, or_none, if_any, and_both, not_false, same_hash-refl, same_hash-true, same_hash-sym, same_node-true, same_node-refl, same_conn-refl, same_conn-true, all_step, all_weaker, all_append, all_both, all_kept, all_filter}
 use Rattle.scp_pending.proofs.Wanting.{wanted-map, wanted-filter_of, ask-hash, count-hash, is_for-true, none_wanted}
@@ -94,18 +95,6 @@ besides c d (e ∷ es) o h = by_tests (same_conn d e) (same_conn c e) refl refl 
     by_tests true false p q h rest = rest h
 
 -- ---- the wants, each listed
-
-abbrev pub IsListed : List QueueView → Want → Type 0
-IsListed queues want = (c : ConnId) → has_conn c want.waiting ≡ is_waiting c want.hash queues
-
--- no hash is wanted twice
-abbrev pub AreApart : List Want → Type 0
-AreApart [] = Unit {0}
-AreApart (w ∷ ws) = (is_wanted w.hash ws ≡ false) × AreApart ws
-
-pub record AreListed (queues : List QueueView) (wanted : List Want) : Type 0 where
-  pub each : AllByRecursion (IsListed queues) wanted
-  pub apart : AreApart wanted
 
 apart-map : (f : Want → Want) → ((w : Want) → (f w).hash ≡ w.hash) → (ws : List Want) → AreApart ws → AreApart (map f ws)
 apart-map f same [] a = tt
@@ -193,7 +182,7 @@ not_waits hash (Waits x) e = absurd cc
 not_waits hash (Free d) e = refl
 not_waits hash (Lost x cause) e = refl
 
-stays_any : (hash : Hash) (kept ps : List Parked) → list_any (waits_for hash) (stays_behind kept ps) ≡ list_any (waits_for hash) ps
+pub stays_any : (hash : Hash) (kept ps : List Parked) → list_any (waits_for hash) (stays_behind kept ps) ≡ list_any (waits_for hash) ps
 stays_any hash kept [] = refl
 stays_any hash kept (p ∷ ps) = by_test (is_held kept p) refl (stays_any hash (kept ++ p ∷ []) ps) (stays_any hash kept ps)
   where
@@ -209,7 +198,7 @@ not_named test hash (Some other) e t = by_test (same_hash hash other) refl
     by_test true k = clash (test (Some hash)) (subst (λ (h : Hash). test (Some h) ≡ true) (sym (same_hash-true hash other k)) t) e
     by_test false k = refl
 
-resolved_any : (test : Option Hash → Bool) (f : Carried → Parked) (hash : Hash) → ((x : Carried) → waits_for hash (f x) ≡ false) → test (Some hash) ≡ false → (ps : List Parked) → list_any (waits_for hash) (map (resolved_one test f) ps) ≡ list_any (waits_for hash) ps
+pub resolved_any : (test : Option Hash → Bool) (f : Carried → Parked) (hash : Hash) → ((x : Carried) → waits_for hash (f x) ≡ false) → test (Some hash) ≡ false → (ps : List Parked) → list_any (waits_for hash) (map (resolved_one test f) ps) ≡ list_any (waits_for hash) ps
 resolved_any test f hash none e [] = refl
 resolved_any test f hash none e (Waits x ∷ ps) = by_test (test (named x.message)) refl (resolved_any test f hash none e ps)
   where
@@ -219,7 +208,7 @@ resolved_any test f hash none e (Waits x ∷ ps) = by_test (test (named x.messag
 resolved_any test f hash none e (Free d ∷ ps) = resolved_any test f hash none e ps
 resolved_any test f hash none e (Lost x cause ∷ ps) = resolved_any test f hash none e ps
 
-served_same : (test : Option Hash → Bool) (f : Carried → Parked) (hash : Hash) (qs : List QueueView) → ((x : Carried) → waits_for hash (f x) ≡ false) → test (Some hash) ≡ false → AreSingle qs → (c : ConnId) → is_waiting c hash (served (resolved test f qs)) ≡ is_waiting c hash qs
+pub served_same : (test : Option Hash → Bool) (f : Carried → Parked) (hash : Hash) (qs : List QueueView) → ((x : Carried) → waits_for hash (f x) ≡ false) → test (Some hash) ≡ false → AreSingle qs → (c : ConnId) → is_waiting c hash (served (resolved test f qs)) ≡ is_waiting c hash qs
 served_same test f hash qs none e single c =
     ap (list_any (waits_for hash)) (parked-served c (resolved test f qs)) ∙ stays_any hash [] (parked_of c (resolved test f qs)) ∙ ap (list_any (waits_for hash)) (parked-resolved c test f qs) ∙ resolved_any test f hash none e (parked_of c qs)
 
@@ -279,7 +268,7 @@ waits_as hash (Waits x) = refl
 waits_as hash (Free d) = refl
 waits_as hash (Lost x cause) = refl
 
-parked_waiting : (c d : ConnId) (hash : Hash) (p : Parked) (qs : List QueueView) → is_open d qs ≡ true → AreSingle qs → is_waiting c hash (parked_in d p qs) ≡ (is_waiting c hash qs || (same_conn d c && is_hash hash (waited_by p)))
+pub parked_waiting : (c d : ConnId) (hash : Hash) (p : Parked) (qs : List QueueView) → is_open d qs ≡ true → AreSingle qs → is_waiting c hash (parked_in d p qs) ≡ (is_waiting c hash qs || (same_conn d c && is_hash hash (waited_by p)))
 parked_waiting c d hash p qs live single = by_test (same_conn d c) refl
   where
     by_test : (b : Bool) → same_conn d c ≡ b → is_waiting c hash (parked_in d p qs) ≡ (is_waiting c hash qs || (b && is_hash hash (waited_by p)))

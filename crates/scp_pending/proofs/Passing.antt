@@ -67,6 +67,10 @@ all_have_causes me peers taken given v p = (sound_of me peers taken given v p).c
 pub few_are_parked : FewAreParked
 few_are_parked me peers taken given v p c = few_of_conn (start_of me peers v) taken v.settled.wanted c v.settled.queues (sound_of me peers taken given v p).fits
 
+pub none_as : (o : Option Ready) (ys xs rest : List Ready) → ys ≡ option_to_list o ++ rest → xs ≡ option_to_list o ++ rest → IfNone o (xs ≡ []) → IfNone o (ys ≡ [])
+none_as None ys xs rest e f n = e ∙ sym f ∙ n
+none_as (Some ready) ys xs rest e f n = tt
+
 pub settled_just : (me : NodeId) (peers : List NodeId) (taken : List Inbound) (given : List Ready) (v : PendingView) (o : Option Ready) (rest : List Ready) → v.leaving ≡ option_to_list o ++ rest → IfNone o (v.leaving ≡ []) → Pends me peers taken given v → o ≡ None ↔ IsSettled me peers taken v
 settled_just me peers taken given v None rest e none p = ((λ k. IsSettled-of me peers taken given v none p), (λ k. refl))
 settled_just me peers taken given v (Some ready) rest e none p = ((λ k. absurd cc), (λ k. absurd (let bad : ready ∷ rest ≡ [] = sym e ∙ k.nothing_ready in cc)))

@@ -14,16 +14,13 @@ use Rattle.scp_pending.specs.declared.ready.Ready.TheVariants.{Deliver, Dropped}
 use Rattle.scp_pending.specs.Queues.{QueueView, is_of, is_open, parked_of, others, changed, with_parked, parked_in, is_empty, leaves_of, stays_of, stays_in, served, leaves_in, leaving_of, is_head_waiting, with_first, in_order_of, seq_of, named, resolved_one, resolved_in, resolved}
 use Rattle.scp_pending.specs.Line.{ready_mark, marks_of, parked_mark, marks_parked}
 use Rattle.scp_pending.specs.Causes.{plus}
+pub use Rattle.scp_pending.specs.Kept.{how_many, AreSingle}
 pub use Rattle.scp_pending.proofs.Laning.{IsMine}
 use Rattle.scp_pending.proofs.Laning.{HasLane, leaves-other, lane_apart}
 use Rattle.scp_wire.specs.Lanes.{in_lane}
 use Rattle.scp_pending.proofs.Basics.{append_nil, clash, same_conn-true, same_conn-refl, same_conn-other, flat-append, all_append, all_filter}
 
 -- ---- how many queues a connection has
-
-abbrev pub how_many : ConnId → List QueueView → ℕ
-how_many c [] = 0
-how_many c (q ∷ qs) = plus (how_many c qs) (is_of c q)
 
 pub shut_none : (c : ConnId) (qs : List QueueView) → how_many c qs ≡ 0 → is_open c qs ≡ false
 shut_none c [] e = refl
@@ -84,10 +81,6 @@ how_many-others_other c d (q ∷ qs) o = by_test (is_of c q) refl (how_many-othe
     by_test : (b : Bool) → is_of c q ≡ b → how_many d (others c qs) ≡ how_many d qs → how_many d (cond b qs (q ∷ others c qs)) ≡ plus (how_many d qs) (is_of d q)
     by_test true k e = rw (same_conn-other q.conn c d k o) refl
     by_test false k e = ap (λ n. plus n (is_of d q)) e
-
--- no more than one each
-abbrev pub AreSingle : List QueueView → Type 0
-AreSingle qs = (c : ConnId) → how_many c qs ≤ 1
 
 pub others_few : (c d : ConnId) (qs : List QueueView) → how_many d (others c qs) ≤ how_many d qs
 others_few c d [] = omega arith

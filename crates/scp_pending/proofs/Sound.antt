@@ -195,12 +195,12 @@ all_dropped : (start : Settled) (taken : List Inbound) (c : ConnId) (cause : Dro
 all_dropped start taken c cause [] end f h = h
 all_dropped start taken c cause (p ∷ ps) end f h = (f _, all_dropped start taken c cause ps end f h)
 
-all_others : (P : QueueView → Type 0) (c : ConnId) (qs : List QueueView) → AllByRecursion P qs → AllByRecursion P (others c qs)
+pub all_others : (P : QueueView → Type 0) (c : ConnId) (qs : List QueueView) → AllByRecursion P qs → AllByRecursion P (others c qs)
 all_others P c [] a = tt
 all_others P c (q ∷ qs) a = elim (is_of c q) as (λ b. AllByRecursion P (cond b qs (q ∷ others c qs))) [ true ↦ a.1 | false ↦ (a.0, all_others P c qs a.1) ]
 
 -- what waits is waited for
-all_any : {X : Type 0} (front xs : List X) → AllByRecursion (λ (x : X). (test : X → Bool) → test x ≡ true → list_any test (front ++ xs) ≡ true) xs
+pub all_any : {X : Type 0} (front xs : List X) → AllByRecursion (λ (x : X). (test : X → Bool) → test x ≡ true → list_any test (front ++ xs) ≡ true) xs
 all_any front [] = tt
 all_any front (x ∷ xs) = (λ test e. at test front e, subst (λ l. AllByRecursion (λ y. (test : _ → Bool) → test y ≡ true → list_any test l ≡ true) xs) (append_assoc front (x ∷ []) xs) (all_any (front ++ x ∷ []) xs))
   where
@@ -240,7 +240,7 @@ changed_fit start taken wanted c p (q ∷ qs) held few w a = by_test (is_of c q)
     )
     by_test false k held few rest = (a.0, rest held few)
 
-held_of : (b : Bool) → not b ≡ false → b ≡ true
+pub held_of : (b : Bool) → not b ≡ false → b ≡ true
 held_of true e = refl
 held_of false e = absurd cc
 
@@ -283,7 +283,7 @@ nothing_waits start taken wanted hash c (q ∷ qs) un a = by_test (is_of c q) (n
     by_test true rest = none q.parked a.0.stands
     by_test false rest = rest
 
-wants_named : (hash : Hash) (link : ℕ) (c : ConnId) (p : Option Hash) (wanted : List Want) → is_wanted hash wanted ≡ true → is_wanted hash (wanted_named link c p wanted) ≡ true
+pub wants_named : (hash : Hash) (link : ℕ) (c : ConnId) (p : Option Hash) (wanted : List Want) → is_wanted hash wanted ≡ true → is_wanted hash (wanted_named link c p wanted) ≡ true
 wants_named hash link c None wanted is = is
 wants_named hash link c (Some other) wanted is = wanted_by-other hash other link c wanted is
 

@@ -9,6 +9,7 @@ pub mod Endings
 pub mod Pends
 pub mod Passes
 pub mod Living
+pub mod Kept
 pub mod Waiters
 pub mod Laws
 pub mod Messages

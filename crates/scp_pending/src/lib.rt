@@ -1,4 +1,14 @@
 //! Messages that wait for their quorum sets.
+//!
+//! What it promises:
+//! - In each lane of a connection, what was given and then what is held is what came, in order, whole up to the first end, or a
+//!   prefix where too much waited. An envelope is given with the sane set that has the hash which it names.
+//! - A message is lost by its set alone, which isn't sane or was missed twelve times, or by the end of its connection.
+//! - A hash is wanted just while something that is parked waits for it, and `waiting` tells the connections that wait, each once,
+//!   in the order of their first message that waits.
+//! - Where memory is refused the stage is failed: it answers that, and gives nothing more.
+//!
+//! A set, a twelfth miss and a Tick look into the queues of those connections alone that wait for the hash.
 #![tactic(auto)]
 
 mod laws;

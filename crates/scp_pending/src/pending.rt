@@ -3,7 +3,8 @@ ghost use Rattle.std.specs.Prelude.{ℕ, ◌≡◌, ◌≤◌, ◌<◌, ◌^◌,
 ghost use Rattle.scp_types.specs.declared.names.NodeId.{NodeId};
 ghost use Rattle.scp_wire.specs.declared.link.Inbound.{Inbound};
 ghost use Rattle.scp_fetch.specs.Store.{lookup};
-ghost use Rattle.scp_fetch.specs.Wants.{waiting_for};
+ghost use Rattle.scp_fetch.specs.Wants.{waiting_for, gives_up, without};
+ghost use Rattle.scp_fetch.specs.declared.want.Miss.{Miss};
 ghost use Rattle.scp_pending.specs.Queues.{is_of, is_open, parked_of, others, changed, with_parked, parked_in, served, leaving_of, resolved, lost_by, dropped, is_hash, is_link_open, stays_in, leaves_in, is_held, fate, waits};
 ghost use Rattle.scp_pending.specs.Rules.{PendingView, Settled, fresh, rules, releases, reply, taken_in, entering as entering_with, link_number, opens, opened, closed_off, asks, brings, brought, enters, goes_through, overflows, parks, hears, heard_out, replies, answer as answer_for, is_full, wanted_with, asks_named, wanted_named};
 ghost use Rattle.scp_pending.specs.Outcome.{outcome_of, HasHash};
@@ -14,17 +15,17 @@ ghost use Rattle.std.specs.List.Sorted.{IsStrictlySortedBy};
 ghost use Rattle.scp_wire.specs.Shape.{HasShape};
 ghost use Rattle.scp_pending.specs.Messages.{AreParked, message_cmp};
 ghost use Rattle.scp_pending.specs.Pends.{Pends, IsSettled, IsIdle};
+ghost use Rattle.scp_pending.specs.Kept.{IsKept};
 ghost use Rattle.scp_pending.specs.Passes.{Passes};
 ghost use Rattle.scp_pending.specs.declared.ready.Ready.{Ready};
 
 use crate::parked::{Outcome, Parked, named, slot_in};
 use crate::queue::{
     Queue, count_of, give, give_up_in_order, has_lane_on, in_order,
-    is_link_open as is_link_open_in, messages_of, place_of, push_to, serve_all, settle_all,
-    take_queue,
+    is_link_open as is_link_open_in, messages_of, place_of, push_to, resolve_all, take_queue,
 };
 use crate::ready::{Delivery, DropCause, Ready};
-use scp_fetch::{Fetcher, Missed, SetStore};
+use scp_fetch::{Fetcher, SetStore};
 use scp_quorum::{QuorumSet, SaneSet};
 use scp_types::{ConnId, Fault, Hash, NodeId};
 use scp_wire::{Carried, Cause, Command, Inbound, Message, SideMessage};
@@ -39,11 +40,35 @@ pub const PARKED_LIMIT: usize = 64;
 /// The most peers that a node has (this project's profile).
 pub const PEER_LIMIT: usize = 7;
 
-/// Messages that wait for their quorum sets, and what is on its way out.
+/// Messages that wait for their quorum sets, and what is on its way out. Where it didn't fail, the connections that stand in
+/// a hash's list are those on which something waits for it, so that only there anything is looked at.
 #[derive(Drop)]
 pub struct Pending {
-    alloc: Global,
     failed: bool,
+    parking: Parking,
+}
+
+impl Model for Pending {
+    ghost use Rattle.std.specs.Prelude.{◌≡◌, false};
+    ghost use Rattle.std.specs.Coded.{codes};
+    ghost use Rattle.scp_xdr.specs.TreeModel.{coded_row};
+    ghost use Rattle.scp_quorum.specs.QuorumTree.{coded_level};
+    ghost use Rattle.scp_pending.specs.Rules.{PendingView};
+    ghost use Rattle.scp_pending.specs.Kept.{IsKept};
+
+    ghost Value = { PendingView };
+
+    ghost coded = { Prim.hlevel (codes, coded_row coded_level) };
+
+    ghost view = { λ a. record a.parking { failed = a.failed } };
+
+    ghost invariant = { λ a. a.failed ≡ false → IsKept a.parking.settled.queues a.parking.settled.wanted };
+}
+
+/// What is parked, stored and wanted, and what is on its way out.
+#[derive(Drop)]
+struct Parking {
+    alloc: Global,
     me: NodeId,
     peers: Vec<NodeId>,
     store: SetStore,
@@ -52,8 +77,8 @@ pub struct Pending {
     leaving: VecDeque<Ready>,
 }
 
-impl Model for Pending {
-    ghost use Rattle.std.specs.Prelude.{◌≤◌, length};
+impl Model for Parking {
+    ghost use Rattle.std.specs.Prelude.{◌≤◌, length, false};
     ghost use Rattle.std.specs.Coded.{codes};
     ghost use Rattle.scp_xdr.specs.TreeModel.{coded_row};
     ghost use Rattle.scp_quorum.specs.QuorumTree.{coded_level};
@@ -64,7 +89,7 @@ impl Model for Pending {
     ghost coded = { Prim.hlevel (codes, coded_row coded_level) };
 
     ghost view = { λ a. record {
-      failed = a.failed;
+      failed = false;
       settled = record { me = a.me; peers = a.peers.items; store = a.store; wanted = a.fetcher; queues = a.queues.items };
       leaving = a.leaving.items;
     } };
@@ -84,21 +109,24 @@ impl Pending {
     {
         let _ = local.set();
         Pending {
-            alloc,
             failed: false,
-            me,
-            peers,
-            store: SetStore::new(alloc, local),
-            fetcher: Fetcher::new(alloc),
-            queues: Vec::new(alloc),
-            leaving: VecDeque::new(alloc),
+            parking: Parking {
+                alloc,
+                me,
+                peers,
+                store: SetStore::new(alloc, local),
+                fetcher: Fetcher::new(alloc),
+                queues: Vec::new(alloc),
+                leaving: VecDeque::new(alloc),
+            },
         }
     }
 
     /// Takes one item more, where `next_ready` gives nothing, and gives the message for one link, if there is one: a GetSet where
     /// that link is to be asked for the set of an envelope, and the answer to a GetSet. `Fault::NoMemory` leaves the stage
     /// failed, and a failed one answers `Fault::Failed` and stays as it is. What parks, delivers or drops one message costs a
-    /// few look-ups; a Set, a NoSet, a Tick and the end of a connection walk what is parked.
+    /// few look-ups; a Set and the twelfth miss of a hash walk what is parked on the connections that wait for it, a Tick all that is
+    /// wanted, and the end of a connection what is parked of it and all that is wanted.
     pub fn take(&mut self, item: Inbound) -> Result<Option<(u8, Message)>, Fault>
         requires nothing_ready { self.old.failed ≡ false → self.old.leaving ≡ [] }
         ensures reply { IfOk result (λ answer. answer ≡ reply self.old.settled item) }
@@ -112,7 +140,7 @@ impl Pending {
         if self.failed {
             return Err(Fault::Failed);
         }
-        match self.settle(item) {
+        match self.parking.settle(item) {
             Ok(answer) => Ok(answer),
             Err(_) => {
                 self.failed = true;
@@ -134,7 +162,7 @@ impl Pending {
         if self.failed {
             return None;
         }
-        next(&mut self.leaving)
+        next(&mut self.parking.leaving)
     }
 
     /// How many messages of the connection it holds: those that are ready, and those that are parked. At most 64 where
@@ -142,8 +170,8 @@ impl Pending {
     pub fn parked(&self, conn: &ConnId) -> usize
         ensures { result ≡ count_held conn.now self.now }
     {
-        let ready = ready_of(&self.leaving, conn);
-        match count_of(&self.queues, conn) {
+        let ready = ready_of(&self.parking.leaving, conn);
+        match count_of(&self.parking.queues, conn) {
             Some(count) => ready + count,
             None => ready,
         }
@@ -154,7 +182,7 @@ impl Pending {
     pub fn waiting(&self, hash: &Hash) -> &[ConnId]
         ensures { result.now ≡ waiting_for hash.now self.now.settled.wanted }
     {
-        self.fetcher.waiting(hash)
+        self.parking.fetcher.waiting(hash)
     }
 
     /// The messages that are parked, once nothing more is taken: ascending by the senders and the lives of their connections,
@@ -165,13 +193,22 @@ impl Pending {
         ensures ascending { IfOk result (λ messages. (me : NodeId) → (peers : List NodeId) → (taken : List Inbound) → (given : List Ready) → Pends me peers taken given self → HasShape me peers taken → IsStrictlySortedBy message_cmp messages.items) }
         ensures only_memory { IsOkUnless result Fault.NoMemory }
     {
-        let Pending { alloc, queues, .. } = self;
-        let queues = in_order(queues)?;
+        let queues = in_order(self.parking.into_queues())?;
+        let alloc = *queues.allocator();
         messages_of(alloc, queues)
+    }
+}
+
+impl Parking {
+    fn into_queues(self) -> Vec<Queue>
+        ensures { result.items ≡ self.settled.queues }
+    {
+        self.queues
     }
 
     /// What an item does, and the message for one link.
     fn settle(&mut self, item: Inbound) -> Result<Option<(u8, Message)>, Fault>
+        requires kept { IsKept self.old.settled.queues self.old.settled.wanted }
         ensures reply { IfOk result (λ answer. answer ≡ reply self.old.settled item) }
         ensures rules { OnOk result (self.new ≡ taken_in self.old item) }
     {
@@ -330,6 +367,7 @@ impl Pending {
     }
 
     fn hear(&mut self, conn: ConnId, message: SideMessage) -> Result<Option<(u8, Message)>, Fault>
+        requires kept { IsKept self.old.settled.queues self.old.settled.wanted }
         ensures reply { IfOk result (λ answer. answer ≡ reply self.old.settled (Inbound.Side conn message)) }
         ensures rules { OnOk result (self.new ≡ taken_in self.old (Inbound.Side conn message)) }
     {
@@ -363,6 +401,7 @@ impl Pending {
     }
 
     fn hear_set(&mut self, set: QuorumSet) -> Result<(), Fault>
+        requires kept { IsKept self.old.settled.queues self.old.settled.wanted }
         ensures { OnOk result (self.new ≡ record self.old { settled = hears (SideMessage.Set set) self.old.settled; leaving = self.old.leaving ++ heard_out (SideMessage.Set set) self.old.settled }) }
     {
         match set.into_sane() {
@@ -374,6 +413,7 @@ impl Pending {
 
     #[tactic(auto, using(crate::proofs::Hearing::unwanted))]
     fn hear_sane(&mut self, sane: SaneSet) -> Result<(), Fault>
+        requires kept { IsKept self.old.settled.queues self.old.settled.wanted }
         ensures { OnOk result (self.new ≡ record self.old { settled = hears (SideMessage.Set sane) self.old.settled; leaving = self.old.leaving ++ heard_out (SideMessage.Set sane) self.old.settled }) }
     {
         let _ = sane.set();
@@ -383,13 +423,13 @@ impl Pending {
         }
         let shared = Arc::new(self.alloc, sane)?;
         self.store.insert(Arc::try_clone(&shared)?)?;
-        let _ = self.fetcher.answer(&hash, true);
         self.resolve(&hash, Outcome::Has(shared))?;
         Ok(())
     }
 
     #[tactic(auto, using(crate::proofs::Hearing::unwanted, crate::proofs::Hearing::unspelt))]
     fn hear_insane(&mut self, set: &QuorumSet) -> Result<(), Fault>
+        requires kept { IsKept self.old.settled.queues self.old.settled.wanted }
         requires insane { IsSane set.now → ⊥ }
         ensures { OnOk result (self.new ≡ record self.old { settled = hears (SideMessage.Set set.now) self.old.settled; leaving = self.old.leaving ++ heard_out (SideMessage.Set set.now) self.old.settled }) }
     {
@@ -399,32 +439,64 @@ impl Pending {
             Err(_) => return Err(Fault::NoMemory),
         };
         if self.fetcher.is_wanted(&hash) {
-            let _ = self.fetcher.answer(&hash, false);
             self.resolve(&hash, Outcome::Lost(DropCause::BadSet))?;
         }
         Ok(())
     }
 
     fn hear_no_set(&mut self, hash: &Hash) -> Result<(), Fault>
+        requires kept { IsKept self.old.settled.queues self.old.settled.wanted }
         ensures { OnOk result (self.new ≡ record self.old { settled = hears (SideMessage.NoSet hash.now) self.old.settled; leaving = self.old.leaving ++ heard_out (SideMessage.NoSet hash.now) self.old.settled }) }
     {
-        match self.fetcher.miss(hash) {
-            Missed::GaveUp => self.resolve(hash, Outcome::Lost(DropCause::GaveUp)),
-            Missed::Waiting | Missed::Unwanted => Ok(()),
+        if self.fetcher.is_at_last_miss(hash) {
+            return self.lose(hash);
         }
+        let _ = self.fetcher.miss(hash);
+        Ok(())
     }
 
-    /// What waits for the hash has its outcome, and what may leave is given.
-    fn resolve(&mut self, hash: &Hash, outcome: Outcome) -> Result<(), Fault>
-        requires hash { HasHash (Some hash.now) outcome }
-        ensures { OnOk result (self.new ≡ record self.old { settled = record self.old.settled { queues = served (resolved (is_hash hash.now) (outcome_of outcome) self.old.settled.queues) }; leaving = self.old.leaving ++ leaving_of (resolved (is_hash hash.now) (outcome_of outcome) self.old.settled.queues) }) }
+    /// The twelfth miss of the hash: what waits for it is lost, and what may leave is given. Looks at the connections that wait
+    /// for it alone.
+    fn lose(&mut self, hash: &Hash) -> Result<(), Fault>
+        requires kept { IsKept self.old.settled.queues self.old.settled.wanted }
+        requires last { gives_up Miss.All self.old.settled.wanted hash.now ≡ true }
+        ensures { OnOk result (self.new ≡ record self.old { settled = hears (SideMessage.NoSet hash.now) self.old.settled; leaving = self.old.leaving ++ heard_out (SideMessage.NoSet hash.now) self.old.settled }) }
     {
-        settle_all(&mut self.queues, hash, &outcome)?;
-        serve_all(self.alloc, &mut self.queues, &mut self.leaving)
+        resolve_all(
+            self.alloc,
+            &mut self.queues,
+            self.fetcher.waiting(hash),
+            hash,
+            &Outcome::Lost(DropCause::GaveUp),
+            &mut self.leaving,
+        )?;
+        let _ = self.fetcher.miss(hash);
+        Ok(())
+    }
+
+    /// A set came: its hash isn't wanted any more, what waits for it has its outcome, and what may leave is given. Looks at the
+    /// connections that wait for it alone.
+    fn resolve(&mut self, hash: &Hash, outcome: Outcome) -> Result<(), Fault>
+        requires kept { IsKept self.old.settled.queues self.old.settled.wanted }
+        requires hash { HasHash (Some hash.now) outcome }
+        ensures { OnOk result (self.new ≡ record self.old { settled = record self.old.settled { wanted = without hash.now self.old.settled.wanted; queues = served (resolved (is_hash hash.now) (outcome_of outcome) self.old.settled.queues) }; leaving = self.old.leaving ++ leaving_of (resolved (is_hash hash.now) (outcome_of outcome) self.old.settled.queues) }) }
+    {
+        resolve_all(
+            self.alloc,
+            &mut self.queues,
+            self.fetcher.waiting(hash),
+            hash,
+            &outcome,
+            &mut self.leaving,
+        )?;
+        // sane or not, the want ends
+        let _ = self.fetcher.answer(hash, true);
+        Ok(())
     }
 
     /// A Tick is a miss of all that is wanted; every other command passes at once.
     fn command(&mut self, command: Command) -> Result<(), Fault>
+        requires kept { IsKept self.old.settled.queues self.old.settled.wanted }
         ensures { OnOk result (self.new ≡ taken_in self.old (Inbound.Local command)) }
     {
         match command {
@@ -444,11 +516,17 @@ impl Pending {
     }
 
     fn tick(&mut self) -> Result<(), Fault>
+        requires kept { IsKept self.old.settled.queues self.old.settled.wanted }
         ensures { OnOk result (self.new ≡ taken_in self.old (Inbound.Local Command.Tick)) }
     {
-        give_up_in_order(self.alloc, &mut self.queues, &self.fetcher)?;
+        give_up_in_order(
+            self.alloc,
+            &mut self.queues,
+            &self.fetcher,
+            &mut self.leaving,
+        )?;
         self.fetcher.miss_all();
-        serve_all(self.alloc, &mut self.queues, &mut self.leaving)
+        Ok(())
     }
 }
 

@@ -1,13 +1,14 @@
 //! The queue of an open connection.
 ghost use Rattle.std.specs.Prelude.{◌≡◌, ◌+◌, ◌<◌, ◌^◌, ◌++◌, ◌∷◌, [], IfOk, OnOk, IsOkUnless, IfSome, IsSomeAnd, IfNone, is_some, Some, None, true, false, length, map, filter, take, drop, position, option_to_list, remove, slice_get, slice_set as set, get_or};
-ghost use Rattle.std.specs.List.{list_any};
+ghost use Rattle.std.specs.List.{list_any, AllByRecursion};
 ghost use Rattle.scp_wire.specs.Connections.{same_conn};
-ghost use Rattle.scp_fetch.specs.Wants.{last_missed};
+ghost use Rattle.scp_fetch.specs.Wants.{last_missed, has_conn, waiting_for};
 ghost use Rattle.scp_pending.specs.Queues.{is_of, is_open, is_link_open as link_open, parked_of, others, parked_in, resolved, served, leaving_of, is_hash, is_empty as none_parked, is_at, is_held, fate, leaves_of, stays_of, stays_in, leaves_in, is_head_waiting as has_waiting_head, with_first, in_order_of, resolved_one, resolved_in, dropped, lost_by, with_parked};
 ghost use Rattle.scp_pending.specs.Rules.{is_given_up};
 ghost use Rattle.std.specs.List.Sorted.{IsPermutation, IsSortedByKey};
 ghost use Rattle.scp_types.specs.Order.{conn_cmp};
 ghost use Rattle.scp_pending.specs.Outcome.{outcome_of, HasHash, IsPlace, Adds, parked_in_all};
+ghost use Rattle.scp_pending.specs.Kept.{IsKept, IsQuiet};
 ghost use Rattle.scp_pending.specs.declared.parked.Parked.{Parked};
 
 use crate::parked::{Outcome, Parked, named};
@@ -345,39 +346,116 @@ pub(crate) fn push_to(queues: &mut Vec<Queue>, conn: &ConnId, parked: Parked) ->
     Ok(())
 }
 
-pub(crate) fn settle_all(
-    queues: &mut Vec<Queue>,
+fn is_among(conns: &[ConnId], conn: &ConnId) -> bool
+    ensures { result ≡ has_conn conn.now conns.now }
+{
+    conns.iter().any(|other| *conn == *other)
+}
+
+/// What waits for the hash has its outcome, and what may leave is given, where the queue's connection is one of these: on
+/// every other one nothing waits for it.
+fn resolve_on(
+    alloc: Global,
+    queue: &mut Queue,
+    conns: &[ConnId],
     hash: &Hash,
     outcome: &Outcome,
+    leaving: &mut VecDeque<Ready>,
 ) -> Result<(), Fault>
     requires hash { HasHash (Some hash.now) outcome.now }
-    ensures { OnOk result (queues.new.items ≡ resolved (is_hash hash.now) (outcome_of outcome.now) queues.old.items) }
+    requires quiet { has_conn queue.old.conn conns.now ≡ false → IsQuiet (is_hash hash.now) queue.old }
+    ensures stays { OnOk result (queue.new ≡ stays_in (resolved_in (is_hash hash.now) (outcome_of outcome.now) queue.old)) }
+    ensures leaves { OnOk result (leaving.new.items ≡ leaving.old.items ++ leaves_in (resolved_in (is_hash hash.now) (outcome_of outcome.now) queue.old)) }
+{
+    if !is_among(conns, &queue.conn()) {
+        return Ok(());
+    }
+    queue.settle(hash, outcome)?;
+    queue.serve(alloc, leaving)
+}
+
+/// What waits for the hash, on these connections alone, has its outcome, and what may leave is given, queue after queue.
+#[tactic(auto, using(crate::proofs::Keeping::went_begins, crate::proofs::Keeping::went_at))]
+pub(crate) fn resolve_all(
+    alloc: Global,
+    queues: &mut Vec<Queue>,
+    conns: &[ConnId],
+    hash: &Hash,
+    outcome: &Outcome,
+    leaving: &mut VecDeque<Ready>,
+) -> Result<(), Fault>
+    requires hash { HasHash (Some hash.now) outcome.now }
+    requires quiet { AllByRecursion (λ q. has_conn q.conn conns.now ≡ false → IsQuiet (is_hash hash.now) q) queues.old.items }
+    ensures stays { OnOk result (queues.new.items ≡ served (resolved (is_hash hash.now) (outcome_of outcome.now) queues.old.items)) }
+    ensures leaves { OnOk result (leaving.new.items ≡ leaving.old.items ++ leaving_of (resolved (is_hash hash.now) (outcome_of outcome.now) queues.old.items)) }
 {
     for i in 0..queues.len() {
-        queues[i].settle(hash, outcome)?;
+        resolve_on(alloc, &mut queues[i], conns, hash, outcome, leaving)?;
     }
     Ok(())
 }
 
-/// What waits for hashes that one more miss gives up is lost; of several such hashes, the queues whose heads wait for the
-/// first wanted one come first.
+/// What waits for hashes that one more miss gives up is lost, and what may leave is given; of several such hashes, the queues
+/// whose heads wait for the first wanted one come first. Looks into the queues of the connections that wait for them alone.
 pub(crate) fn give_up_in_order(
     alloc: Global,
     queues: &mut Vec<Queue>,
     fetcher: &Fetcher,
+    leaving: &mut VecDeque<Ready>,
 ) -> Result<(), Fault>
-    ensures { OnOk result (queues.new.items ≡ resolved (is_given_up fetcher.now) (lost_by DropCause.GaveUp) (in_order_of (last_missed fetcher.now) queues.old.items)) }
+    requires kept { IsKept queues.old.items fetcher.now }
+    ensures stays { OnOk result (queues.new.items ≡ served (resolved (is_given_up fetcher.now) (lost_by DropCause.GaveUp) (in_order_of (last_missed fetcher.now) queues.old.items))) }
+    ensures leaves { OnOk result (leaving.new.items ≡ leaving.old.items ++ leaving_of (resolved (is_given_up fetcher.now) (lost_by DropCause.GaveUp) (in_order_of (last_missed fetcher.now) queues.old.items))) }
 {
+    let first = fetcher.at_last_miss()?;
+    put_in_order(alloc, queues, first)?;
     let hashes = fetcher.at_last_miss()?;
-    put_in_order(alloc, queues, hashes)?;
-    give_up_all(queues, fetcher)
+    give_up_all(alloc, queues, fetcher, hashes.as_slice(), leaving)
 }
 
-fn give_up_all(queues: &mut Vec<Queue>, fetcher: &Fetcher) -> Result<(), Fault>
-    ensures { OnOk result (queues.new.items ≡ resolved (is_given_up fetcher.now) (lost_by DropCause.GaveUp) queues.old.items) }
+/// Whether the connection waits for one of the hashes.
+fn waits_for_any(fetcher: &Fetcher, hashes: &[Hash], conn: &ConnId) -> bool
+    ensures { result ≡ list_any (λ hash. has_conn conn.now (waiting_for hash fetcher.now)) hashes.now }
+{
+    hashes
+        .iter()
+        .any(|hash| is_among(fetcher.waiting(hash), conn))
+}
+
+/// What waits for a hash that one more miss gives up is lost, and what may leave is given, where the queue's connection waits
+/// for one of them: on every other one nothing does.
+fn give_up_on(
+    alloc: Global,
+    queue: &mut Queue,
+    fetcher: &Fetcher,
+    hashes: &[Hash],
+    leaving: &mut VecDeque<Ready>,
+) -> Result<(), Fault>
+    requires quiet { list_any (λ hash. has_conn queue.old.conn (waiting_for hash fetcher.now)) hashes.now ≡ false → IsQuiet (is_given_up fetcher.now) queue.old }
+    ensures stays { OnOk result (queue.new ≡ stays_in (resolved_in (is_given_up fetcher.now) (lost_by DropCause.GaveUp) queue.old)) }
+    ensures leaves { OnOk result (leaving.new.items ≡ leaving.old.items ++ leaves_in (resolved_in (is_given_up fetcher.now) (lost_by DropCause.GaveUp) queue.old)) }
+{
+    if !waits_for_any(fetcher, hashes, &queue.conn()) {
+        return Ok(());
+    }
+    queue.give_up(fetcher)?;
+    queue.serve(alloc, leaving)
+}
+
+#[tactic(auto, using(crate::proofs::Keeping::went_begins, crate::proofs::Keeping::went_at))]
+fn give_up_all(
+    alloc: Global,
+    queues: &mut Vec<Queue>,
+    fetcher: &Fetcher,
+    hashes: &[Hash],
+    leaving: &mut VecDeque<Ready>,
+) -> Result<(), Fault>
+    requires quiet { AllByRecursion (λ q. list_any (λ hash. has_conn q.conn (waiting_for hash fetcher.now)) hashes.now ≡ false → IsQuiet (is_given_up fetcher.now) q) queues.old.items }
+    ensures stays { OnOk result (queues.new.items ≡ served (resolved (is_given_up fetcher.now) (lost_by DropCause.GaveUp) queues.old.items)) }
+    ensures leaves { OnOk result (leaving.new.items ≡ leaving.old.items ++ leaving_of (resolved (is_given_up fetcher.now) (lost_by DropCause.GaveUp) queues.old.items)) }
 {
     for i in 0..queues.len() {
-        queues[i].give_up(fetcher)?;
+        give_up_on(alloc, &mut queues[i], fetcher, hashes, leaving)?;
     }
     Ok(())
 }
@@ -410,25 +488,6 @@ fn put_in_order(alloc: Global, queues: &mut Vec<Queue>, hashes: Vec<Hash>) -> Re
     while let Some(hash) = hashes.pop() {
         put_first(alloc, queues, &hash)?;
     }
-    Ok(())
-}
-
-/// Gives what may leave, queue after queue.
-#[tactic(auto, using(crate::proofs::Freeing::served_more, crate::proofs::Freeing::leaving_goes))]
-pub(crate) fn serve_all(
-    alloc: Global,
-    queues: &mut Vec<Queue>,
-    leaving: &mut VecDeque<Ready>,
-) -> Result<(), Fault>
-    ensures stays { OnOk result (queues.new.items ≡ served queues.old.items) }
-    ensures leaves { OnOk result (leaving.new.items ≡ leaving.old.items ++ leaving_of queues.old.items) }
-{
-    let mut done = Vec::new(alloc);
-    for mut queue in mem::replace(queues, Vec::new(alloc)) {
-        queue.serve(alloc, leaving)?;
-        done.push(queue)?;
-    }
-    *queues = done;
     Ok(())
 }
 

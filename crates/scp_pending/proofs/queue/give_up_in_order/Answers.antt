@@ -1,0 +1,5 @@
+use Rattle.scp_pending.proofs.Keeping.{quiet_given}
+use Rattle.scp_pending.proofs.queue.give_up_in_order.Goals as goal
+
+pub give_up_all-requires : goal.give_up_all-requires
+give_up_all-requires c = record { quiet = quiet_given c.args.queues.now.items _ c.args.fetcher.now c.in_ok-first.first.items c.in_ok-hashes.hashes.items _ c.requires.kept c.in_ok-first.ensures.hashes c.in_ok-put_in_order.ensures c.in_ok-hashes.ensures.hashes c.as_slice.ensures.value }
