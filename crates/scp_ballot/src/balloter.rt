@@ -96,7 +96,8 @@ impl Balloter {
         Ok(given)
     }
 
-    /// A timer: the counter of the ballot is raised by one, where there is a value for it and it isn't at its greatest.
+    /// A timer: the counter of the ballot is raised, where the own statement stays a PREPARE or a CONFIRM, and the counter was
+    /// neither 0 nor at its greatest.
     /// Refused by `Failed` once a call was refused, else by `NoMemory`.
     pub fn timer(&mut self) -> Result<Balloted, Fault>
         ensures advances { IfOk result (λ given. Advances (ballots self.old) (ballots self.new) given) }

@@ -23,7 +23,8 @@ use scp_types::{Ballot, Fault, NodeId, SharedValue};
 use scp_vote::{Board, Claim};
 use std::collections::BTreeSet;
 
-/// Whether the statement is newer than the one emitted before, if there was one.
+/// Whether the statement is newer than the one emitted before, if there was one. That one is kept for it, so that no fact
+/// about the rules is needed.
 fn is_newer(before: &Option<SharedStatement>, own: &Statement) -> bool
     ensures { IsTrue result ↔ ForSome before.now (λ s. IsNewer s own.now) }
 {

@@ -67,7 +67,7 @@ fn composed(state: &State, value: SharedValue) -> Result<Option<State>, Fault>
     }
 }
 
-/// What a timer makes of the state: the counter is raised by one, unless it is at its greatest.
+/// What a timer makes of the state: a counter more, unless it is at its greatest or there is no value for a ballot.
 fn timed(state: &State) -> Result<Option<State>, Fault>
     ensures raises { IfOk result (λ found. IfSome found (λ next. Times state.now next)) }
     ensures none { IfOk result (λ found. IfNone found (CannotRaise state.now)) }

@@ -1,8 +1,9 @@
 //! The steps of the ballot protocol of one slot (the SCP draft, in this project's profile): what a board tells of ballots, which
 //! ballots may be asked for, and the rules that accept and confirm.
 //!
-//! What it promises of each rule: the state that it answers is a step of that rule from the one before, and, but of `accept_more`,
-//! where it answers none the rule rests: nothing that it looks for has come so far. The one refusal is want of memory.
+//! What it promises of each rule: the state that it answers is a step of that rule from the one before; and where it answers
+//! none, no greater ballot is accepted, or confirmed, as prepared, or no such commit is accepted, or confirmed. Of `accept_more`
+//! nothing is promised there, nor of preparedPrime and the vote to commit. The one refusal is want of memory.
 #![tactic(auto)]
 
 pub mod accept_commit;

@@ -58,7 +58,8 @@ impl Event {
 }
 
 /// What a node answers to an event. Of several that fit, the first in this order: `Failed`, `NoLink`, those of the event's
-/// own in the order of the stages' documentation, and last `NoMemory`.
+/// own in the order of the stages' documentation, and last `NoMemory`. It can't be copied or compared, since `Sent` has the
+/// bytes: match on it.
 #[derive(Debug, Drop)]
 pub enum Reply {
     /// The event was taken at the tail of a link, or into the inbox.

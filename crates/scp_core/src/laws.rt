@@ -37,7 +37,8 @@ pub fn each_fate_has_its_cause()
     ensures causes { TheoremGivesCauses }
 {}
 
-/// Where the pending stage answers Idle, the head of each of its queues is an envelope that waits for its quorum set.
+/// Where the pending stage answers Idle nothing is ready, and the head of each of its queues is an envelope that waits for its
+/// quorum set.
 pub fn what_is_idle_is_settled()
     ensures settled { IdleIsSettled }
 {}
@@ -53,8 +54,8 @@ pub fn whatever_is_replied_fits()
     ensures fits { RepliesFit }
 {}
 
-/// Each step puts all that its stage hands out into the outboxes of its links, in order; and a drain of a link gives what its
-/// outbox gives next, Idle where that is nothing.
+/// Each step puts what its stage hands out into the outboxes of its links, in order, all but what is too long for a link; and
+/// a drain of a link gives what its outbox gives next, Idle where that is nothing.
 pub fn what_is_handed_out_is_put()
     ensures puts { StepsPutAll }
     ensures drains { DrainsGiveNext }

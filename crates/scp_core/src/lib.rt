@@ -10,7 +10,8 @@
 //! - slots 1 to n are applied once each, in order, each with its decision; each other decision lies in the slot stage's
 //!   hand, in the queue behind it or in the applier's buffer; and the state is the fold of the applied values;
 //! - every reply is that of the table of replies, and a queue is full exactly at its capacity;
-//! - what a stage hands out for a link is put into that link's outbox, in order, and a drain gives what is next there;
+//! - what a stage hands out for a link is put into that link's outbox, in order, all but what is too long for a link; and a
+//!   drain gives what is next there;
 //! - a failed node keeps its journal, decisions and applied slots.
 #![tactic(auto)]
 

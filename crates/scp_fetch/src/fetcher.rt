@@ -18,7 +18,8 @@ pub const MISS_LIMIT: u8 = 12;
 /// Links have numbers below this (this project's profile).
 pub const LINK_LIMIT: u8 = 8;
 
-/// The hashes that are wanted, in the order in which they became so, each with its misses and the links that were asked.
+/// The hashes that are wanted, in the order in which they became so, each with its misses and the links that were asked. A
+/// look-up is one by a hash table; a miss of all and an opened link walk them, and the end of a want moves those behind it.
 #[derive(Debug, Drop)]
 pub struct Fetcher {
     wants: IndexMap<[u8; 32], Want>,

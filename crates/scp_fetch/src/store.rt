@@ -18,7 +18,7 @@ use std::sync::Arc;
 pub const OTHER_SETS_LIMIT: usize = 256;
 
 /// The local quorum set and others, each under its own hash. The others lie in a ring, and `first` is the place of the one
-/// that was stored first.
+/// that was stored first: to take the first out of an ordered map would move all others.
 #[derive(Drop)]
 pub struct SetStore {
     local: Arc<SaneSet>,

@@ -118,7 +118,8 @@ pub fn add_want(wants: &mut IndexMap<[u8; 32], Want>, hash: &Hash, link: usize) 
     Ok(())
 }
 
-/// The link is asked, where the hash is wanted: then whether it wasn't asked before.
+/// The link is asked, where the hash is wanted: then whether it wasn't asked before. One look-up does both, since each message
+/// that waits needs it.
 pub fn note_asked(wants: &mut IndexMap<[u8; 32], Want>, hash: &Hash, link: usize) -> Option<bool>
     requires link { link < 8 }
     requires under { AllByRecursion IsUnderHash wants.old.entries }

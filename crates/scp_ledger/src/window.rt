@@ -14,7 +14,8 @@ pub const WINDOW: u64 = 16;
 /// The highest slot that can be open (this project's profile).
 pub const LAST_SLOT: u64 = 4_294_967_295;
 
-/// The lowest slot without a decision, and which ones after it have one: at most 15.
+/// The lowest slot without a decision, and which ones after it have one: at most 15, since one is taken out as soon as the
+/// lowest passes it. Envelopes and records ask the same window.
 #[derive(Drop)]
 pub struct Window {
     pub lowest: u64,

@@ -1,7 +1,6 @@
 //! Scripts for up to eight linked nodes: plays them, and writes the reports that they ask for.
 //!
 //! What it promises:
-//! - `parse` gives just the commands that the text says, or its first bad line;
 //! - `play` writes one report for each `report` line, in the order of the lines, of nodes that have the quorum sets that
 //!   the script gives them, and that the ledger theorem holds of for the very events that the script says, each accepted;
 //!   all is made before the first byte is written;

@@ -10,6 +10,7 @@ use std::alloc::Global;
 use std::sync::Arc;
 
 /// What a node knows and says of one slot, by its driver. After a refusal it is failed, and answers `Fault::Failed` from then on.
+/// Its state lies on the heap, so that a map of machines moves handles.
 #[derive(Drop)]
 pub struct SlotMachine<D: Driver + Drop> {
     state: Box<State<D>>,

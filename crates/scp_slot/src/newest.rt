@@ -21,7 +21,8 @@ pub struct Heard {
     pub set: Arc<SaneSet>,
 }
 
-/// Of each other node the newest fresh statement of each kind.
+/// Of each other node the newest fresh statement of each kind, beside the boards: for the verdict on a later one, and for the
+/// set that came with it. Both share the envelope.
 #[derive(Drop)]
 pub(crate) struct Newest {
     nominations: BTreeMap<NodeId, Heard>,

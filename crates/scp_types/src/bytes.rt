@@ -1,4 +1,4 @@
-//! Equality of bytes, eight at a time.
+//! Equality of bytes, eight at a time: the library's comparison of slices was the dearest part of a vote.
 ghost use Rattle.std.specs.Prelude.{◌≡◌, ◌≢◌, ◌+◌, ◌<◌, ◌≤◌, ℕ, length, nat_eq, slice_index};
 ghost use Rattle.std.specs.Bool.{MatchBool};
 ghost use Rattle.std.specs.Slice.Scan.{little_endian};

@@ -15,7 +15,7 @@ use std::sync::Arc;
 pub struct Entry {
     pub envelope: SharedEnvelope,
     pub counted: Arc<SaneSet>,
-    /// Where the node has its seat.
+    /// Where the node has its seat: a walk over the entries needs no look-up.
     pub(crate) place: usize,
 }
 

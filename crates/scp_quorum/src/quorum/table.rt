@@ -1,7 +1,8 @@
 //! Nodes in a table, in which most of them are found by one look.
 //!
 //! The table only says where to look: what stands there is compared, and a node that isn't found so is
-//! looked for in another way. So ids that were chosen to meet in it cost time and change no answer.
+//! looked for in another way. So ids that were chosen to meet in it cost time and change no answer. (The hash of a `HashMap`
+//! has a fixed seed here: whoever chooses ids could make each look-up as long as the map.)
 ghost use Rattle.std.specs.Prelude.{◌≡◌, IfOk, IfSome, IsTrue};
 ghost use Rattle.std.specs.Bool.{OnTrue};
 ghost use Rattle.std.specs.List.{All, Contains};

@@ -13,7 +13,8 @@ use scp_xdr::Xdr;
 /// How many nodes a sane quorum set may have in the whole (this project's profile).
 const MAX_NODES: usize = 1_000;
 
-/// A set of so few nodes needs no room for as many as there may be.
+/// A set of so few nodes needs no room for as many as there may be: nodes are sorted in room on the stack, so that no memory is
+/// asked for, and room is zeroed before use.
 const FEW: usize = 32;
 
 /// How many bytes the spelling of a sane quorum set may have, so that a message of 65,536 bytes can

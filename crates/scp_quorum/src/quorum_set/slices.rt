@@ -1,4 +1,5 @@
-//! Which sets of nodes satisfy and block a quorum set.
+//! Which sets of nodes satisfy and block a quorum set: one loop does both. Blocking is a test of satisfying with the nodes
+//! turned round, since satisfying only grows with the nodes, and what is disjoint from them lies within the others.
 ghost use Rattle.std.specs.Prelude.{◌≡◌, ◌↔◌, ◌≤◌, Bool, IfSome, IsTrue, count_by, length, take};
 ghost use Rattle.scp_types.specs.declared.names.NodeId.{NodeId};
 ghost use Rattle.scp_quorum.specs.NodeSet.{is_in};
