@@ -2,7 +2,7 @@
 use crate::ledger::Command;
 use crate::link::{Cause, Inbound};
 use crate::quorum::{QuorumSet, SaneSet};
-use crate::types::{ConnId, Hash, NodeId, Seq};
+use crate::types::{ConnId, Hash, NodeId, Seq, Slot};
 use crate::wire::Message;
 use std::collections::{HashMap, VecDeque};
 use std::sync::Arc;
@@ -43,7 +43,7 @@ pub struct Delivery {
 enum Parked {
     Waits(Seq, Message, Hash),
     Free(Delivery),
-    Lost(Seq, DropCause),
+    Lost(Seq, Slot, DropCause),
 }
 
 #[derive(Clone)]
@@ -79,8 +79,17 @@ pub struct Pending {
 impl Parked {
     fn seq(&self) -> Seq {
         match self {
-            Parked::Waits(seq, ..) | Parked::Lost(seq, _) => *seq,
+            Parked::Waits(seq, ..) | Parked::Lost(seq, ..) => *seq,
             Parked::Free(delivery) => delivery.seq,
+        }
+    }
+
+    /// The slot that it names: with its connection this is its lane.
+    fn slot(&self) -> Slot {
+        match self {
+            Parked::Waits(_, message, _) => slot_of(message),
+            Parked::Free(delivery) => slot_of(&delivery.message),
+            Parked::Lost(_, slot, _) => *slot,
         }
     }
 
@@ -96,16 +105,37 @@ impl Parked {
         match self {
             Parked::Waits(..) => None,
             Parked::Free(delivery) => Some(Ready::Deliver(delivery)),
-            Parked::Lost(seq, cause) => Some(Ready::Dropped { conn, seq, cause }),
+            Parked::Lost(seq, _, cause) => Some(Ready::Dropped { conn, seq, cause }),
         }
     }
 }
 
+/// The slot that a carried message names.
+fn slot_of(message: &Message) -> Slot {
+    match message {
+        Message::Envelope(envelope) => envelope.statement.slot,
+        Message::GetRecord(slot) | Message::Record(slot, _) => *slot,
+        _ => Slot(0),
+    }
+}
+
+/// Behind these it is held back where it waits, and where one of its lane stands before it.
+fn is_held(before: &VecDeque<Parked>, parked: &Parked) -> bool {
+    parked.is_waiting() || before.iter().any(|other| other.slot() == parked.slot())
+}
+
 impl Queue {
-    fn may_leave(&self) -> bool {
-        self.parked
-            .front()
-            .is_some_and(|parked| !parked.is_waiting())
+    /// Gives of each lane all that stands before the first that waits.
+    fn serve(&mut self, leaving: &mut VecDeque<Ready>) {
+        let mut kept = VecDeque::new();
+        for parked in self.parked.drain(..) {
+            if is_held(&kept, &parked) {
+                kept.push_back(parked);
+            } else {
+                leaving.extend(parked.leave(self.conn));
+            }
+        }
+        self.parked = kept;
     }
 
     /// What waits for the hash has its outcome.
@@ -114,12 +144,12 @@ impl Queue {
             if !parked.waits_for(hash) {
                 continue;
             }
-            let held = std::mem::replace(parked, Parked::Lost(Seq(0), DropCause::BadSet));
+            let held = std::mem::replace(parked, Parked::Lost(Seq(0), Slot(0), DropCause::BadSet));
             let Parked::Waits(seq, message, _) = held else {
                 continue;
             };
             *parked = match outcome {
-                Outcome::Lost(cause) => Parked::Lost(seq, *cause),
+                Outcome::Lost(cause) => Parked::Lost(seq, slot_of(&message), *cause),
                 Outcome::Has(set) => Parked::Free(Delivery {
                     conn: self.conn,
                     seq,
@@ -216,8 +246,12 @@ impl Pending {
 
     fn bring(&mut self, conn: ConnId, seq: Seq, message: Message) -> Option<(u8, Message)> {
         let place = self.place_of(&conn)?;
-        let count = self.queues[place].parked.len();
-        if count >= PARKED_LIMIT {
+        let (parked, waits_for) = self.entering(conn, seq, message);
+        if !is_held(&self.queues[place].parked, &parked) {
+            self.leaving.extend(parked.leave(conn));
+            return None;
+        }
+        if self.queues[place].parked.len() >= PARKED_LIMIT {
             let cause = DropCause::ParkedFull;
             self.empty(place, cause);
             self.leaving.push_back(Ready::Dropped { conn, seq, cause });
@@ -227,42 +261,35 @@ impl Pending {
             });
             return None;
         }
-        let mut asked = None;
-        let parked = match &message {
+        if self.queues[place].parked.is_empty() {
+            // the queues stand in the order in which they began to wait
+            let queue = self.queues.remove(place);
+            self.queues.push(queue);
+        }
+        let queue = self.queues.iter_mut().find(|queue| queue.conn == conn)?;
+        queue.parked.push_back(parked);
+        waits_for.and_then(|hash| self.want(&conn, hash))
+    }
+
+    /// What a message is that comes, and the hash that it waits for.
+    fn entering(&self, conn: ConnId, seq: Seq, message: Message) -> (Parked, Option<Hash>) {
+        let set = match &message {
             Message::Envelope(envelope) => {
                 let hash = *envelope.set_hash();
-                match self.set(&hash).cloned() {
-                    None => {
-                        asked = self.want(&conn, hash);
-                        Parked::Waits(seq, message, hash)
-                    }
-                    set => Parked::Free(Delivery {
-                        conn,
-                        seq,
-                        message,
-                        set,
-                    }),
+                match self.set(&hash) {
+                    None => return (Parked::Waits(seq, message, hash), Some(hash)),
+                    set => set.cloned(),
                 }
             }
-            _ => Parked::Free(Delivery {
-                conn,
-                seq,
-                message,
-                set: None,
-            }),
+            _ => None,
         };
-        match parked {
-            Parked::Free(delivery) if count == 0 => {
-                self.leaving.push_back(Ready::Deliver(delivery))
-            }
-            parked if count > 0 => self.queues[place].parked.push_back(parked),
-            parked => {
-                let mut queue = self.queues.remove(place);
-                queue.parked.push_back(parked);
-                self.queues.push(queue);
-            }
-        }
-        asked
+        let delivery = Delivery {
+            conn,
+            seq,
+            message,
+            set,
+        };
+        (Parked::Free(delivery), None)
     }
 
     fn want(&mut self, conn: &ConnId, hash: Hash) -> Option<(u8, Message)> {
@@ -347,22 +374,11 @@ impl Pending {
         self.serve();
     }
 
-    /// Gives what may leave; the queues whose heads left stand behind the others from then on.
+    /// Gives what may leave, queue after queue.
     fn serve(&mut self) {
-        let leaves = |queue: &Queue| queue.may_leave();
-        if !self.queues.iter().any(leaves) {
-            return;
+        for queue in &mut self.queues {
+            queue.serve(&mut self.leaving);
         }
-        let (mut behind, waiting): (Vec<_>, Vec<_>) = self.queues.drain(..).partition(leaves);
-        for queue in &mut behind {
-            while queue.may_leave() {
-                let head = queue.parked.pop_front();
-                self.leaving
-                    .extend(head.and_then(|head| head.leave(queue.conn)));
-            }
-        }
-        self.queues = waiting;
-        self.queues.append(&mut behind);
     }
 
     fn tick(&mut self) {
