@@ -1,0 +1,100 @@
+-- What contracts see of the ends of a channel.
+use Rattle.std.specs.Prelude.{◌≡◌, ℕ, ◌<◌, ◌≤◌, ◌==◌, ◌||◌, Bool, true, false, List, [], ◌∷◌, ◌++◌, length, slice_get, Some}
+use Rattle.atomic_table.specs.Seated.{TableId}
+use Rattle.atomic_table.specs.declared.badge.Badge.{Badge}
+use Rattle.crossbeam_channel.specs.declared.flavors.array.Key.{Key}
+use Rattle.crossbeam_channel.specs.Claims.{Pass, view}
+use Rattle.scp_ends.specs.declared.item.Item.{Item}
+use Rattle.scp_ends.specs.declared.item.Item.TheVariants.{One, Stop}
+use Rattle.scp_ends.specs.declared.item.View.{View}
+use Rattle.scp_ends.specs.Order.{of, values}
+
+-- which channel it is
+pub record Line (T : Type 0) : Type 0 where
+  pub table : TableId
+  pub key : Badge (Key (Item T))
+
+-- a sending end: its channel, its producer's number, and what it sent
+pub record Sender (T : Type 0) : Type 0 where
+  pub line : Line T
+  pub number : ℕ
+  pub sent : List T
+
+-- a receiving end: its channel, how many producers it has, how much the channel holds at most, and what it received
+pub record Receiver (T : Type 0) : Type 0 where
+  pub line : Line T
+  pub producers : ℕ
+  pub room : ℕ
+  pub got : List (Item T)
+
+-- how many producers there may be, and how many items the channel may hold
+pub record IsOfSize (producers capacity : ℕ) : Type 0 where
+  pub some_producer : 0 < producers
+  pub few_producers : producers ≤ 8
+  pub some_room : 0 < capacity
+  pub little_room : capacity ≤ 1024
+
+module _ {T : Type 0} where
+  abbrev pub line_of : Pass (Item T) (View T) → Line T
+  line_of p = record { table = p.table_id; key = p.me.0.of }
+
+  -- the items by which producer n sends these
+  abbrev pub ones : ℕ → List T → List (Item T)
+  ones n [] = []
+  ones n (x ∷ xs) = One n x ∷ ones n xs
+
+  -- all that producer n sends, ended
+  abbrev pub ended : ℕ → List T → List (Item T)
+  ended n xs = ones n xs ++ Stop n ∷ []
+
+  -- whether producer n has ended among these
+  abbrev pub stopped : ℕ → List (Item T) → Bool
+  stopped p [] = false
+  stopped p (One n x ∷ xs) = stopped p xs
+  stopped p (Stop n ∷ xs) = (n == p) || stopped p xs
+
+  -- the pass of producer n, which sent just things
+  abbrev pub IsSending : ℕ → Pass (Item T) (View T) → Type 0
+  IsSending n p = let v = view p in (v.sends ≡ true) × (v.number ≡ n) × (v.put ≡ ones n (values v.put))
+
+  -- it knows the capacity
+  abbrev pub HasRoom : ℕ → Pass (Item T) (View T) → Type 0
+  HasRoom room p = (view p).room ≡ room
+
+  -- the pass of producer n, which sent things and then its end
+  abbrev pub IsEnded : ℕ → Pass (Item T) (View T) → Type 0
+  IsEnded n p = let v = view p in (v.sends ≡ true) × (v.number ≡ n) × (v.put ≡ ended n (values v.put))
+
+  abbrev pub sender_of : ℕ → Pass (Item T) (View T) → Sender T
+  sender_of n p = record { line = line_of p; number = n; sent = values (view p).put }
+
+  abbrev pub receiver_of : Pass (Item T) (View T) → Receiver T
+  receiver_of p = record { line = line_of p; producers = (view p).made; room = (view p).room; got = (view p).got }
+
+  abbrev pub IsReceiving : Pass (Item T) (View T) → Type 0
+  IsReceiving p = (view p).gets ≡ true
+
+  -- a producer that has sent nothing yet
+  abbrev pub fresh : Line T → ℕ → Sender T
+  fresh line n = record { line = line; number = n; sent = [] }
+
+  -- the ends of producers 0, 1, 2, ..
+  abbrev pub AreFresh : Line T → List (Sender T) → Type 0
+  AreFresh line xs = (i : ℕ) → i < length xs → slice_get xs i ≡ Some (fresh line i)
+
+  -- what was received of producer p
+  abbrev pub heard : ℕ → List (Item T) → List T
+  heard p got = values (of p got)
+
+-- each producer's end was received
+abbrev pub HeardAll : {T : Type 0} → Receiver T → Type 0
+HeardAll r = (p : ℕ) → p < r.producers → stopped p r.got ≡ true
+
+-- One producer that ended, and its consumer: what it sent is what was received of it and then what the channel holds of it,
+-- in order, its end last; nothing is of a number that no producer has; and the channel holds no more than its room.
+pub record IsQueued {T : Type 0} (r : Receiver T) (s : Sender T) : Type 0 where
+  pub number : s.number < r.producers
+  pub queue : List (Item T)
+  pub room : length queue ≤ r.room
+  pub order : ended s.number s.sent ≡ of s.number (r.got ++ queue)
+  pub others : (p : ℕ) → r.producers ≤ p → of p (r.got ++ queue) ≡ []

@@ -1,0 +1,5 @@
+pub mod Ends
+pub mod Order
+pub mod Links
+pub mod Commands
+pub mod Window

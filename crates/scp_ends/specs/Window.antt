@@ -1,0 +1,15 @@
+-- The law of what goes on to the applier holds of each beginning of it.
+use Rattle.std.specs.Prelude.{List, [], ◌∷◌, ◌++◌}
+use Rattle.std.proofs.Common.{subst}
+use Rattle.std.proofs.lemmas.List.Concat.{flat_map-append}
+use Rattle.scp_ledger.specs.declared.journal.Decision.{Decision}
+use Rattle.scp_ledger.specs.declared.took.Onward.{Onward}
+use Rattle.scp_ledger.specs.Decisions.{AreInWindow}
+use Rattle.scp_ledger.specs.Onwards.{decision_on, decisions_on, KeepsWindow}
+
+in_window-front : (earlier ds es : List Decision) → AreInWindow earlier (ds ++ es) → AreInWindow earlier ds
+in_window-front earlier [] es h = tt
+in_window-front earlier (d ∷ ds) es h = (h.0, in_window-front (earlier ++ d ∷ []) ds es h.1)
+
+pub keeps_window-front : (xs ys : List Onward) → KeepsWindow (xs ++ ys) → KeepsWindow xs
+keeps_window-front xs ys h = in_window-front [] (decisions_on xs) (decisions_on ys) (subst (AreInWindow []) (flat_map-append decision_on xs ys) h)

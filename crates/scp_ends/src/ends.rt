@@ -1,0 +1,159 @@
+//! The ends of a channel, each with its pass.
+ghost use Rattle.std.specs.Prelude.{◌≡◌, ℕ, ◌+◌, ◌<◌, ◌≤◌, List, [], ◌∷◌, ◌++◌, true, length, IfOk, MatchResult};
+ghost use Rattle.crossbeam_channel.specs.Claims.{IsSeatAt};
+ghost use Rattle.crossbeam_channel.specs.Claims as claims;
+ghost use Rattle.scp_ends.specs.declared.item.Item.{Item};
+ghost use Rattle.crossbeam_channel.specs.Ends.{sends_on, receives_on, ruled_capacity};
+ghost use Rattle.scp_ends.specs.Order as order;
+ghost use Rattle.scp_ends.specs.Ends as ends;
+
+use crate::item::{Item, View};
+use crate::rule::{InOrder, Law, Receives, Sends, Takes, Told};
+use crossbeam_channel::{Pass, RuledReceiver, RuledSender};
+use std::marker::Model;
+use std::sync::Wait;
+
+/// What was to be sent, where the other end is gone.
+#[derive(Drop)]
+pub struct Gone<T>(pub T);
+
+/// The end of one producer.
+#[derive(Drop)]
+pub struct Tx<T: Drop, L: Law<T>> {
+    sender: RuledSender<Item<T>, View<T>, InOrder<L>>,
+    pass: Pass<Item<T>, View<T>>,
+    number: u8,
+}
+
+impl<T: Drop, L: Law<T>> Model for Tx<T, L> {
+    ghost Value = { ends.Sender T };
+
+    ghost view = { λ s. ends.sender_of s.number s.pass };
+
+    ghost invariant = { λ s. IsSeatAt (sends_on s.sender) s.pass × ends.IsSending s.number s.pass × ends.HasRoom (ruled_capacity (sends_on s.sender)) s.pass };
+}
+
+/// What a producer that has ended leaves.
+#[derive(Drop)]
+pub struct Done<T: Drop, L: Law<T>> {
+    sender: RuledSender<Item<T>, View<T>, InOrder<L>>,
+    pass: Pass<Item<T>, View<T>>,
+    number: u8,
+}
+
+impl<T: Drop, L: Law<T>> Model for Done<T, L> {
+    ghost Value = { ends.Sender T };
+
+    ghost view = { λ s. ends.sender_of s.number s.pass };
+
+    ghost invariant = { λ s. IsSeatAt (sends_on s.sender) s.pass × ends.IsEnded s.number s.pass };
+}
+
+/// The end of the one consumer.
+#[derive(Drop)]
+pub struct Rx<T: Drop, L: Law<T>> {
+    receiver: RuledReceiver<Item<T>, View<T>, InOrder<L>>,
+    pass: Pass<Item<T>, View<T>>,
+}
+
+impl<T: Drop, L: Law<T>> Model for Rx<T, L> {
+    ghost Value = { ends.Receiver T };
+
+    ghost view = { λ s. ends.receiver_of s.pass };
+
+    ghost invariant = { λ s. IsSeatAt (receives_on s.receiver) s.pass × ends.IsReceiving s.pass };
+}
+
+impl<T: Drop, L: Law<T>> Tx<T, L> {
+    pub(crate) fn made(
+        sender: RuledSender<Item<T>, View<T>, InOrder<L>>,
+        pass: Pass<Item<T>, View<T>>,
+        number: u8,
+    ) -> Tx<T, L>
+        requires seat { IsSeatAt (sends_on sender) pass }
+        requires fresh { claims.view pass ≡ order.sender (ruled_capacity (sends_on sender)) number [] }
+        ensures { result ≡ ends.fresh (ends.line_of pass) number }
+    {
+        Tx {
+            sender,
+            pass,
+            number,
+        }
+    }
+
+    /// Sends one thing.
+    pub fn send_as<R: Wait>(&mut self, rt: &R, thing: T) -> Result<(), Gone<T>>
+        requires { L.fits (self.old.sent ++ thing ∷ []) }
+        ensures { MatchResult result (λ _. self.new ≡ record self.old { sent = self.old.sent ++ thing ∷ [] }) (λ e. (e.0 ≡ thing) × (self.new ≡ self.old)) }
+    {
+        match self
+            .sender
+            .send_as::<Sends, R>(rt, &mut self.pass, Item::One(self.number, thing))
+        {
+            Ok(()) => Ok(()),
+            Err(e) => match e.into_inner() {
+                Item::One(_, back) => Err(Gone(back)),
+                Item::Stop(_) => unreachable!(),
+            },
+        }
+    }
+
+    /// Ends the producer. Where the other end is gone, hands the end back.
+    pub fn stop<R: Wait>(mut self, rt: &R) -> Result<Done<T, L>, Gone<Tx<T, L>>>
+        ensures { MatchResult result (λ d. d ≡ self) (λ e. e.0 ≡ self) }
+    {
+        match self
+            .sender
+            .send_as::<Sends, R>(rt, &mut self.pass, Item::Stop(self.number))
+        {
+            Ok(()) => Ok(Done {
+                sender: self.sender,
+                pass: self.pass,
+                number: self.number,
+            }),
+            Err(_) => Err(Gone(self)),
+        }
+    }
+}
+
+impl<T: Drop, L: Law<T>> Rx<T, L> {
+    pub(crate) fn made(
+        receiver: RuledReceiver<Item<T>, View<T>, InOrder<L>>,
+        pass: Pass<Item<T>, View<T>>,
+    ) -> Rx<T, L>
+        requires seat { IsSeatAt (receives_on receiver) pass }
+        requires gets { (claims.view pass).gets ≡ true }
+        ensures { result ≡ ends.receiver_of pass }
+    {
+        Rx { receiver, pass }
+    }
+
+    /// Receives the next item, of any producer.
+    pub fn recv_as<R: Wait>(&mut self, rt: &R) -> Result<Item<T>, Gone<()>>
+        ensures received { MatchResult result (λ x. (self.new ≡ record self.old { got = self.old.got ++ x ∷ [] }) × (order.number_of x < self.old.producers)) (λ _. self.new ≡ self.old) }
+        ensures fits { IfOk result (λ x. (p : ℕ) → L.fits (order.values (order.of p (self.old.got ++ x ∷ [])))) }
+        ensures alone { self.old.producers ≡ 1 → IfOk result (λ x. L.fits (order.values (self.old.got ++ x ∷ []))) }
+    {
+        match self.receiver.recv_as::<Receives<L>, R>(rt, &mut self.pass) {
+            Ok(item) => Ok(item),
+            Err(_) => Err(Gone(())),
+        }
+    }
+
+    /// Takes a producer's pass back: what it sent is what was received of it, and then what the channel holds of it.
+    pub fn take_back(&mut self, done: Done<T, L>)
+        requires { done.line ≡ self.old.line }
+        ensures same { self.new ≡ self.old }
+        ensures queued { ends.IsQueued self.old done }
+        ensures whole { ends.stopped done.number self.old.got ≡ true → ends.heard done.number self.old.got ≡ done.sent }
+        ensures alone { self.old.producers ≡ 1 → ends.HeardAll self.old → order.values self.old.got ≡ done.sent }
+    {
+        let Done {
+            sender,
+            pass,
+            number: _,
+        } = done;
+        sender.absorb::<Takes>(&mut self.pass, pass);
+        sender.learn_as::<Told>(&mut self.pass);
+    }
+}

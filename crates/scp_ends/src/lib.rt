@@ -1,0 +1,32 @@
+//! The channels between the workers of a node, each under a rule.
+//!
+//! What it promises, under every schedule:
+//! - what each producer sent comes out in its order, each thing once, its end last, and nothing else comes;
+//! - a channel holds no more items than its capacity;
+//! - a send that is handed back changes nothing;
+//! - over a link goes what a link's tail may send: lives 1, 2, .., each opened once and closed at most once;
+//! - the decisions that go on to the applier are each of one of the 16 slots from the lowest undecided one on.
+#![tactic(auto)]
+
+mod channels;
+mod commands;
+mod ends;
+mod item;
+mod make;
+mod rule;
+mod tail;
+#[cfg(test)]
+mod tests;
+mod window;
+
+pub use channels::{
+    DecidedDone, DecidedRx, DecidedTx, InboxDone, InboxRx, InboxTx, LinkRx, ReadyDone, ReadyRx,
+    ReadyTx, decided, inbox, link, ready,
+};
+pub use commands::{LocalDone, LocalTx};
+pub use ends::{Done, Gone, Rx, Tx};
+pub use item::{Item, View};
+pub use make::{MOST_ITEMS, MOST_PRODUCERS};
+pub use rule::{Any, InOrder, Law};
+pub use tail::{LIVES_LIMIT, LinkDone, LinkTx, NotSent};
+pub use window::InWindow;

@@ -1,0 +1,193 @@
+//! The sending end of a link.
+ghost use Rattle.std.specs.Prelude.{◌≡◌, ◌↔◌, ◌⊎◌, [], true, false, OnOk, OnErr, IfErr, MatchResult, IsErrOf};
+ghost use Rattle.scp_wire.specs.declared.link.LinkItem.TheVariants as item;
+ghost use Rattle.scp_ends.specs.Ends.{IsQueued, HeardAll};
+ghost use Rattle.scp_ends.specs.Order.{values};
+ghost use Rattle.scp_ends.specs.Links.{LinkEnd, stands, conn_now, conn_next, with_item, IsLink};
+
+use crate::ends::{Done, Gone, Rx, Tx};
+use crate::rule::Any;
+use scp_types::{ConnId, Fault, NodeId};
+use scp_wire::{Bytes, LinkItem};
+use std::marker::Model;
+use std::sync::Wait;
+
+/// How often a link can be opened (this project's profile).
+pub const LIVES_LIMIT: u32 = 65_535;
+
+/// Why nothing was sent over a link.
+#[derive(Debug, Drop)]
+pub enum NotSent {
+    /// `Fault::NotOpen`, `Fault::AlreadyOpen` or `Fault::LivesSpent`.
+    Refused(Fault),
+    /// The receiving end is gone; here is what was to be sent.
+    Gone(LinkItem),
+}
+
+/// The sending end of the link from one node to another. Each opening of the link is a connection of its own.
+#[derive(Drop)]
+pub struct LinkTx {
+    from: NodeId,
+    to: NodeId,
+    tail: Tx<LinkItem, Any>,
+    life: u32,
+    is_open: bool,
+}
+
+impl Model for LinkTx {
+    ghost use Rattle.std.specs.Prelude.{◌≡◌};
+    ghost use Rattle.scp_ends.specs.Links.{LinkEnd, stands, IsLink};
+
+    ghost Value = { LinkEnd };
+
+    ghost view = { λ k. record { from = k.from; to = k.to; tail = k.tail } };
+
+    ghost invariant = { λ k. IsLink (record { from = k.from; to = k.to; tail = k.tail }) × (stands (record { from = k.from; to = k.to; tail = k.tail }) ≡ record { life = k.life; is_open = k.is_open }) };
+}
+
+/// What the sending end of a link leaves.
+#[derive(Drop)]
+pub struct LinkDone {
+    from: NodeId,
+    to: NodeId,
+    tail: Done<LinkItem, Any>,
+}
+
+impl Model for LinkDone {
+    ghost use Rattle.scp_ends.specs.Links.{LinkEnd, IsLink};
+
+    ghost Value = { LinkEnd };
+
+    ghost view = { λ k. record { from = k.from; to = k.to; tail = k.tail } };
+
+    ghost invariant = { λ k. IsLink (record { from = k.from; to = k.to; tail = k.tail }) };
+}
+
+impl LinkTx {
+    pub(crate) fn made(from: NodeId, to: NodeId, tail: Tx<LinkItem, Any>) -> LinkTx
+        requires { tail.sent ≡ [] }
+        ensures { result ≡ record { from = from; to = to; tail = tail } }
+    {
+        LinkTx {
+            from,
+            to,
+            tail,
+            life: 0,
+            is_open: false,
+        }
+    }
+
+    /// Opens the link: its next connection begins.
+    pub fn open<R: Wait>(&mut self, rt: &R) -> Result<(), NotSent>
+        ensures opened { OnOk result (self.new ≡ with_item self.old (item.Opened (conn_next self.old))) }
+        ensures same { OnErr result (self.new ≡ self.old) }
+        ensures already_open { IsErrOf result (NotSent.Refused Fault.AlreadyOpen) ↔ ((stands self.old).is_open ≡ true) }
+        ensures lives_spent { IsErrOf result (NotSent.Refused Fault.LivesSpent) ↔ (((stands self.old).is_open ≡ false) × ((stands self.old).life ≡ 65535)) }
+        ensures only { IfErr result (λ e. (e ≡ NotSent.Refused Fault.AlreadyOpen) ⊎ ((e ≡ NotSent.Refused Fault.LivesSpent) ⊎ (e ≡ NotSent.Gone (item.Opened (conn_next self.old))))) }
+    {
+        if self.is_open {
+            return Err(NotSent::Refused(Fault::AlreadyOpen));
+        }
+        if self.life >= LIVES_LIMIT {
+            return Err(NotSent::Refused(Fault::LivesSpent));
+        }
+        let conn = ConnId {
+            from: self.from,
+            to: self.to,
+            life: self.life + 1,
+        };
+        match self.tail.send_as(rt, LinkItem::Opened(conn)) {
+            Ok(()) => {
+                self.life += 1;
+                self.is_open = true;
+                Ok(())
+            }
+            Err(Gone(item)) => Err(NotSent::Gone(item)),
+        }
+    }
+
+    /// Sends bytes on the open connection.
+    pub fn send<R: Wait>(&mut self, rt: &R, bytes: Bytes) -> Result<(), NotSent>
+        ensures sent { OnOk result (self.new ≡ with_item self.old (item.Bytes (conn_now self.old) bytes)) }
+        ensures same { OnErr result (self.new ≡ self.old) }
+        ensures not_open { IsErrOf result (NotSent.Refused Fault.NotOpen) ↔ ((stands self.old).is_open ≡ false) }
+        ensures only { IfErr result (λ e. (e ≡ NotSent.Refused Fault.NotOpen) ⊎ (e ≡ NotSent.Gone (item.Bytes (conn_now self.old) bytes))) }
+    {
+        if !self.is_open {
+            return Err(NotSent::Refused(Fault::NotOpen));
+        }
+        let conn = self.conn();
+        match self.tail.send_as(rt, LinkItem::Bytes(conn, bytes)) {
+            Ok(()) => Ok(()),
+            Err(Gone(item)) => Err(NotSent::Gone(item)),
+        }
+    }
+
+    /// Closes the open connection.
+    pub fn close<R: Wait>(&mut self, rt: &R) -> Result<(), NotSent>
+        ensures closed { OnOk result (self.new ≡ with_item self.old (item.Closed (conn_now self.old))) }
+        ensures same { OnErr result (self.new ≡ self.old) }
+        ensures not_open { IsErrOf result (NotSent.Refused Fault.NotOpen) ↔ ((stands self.old).is_open ≡ false) }
+        ensures only { IfErr result (λ e. (e ≡ NotSent.Refused Fault.NotOpen) ⊎ (e ≡ NotSent.Gone (item.Closed (conn_now self.old)))) }
+    {
+        if !self.is_open {
+            return Err(NotSent::Refused(Fault::NotOpen));
+        }
+        let conn = self.conn();
+        match self.tail.send_as(rt, LinkItem::Closed(conn)) {
+            Ok(()) => {
+                self.is_open = false;
+                Ok(())
+            }
+            Err(Gone(item)) => Err(NotSent::Gone(item)),
+        }
+    }
+
+    /// Ends the link. Where the receiving end is gone, hands the end back.
+    pub fn stop<R: Wait>(self, rt: &R) -> Result<LinkDone, Gone<LinkTx>>
+        ensures { MatchResult result (λ d. d ≡ self) (λ e. e.0 ≡ self) }
+    {
+        let LinkTx {
+            from,
+            to,
+            tail,
+            life,
+            is_open,
+        } = self;
+        match tail.stop(rt) {
+            Ok(tail) => Ok(LinkDone { from, to, tail }),
+            Err(Gone(tail)) => Err(Gone(LinkTx {
+                from,
+                to,
+                tail,
+                life,
+                is_open,
+            })),
+        }
+    }
+
+    /// The connection that is open, or was last.
+    fn conn(&self) -> ConnId
+        ensures { result ≡ conn_now self.now }
+    {
+        ConnId {
+            from: self.from,
+            to: self.to,
+            life: self.life,
+        }
+    }
+}
+
+impl LinkDone {
+    /// Gives the link's pass back to its receiving end: what was sent is what was received, and then what the link holds.
+    pub fn return_to(self, rx: &mut Rx<LinkItem, Any>)
+        requires line { self.tail.line ≡ rx.old.line }
+        ensures same { rx.new ≡ rx.old }
+        ensures link { IsLink self }
+        ensures queued { IsQueued rx.old self.tail }
+        ensures alone { rx.old.producers ≡ 1 → HeardAll rx.old → values rx.old.got ≡ self.tail.sent }
+    {
+        let LinkDone { tail, .. } = self;
+        rx.take_back(tail);
+    }
+}
