@@ -7,12 +7,15 @@
 //!   and one of a slot and kind that isn't there drops the first.
 //! - What was given is gone, and each message that is given was put. It is never too long for a link.
 //! - To put a message takes no memory, waits for nobody and is never refused.
+//! - A `SharedOutbox` is the same behind a lock, for threads: what stands behind the lock at each turn keeps these limits, and
+//!   `next` waits where there is nothing.
 #![tactic(auto)]
 
 mod fitting;
 mod laws;
 mod mark;
 mod outbox;
+mod shared;
 
 pub use fitting::FittingMessage;
 pub use laws::{
@@ -20,3 +23,4 @@ pub use laws::{
 };
 pub use mark::{Mark, Out};
 pub use outbox::{MARK_LIMIT, Outbox, WAITING_LIMIT};
+pub use shared::SharedOutbox;

@@ -131,6 +131,15 @@ impl Outbox {
         Out::Nothing
     }
 
+    /// A law of every outbox, wherever it stands and at each turn of a lock that it stands behind: at most 16 marks, 64
+    /// requests and answers and 64 statements wait, at most one statement of each slot and kind, and each message fits a
+    /// link. Does nothing.
+    pub fn keeps_its_limits(&self)
+        ensures known { IsOutbox self.now }
+    {
+        let _live = self.live;
+    }
+
     /// Lets a request or an answer wait.
     fn put_other(&mut self, message: Message)
         requires other { is_statement message ≡ false }
