@@ -27,8 +27,9 @@ use Rattle.scp_core.specs.Settled.{start_at}
 use Rattle.scp_core.specs.Theorem.{LedgerTheorem}
 use Rattle.scp_core.specs.Accounts.{items_on, slots_sent}
 
--- a taken message was taken live, and beside an envelope stands a sane set with its hash; one that is dropped because its set is
--- bad or was given up has that cause; what is dropped by the end of its connection has its cause in what is said of that
+-- a taken message was taken live, and beside an envelope stands a sane set with its hash, which stood in the pending stage's store
+-- then; one that is dropped because its set is bad or was given up has that cause; what is dropped by the end of its connection has
+-- its cause in what is said of that
 abbrev pub FateHasCause : Settled → List Inbound → Fate → Type 0
 FateHasCause start taken (Taken conn seq message set verdict) = IsTaken start taken (record { conn = conn; seq = seq; message = message; set = option_map (λ s. s.value) set })
 FateHasCause start taken (Dropped conn seq cause) = HasCause start taken (ready.Dropped conn seq cause)

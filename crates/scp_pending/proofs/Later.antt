@@ -1,19 +1,22 @@
 -- One item more, and what was said of places before.
-use Rattle.std.proofs.Common.{◌≡◌, ℕ, ◌+◌, ◌<◌, ◌≤◌, Bool, true, false, cond, not, List, [], ◌∷◌, ◌++◌, length, refl, sym, ◌∙◌, ap, subst, arith, append_assoc, map}
+use Rattle.std.proofs.Common.{◌≡◌, ℕ, ◌+◌, ◌<◌, ◌≤◌, Bool, true, false, cond, not, List, [], ◌∷◌, ◌++◌, length, refl, sym, ◌∙◌, ap, subst, arith, append_assoc, map, inl, inr, ◌⊎◌}
 use Rattle.std.specs.Prelude.{◌&&◌, ◌||◌, fold, Option, Some, None}
 use Rattle.std.specs.List.{list_any, AllByRecursion}
 use Rattle.scp_types.specs.declared.names.ConnId.{ConnId}
 use Rattle.scp_types.specs.declared.names.Hash.{Hash}
 use Rattle.scp_types.specs.declared.names.Seq.{Seq}
+use Rattle.scp_quorum.specs.QuorumTree.{QuorumTree}
 use Rattle.scp_wire.specs.declared.carried.Carried.{Carried}
+use Rattle.scp_wire.specs.declared.side.SideMessage.TheVariants.{Set}
 use Rattle.scp_wire.specs.declared.link.Inbound.{Inbound}
 use Rattle.scp_wire.specs.declared.link.Inbound.TheVariants as inbound
 use Rattle.scp_pending.specs.declared.ready.DropCause.TheVariants.{BadSet, GaveUp, Closed as ByClose, ParkedFull as ByFull}
 use Rattle.scp_pending.specs.declared.ready.Ready.{Ready}
 use Rattle.scp_pending.specs.declared.ready.Ready.TheVariants.{Deliver, Dropped, Closed, Local}
 use Rattle.scp_pending.specs.Delivery.{DeliveryView}
+use Rattle.scp_pending.specs.Queues.{named}
 use Rattle.scp_pending.specs.Rules.{Settled, rules, settled_by}
-use Rattle.scp_pending.specs.Causes.{is_set, is_bad, is_miss, has, plus, times, Place, behind, Waiting, IsTaken, IsBadSet, IsMissed, IsGivenUp, HasCause}
+use Rattle.scp_pending.specs.Causes.{is_set, is_bad, is_miss, has, plus, times, Place, behind, Waiting, StoodThen, IsTaken, IsBadSet, IsMissed, IsGivenUp, HasCause}
 use Rattle.scp_pending.proofs.Basics.{or_assoc, fold-append}
 
 pub settled-push : (start : Settled) (taken : List Inbound) (item : Inbound) → settled_by start (taken ++ item ∷ []) ≡ rules (settled_by start taken) item
@@ -58,6 +61,22 @@ Waiting-later start taken s x hash item e none w = record {
   no_set = has-later (is_set hash) start taken s x item w.place e ∙ ap (λ b. b || is_set hash s item) w.no_set ∙ none;
 }
 
+stood-later : (start : Settled) (taken : List Inbound) (item : Inbound) (x : Carried) (p : Place start taken x) (named' : Option Hash) (set : Option QuorumTree) → StoodThen start taken x p named' set → StoodThen start (taken ++ item ∷ []) x (later start taken x item p) named' set
+stood-later start taken item x p None set h = tt
+stood-later start taken item x p (Some hash) None h = h
+stood-later start taken item x p (Some hash) (Some set) (inl before) = inl before
+stood-later start taken item x p (Some hash) (Some set) (inr came) = inr (record {
+  unknown = came.unknown;
+  between = came.between;
+  conn = came.conn;
+  rest = came.rest ++ item ∷ [];
+  at = ap (λ xs. xs ++ item ∷ []) came.at ∙ append_assoc came.between (inbound.Side came.conn (Set set) ∷ came.rest) (item ∷ []);
+  no_set = came.no_set;
+  patient = came.patient;
+  first = came.first;
+  stood = came.stood;
+})
+
 pub IsTaken-later : (start : Settled) (taken : List Inbound) (item : Inbound) (d : DeliveryView) → IsTaken start taken d → IsTaken start (taken ++ item ∷ []) d
 IsTaken-later start taken item d t = record {
   x = t.x;
@@ -66,6 +85,7 @@ IsTaken-later start taken item d t = record {
   seq = t.seq;
   message = t.message;
   set = t.set;
+  stood = stood-later start taken item t.x t.place (named t.x.message) d.set t.stood;
 }
 
 pub IsBadSet-later : (start : Settled) (taken : List Inbound) (s : Settled) (item : Inbound) (c : ConnId) (seq : Seq) → s ≡ settled_by start taken → IsBadSet start taken c seq → IsBadSet start (taken ++ item ∷ []) c seq

@@ -2,6 +2,7 @@ pub mod Basics
 pub mod Laning
 pub mod Serving
 pub mod Later
+pub mod Stored
 pub mod Wanting
 pub mod Standing
 pub mod Listing

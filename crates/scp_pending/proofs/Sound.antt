@@ -36,6 +36,7 @@ use Rattle.scp_pending.specs.Rules.{Settled, settled_by, released_by, rules, rel
 use Rattle.scp_pending.specs.Causes.{is_set, is_miss, plus, Place, IsMissed, HasCause}
 use Rattle.scp_pending.proofs.Basics.{append_nil, clash, or_none, or_left, or_right, and_both, not_false, same_hash-true, same_hash-sym, same_conn-true, all_step, all_weaker, all_append, all_left, all_both, all_kept, all_filter}
 use Rattle.scp_pending.proofs.Later.{settled-push, IsMissed-later, HasCause-later}
+use Rattle.scp_pending.proofs.Stored.{store_step}
 use Rattle.scp_pending.proofs.Wanting.{AtLeast, wanted-map, ask-hash, ask-misses, count-hash, count-misses, wanted_by-other, is_for-true, least-map, least-wanted_by, none_wanted, few_missed}
 use Rattle.scp_pending.proofs.Serving.{how_many, AreSingle, how_many-append, how_many-map, how_many-served, how_many-parked_in, none_shut, others_few, all_in_order, single-in_order}
 use Rattle.scp_pending.proofs.Listing.{AreListed, StandsElse, others_else, still_left, listed_step}
@@ -142,48 +143,9 @@ stored_sane set store sane k = by_there (is_some (lookup (hash_of set) store))
     by_there true = k
     by_there false = (k.0, by_room (nat_lt (length store.others) 256))
 
--- a fact of the store that a sane set more keeps
-pub store_step : (P : StoreView → Type 0) (s : Settled) (item : Inbound) → ((set : QuorumTree) → IsSane set → P s.store → P (stored set s.store)) → P s.store → P (rules s item).store
-store_step P s (inbound.Opened d) more k = elim (opens d s) as (λ b. P (cond b (opened d s) s).store) [ true ↦ k | false ↦ k ]
-store_step P s (inbound.Carried x) more k = by_tests (is_open x.conn s.queues) (overflows x.conn (entering s.store x) s.queues) (goes_through x.conn (entering s.store x) s.queues)
-  where
-    by_tests : (o f g : Bool) → P (cond o (cond f (closed_off x.conn s) (cond g s (parks x (entering s.store x) s))) s).store
-    by_tests true true g = k
-    by_tests true false true = k
-    by_tests true false false = k
-    by_tests false f g = k
-store_step P s (inbound.Side d m) more k = by_test (is_open d s.queues) m
-  where
-    by_sane : (set : QuorumTree) (b : Bool) → is_sane set ≡ b → P (cond b (stored set s.store) s.store)
-    by_sane set true e = more set (sane_of_test set e) k
-    by_sane set false e = k
-
-    by_answer' : (set : QuorumTree) (b : Bool) → P (cond b (answered set s) s).store
-    by_answer' set true = by_sane set (is_sane set) refl
-    by_answer' set false = k
-
-    by_miss : (hash : Hash) (b : Bool) → P (cond b (gives_up_one hash (record s { wanted = missed_by (One hash) s.wanted })) (record s { wanted = missed_by (One hash) s.wanted })).store
-    by_miss hash true = k
-    by_miss hash false = k
-
-    by_message : (m : SideMessage) → P (hears m s).store
-    by_message (GetSet hash) = k
-    by_message (Set set) = by_answer' set (is_answer set s)
-    by_message (NoSet hash) = by_miss hash (gives_up (One hash) s.wanted hash)
-
-    by_test : (o : Bool) (m : SideMessage) → P (cond o (hears m s) s).store
-    by_test true m = by_message m
-    by_test false m = k
-store_step P s (inbound.Closed d cause) more k = elim (is_open d s.queues) as (λ b. P (cond b (closed_off d s) s).store) [ true ↦ k | false ↦ k ]
-store_step P s (inbound.Local Tick) more k = k
-store_step P s (inbound.Local (Propose slot value)) more k = k
-store_step P s (inbound.Local (Round slot)) more k = k
-store_step P s (inbound.Local (Timer slot)) more k = k
-store_step P s (inbound.Local (Ask link slot)) more k = k
-
 -- the local set stays
 pub local_step : (s : Settled) (item : Inbound) → (rules s item).store.local ≡ s.store.local
-local_step s item = store_step (λ (store : StoreView). store.local ≡ s.store.local) s item (λ set sane e. by_there set (is_some (lookup (hash_of set) s.store))) refl
+local_step s item = store_step (λ (store : StoreView). store.local ≡ s.store.local) s item (λ d set at live spelt sane. by_there set (is_some (lookup (hash_of set) s.store))) refl
   where
     by_there : (set : QuorumTree) (b : Bool) → (cond b s.store (record s.store { others = pushed set s.store.others })).local ≡ s.store.local
     by_there set true = refl
@@ -333,7 +295,7 @@ fits_step start taken s (inbound.Side d (Set set)) e sane single ws listed a = b
         by_test true k = clash (is_wanted hash s.wanted) is (ap (λ (h : Hash). is_wanted h s.wanted) (same_hash-true hash (hash_of set) k) ∙ n)
 
     by_tests : (o h w : Bool) → is_open d s.queues ≡ o → has_spelling set ≡ h → is_wanted (hash_of set) s.wanted ≡ w → StepFits start taken (cond o (cond (h && w) (answered set s) s) s) item (cond o (cond (h && w) (leaving_of (resolved (is_hash (hash_of set)) (by_answer set) s.queues)) []) [])
-    by_tests true true true o h w = served_fit start (taken ++ item ∷ []) (without (hash_of set) s.wanted) (resolved (is_hash (hash_of set)) (by_answer set) s.queues) (resolved_fit start taken (taken ++ item ∷ []) s.wanted (without (hash_of set) s.wanted) (is_hash (hash_of set)) (by_answer set) s.queues (answer_stands start taken s d set e o h) a)
+    by_tests true true true o h w = served_fit start (taken ++ item ∷ []) (without (hash_of set) s.wanted) (resolved (is_hash (hash_of set)) (by_answer set) s.queues) (resolved_fit start taken (taken ++ item ∷ []) s.wanted (without (hash_of set) s.wanted) (is_hash (hash_of set)) (by_answer set) s.queues (answer_stands start taken s d set e o h w ws) a)
     by_tests true true false o h w = (quiet start taken s s.wanted item s.queues e (λ hash is. (rw (o, h, not_mine hash w is) refl, is, λ n l. l)) a, tt)
     by_tests true false w o h k = (quiet start taken s s.wanted item s.queues e (λ hash is. (rw (o, h) refl, is, λ n l. l)) a, tt)
     by_tests false h w o i k = (quiet start taken s s.wanted item s.queues e (λ hash is. (rw o refl, is, λ n l. l)) a, tt)
@@ -488,7 +450,7 @@ sound_step start taken s out item k =
     let step = fits_step start taken s item k.now k.sane k.single k.wanted k.listed k.fits in
     record {
       now = ap (λ (t : Settled). rules t item) k.now ∙ sym (settled-push start taken item);
-      sane = store_step IsSaneStore s item (λ set sane h. stored_sane set s.store sane h) k.sane;
+      sane = store_step IsSaneStore s item (λ d set at live spelt sane. stored_sane set s.store (sane_of_test set sane) k.sane) k.sane;
       single = single_step s item k.single;
       fits = step.0;
       wanted = wants_step start taken s item k.now k.wanted;

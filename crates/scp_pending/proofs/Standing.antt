@@ -30,12 +30,13 @@ use Rattle.scp_pending.specs.declared.ready.Ready.TheVariants.{Deliver, Dropped,
 use Rattle.scp_pending.specs.Sanity.{is_sane, has_spelling, sane_of_test}
 use Rattle.scp_fetch.specs.Hashes.{same_hash}
 use Rattle.scp_fetch.specs.Wants.{is_for, is_wanted, is_missed, is_last, missed_by, without, gives_up}
-use Rattle.scp_fetch.specs.Store.{StoreView, has_hash, lookup}
+use Rattle.scp_fetch.specs.Store.{StoreView, has_hash, lookup, stored}
 use Rattle.scp_pending.specs.Queues.{QueueView, is_open, is_of, parked_of, waits, at_slot, fate, leaves_of, stays_of, stays_in, served, leaves_in, leaving_of, named, is_hash, hash_of, waits_for, resolved_one, resolved_in, resolved, with_set, lost_by}
-use Rattle.scp_pending.specs.Rules.{Settled, settled_by, entering_by, entering, found, wanted_named, wanted_with, by_answer, is_given_up}
-use Rattle.scp_pending.specs.Causes.{is_set, is_bad, is_miss, has, plus, times, Place, behind, Waiting, misses_since, IsWaiting, IsTaken, IsBadSet, IsMissed, IsGivenUp, HasCause, HeadWaits}
+use Rattle.scp_pending.specs.Rules.{Settled, settled_by, rules, entering_by, entering, found, wanted_named, wanted_with, by_answer, is_given_up}
+use Rattle.scp_pending.specs.Causes.{is_set, is_bad, is_miss, has, plus, times, Place, behind, Waiting, misses_since, IsWaiting, CameAfter, StoodThen, IsTaken, IsBadSet, IsMissed, IsGivenUp, HasCause, HeadWaits}
 use Rattle.scp_pending.proofs.Basics.{append_nil, clash, or_none, or_right, and_both, not_false, same_hash-refl, same_hash-true, same_hash-sym, same_conn-refl, same_conn-true, all_step, all_weaker, all_left, all_append, all_kept, all_filter, all_flat}
-use Rattle.scp_pending.proofs.Later.{later, has-later, times-later, Waiting-later, IsTaken-later, IsBadSet-later, IsMissed-later, IsGivenUp-later}
+use Rattle.scp_pending.proofs.Later.{later, settled-push, now_from, has-later, times-later, Waiting-later, IsTaken-later, IsBadSet-later, IsMissed-later, IsGivenUp-later}
+use Rattle.scp_pending.proofs.Stored.{known_stored, unknown_still, answer_stores}
 use Rattle.scp_pending.proofs.Wanting.{AtLeast, zero_least, wanted_by-own, is_for-true, wanted-without, wanted-missed, least-missed, few_of, one_of}
 use Rattle.scp_wire.specs.Connections.{same_conn}
 use Rattle.scp_wire.specs.Lanes.{slot_of, HasSlot, HaveSlots}
@@ -47,6 +48,13 @@ pub record WaitsWell (start : Settled) (taken : List Inbound) (wanted : List Wan
   pub waiting : Waiting start taken x hash
   pub wanted_still : is_wanted hash wanted ≡ true
   pub least : AtLeast (misses_since waiting) hash wanted
+
+abbrev pub IsWant : Settled → List Inbound → Want → Type 0
+IsWant start taken want = IsMissed start taken want.hash want.misses × (want.misses < 12)
+
+-- what waits has been missed fewer than twelve times
+patient : (start : Settled) (taken : List Inbound) (wanted : List Want) (x : Carried) → AllByRecursion (IsWant start taken) wanted → (w : WaitsWell start taken wanted x) → misses_since w.waiting < 12
+patient start taken wanted x ws w = few_of (misses_since w.waiting) w.hash wanted w.wanted_still (all_weaker (IsWant start taken) (λ (want : Want). want.misses < 12) wanted (λ want h. h.1) ws) w.least
 
 abbrev pub StandsLost : Settled → List Inbound → ConnId → Seq → DropCause → Type 0
 StandsLost start taken c seq BadSet = IsBadSet start taken c seq
@@ -213,18 +221,18 @@ new_stands start taken s link y e local sets live = by_named (named y.message) r
         least = zero_least hash (wanted_named link y.conn (named y.message) s.wanted);
       },
     )
-    by_lookup hash (Some set) names there = let ok = lookup_ok hash s.store set local sets there in (refl, record { x = y; place = place; conn = refl; seq = refl; message = refl; set = set_some y.message set (names ∙ ap (λ (h : Hash). Some h) (sym ok.1)) ok.0 })
+    by_lookup hash (Some set) names there = let ok = lookup_ok hash s.store set local sets there in (refl, record { x = y; place = place; conn = refl; seq = refl; message = refl; set = set_some y.message set (names ∙ ap (λ (h : Hash). Some h) (sym ok.1)) ok.0; stood = subst (λ (o : Option Hash). StoodThen start (taken ++ inbound.Carried y ∷ []) y place o (Some set)) (sym names) (inl (subst (λ (t : Settled). lookup hash t.store ≡ Some set) e there)) })
 
     by_named : (o : Option Hash) → named y.message ≡ o → Stands start (taken ++ inbound.Carried y ∷ []) (wanted_with link y.conn (entering_by o s.store y) s.wanted) y.conn (entering_by o s.store y)
-    by_named None names = (refl, record { x = y; place = place; conn = refl; seq = refl; message = refl; set = set_none y.message names })
+    by_named None names = (refl, record { x = y; place = place; conn = refl; seq = refl; message = refl; set = set_none y.message names; stood = subst (λ (o : Option Hash). StoodThen start (taken ++ inbound.Carried y ∷ []) y place o None) (sym names) tt })
     by_named (Some hash) names = by_lookup hash (lookup hash s.store) names refl
 
 -- ---- a Set that is wanted
 
-pub answer_stands : (start : Settled) (taken : List Inbound) (s : Settled) (d : ConnId) (set : QuorumTree) → s ≡ settled_by start taken → is_open d s.queues ≡ true → has_spelling set ≡ true → (c : ConnId) (p : Parked) → Stands start taken s.wanted c p → Stands start (taken ++ inbound.Side d (Set set) ∷ []) (without (hash_of set) s.wanted) c (resolved_one (is_hash (hash_of set)) (by_answer set) p)
-answer_stands start taken s d set e live spelt c (Free delivery) w = (w.0, IsTaken-later start taken (inbound.Side d (Set set)) delivery w.1)
-answer_stands start taken s d set e live spelt c (Lost x cause) w = (w.0, later start taken x (inbound.Side d (Set set)) w.1, lost_later start taken s (inbound.Side d (Set set)) c x.seq cause e w.2)
-answer_stands start taken s d set e live spelt c (Waits x) w = by_test (is_hash (hash_of set) (named x.message)) refl
+pub answer_stands : (start : Settled) (taken : List Inbound) (s : Settled) (d : ConnId) (set : QuorumTree) → s ≡ settled_by start taken → is_open d s.queues ≡ true → has_spelling set ≡ true → is_wanted (hash_of set) s.wanted ≡ true → AllByRecursion (IsWant start taken) s.wanted → (c : ConnId) (p : Parked) → Stands start taken s.wanted c p → Stands start (taken ++ inbound.Side d (Set set) ∷ []) (without (hash_of set) s.wanted) c (resolved_one (is_hash (hash_of set)) (by_answer set) p)
+answer_stands start taken s d set e live spelt is ws c (Free delivery) w = (w.0, IsTaken-later start taken (inbound.Side d (Set set)) delivery w.1)
+answer_stands start taken s d set e live spelt is ws c (Lost x cause) w = (w.0, later start taken x (inbound.Side d (Set set)) w.1, lost_later start taken s (inbound.Side d (Set set)) c x.seq cause e w.2)
+answer_stands start taken s d set e live spelt is ws c (Waits x) w = by_test (is_hash (hash_of set) (named x.message)) refl
   where
     item : Inbound
     item = inbound.Side d (Set set)
@@ -232,8 +240,46 @@ answer_stands start taken s d set e live spelt c (Waits x) w = by_test (is_hash 
     as_named : (b : Bool) → is_hash (hash_of set) (named x.message) ≡ b → same_hash (hash_of set) w.1.hash ≡ b
     as_named b k = sym (ap (is_hash (hash_of set)) w.1.waiting.names) ∙ k
 
+    here : Place start taken x
+    here = w.1.waiting.place
+
+    now : s ≡ settled_by (behind here) here.after
+    now = e ∙ now_from start taken x here
+
+    -- it is stored, since it wasn't yet
+    in_store : is_sane set ≡ true → hash_of set ≡ w.1.hash → lookup w.1.hash (rules s item).store ≡ Some set
+    in_store sane same =
+        let none : lookup (hash_of set) s.store ≡ None = subst (λ (h : Hash). lookup h s.store ≡ None) (sym same) (subst (λ (t : Settled). lookup w.1.hash t.store ≡ None) (sym e) (unknown_still start taken x w.1.hash w.1.waiting)) in
+        ap (lookup w.1.hash) (answer_stores d set s live spelt is sane) ∙ subst (λ (h : Hash). lookup h (stored set s.store) ≡ Some set) same (known_stored set s.store none)
+
+    came : is_sane set ≡ true → hash_of set ≡ w.1.hash → CameAfter start (taken ++ item ∷ []) x (later start taken x item here) w.1.hash set
+    came sane same =
+        let mine : is_set w.1.hash s item ≡ true = rw (live, spelt, ← same, same_hash-refl (hash_of set)) refl in
+        record {
+          unknown = w.1.waiting.unknown;
+          between = here.after;
+          conn = d;
+          rest = [];
+          at = refl;
+          no_set = w.1.waiting.no_set;
+          patient = patient start taken s.wanted x ws w.1;
+          first = subst (λ (t : Settled). is_set w.1.hash t item ≡ true) now mine;
+          stood = ap (λ (t : Settled). lookup w.1.hash t.store) (settled-push (behind here) here.after item ∙ ap (λ (t : Settled). rules t item) (sym now)) ∙ in_store sane same;
+        }
+
     has_it : (b : Bool) → is_sane set ≡ b → hash_of set ≡ w.1.hash → Stands start (taken ++ item ∷ []) (without (hash_of set) s.wanted) c ((cond b (with_set (Some set)) (lost_by BadSet)) x)
-    has_it true sane same = (w.0, record { x = x; place = later start taken x item w.1.waiting.place; conn = refl; seq = refl; message = refl; set = set_some x.message set (w.1.waiting.names ∙ ap (λ (h : Hash). Some h) (sym same)) (sane_of_test set sane) })
+    has_it true sane same = (
+      w.0,
+      record {
+        x = x;
+        place = later start taken x item w.1.waiting.place;
+        conn = refl;
+        seq = refl;
+        message = refl;
+        set = set_some x.message set (w.1.waiting.names ∙ ap (λ (h : Hash). Some h) (sym same)) (sane_of_test set sane);
+        stood = subst (λ (o : Option Hash). StoodThen start (taken ++ item ∷ []) x (later start taken x item w.1.waiting.place) o (Some set)) (sym w.1.waiting.names) (inr (came sane same));
+      },
+    )
     has_it false sane same =
         let mine : is_bad w.1.hash s item ≡ true = rw (live, spelt, ← same, same_hash-refl (hash_of set), sane) refl in
         let place : Place start (taken ++ item ∷ []) x = later start taken x item w.1.waiting.place in (
@@ -255,9 +301,6 @@ answer_stands start taken s d set e live spelt c (Waits x) w = by_test (is_hash 
     by_test false k = (w.0, waits_on start taken s s.wanted (without (hash_of set) s.wanted) x item e w.1 (rw (live, spelt, same_hash-sym w.1.hash (hash_of set), as_named false k) refl, wanted-without w.1.hash (hash_of set) s.wanted (as_named false k) w.1.wanted_still, λ n l. all_filter (λ (want : Want). want.hash ≡ w.1.hash → n ≤ want.misses) (λ want. not (is_for (hash_of set) want)) s.wanted l))
 
 -- ---- misses
-
-abbrev pub IsWant : Settled → List Inbound → Want → Type 0
-IsWant start taken want = IsMissed start taken want.hash want.misses × (want.misses < 12)
 
 given_up_now : (start : Settled) (taken : List Inbound) (s : Settled) (miss : Miss) (x : Carried) (item : Inbound) (c : ConnId) (w : WaitsWell start taken s.wanted x) → x.conn ≡ c → s ≡ settled_by start taken → is_set w.hash s item ≡ false → is_miss w.hash s item ≡ is_missed miss w.hash → gives_up miss s.wanted w.hash ≡ true → AllByRecursion (IsWant start taken) s.wanted → IsGivenUp start (taken ++ item ∷ []) c x.seq
 given_up_now start taken s miss x item c w conn e none hit g ws =
@@ -316,6 +359,6 @@ head_waits start taken wanted ws q f s = by_head (at_slot s q.parked) (first_wai
   where
     by_head : (ps : List Parked) → FirstIs (λ p. Stands start taken wanted q.conn p × (waits p ≡ true)) ps → HeadWaits start taken q.conn ps
     by_head [] a = tt
-    by_head (Waits x ∷ ps) a = (a.0.0, record { hash = a.0.1.hash; waiting = a.0.1.waiting; patient = few_of (misses_since a.0.1.waiting) a.0.1.hash wanted a.0.1.wanted_still (all_weaker (IsWant start taken) (λ (want : Want). want.misses < 12) wanted (λ want h. h.1) ws) a.0.1.least })
+    by_head (Waits x ∷ ps) a = (a.0.0, record { hash = a.0.1.hash; waiting = a.0.1.waiting; patient = patient start taken wanted x ws a.0.1 })
     by_head (Free d ∷ ps) a = absurd (let bad : false ≡ true = a.1 in cc)
     by_head (Lost x cause ∷ ps) a = absurd (let bad : false ≡ true = a.1 in cc)

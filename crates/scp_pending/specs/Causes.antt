@@ -1,9 +1,10 @@
 -- Each message's fate has its cause among what was taken.
-use Rattle.std.specs.Prelude.{ℕ, ◌+◌, ◌<◌, ◌≤◌, ◌≡◌, Bool, true, false, not, ◌&&◌, ◌||◌, List, [], ◌∷◌, ◌++◌, Option, Some, None}
+use Rattle.std.specs.Prelude.{ℕ, ◌+◌, ◌<◌, ◌≤◌, ◌≡◌, ◌⊎◌, Bool, true, false, not, ◌&&◌, ◌||◌, List, [], ◌∷◌, ◌++◌, Option, Some, None}
 use Rattle.std.specs.List.{AllByRecursion}
 use Rattle.scp_types.specs.declared.names.ConnId.{ConnId}
 use Rattle.scp_types.specs.declared.names.Hash.{Hash}
 use Rattle.scp_types.specs.declared.names.Seq.{Seq}
+use Rattle.scp_quorum.specs.QuorumTree.{QuorumTree}
 use Rattle.scp_wire.specs.declared.carried.Carried.{Carried}
 use Rattle.scp_wire.specs.declared.side.SideMessage.TheVariants.{GetSet, Set, NoSet}
 use Rattle.scp_wire.specs.declared.link.Command.TheVariants.{Tick, Propose, Round, Timer, Ask}
@@ -104,7 +105,27 @@ pub record IsWaiting (start : Settled) (taken : List Inbound) (x : Carried) : Ty
 
 -- ---- causes
 
--- it was taken live, and beside an envelope stands a sane set that has the hash which the envelope names
+-- the set wasn't stored when the message came; the first live Set with its hash that came after the message brought it, before
+-- the twelfth live miss of the hash; and then it was stored
+pub record CameAfter (start : Settled) (taken : List Inbound) (x : Carried) (place : Place start taken x) (hash : Hash) (set : QuorumTree) : Type 0 where
+  pub unknown : lookup hash (settled_by start place.before).store ≡ None
+  pub between : List Inbound
+  pub conn : ConnId
+  pub rest : List Inbound
+  pub at : place.after ≡ between ++ inbound.Side conn (Set set) ∷ rest
+  pub no_set : has (is_set hash) (behind place) between ≡ false
+  pub patient : times (is_miss hash) (behind place) between < 12
+  pub first : is_set hash (settled_by (behind place) between) (inbound.Side conn (Set set)) ≡ true
+  pub stood : lookup hash (settled_by (behind place) (between ++ inbound.Side conn (Set set) ∷ [])).store ≡ Some set
+
+-- the set of the hash that the message names stood in the store: just before the message came, or since it came after that
+abbrev pub StoodThen : (start : Settled) (taken : List Inbound) (x : Carried) → Place start taken x → Option Hash → Option QuorumTree → Type 0
+StoodThen start taken x place None set = Unit {0}
+StoodThen start taken x place (Some hash) None = ⊥
+StoodThen start taken x place (Some hash) (Some set) = (lookup hash (settled_by start place.before).store ≡ Some set) ⊎ CameAfter start taken x place hash set
+
+-- it was taken live, and beside an envelope stands a sane set that has the hash which the envelope names, and that stood in the
+-- store under it then
 pub record IsTaken (start : Settled) (taken : List Inbound) (delivery : DeliveryView) : Type 0 where
   pub x : Carried
   pub place : Place start taken x
@@ -112,6 +133,7 @@ pub record IsTaken (start : Settled) (taken : List Inbound) (delivery : Delivery
   pub seq : x.seq ≡ delivery.seq
   pub message : x.message ≡ delivery.message
   pub set : IsSetOf delivery.message delivery.set
+  pub stood : StoodThen start taken x place (named x.message) delivery.set
 
 -- after the envelope a live Set with its hash came, and isn't sane
 pub record IsBadSet (start : Settled) (taken : List Inbound) (c : ConnId) (seq : Seq) : Type 0 where
