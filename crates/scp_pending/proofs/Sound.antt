@@ -27,7 +27,7 @@ use Rattle.scp_pending.specs.declared.ready.DropCause.{DropCause}
 use Rattle.scp_pending.specs.declared.ready.DropCause.TheVariants.{BadSet, GaveUp, Closed as ByClose, ParkedFull as ByFull}
 use Rattle.scp_pending.specs.declared.ready.Ready.{Ready}
 use Rattle.scp_pending.specs.declared.ready.Ready.TheVariants.{Deliver, Dropped, Closed, Local}
-use Rattle.scp_pending.specs.Sanity.{is_sane, has_spelling, sane_of_test}
+use Rattle.scp_pending.specs.Sanity.{has_spelling, sane_of_test}
 use Rattle.scp_fetch.specs.Hashes.{same_hash}
 use Rattle.scp_fetch.specs.Wants.{is_for, is_wanted, waits_besides, leave, left_by, ask, new_want, wanted_by, unask, unasked, is_missed, is_last, count_miss, missed_by, last_missed, without, gives_up}
 use Rattle.scp_fetch.specs.Store.{StoreView, lookup, pushed, stored}

@@ -1,6 +1,6 @@
 -- What is stored: a set that came stands in the store, and the set of an envelope that waits doesn't.
-use Rattle.std.proofs.Common.{◌≡◌, ℕ, Bool, true, false, cond, List, [], ◌∷◌, ◌++◌, length, refl, sym, ◌∙◌, ap, subst, drop}
-use Rattle.std.specs.Prelude.{◌&&◌, ◌||◌, nat_lt, find, Option, Some, None, is_some}
+use Rattle.std.proofs.Common.{◌≡◌, Bool, true, false, cond, List, [], ◌∷◌, ◌++◌, length, refl, ◌∙◌, ap, subst, drop}
+use Rattle.std.specs.Prelude.{◌&&◌, nat_lt, find, Some, None, is_some}
 use Rattle.scp_types.specs.declared.names.Hash.{Hash}
 use Rattle.scp_types.specs.declared.names.ConnId.{ConnId}
 use Rattle.scp_quorum.specs.QuorumTree.{QuorumTree}
@@ -16,7 +16,7 @@ use Rattle.scp_fetch.specs.Store.{StoreView, has_hash, lookup, pushed, stored}
 use Rattle.scp_pending.specs.Sanity.{is_sane, has_spelling}
 use Rattle.scp_pending.specs.Queues.{is_open, hash_of}
 use Rattle.scp_pending.specs.Rules.{Settled, settled_by, rules, opens, opened, closed_off, entering, overflows, goes_through, parks, answered, gives_up_one}
-use Rattle.scp_pending.specs.Causes.{is_set, has, Place, behind, Waiting}
+use Rattle.scp_pending.specs.Causes.{is_set, has, behind, Waiting}
 use Rattle.scp_pending.proofs.Basics.{clash, or_none, same_hash-refl}
 use Rattle.scp_pending.proofs.Later.{now_from}
 
