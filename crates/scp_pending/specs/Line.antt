@@ -30,7 +30,7 @@ parked_mark p = number (seq_of p).0
 abbrev pub marks_parked : ConnId → List QueueView → List Mark
 marks_parked c queues = map parked_mark (parked_of c queues)
 
--- what is held of a connection, in the order in which it will be given
+-- what is held of a connection: what is ready, and then what is parked; in each lane it will be given in this order
 abbrev pub held : ConnId → PendingView → List Mark
 held c v = marks_of c v.leaving ++ marks_parked c v.settled.queues
 

@@ -121,7 +121,8 @@ answered set s = record s { store = (if is_sane set then stored set s.store else
 abbrev pub is_answer : QuorumTree → Settled → Bool
 is_answer set s = has_spelling set && is_wanted (hash_of set) s.wanted
 
--- time went on: each wanted hash is missed; of several that are given up, what waited for the first wanted one leaves first
+-- time went on: each wanted hash is missed; of several that are given up, the queues whose heads wait for the first wanted one are
+-- served first
 abbrev pub is_given_up : List Want → Option Hash → Bool
 is_given_up wanted None = false
 is_given_up wanted (Some hash) = gives_up All wanted hash

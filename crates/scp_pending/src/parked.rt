@@ -14,7 +14,8 @@ use scp_types::{ConnId, Fault, Hash, NodeId, Seq, Slot};
 use scp_wire::{Carried, Message};
 use std::sync::Arc;
 
-/// A parked message. It leaves at the head of its queue alone.
+/// A parked message. It leaves once it waits for nothing and nothing of its lane stays before it, or with all that is parked of
+/// its connection where that ends.
 #[derive(Debug, Drop)]
 pub(crate) enum Parked {
     /// An envelope whose quorum set is unknown.

@@ -124,9 +124,14 @@ impl Pending {
 
     /// Takes one item more, where `next_ready` gives nothing, and gives the message for one link, if there is one: a GetSet where
     /// that link is to be asked for the set of an envelope, and the answer to a GetSet. `Fault::NoMemory` leaves the stage
-    /// failed, and a failed one answers `Fault::Failed` and stays as it is. What parks, delivers or drops one message costs a
-    /// few look-ups; a Set and the twelfth miss of a hash walk what is parked on the connections that wait for it, a Tick all that is
-    /// wanted, and the end of a connection what is parked of it and all that is wanted.
+    /// failed, and a failed one answers `Fault::Failed` and stays as it is.
+    ///
+    /// What is parked of one connection, 64 messages at most, is walked at a carried message of it and at its end; at a Set that
+    /// is wanted and the twelfth miss of a hash where it waits for that hash, and at a Tick where it waits for a hash that is
+    /// given up: there each is compared with those of its connection that stay before it. Of every other connection no more is
+    /// read than which it is. Of what is wanted, a Tick, an Opened and a connection's end walk all, and the end of a want moves
+    /// those behind it. Beyond that a Set is checked and hashed, the answer to a GetSet copies its set, and the rest are look-ups
+    /// by hash tables.
     pub fn take(&mut self, item: Inbound) -> Result<Option<(u8, Message)>, Fault>
         requires nothing_ready { self.old.failed ≡ false → self.old.leaving ≡ [] }
         ensures reply { IfOk result (λ answer. answer ≡ reply self.old.settled item) }

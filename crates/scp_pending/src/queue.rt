@@ -396,7 +396,8 @@ pub(crate) fn resolve_all(
 }
 
 /// What waits for hashes that one more miss gives up is lost, and what may leave is given; of several such hashes, the queues
-/// whose heads wait for the first wanted one come first. Looks into the queues of the connections that wait for them alone.
+/// whose heads wait for the first wanted one come first. Looks into the queues of the connections that wait for them alone: of
+/// every other one it reads the connection, and nothing that is parked.
 pub(crate) fn give_up_in_order(
     alloc: Global,
     queues: &mut Vec<Queue>,
@@ -408,7 +409,7 @@ pub(crate) fn give_up_in_order(
     ensures leaves { OnOk result (leaving.new.items ≡ leaving.old.items ++ leaving_of (resolved (is_given_up fetcher.now) (lost_by DropCause.GaveUp) (in_order_of (last_missed fetcher.now) queues.old.items))) }
 {
     let first = fetcher.at_last_miss()?;
-    put_in_order(alloc, queues, first)?;
+    put_in_order(alloc, queues, fetcher, first)?;
     let hashes = fetcher.at_last_miss()?;
     give_up_all(alloc, queues, fetcher, hashes.as_slice(), leaving)
 }
@@ -460,15 +461,29 @@ fn give_up_all(
     Ok(())
 }
 
-/// The queues whose heads wait for the hash come before the others.
+/// Whether the queue's head waits for the hash, where its connection is one of these: on every other one nothing waits for it.
+fn comes_first(queue: &Queue, conns: &[ConnId], hash: &Hash) -> bool
+    requires quiet { has_conn queue.now.conn conns.now ≡ false → IsQuiet (is_hash hash.now) queue.now }
+    ensures { result ≡ has_waiting_head hash.now queue.now.parked }
+{
+    is_among(conns, &queue.conn()) && queue.is_head_waiting(hash)
+}
+
+/// The queues whose heads wait for the hash come before the others. Looks into the queues of these connections alone.
 #[tactic(auto, using(crate::proofs::Freeing::with_waiting, crate::proofs::Freeing::with_other))]
-fn put_first(alloc: Global, queues: &mut Vec<Queue>, hash: &Hash) -> Result<(), Fault>
+fn put_first(
+    alloc: Global,
+    queues: &mut Vec<Queue>,
+    conns: &[ConnId],
+    hash: &Hash,
+) -> Result<(), Fault>
+    requires quiet { AllByRecursion (λ q. has_conn q.conn conns.now ≡ false → IsQuiet (is_hash hash.now) q) queues.old.items }
     ensures { OnOk result (queues.new.items ≡ with_first hash.now queues.old.items) }
 {
     let mut first = Vec::new(alloc);
     let mut rest = Vec::new(alloc);
     for queue in mem::replace(queues, Vec::new(alloc)) {
-        if queue.is_head_waiting(hash) {
+        if comes_first(&queue, conns, hash) {
             first.push(queue)?;
         } else {
             rest.push(queue)?;
@@ -480,13 +495,18 @@ fn put_first(alloc: Global, queues: &mut Vec<Queue>, hash: &Hash) -> Result<(), 
 }
 
 /// Of several hashes, the queues whose heads wait for the first one come first.
-#[tactic(auto, using(crate::proofs::Freeing::order_push))]
-fn put_in_order(alloc: Global, queues: &mut Vec<Queue>, hashes: Vec<Hash>) -> Result<(), Fault>
+fn put_in_order(
+    alloc: Global,
+    queues: &mut Vec<Queue>,
+    fetcher: &Fetcher,
+    hashes: Vec<Hash>,
+) -> Result<(), Fault>
+    requires quiet { (hash : Hash) → AllByRecursion (λ q. has_conn q.conn (waiting_for hash fetcher.now) ≡ false → IsQuiet (is_hash hash) q) queues.old.items }
     ensures { OnOk result (queues.new.items ≡ in_order_of hashes.items queues.old.items) }
 {
     let mut hashes = hashes;
     while let Some(hash) = hashes.pop() {
-        put_first(alloc, queues, &hash)?;
+        put_first(alloc, queues, fetcher.waiting(&hash), &hash)?;
     }
     Ok(())
 }
