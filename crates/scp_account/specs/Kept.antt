@@ -1,0 +1,125 @@
+-- The ledger theorem, in one record.
+use Rattle.std.specs.Prelude.{ℕ, ◌+◌, ◌≡◌, ◌≢◌, ◌≤◌, true, List, [], ◌∷◌, ◌++◌, Some, All, Contains, length, slice_get, map, flat_map}
+use Rattle.std.specs.List.{AllByRecursion}
+use Rattle.std.specs.List.Sorted.{IsPermutation}
+use Rattle.scp_types.specs.declared.names.ConnId.{ConnId}
+use Rattle.scp_types.specs.declared.names.NodeId.{NodeId}
+use Rattle.scp_driver.specs.declared.driver.Level.{Level}
+use Rattle.scp_kv.specs.State.{fold_of}
+use Rattle.scp_wire.specs.declared.link.Command.{Command}
+use Rattle.scp_wire.specs.declared.link.Command.TheVariants.{Ask}
+use Rattle.scp_wire.specs.declared.link.Inbound.{Inbound}
+use Rattle.scp_wire.specs.declared.link.Inbound.TheVariants as inbound
+use Rattle.scp_wire.specs.Connections.{conn_at}
+use Rattle.scp_wire.specs.Lanes.{slots_of, in_lane}
+use Rattle.scp_wire.specs.Marks.{Mark, marks_in, IsWhole}
+use Rattle.scp_wire.specs.Sent.{sent, is_closed, carried_of, line_of_sent}
+use Rattle.scp_pending.specs.declared.ready.Ready.{Ready}
+use Rattle.scp_pending.specs.Endings.{Exits, ways, commands_in, commands_of}
+use Rattle.scp_pending.specs.Line.{marks_of, held}
+use Rattle.scp_pending.specs.Placing.{StandsAt}
+use Rattle.scp_pending.specs.Queues.{is_open}
+use Rattle.scp_pending.specs.Rules.{Settled, fresh, settled_by}
+use Rattle.scp_ledger.specs.declared.journal.Asking.{Asking}
+use Rattle.scp_ledger.specs.Decisions.{OnePerSlot, AreInWindow, IsFounded, HasItsDecision, IsLowest}
+use Rattle.scp_ledger.specs.Journals.{entry_in, entry_of}
+use Rattle.scp_ledger.specs.Marks.{marks_of as marks_on}
+use Rattle.scp_ledger.specs.Onwards.{decisions_on}
+use Rattle.scp_ledger.specs.Runs.{Taking, things, stood_by, verdict_in, verdict_by, AreJudged}
+use Rattle.scp_ledger.specs.Seen.{is_asked}
+use Rattle.scp_ledger.specs.Verdicts.{HasItsSet, link_of}
+use Rattle.scp_apply.specs.Applied.{AreInOrder, values_of}
+use Rattle.scp_account.specs.Account.{Account, Ran}
+use Rattle.scp_account.specs.Fates.{Fates, conn_of, IsOfLink, FateHasCause, ways_on}
+
+module _ {D : Type 0} where
+  -- the pending stage before anything came
+  abbrev pub start_of : Account D → Settled
+  start_of a = fresh a.me a.peers a.set
+
+  -- what has left the pending stage's queues and isn't in the journal yet
+  abbrev pub leaving : Account D → List Ready
+  leaving a = a.on_way ++ a.pending.leaving
+
+  -- ---- one connection
+
+  -- the slots that its messages name, by their numbers
+  abbrev pub slots_sent : Account D → ℕ → ConnId → ℕ → ℕ
+  slots_sent a l c = slots_of (carried_of 1000000 (sent c (a.sent l)))
+
+  -- what was sent on it: the numbers of its messages, and then its end
+  abbrev pub line_sent : Account D → ℕ → ConnId → List Mark
+  line_sent a l c = line_of_sent 0 1000000 (sent c (a.sent l)) (is_closed c (a.sent l))
+
+  -- what the node holds of it without a fate: on its way, parked, in the inbox, and on the link
+  abbrev pub line_held : Account D → ℕ → ConnId → List Mark
+  line_held a l c = marks_of c a.on_way ++ (held c a.pending ++ (marks_in c a.inbox ++ marks_in c (a.upcoming l)))
+
+  -- Its messages have one fate each, and within each slot from the first, in the order sent, none after its end, each the message
+  -- of its number. In each slot the fates and then what is held are what was sent, whole, so that nothing is lost; or where it was
+  -- cut off a beginning of that. And it ends by its cause.
+  pub record HasItsFates (a : Account D) (l : ℕ) (c : ConnId) : Type 0 where
+    pub fates : Fates c (carried_of 1000000 (sent c (a.sent l))) a.ledger.journal
+    pub whole : (s : ℕ) → IsWhole (in_lane (slots_sent a l c) s (line_sent a l c)) (in_lane (slots_sent a l c) s (marks_on c a.ledger.journal ++ line_held a l c))
+    pub ends : Exits (start_of a) (slots_sent a l c) a.came c (is_open c (settled_by (start_of a) a.came).queues) (ways_on c a.ledger.journal ++ ways c (leaving a))
+
+  -- ---- verdicts and commands
+
+  -- The slot stage took the things that the journal's entries tell of, and the commands that came, each once, in its place. Beside
+  -- each stands what it gave; its verdict is the first that fits over what stood before it: the decisions made by then, which are
+  -- in the end all, the fresh statements by then, and the links asked by then. Each link that was asked for a slot, a command
+  -- told it to.
+  pub record AreJudgedInTurn (level : ℕ → List ℕ → Level) (a : Account D) : Type 0 where
+    pub takes : List Taking
+    pub entries : map entry_in a.ledger.journal ≡ flat_map entry_of (things takes)
+    pub verdicts : flat_map verdict_in a.ledger.journal ≡ flat_map verdict_by takes
+    pub judged : AreJudged level a.me a.peers [] takes
+    pub decided : a.ledger.decisions ≡ (stood_by takes).decisions
+    pub commands : commands_of (things takes ++ leaving a) ≡ commands_in a.came
+    pub places : (before : List Inbound) (command : Command) (after' : List Inbound) → a.came ≡ before ++ inbound.Local command ∷ after' → StandsAt (start_of a) before command (things takes ++ leaving a)
+    pub asked : (asking : Asking) → is_asked a.ledger.asked asking ≡ true → Contains a.came (inbound.Local (Ask asking.link asking.slot))
+
+  -- ---- decisions
+
+  -- At most one decision per slot, each in the window where it was made. Each has its certificate: a quorum at this node, whose
+  -- other members' last fresh ballot statements in the journal accept the commit, and the own EXTERNALIZE; or a taken record
+  -- named it, of a link that was asked for the slot. Each entry with the verdict Decided has its decision. Beside each taken
+  -- envelope stands a sane quorum set that has the hash which it names.
+  pub record AreDecided (a : Account D) : Type 0 where
+    pub one : OnePerSlot a.ledger.decisions
+    pub placed : AreInWindow [] a.ledger.decisions
+    pub founded : All (IsFounded a.me a.set (link_of a.peers) a.ledger.asked a.ledger.journal) a.ledger.decisions
+    pub named : All (HasItsDecision a.ledger.decisions) a.ledger.journal
+    pub sets : All HasItsSet a.ledger.journal
+    pub few : length a.ledger.journal ≤ 1000000
+    pub lowest : IsLowest a.ledger.decisions a.ledger.lowest
+
+  -- ---- what is applied
+
+  -- Slots 1 to n are applied once each, in order, each with its decision. Every other decision is buffered or on its way to the
+  -- applier, and slot n + 1 isn't buffered. The state is the fold of the applied values.
+  pub record AreApplied (a : Account D) : Type 0 where
+    pub in_order : AreInOrder 1 a.applier.applied
+    pub decided : All (Contains a.ledger.decisions) a.applier.applied
+    pub shared_out : IsPermutation a.ledger.decisions (a.applier.applied ++ (a.applier.buffer ++ decisions_on a.onward))
+    pub next_missing : All (λ d. d.slot.0 ≢ length a.applier.applied + 1) a.applier.buffer
+    pub folded : a.applier.state ≡ Some (fold_of (values_of a.applier.applied))
+
+  -- ---- the theorem
+
+  pub record KeepsLedger (level : ℕ → List ℕ → Level) (a : Account D) : Type 0 where
+    -- each connection's messages have one fate each, in order, and nothing is lost; and no entry is of any other connection
+    pub fates : (l : ℕ) → (peer : NodeId) → slice_get a.peers l ≡ Some peer → (life : ℕ) → HasItsFates a l (conn_at peer a.me life)
+    pub of_links : AllByRecursion (λ fate. IsOfLink a.me a.peers (conn_of fate)) a.ledger.journal
+    -- each fate has its cause among what came, and each taken envelope its set, which stood in the store
+    pub causes : AllByRecursion (FateHasCause (start_of a) a.came) a.ledger.journal
+    -- each verdict is the first that fits
+    pub verdicts : AreJudgedInTurn level a
+    -- each decision is the one of its slot, certified by a quorum or named by a taken record
+    pub decisions : AreDecided a
+    -- slots 1 to n are applied, in order, and the state is their fold
+    pub applied : AreApplied a
+
+-- what ran so keeps the ledger
+abbrev pub RanKeepsLedger : {D : Type 0} → (D → ℕ → List ℕ → Level) → (D → ℕ → List (List ℕ) → List ℕ) → (D → ℕ → ℕ → ℕ → ℕ) → Type 0
+RanKeepsLedger {D} level combined place = (a : Account D) → Ran level combined place a → KeepsLedger (level a.ledger.driver) a
