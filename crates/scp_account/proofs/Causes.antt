@@ -1,6 +1,6 @@
 -- What the pending stage gave has its cause, and each command is given once.
 use Rattle.std.proofs.Common.{◌≡◌, true, inl, inr, ℕ, List, [], ◌∷◌, ◌++◌, refl, sym, ◌∙◌, ap, subst, append_assoc}
-use Rattle.std.specs.Prelude.{Contains, flat_map, map}
+use Rattle.std.specs.Prelude.{Contains, flat_map}
 use Rattle.std.specs.List.{AllByRecursion}
 use Rattle.std.proofs.lemmas.List.Elements.{All-nil, All-cons, All-contains, Contains-push, Contains-append_left, Contains-append_right, Contains-append_cases}
 use Rattle.std.proofs.lemmas.Grind.{flat_map-append}
@@ -24,7 +24,6 @@ use Rattle.scp_pending.proofs.Ending.{commands_pass}
 use Rattle.scp_pending.proofs.Placing.{commands_keep_place}
 use Rattle.scp_ledger.specs.declared.journal.Asking.{Asking}
 use Rattle.scp_ledger.specs.Journals.{entry_of}
-use Rattle.scp_ledger.specs.Runs.{things}
 use Rattle.scp_ledger.specs.Seen.{is_asked}
 use Rattle.scp_account.specs.Account.{Account, Ran}
 use Rattle.scp_account.specs.Fates.{IsOfLink, conn_of, FateHasCause, ways_on}

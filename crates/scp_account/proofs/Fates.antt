@@ -1,6 +1,6 @@
 -- Each connection's messages have one fate each, in order, and nothing is lost.
-use Rattle.std.proofs.Common.{◌≡◌, ℕ, List, ◌∷◌, ◌++◌, sym, ◌∙◌, ap, subst, append_assoc, map, inl, inr}
-use Rattle.std.specs.Prelude.{Option, Some, slice_get, option_to_list}
+use Rattle.std.proofs.Common.{◌≡◌, ℕ, List, ◌++◌, sym, ◌∙◌, ap, subst, append_assoc, inl, inr}
+use Rattle.std.specs.Prelude.{Option, Some, slice_get}
 use Rattle.std.specs.List.{AllByRecursion}
 use Rattle.std.proofs.lemmas.List.Elements.{filter-append}
 use Rattle.scp_types.specs.declared.names.ConnId.{ConnId}
@@ -13,8 +13,8 @@ use Rattle.scp_wire.specs.Connections.{conn_at}
 use Rattle.scp_wire.specs.LinkReading.{unread, readings}
 use Rattle.scp_wire.specs.ReaderLaws.{IsSent}
 use Rattle.scp_wire.specs.Shape.{HasShape, AreInOrder, nothing_came, of_peer, is_from}
-use Rattle.scp_wire.specs.Marks.{Mark, number, ended, marks_in, messages_in, IsWhole}
-use Rattle.scp_wire.specs.Lanes.{slots_of, in_lane, lane_numbers, EndsLast, HaveSlots}
+use Rattle.scp_wire.specs.Marks.{Mark, marks_in, messages_in, IsWhole}
+use Rattle.scp_wire.specs.Lanes.{in_lane, lane_numbers, EndsLast, HaveSlots}
 use Rattle.scp_wire.specs.Sent.{sent, is_closed, carried_of, end_of}
 use Rattle.scp_wire.proofs.Lanes.{lanes_of_sent, whole_follows}
 use Rattle.scp_wire.proofs.Lines.{marks_in-append, messages_in-append, marks_of_peer, messages_of_peer}

@@ -4,3 +4,4 @@ pub mod Causes
 pub mod Fates
 pub mod Decided
 pub mod Keeping
+pub mod Running

@@ -1,3 +1,4 @@
 pub mod Fates
 pub mod Account
 pub mod Kept
+pub mod Runs

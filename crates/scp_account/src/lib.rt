@@ -13,4 +13,4 @@
 
 mod laws;
 
-pub use laws::what_ran_keeps_the_ledger;
+pub use laws::{there_are_runs, what_ran_keeps_the_ledger};
