@@ -33,13 +33,13 @@ use Rattle.scp_core.specs.inside.Stage.{shown, Shows}
 
 -- ---- the slot stage
 
-abbrev level_by : KvDriver → ℕ → List ℕ → Level
+abbrev pub level_by : KvDriver → ℕ → List ℕ → Level
 level_by driver slot value = kv_level value
 
-abbrev combined_by : KvDriver → ℕ → List (List ℕ) → List ℕ
+abbrev pub combined_by : KvDriver → ℕ → List (List ℕ) → List ℕ
 combined_by driver slot values = greatest values
 
-abbrev place_by : KvDriver → ℕ → ℕ → ℕ → ℕ
+abbrev pub place_by : KvDriver → ℕ → ℕ → ℕ → ℕ
 place_by driver slot round n = leader_place slot round n
 
 grown : (old : KvLedger) (x : Ready) (t : Took) (new : KvLedger) → KvTakes old x t new → Grows old t new

@@ -46,14 +46,14 @@ accepts-runs old new (Close l) a = ap (λ (v : NodeView). v.failed) a.2.2
 accepts-runs old new (Local command) a = ap (λ (v : NodeView). v.failed) a.2
 accepts-runs old new event a = absurd a
 
-past-runs : (c : Config) (p : Past) (event : Event) → (accepts c p event).failed ≡ p.failed
+pub past-runs : (c : Config) (p : Past) (event : Event) → (accepts c p event).failed ≡ p.failed
 past-runs c p (Open l) = refl
 past-runs c p (Send l bytes) = refl
 past-runs c p (Close l) = refl
 past-runs c p (Local command) = refl
 past-runs c p event = refl
 
-past-goes : (p : Past) (event : Event) → (moves p event).failed ≡ p.failed
+pub past-goes : (p : Past) (event : Event) → (moves p event).failed ≡ p.failed
 past-goes p (ReaderTake l) = refl
 past-goes p (ReaderPut l) = refl
 past-goes p PendPut = refl
@@ -62,7 +62,7 @@ past-goes p SlotPut = refl
 past-goes p ApplyTake = refl
 past-goes p event = refl
 
-keeps-refl : (v : NodeView) → Keeps v v
+pub keeps-refl : (v : NodeView) → Keeps v v
 keeps-refl v = record { config = refl; journal = refl; decisions = refl; asked = refl; applied = refl; lives = refl }
 
 fold-push : {A B : Type 0} (f : B → A → B) (a : B) (xs : List A) (x : A) → fold f a (xs ++ x ∷ []) ≡ f (fold f a xs) x

@@ -3,7 +3,8 @@ use Rattle.std.proofs.Common.{◌≡◌, ℕ, Bool, true, false, List, [], ◌�
 use Rattle.std.specs.Prelude.{Result, Ok, Err, IfOk, Some, slice_get, replicate, not, ◌&&◌, ◌||◌}
 use Rattle.scp_types.specs.declared.names.NodeId.{NodeId}
 use Rattle.scp_wire.specs.Connections.{same_node}
-use Rattle.scp_core.specs.Config.{is_among, are_apart}
+use Rattle.scp_account.specs.Fates.{is_among}
+use Rattle.scp_core.specs.Config.{are_apart}
 use Rattle.scp_core.specs.History.{nothing_heard, unused}
 use Rattle.scp_core.specs.Node.{LinkView, NodeView, new_link}
 use Rattle.scp_core.specs.Flow.{LinkFlows, Flows, AreApart}

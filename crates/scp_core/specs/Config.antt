@@ -1,14 +1,10 @@
 -- Which configurations a node can have.
 use Rattle.std.specs.Prelude.{ℕ, ◌≤◌, ◌≡◌, Bool, true, false, not, ◌&&◌, List, [], ◌∷◌, length}
-use Rattle.std.specs.List.{list_any}
 use Rattle.scp_types.specs.declared.names.NodeId.{NodeId}
 use Rattle.scp_quorum.specs.Sane.{IsSane}
-use Rattle.scp_wire.specs.Connections.{same_node}
+use Rattle.scp_account.specs.Fates.{is_among}
 use Rattle.scp_core.specs.declared.config.Capacities.{Capacities}
 use Rattle.scp_core.specs.declared.config.Config.{Config}
-
-abbrev pub is_among : NodeId → List NodeId → Bool
-is_among node peers = list_any (λ peer. same_node peer node) peers
 
 -- none stands there twice
 abbrev pub are_apart : List NodeId → Bool

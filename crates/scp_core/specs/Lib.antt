@@ -4,12 +4,9 @@ pub mod History
 pub mod Node
 pub mod Flow
 pub mod Theorem
-pub mod Accounts
-pub mod Decisions
-pub mod Applied
 pub mod Settled
-pub mod Causes
+pub mod Sent
+pub mod Ledger
 pub mod Room
-pub mod inside
 pub mod Handed
-pub mod Verdicts
+pub mod inside

@@ -1,6 +1,7 @@
 //! What a node is made of.
 ghost use Rattle.std.specs.Prelude.{◌≡◌, ◌≤◌, ◌↔◌, IsTrue};
-ghost use Rattle.scp_core.specs.Config.{are_apart, is_among, AreInRange};
+ghost use Rattle.scp_account.specs.Fates.{is_among};
+ghost use Rattle.scp_core.specs.Config.{are_apart, AreInRange};
 
 use scp_quorum::QuorumSet;
 use scp_types::NodeId;

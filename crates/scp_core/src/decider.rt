@@ -1,6 +1,5 @@
 //! The slot stage, the queue behind it, and the applier.
 ghost use Rattle.std.specs.Prelude.{◌≡◌, ◌≢◌, ◌≤◌, ◌∷◌, [], ◌<◌, false, true, length, None, Some, IfOk, IsOkUnless, option_copied, if◌then◌else◌};
-ghost use Rattle.scp_types.specs.declared.names.NodeId.{NodeId};
 ghost use Rattle.scp_core.specs.inside.Decider.{new_decider, Decides, Applies, PutsOn, fail as failed_now};
 ghost use Rattle.scp_core.specs.inside.Stops.{told};
 

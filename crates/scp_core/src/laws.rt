@@ -1,47 +1,25 @@
 //! Laws of the definitions, each the contract of a function that does nothing: what the ledger theorem gives.
 ghost use Rattle.scp_core.specs.Theorem.{StepsKeep};
-ghost use Rattle.scp_core.specs.Accounts.{TheoremGivesFates};
-ghost use Rattle.scp_core.specs.Applied.{TheoremGivesApplied};
-ghost use Rattle.scp_core.specs.Causes.{TheoremGivesCauses};
-ghost use Rattle.scp_core.specs.Decisions.{TheoremGivesDecisions};
-ghost use Rattle.scp_core.specs.Verdicts.{TheoremGivesVerdicts};
+ghost use Rattle.scp_core.specs.Ledger.{TheoremGivesLedger};
 ghost use Rattle.scp_core.specs.Room.{TheoremGivesRoom};
 ghost use Rattle.scp_core.specs.Settled.{IdleIsSettled};
 ghost use Rattle.scp_core.specs.Handed.{StepsPutAll, DrainsGiveNext, RepliesFit};
+
+use scp_account::what_ran_keeps_the_ledger;
+use scp_driver::KvDriver;
 
 /// What holds of a list of exchanges and the node holds of the list with one step more.
 pub fn what_holds_of_a_past_holds_with_one_step_more()
     ensures { StepsKeep }
 {}
 
-/// Each entry is of a connection of one of the links; each connection's carried messages have one fate each, and within each
-/// slot from the first, in the order sent, none after its end; and while the node runs, nothing that was sent on it is lost.
-pub fn each_message_has_its_fate()
-    ensures fates { TheoremGivesFates }
-{}
-
-/// At most one decision per slot, each with its certificate over the journal, or with the taken record of a link that was asked
-/// for the slot; and each entry with the verdict Decided has its decision.
-pub fn each_decision_has_its_ground()
-    ensures decisions { TheoremGivesDecisions }
-{}
-
-/// In each entry stands the first verdict that fits, over what the slot stage had taken before it and what that gave.
-pub fn each_verdict_is_the_first_that_fits()
-    ensures verdicts { TheoremGivesVerdicts }
-{}
-
-/// Slots 1 to n are applied once each, in order; while the node runs, each other decision is in a queue, a hand or the
-/// applier's buffer, and the state is the fold of the applied values.
-pub fn decisions_are_applied_in_order()
-    ensures applied { TheoremGivesApplied }
-{}
-
-/// Each fate has its cause among what came, each connection ends by its cause, and each local command other than Tick is given
-/// once, in order.
-pub fn each_fate_has_its_cause()
-    ensures causes { TheoremGivesCauses }
-{}
+/// The node holds its ledger: each message has one fate, each fate and each verdict its cause, each decision its ground, the
+/// state is the fold of the applied values, and all that was sent has its ground.
+pub fn each_node_holds_its_ledger()
+    ensures ledger { TheoremGivesLedger }
+{
+    what_ran_keeps_the_ledger::<KvDriver>();
+}
 
 /// Where the pending stage answers Idle nothing is ready, and the head of each lane that it holds is an envelope that waits for
 /// its quorum set.

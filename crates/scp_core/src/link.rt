@@ -28,17 +28,15 @@ pub struct Link {
 }
 
 impl Model for Link {
+    ghost use Rattle.std.specs.Prelude.{◌≤◌, ◌≡◌, [], ◌++◌, None, option_to_list};
+    ghost use Rattle.std.specs.Coded.{codes};
+    ghost use Rattle.scp_xdr.specs.TreeModel.{coded_row};
+    ghost use Rattle.scp_quorum.specs.QuorumTree.{coded_level};
     ghost use Rattle.scp_core.specs.Node.{LinkView};
 
     ghost Value = { LinkView };
 
-    ghost use Rattle.std.specs.Coded.{codes};
-    ghost use Rattle.scp_xdr.specs.TreeModel.{coded_row};
-    ghost use Rattle.scp_quorum.specs.QuorumTree.{coded_level};
-
     ghost coded = { Prim.hlevel (codes, coded_row coded_level) };
-
-    ghost use Rattle.std.specs.Prelude.{◌≤◌, ◌≡◌, [], ◌++◌, None, option_to_list};
 
     ghost view = { λ a. record { life = a.life; is_open = a.is_open; queue = a.queue.items; room = a.queue.capacity; reader = a.reader.at; hand = option_to_list a.hand ++ a.reader.rest } };
 

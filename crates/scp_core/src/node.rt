@@ -1,6 +1,5 @@
 //! A node: one event is one step of one stage.
 ghost use Rattle.std.specs.Prelude.{◌≡◌, ◌≢◌, ◌∷◌, [], ◌++◌, ◌-◌, ◌<◌, ◌≤◌, ◌⊎◌, ◌↔◌, ℕ, List, length, Some, None, IsSome, false, true, IfOk, OnOk, OnErr, IfErr, IsOkUnless, Ok, Err, IsTrue, slice_get, option_copied, if◌then◌else◌, MatchOption};
-ghost use Rattle.scp_types.specs.declared.names.NodeId.{NodeId};
 ghost use Rattle.scp_ledger.specs.declared.journal.Fate.{Fate};
 ghost use Rattle.scp_pending.specs.Line.{count_held};
 ghost use Rattle.scp_core.specs.Config.{IsConfig, IsFit};
@@ -45,10 +44,6 @@ pub struct Node {
 }
 
 impl Model for Node {
-    ghost use Rattle.scp_core.specs.Node.{NodeView};
-
-    ghost Value = { NodeView };
-
     ghost use Rattle.std.specs.FinMap as map;
     ghost use Rattle.std.specs.Ordering.{nat_cmp};
     ghost use Rattle.std.specs.Cmp.Lexicographic.{slice_cmp};
@@ -57,6 +52,9 @@ impl Model for Node {
     ghost use Rattle.scp_quorum.specs.QuorumTree.{coded_level};
     ghost use Rattle.scp_driver.specs.contracts.kv_driver.KvDriver as driver;
     ghost use Rattle.scp_ledger.specs.Coding.{machine_code};
+    ghost use Rattle.scp_core.specs.Node.{NodeView};
+
+    ghost Value = { NodeView };
 
     ghost coded = { Prim.hlevel (codes, machine_code driver.the_row.coded, coded_row coded_level, map.code {R = slice_cmp nat_cmp} (coded_list coded_ℕ) (coded_list coded_ℕ)) };
 
@@ -86,9 +84,7 @@ impl Node {
     pub fn new(alloc: Global, config: Config) -> Result<Node, Fault>
         // What holds of a list of events holds of the empty list.
         ensures theorem { IfOk result (λ node. LedgerTheorem [] node) }
-        // The node is of this configuration.
         ensures config { IfOk result (λ node. node.config ≡ config) }
-        // When each refusal comes.
         ensures refused { result ≡ Err Fault.BadConfig ↔ ¬ (IsConfig config) }
         ensures only { IfErr result (λ f. (f ≡ Fault.BadConfig) ⊎ (f ≡ Fault.NoMemory)) }
     {

@@ -1,11 +1,13 @@
 //! A list of events on a new node.
 ghost use Rattle.std.specs.Prelude.{◌≡◌, ◌↔◌, ◌⊎◌, [], IfOk, IfErr, OnOk, IsOkUnless, zip, length, Err};
+ghost use Rattle.scp_core.specs.Ledger.{HoldsLedger};
 ghost use Rattle.scp_core.specs.Theorem.{LedgerTheorem};
 ghost use Rattle.scp_core.specs.Config.{IsConfig};
 ghost use Rattle.scp_core.specs.inside.Starting.{Answers};
 
 use crate::config::Config;
 use crate::event::{Event, Reply};
+use crate::laws::each_node_holds_its_ledger;
 use crate::node::Node;
 use crate::outcome::Run;
 use scp_types::Fault;
@@ -16,11 +18,10 @@ use std::alloc::Global;
 pub fn run(alloc: Global, config: Config, events: &[Event]) -> Result<Run, Fault>
     // What holds of every list of events, their replies and the node.
     ensures theorem { IfOk result (λ run. LedgerTheorem (zip events.now run.replies.items) run.node) }
-    // One reply for each event.
+    // So the node holds its ledger, by the events and the replies.
+    ensures ledger { IfOk result (λ run. HoldsLedger (zip events.now run.replies.items) run.node) }
     ensures count { IfOk result (λ run. length run.replies.items ≡ length events.now) }
-    // The node is of this configuration.
     ensures config { IfOk result (λ run. run.node.config ≡ config) }
-    // When each refusal comes.
     ensures refused { result ≡ Err Fault.BadConfig ↔ ¬ (IsConfig config) }
     ensures only { IfErr result (λ f. (f ≡ Fault.BadConfig) ⊎ (f ≡ Fault.NoMemory)) }
 {
@@ -32,6 +33,7 @@ pub fn run(alloc: Global, config: Config, events: &[Event]) -> Result<Run, Fault
     if answer_all(&mut run.node, &mut run.replies, events).is_err() {
         return Err(Fault::NoMemory);
     }
+    each_node_holds_its_ledger();
     Ok(run)
 }
 

@@ -7,13 +7,9 @@ use crate::event::Reply;
 /// Why a stage gives nothing: those replies that carry nothing, so that what is given or not fits in few bytes.
 #[derive(Clone, Copy, Debug)]
 pub enum Stop {
-    /// There is no such link.
     NoLink,
-    /// There is nothing to give.
     Idle,
-    /// There is no room for it.
     Blocked,
-    /// A growth was refused.
     NoMemory,
 }
 

@@ -1,4 +1,4 @@
-use Rattle.scp_core.proofs.Caused.{idle_is_settled}
+use Rattle.scp_core.proofs.Idling.{idle_is_settled}
 use Rattle.scp_core.proofs.laws.what_is_idle_is_settled.Goals as goal
 
 pub returns : goal.returns

@@ -8,3 +8,6 @@ returns-clause-theorem c = let ok : is_ok c.answer_all.result ≡ true = search 
 
 pub returns-clause-count : goal.returns-clause-count
 returns-clause-count c = let ok : is_ok c.answer_all.result ≡ true = search rules in on_ok _ c.answer_all.result ok c.answer_all.ensures.count
+
+pub returns-clause-ledger : goal.returns-clause-ledger
+returns-clause-ledger c = let ok : is_ok c.answer_all.result ≡ true = search rules in c.each_node_holds_its_ledger.ensures.ledger _ _ (on_ok _ c.answer_all.result ok c.answer_all.ensures.theorem)

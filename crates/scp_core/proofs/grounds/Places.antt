@@ -12,13 +12,13 @@ use Rattle.scp_pending.specs.Queues.{QueueView, is_of, is_open, is_link_open}
 use Rattle.scp_pending.specs.Rules.{Settled, link_of, opens, rules, settled_by}
 use Rattle.scp_pending.proofs.Basics.{if_any, same_conn-true}
 use Rattle.scp_pending.proofs.Following.{AllConns, conns_step, frame_step}
+use Rattle.scp_account.specs.Fates.{IsOfLink}
 use Rattle.scp_core.specs.declared.config.Config.{Config}
-use Rattle.scp_core.specs.Accounts.{IsOfLink}
 use Rattle.scp_core.specs.Settled.{start_at}
 use Rattle.scp_core.proofs.Steps.{same_node-is}
 use Rattle.scp_core.proofs.Queues.{there_is, peer_is}
-use Rattle.scp_grounds.specs.Sent.{IsLifeOf}
-use Rattle.scp_grounds.proofs.Basics.{some_there, and_first, and_second}
+use Rattle.scp_core.specs.Sent.{IsLifeOf}
+use Rattle.scp_core.proofs.grounds.Basics.{some_there, and_first, and_second}
 
 -- the sender is the peer of some link, and the connection leads to the node
 pub record HasPlace (c : Config) (conn : ConnId) : Type 0 where
@@ -85,7 +85,7 @@ below p (x ∷ xs) e = by_test (p x) (below p xs) e
     by_test true rest k = omega arith
     by_test false rest k = let h = rest k in omega (arith, h)
 
-pub place_of : (c : Config) (conn : ConnId) → IsOfLink c conn → HasPlace c conn
+pub place_of : (c : Config) (conn : ConnId) → IsOfLink c.me c.peers conn → HasPlace c conn
 place_of c conn h =
     let p : NodeId → Bool = λ peer. same_node peer conn.from in
     record {

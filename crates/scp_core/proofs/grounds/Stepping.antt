@@ -29,17 +29,18 @@ use Rattle.scp_core.specs.Node.{NodeView, HandsEach, PendTakes, SlotTakes, Apply
 use Rattle.scp_core.specs.Settled.{start_at}
 use Rattle.scp_core.specs.Stages.{KvLedger}
 use Rattle.scp_core.specs.Theorem.{IsReply}
+use Rattle.scp_core.proofs.Accounting.{KvKeeps}
 use Rattle.scp_core.proofs.Links.{hand_cut}
-use Rattle.scp_core.proofs.OfLinks.{start_is}
+use Rattle.scp_core.proofs.Idling.{start_is}
 use Rattle.scp_core.proofs.Queues.{within, there_is}
-use Rattle.scp_grounds.specs.Sent.{Grounds, sent_by, IsSentOut, grounds_of}
-use Rattle.scp_grounds.proofs.Basics.{IsMore, no_more, more_of, true_isnt}
-use Rattle.scp_grounds.proofs.Growing.{Grows}
-use Rattle.scp_grounds.proofs.Handing.{Boxes, boxes_more, boxes_sent, sent_out, gives_one}
-use Rattle.scp_grounds.proofs.Ledgers.{LedgerStep, ledger_step}
-use Rattle.scp_grounds.proofs.Replies.{MayReply, reply_may}
-use Rattle.scp_grounds.proofs.Answers.{told_to_ask, applied_may}
-use Rattle.scp_grounds.proofs.Putting.{IsSaid, Stands, stands_one, stands_answer, reply_more, tell_peers}
+use Rattle.scp_core.specs.Sent.{Grounds, sent_by, IsSentOut, grounds_of}
+use Rattle.scp_core.proofs.grounds.Basics.{IsMore, no_more, more_of, true_isnt}
+use Rattle.scp_core.proofs.grounds.Growing.{Grows}
+use Rattle.scp_core.proofs.grounds.Handing.{Boxes, boxes_more, boxes_sent, sent_out, gives_one}
+use Rattle.scp_core.proofs.grounds.Ledgers.{LedgerStep, ledger_step}
+use Rattle.scp_core.proofs.grounds.Replies.{MayReply, reply_may}
+use Rattle.scp_core.proofs.grounds.Answers.{told_to_ask, applied_may}
+use Rattle.scp_core.proofs.grounds.Putting.{IsSaid, Stands, stands_one, stands_answer, reply_more, tell_peers}
 
 -- what holds of a list of exchanges: all that was sent rests on its grounds; and of a node that runs, what waits is the inbox
 pub record State (p : Past) (sent : ℕ → List (List ℕ)) (v : NodeView) : Type 0 where
@@ -54,7 +55,7 @@ pub state_of : (p : Past) (sent : ℕ → List (List ℕ)) (v : NodeView) (taken
 state_of p sent v taken came st = record { taken = taken; waiting = v.inbox; came = came; out = sent_out (grounds_of v taken) sent v.outboxes st.handed st.boxes; now = λ runs. (refl, st) }
 
 -- what was taken is what arrived at the pending stage
-at_arrived : (p : Past) (sent : ℕ → List (List ℕ)) (v : NodeView) (f : Flows p v) → State p sent v → Stands sent (grounds_of v f.arrived) v.ledger v.outboxes
+pub at_arrived : (p : Past) (sent : ℕ → List (List ℕ)) (v : NodeView) (f : Flows p v) → State p sent v → Stands sent (grounds_of v f.arrived) v.ledger v.outboxes
 at_arrived p sent v f s =
     let now = s.now f.runs in
     let same : s.taken ≡ f.arrived = append_cancel_right s.taken f.arrived v.inbox (ap (λ (xs : List Inbound). s.taken ++ xs) (sym now.0) ∙ sym s.came ∙ f.inbox) in
@@ -100,18 +101,18 @@ applied_more : (old : ApplierView) (x : Onward) (answer : Option (ℕ × Message
 applied_more old (Decided d) answer new t = more_of old.applied new.applied t.1.more t.1.grows
 applied_more old (Asked link slot) answer new t = no_more old.applied new.applied (ap (λ (v : ApplierView). v.applied) t.1)
 
-apply_takes : (p : Past) (sent : ℕ → List (List ℕ)) (old new : NodeView) (f : Flows p old) → ApplyTakes old new → Stands sent (grounds_of old f.arrived) old.ledger old.outboxes → State (moves p ApplyTake) sent new
-apply_takes p sent old new f b st =
+apply_takes : KvKeeps → (p : Past) (sent : ℕ → List (List ℕ)) (old new : NodeView) (f : Flows p old) → ApplyTakes old new → Stands sent (grounds_of old f.arrived) old.ledger old.outboxes → State (moves p ApplyTake) sent new
+apply_takes law p sent old new f b st =
     let w : NodeView = record old { decided = b.rest; applier = b.after'; outboxes = new.outboxes } in
     let g = grounds_of old f.arrived in
     let h = grounds_of w f.arrived in
     let more : Grows g h = record { config = refl; taken = no_more f.arrived f.arrived refl; journal = no_more old.ledger.journal old.ledger.journal refl; decisions = no_more old.ledger.decisions old.ledger.decisions refl; applied = applied_more old.applier b.x b.answer b.after' b.takes } in
     subst (λ (v : NodeView). State (moves p ApplyTake) sent v) (sym b.is)
     (state_of (moves p ApplyTake) sent w f.arrived f.inbox
-    (stands_answer sent h old.ledger old.outboxes new.outboxes b.answer (stands_more sent g h old.ledger old.outboxes more st) (reply_more g h b.answer more (applied_may p old f b.x b.rest b.answer b.after' b.decided b.takes)) b.hands))
+    (stands_answer sent h old.ledger old.outboxes new.outboxes b.answer (stands_more sent g h old.ledger old.outboxes more st) (reply_more g h b.answer more (applied_may law p old f b.x b.rest b.answer b.after' b.decided b.takes)) b.hands))
 
 -- what the slot stage sends
-module _ (p : Past) (sent : ℕ → List (List ℕ)) (old new : NodeView) (f : Flows p old) (b : SlotTakes old new) (s : LedgerStep old.config old.ledger b.x b.took b.after') (st : Stands sent (grounds_of old f.arrived) old.ledger old.outboxes) where
+module _ (law : KvKeeps) (p : Past) (sent : ℕ → List (List ℕ)) (old new : NodeView) (f : Flows p old) (b : SlotTakes old new) (s : LedgerStep old.config old.ledger b.x b.took b.after') (st : Stands sent (grounds_of old f.arrived) old.ledger old.outboxes) where
   abbrev g : Grounds
   g = grounds_of old f.arrived
 
@@ -131,7 +132,7 @@ module _ (p : Past) (sent : ℕ → List (List ℕ)) (old new : NodeView) (f : F
   stood = record { handed = st.handed; boxes = boxes_then; machines = s.machines; behind = behind_then }
 
   asks : (link : ℕ) (slot : Slot) → b.x ≡ ready.Local (Ask link slot) → HandsEach old.outboxes (To link (GetRecord slot) ∷ []) new.outboxes → Stands sent h b.after' new.outboxes
-  asks link slot e hands = subst (λ (o : List OutboxView). Stands sent h b.after' o) (sym hands.2) (stands_one sent h b.after' old.outboxes hands.0 link (GetRecord slot) stood (told_to_ask p old f b.rest link slot (b.ready ∙ ap (λ (x : Ready). x ∷ b.rest) e)) refl hands.1)
+  asks link slot e hands = subst (λ (o : List OutboxView). Stands sent h b.after' o) (sym hands.2) (stands_one sent h b.after' old.outboxes hands.0 link (GetRecord slot) stood (told_to_ask law p old f b.rest link slot (b.ready ∙ ap (λ (x : Ready). x ∷ b.rest) e)) refl hands.1)
 
   slot_sends : Stands sent h b.after' new.outboxes
   slot_sends = elim s.outs [
@@ -140,17 +141,17 @@ module _ (p : Past) (sent : ℕ → List (List ℕ)) (old new : NodeView) (f : F
     | inr (inr w) ↦ tell_peers sent h old.ledger b.after' refl st.handed boxes_then.allowed st.behind behind_then s.machines old.outboxes new.outboxes w.0.emitted.nomination w.0.emitted.ballot boxes_then w.2.nomination w.2.ballots (subst (λ (out : List Outgoing). HandsEach old.outboxes out new.outboxes) w.1 b.hands)
   ]
 
-slot_takes : (p : Past) (sent : ℕ → List (List ℕ)) (old new : NodeView) (f : Flows p old) → SlotTakes old new → Stands sent (grounds_of old f.arrived) old.ledger old.outboxes → State (moves p SlotTake) sent new
-slot_takes p sent old new f b st =
+slot_takes : KvKeeps → (p : Past) (sent : ℕ → List (List ℕ)) (old new : NodeView) (f : Flows p old) → SlotTakes old new → Stands sent (grounds_of old f.arrived) old.ledger old.outboxes → State (moves p SlotTake) sent new
+slot_takes law p sent old new f b st =
     let s = ledger_step old.config old.ledger b.x b.took b.after' f.journal.me_is f.journal.local_is st.machines b.takes in
     subst (λ (v : NodeView). State (moves p SlotTake) sent v) (sym b.is)
-    (state_of (moves p SlotTake) sent (record old { ready = b.rest; ledger = b.after'; slot_hand = b.took.onward; outboxes = new.outboxes }) f.arrived f.inbox (slot_sends p sent old new f b s st))
+    (state_of (moves p SlotTake) sent (record old { ready = b.rest; ledger = b.after'; slot_hand = b.took.onward; outboxes = new.outboxes }) f.arrived f.inbox (slot_sends law p sent old new f b s st))
 
 -- ---- events that move something
 
-moved : (p : Past) (sent : ℕ → List (List ℕ)) (old new : NodeView) (event : Event) (f : Flows p old) → Moves old event new → Stands sent (grounds_of old f.arrived) old.ledger old.outboxes → State (moves p event) sent new
-moved p sent old new (ReaderTake l) f a st = subst (λ (v : NodeView). State (moves p (ReaderTake l)) sent v) (sym a.2.4) (state_of (moves p (ReaderTake l)) sent _ f.arrived f.inbox st)
-moved p sent old new (ReaderPut l) f a st =
+moved : KvKeeps → (p : Past) (sent : ℕ → List (List ℕ)) (old new : NodeView) (event : Event) (f : Flows p old) → Moves old event new → Stands sent (grounds_of old f.arrived) old.ledger old.outboxes → State (moves p event) sent new
+moved law p sent old new (ReaderTake l) f a st = subst (λ (v : NodeView). State (moves p (ReaderTake l)) sent v) (sym a.2.4) (state_of (moves p (ReaderTake l)) sent _ f.arrived f.inbox st)
+moved law p sent old new (ReaderPut l) f a st =
     let k = a.0 in
     let x = a.2.1 in
     let o = p.links l in
@@ -158,15 +159,15 @@ moved p sent old new (ReaderPut l) f a st =
     let next : take 1 (drop o.given (readings_of o)) ≡ x ∷ [] = ap (take 1) (hand_cut old.config.me at.0 old.config.capacities.link o k x a.2.2 a.2.3 (f.links l k a.1 at.0 at.1)) in
     subst (λ (v : NodeView). State (moves p (ReaderPut l)) sent v) (sym a.2.4)
     (state_of (moves p (ReaderPut l)) sent (record old { links = slice_set old.links l (record k { hand = a.2.2 }); inbox = old.inbox ++ x ∷ [] }) f.arrived (ap (λ (xs : List Inbound). p.came ++ xs) next ∙ ap (λ (xs : List Inbound). xs ++ x ∷ []) f.inbox ∙ append_assoc f.arrived old.inbox (x ∷ [])) st)
-moved p sent old new PendTake f a st = elim a.1 [
+moved law p sent old new PendTake f a st = elim a.1 [
   | inl b ↦ subst (λ (v : NodeView). State p sent v) (sym b.is) (state_of p sent (record old { pending = b.after'; pend_hand = Some b.thing }) f.arrived f.inbox st)
   | inr b ↦ pend_takes p sent old new f b st
 ]
-moved p sent old new PendPut f a st = subst (λ (v : NodeView). State (moves p PendPut) sent v) (sym a.3) (state_of (moves p PendPut) sent _ f.arrived f.inbox st)
-moved p sent old new SlotTake f a st = slot_takes p sent old new f a.1 st
-moved p sent old new SlotPut f a st = subst (λ (v : NodeView). State (moves p SlotPut) sent v) (sym a.3) (state_of (moves p SlotPut) sent _ f.arrived f.inbox st)
-moved p sent old new ApplyTake f a st = apply_takes p sent old new f a st
-moved p sent old new event f a st = absurd a
+moved law p sent old new PendPut f a st = subst (λ (v : NodeView). State (moves p PendPut) sent v) (sym a.3) (state_of (moves p PendPut) sent _ f.arrived f.inbox st)
+moved law p sent old new SlotTake f a st = slot_takes law p sent old new f a.1 st
+moved law p sent old new SlotPut f a st = subst (λ (v : NodeView). State (moves p SlotPut) sent v) (sym a.3) (state_of (moves p SlotPut) sent _ f.arrived f.inbox st)
+moved law p sent old new ApplyTake f a st = apply_takes law p sent old new f a st
+moved law p sent old new event f a st = absurd a
 
 -- ---- drains
 
@@ -188,10 +189,10 @@ drained p sent old new event bytes f d st = absurd d
 
 -- ---- nothing is sent
 
-abbrev IsQuiet : Reply → Type 0
+abbrev pub IsQuiet : Reply → Type 0
 IsQuiet reply = (bytes : List ℕ) → reply ≢ Sent bytes
 
-quiet : (link : ℕ) (event : Event) (reply : Reply) → IsQuiet reply → sent_by link event reply ≡ []
+pub quiet : (link : ℕ) (event : Event) (reply : Reply) → IsQuiet reply → sent_by link event reply ≡ []
 quiet link (Drain l) (Sent bytes) q = absurd (q bytes refl)
 quiet link event reply q = refl
 
@@ -227,27 +228,27 @@ fails p sent old new f x st =
 stays : (p : Past) (sent : ℕ → List (List ℕ)) (old new : NodeView) (f : Flows p old) → new ≡ old → Stands sent (grounds_of old f.arrived) old.ledger old.outboxes → State p sent new
 stays p sent old new f e st = subst (λ (v : NodeView). State p sent v) (sym e) (state_of p sent old f.arrived f.inbox st)
 
-stepped : (p : Past) (sent : ℕ → List (List ℕ)) (old new : NodeView) (event : Event) (reply : Reply) (f : Flows p old) → Step old event reply new → Stands sent (grounds_of old f.arrived) old.ledger old.outboxes → State (hears old.config p event reply) (with_sent sent event reply) new
-stepped p sent old new event Failed f s st = absurd (true_isnt (sym s.0 ∙ f.runs))
-stepped p sent old new event Accepted f s st = with_nothing _ sent new event Accepted (λ bytes e. cc) (accepted p sent old new event f s.1 st)
-stepped p sent old new event Moved f s st = with_nothing _ sent new event Moved (λ bytes e. cc) (moved p sent old new event f s.1 st)
-stepped p sent old new event (Sent bytes) f s st = drained p sent old new event bytes f s.1 st
-stepped p sent old new event JournalFull f s st = with_nothing _ sent new event JournalFull (λ bytes e. cc) (fails p sent old new f s.0 st)
-stepped p sent old new event NoMemory f s st = with_nothing _ sent new event NoMemory (λ bytes e. cc) (fails p sent old new f s.0 st)
-stepped p sent old new event NoLink f s st = with_nothing _ sent new event NoLink (λ bytes e. cc) (stays p sent old new f s.2 st)
-stepped p sent old new event AlreadyOpen f s st = with_nothing _ sent new event AlreadyOpen (λ bytes e. cc) (stays p sent old new f s.2 st)
-stepped p sent old new event LivesSpent f s st = with_nothing _ sent new event LivesSpent (λ bytes e. cc) (stays p sent old new f s.2 st)
-stepped p sent old new event NotOpen f s st = with_nothing _ sent new event NotOpen (λ bytes e. cc) (stays p sent old new f s.2 st)
-stepped p sent old new event Full f s st = with_nothing _ sent new event Full (λ bytes e. cc) (stays p sent old new f s.2 st)
-stepped p sent old new event Blocked f s st = with_nothing _ sent new event Blocked (λ bytes e. cc) (stays p sent old new f s.2 st)
-stepped p sent old new event Idle f s st = with_nothing _ sent new event Idle (λ bytes e. cc) (stays p sent old new f s.2 st)
+stepped : KvKeeps → (p : Past) (sent : ℕ → List (List ℕ)) (old new : NodeView) (event : Event) (reply : Reply) (f : Flows p old) → Step old event reply new → Stands sent (grounds_of old f.arrived) old.ledger old.outboxes → State (hears old.config p event reply) (with_sent sent event reply) new
+stepped law p sent old new event Failed f s st = absurd (true_isnt (sym s.0 ∙ f.runs))
+stepped law p sent old new event Accepted f s st = with_nothing _ sent new event Accepted (λ bytes e. cc) (accepted p sent old new event f s.1 st)
+stepped law p sent old new event Moved f s st = with_nothing _ sent new event Moved (λ bytes e. cc) (moved law p sent old new event f s.1 st)
+stepped law p sent old new event (Sent bytes) f s st = drained p sent old new event bytes f s.1 st
+stepped law p sent old new event JournalFull f s st = with_nothing _ sent new event JournalFull (λ bytes e. cc) (fails p sent old new f s.0 st)
+stepped law p sent old new event NoMemory f s st = with_nothing _ sent new event NoMemory (λ bytes e. cc) (fails p sent old new f s.0 st)
+stepped law p sent old new event NoLink f s st = with_nothing _ sent new event NoLink (λ bytes e. cc) (stays p sent old new f s.2 st)
+stepped law p sent old new event AlreadyOpen f s st = with_nothing _ sent new event AlreadyOpen (λ bytes e. cc) (stays p sent old new f s.2 st)
+stepped law p sent old new event LivesSpent f s st = with_nothing _ sent new event LivesSpent (λ bytes e. cc) (stays p sent old new f s.2 st)
+stepped law p sent old new event NotOpen f s st = with_nothing _ sent new event NotOpen (λ bytes e. cc) (stays p sent old new f s.2 st)
+stepped law p sent old new event Full f s st = with_nothing _ sent new event Full (λ bytes e. cc) (stays p sent old new f s.2 st)
+stepped law p sent old new event Blocked f s st = with_nothing _ sent new event Blocked (λ bytes e. cc) (stays p sent old new f s.2 st)
+stepped law p sent old new event Idle f s st = with_nothing _ sent new event Idle (λ bytes e. cc) (stays p sent old new f s.2 st)
 
 -- once the node failed nothing changes
 failed_reply : (c : Config) (p : Past) (sent : ℕ → List (List ℕ)) (old new : NodeView) (event : Event) (reply : Reply) → reply ≡ Failed → new ≡ old → State p sent old → State (hears c p event reply) (with_sent sent event reply) new
 failed_reply c p sent old new event reply e same s = subst (λ (r : Reply). State (hears c p event r) (with_sent sent event r) new) (sym e) (subst (λ (v : NodeView). State p (with_sent sent event Failed) v) (sym same) (with_nothing p sent old event Failed (λ bytes k. cc) s))
 
-pub state_step : (c : Config) (p : Past) (sent : ℕ → List (List ℕ)) (old : NodeView) (event : Event) (reply : Reply) (new : NodeView) → IsReply c p old event reply new → State p sent old → State (hears c p event reply) (with_sent sent event reply) new
-state_step c p sent old event reply new r s = elim r [
+pub state_step : KvKeeps → (c : Config) (p : Past) (sent : ℕ → List (List ℕ)) (old : NodeView) (event : Event) (reply : Reply) (new : NodeView) → IsReply c p old event reply new → State p sent old → State (hears c p event reply) (with_sent sent event reply) new
+state_step law c p sent old event reply new r s = elim r [
   | inl w ↦ failed_reply c p sent old new event reply w.1 w.2 s
-  | inr w ↦ subst (λ (d : Config). State (hears d p event reply) (with_sent sent event reply) new) w.1.config (stepped p sent old new event reply w.1.flows w.1.step (at_arrived p sent old w.1.flows s))
+  | inr w ↦ subst (λ (d : Config). State (hears d p event reply) (with_sent sent event reply) new) w.1.config (stepped law p sent old new event reply w.1.flows w.1.step (at_arrived p sent old w.1.flows s))
 ]

@@ -15,9 +15,9 @@ use Rattle.scp_sent.proofs.Giving.{gives_next, sends_are_sent}
 use Rattle.scp_ledger.specs.declared.took.Outgoing.{Outgoing}
 use Rattle.scp_core.specs.Node.{HandsOne, messages_for, handed_by}
 use Rattle.scp_core.proofs.Queues.{get_set, within, there_is}
-use Rattle.scp_grounds.specs.Sent.{Grounds, MaySend, IsSentOut}
-use Rattle.scp_grounds.proofs.Basics.{get_replicate, none_some, some_same}
-use Rattle.scp_grounds.proofs.Growing.{Grows, may_more}
+use Rattle.scp_core.specs.Sent.{Grounds, MaySend, IsSentOut}
+use Rattle.scp_core.proofs.grounds.Basics.{get_replicate, none_some, some_same}
+use Rattle.scp_core.proofs.grounds.Growing.{Grows, may_more}
 
 -- of each link: what was handed out may be sent, its statements newer and newer; and what was sent and waits was handed out
 pub record Boxes (g : Grounds) (sent : ℕ → List (List ℕ)) (boxes : List OutboxView) (handed : ℕ → List Message) : Type 0 where

@@ -22,9 +22,9 @@ use Rattle.scp_sent.specs.Sent.{statement_of}
 use Rattle.scp_pending.specs.Queues.{is_open, named, hash_of, waited_by}
 use Rattle.scp_pending.specs.Rules.{Settled, is_full, found, entering_by, entering, settled_by, link_number, asks_named, asks, answer, replies, reply}
 use Rattle.scp_core.specs.Settled.{start_at}
-use Rattle.scp_grounds.specs.Sent.{Grounds, IsLifeOf, NamesSet, AsksForSet, MaySend}
-use Rattle.scp_grounds.proofs.Basics.{none_some, some_same}
-use Rattle.scp_grounds.proofs.Places.{known_after, open_place, life_at}
+use Rattle.scp_core.specs.Sent.{Grounds, IsLifeOf, NamesSet, AsksForSet, MaySend}
+use Rattle.scp_core.proofs.grounds.Basics.{none_some, some_same}
+use Rattle.scp_core.proofs.grounds.Places.{known_after, open_place, life_at}
 
 -- no reply, or one that may be sent, and is no statement
 abbrev pub MayReply : Grounds → Option (ℕ × Message) → Type 0

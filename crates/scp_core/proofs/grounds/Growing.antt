@@ -15,8 +15,8 @@ use Rattle.scp_ledger.specs.declared.journal.Decision.{Decision}
 use Rattle.scp_ledger.specs.declared.journal.Fate.TheVariants.{Taken}
 use Rattle.scp_core.specs.declared.config.Config.{Config}
 use Rattle.scp_core.specs.Settled.{start_at}
-use Rattle.scp_grounds.specs.Sent.{Grounds, IsLifeOf, IsOwn, IsOwnOf, IsDecided, NamesSet, AsksForSet, TellsToAsk, MaySend}
-use Rattle.scp_grounds.proofs.Basics.{IsMore, any_more, contains_more}
+use Rattle.scp_core.specs.Sent.{Grounds, IsLifeOf, IsOwn, IsOwnOf, IsDecided, NamesSet, AsksForSet, TellsToAsk, MaySend}
+use Rattle.scp_core.proofs.grounds.Basics.{IsMore, any_more, contains_more}
 
 -- the same node, and maybe more of each
 pub record Grows (g h : Grounds) : Type 0 where

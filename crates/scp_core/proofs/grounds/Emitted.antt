@@ -30,7 +30,7 @@ use Rattle.scp_slot.specs.declared.output.SlotOutput.{SlotOutput}
 use Rattle.scp_slot.specs.declared.output.Verdict.{Verdict}
 use Rattle.scp_slot.specs.Slot.{SlotView}
 use Rattle.scp_slot.specs.Takes as slot
-use Rattle.scp_grounds.proofs.Basics.{some_there, there_some, none_some}
+use Rattle.scp_core.proofs.grounds.Basics.{some_there, there_some, none_some}
 
 -- ---- one statement
 

@@ -36,9 +36,9 @@ use Rattle.scp_ledger.specs.Takes.{to_peers, decision_of, RunsAt, Passes, Decide
 use Rattle.scp_ledger.proofs.Ran.{at_is}
 use Rattle.scp_core.specs.declared.config.Config.{Config}
 use Rattle.scp_core.specs.Stages.{KvLedger, KvTakes}
-use Rattle.scp_grounds.proofs.Basics.{IsMore, no_more, more_of, none_some, which}
-use Rattle.scp_grounds.proofs.Emitted.{IsMine}
-use Rattle.scp_grounds.proofs.Machines.{AreMine, IsBehind, Ran, ran, decided_then, decided_last}
+use Rattle.scp_core.proofs.grounds.Basics.{IsMore, no_more, more_of, none_some, which}
+use Rattle.scp_core.proofs.grounds.Emitted.{IsMine}
+use Rattle.scp_core.proofs.grounds.Machines.{AreMine, IsBehind, Ran, ran, decided_then, decided_last}
 
 -- nothing goes out; or a request for a record, by the command for it; or what a machine says
 abbrev pub Outs : Config → KvLedger → KvLedger → Ready → Took → Type 0

@@ -1,5 +1,5 @@
 -- What was sent to the peer of each link, and what it rests on (this project's profile).
-use Rattle.std.specs.Prelude.{ℕ, ◌≡◌, true, false, List, [], ◌∷◌, ◌++◌, Option, Some, All, Any, Contains, slice_get, flat_map, nat_eq, if◌then◌else◌}
+use Rattle.std.specs.Prelude.{ℕ, ◌≡◌, true, List, [], ◌∷◌, ◌++◌, Option, Some, All, Any, Contains, slice_get, flat_map, nat_eq, if◌then◌else◌}
 use Rattle.std.specs.List.{AllZip}
 use Rattle.scp_types.specs.declared.names.ConnId.{ConnId}
 use Rattle.scp_types.specs.declared.names.Hash.{Hash}
@@ -35,10 +35,9 @@ use Rattle.scp_core.specs.declared.event.Event.{Event}
 use Rattle.scp_core.specs.declared.event.Event.TheVariants.{Drain}
 use Rattle.scp_core.specs.declared.event.Reply.{Reply}
 use Rattle.scp_core.specs.declared.event.Reply.TheVariants as reply
-use Rattle.scp_core.specs.History.{Exchange, past_of}
+use Rattle.scp_core.specs.History.{Exchange}
 use Rattle.scp_core.specs.Node.{NodeView}
 use Rattle.scp_core.specs.Settled.{start_at}
-use Rattle.scp_core.specs.Theorem.{LedgerTheorem}
 
 -- ---- what was sent
 
@@ -152,15 +151,3 @@ pub record IsSentOut (g : Grounds) (link : ℕ) (sent : List (List ℕ)) : Type 
 
 abbrev pub grounds_of : NodeView → List Inbound → Grounds
 grounds_of v taken = record { config = v.config; taken = taken; journal = v.ledger.journal; decisions = v.ledger.decisions; applied = v.applier.applied }
-
--- by what the pending stage took, which is what came but for what waits in the inbox: all that was sent over each link
-pub record AreSentOut (past : List Exchange) (v : NodeView) : Type 0 where
-  pub taken : List Inbound
-  pub waiting : List Inbound
-  pub came : (past_of v.config past).came ≡ taken ++ waiting
-  pub sent : (link : ℕ) → IsSentOut (grounds_of v taken) link (sent_to link past)
-  -- while the node runs, what waits is the inbox
-  pub now : v.failed ≡ false → waiting ≡ v.inbox
-
-abbrev pub TheoremGivesSent : Type 0
-TheoremGivesSent = (past : List Exchange) (v : NodeView) → LedgerTheorem past v → AreSentOut past v

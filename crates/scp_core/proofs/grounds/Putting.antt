@@ -16,12 +16,12 @@ use Rattle.scp_ledger.specs.declared.took.Outgoing.TheVariants.{ToAll, To}
 use Rattle.scp_ledger.specs.Takes.{to_all}
 use Rattle.scp_core.specs.Node.{Hands, HandsOne, HandsEach}
 use Rattle.scp_core.specs.Stages.{KvLedger}
-use Rattle.scp_grounds.specs.Sent.{Grounds, MaySend}
-use Rattle.scp_grounds.proofs.Basics.{true_isnt, and_second}
-use Rattle.scp_grounds.proofs.Growing.{Grows, may_more}
-use Rattle.scp_grounds.proofs.Handing.{Boxes, IsPut, puts_one, IsAhead, newer_push}
-use Rattle.scp_grounds.proofs.Machines.{AreMine, IsBehind, MayTell}
-use Rattle.scp_grounds.proofs.Replies.{MayReply}
+use Rattle.scp_core.specs.Sent.{Grounds, MaySend}
+use Rattle.scp_core.proofs.grounds.Basics.{true_isnt, and_second}
+use Rattle.scp_core.proofs.grounds.Growing.{Grows, may_more}
+use Rattle.scp_core.proofs.grounds.Handing.{Boxes, IsPut, puts_one, IsAhead, newer_push}
+use Rattle.scp_core.proofs.grounds.Machines.{AreMine, IsBehind, MayTell}
+use Rattle.scp_core.proofs.grounds.Replies.{MayReply}
 
 -- a statement that was handed out is behind its machine
 abbrev pub IsSaid : KvLedger → Message → Type 0

@@ -18,7 +18,6 @@ use Rattle.scp_wire.specs.declared.link.Inbound.TheVariants as inbound
 use Rattle.scp_pending.specs.declared.ready.Ready.{Ready}
 use Rattle.scp_pending.specs.declared.ready.Ready.TheVariants as ready
 use Rattle.scp_pending.specs.Endings.{commands_in, commands_of, passed, passing}
-use Rattle.scp_pending.proofs.Ending.{commands_pass}
 use Rattle.scp_ledger.specs.declared.journal.Decision.{Decision}
 use Rattle.scp_ledger.specs.declared.journal.Fate.{Fate}
 use Rattle.scp_ledger.specs.declared.journal.Fate.TheVariants.{Taken, Dropped, Closed}
@@ -28,19 +27,19 @@ use Rattle.scp_ledger.specs.declared.took.Onward.TheVariants.{Decided, Asked}
 use Rattle.scp_ledger.specs.Decisions.{is_at}
 use Rattle.scp_ledger.specs.Verdicts.{link_of}
 use Rattle.scp_apply.specs.Applied.{value_of}
+use Rattle.scp_ledger.specs.Runs.{things}
 use Rattle.scp_apply.specs.Applier.{ApplierView, Takes}
-use Rattle.scp_core.specs.Accounts.{IsOfLink, conn_of}
-use Rattle.scp_core.specs.Causes.{on_way_of}
+use Rattle.scp_account.specs.Fates.{IsOfLink, conn_of}
 use Rattle.scp_core.specs.Flow.{Flows}
 use Rattle.scp_core.specs.History.{Past}
 use Rattle.scp_core.specs.Node.{NodeView}
 use Rattle.scp_ledger.specs.Journals.{request_by}
 use Rattle.scp_ledger.specs.Onwards.{request_on, requests_on}
-use Rattle.scp_core.proofs.OfLinks.{of_links_at, left}
-use Rattle.scp_grounds.specs.Sent.{Grounds, IsLifeOf, TellsToAsk, AsksForRecord, IsApplied, grounds_of}
-use Rattle.scp_grounds.proofs.Basics.{any_here, any_later, none_some, some_same}
-use Rattle.scp_grounds.proofs.Places.{place_of, life_at}
-use Rattle.scp_grounds.proofs.Replies.{MayReply}
+use Rattle.scp_core.proofs.Accounting.{KvKeeps, kept_at}
+use Rattle.scp_core.specs.Sent.{Grounds, IsLifeOf, TellsToAsk, AsksForRecord, IsApplied, grounds_of}
+use Rattle.scp_core.proofs.grounds.Basics.{any_here, any_later, none_some, some_same}
+use Rattle.scp_core.proofs.grounds.Places.{place_of, life_at}
+use Rattle.scp_core.proofs.grounds.Replies.{MayReply}
 
 -- ---- lists with one item, and with none
 
@@ -71,11 +70,14 @@ command_in (x ∷ xs) link slot h = elim (Contains-append_cases (passing x) (com
 ]
 
 -- a command that the slot stage takes was taken
-pub told_to_ask : (p : Past) (v : NodeView) (f : Flows p v) (rest : List Ready) (link : ℕ) (slot : Slot) → v.ready ≡ ready.Local (Ask link slot) ∷ rest → Any (TellsToAsk link slot) f.arrived
-told_to_ask p v f rest link slot e =
-    let here : Contains (commands_of (on_way_of v)) (Ask link slot) = subst (λ (rs : List Ready). Contains (commands_of ((rs ++ option_to_list v.pend_hand) ++ v.pending.leaving)) (Ask link slot)) (sym e) (Contains-append_left (Ask link slot ∷ []) (commands_of ((rest ++ option_to_list v.pend_hand) ++ v.pending.leaving)) (Ask link slot) (Contains-push [] (Ask link slot))) in
-    let all : Contains (commands_of (f.took ++ on_way_of v)) (Ask link slot) = subst (λ (cs : List Command). Contains cs (Ask link slot)) (sym (flat_map-append passed f.took (on_way_of v))) (Contains-append_right (commands_of f.took) (commands_of (on_way_of v)) (Ask link slot) here) in
-    command_in f.arrived link slot (subst (λ (cs : List Command). Contains cs (Ask link slot)) (ap commands_of (sym (left p v f)) ∙ commands_pass v.config.me v.config.peers f.arrived f.given v.pending f.pending) all)
+pub told_to_ask : KvKeeps → (p : Past) (v : NodeView) (f : Flows p v) (rest : List Ready) (link : ℕ) (slot : Slot) → v.ready ≡ ready.Local (Ask link slot) ∷ rest → Any (TellsToAsk link slot) f.arrived
+told_to_ask law p v f rest link slot e =
+    let verdicts = (kept_at law p v f).verdicts in
+    let took : List Ready = things verdicts.takes in
+    let leaving : List Ready = (v.ready ++ option_to_list v.pend_hand) ++ v.pending.leaving in
+    let here : Contains (commands_of leaving) (Ask link slot) = subst (λ (rs : List Ready). Contains (commands_of ((rs ++ option_to_list v.pend_hand) ++ v.pending.leaving)) (Ask link slot)) (sym e) (Contains-append_left (Ask link slot ∷ []) (commands_of ((rest ++ option_to_list v.pend_hand) ++ v.pending.leaving)) (Ask link slot) (Contains-push [] (Ask link slot))) in
+    let all : Contains (commands_of (took ++ leaving)) (Ask link slot) = subst (λ (cs : List Command). Contains cs (Ask link slot)) (sym (flat_map-append passed took leaving)) (Contains-append_right (commands_of took) (commands_of leaving) (Ask link slot) here) in
+    command_in f.arrived link slot (subst (λ (cs : List Command). Contains cs (Ask link slot)) verdicts.commands all)
 
 -- ---- a request for a record
 
@@ -135,11 +137,11 @@ request_there p v f rest link slot e =
     subst (λ (xs : List Onward). Contains xs (Asked link slot)) (sym requests ∙ f.journal.requests)
     (Contains-append_right (requests_on f.applied) (Asked link slot ∷ requests_on behind) (Asked link slot) (Contains-append_left (Asked link slot ∷ []) (requests_on behind) (Asked link slot) (Contains-push [] (Asked link slot))))
 
-asks_there : (p : Past) (v : NodeView) (f : Flows p v) (rest : List Onward) (link : ℕ) (slot : Slot) → v.decided ≡ Asked link slot ∷ rest → AsksForRecord (grounds_of v f.arrived) link slot
-asks_there p v f rest link slot e =
+asks_there : KvKeeps → (p : Past) (v : NodeView) (f : Flows p v) (rest : List Onward) (link : ℕ) (slot : Slot) → v.decided ≡ Asked link slot ∷ rest → AsksForRecord (grounds_of v f.arrived) link slot
+asks_there law p v f rest link slot e =
     let h = entry_in v.config.peers v.ledger.journal link slot (request_there p v f rest link slot e) in
     let fate : Fate = Taken h.conn h.seq (message.GetRecord slot) h.set h.verdict in
-    let of_link : IsOfLink v.config h.conn = All-contains (λ (x : Fate). IsOfLink v.config (conn_of x)) v.ledger.journal fate (All-from_recursion (λ (x : Fate). IsOfLink v.config (conn_of x)) v.ledger.journal (of_links_at p v f)) h.there in
+    let of_link : IsOfLink v.config.me v.config.peers h.conn = All-contains (λ (x : Fate). IsOfLink v.config.me v.config.peers (conn_of x)) v.ledger.journal fate (All-from_recursion (λ (x : Fate). IsOfLink v.config.me v.config.peers (conn_of x)) v.ledger.journal (kept_at law p v f).of_links) h.there in
     record {
       conn = h.conn;
       of_link = subst (λ (n : ℕ). IsLifeOf v.config n h.conn) (sym h.link_is) (life_at v.config h.conn (length v.config.peers) (place_of v.config h.conn of_link));
@@ -170,8 +172,8 @@ answer_may : (g : Grounds) (link : ℕ) (slot : Slot) (found : Option (List ℕ)
 answer_may g link slot None has asked = tt
 answer_may g link slot (Some value) has asked = ((has value refl, asked), refl)
 
-pub applied_may : (p : Past) (v : NodeView) (f : Flows p v) (x : Onward) (rest : List Onward) (answer : Option (ℕ × Message)) (new : ApplierView) → v.decided ≡ x ∷ rest → Takes v.applier x answer new → MayReply (grounds_of v f.arrived) answer
-applied_may p v f (Decided d) rest answer new e t = subst (MayReply (grounds_of v f.arrived)) (sym t.0) tt
-applied_may p v f (Asked link slot) rest answer new e t =
+pub applied_may : KvKeeps → (p : Past) (v : NodeView) (f : Flows p v) (x : Onward) (rest : List Onward) (answer : Option (ℕ × Message)) (new : ApplierView) → v.decided ≡ x ∷ rest → Takes v.applier x answer new → MayReply (grounds_of v f.arrived) answer
+applied_may law p v f (Decided d) rest answer new e t = subst (MayReply (grounds_of v f.arrived)) (sym t.0) tt
+applied_may law p v f (Asked link slot) rest answer new e t =
     let g = grounds_of v f.arrived in
-    subst (MayReply g) (sym t.0) (answer_may g link slot (value_of slot.0 v.applier.applied) (λ value k. value_there slot value v.applier.applied k) (asks_there p v f rest link slot e))
+    subst (MayReply g) (sym t.0) (answer_may g link slot (value_of slot.0 v.applier.applied) (λ value k. value_there slot value v.applier.applied k) (asks_there law p v f rest link slot e))

@@ -40,9 +40,9 @@ use Rattle.scp_ledger.specs.Takes.{IsMachineFor, decision_of, RunsAt}
 use Rattle.scp_ledger.proofs.Ran.{at_is}
 use Rattle.scp_core.specs.declared.config.Config.{Config}
 use Rattle.scp_core.specs.Stages.{KvLedger}
-use Rattle.scp_grounds.specs.Sent.{IsOwn, IsOwnOf, IsDecided}
-use Rattle.scp_grounds.proofs.Basics.{none_some, some_same, true_isnt, which, and_first, and_second}
-use Rattle.scp_grounds.proofs.Emitted.{IsTold, Tells, HasDecision, IsMine, Says, mine_then, says}
+use Rattle.scp_core.specs.Sent.{IsOwn, IsOwnOf, IsDecided}
+use Rattle.scp_core.proofs.grounds.Basics.{none_some, some_same, true_isnt, which, and_first, and_second}
+use Rattle.scp_core.proofs.grounds.Emitted.{IsTold, Tells, HasDecision, IsMine, Says, mine_then, says}
 
 -- ---- the last one said
 

@@ -1,0 +1,84 @@
+-- Every list of exchanges.
+use Rattle.std.proofs.Common.{◌≡◌, ℕ, List, [], ◌∷◌, ◌++◌, refl, sym, ◌∙◌, ap, subst, append_assoc, append-nil}
+use Rattle.std.specs.Prelude.{None, fold, length}
+use Rattle.std.specs.List.{AllByRecursion}
+use Rattle.std.proofs.lemmas.Grind.{flat_map-append}
+use Rattle.std.proofs.lemmas.List.Elements.{All-nil}
+use Rattle.scp_driver.specs.declared.kv_driver.KvDriver.{KvDriver}
+use Rattle.scp_slot.specs.declared.machine.SlotMachine.{SlotMachine}
+use Rattle.scp_ledger.specs.Seen.{machine_at}
+use Rattle.scp_outbox.specs.Outbox.{OutboxView}
+use Rattle.scp_core.specs.declared.config.Config.{Config}
+use Rattle.scp_core.specs.declared.event.Event.{Event}
+use Rattle.scp_core.specs.declared.event.Reply.{Reply}
+use Rattle.scp_core.specs.declared.event.Reply.TheVariants.{Failed, Sent, JournalFull, NoMemory}
+use Rattle.scp_core.specs.Flow.{Flows}
+use Rattle.scp_core.specs.History.{Exchange, Past, hears, past_of, nothing_heard}
+use Rattle.scp_core.specs.Ledger.{IsFailure}
+use Rattle.scp_core.specs.Node.{NodeView}
+use Rattle.scp_core.specs.Theorem.{IsMade, AreSteps, LedgerTheorem}
+use Rattle.scp_core.specs.Sent.{sent_by, sent_to, IsSentOut, grounds_of}
+use Rattle.scp_core.proofs.Accounting.{KvKeeps}
+use Rattle.scp_core.proofs.grounds.Basics.{none_some}
+use Rattle.scp_core.proofs.grounds.Handing.{Boxes, boxes_sent, first_boxes, sent_out}
+use Rattle.scp_core.proofs.grounds.Putting.{IsSaid}
+use Rattle.scp_core.proofs.grounds.Stepping.{State, state_of, at_arrived, state_step, quiet}
+
+-- ---- the node as it was made
+
+made_stands : (v : NodeView) → IsMade v → State nothing_heard (λ link. []) v
+made_stands v m = state_of nothing_heard (λ link. []) v [] (sym m.queues.0) (record {
+  handed = λ link. [];
+  boxes = subst (λ (o : List OutboxView). Boxes (grounds_of v []) (λ link. []) o (λ link. [])) (sym m.outboxes) (first_boxes (grounds_of v []) (length v.config.peers));
+  machines = λ at machine e. none_some None machine refl (sym (ap (λ (ms : List (ℕ × SlotMachine KvDriver)). machine_at ms at) m.ledger.3) ∙ e);
+  behind = λ link. All-nil (IsSaid v.ledger);
+})
+
+-- ---- each exchange after it
+
+-- the same bytes
+same_bytes : (p : Past) (sent same : ℕ → List (List ℕ)) (v : NodeView) → ((link : ℕ) → same link ≡ sent link) → State p sent v → State p same v
+same_bytes p sent same v e s = record {
+  taken = s.taken;
+  waiting = s.waiting;
+  came = s.came;
+  out = λ link. subst (λ (bytes : List (List ℕ)). IsSentOut (grounds_of v s.taken) link bytes) (sym (e link)) (s.out link);
+  now = λ runs. ((s.now runs).0, (let st = (s.now runs).1 in record { handed = st.handed; boxes = boxes_sent (grounds_of v s.taken) sent same v.outboxes st.handed e st.boxes; machines = st.machines; behind = st.behind }));
+}
+
+along : KvKeeps → (c : Config) (xs : List Exchange) (p : Past) (sent : ℕ → List (List ℕ)) (v last : NodeView) → AreSteps c p v xs last → State p sent v → State (fold (λ q x. hears c q x.0 x.1) p xs) (λ link. sent link ++ sent_to link xs) last
+along law c [] p sent v last a s = subst (λ (w : NodeView). State p (λ link. sent link ++ []) w) (sym a) (same_bytes p sent (λ link. sent link ++ []) v (λ link. append-nil (sent link)) s)
+along law c (x ∷ xs) p sent v last a s =
+    let next : State (hears c p x.0 x.1) (λ link. sent link ++ sent_by link x.0 x.1) a.0 = state_step law c p sent v x.0 x.1 a.0 a.1 s in
+    let all = along law c xs (hears c p x.0 x.1) (λ link. sent link ++ sent_by link x.0 x.1) a.0 last a.2 next in
+    same_bytes (fold (λ q y. hears c q y.0 y.1) (hears c p x.0 x.1) xs) (λ link. (sent link ++ sent_by link x.0 x.1) ++ sent_to link xs) (λ link. sent link ++ sent_to link (x ∷ xs)) last (λ link. sym (append_assoc (sent link) (sent_by link x.0 x.1) (sent_to link xs))) all
+
+-- ---- all that was sent
+
+-- by the exchanges and the node that they left, while it runs
+pub sent_at : KvKeeps → (past : List Exchange) (v : NodeView) → LedgerTheorem past v → (f : Flows (past_of v.config past) v) → (link : ℕ) → IsSentOut (grounds_of v f.arrived) link (sent_to link past)
+sent_at law past v h f =
+    let s : State (past_of v.config past) (λ link. sent_to link past) v = along law v.config past nothing_heard (λ link. []) h.first v h.replies (made_stands h.first h.made) in
+    let st = at_arrived (past_of v.config past) (λ link. sent_to link past) v f s in
+    sent_out (grounds_of v f.arrived) (λ link. sent_to link past) v.outboxes st.handed st.boxes
+
+-- nothing was sent by a step that failed the node
+none_sent : (link : ℕ) (event : Event) (reply : Reply) → IsFailure reply → sent_by link event reply ≡ []
+none_sent link event NoMemory f = quiet link event NoMemory (λ bytes e. cc)
+none_sent link event JournalFull f = quiet link event JournalFull (λ bytes e. cc)
+none_sent link event reply f = absurd f
+
+-- nor after it
+silence : (link : ℕ) (later : List Exchange) → AllByRecursion (λ (x : Exchange). x.1 ≡ Failed) later → sent_to link later ≡ []
+silence link [] a = refl
+silence link (x ∷ later) a = ap (λ (bytes : List (List ℕ)). bytes ++ sent_to link later) (quiet link x.0 x.1 (λ bytes e. failed_isnt bytes (sym a.0 ∙ e))) ∙ silence link later a.1
+  where
+    failed_isnt : (bytes : List ℕ) → Failed ≡ Sent bytes → ⊥
+    failed_isnt bytes e = cc
+
+pub sent_before : (link : ℕ) (earlier later : List Exchange) (event : Event) (reply : Reply) → IsFailure reply → AllByRecursion (λ (x : Exchange). x.1 ≡ Failed) later → sent_to link (earlier ++ (event, reply) ∷ later) ≡ sent_to link earlier
+sent_before link earlier later event reply fails silent =
+    flat_map-append (λ (x : Exchange). sent_by link x.0 x.1) earlier ((event, reply) ∷ later)
+    ∙ ap (λ (bytes : List (List ℕ)). sent_to link earlier ++ (bytes ++ sent_to link later)) (none_sent link event reply fails)
+    ∙ ap (λ (bytes : List (List ℕ)). sent_to link earlier ++ bytes) (silence link later silent)
+    ∙ append-nil (sent_to link earlier)

@@ -1,0 +1,80 @@
+-- The ledger theorem of a node in one record: of a node that runs, and of one that failed.
+use Rattle.std.specs.Prelude.{ℕ, ◌≡◌, true, false, List, [], ◌∷◌, ◌++◌, ◌⊎◌, Option, Some, None, slice_get, option_to_list}
+use Rattle.std.specs.List.{AllByRecursion}
+use Rattle.scp_driver.specs.Kv.{kv_level}
+use Rattle.scp_driver.specs.declared.kv_driver.KvDriver.{KvDriver}
+use Rattle.scp_wire.specs.declared.link.Inbound.{Inbound}
+use Rattle.scp_wire.specs.LinkReading.{readings}
+use Rattle.scp_account.specs.Account.{Account}
+use Rattle.scp_account.specs.Kept.{KeepsLedger}
+use Rattle.scp_core.specs.declared.event.Event.{Event}
+use Rattle.scp_core.specs.declared.event.Reply.{Reply}
+use Rattle.scp_core.specs.declared.event.Reply.TheVariants.{Failed, JournalFull, NoMemory}
+use Rattle.scp_core.specs.History.{Exchange, past_of}
+use Rattle.scp_core.specs.Node.{LinkView, NodeView, Keeps}
+use Rattle.scp_core.specs.Sent.{IsSentOut, grounds_of, sent_to}
+use Rattle.scp_core.specs.Theorem.{LedgerTheorem}
+
+-- ---- where everything is
+
+-- what a link still holds: what its reader has in its hand, and then what its queue is read as
+abbrev pub upcoming_of : Option LinkView → List Inbound
+upcoming_of None = []
+upcoming_of (Some k) = k.hand ++ readings k.reader k.queue
+
+-- what was sent to the node, where it is, and what the node's stages made of it
+abbrev pub account_of : List Exchange → NodeView → List Inbound → Account KvDriver
+account_of past v came = record {
+  me = v.config.me;
+  set = v.config.set;
+  peers = v.config.peers;
+  sent = λ l. ((past_of v.config past).links l).items;
+  upcoming = λ l. upcoming_of (slice_get v.links l);
+  inbox = v.inbox;
+  came = came;
+  pending = v.pending;
+  on_way = v.ready ++ option_to_list v.pend_hand;
+  ledger = v.ledger;
+  onward = v.decided ++ option_to_list v.slot_hand;
+  applier = v.applier;
+}
+
+-- ---- a node that failed
+
+-- a reply that says so
+abbrev pub IsFailure : Reply → Type 0
+IsFailure NoMemory = Unit {0}
+IsFailure JournalFull = Unit {0}
+IsFailure reply = ⊥
+
+-- it failed at the exchange behind these, has answered Failed ever since, and keeps what it shows
+pub record FailedAfter (past earlier : List Exchange) (v moment : NodeView) : Type 0 where
+  pub failed : v.failed ≡ true
+  pub event : Event
+  pub reply : Reply
+  pub fails : IsFailure reply
+  pub later : List Exchange
+  pub past_is : past ≡ earlier ++ (event, reply) ∷ later
+  pub silent : AllByRecursion (λ x. x.1 ≡ Failed) later
+  pub keeps : Keeps moment v
+
+-- ---- the ledger theorem
+
+pub record HoldsLedger (past : List Exchange) (v : NodeView) : Type 0 where
+  -- the exchanges and the node, as they are; of a node that failed, as they were before the step that failed it
+  pub earlier : List Exchange
+  pub moment : NodeView
+  pub runs : moment.failed ≡ false
+  pub is : ((v.failed ≡ false) × (earlier ≡ past) × (moment ≡ v)) ⊎ FailedAfter past earlier v moment
+  -- what came to the pending stage: all that was put into the inbox, but for what waits there
+  pub came : List Inbound
+  pub came_is : (past_of v.config earlier).came ≡ came ++ moment.inbox
+  -- each message has its fate, each fate and each verdict its cause, each decision its ground, and the state is their fold
+  pub keeps : KeepsLedger (λ slot value. kv_level value) (account_of earlier moment came)
+  -- what the node shows is what stood then
+  pub shows : (v.config ≡ moment.config) × (v.ledger.journal ≡ moment.ledger.journal) × (v.ledger.decisions ≡ moment.ledger.decisions) × (v.applier.applied ≡ moment.applier.applied)
+  -- all that was sent over each link has its ground
+  pub sent : (link : ℕ) → IsSentOut (grounds_of moment came) link (sent_to link past)
+
+abbrev pub TheoremGivesLedger : Type 0
+TheoremGivesLedger = (past : List Exchange) (v : NodeView) → LedgerTheorem past v → HoldsLedger past v
