@@ -16,7 +16,7 @@ use Rattle.scp_core.proofs.Holding.{past-runs, past-goes, keeps-refl}
 true_isnt : true ≡ false → ⊥
 true_isnt e = cc
 
-which : (b : Bool) → (b ≡ true) ⊎ (b ≡ false)
+pub which : (b : Bool) → (b ≡ true) ⊎ (b ≡ false)
 which true = inl refl
 which false = inr refl
 
@@ -115,8 +115,8 @@ at_later c x xs p v next last r h = record {
 fails_at : (c : Config) (xs : List Exchange) (p : Past) (v last : NodeView) → p.failed ≡ false → (fold (λ q y. hears c q y.0 y.1) p xs).failed ≡ true → AreSteps c p v xs last → FailsAt c p v xs last
 fails_at c [] p v last was now a = absurd (true_isnt (sym now ∙ was))
 fails_at c (x ∷ xs) p v last was now a = elim (which (hears c p x.0 x.1).failed) [
-  | inl yes ↦ at_first c x xs p v last was yes a
-  | inr no ↦ at_later c x xs p v a.0 last a.1 (fails_at c xs (hears c p x.0 x.1) a.0 last no now a.2)
+  | inl fell ↦ at_first c x xs p v last was fell a
+  | inr stays ↦ at_later c x xs p v a.0 last a.1 (fails_at c xs (hears c p x.0 x.1) a.0 last stays now a.2)
 ]
 
 -- what held of the exchanges before, and of the node then
