@@ -3,7 +3,8 @@ use Rattle.std.proofs.Common.{◌≡◌, ◌<◌, ◌+◌, ℕ, suc, List, [], �
 use Rattle.std.specs.Prelude.{Ok, Err, All, flat_map}
 use Rattle.std.proofs.Math.Seq.{take-length}
 use Rattle.std.proofs.lemmas.List.{take_more, take-append-drop}
-use Rattle.scp_network.specs.Heard.{Heard}
+use Rattle.scp_core.specs.Ledger.{TheoremGivesLedger}
+use Rattle.scp_network.specs.Heard.{Heard, past_at}
 use Rattle.scp_network.specs.Inside.{NetworkView}
 use Rattle.scp_script.specs.declared.command.Command.{Command}
 use Rattle.scp_script.specs.Script.{AreAdmitted, commands_in}
@@ -63,10 +64,11 @@ all_played commands i network is names p =
 
 -- ---- what is told of it
 
-pub are_reports : (text printed : List ℕ) (commands : List Command) (network : NetworkView) → commands ≡ commands_in text → IsPlayed commands network → printed ≡ flat_map (report_at network.nodes) (reports_in commands) → AreReports text printed
-are_reports text printed commands network same played is = record {
+pub are_reports : TheoremGivesLedger → (text printed : List ℕ) (commands : List Command) (network : NetworkView) → commands ≡ commands_in text → IsPlayed commands network → printed ≡ flat_map (report_at network.nodes) (reports_in commands) → AreReports text printed
+are_reports law text printed commands network same played is = record {
   heard = played.heard;
   nodes = network.nodes;
   played = subst (λ (l : List Command). ArePlayed l l played.heard network.nodes) same played.played;
+  ledgers = λ i d here. law (past_at (i + 1) played.heard) (get_or network.nodes i d) (played.played.have i d here);
   reports = is ∙ ap (λ (l : List Command). flat_map (report_at network.nodes) (reports_in l)) same;
 }

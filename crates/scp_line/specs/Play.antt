@@ -23,6 +23,7 @@ use Rattle.scp_core.specs.declared.event.Reply.{Reply}
 use Rattle.scp_core.specs.declared.event.Reply.TheVariants.{Accepted, Full}
 use Rattle.scp_core.specs.Node.{NodeView, LinkView, is_full, lives_at}
 use Rattle.scp_core.specs.Theorem.{LedgerTheorem}
+use Rattle.scp_core.specs.Ledger.{HoldsLedger}
 use Rattle.scp_script.specs.declared.command.Command.{Command}
 use Rattle.scp_script.specs.declared.command.Command.TheVariants as script
 use Rattle.scp_script.specs.Words.{hex_bytes}
@@ -31,7 +32,7 @@ use Rattle.scp_script.specs.Nodes.{id_of, numbers, peers_of, set_at, capacities_
 use Rattle.scp_line.specs.declared.report.Parked.{Parked}
 use Rattle.scp_line.specs.Report.{report_of, hex_word}
 use Rattle.scp_line.specs.Parts.{entries_of}
-use Rattle.scp_network.specs.Heard.{Nodes, Heard, HaveHeard, Then, IsNothing, IsOne}
+use Rattle.scp_network.specs.Heard.{Nodes, Heard, HaveHeard, past_at, Then, IsNothing, IsOne}
 use Rattle.scp_network.specs.Rounds.{link_of, Rests, Breaks, AllRun}
 use Rattle.scp_network.specs.Inside.{driven_more}
 
@@ -211,11 +212,17 @@ pub record Overflows (commands : List Command) : Type 0 where
   pub have : HaveHeard (heard ++ more) new
   pub full : HasNoRoom new command
 
--- The text is the reports that the script asks for, one for each `report` line, in their order, of nodes that played all its lines.
+-- each node holds its ledger, for all that it heard
+abbrev pub HoldLedgers : List Heard → Nodes → Type 0
+HoldLedgers heard nodes = (i : ℕ) → (d : NodeView) → i < length nodes → HoldsLedger (past_at (i + 1) heard) (get_or nodes i d)
+
+-- The text is the reports that the script asks for, one for each `report` line, in their order, of nodes that played all its lines, each
+-- of which holds its ledger.
 pub record AreReports (script text : List ℕ) : Type 0 where
   pub heard : List Heard
   pub nodes : Nodes
   pub played : ArePlayed (commands_in script) (commands_in script) heard nodes
+  pub ledgers : HoldLedgers heard nodes
   pub reports : text ≡ flat_map (report_at nodes) (reports_in (commands_in script))
 
 abbrev pub pledges_word : Pledges → List ℕ
