@@ -6,4 +6,6 @@ mod outbox;
 #[cfg(test)]
 mod sent;
 #[cfg(test)]
+mod shared;
+#[cfg(test)]
 mod wire;

@@ -26,7 +26,7 @@ fn said(alloc: Global, slot: u64, pledges: Pledges) -> Result<Message, Fault> {
 }
 
 /// A nomination of so many values of 1, 2, .. bytes.
-fn nomination(alloc: Global, slot: u64, votes: usize) -> Result<Message, Fault> {
+pub(crate) fn nomination(alloc: Global, slot: u64, votes: usize) -> Result<Message, Fault> {
     let mut values = Vec::new(alloc);
     for count in 0..votes {
         values.push(value(alloc, count + 1)?)?;
@@ -82,7 +82,7 @@ fn put(outbox: &mut Outbox, message: Message) -> bool {
 /// What was given, in short: a mark, the first byte of a hash that is asked for, the first slot and the count of a batch, or
 /// the slot and the count of votes or the ballot's counter of a statement.
 #[derive(Clone, Copy, Debug, PartialEq, Eq)]
-enum Given {
+pub(crate) enum Given {
     Mark(Mark),
     Asks(u8),
     Records(u64, usize),
@@ -93,7 +93,11 @@ enum Given {
 }
 
 fn next(outbox: &mut Outbox) -> Given {
-    match outbox.next() {
+    in_short(outbox.next())
+}
+
+pub(crate) fn in_short(out: Out) -> Given {
+    match out {
         Out::Mark(mark) => Given::Mark(mark),
         Out::Message(Message::GetSet(hash)) => Given::Asks(hash.0[0]),
         Out::Message(Message::Records { first, values }) => {
