@@ -81,10 +81,12 @@ module _ {D : Type 0} {level : D → ℕ → List ℕ → Level} {combined : D �
   pub causes_at : AllByRecursion (FateHasCause (start_of a) a.came) a.ledger.journal
   causes_at = journal_caused (start_of a) a.came r.took a.ledger.journal r.journals.entries (all_left (HasCause (start_of a) a.came) r.took (leaving a) left_caused).0
 
+  released_is : r.took ++ leaving a ≡ released_by (start_of a) a.came
+  released_is = sym left_is ∙ r.pends.left ∙ ap (λ (s : Settled). released_by s a.came) start_is
+
   pub of_links_at : AllByRecursion (λ fate. IsOfLink a.me a.peers (conn_of fate)) a.ledger.journal
   of_links_at =
-      let released : r.took ++ leaving a ≡ released_by (start_of a) a.came = sym left_is ∙ r.pends.left ∙ ap (λ (s : Settled). released_by s a.came) start_is in
-      let all : AllByRecursion (IsOf (IsOfLink a.me a.peers)) (r.took ++ leaving a) = released_of_links a.me a.peers a.set a.came (r.took ++ leaving a) released left_caused in
+      let all : AllByRecursion (IsOf (IsOfLink a.me a.peers)) (r.took ++ leaving a) = released_of_links a.me a.peers a.set a.came (r.took ++ leaving a) released_is left_caused in
       journal_of (IsOfLink a.me a.peers) r.took a.ledger.journal r.journals.entries (all_left (IsOf (IsOfLink a.me a.peers)) r.took (leaving a) all).0
 
   -- how the messages of a connection left, by where they are
@@ -108,11 +110,13 @@ module _ {D : Type 0} {level : D → ℕ → List ℕ → Level} {combined : D �
       let all : commands_of r.took ++ commands_of (leaving a) ≡ commands_in a.came = sym (flat_map-append passed r.took (leaving a)) ∙ commands_are in
       command_in a.came asking.link asking.slot (subst (λ (cs : List Command). Contains cs ask) all (Contains-append_left (commands_of r.took) (commands_of (leaving a)) ask (r.journals.asked asking is)))
 
-  pub judged_at : AreJudgedInTurn (level a.ledger.driver) a
+  pub judged_at : AreJudgedInTurn level combined a
   judged_at =
       let j = r.journals in
       record {
         takes = j.takes;
+        leads = j.run.leads;
+        released = ap (λ rs. rs ++ leaving a) j.took_are ∙ released_is;
         entries = j.entries ∙ ap (flat_map entry_of) (sym j.took_are);
         verdicts = j.run.verdicts;
         judged = j.run.judged;

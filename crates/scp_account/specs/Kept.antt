@@ -11,6 +11,8 @@ use Rattle.scp_wire.specs.declared.link.Command.TheVariants.{Ask}
 use Rattle.scp_wire.specs.declared.link.Inbound.{Inbound}
 use Rattle.scp_wire.specs.declared.link.Inbound.TheVariants as inbound
 use Rattle.scp_wire.specs.Connections.{conn_at}
+use Rattle.scp_wire.specs.LinkReading.{unread, readings}
+use Rattle.scp_wire.specs.Shape.{AreOfLink, never_open, of_peer}
 use Rattle.scp_wire.specs.Lanes.{slots_of, in_lane}
 use Rattle.scp_wire.specs.Marks.{Mark, marks_in, IsWhole}
 use Rattle.scp_wire.specs.Sent.{sent, is_closed, carried_of, line_of_sent}
@@ -19,13 +21,13 @@ use Rattle.scp_pending.specs.Endings.{Exits, ways, commands_in, commands_of}
 use Rattle.scp_pending.specs.Line.{marks_of, held}
 use Rattle.scp_pending.specs.Placing.{StandsAt}
 use Rattle.scp_pending.specs.Queues.{is_open}
-use Rattle.scp_pending.specs.Rules.{Settled, fresh, settled_by}
+use Rattle.scp_pending.specs.Rules.{Settled, fresh, settled_by, released_by}
 use Rattle.scp_ledger.specs.declared.journal.Asking.{Asking}
 use Rattle.scp_ledger.specs.Decisions.{OnePerSlot, AreInWindow, IsFounded, HasItsDecision, IsLowest}
 use Rattle.scp_ledger.specs.Journals.{entry_in, entry_of}
 use Rattle.scp_ledger.specs.Marks.{marks_of as marks_on}
 use Rattle.scp_ledger.specs.Onwards.{decisions_on}
-use Rattle.scp_ledger.specs.Runs.{Taking, things, stood_by, verdict_in, verdict_by, AreJudged}
+use Rattle.scp_ledger.specs.Runs.{Taking, things, nothing_taken, Leads, stood_by, verdict_in, verdict_by, AreJudged}
 use Rattle.scp_ledger.specs.Seen.{is_asked}
 use Rattle.scp_ledger.specs.Verdicts.{HasItsSet, link_of}
 use Rattle.scp_apply.specs.Applied.{AreInOrder, values_of}
@@ -65,15 +67,17 @@ module _ {D : Type 0} where
 
   -- ---- verdicts and commands
 
-  -- The slot stage took the things that the journal's entries tell of, and the commands that came, each once, in its place. Beside
-  -- each stands what it gave; its verdict is the first that fits over what stood before it: the decisions made by then, which are
-  -- in the end all, the fresh statements by then, and the links asked by then. Each link that was asked for a slot, a command
-  -- told it to.
-  pub record AreJudgedInTurn (level : ℕ → List ℕ → Level) (a : Account D) : Type 0 where
+  -- The slot stage took one thing after another, from a ledger that had taken nothing, and each gave what stands beside it. These
+  -- things, and then what is leaving, are what the pending stage's rules release by what came. The journal's entries tell of them,
+  -- with the verdicts that were given; each verdict is the first that fits over what stood before it. Each command but Tick that
+  -- came is among them once, in its place; and each link that was asked for a slot, a command told it to.
+  pub record AreJudgedInTurn (level : D → ℕ → List ℕ → Level) (combined : D → ℕ → List (List ℕ) → List ℕ) (a : Account D) : Type 0 where
     pub takes : List Taking
+    pub leads : Leads level combined (nothing_taken a.me a.set a.ledger.driver a.peers) takes a.ledger
+    pub released : things takes ++ leaving a ≡ released_by (start_of a) a.came
     pub entries : map entry_in a.ledger.journal ≡ flat_map entry_of (things takes)
     pub verdicts : flat_map verdict_in a.ledger.journal ≡ flat_map verdict_by takes
-    pub judged : AreJudged level a.me a.peers [] takes
+    pub judged : AreJudged (level a.ledger.driver) a.me a.peers [] takes
     pub decided : a.ledger.decisions ≡ (stood_by takes).decisions
     pub commands : commands_of (things takes ++ leaving a) ≡ commands_in a.came
     pub places : (before : List Inbound) (command : Command) (after' : List Inbound) → a.came ≡ before ++ inbound.Local command ∷ after' → StandsAt (start_of a) before command (things takes ++ leaving a)
@@ -107,14 +111,19 @@ module _ {D : Type 0} where
 
   -- ---- the theorem
 
-  pub record KeepsLedger (level : ℕ → List ℕ → Level) (a : Account D) : Type 0 where
+  pub record KeepsLedger (level : D → ℕ → List ℕ → Level) (combined : D → ℕ → List (List ℕ) → List ℕ) (a : Account D) : Type 0 where
+    -- each link carries what its tail may send; what came of it, and then what isn't in the inbox yet, is what that is read as; and
+    -- the pending stage is what its rules make of what came
+    pub links : (l : ℕ) → (peer : NodeId) → slice_get a.peers l ≡ Some peer → AreOfLink peer a.me never_open (a.sent l)
+    pub read : (l : ℕ) → (peer : NodeId) → slice_get a.peers l ≡ Some peer → readings unread (a.sent l) ≡ of_peer peer (a.came ++ a.inbox) ++ a.upcoming l
+    pub stands : a.pending.settled ≡ settled_by (start_of a) a.came
     -- each connection's messages have one fate each, in order, and nothing is lost; and no entry is of any other connection
     pub fates : (l : ℕ) → (peer : NodeId) → slice_get a.peers l ≡ Some peer → (life : ℕ) → HasItsFates a l (conn_at peer a.me life)
     pub of_links : AllByRecursion (λ fate. IsOfLink a.me a.peers (conn_of fate)) a.ledger.journal
     -- each fate has its cause among what came, and each taken envelope its set, which stood in the store
     pub causes : AllByRecursion (FateHasCause (start_of a) a.came) a.ledger.journal
-    -- each verdict is the first that fits
-    pub verdicts : AreJudgedInTurn level a
+    -- each thing was taken once, in its place, and each verdict is the first that fits
+    pub verdicts : AreJudgedInTurn level combined a
     -- each decision is the one of its slot, certified by a quorum or named by a taken record
     pub decisions : AreDecided a
     -- slots 1 to n are applied, in order, and the state is their fold
@@ -122,4 +131,4 @@ module _ {D : Type 0} where
 
 -- what ran so keeps the ledger
 abbrev pub RanKeepsLedger : {D : Type 0} → (D → ℕ → List ℕ → Level) → (D → ℕ → List (List ℕ) → List ℕ) → (D → ℕ → ℕ → ℕ → ℕ) → Type 0
-RanKeepsLedger {D} level combined place = (a : Account D) → Ran level combined place a → KeepsLedger (level a.ledger.driver) a
+RanKeepsLedger {D} level combined place = (a : Account D) → Ran level combined place a → KeepsLedger level combined a

@@ -9,7 +9,6 @@ use Rattle.scp_wire.specs.LinkReading.{readings}
 use Rattle.scp_wire.specs.Shape.{of_peer}
 use Rattle.scp_account.specs.Account.{Account, Ran}
 use Rattle.scp_account.specs.Kept.{KeepsLedger, RanKeepsLedger}
-use Rattle.scp_driver.specs.Kv.{kv_level}
 use Rattle.scp_core.specs.Flow.{Flows}
 use Rattle.scp_core.specs.History.{Past, readings_of, read_so_far}
 use Rattle.scp_core.specs.Ledger.{upcoming_of}
@@ -74,5 +73,5 @@ ran p v f = record {
 }
 
 -- so it keeps the ledger
-pub kept_at : KvKeeps → (p : Past) (v : NodeView) (f : Flows p v) → KeepsLedger (λ slot value. kv_level value) (account_at p v f.arrived)
+pub kept_at : KvKeeps → (p : Past) (v : NodeView) (f : Flows p v) → KeepsLedger level_by combined_by (account_at p v f.arrived)
 kept_at law p v f = law (account_at p v f.arrived) (ran p v f)

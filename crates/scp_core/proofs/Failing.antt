@@ -71,6 +71,7 @@ record FailsAt (c : Config) (p : Past) (v : NodeView) (xs : List Exchange) (last
   past : (fold (λ q y. hears c q y.0 y.1) p before).failed ≡ false
   flows : Flows (fold (λ q y. hears c q y.0 y.1) p before) moment
   reply_fails : IsFailure reply
+  step : Step moment event reply last
   fails : Fails moment last
   silent_then : AllByRecursion (λ (x : Exchange). x.1 ≡ Failed) later
 
@@ -91,6 +92,7 @@ at_first c x xs p v last was now a =
       past = was;
       flows = w.flows;
       reply_fails = f.0;
+      step = subst (λ (u : NodeView). Step v x.0 x.1 u) (sym rest.0) w.step;
       fails = subst (λ (u : NodeView). Fails v u) (sym rest.0) f.1;
       silent_then = rest.1;
     }
@@ -108,6 +110,7 @@ at_later c x xs p v next last r h = record {
   past = h.past;
   flows = h.flows;
   reply_fails = h.reply_fails;
+  step = h.step;
   fails = h.fails;
   silent_then = h.silent_then;
 }
@@ -129,6 +132,7 @@ pub record Failure (past : List Exchange) (v : NodeView) : Type 0 where
   pub reply_fails : IsFailure reply
   pub later : List Exchange
   pub is : past ≡ earlier ++ (event, reply) ∷ later
+  pub step : Step moment event reply v
   pub fails : Fails moment v
   pub silent_then : AllByRecursion (λ (x : Exchange). x.1 ≡ Failed) later
 
@@ -153,6 +157,7 @@ failure_of past v h failed =
       reply_fails = x.reply_fails;
       later = x.later;
       is = x.is;
+      step = x.step;
       fails = x.fails;
       silent_then = x.silent_then;
     }

@@ -1,7 +1,7 @@
 -- The ledger theorem of a node in one record: of a node that runs, and of one that failed.
 use Rattle.std.specs.Prelude.{ℕ, ◌≡◌, true, false, List, [], ◌∷◌, ◌++◌, ◌⊎◌, Option, Some, None, slice_get, option_to_list}
 use Rattle.std.specs.List.{AllByRecursion}
-use Rattle.scp_driver.specs.Kv.{kv_level}
+use Rattle.scp_driver.specs.Kv.{kv_level, greatest}
 use Rattle.scp_driver.specs.declared.kv_driver.KvDriver.{KvDriver}
 use Rattle.scp_wire.specs.declared.link.Inbound.{Inbound}
 use Rattle.scp_wire.specs.LinkReading.{readings}
@@ -10,10 +10,10 @@ use Rattle.scp_account.specs.Kept.{KeepsLedger}
 use Rattle.scp_core.specs.declared.event.Event.{Event}
 use Rattle.scp_core.specs.declared.event.Reply.{Reply}
 use Rattle.scp_core.specs.declared.event.Reply.TheVariants.{Failed, JournalFull, NoMemory}
-use Rattle.scp_core.specs.History.{Exchange, past_of}
-use Rattle.scp_core.specs.Node.{LinkView, NodeView, Keeps}
+use Rattle.scp_core.specs.History.{Exchange, past_of, nothing_heard}
+use Rattle.scp_core.specs.Node.{LinkView, NodeView, Step, Keeps}
 use Rattle.scp_core.specs.Sent.{IsSentOut, grounds_of, sent_to}
-use Rattle.scp_core.specs.Theorem.{LedgerTheorem}
+use Rattle.scp_core.specs.Theorem.{IsMade, AreSteps, LedgerTheorem}
 
 -- ---- where everything is
 
@@ -47,12 +47,13 @@ IsFailure NoMemory = Unit {0}
 IsFailure JournalFull = Unit {0}
 IsFailure reply = ⊥
 
--- it failed at the exchange behind these, has answered Failed ever since, and keeps what it shows
+-- it failed at the exchange behind these, by a step from what it was then, has answered Failed ever since, and keeps what it shows
 pub record FailedAfter (past earlier : List Exchange) (v moment : NodeView) : Type 0 where
   pub failed : v.failed ≡ true
   pub event : Event
   pub reply : Reply
   pub fails : IsFailure reply
+  pub step : Step moment event reply v
   pub later : List Exchange
   pub past_is : past ≡ earlier ++ (event, reply) ∷ later
   pub silent : AllByRecursion (λ x. x.1 ≡ Failed) later
@@ -66,14 +67,16 @@ pub record HoldsLedger (past : List Exchange) (v : NodeView) : Type 0 where
   pub moment : NodeView
   pub runs : moment.failed ≡ false
   pub is : ((v.failed ≡ false) × (earlier ≡ past) × (moment ≡ v)) ⊎ FailedAfter past earlier v moment
+  -- these exchanges led to that, step by step, from a node as it is made
+  pub first : NodeView
+  pub made : IsMade first
+  pub steps : AreSteps v.config nothing_heard first earlier moment
   -- what came to the pending stage: all that was put into the inbox, but for what waits there
   pub came : List Inbound
   pub came_is : (past_of v.config earlier).came ≡ came ++ moment.inbox
   -- each message has its fate, each fate and each verdict its cause, each decision its ground, and the state is their fold
-  pub keeps : KeepsLedger (λ slot value. kv_level value) (account_of earlier moment came)
-  -- what the node shows is what stood then
-  pub shows : (v.config ≡ moment.config) × (v.ledger.journal ≡ moment.ledger.journal) × (v.ledger.decisions ≡ moment.ledger.decisions) × (v.applier.applied ≡ moment.applier.applied)
-  -- all that was sent over each link has its ground
+  pub keeps : KeepsLedger (λ driver slot value. kv_level value) (λ driver slot values. greatest values) (account_of earlier moment came)
+  -- all that was sent to each peer has its ground
   pub sent : (link : ℕ) → IsSentOut (grounds_of moment came) link (sent_to link past)
 
 abbrev pub TheoremGivesLedger : Type 0
