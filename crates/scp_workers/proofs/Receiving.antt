@@ -1,0 +1,34 @@
+-- What one receive adds.
+use Rattle.std.specs.Prelude.{Option, Some, None, IfSome}
+use Rattle.std.proofs.Common.{◌≡◌, ℕ, ◌<◌, ◌==◌, ◌||◌, Bool, true, false, not, List, [], ◌∷◌, ◌++◌, sym, refl, ap, ◌∙◌, subst, eq-eqb, arith}
+use Rattle.scp_ends.specs.declared.item.Item.{Item}
+use Rattle.scp_ends.specs.declared.item.Item.TheVariants.{One, Stop}
+use Rattle.scp_ends.specs.Order.{values}
+use Rattle.scp_ends.specs.Ends.{Receiver, stopped, HeardAll}
+use Rattle.scp_ends.proofs.Steps.{values_append, values_stop}
+
+module _ {T : Type 0} where
+  pub stopped_here : (p : ℕ) (got : List (Item T)) → stopped p (got ++ Stop p ∷ []) ≡ true
+  stopped_here p [] = ap (λ b. b || false) (eq-eqb p p refl)
+  stopped_here p (One m y ∷ got) = stopped_here p got
+  stopped_here p (Stop m ∷ got) = elim (m == p) as (λ b. (b || stopped p (got ++ Stop p ∷ [])) ≡ true) [ true ↦ refl | false ↦ stopped_here p got ]
+
+  -- the end of a lone producer was received
+  pub heard_end : (r : Receiver T) (got : List (Item T)) (n : ℕ) → r.producers ≡ 1 → n < 1 → r.got ≡ got ++ Stop n ∷ [] → HeardAll r
+  heard_end r got n one lt e p below =
+      let same : n ≡ p = omega arith in ap (stopped p) (e ∙ ap (λ k. got ++ Stop k ∷ []) same) ∙ stopped_here p got
+
+  -- what holds of the things that were received, after one item more
+  pub one_more : (P : List T → Type 0) (got now : List (Item T)) (n : ℕ) (x : T) → now ≡ got ++ One n x ∷ [] → P (values got ++ x ∷ []) → P (values now)
+  one_more P got now n x e h = subst P (sym (ap values e ∙ values_append got (One n x ∷ []))) h
+
+  pub no_more : (P : List T → Type 0) (got now : List (Item T)) (n : ℕ) → now ≡ got ++ Stop n ∷ [] → P (values got) → P (values now)
+  no_more P got now n e h = subst P (sym (ap values e ∙ values_stop got n)) h
+
+pub if_some : {A : Type 0} (P Q : A → Type 0) (o : Option A) → ((x : A) → P x → Q x) → IfSome o P → IfSome o Q
+if_some P Q (Some x) f h = f x h
+if_some P Q None f h = tt
+
+pub not_lost : (b : Bool) → not b ≡ false → b ≡ true
+not_lost true e = refl
+not_lost false e = cc

@@ -1,0 +1,43 @@
+-- What contracts see of the worker that reads a link, and of what it ends with.
+use Rattle.std.specs.Prelude.{◌≡◌, Bool, List, [], Option, IfSome}
+use Rattle.scp_wire.specs.declared.link.LinkItem.{LinkItem}
+use Rattle.scp_wire.specs.declared.link.Inbound.{Inbound}
+use Rattle.scp_wire.specs.LinkReading.{ReaderState, HasRead, unread, readings}
+use Rattle.scp_ends.specs.Order.{values}
+use Rattle.scp_ends.specs.Ends.{Sender, Receiver, HeardAll}
+use Rattle.scp_workers.specs.Working.{IsSameEnd}
+
+pub record ReaderWorking : Type 0 where
+  pub input : Receiver LinkItem
+  pub output : Sender Inbound
+  pub failed : Bool
+
+-- what it ends with: its sending end is there where it ended well
+pub record ReaderEnd : Type 0 where
+  pub input : Receiver LinkItem
+  pub output : Option (Sender Inbound)
+
+-- the link ended, and what was sent is what the items that were received are read as
+pub record HasReadAll (input : Receiver LinkItem) (output : Sender Inbound) : Type 0 where
+  pub heard : HeardAll input
+  pub reads : output.sent ≡ readings unread (values input.got)
+
+abbrev pub EndsWell : ReaderEnd → Type 0
+EndsWell e = IfSome e.output (HasReadAll e.input)
+
+-- it has the ends that the worker was given
+pub record HoldsEnds (w : ReaderWorking) (e : ReaderEnd) : Type 0 where
+  pub input : e.input.line ≡ w.input.line
+  pub producers : e.input.producers ≡ w.input.producers
+  pub output : IfSome e.output (IsSameEnd w.output)
+
+-- ---- while it works
+
+-- the reader took these items of its link and gave this, and nothing is left of a batch
+abbrev pub HasGiven : List LinkItem → List Inbound → ReaderState → Type 0
+HasGiven items given r = HasRead items given r × (r.rest ≡ [])
+
+pub record SameEnds (v w : ReaderWorking) : Type 0 where
+  pub input : w.input.line ≡ v.input.line
+  pub producers : w.input.producers ≡ v.input.producers
+  pub output : IsSameEnd v.output w.output
