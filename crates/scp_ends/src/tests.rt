@@ -119,3 +119,39 @@ fn sizes_have_their_limits(rt: HostRuntime) -> Result<(), Fail> {
     assert!(rt; inbox(rt.alloc(), 8, 1024).is_ok());
     Ok(())
 }
+
+/// Receives one item, and ends. Whether it was an opening.
+fn take_one<R: Wait>(rt: &R, mut rx: LinkRx) -> bool {
+    matches!(rx.recv_as(rt), Ok(Item::One(0, LinkItem::Opened(_))))
+}
+
+/// The first byte of what is handed back of the first life.
+fn handed_back(answer: Result<(), NotSent>) -> Option<u8> {
+    match answer {
+        Err(NotSent::Gone(LinkItem::Bytes(conn, bytes))) if conn.life == 1 => {
+            bytes.as_slice().first().copied()
+        }
+        _ => None,
+    }
+}
+
+/// Sends 7 and, if that went, 8. Whether the last that was sent is handed back.
+fn is_handed_back<R: Wait>(rt: &R, tx: &mut LinkTx, seven: Bytes, eight: Bytes) -> bool {
+    match tx.send(rt, seven) {
+        Ok(()) => handed_back(tx.send(rt, eight)) == Some(8),
+        answer => handed_back(answer) == Some(7),
+    }
+}
+
+#[test]
+fn what_no_reader_will_take_is_handed_back(rt: HostRuntime) -> Result<(), Fail> {
+    let seven = Bytes::new([7].to_vec(rt.alloc())?);
+    let eight = Bytes::new([8].to_vec(rt.alloc())?);
+    let (mut tx, rx) = link(rt.alloc(), PEER, ME, 1).ok().expect(&rt, "a link");
+    let reader = thread::spawn(&rt, move || take_one(&rt, rx))?;
+    assert!(rt; tx.open(&rt).is_ok());
+    assert!(rt; is_handed_back(&rt, &mut tx, seven, eight));
+    assert!(rt; tx.stop(&rt).is_err());
+    assert!(rt; reader.join(&rt));
+    Ok(())
+}
