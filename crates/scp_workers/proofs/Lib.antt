@@ -1,2 +1,5 @@
 pub mod Receiving
 pub mod Batches
+pub mod Stopping
+pub mod Waiting
+pub mod Journaling

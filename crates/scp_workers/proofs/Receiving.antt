@@ -25,6 +25,9 @@ module _ {T : Type 0} where
   pub no_more : (P : List T → Type 0) (got now : List (Item T)) (n : ℕ) → now ≡ got ++ Stop n ∷ [] → P (values got) → P (values now)
   no_more P got now n e h = subst P (sym (ap values e ∙ values_stop got n)) h
 
+  pub fits_one : (P : List T → Type 0) (got : List (Item T)) (n : ℕ) (x : T) (item : Item T) → item ≡ One n x → P (values (got ++ item ∷ [])) → P (values got ++ x ∷ [])
+  fits_one P got n x item e h = subst P (values_append got (One n x ∷ [])) (subst (λ (i : Item T). P (values (got ++ i ∷ []))) e h)
+
 pub if_some : {A : Type 0} (P Q : A → Type 0) (o : Option A) → ((x : A) → P x → Q x) → IfSome o P → IfSome o Q
 if_some P Q (Some x) f h = f x h
 if_some P Q None f h = tt

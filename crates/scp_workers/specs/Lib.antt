@@ -1,2 +1,5 @@
 pub mod Working
 pub mod Reading
+pub mod Pending
+pub mod Slot
+pub mod Apply

@@ -8,11 +8,18 @@
 //! Before each send and after each receive a worker calls a gate, which may hold it up: so tests choose a schedule.
 #![tactic(auto)]
 
+mod apply;
 mod ending;
 mod gate;
+mod handing;
+mod pend;
 mod reading;
+mod slot;
 #[cfg(test)]
 mod tests;
 
+pub use apply::{ApplyEnded, ApplyWorker};
 pub use gate::{Gate, Moment, Open, Place, Stage};
+pub use pend::{PendEnded, PendWorker};
 pub use reading::{ReaderEnded, ReaderWorker};
+pub use slot::{SlotEnded, SlotWorker};

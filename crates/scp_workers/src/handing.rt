@@ -1,0 +1,73 @@
+//! What stages hand out for links, put into the links' outboxes.
+
+use scp_envelope::SharedEnvelope;
+use scp_ledger::{Outgoing, OutgoingList};
+use scp_outbox::{FittingMessage, SharedOutbox};
+use scp_types::Fault;
+use scp_wire::{BoxedEnvelope, Message};
+use std::sync::{Arc, Wait};
+
+/// Puts a stage's answer for a link into that link's outbox. What is for a link that isn't there, or is too long for a link, is
+/// given up.
+pub(crate) fn hand_out<R: Wait>(
+    rt: &R,
+    outlets: &[Arc<SharedOutbox>],
+    answer: Option<(u8, Message)>,
+) {
+    match answer {
+        Some((link, message)) => hand(rt, outlets, link, message),
+        None => {}
+    }
+}
+
+fn hand<R: Wait>(rt: &R, outlets: &[Arc<SharedOutbox>], link: u8, message: Message) {
+    match outlets.get(link as usize) {
+        Some(outlet) => put(rt, outlet, message),
+        None => {}
+    }
+}
+
+fn put<R: Wait>(rt: &R, outlet: &SharedOutbox, message: Message) {
+    match FittingMessage::new(message) {
+        Ok(fitting) => outlet.put(rt, fitting),
+        Err(_) => {}
+    }
+}
+
+/// Puts all that goes out into the outboxes, in its order: a message into that of its link, and what is for all into each.
+pub(crate) fn hand_out_all<R: Wait>(
+    rt: &R,
+    outlets: &[Arc<SharedOutbox>],
+    outgoing: OutgoingList,
+) -> Result<(), Fault> {
+    for one in outgoing.into_vec() {
+        hand_out_one(rt, outlets, one)?;
+    }
+    Ok(())
+}
+
+fn hand_out_one<R: Wait>(
+    rt: &R,
+    outlets: &[Arc<SharedOutbox>],
+    outgoing: Outgoing,
+) -> Result<(), Fault> {
+    match outgoing {
+        Outgoing::ToAll(envelope) => hand_to_all(rt, outlets, &envelope),
+        Outgoing::To(link, message) => {
+            hand(rt, outlets, link, message);
+            Ok(())
+        }
+    }
+}
+
+fn hand_to_all<R: Wait>(
+    rt: &R,
+    outlets: &[Arc<SharedOutbox>],
+    envelope: &SharedEnvelope,
+) -> Result<(), Fault> {
+    for outlet in outlets {
+        let boxed = BoxedEnvelope::from_shared(envelope.share()?);
+        put(rt, outlet, Message::Envelope(boxed));
+    }
+    Ok(())
+}

@@ -1,0 +1,285 @@
+//! The worker of the slot stage.
+ghost use Rattle.std.specs.Prelude.{◌≡◌, true, false, [], ◌∷◌, ◌++◌, List, IsTrue, ◌↔◌, IsSome, IfSome, length, ◌≤◌, option_to_list};
+ghost use Rattle.scp_types.specs.declared.names.NodeId.{NodeId};
+ghost use Rattle.scp_quorum.specs.QuorumTree.{QuorumTree};
+ghost use Rattle.scp_pending.specs.declared.ready.Ready.{Ready};
+ghost use Rattle.scp_ends.specs.Ends.{HeardAll};
+ghost use Rattle.scp_ledger.specs.Onwards.{KeepsWindow};
+ghost use Rattle.scp_workers.specs.Working.{IsSameEnd};
+ghost use Rattle.scp_workers.specs.Slot.{KvJournals, Stands, JournalsOn, MayFollow, SameEnds, HoldsEnds, EndsWell};
+
+use crate::ending::stop_well;
+use crate::gate::{Counter, Gate, Stage};
+use crate::handing::hand_out_all;
+use scp_driver::KvDriver;
+use scp_ends::{DecidedDone, DecidedTx, Item, ReadyRx};
+use scp_ledger::{
+    Ledger, Onward, Took, what_holds_of_a_ledger_holds_with_one_thing_more,
+    what_is_given_on_keeps_the_window,
+};
+use scp_outbox::SharedOutbox;
+use scp_pending::Ready;
+use scp_quorum::SaneSet;
+use scp_types::NodeId;
+use std::alloc::Global;
+use std::marker::Model;
+use std::snapshot::Snapshot;
+use std::sync::{Arc, Wait};
+
+/// Receives what is ready, and sends on what comes of it. Contracts see the node, its own quorum set and its peers, the ends,
+/// and whether it failed.
+#[derive(Drop)]
+pub struct SlotWorker {
+    rx: ReadyRx,
+    tx: DecidedTx,
+    ledger: Ledger<KvDriver>,
+    outlets: Vec<Arc<SharedOutbox>>,
+    node: NodeId,
+    local: Snapshot<Arc<SaneSet>>,
+    peers: Snapshot<Vec<NodeId>>,
+    counter: Counter,
+    failed: bool,
+}
+
+impl Model for SlotWorker {
+    ghost use Rattle.std.specs.Prelude.{◌≡◌, false};
+    ghost use Rattle.std.specs.Coded.{codes};
+    ghost use Rattle.scp_xdr.specs.TreeModel.{coded_row};
+    ghost use Rattle.scp_quorum.specs.QuorumTree.{coded_level};
+    ghost use Rattle.scp_ends.specs.Order.{values};
+    ghost use Rattle.scp_workers.specs.Slot.{KvJournals, SlotWorking};
+
+    ghost Value = { SlotWorking };
+
+    ghost coded = { Prim.hlevel (codes, coded_row coded_level) };
+
+    ghost view = { λ w. record { me = w.node; local = w.local.value.value; peers = w.peers.value.items; input = w.rx; output = w.tx; failed = w.failed } };
+
+    ghost invariant = { λ w. (w.rx.producers ≡ 1) × (w.failed ≡ false → KvJournals w.node w.local.value.value w.peers.value.items (values w.rx.got) w.tx.sent w.ledger) };
+}
+
+/// What the worker of the slot stage ends with: its receiving end, the ledger, and where it ended well what its sending end
+/// leaves.
+#[derive(Drop)]
+pub struct SlotEnded {
+    rx: ReadyRx,
+    done: Option<DecidedDone>,
+    ledger: Ledger<KvDriver>,
+}
+
+impl Model for SlotEnded {
+    ghost use Rattle.std.specs.Coded.{codes};
+    ghost use Rattle.scp_xdr.specs.TreeModel.{coded_row};
+    ghost use Rattle.scp_quorum.specs.QuorumTree.{coded_level};
+    ghost use Rattle.scp_driver.specs.contracts.kv_driver.KvDriver as driver;
+    ghost use Rattle.scp_ledger.specs.Coding.{machine_code};
+    ghost use Rattle.scp_workers.specs.Slot.{SlotEnd, EndsWell};
+
+    ghost Value = { SlotEnd };
+
+    ghost coded = { Prim.hlevel (codes, machine_code driver.the_row.coded, coded_row coded_level) };
+
+    ghost view = { λ e. record { input = e.rx; output = e.done; view = e.ledger } };
+
+    ghost invariant = { λ e. EndsWell (record { input = e.rx; output = e.done; view = e.ledger }) };
+}
+
+impl SlotEnded {
+    /// Whether it ended well.
+    pub fn well(&self) -> bool
+        ensures { IsTrue result ↔ IsSome self.now.output }
+    {
+        self.done.is_some()
+    }
+
+    /// Its receiving end, where it ended well what its sending end left, and the ledger.
+    pub fn into_parts(self) -> (ReadyRx, Option<DecidedDone>, Ledger<KvDriver>)
+        ensures parts { (result.0 ≡ self.input) × (result.1 ≡ self.output) × (result.2 ≡ self.view) }
+        ensures well { EndsWell self }
+    {
+        let SlotEnded { rx, done, ledger } = self;
+        (rx, done, ledger)
+    }
+}
+
+/// Takes a thing into the ledger, and hands out what goes to peers. `None` where either failed.
+fn take_in<R: Wait>(
+    rt: &R,
+    outlets: &[Arc<SharedOutbox>],
+    ledger: &mut Ledger<KvDriver>,
+    ready: Ready,
+) -> Option<Option<Onward>>
+    ensures journals { IfSome result (λ onward. JournalsOn ready ledger.old onward ledger.new) }
+    ensures window { IfSome result (λ onward. MayFollow ledger.old onward) }
+{
+    what_holds_of_a_ledger_holds_with_one_thing_more::<KvDriver>();
+    what_is_given_on_keeps_the_window::<KvDriver>();
+    let Ok(took) = ledger.take(ready) else {
+        return None;
+    };
+    let Took {
+        onward,
+        outgoing,
+        ..
+    } = took;
+    if hand_out_all(rt, outlets, outgoing).is_err() {
+        return None;
+    }
+    Some(onward)
+}
+
+/// Sends a thing on. Says whether it went.
+fn send<R: Wait, G: Gate>(
+    rt: &R,
+    gate: &G,
+    counter: &mut Counter,
+    tx: &mut DecidedTx,
+    onward: Onward,
+) -> bool
+    requires { KeepsWindow (tx.old.sent ++ onward ∷ []) }
+    ensures same { IsSameEnd tx.old tx.new }
+    ensures sent { result ≡ true → tx.new.sent ≡ tx.old.sent ++ onward ∷ [] }
+{
+    counter.putting(gate);
+    tx.send_as(rt, onward).is_ok()
+}
+
+/// Sends a thing on, if there is one. Says whether nothing was lost.
+fn send_any<R: Wait, G: Gate>(
+    rt: &R,
+    gate: &G,
+    counter: &mut Counter,
+    tx: &mut DecidedTx,
+    onward: Option<Onward>,
+) -> bool
+    requires { KeepsWindow (tx.old.sent ++ option_to_list onward) }
+    ensures same { IsSameEnd tx.old tx.new }
+    ensures sent { result ≡ true → tx.new.sent ≡ tx.old.sent ++ option_to_list onward }
+{
+    match onward {
+        Some(onward) => send(rt, gate, counter, tx, onward),
+        None => true,
+    }
+}
+
+/// Takes a thing into the ledger, hands out what goes to peers, and sends on what comes of it. Says whether nothing was lost.
+fn take_one<R: Wait, G: Gate>(
+    rt: &R,
+    gate: &G,
+    counter: &mut Counter,
+    outlets: &[Arc<SharedOutbox>],
+    ledger: &mut Ledger<KvDriver>,
+    tx: &mut DecidedTx,
+    ready: Ready,
+) -> bool
+    requires { Stands ledger.old tx.old.sent }
+    ensures same { IsSameEnd tx.old tx.new }
+    ensures takes { result ≡ true → (me : NodeId) → (local : QuorumTree) → (peers : List NodeId) → (took : List Ready) → KvJournals me local peers took tx.old.sent ledger.old → KvJournals me local peers (took ++ ready ∷ []) tx.new.sent ledger.new }
+{
+    let Some(onward) = take_in(rt, outlets, ledger, ready) else {
+        return false;
+    };
+    send_any(rt, gate, counter, tx, onward)
+}
+
+impl SlotWorker {
+    /// A worker of this node between the pending stage and the applier; both ends carried nothing yet. `peers[l]` is the sender
+    /// of link l, and `outlets[l]` the outbox of link l; `local` is the node's own quorum set. Takes no memory.
+    pub fn new(
+        alloc: Global,
+        node: NodeId,
+        peers: Vec<NodeId>,
+        local: Arc<SaneSet>,
+        outlets: Vec<Arc<SharedOutbox>>,
+        rx: ReadyRx,
+        tx: DecidedTx,
+    ) -> SlotWorker
+        requires few { length peers.items ≤ 255 }
+        requires unused { (rx.got ≡ []) × (tx.sent ≡ []) }
+        requires one { rx.producers ≡ 1 }
+        ensures { result ≡ record { me = node; peers = peers.items; local = local.value; input = rx; output = tx; failed = false } }
+    {
+        what_holds_of_a_ledger_holds_with_one_thing_more::<KvDriver>();
+        let set = Snapshot::of(&local);
+        let known = Snapshot::of(&peers);
+        SlotWorker {
+            rx,
+            tx,
+            ledger: Ledger::new(alloc, node, local, KvDriver, peers),
+            outlets,
+            node,
+            local: set,
+            peers: known,
+            counter: Counter::new(node, Stage::Slot),
+            failed: false,
+        }
+    }
+
+    /// One receive, and what follows of it. Says whether to go on.
+    fn step<R: Wait, G: Gate>(&mut self, rt: &R, gate: &G) -> bool
+        ensures same { SameEnds self.old self.new }
+        ensures over { result ≡ false → self.new.failed ≡ false → HeardAll self.new.input }
+    {
+        let Ok(item) = self.rx.recv_as(rt) else {
+            self.failed = true;
+            return false;
+        };
+        self.counter.taken(gate);
+        let Item::One(_, thing) = item else {
+            return false;
+        };
+        if !self.failed
+            && !take_one(
+                rt,
+                gate,
+                &mut self.counter,
+                self.outlets.as_slice(),
+                &mut self.ledger,
+                &mut self.tx,
+                thing,
+            )
+        {
+            self.failed = true;
+        }
+        true
+    }
+
+    /// Works until the pending stage ends, or is gone.
+    fn work<R: Wait, G: Gate>(&mut self, rt: &R, gate: &G)
+        ensures same { SameEnds self.old self.new }
+        ensures over { self.new.failed ≡ false → HeardAll self.new.input }
+    {
+        for _ in rt.forever() {
+            if !self.step(rt, gate) {
+                return;
+            }
+        }
+        self.failed = true;
+    }
+
+    /// Ends.
+    fn end<R: Wait>(self, rt: &R) -> SlotEnded
+        requires { self.failed ≡ false → HeardAll self.input }
+        ensures { HoldsEnds self result }
+    {
+        let SlotWorker {
+            rx,
+            tx,
+            ledger,
+            failed,
+            ..
+        } = self;
+        let done = stop_well(rt, tx, !failed);
+        SlotEnded { rx, done, ledger }
+    }
+
+    /// Works until the pending stage ends, and then ends. Where it fails it goes on receiving and gives up what it receives;
+    /// where the pending stage is gone, it ends at once.
+    pub fn run<R: Wait, G: Gate>(mut self, rt: &R, gate: &G) -> SlotEnded
+        ensures { HoldsEnds self result }
+    {
+        self.work(rt, gate);
+        self.counter.putting(gate);
+        self.end(rt)
+    }
+}
