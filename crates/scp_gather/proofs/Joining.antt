@@ -1,0 +1,283 @@
+-- What follows where every worker of a node ended well.
+use Rattle.std.proofs.Common.{◌≡◌, ℕ, ◌+◌, ◌<◌, ◌≤◌, ◌==◌, inl, inr, ◌⊎◌, true, false, List, [], ◌∷◌, ◌++◌, refl, sym, ◌∙◌, ap, subst, arith, length, eq-eqb}
+use Rattle.std.specs.Prelude.{Option, Some, IfSome, slice_get, filter}
+use Rattle.std.specs.List.{AllByRecursion}
+use Rattle.std.proofs.lemmas.List.{append-nil}
+use Rattle.std.proofs.lemmas.Bool.{ne_eqb}
+use Rattle.scp_types.specs.declared.names.NodeId.{NodeId}
+use Rattle.scp_types.specs.declared.names.ConnId.{ConnId}
+use Rattle.scp_quorum.specs.QuorumTree.{QuorumTree}
+use Rattle.scp_driver.specs.Kv.{kv_level, greatest, leader_place}
+use Rattle.scp_driver.specs.declared.kv_driver.KvDriver.{KvDriver}
+use Rattle.scp_wire.specs.declared.carried.Carried.{Carried}
+use Rattle.scp_wire.specs.declared.link.Inbound.{Inbound}
+use Rattle.scp_wire.specs.declared.link.LinkItem.{LinkItem}
+use Rattle.scp_wire.specs.declared.message.Message.{Message}
+use Rattle.scp_wire.specs.Connections.{conn_at}
+use Rattle.scp_wire.specs.Lanes.{in_lane, EndsLast}
+use Rattle.scp_wire.specs.LinkReading.{unread, readings}
+use Rattle.scp_wire.specs.Marks.{Mark, messages_in, IsWhole}
+use Rattle.scp_wire.specs.ReaderLaws.{IsSent, ReadingsAreInOrder, ReadingsAreSent}
+use Rattle.scp_wire.specs.Sent.{sent, carried_of}
+use Rattle.scp_wire.specs.Shape.{HasShape, Come, MayCome, AreInOrder, AreOfLink, never_open, nothing_came, of_peer, is_from}
+use Rattle.scp_pending.specs.declared.ready.Ready.{Ready}
+use Rattle.scp_pending.specs.Causes.{IsSettledBy}
+use Rattle.scp_pending.specs.Laws.{AllAccounts}
+use Rattle.scp_pending.specs.Line.{Accounts, held, marks_of, marks_parked}
+use Rattle.scp_pending.specs.Messages.{AreParked, StandFor, ParkedStandFor, marks_of_messages}
+use Rattle.scp_pending.specs.Pends.{Pends, start_of}
+use Rattle.scp_pending.specs.Rules.{Settled, fresh}
+use Rattle.scp_pending.proofs.Numbered.{IsNumbered, messages_of_peer, numbered_right, numbered_all, slots_are}
+use Rattle.scp_pending.proofs.Passing.{IsSettled-of}
+use Rattle.scp_ledger.specs.declared.took.Onward.{Onward}
+use Rattle.scp_ledger.specs.Marks.{marks_of as marks_on}
+use Rattle.scp_account.specs.Account.{Account, Ran}
+use Rattle.scp_account.specs.Kept.{KeepsLedger, RanKeepsLedger, slots_sent, line_sent, line_held}
+use Rattle.scp_ends.specs.Commands.{IsCommand}
+use Rattle.scp_ends.specs.Ends.{Sender, heard}
+use Rattle.scp_ends.specs.Links.{LinkEnd}
+use Rattle.scp_ends.specs.Order.{of, values}
+use Rattle.scp_workers.specs.Reading.{ReaderEnd}
+use Rattle.scp_workers.specs.Pending.{IsFor as PendsFor}
+use Rattle.scp_workers.specs.Slot.{KvJournals, IsFor as JournalsFor}
+use Rattle.scp_gather.specs.Left.{Left, items_of, sent_over}
+use Rattle.scp_gather.specs.Node.{IsLinkAt, IsReadOut, IsNode, EndWell}
+use Rattle.scp_gather.specs.Gathered.{account_gathered, is_command, IsEmptied, AreEmptied, HasItsLine, AreLeftParked, Gathered, WhatEndsWellIsGathered}
+use Rattle.scp_gather.proofs.Hearing.{emptied, no_others, sole_is, Tells, picked, of_each}
+use Rattle.scp_gather.proofs.Lists.{split, within, there_is, same_at, other_at, all_map}
+use Rattle.scp_gather.proofs.Coming.{from_one, no_command, from_none, told_one, all_in_order, same_place, IsCarriedByLink, carried_by_link, told_by_link}
+use Rattle.scp_gather.proofs.Entries.{same_marks}
+use Rattle.scp_gather.proofs.Parking.{parked_right, parked_of_links}
+
+-- what is public of the crates below
+pub record Laws : Type 0 where
+  pub ran : RanKeepsLedger {D = KvDriver} (λ driver slot value. kv_level value) (λ driver slot values. greatest values) (λ driver slot round n. leader_place slot round n)
+  pub in_order : ReadingsAreInOrder
+  pub sent_is : ReadingsAreSent
+  pub accounts : AllAccounts
+  pub parked : ParkedStandFor
+
+-- the stage of the node stands to what it took and gave
+pub node_pends_for : (me : NodeId) (set : QuorumTree) (peers : List NodeId) (e : Left) → IsNode me set peers e → EndWell e → PendsFor me peers set e.pend.view
+node_pends_for me set peers e n w = subst (λ (o : Option (Sender Ready)). IfSome o (λ _. PendsFor me peers set e.pend.view)) w.pend_ended n.pends_for
+
+pub node_pends : (me : NodeId) (set : QuorumTree) (peers : List NodeId) (e : Left) → IsNode me set peers e → (w : EndWell e) → Pends me peers (values e.pend.input.got) w.given.sent e.pend.view
+node_pends me set peers e n w =
+    let f : PendsFor me peers set e.pend.view = node_pends_for me set peers e n w in
+    subst (λ (ps : List NodeId). Pends me ps (values e.pend.input.got) w.given.sent e.pend.view) f.peers_are
+    (subst (λ (m : NodeId). Pends m e.pend.view.settled.peers (values e.pend.input.got) w.given.sent e.pend.view) f.me_is w.pends.pends)
+
+module _ (laws : Laws) (me : NodeId) (set : QuorumTree) (peers : List NodeId) (e : Left) (n : IsNode me set peers e) (w : EndWell e) where
+  abbrev came : List Inbound
+  came = values e.pend.input.got
+
+  abbrev took : List Ready
+  took = values e.slot.input.got
+
+  abbrev account : Account KvDriver
+  account = account_gathered me set peers e
+
+  -- ---- the link at a place
+
+  its_link : (l : ℕ) (peer : NodeId) → slice_get peers l ≡ Some peer → (k : LinkEnd) × (slice_get e.links l ≡ Some k)
+  its_link l peer at = let b : l < length peers = within peers l peer at in let c : length e.links ≡ length peers = n.links_count in there_is e.links l (omega (arith, b, c))
+
+  its_reader : (l : ℕ) (peer : NodeId) → slice_get peers l ≡ Some peer → (r : ReaderEnd) × (slice_get e.readers l ≡ Some r)
+  its_reader l peer at = let b : l < length peers = within peers l peer at in let c : length e.readers ≡ length peers = n.readers_count in there_is e.readers l (omega (arith, b, c))
+
+  output_number : (l : ℕ) (peer : NodeId) (k : LinkEnd) (r : ReaderEnd) → IsLinkAt me peer l k r → (out : IsReadOut e.pend.input k r) → out.output.number ≡ l
+  output_number l peer k r is out = subst (λ (o : Option (Sender Inbound)). IfSome o (λ s. s.number ≡ l)) out.ended is.number
+
+  -- what a link brings to the inbox is what its reader makes of what its tail sent
+  link_is : (l : ℕ) (peer : NodeId) → slice_get peers l ≡ Some peer → (k : LinkEnd) → slice_get e.links l ≡ Some k → heard l e.pend.input.got ≡ readings unread k.tail.sent
+  link_is l peer at k there =
+      let r = its_reader l peer at in
+      let is = n.lanes l peer at k there r.0 r.1 in
+      let out = w.lanes l k there r.0 r.1 in
+      ap (λ m. heard m e.pend.input.got) (sym (output_number l peer k r.0 is out))
+      ∙ (emptied e.pend.input out.output w.pends.heard out.brings).all
+      ∙ out.reads.reads
+      ∙ ap (readings unread) (sole_is r.0.input k.tail is.alone out.reads.heard out.queued)
+
+  link_of_node : (l : ℕ) (peer : NodeId) → slice_get peers l ≡ Some peer → (k : LinkEnd) → slice_get e.links l ≡ Some k → AreOfLink peer me never_open k.tail.sent
+  link_of_node l peer at k there =
+      let r = its_reader l peer at in
+      let is = n.lanes l peer at k there r.0 r.1 in
+      let out = w.lanes l k there r.0 r.1 in
+      subst (λ (m : NodeId). AreOfLink peer m never_open k.tail.sent) is.to (subst (λ (m : NodeId). AreOfLink m k.to never_open k.tail.sent) is.from out.link.shape)
+
+  link_in_order : (l : ℕ) (peer : NodeId) → slice_get peers l ≡ Some peer → (k : LinkEnd) → slice_get e.links l ≡ Some k → AreInOrder peer me nothing_came (readings unread k.tail.sent)
+  link_in_order l peer at k there = laws.in_order peer me k.tail.sent (link_of_node l peer at k there)
+
+  over_is : (l : ℕ) (k : LinkEnd) → slice_get e.links l ≡ Some k → sent_over e.links l ≡ k.tail.sent
+  over_is l k there = ap items_of there
+
+  -- ---- what was heard of each producer
+
+  local_is : heard (length peers) e.pend.input.got ≡ e.local.sent
+  local_is = ap (λ m. heard m e.pend.input.got) (sym n.local_number) ∙ (emptied e.pend.input e.local w.pends.heard w.told).all
+
+  no_further : (m : ℕ) → length peers < m → of m e.pend.input.got ≡ []
+  no_further m lt = let p : e.pend.input.producers ≡ length peers + 1 = n.inbox in no_others e.pend.input e.local w.told m (omega (arith, lt, p))
+
+  -- what holds of each thing of a link, and of each command, holds of what was heard of each producer
+  each_heard : (Q : ℕ → Inbound → Type 0) → ((m : ℕ) (peer : NodeId) → slice_get peers m ≡ Some peer → (h : Come) (x : Inbound) → MayCome peer me h x → Q m x) → ((x : Inbound) → IsCommand x → Q (length peers) x) → (m : ℕ) → AllByRecursion (Q m) (heard m e.pend.input.got)
+  each_heard Q link command m = elim (split m (length peers)) [
+    | inl lt ↦
+        let p = there_is peers m lt in
+        let k = its_link m p.0 p.1 in
+        subst (AllByRecursion (Q m)) (sym (link_is m p.0 p.1 k.0 k.1)) (all_in_order p.0 me (Q m) (link m p.0 p.1) nothing_came (readings unread k.0.tail.sent) (link_in_order m p.0 p.1 k.0 k.1))
+    | inr more ↦ elim more [
+      | inl same ↦ subst (λ i. AllByRecursion (Q i) (heard i e.pend.input.got)) (sym same) (subst (AllByRecursion (Q (length peers))) (sym local_is) (all_map IsCommand (Q (length peers)) command e.local.sent w.commands))
+      | inr lt ↦ subst (λ xs. AllByRecursion (Q m) (values xs)) (sym (no_further m lt)) tt
+    ]
+  ]
+
+  -- what came of a peer is what its reader makes of its link
+  of_link_is : (l : ℕ) (peer : NodeId) → slice_get peers l ≡ Some peer → (k : LinkEnd) → slice_get e.links l ≡ Some k → of_peer peer came ≡ readings unread k.tail.sent
+  of_link_is l peer at k there =
+      picked (is_from peer) l e.pend.input.got (each_heard (Tells (is_from peer) l)
+      (λ m p there' h x may. from_one p me peer h x may ∙ same_place p peer m l (same_at peers m l p peer there' at) (λ s. n.apart m l p there' (at ∙ ap (λ (q : NodeId). Some q) (sym s))))
+      (λ x c. from_none peer x c ∙ sym (ne_eqb (length peers) l (λ s. other_at peers l peer at (sym s)))))
+      ∙ link_is l peer at k there
+
+  read_is : (l : ℕ) (peer : NodeId) → slice_get peers l ≡ Some peer → of_peer peer came ≡ readings unread (sent_over e.links l)
+  read_is l peer at = let k = its_link l peer at in of_link_is l peer at k.0 k.1 ∙ ap (readings unread) (sym (over_is l k.0 k.1))
+
+  told_is : filter is_command came ≡ e.local.sent
+  told_is =
+      picked is_command (length peers) e.pend.input.got (each_heard (Tells is_command (length peers))
+      (λ m p there h x may. no_command p me h x may ∙ sym (ne_eqb m (length peers) (other_at peers m p there)))
+      (λ x c. told_one x c ∙ sym (eq-eqb (length peers) (length peers) refl)))
+      ∙ local_is
+
+  carried_is : AllByRecursion (IsCarriedByLink me peers) came
+  carried_is = of_each (IsCarriedByLink me peers) e.pend.input.got (each_heard (λ m. IsCarriedByLink me peers) (λ m p there h x may. carried_by_link me p peers m there h x may) (λ x c. told_by_link me peers x c))
+
+  links_are : (l : ℕ) (peer : NodeId) → slice_get peers l ≡ Some peer → AreOfLink peer me never_open (sent_over e.links l)
+  links_are l peer at = let k = its_link l peer at in subst (AreOfLink peer me never_open) (sym (over_is l k.0 k.1)) (link_of_node l peer at k.0 k.1)
+
+  shape_is : HasShape me peers came
+  shape_is l peer at = subst (AreInOrder peer me nothing_came) (sym (read_is l peer at)) (laws.in_order peer me (sent_over e.links l) (links_are l peer at))
+
+  -- ---- the stages, of this node
+
+  on_way : took ≡ w.given.sent
+  on_way = sole_is e.slot.input w.given n.ready w.journals.heard w.ready
+
+  onwards : values e.apply.input.got ≡ w.onward.sent
+  onwards = sole_is e.apply.input w.onward n.decided w.applies.heard w.decided
+
+  pends_for : PendsFor me peers set e.pend.view
+  pends_for = node_pends_for me set peers e n w
+
+  journals_for : JournalsFor me peers set e.slot.view
+  journals_for = subst (λ (o : Option (Sender Onward)). IfSome o (λ _. JournalsFor me peers set e.slot.view)) w.slot_ended n.journals_for
+
+  pends_is : Pends me peers came took e.pend.view
+  pends_is = subst (λ (rs : List Ready). Pends me peers came rs e.pend.view) (sym on_way) (node_pends me set peers e n w)
+
+  journals_is : KvJournals me set peers took w.onward.sent e.slot.view
+  journals_is =
+      subst (λ (q : QuorumTree). KvJournals me q peers took w.onward.sent e.slot.view) journals_for.local_is
+      (subst (λ (ps : List NodeId). KvJournals me e.slot.view.local ps took w.onward.sent e.slot.view) journals_for.peers_are
+      (subst (λ (m : NodeId). KvJournals m e.slot.view.local e.slot.view.peers took w.onward.sent e.slot.view) journals_for.me_is w.journals.journals))
+
+  start_is : start_of me peers e.pend.view ≡ fresh me peers set
+  start_is = ap (λ (q : QuorumTree). fresh me peers q) pends_for.local_is
+
+  settled_is : IsSettledBy (fresh me peers set) came e.pend.view
+  settled_is = subst (λ (s : Settled). IsSettledBy s came e.pend.view) start_is (IsSettled-of me peers came took e.pend.view w.pends.nothing_ready pends_is)
+
+  ran : Ran (λ driver slot value. kv_level value) (λ driver slot values. greatest values) (λ driver slot round n. leader_place slot round n) account
+  ran = record {
+    links = links_are;
+    read = λ l peer at. sym (read_is l peer at) ∙ ap (of_peer peer) (sym (append-nil came)) ∙ sym (append-nil (of_peer peer (came ++ [])));
+    local = pends_for.local_is;
+    given = took;
+    pends = pends_is;
+    took = took;
+    ready = sym (append-nil took);
+    onwards = w.onward.sent;
+    journals = journals_is;
+    applied = values e.apply.input.got;
+    decided = sym onwards ∙ sym (append-nil (values e.apply.input.got));
+    applies = w.applies.applies;
+  }
+
+  keeps_is : KeepsLedger (λ driver slot value. kv_level value) (λ driver slot values. greatest values) account
+  keeps_is = laws.ran account ran
+
+  -- ---- channels
+
+  emptied_at : (l : ℕ) (peer : NodeId) → slice_get peers l ≡ Some peer → (k : LinkEnd) → slice_get e.links l ≡ Some k → (r : ReaderEnd) → slice_get e.readers l ≡ Some r → IsEmptied r.input k.tail × IfSome r.output (IsEmptied e.pend.input)
+  emptied_at l peer at k there r there' =
+      let out = w.lanes l k there r there' in
+      (emptied r.input k.tail out.reads.heard out.queued, subst (λ (o : Option (Sender Inbound)). IfSome o (IsEmptied e.pend.input)) (sym out.ended) (emptied e.pend.input out.output w.pends.heard out.brings))
+
+  emptied_is : AreEmptied peers e
+  emptied_is = record {
+    links = emptied_at;
+    commands = emptied e.pend.input e.local w.pends.heard w.told;
+    ready = subst (λ (o : Option (Sender Ready)). IfSome o (IsEmptied e.slot.input)) (sym w.pend_ended) (emptied e.slot.input w.given w.journals.heard w.ready);
+    decided = subst (λ (o : Option (Sender Onward)). IfSome o (IsEmptied e.apply.input)) (sym w.slot_ended) (emptied e.apply.input w.onward w.applies.heard w.decided);
+  }
+
+  -- ---- what is parked
+
+  stand_for : (parked : List Carried) → AreParked e.pend.view parked → StandFor (start_of me peers e.pend.view) came e.pend.view parked
+  stand_for parked are = laws.parked me peers came took e.pend.view parked pends_is are
+
+  held_is : (c : ConnId) (parked : List Carried) → AreParked e.pend.view parked → held c e.pend.view ≡ marks_of_messages c parked
+  held_is c parked are =
+      ap (λ (rs : List Ready). marks_of c rs ++ marks_parked c e.pend.view.settled.queues) w.pends.nothing_ready
+      ∙ sym ((stand_for parked are).numbers c)
+
+  messages_are : (l : ℕ) (peer : NodeId) → slice_get peers l ≡ Some peer → (life : ℕ) → messages_in (conn_at peer me life) came ≡ carried_of 1000000 (sent (conn_at peer me life) (sent_over e.links l))
+  messages_are l peer at life =
+      let c = conn_at peer me life in
+      sym (messages_of_peer c came) ∙ ap (messages_in c) (read_is l peer at) ∙ (laws.sent_is peer me (sent_over e.links l) (links_are l peer at) life).messages
+
+  numbered_is : (l : ℕ) (peer : NodeId) → slice_get peers l ≡ Some peer → (life : ℕ) → AllByRecursion (IsNumbered (conn_at peer me life) (carried_of 1000000 (sent (conn_at peer me life) (sent_over e.links l)))) came
+  numbered_is l peer at life =
+      let c = conn_at peer me life in
+      subst (λ (ms : List Message). AllByRecursion (IsNumbered c ms) came) (messages_are l peer at life)
+      (numbered_all c (messages_in c came) came (subst (λ (ms : List Message). AllByRecursion (IsNumbered c ms) (of_peer peer came)) (messages_of_peer c came) (numbered_right peer me life (of_peer peer came) (shape_is l peer at))))
+
+  accounts_is : (l : ℕ) (peer : NodeId) → slice_get peers l ≡ Some peer → (life : ℕ) → Accounts (conn_at peer me life) (slots_sent account l (conn_at peer me life)) came took (held (conn_at peer me life) e.pend.view)
+  accounts_is l peer at life =
+      let c = conn_at peer me life in
+      laws.accounts me peers came took e.pend.view pends_is shape_is l peer at life (slots_sent account l c) (slots_are c (carried_of 1000000 (sent c (sent_over e.links l))) came (numbered_is l peer at life))
+
+  line_held_is : (l : ℕ) (c : ConnId) (parked : List Carried) → AreParked e.pend.view parked → line_held account l c ≡ marks_of_messages c parked
+  line_held_is l c parked are = append-nil (held c e.pend.view) ∙ held_is c parked are
+
+  line_is : (l : ℕ) (peer : NodeId) → slice_get peers l ≡ Some peer → (life : ℕ) → (parked : List Carried) → AreParked e.pend.view parked → HasItsLine account l (conn_at peer me life) parked
+  line_is l peer at life parked are =
+      let c = conn_at peer me life in
+      let slots = slots_sent account l c in
+      record {
+        whole = λ s. subst (λ (ms : List Mark). IsWhole (in_lane slots s (line_sent account l c)) (in_lane slots s (marks_on c e.slot.view.journal ++ ms))) (line_held_is l c parked are) ((keeps_is.fates l peer at life).whole s);
+        ends = λ s. subst (λ (ms : List Mark). EndsLast (in_lane slots s ms)) (ap (λ (ms : List Mark). ms ++ held c e.pend.view) (sym (same_marks c took e.slot.view.journal journals_is.entries)) ∙ ap (λ (ms : List Mark). marks_on c e.slot.view.journal ++ ms) (held_is c parked are)) ((accounts_is l peer at life).ends s);
+        messages_are = parked_right c (carried_of 1000000 (sent c (sent_over e.links l))) (start_of me peers e.pend.view) came parked (numbered_is l peer at life) (stand_for parked are).came;
+      }
+
+  parked_is : (parked : List Carried) → AreParked e.pend.view parked → AreLeftParked account parked
+  parked_is parked are = record {
+    lines = λ l peer at life. line_is l peer at life parked are;
+    of_links = parked_of_links me peers (start_of me peers e.pend.view) came parked carried_is (stand_for parked are).came;
+  }
+
+  gathered_is : Gathered me set peers e
+  gathered_is = record {
+    keeps = keeps_is;
+    read = read_is;
+    told = told_is;
+    shape = shape_is;
+    emptied = emptied_is;
+    settled = settled_is;
+    parked = parked_is;
+  }
+
+pub gathered : Laws → WhatEndsWellIsGathered
+gathered laws = λ me set peers e n w. gathered_is laws me set peers e n w

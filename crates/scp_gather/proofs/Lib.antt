@@ -1,0 +1,7 @@
+pub mod Hearing
+pub mod Lists
+pub mod Entries
+pub mod Coming
+pub mod Parking
+pub mod Joining
+pub mod Settling

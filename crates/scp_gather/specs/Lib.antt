@@ -1,0 +1,4 @@
+pub mod Left
+pub mod Node
+pub mod Gathered
+pub mod Report

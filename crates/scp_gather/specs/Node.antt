@@ -1,0 +1,69 @@
+-- What was left is of the channels of one node, and each worker ended well.
+use Rattle.std.specs.Prelude.{◌≡◌, ℕ, ◌+◌, true, List, length, Option, Some, IfSome, slice_get}
+use Rattle.scp_types.specs.declared.names.NodeId.{NodeId}
+use Rattle.scp_quorum.specs.QuorumTree.{QuorumTree}
+use Rattle.scp_wire.specs.declared.link.Inbound.{Inbound}
+use Rattle.scp_pending.specs.declared.ready.Ready.{Ready}
+use Rattle.scp_ledger.specs.declared.took.Onward.{Onward}
+use Rattle.scp_ends.specs.Commands.{AreCommands}
+use Rattle.scp_ends.specs.Ends.{Sender, Receiver, IsQueued}
+use Rattle.scp_ends.specs.Links.{LinkEnd, IsLink}
+use Rattle.scp_workers.specs.Reading.{ReaderEnd, HasReadAll}
+use Rattle.scp_workers.specs.Pending.{HasPendedAll, IsFor as PendsFor}
+use Rattle.scp_workers.specs.Slot.{HasJournaledAll, IsFor as JournalsFor}
+use Rattle.scp_workers.specs.Apply.{HasAppliedAll}
+use Rattle.scp_gather.specs.Left.{Left}
+
+-- ---- names, places and numbers
+
+-- no peer twice
+abbrev pub AreApart : List NodeId → Type 0
+AreApart peers = (l m : ℕ) → (peer : NodeId) → slice_get peers l ≡ Some peer → slice_get peers m ≡ Some peer → l ≡ m
+
+-- the link that stands at this place, from this peer, and its reader
+pub record IsLinkAt (me peer : NodeId) (place : ℕ) (k : LinkEnd) (e : ReaderEnd) : Type 0 where
+  pub from : k.from ≡ peer
+  pub to : k.to ≡ me
+  pub alone : e.input.producers ≡ 1
+  pub number : IfSome e.output (λ s. s.number ≡ place)
+
+-- One link and one reader for each peer, no peer twice; the inbox has a producer for each link and one for the commands, each other
+-- channel has one; and the stages are those of the node.
+pub record IsNode (me : NodeId) (set : QuorumTree) (peers : List NodeId) (e : Left) : Type 0 where
+  pub apart : AreApart peers
+  pub links_count : length e.links ≡ length peers
+  pub readers_count : length e.readers ≡ length peers
+  pub lanes : (l : ℕ) → (peer : NodeId) → slice_get peers l ≡ Some peer → (k : LinkEnd) → slice_get e.links l ≡ Some k → (reader : ReaderEnd) → slice_get e.readers l ≡ Some reader → IsLinkAt me peer l k reader
+  pub local_number : e.local.number ≡ length peers
+  pub inbox : e.pend.input.producers ≡ length peers + 1
+  pub ready : e.slot.input.producers ≡ 1
+  pub decided : e.apply.input.producers ≡ 1
+  pub pends_for : IfSome e.pend.output (λ _. PendsFor me peers set e.pend.view)
+  pub journals_for : IfSome e.slot.output (λ _. JournalsFor me peers set e.slot.view)
+
+-- ---- each ended well
+
+-- what the tail sent went to the reader, and what the reader sent went to the inbox, in order
+pub record IsReadOut (inbox : Receiver Inbound) (k : LinkEnd) (e : ReaderEnd) : Type 0 where
+  pub output : Sender Inbound
+  pub ended : e.output ≡ Some output
+  pub link : IsLink k
+  pub queued : IsQueued e.input k.tail
+  pub reads : HasReadAll e.input output
+  pub brings : IsQueued inbox output
+
+-- every worker ended well, and each channel kept the order of each of its producers
+pub record EndWell (e : Left) : Type 0 where
+  pub lanes : (l : ℕ) → (k : LinkEnd) → slice_get e.links l ≡ Some k → (reader : ReaderEnd) → slice_get e.readers l ≡ Some reader → IsReadOut e.pend.input k reader
+  pub commands : AreCommands e.local.sent
+  pub told : IsQueued e.pend.input e.local
+  pub given : Sender Ready
+  pub pend_ended : e.pend.output ≡ Some given
+  pub pends : HasPendedAll e.pend.input e.pend.view given
+  pub ready : IsQueued e.slot.input given
+  pub onward : Sender Onward
+  pub slot_ended : e.slot.output ≡ Some onward
+  pub journals : HasJournaledAll e.slot.input e.slot.view onward
+  pub decided : IsQueued e.apply.input onward
+  pub apply_ended : e.apply.well ≡ true
+  pub applies : HasAppliedAll e.apply.input e.apply.view

@@ -1,0 +1,100 @@
+//! What the threads of a node left.
+ghost use Rattle.std.specs.Prelude.{◌≡◌, is_none};
+ghost use Rattle.std.specs.List.{list_any};
+ghost use Rattle.scp_gather.specs.Report.{first_failed, first_so, has_failed as failed};
+
+use scp_ends::{LinkDone, LocalDone};
+use scp_types::Stage;
+use scp_workers::{ApplyEnded, PendEnded, ReaderEnded, SlotEnded};
+use std::marker::Model;
+
+/// What the workers of a node ended with, each link's reader and its sending end in the order of the node's peers, and the ended
+/// sending end of its own commands.
+#[derive(Drop)]
+pub struct Ends {
+    pub readers: Vec<ReaderEnded>,
+    pub links: Vec<LinkDone>,
+    pub local: LocalDone,
+    pub pend: PendEnded,
+    pub slot: SlotEnded,
+    pub apply: ApplyEnded,
+}
+
+impl Model for Ends {
+    ghost use Rattle.std.specs.FinMap as map;
+    ghost use Rattle.std.specs.Ordering.{nat_cmp};
+    ghost use Rattle.std.specs.Cmp.Lexicographic.{slice_cmp};
+    ghost use Rattle.std.specs.Coded.{codes, coded_ℕ, coded_list};
+    ghost use Rattle.scp_xdr.specs.TreeModel.{coded_row};
+    ghost use Rattle.scp_quorum.specs.QuorumTree.{coded_level};
+    ghost use Rattle.scp_driver.specs.contracts.kv_driver.KvDriver as driver;
+    ghost use Rattle.scp_ledger.specs.Coding.{machine_code};
+    ghost use Rattle.scp_gather.specs.Left.{Left};
+
+    ghost Value = { Left };
+
+    ghost coded = { Prim.hlevel (codes, machine_code driver.the_row.coded, coded_row coded_level, map.code {R = slice_cmp nat_cmp} (coded_list coded_ℕ) (coded_list coded_ℕ)) };
+
+    ghost view = { λ e. record { readers = e.readers.items; links = e.links.items; local = e.local; pend = e.pend; slot = e.slot; apply = e.apply } };
+}
+
+impl Ends {
+    /// The first stage, in the order of the pipeline, of which a worker failed.
+    pub fn first_failed(&self) -> Option<Stage>
+        ensures exact { result ≡ first_failed self.now }
+    {
+        first_of(
+            any_failed(self.readers.as_slice()),
+            pend_failed(&self.pend),
+            slot_failed(&self.slot),
+            !self.apply.well(),
+        )
+    }
+}
+
+/// The first of the stages that failed.
+fn first_of(reader: bool, pend: bool, slot: bool, apply: bool) -> Option<Stage>
+    ensures { result ≡ first_so reader pend slot apply }
+{
+    if reader {
+        return Some(Stage::Reader);
+    }
+    if pend {
+        return Some(Stage::Pend);
+    }
+    if slot {
+        return Some(Stage::Slot);
+    }
+    if apply {
+        return Some(Stage::Apply);
+    }
+    None
+}
+
+/// Whether a worker of one of the readers failed.
+fn any_failed(readers: &[ReaderEnded]) -> bool
+    ensures { result ≡ list_any failed readers.now }
+{
+    readers.iter().any(has_failed)
+}
+
+/// Whether the reader's worker failed.
+fn has_failed(reader: &ReaderEnded) -> bool
+    ensures { result ≡ failed reader.now }
+{
+    !reader.well()
+}
+
+/// Whether the worker of the pending stage failed.
+fn pend_failed(pend: &PendEnded) -> bool
+    ensures { result ≡ is_none pend.now.output }
+{
+    !pend.well()
+}
+
+/// Whether the worker of the slot stage failed.
+fn slot_failed(slot: &SlotEnded) -> bool
+    ensures { result ≡ is_none slot.now.output }
+{
+    !slot.well()
+}

@@ -1,0 +1,133 @@
+//! What is concluded when every thread of a node has ended.
+ghost use Rattle.std.specs.Prelude.{◌≡◌, ◌↔◌, ◌⊎◌, ℕ, List, None, Some, IsSome, IfOk, IfErr, IsErrOf, IsOkUnless, slice_get};
+ghost use Rattle.std.specs.List.{AllByRecursion};
+ghost use Rattle.std.specs.List.Sorted.{IsStrictlySortedBy};
+ghost use Rattle.scp_types.specs.declared.fault.Stage.{Stage};
+ghost use Rattle.scp_types.specs.declared.names.NodeId.{NodeId};
+ghost use Rattle.scp_quorum.specs.QuorumTree.{QuorumTree};
+ghost use Rattle.scp_wire.specs.declared.link.Inbound.{Inbound};
+ghost use Rattle.scp_wire.specs.Shape.{HasShape};
+ghost use Rattle.scp_pending.specs.declared.ready.Ready.{Ready};
+ghost use Rattle.scp_pending.specs.Messages.{AreParked, message_cmp};
+ghost use Rattle.scp_pending.specs.Pends.{Pends};
+ghost use Rattle.scp_ends.specs.Links.{LinkEnd};
+ghost use Rattle.scp_workers.specs.Reading.{ReaderEnd};
+ghost use Rattle.scp_gather.specs.Node.{IsNode, IsReadOut, EndWell};
+ghost use Rattle.scp_gather.specs.Report.{IsJoined, AreJoinedTo, AreJoined, first_failed, IsReportOf};
+
+use crate::ends::Ends;
+use crate::laws::what_ends_well_is_gathered;
+use scp_apply::Applier;
+use scp_driver::KvDriver;
+use scp_ends::{InboxRx, LinkDone};
+use scp_kv::KvState;
+use scp_ledger::{Fate, Ledger, SharedDecision};
+use scp_pending::Pending;
+use scp_types::Fault;
+use scp_wire::Carried;
+use scp_workers::ReaderEnded;
+
+/// What became of all that was sent to a node, and what it did.
+#[derive(Drop)]
+pub struct NodeReport {
+    /// The journal: the fates of messages and the ends of connections.
+    pub journal: Vec<Fate>,
+    /// The messages that wait for their quorum sets, ascending by sender, life and number.
+    pub parked: Vec<Carried>,
+    /// The decisions that were applied, of the slots 1, 2, ..
+    pub applied: Vec<SharedDecision>,
+    /// The state that they make.
+    pub state: KvState,
+}
+
+/// Takes back what a link and its reader left.
+fn take_back(inbox: &mut InboxRx, reader: ReaderEnded, link: LinkDone)
+    requires joined { IsJoined inbox.old.line link reader }
+    requires well { IsSome reader.output }
+    ensures same { inbox.new ≡ inbox.old }
+    ensures read_out { IsReadOut inbox.old link reader }
+{
+    let (mut rx, done) = reader.into_parts();
+    let Some(done) = done else { unreachable!() };
+    link.return_to(&mut rx);
+    inbox.take_back(done);
+}
+
+/// Takes back what each link and its reader left.
+fn take_each_back(inbox: &mut InboxRx, readers: Vec<ReaderEnded>, links: Vec<LinkDone>)
+    requires joined { AreJoinedTo inbox.old.line links.items readers.items }
+    requires well { AllByRecursion (λ r. IsSome r.output) readers.items }
+    ensures same { inbox.new ≡ inbox.old }
+    ensures read_out { (l : ℕ) → (k : LinkEnd) → slice_get links.items l ≡ Some k → (r : ReaderEnd) → slice_get readers.items l ≡ Some r → IsReadOut inbox.old k r }
+{
+    let mut tails = links.into_iter();
+    for reader in readers {
+        match tails.next() {
+            Some(link) => take_back(inbox, reader, link),
+            None => return,
+        }
+    }
+}
+
+/// Takes all ends back, and gives the stages.
+fn settle(ends: Ends) -> (Pending, Ledger<KvDriver>, Applier)
+    requires joined { AreJoined ends }
+    requires well { first_failed ends ≡ None }
+    ensures parts { (result.0 ≡ ends.pend.view) × (result.1 ≡ ends.slot.view) × (result.2 ≡ ends.apply.view) }
+    ensures ended { EndWell ends }
+{
+    let Ends {
+        readers,
+        links,
+        local,
+        pend,
+        slot,
+        apply,
+    } = ends;
+    let (mut inbox, given, pending) = pend.into_parts();
+    take_each_back(&mut inbox, readers, links);
+    local.return_to(&mut inbox);
+    let (mut ready, onward, ledger) = slot.into_parts();
+    let Some(given) = given else { unreachable!() };
+    ready.take_back(given);
+    let (mut decided, applier) = apply.into_parts();
+    let Some(onward) = onward else { unreachable!() };
+    decided.take_back(onward);
+    (pending, ledger, applier)
+}
+
+/// What the stages tell.
+fn told(pending: Pending, ledger: Ledger<KvDriver>, applier: Applier) -> Result<NodeReport, Fault>
+    requires { IsSome applier.state }
+    ensures journal { IfOk result (λ r. r.journal.items ≡ ledger.journal) }
+    ensures parked { IfOk result (λ r. (me : NodeId) → (peers : List NodeId) → (taken : List Inbound) → (given : List Ready) → Pends me peers taken given pending → AreParked pending r.parked.items) }
+    ensures ascending { IfOk result (λ r. (me : NodeId) → (peers : List NodeId) → (taken : List Inbound) → (given : List Ready) → Pends me peers taken given pending → HasShape me peers taken → IsStrictlySortedBy message_cmp r.parked.items) }
+    ensures applied { IfOk result (λ r. (r.applied.items ≡ applier.applied) × (Some r.state ≡ applier.state)) }
+    ensures only_memory { IsOkUnless result Fault.NoMemory }
+{
+    let parked = pending.into_parked()?;
+    let (applied, state) = applier.into_applied();
+    let Some(state) = state else { unreachable!() };
+    Ok(NodeReport {
+        journal: ledger.into_journal(),
+        parked,
+        applied,
+        state,
+    })
+}
+
+/// What became of all that was sent to a node over its links, and what it did, where each of its workers ended well. Refused by
+/// `Refused` with the first stage, in the order of the pipeline, of which a worker failed; else by `NoMemory`.
+pub fn gather(ends: Ends) -> Result<NodeReport, Fault>
+    requires joined { AreJoined ends }
+    ensures theorem { (me : NodeId) → (set : QuorumTree) → (peers : List NodeId) → IsNode me set peers ends → IfOk result (λ r. IsReportOf me set peers ends r.journal.items r.parked.items r.applied.items r.state) }
+    ensures refused { (s : Stage) → IsErrOf result (Fault.Refused s) ↔ (first_failed ends ≡ Some s) }
+    ensures only { IfErr result (λ f. (f ≡ Fault.NoMemory) ⊎ ((s : Stage) × (f ≡ Fault.Refused s))) }
+{
+    if let Some(stage) = ends.first_failed() {
+        return Err(Fault::Refused(stage));
+    }
+    what_ends_well_is_gathered();
+    let (pending, ledger, applier) = settle(ends);
+    told(pending, ledger, applier)
+}

@@ -1,0 +1,17 @@
+//! What the threads of a node left, gathered.
+//!
+//! What it promises, under every schedule, where each worker of a node ended well:
+//! - the ledger theorem, of what was sent over the node's links and what came to it, with nothing left in a queue or a hand;
+//! - what came are the items of each link, as they are read, and the node's own commands, each in its order;
+//! - what is parked waits for its quorum set; and the fates of a connection and then its parked messages are what was sent on it.
+//!
+//! Where a worker failed, `gather` tells the first such stage.
+#![tactic(auto)]
+
+mod ends;
+mod gathering;
+mod laws;
+
+pub use ends::Ends;
+pub use gathering::{NodeReport, gather};
+pub use laws::what_ends_well_is_gathered;
