@@ -5,10 +5,9 @@ use scp_types::{Fault, NodeId, Slot, Value};
 use scp_wire::{Bytes, Cause, Inbound, Message, encode};
 use std::alloc::Global;
 use std::process::Abort;
+use std::sync::Wait;
 use std::sync::atomic::{AtomicU64, Ordering};
-use std::sync::{Arc, Wait};
 use std::test::*;
-use std::thread;
 
 const ME: NodeId = NodeId([1; 32]);
 
@@ -131,15 +130,13 @@ fn a_reader_sends_what_its_link_is_read_as(rt: HostRuntime) -> Result<(), Fail> 
     let alloc = rt.alloc();
     let good = batch(alloc).ok().expect(&rt, "bytes");
     let bad = Bytes::new([9].to_vec(alloc)?);
-    let gate = Arc::new(alloc, Counting::new())?;
-    let theirs = Arc::try_clone(&gate)?;
-    let (tx, worker, mut out) = between(alloc, 1).ok().expect(&rt, "ends");
-    let reader = thread::spawn(&rt, move || worker.run(&rt, &*theirs).well())?;
+    let gate = Counting::new();
+    let (tx, worker, mut out) = between(alloc, 8).ok().expect(&rt, "ends");
     assert!(rt; send_all(&rt, tx, good, bad));
+    assert!(rt; worker.run(&rt, &gate).well());
     for wanted in [1, 100, 101, 102, 2, 4] {
         assert_eq!(rt; next(&rt, &mut out), wanted);
     }
-    assert!(rt; reader.join(&rt));
     assert_eq!(rt; gate.counts(), (5, 6, 0));
     Ok(())
 }
@@ -149,10 +146,9 @@ fn a_reader_without_an_inbox_hears_its_link_to_the_end(rt: HostRuntime) -> Resul
     let alloc = rt.alloc();
     let good = batch(alloc).ok().expect(&rt, "bytes");
     let bad = Bytes::new([9].to_vec(alloc)?);
-    let (tx, worker, out) = between(alloc, 1).ok().expect(&rt, "ends");
+    let (tx, worker, out) = between(alloc, 8).ok().expect(&rt, "ends");
     drop(out);
-    let reader = thread::spawn(&rt, move || worker.run(&rt, &Open).well())?;
     assert!(rt; send_all(&rt, tx, good, bad));
-    assert!(rt; !reader.join(&rt));
+    assert!(rt; !worker.run(&rt, &Open).well());
     Ok(())
 }
