@@ -6,10 +6,10 @@ ghost use Rattle.scp_apply.specs.Applies.{Applies};
 ghost use Rattle.scp_ends.specs.Ends.{HeardAll};
 ghost use Rattle.scp_workers.specs.Apply.{SameEnds, HoldsEnds, EndsWell};
 
-use crate::gate::{Counter, Gate, Stage};
 use crate::handing::hand_out;
 use scp_apply::{Applier, what_holds_of_an_applier_holds_with_one_thing_more};
 use scp_ends::{DecidedRx, Item};
+use scp_gate::{Counter, Gate, Stage};
 use scp_ledger::Onward;
 use scp_outbox::SharedOutbox;
 use scp_types::NodeId;

@@ -10,7 +10,6 @@
 
 mod apply;
 mod ending;
-mod gate;
 mod handing;
 mod pend;
 mod reading;
@@ -19,7 +18,6 @@ mod slot;
 mod tests;
 
 pub use apply::{ApplyEnded, ApplyWorker};
-pub use gate::{Gate, Moment, Open, Place, Stage};
 pub use pend::{PendEnded, PendWorker};
 pub use reading::{ReaderEnded, ReaderWorker};
 pub use slot::{SlotEnded, SlotWorker};

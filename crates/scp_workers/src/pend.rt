@@ -5,9 +5,9 @@ ghost use Rattle.scp_workers.specs.Working.{IsSameEnd};
 ghost use Rattle.scp_workers.specs.Pending.{GivesOn, TakesIn, TakesOn, SameEnds, HoldsEnds, EndsWell};
 
 use crate::ending::stop_well;
-use crate::gate::{Counter, Gate, Stage};
 use crate::handing::hand_out;
 use scp_ends::{InboxRx, Item, ReadyDone, ReadyTx};
+use scp_gate::{Counter, Gate, Stage};
 use scp_outbox::SharedOutbox;
 use scp_pending::{Pending, Ready};
 use scp_quorum::SaneSet;

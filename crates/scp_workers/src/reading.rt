@@ -6,8 +6,8 @@ ghost use Rattle.scp_workers.specs.Working.{IsSameEnd};
 ghost use Rattle.scp_workers.specs.Reading.{HasGiven, HoldsEnds, SameEnds, EndsWell};
 
 use crate::ending::stop_well;
-use crate::gate::{Counter, Gate, Stage};
 use scp_ends::{InboxDone, InboxTx, Item, LinkRx};
+use scp_gate::{Counter, Gate, Stage};
 use scp_types::NodeId;
 use scp_wire::{Inbound, LinkItem, LinkReader};
 use std::alloc::Global;

@@ -9,10 +9,10 @@ ghost use Rattle.scp_workers.specs.Working.{IsSameEnd};
 ghost use Rattle.scp_workers.specs.Slot.{KvJournals, Stands, JournalsOn, MayFollow, SameEnds, HoldsEnds, EndsWell};
 
 use crate::ending::stop_well;
-use crate::gate::{Counter, Gate, Stage};
 use crate::handing::hand_out_all;
 use scp_driver::KvDriver;
 use scp_ends::{DecidedDone, DecidedTx, Item, ReadyRx};
+use scp_gate::{Counter, Gate, Stage};
 use scp_ledger::{
     Ledger, Onward, Took, what_holds_of_a_ledger_holds_with_one_thing_more,
     what_is_given_on_keeps_the_window,

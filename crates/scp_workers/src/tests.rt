@@ -1,6 +1,7 @@
-use crate::{Gate, Moment, Open, Place, ReaderWorker, Stage};
+use crate::ReaderWorker;
 use scp_ends::{InboxRx, Item, LinkTx, inbox, link};
 use scp_envelope::ValueList;
+use scp_gate::{Gate, Moment, Open, Place, Stage};
 use scp_types::{Fault, NodeId, Slot, Value};
 use scp_wire::{Bytes, Cause, Inbound, Message, encode};
 use std::alloc::Global;
