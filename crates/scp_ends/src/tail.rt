@@ -77,6 +77,20 @@ impl LinkTx {
         }
     }
 
+    /// How often the link was opened.
+    pub fn lives(&self) -> u32
+        ensures { result ≡ (stands self.now).life }
+    {
+        self.life
+    }
+
+    /// Whether the link is open.
+    pub fn is_open(&self) -> bool
+        ensures { result ≡ (stands self.now).is_open }
+    {
+        self.is_open
+    }
+
     /// Opens the link: its next connection begins.
     pub fn open<R: Wait>(&mut self, rt: &R) -> Result<(), NotSent>
         ensures opened { OnOk result (self.new ≡ with_item self.old (item.Opened (conn_next self.old))) }

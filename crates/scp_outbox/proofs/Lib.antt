@@ -2,3 +2,4 @@ pub mod Kept
 pub mod Waiting
 pub mod Giving
 pub mod Room
+pub mod Crossing

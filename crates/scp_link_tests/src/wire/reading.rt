@@ -197,3 +197,16 @@ fn a_side_message_may_follow_the_last_number(rt: HostRuntime) -> Result<(), Fail
     );
     Ok(())
 }
+
+#[test]
+fn a_request_behind_the_last_number_ends_the_connection(rt: HostRuntime) -> Result<(), Fail> {
+    let mut reader = opened(rt.alloc())?;
+    assert!(rt; reads_requests(&mut reader, rt.alloc(), CARRIED_LIMIT)?);
+    assert_eq!(rt;
+        bytes(&mut reader, rt.alloc(), 1, &asks(9))?,
+        Read::Closed(1, Cause::Spent)
+    );
+    assert_eq!(rt; bytes(&mut reader, rt.alloc(), 1, &asks(9))?, Read::Nothing);
+    assert!(rt; reads_a_life(&mut reader, rt.alloc(), 2)?);
+    Ok(())
+}
