@@ -5,3 +5,4 @@ pub mod Coming
 pub mod Parking
 pub mod Joining
 pub mod Settling
+mod Counting

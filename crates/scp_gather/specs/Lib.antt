@@ -2,3 +2,4 @@ pub mod Left
 pub mod Node
 pub mod Gathered
 pub mod Report
+pub mod Count

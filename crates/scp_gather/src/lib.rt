@@ -5,7 +5,7 @@
 //! - what came are the items of each link, as they are read, and the node's own commands, each in its order;
 //! - what is parked waits for its quorum set; and the fates of a connection and then its parked messages are what was sent on it.
 //!
-//! Where a worker failed, `gather` tells the first such stage.
+//! Where a worker failed, `gather` tells the first such stage. How much a node holds while it runs is a law of its own.
 #![tactic(auto)]
 
 mod ends;
@@ -14,4 +14,4 @@ mod laws;
 
 pub use ends::Ends;
 pub use gathering::{NodeReport, gather};
-pub use laws::what_ends_well_is_gathered;
+pub use laws::{a_node_holds_so_much, what_ends_well_is_gathered};

@@ -1,0 +1,294 @@
+-- Workers, and what they end with, may cross threads: step by step, since a search through all of one runs out of steps.
+use denote.Param.Send.{IsSend, IsSync, sendable, view_send}
+use denote.Param.SendFields.{declared_send, variants_send}
+use Rattle.std.proofs.Crossing.{crosses, Arc-send}
+use Rattle.std.proofs.MapsCrossing as maps
+use Rattle.scp_types.proofs.names.ConnId.TheSendSync as conns
+use Rattle.scp_types.proofs.names.Seq.TheSendSync as seqs
+use Rattle.scp_types.proofs.names.NodeId.TheSendSync as nodes
+use Rattle.scp_types.proofs.names.Hash.TheSendSync as hashes
+use Rattle.scp_types.proofs.names.Slot.TheSendSync as slots
+use Rattle.scp_quorum.specs.contracts.quorum_set.QuorumSet as set
+use Rattle.scp_quorum.specs.contracts.sane_set.SaneSet as sane
+use Rattle.scp_quorum.proofs.quorum_set.QuorumSet.TheLaws.TheKnot.{send-QuorumSet, sync-QuorumSet}
+use Rattle.scp_quorum.proofs.quorum.places.Seat.TheSendSync as seats
+use Rattle.scp_envelope.proofs.shared.SharedEnvelope.TheSendSync as envelopes
+use Rattle.scp_envelope.proofs.shared.SharedStatement.TheSendSync as statements
+use Rattle.scp_wire.proofs.boxed.BoxedEnvelope.TheSendSync as boxes
+use Rattle.scp_wire.proofs.link.Cause.TheSendSync as causes
+use Rattle.scp_wire.proofs.link.Command.TheSendSync as commands
+use Rattle.scp_wire.specs.contracts.message.Message as message
+use Rattle.scp_wire.specs.contracts.side.SideMessage as side
+use Rattle.scp_wire.specs.contracts.carried.Carried as carried
+use Rattle.scp_wire.specs.contracts.link.Inbound as inbound
+use Rattle.scp_wire.specs.contracts.reader.LinkReader as link_reader
+use Rattle.scp_pending.specs.contracts.ready.Ready as ready
+use Rattle.scp_pending.specs.contracts.ready.Delivery as delivery
+use Rattle.scp_pending.specs.contracts.ready.Delivery.TheInside as delivery_inside
+use Rattle.scp_pending.proofs.ready.DropCause.TheSendSync as drops
+use Rattle.scp_pending.specs.contracts.parked.Parked as parked
+use Rattle.scp_pending.specs.contracts.queue.Queue as queue
+use Rattle.scp_pending.specs.contracts.pending.Parking as parking
+use Rattle.scp_pending.specs.contracts.pending.Parking.TheInside as parking_inside
+use Rattle.scp_pending.specs.contracts.pending.Pending as pending
+use Rattle.scp_fetch.specs.contracts.store.SetStore as store
+use Rattle.scp_fetch.proofs.fetcher.Fetcher.TheSendSync as fetching
+use Rattle.scp_vote.specs.contracts.statements.Entry as entry
+use Rattle.scp_vote.specs.contracts.table.Table as table
+use Rattle.scp_vote.specs.contracts.board.Board as board
+use Rattle.scp_driver.specs.contracts.kv_driver.KvDriver as driver
+use Rattle.scp_driver.specs.contracts.kv_driver.KvDriverDriver.TheImpl.{ghosts}
+use Rattle.scp_driver.proofs.kv_driver.KvDriver.TheSendSync as drivers
+use Rattle.scp_nominate.specs.contracts.state.State as nominating
+use Rattle.scp_nominate.specs.contracts.nominator.Nominator as nominator
+use Rattle.scp_nominate.proofs.guide.Guide.TheSendSync as guides
+use Rattle.scp_nominate.proofs.lists.Lists.TheSendSync as lists
+use Rattle.scp_nominate.proofs.values.ValueSet.TheSendSync as values
+use Rattle.scp_ballot_rules.proofs.state.State.TheSendSync as rules
+use Rattle.scp_ballot.specs.contracts.machine.Machine as balloting
+use Rattle.scp_ballot.specs.contracts.balloter.Balloter as balloter
+use Rattle.scp_ballot.specs.contracts.balloter.Balloter.TheInside as balloter_inside
+use Rattle.scp_slot.specs.contracts.newest.Heard as heard
+use Rattle.scp_slot.specs.contracts.newest.Newest as newest
+use Rattle.scp_slot.specs.contracts.state.State as slot_state
+use Rattle.scp_slot.specs.contracts.machine.SlotMachine as machine
+use Rattle.scp_ledger.proofs.shared.SharedDecision.TheSendSync as decisions
+use Rattle.scp_ledger.proofs.window.Window.TheSendSync as windows
+use Rattle.scp_ledger.proofs.journal.Asking.TheSendSync as askings
+use Rattle.scp_ledger.proofs.journal.Verdict.TheSendSync as verdicts
+use Rattle.scp_ledger.specs.contracts.journal.Fate as fate
+use Rattle.scp_ledger.specs.contracts.state.State as ledger_state
+use Rattle.scp_ledger.specs.contracts.ledger.Ledger as ledger
+use Rattle.scp_ledger.specs.contracts.ledger.Ledger.TheInside as ledger_inside
+use Rattle.scp_outbox.proofs.Crossing.{shared_send, shared_sync}
+use Rattle.scp_apply.proofs.applier.Applier.TheSendSync as appliers
+use Rattle.scp_wire.proofs.link.LinkItem.TheSendSync as items
+use Rattle.scp_ledger.proofs.took.Onward.TheSendSync as onwards
+use Rattle.scp_gate.proofs.Counter.TheSendSync as counters
+use Rattle.scp_ends.proofs.ends.Tx.TheSendSync as txs
+use Rattle.scp_ends.proofs.ends.Rx.TheSendSync as rxs
+use Rattle.scp_ends.proofs.ends.Done.TheSendSync as dones
+use Rattle.scp_ends.proofs.rule.Any.TheSendSync as anys
+use Rattle.scp_ends.proofs.window.InWindow.TheSendSync as in_windows
+use Rattle.scp_ends.proofs.tail.LinkTx.TheSendSync as tails
+use Rattle.scp_ends.proofs.tail.LinkDone.TheSendSync as tails_done
+use Rattle.scp_workers.specs.contracts.reading.ReaderWorker as reader_worker
+use Rattle.scp_workers.specs.contracts.reading.ReaderWorker.TheInside as reader_worker_inside
+use Rattle.scp_workers.specs.contracts.reading.ReaderEnded as reader_ended
+use Rattle.scp_workers.specs.contracts.reading.ReaderEnded.TheInside as reader_ended_inside
+use Rattle.scp_workers.specs.contracts.pend.PendWorker as pend_worker
+use Rattle.scp_workers.specs.contracts.pend.PendWorker.TheInside as pend_worker_inside
+use Rattle.scp_workers.specs.contracts.pend.PendEnded as pend_ended
+use Rattle.scp_workers.specs.contracts.pend.PendEnded.TheInside as pend_ended_inside
+use Rattle.scp_workers.specs.contracts.slot.SlotWorker as slot_worker
+use Rattle.scp_workers.specs.contracts.slot.SlotWorker.TheInside as slot_worker_inside
+use Rattle.scp_workers.specs.contracts.slot.SlotEnded as slot_ended
+use Rattle.scp_workers.specs.contracts.slot.SlotEnded.TheInside as slot_ended_inside
+use Rattle.scp_workers.specs.contracts.apply.ApplyWorker as apply_worker
+use Rattle.scp_workers.specs.contracts.apply.ApplyWorker.TheInside as apply_worker_inside
+use Rattle.scp_workers.specs.contracts.apply.ApplyEnded as apply_ended
+use Rattle.scp_workers.specs.contracts.apply.ApplyEnded.TheInside as apply_ended_inside
+use Rattle.scp_courier.specs.contracts.courier.Courier as courier
+use Rattle.scp_courier.specs.contracts.courier.Courier.TheInside as courier_inside
+use Rattle.scp_courier.specs.contracts.courier.CourierEnded as courier_ended
+use Rattle.scp_courier.specs.contracts.courier.CourierEnded.TheInside as courier_ended_inside
+
+ruleset plain = (sendable, crosses, maps.crosses)
+
+set_send : IsSend set.the_row
+set_send = search (sendable, crosses, send-QuorumSet) depth 40
+
+set_sync : IsSync set.the_row
+set_sync = search (sendable, crosses, sync-QuorumSet) depth 40
+
+sane_send : IsSend set.the_row → IsSend sane.the_row
+sane_send s = search (sendable, crosses) depth 40
+
+sane_sync : IsSync set.the_row → IsSync sane.the_row
+sane_sync s = search (sendable, crosses) depth 40
+
+message_send : IsSend set.the_row → IsSend message.the_row
+message_send s = search (sendable, crosses, boxes.the_send) depth 40
+
+carried_send : IsSend message.the_row → IsSend carried.the_row
+carried_send m = declared_send carried.the_type (conns.the_send, (seqs.the_send, (m, tt)))
+
+side_send : IsSend set.the_row → IsSend side.the_row
+side_send s = search (sendable, crosses) depth 40
+
+inbound_send : IsSend carried.the_row → IsSend side.the_row → IsSend inbound.the_row
+inbound_send c s = variants_send inbound.enum ((conns.the_send, tt), ((c, tt), ((conns.the_send, (s, tt)), ((conns.the_send, (causes.the_send, tt)), ((commands.the_send, tt), tt)))))
+
+link_reader_send : IsSend inbound.the_row → IsSend link_reader.the_row
+link_reader_send i = search (sendable, crosses) depth 40
+
+delivery_inside_send : IsSend message.the_row → IsSend sane.the_row → IsSync sane.the_row → IsSend delivery_inside.the_row
+delivery_inside_send m s y = declared_send delivery_inside.the_type (conns.the_send, (seqs.the_send, (m, (search (sendable, crosses) depth 40, tt))))
+
+delivery_send : IsSend delivery_inside.the_row → IsSend delivery.the_row
+delivery_send d = view_send _ _ _ _ _ d
+
+ready_send : IsSend delivery.the_row → IsSend ready.the_row
+ready_send d = variants_send ready.enum ((d, tt), ((conns.the_send, (seqs.the_send, (drops.the_send, tt))), ((conns.the_send, (causes.the_send, tt)), ((commands.the_send, tt), tt))))
+
+parked_send : IsSend carried.the_row → IsSend delivery.the_row → IsSend parked.the_row
+parked_send c d = variants_send parked.enum ((c, tt), ((d, tt), ((c, (drops.the_send, tt)), tt)))
+
+queue_send : IsSend parked.the_row → IsSend queue.the_row
+queue_send p = search (sendable, crosses) depth 40
+
+store_send : IsSend sane.the_row → IsSync sane.the_row → IsSend store.the_row
+store_send s y = search (plain) depth 40
+
+parking_inside_send : IsSend store.the_row → IsSend queue.the_row → IsSend ready.the_row → IsSend parking_inside.the_row
+parking_inside_send s q r = declared_send parking_inside.the_type (search sendable depth 20, (nodes.the_send, (search (sendable, crosses, nodes.the_send) depth 20, (s, (fetching.the_send, (search (sendable, crosses) depth 20, (search (sendable, crosses) depth 20, tt)))))))
+
+parking_send : IsSend parking_inside.the_row → IsSend parking.the_row
+parking_send p = view_send _ _ _ _ _ p
+
+pending_send : IsSend parking.the_row → IsSend pending.the_row
+pending_send p = search (sendable, crosses) depth 40
+
+entry_send : IsSend sane.the_row → IsSync sane.the_row → IsSend entry.the_row
+entry_send s y = declared_send entry.the_type (envelopes.the_send, (Arc-send sane.the_row s y, (search sendable depth 20, tt)))
+
+table_send : IsSend sane.the_row → IsSync sane.the_row → IsSend entry.the_row → IsSend table.the_row
+table_send s y e = declared_send table.the_type (search (sendable, maps.crosses, nodes.the_send) depth 20, (search (sendable, crosses, seats.the_send) depth 20, (search (sendable, crosses) depth 20, (search (sendable, maps.crosses, hashes.the_send) depth 20, tt))))
+
+board_send : IsSend sane.the_row → IsSync sane.the_row → IsSend table.the_row → IsSend board.the_row
+board_send s y t = declared_send board.the_type (search (sendable, crosses) depth 20, (nodes.the_send, (Arc-send sane.the_row s y, (t, (t, tt)))))
+
+nominating_send : IsSend board.the_row → IsSend nominating.the_row
+nominating_send b = declared_send nominating.the_type (search (sendable, crosses) depth 20, (hashes.the_send, (b, (values.the_send, (lists.the_send, tt)))))
+
+nominator_send : IsSend nominating.the_row → IsSend (nominator.the_row driver.the_row)
+nominator_send n = declared_send (nominator.the_type driver.the_row) (search (sendable, crosses, guides.the_send, drivers.the_send) depth 20, (n, (search (sendable, crosses, nodes.the_send) depth 20, (search sendable depth 20, (search sendable depth 20, tt)))))
+
+balloting_send : IsSend board.the_row → IsSend balloting.the_row
+balloting_send b = declared_send balloting.the_type (search (sendable, crosses) depth 20, (slots.the_send, (hashes.the_send, (b, (rules.the_send, (search (sendable, statements.the_send) depth 20, tt))))))
+
+balloter_send : IsSend balloting.the_row → IsSend balloter.the_row
+balloter_send b = view_send _ _ _ _ _ (declared_send balloter_inside.the_type (b, (search sendable depth 20, tt)))
+
+heard_send : IsSend sane.the_row → IsSync sane.the_row → IsSend heard.the_row
+heard_send s y = declared_send heard.the_type (statements.the_send, (Arc-send sane.the_row s y, tt))
+
+newest_send : IsSend heard.the_row → IsSend newest.the_row
+newest_send h = search (sendable, maps.crosses, nodes.the_send) depth 40
+
+slot_state_send : IsSend (nominator.the_row driver.the_row) → IsSend balloter.the_row → IsSend newest.the_row → IsSend (slot_state.the_row driver.the_row)
+slot_state_send n b w = declared_send (slot_state.the_type driver.the_row) (nodes.the_send, (slots.the_send, (n, (b, (w, (search sendable depth 20, (search sendable depth 20, tt)))))))
+
+machine_send : IsSend (slot_state.the_row driver.the_row) → IsSend (machine.the_row driver.the_row)
+machine_send s = declared_send (machine.the_type driver.the_row) (search (sendable, crosses) depth 20, (search sendable depth 20, tt))
+
+fate_send : IsSend message.the_row → IsSend sane.the_row → IsSync sane.the_row → IsSend fate.the_row
+fate_send m s y = variants_send fate.enum ((conns.the_send, (seqs.the_send, (m, (search (sendable, crosses) depth 20, (verdicts.the_send, tt))))), ((conns.the_send, (seqs.the_send, (drops.the_send, tt))), ((conns.the_send, (causes.the_send, tt)), tt)))
+
+ledger_state_send : IsSend sane.the_row → IsSync sane.the_row → IsSend fate.the_row → IsSend (machine.the_row driver.the_row) → IsSend (ledger_state.the_row driver.the_row)
+ledger_state_send s y f m = declared_send (ledger_state.the_type driver.the_row) (search (sendable, crosses) depth 20, (nodes.the_send, (Arc-send sane.the_row s y, (search (sendable, drivers.the_send) depth 20, (search (sendable, crosses, nodes.the_send) depth 20, (search (sendable, crosses) depth 20, (search (sendable, crosses, decisions.the_send) depth 20, (windows.the_send, (search (sendable, maps.crosses) depth 20, (search (sendable, maps.crosses, askings.the_send) depth 20, tt))))))))))
+
+ledger_send : IsSend (ledger_state.the_row driver.the_row) → IsSend (ledger.the_row driver.the_row ghosts)
+ledger_send s = view_send _ _ _ _ _ (declared_send (ledger_inside.the_type driver.the_row ghosts) (s, (search sendable depth 20, tt)))
+
+its_sane_send : IsSend sane.the_row
+its_sane_send = sane_send set_send
+
+its_sane_sync : IsSync sane.the_row
+its_sane_sync = sane_sync set_sync
+
+its_message_send : IsSend message.the_row
+its_message_send = message_send set_send
+
+its_carried_send : IsSend carried.the_row
+its_carried_send = carried_send its_message_send
+
+its_delivery_send : IsSend delivery.the_row
+its_delivery_send = delivery_send (delivery_inside_send its_message_send its_sane_send its_sane_sync)
+
+pub its_inbound_send : IsSend inbound.the_row
+its_inbound_send = inbound_send its_carried_send (side_send set_send)
+
+pub its_link_reader_send : IsSend link_reader.the_row
+its_link_reader_send = link_reader_send its_inbound_send
+
+pub its_ready_send : IsSend ready.the_row
+its_ready_send = ready_send its_delivery_send
+
+pub its_pending_send : IsSend pending.the_row
+its_pending_send = pending_send (parking_send (parking_inside_send (store_send its_sane_send its_sane_sync) (queue_send (parked_send its_carried_send its_delivery_send)) its_ready_send))
+
+its_board_send : IsSend board.the_row
+its_board_send = board_send its_sane_send its_sane_sync (table_send its_sane_send its_sane_sync (entry_send its_sane_send its_sane_sync))
+
+its_machine_send : IsSend (machine.the_row driver.the_row)
+its_machine_send = machine_send (slot_state_send (nominator_send (nominating_send its_board_send)) (balloter_send (balloting_send its_board_send)) (newest_send (heard_send its_sane_send its_sane_sync)))
+
+pub its_ledger_send : IsSend (ledger.the_row driver.the_row ghosts)
+its_ledger_send = ledger_send (ledger_state_send its_sane_send its_sane_sync (fate_send its_message_send its_sane_send its_sane_sync) its_machine_send)
+
+-- ---- the ends of channels, and the workers
+
+ruleset ends = (sendable, crosses, txs.the_send, rxs.the_send, dones.the_send, anys.the_send, in_windows.the_send)
+
+ruleset outlets = (sendable, crosses, shared_send, shared_sync)
+
+reader_worker_inside_send : IsSend inbound.the_row → IsSend link_reader.the_row → IsSend reader_worker_inside.the_row
+reader_worker_inside_send i l = declared_send reader_worker_inside.the_type (search (sendable, crosses) depth 20, (search (ends, items.the_send) depth 20, (search ends depth 20, (l, (counters.the_send, (search sendable depth 20, tt))))))
+
+pub reader_worker_send : IsSend reader_worker.the_row
+reader_worker_send = view_send _ _ _ _ _ (reader_worker_inside_send its_inbound_send its_link_reader_send)
+
+reader_ended_inside_send : IsSend inbound.the_row → IsSend reader_ended_inside.the_row
+reader_ended_inside_send i = declared_send reader_ended_inside.the_type (search (ends, items.the_send) depth 20, (search ends depth 20, tt))
+
+pub reader_ended_send : IsSend reader_ended.the_row
+reader_ended_send = view_send _ _ _ _ _ (reader_ended_inside_send its_inbound_send)
+
+pend_worker_inside_send : IsSend inbound.the_row → IsSend ready.the_row → IsSend pending.the_row → IsSend sane.the_row → IsSync sane.the_row → IsSend pend_worker_inside.the_row
+pend_worker_inside_send i r p s y = declared_send pend_worker_inside.the_type (search ends depth 20, (search ends depth 20, (p, (search outlets depth 20, (nodes.the_send, (search (sendable, crosses) depth 20, (search (sendable, crosses) depth 20, (search sendable depth 20, (search sendable depth 20, (counters.the_send, (search sendable depth 20, tt)))))))))))
+
+pub pend_worker_send : IsSend pend_worker.the_row
+pend_worker_send = view_send _ _ _ _ _ (pend_worker_inside_send its_inbound_send its_ready_send its_pending_send its_sane_send its_sane_sync)
+
+pend_ended_inside_send : IsSend inbound.the_row → IsSend ready.the_row → IsSend pending.the_row → IsSend pend_ended_inside.the_row
+pend_ended_inside_send i r p = declared_send pend_ended_inside.the_type (search ends depth 20, (search ends depth 20, (p, tt)))
+
+pub pend_ended_send : IsSend pend_ended.the_row
+pend_ended_send = view_send _ _ _ _ _ (pend_ended_inside_send its_inbound_send its_ready_send its_pending_send)
+
+slot_worker_inside_send : IsSend ready.the_row → IsSend (ledger.the_row driver.the_row ghosts) → IsSend sane.the_row → IsSync sane.the_row → IsSend slot_worker_inside.the_row
+slot_worker_inside_send r l s y = declared_send slot_worker_inside.the_type (search ends depth 20, (search (ends, onwards.the_send) depth 20, (l, (search outlets depth 20, (nodes.the_send, (search (sendable, crosses) depth 20, (search (sendable, crosses) depth 20, (counters.the_send, (search sendable depth 20, tt)))))))))
+
+pub slot_worker_send : IsSend slot_worker.the_row
+slot_worker_send = view_send _ _ _ _ _ (slot_worker_inside_send its_ready_send its_ledger_send its_sane_send its_sane_sync)
+
+slot_ended_inside_send : IsSend ready.the_row → IsSend (ledger.the_row driver.the_row ghosts) → IsSend slot_ended_inside.the_row
+slot_ended_inside_send r l = declared_send slot_ended_inside.the_type (search ends depth 20, (search (ends, onwards.the_send) depth 20, (l, tt)))
+
+pub slot_ended_send : IsSend slot_ended.the_row
+slot_ended_send = view_send _ _ _ _ _ (slot_ended_inside_send its_ready_send its_ledger_send)
+
+apply_worker_inside_send : IsSend apply_worker_inside.the_row
+apply_worker_inside_send = declared_send apply_worker_inside.the_type (search (ends, onwards.the_send) depth 20, (appliers.the_send, (search outlets depth 20, (counters.the_send, (search sendable depth 20, tt)))))
+
+pub apply_worker_send : IsSend apply_worker.the_row
+apply_worker_send = view_send _ _ _ _ _ apply_worker_inside_send
+
+apply_ended_inside_send : IsSend apply_ended_inside.the_row
+apply_ended_inside_send = declared_send apply_ended_inside.the_type (search (ends, onwards.the_send) depth 20, (appliers.the_send, (search sendable depth 20, tt)))
+
+pub apply_ended_send : IsSend apply_ended.the_row
+apply_ended_send = view_send _ _ _ _ _ apply_ended_inside_send
+
+courier_inside_send : IsSend courier_inside.the_row
+courier_inside_send = declared_send courier_inside.the_type (search (sendable, crosses) depth 20, (search outlets depth 20, (tails.the_send, (counters.the_send, (search sendable depth 20, tt)))))
+
+pub courier_send : IsSend courier.the_row
+courier_send = view_send _ _ _ _ _ courier_inside_send
+
+courier_ended_inside_send : IsSend courier_ended_inside.the_row
+courier_ended_inside_send = declared_send courier_ended_inside.the_type (search (sendable, crosses, tails_done.the_send) depth 20, (search sendable depth 20, (search sendable depth 20, tt)))
+
+pub courier_ended_send : IsSend courier_ended.the_row
+courier_ended_send = view_send _ _ _ _ _ courier_ended_inside_send

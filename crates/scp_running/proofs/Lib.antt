@@ -1,0 +1,5 @@
+pub mod Lists
+mod Leaving
+mod Crossing
+mod Lanes
+mod Rooms

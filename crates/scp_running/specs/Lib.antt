@@ -1,0 +1,5 @@
+pub mod Seats
+pub mod Sources
+pub mod Acting
+pub mod Ended
+pub mod Left
