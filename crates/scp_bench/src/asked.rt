@@ -17,7 +17,7 @@ pub enum Asked {
     Usage,
 }
 
-static WORKLOADS: [&str; 18] = [
+static WORKLOADS: [&str; 20] = [
     "decode",
     "records",
     "batches",
@@ -36,6 +36,8 @@ static WORKLOADS: [&str; 18] = [
     "consensus-16",
     "decide",
     "network",
+    "threads",
+    "serial",
 ];
 
 fn command<'a>(alloc: Global) -> Result<Command<'a>, AllocError> {
@@ -75,6 +77,8 @@ fn one(name: &str, size: Option<&str>) -> Asked {
         "consensus-16" => Workload::Consensus(16),
         "decide" => Workload::Decide,
         "network" => Workload::Network,
+        "threads" => Workload::Threads,
+        "serial" => Workload::Serial,
         _ => return Asked::Usage,
     };
     match size_in(size) {

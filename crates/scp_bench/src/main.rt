@@ -17,6 +17,7 @@ mod parked;
 mod quorum;
 mod records;
 mod script;
+mod threads;
 mod votes;
 mod workload;
 
@@ -27,11 +28,13 @@ use scp_types::Fault;
 use std::alloc::{AllocError, Global};
 use std::io::ErrorKind;
 use std::process::ExitCode;
+use std::sync::Wait;
+use std::thread::Threads;
 use std::{env, io};
 
 /// What is printed where no workload is asked for.
 const USAGE: &str =
-    "usage: scp_bench [decode|records|batches|envelopes|flow|parked|script|quorum-shared|quorum-own|quorum-chain|quorum-missing|votes-one|votes-each|consensus-4|consensus-8|consensus-16|decide|network [SIZE]]\n";
+    "usage: scp_bench [decode|records|batches|envelopes|flow|parked|script|quorum-shared|quorum-own|quorum-chain|quorum-missing|votes-one|votes-each|consensus-4|consensus-8|consensus-16|decide|network|threads|serial [SIZE]]\n";
 
 /// What is printed where there is no memory for a fault's line.
 const NO_MEMORY: &str = "out of memory\n";
@@ -46,18 +49,22 @@ fn words_of(rt: &HostRuntime, alloc: Global) -> Result<Option<Vec<String>>, Allo
 }
 
 /// Does what the words of the command line ask for, and answers the exit status. Words that aren't UTF-8 ask for nothing.
-fn answer<W: ReportOut>(rt: &HostRuntime, writer: &mut W) -> Result<u8, AllocError> {
+fn answer<T: Threads + Wait + Sync, W: ReportOut>(
+    rt: &HostRuntime,
+    threads: &T,
+    writer: &mut W,
+) -> Result<u8, AllocError> {
     let alloc = rt.alloc();
     let Some(words) = words_of(rt, alloc)? else {
         return Ok(tell_usage(writer));
     };
     let words: Vec<&str> = words.iter().map(|word| word.as_str()).collect(alloc)?;
-    Ok(serve(alloc, words.as_slice(), writer))
+    Ok(serve(threads, alloc, words.as_slice(), writer))
 }
 
 fn main(rt: HostRuntime) -> ExitCode {
     let mut writer = Process::new(io::writer(&rt));
-    match answer(&rt, &mut writer) {
+    match answer(&rt, &rt, &mut writer) {
         Ok(status) => ExitCode::from(status),
         Err(_) => ExitCode::from(refuse(rt.alloc(), Fault::NoMemory, &mut writer)),
     }
@@ -70,10 +77,15 @@ fn tell_usage<W: ReportOut>(writer: &mut W) -> u8 {
 }
 
 /// Does what the words ask for, and answers the exit status.
-fn serve<W: ReportOut>(alloc: Global, words: &[&str], writer: &mut W) -> u8 {
+fn serve<T: Threads + Wait + Sync, W: ReportOut>(
+    rt: &T,
+    alloc: Global,
+    words: &[&str],
+    writer: &mut W,
+) -> u8 {
     let done = match read_words(alloc, words) {
-        Ok(Asked::All) => write_all(alloc, writer),
-        Ok(Asked::One(workload, size)) => write_one(alloc, workload, size, writer),
+        Ok(Asked::All) => write_all(rt, alloc, writer),
+        Ok(Asked::One(workload, size)) => write_one(rt, alloc, workload, size, writer),
         Ok(Asked::Usage) => return tell_usage(writer),
         Err(fault) => Err(fault),
     };

@@ -1,4 +1,4 @@
-use scp_line::{MemoryIn, MemoryOut, Mode, play};
+use scp_line::{MemoryIn, MemoryOut, play};
 use scp_types::Fault;
 use std::alloc::{AllocError, Global};
 
@@ -65,7 +65,7 @@ impl Networks {
         let mut reader = MemoryIn::new(text.as_bytes());
         let mut writer = MemoryOut::new(Vec::new(alloc));
         // A text in memory fails where there is no memory for it, and so do the nodes of a good script of this length.
-        play(alloc, Mode::Serial, &mut reader, &mut writer).map_err(|_| Fault::NoMemory)?;
+        play(alloc, &mut reader, &mut writer).map_err(|_| Fault::NoMemory)?;
         self.scripts = self.scripts.wrapping_add(1);
         self.slots = self.slots.wrapping_add(slots as u64);
         self.bytes = self.bytes.wrapping_add(writer.text().len() as u64);

@@ -1,5 +1,5 @@
 use crate::messages::{record, slot_at};
-use scp_line::{MemoryIn, MemoryOut, Mode, play};
+use scp_line::{MemoryIn, MemoryOut, play};
 use scp_types::Fault;
 use std::alloc::{AllocError, Global};
 
@@ -57,7 +57,7 @@ impl Played {
         let mut reader = MemoryIn::new(text.as_bytes());
         let mut writer = MemoryOut::new(Vec::new(alloc));
         // A text in memory fails where there is no memory for it, and so do the nodes of a good script of this length.
-        play(alloc, Mode::Serial, &mut reader, &mut writer).map_err(|_| Fault::NoMemory)?;
+        play(alloc, &mut reader, &mut writer).map_err(|_| Fault::NoMemory)?;
         self.scripts = self.scripts.wrapping_add(1);
         self.lines = self.lines.wrapping_add(lines_of(sends));
         self.bytes = self.bytes.wrapping_add(writer.text().len() as u64);

@@ -8,10 +8,13 @@ use crate::parked::park_envelopes;
 use crate::quorum::{Quorums, Shape, find_quorums};
 use crate::records::{Ledgers, hear_records};
 use crate::script::{Played, play_scripts};
+use crate::threads::{Rounds, hear_in_threads, hear_in_turn};
 use crate::votes::{Sharing, Votes, count_votes};
 use scp_line::{ReportOut, write_text};
 use scp_types::Fault;
 use std::alloc::Global;
+use std::sync::Wait;
+use std::thread::Threads;
 
 /// The size of a workload where none is given.
 pub const SMALL: u32 = 1_000;
@@ -46,6 +49,10 @@ pub enum Workload {
     Decide,
     /// Eight nodes that send to each other close slots, in scripts.
     Network,
+    /// Records and envelopes go through a node of seven links whose stages run in threads.
+    Threads,
+    /// The same, through a node that goes on event by event.
+    Serial,
 }
 
 /// The name of the workload that has this shape.
@@ -132,8 +139,27 @@ fn tell_judged(name: &str, judged: Judged, size: u32, text: &mut String) -> Resu
     Ok(())
 }
 
+/// Adds what nodes have after so many rounds.
+fn tell_rounds(name: &str, heard: Rounds, size: u32, text: &mut String) -> Result<(), Fault> {
+    let Rounds {
+        nodes,
+        entries,
+        applied,
+    } = heard;
+    writeln!(
+        text,
+        "{name} {size}: nodes {nodes} entries {entries} applied {applied}"
+    )?;
+    Ok(())
+}
+
 /// Runs a workload, and tells what was done in one line.
-fn run(alloc: Global, workload: Workload, size: u32) -> Result<String, Fault> {
+fn run<T: Threads + Wait + Sync>(
+    rt: &T,
+    alloc: Global,
+    workload: Workload,
+    size: u32,
+) -> Result<String, Fault> {
     let mut text = String::new(alloc);
     match workload {
         Workload::Decode => {
@@ -189,40 +215,54 @@ fn run(alloc: Global, workload: Workload, size: u32) -> Result<String, Fault> {
                 "network {size}: scripts {scripts} slots {slots} bytes {bytes}"
             )?;
         }
+        Workload::Threads => tell_rounds(
+            "threads",
+            hear_in_threads(rt, alloc, size)?,
+            size,
+            &mut text,
+        )?,
+        Workload::Serial => { tell_rounds("serial", hear_in_turn(alloc, size)?, size, &mut text)? }
     }
     Ok(text)
 }
 
 /// Runs a workload of this size, and writes its line.
-pub fn write_one<W: ReportOut>(
+pub fn write_one<T: Threads + Wait + Sync, W: ReportOut>(
+    rt: &T,
     alloc: Global,
     workload: Workload,
     size: u32,
     writer: &mut W,
 ) -> Result<(), Fault> {
-    let line = run(alloc, workload, size)?;
+    let line = run(rt, alloc, workload, size)?;
     write_text(writer, line.as_str())
 }
 
 /// Runs every workload small, and writes a line of each.
-pub fn write_all<W: ReportOut>(alloc: Global, writer: &mut W) -> Result<(), Fault> {
-    write_one(alloc, Workload::Decode, SMALL, writer)?;
-    write_one(alloc, Workload::Records, SMALL, writer)?;
-    write_one(alloc, Workload::Batches, SMALL, writer)?;
-    write_one(alloc, Workload::Envelopes, SMALL, writer)?;
-    write_one(alloc, Workload::Flow, SMALL, writer)?;
-    write_one(alloc, Workload::Parked, FEW, writer)?;
-    write_one(alloc, Workload::Script, SMALL, writer)?;
+pub fn write_all<T: Threads + Wait + Sync, W: ReportOut>(
+    rt: &T,
+    alloc: Global,
+    writer: &mut W,
+) -> Result<(), Fault> {
+    write_one(rt, alloc, Workload::Decode, SMALL, writer)?;
+    write_one(rt, alloc, Workload::Records, SMALL, writer)?;
+    write_one(rt, alloc, Workload::Batches, SMALL, writer)?;
+    write_one(rt, alloc, Workload::Envelopes, SMALL, writer)?;
+    write_one(rt, alloc, Workload::Flow, SMALL, writer)?;
+    write_one(rt, alloc, Workload::Parked, FEW, writer)?;
+    write_one(rt, alloc, Workload::Script, SMALL, writer)?;
     for shape in [Shape::Shared, Shape::Own, Shape::Chain, Shape::Missing] {
-        write_one(alloc, Workload::Quorum(shape), FEW, writer)?;
+        write_one(rt, alloc, Workload::Quorum(shape), FEW, writer)?;
     }
     for sharing in [Sharing::One, Sharing::Each] {
-        write_one(alloc, Workload::Votes(sharing), FEW, writer)?;
+        write_one(rt, alloc, Workload::Votes(sharing), FEW, writer)?;
     }
     for nodes in [4, 8, 16] {
-        write_one(alloc, Workload::Consensus(nodes), FEW, writer)?;
+        write_one(rt, alloc, Workload::Consensus(nodes), FEW, writer)?;
     }
-    write_one(alloc, Workload::Decide, SMALL, writer)?;
-    write_one(alloc, Workload::Network, FEW, writer)?;
+    write_one(rt, alloc, Workload::Decide, SMALL, writer)?;
+    write_one(rt, alloc, Workload::Network, FEW, writer)?;
+    write_one(rt, alloc, Workload::Threads, FEW, writer)?;
+    write_one(rt, alloc, Workload::Serial, FEW, writer)?;
     Ok(())
 }

@@ -12,6 +12,7 @@ use std::alloc::Global;
 use std::process::Abort;
 use std::test::*;
 
+mod between;
 mod refused;
 mod sending;
 

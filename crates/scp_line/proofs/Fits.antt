@@ -19,7 +19,7 @@ use Rattle.scp_script.specs.declared.command.Command.TheVariants.{Caps, Nodes, S
 use Rattle.scp_script.specs.declared.command.Capacities.{Capacities}
 use Rattle.scp_script.specs.Words.{words_of, lines_of, same, node_in, link_in, number_in, capacity_in, capacity_by, hex_bytes, value_in, set_in}
 use Rattle.scp_script.specs.Script.{node_count, command_in, commands_of, commands_in, caps_by, nodes_by, set_by, open_by, close_by, send_by, ask_by, propose_by, round_by, timer_by, wait_by}
-use Rattle.scp_script.specs.Nodes.{id_of, peers_of, set_at, capacities_given, capacities_of_none}
+use Rattle.scp_script.specs.Nodes.{id_of, peers_of, set_at, capacities_given, capacities_of_none, capacities_in}
 use Rattle.scp_line.specs.Play.{config_of}
 use Rattle.scp_line.specs.Nodes.{HaveRoom}
 
@@ -206,7 +206,7 @@ line_fits (verb ∷ link ∷ inbox ∷ ready ∷ decided ∷ []) =
     (caps_fit (capacity_in link) (capacity_in inbox) (capacity_in ready) (capacity_in decided) (is_in_range (number_in link)) (is_in_range (number_in inbox)) (is_in_range (number_in ready)) (is_in_range (number_in decided))) tt
 line_fits (verb ∷ a ∷ b ∷ c ∷ d ∷ more ∷ words) = tt
 
-abbrev RoomFits : Capacities → Type 0
+abbrev pub RoomFits : Capacities → Type 0
 RoomFits c = IsInRange c.link × IsInRange c.inbox × IsInRange c.ready × IsInRange c.decided
 
 given_fits : (command : Command) → CapsFit command → All RoomFits (capacities_given command)
@@ -247,7 +247,10 @@ or_fits None fits = ((omega arith, omega arith), (omega arith, omega arith), (om
 or_fits (Some c) fits = fits
 
 -- what a script says of its queues is in range
-pub script_has_room : (script : List ℕ) (commands : List Command) → commands ≡ commands_in script → HaveRoom commands
-script_has_room script commands same =
+pub script_fits : (script : List ℕ) (commands : List Command) → commands ≡ commands_in script → RoomFits (capacities_in commands)
+script_fits script commands same =
     let given = flat_map capacities_given (commands_in script) in
     rw same (or_fits (last_or None given) (last_fits None given tt (all_given_fit (commands_in script) (lines_fit (lines_of script)))))
+
+pub script_has_room : (script : List ℕ) (commands : List Command) → commands ≡ commands_in script → HaveRoom commands
+script_has_room script commands same = script_fits script commands same

@@ -13,3 +13,4 @@ pub mod Lines
 pub mod Making
 pub mod Reports
 pub mod Scripts
+pub mod Threaded

@@ -3,3 +3,4 @@ pub mod Report
 pub mod Parts
 pub mod Play
 pub mod Nodes
+pub mod Threads

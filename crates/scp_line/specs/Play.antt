@@ -3,7 +3,7 @@ use Rattle.std.specs.Prelude.{ℕ, ◌+◌, ◌-◌, ◌<◌, ◌≤◌, ◌≡�
 use Rattle.std.specs.Fmt.{decimal}
 use Rattle.scp_types.specs.declared.names.ConnId.{ConnId}
 use Rattle.scp_types.specs.declared.fault.Fault.{Fault}
-use Rattle.scp_types.specs.declared.fault.Fault.TheVariants.{Malformed, Failed}
+use Rattle.scp_types.specs.declared.fault.Fault.TheVariants.{Malformed, Failed, Refused}
 use Rattle.scp_quorum.specs.QuorumKind.{set_hash}
 use Rattle.scp_envelope.specs.declared.statement.Statement.{Statement}
 use Rattle.scp_envelope.specs.declared.statement.Pledges.{Pledges}
@@ -266,7 +266,8 @@ IsUnreadBytes None fault = fault ≡ Malformed 0
 abbrev pub IsUnread : List ℕ → Fault → Type 0
 IsUnread digits fault = IsUnreadBytes (hex_bytes digits) fault
 
--- only a node's failure has a node
+-- only a node's failure has a node, or a stage's of one
 abbrev pub IsNamed : ℕ → Fault → Type 0
 IsNamed node Failed = (1 ≤ node) × (node ≤ 8)
+IsNamed node (Refused stage) = (1 ≤ node) × (node ≤ 8)
 IsNamed node fault = node ≡ 0

@@ -5,6 +5,9 @@
 //!   the script gives them, and that the ledger theorem holds of for the very events that the script says, each accepted;
 //!   all is made before the first byte is written;
 //! - at each `settle`, and where a line's event finds no room, each node does whole rounds until one moves nothing, or 100,000;
+//! - `play_in_threads` and `play_gated` write the reports of nodes whose stages ran in threads of their own, of which the ledger theorem
+//!   holds for what was sent to them, with nothing left in a channel: the script's commands, and on the links that a `send` line
+//!   names just the script's items;
 //! - `Failed` names a node that failed at a line, and `Full` comes only where a line's queue was full also after a settle;
 //! - `check` refuses the scripts that `play` can't read, at the same line, and `show` writes the line of the message that
 //!   the digits spell;
@@ -12,17 +15,20 @@
 //! - the connections of a report ascend, and are just those with entries.
 #![tactic(auto)]
 
+mod gathered;
 mod messages;
 mod nodes;
 mod outcome;
 mod playing;
 mod report;
+mod threads;
 mod waiting;
 
 pub use outcome::{line_of_fault, status};
-pub use playing::{Mode, PlayFault, check, play, show};
+pub use playing::{PlayFault, check, play, show};
 pub use report::{Parked, ReportParts, connections_are_those_with_entries, write_report};
 pub use scp_device::{
     FailsAt, MemoryIn, MemoryOut, Process, ReportOut, SCRIPT_LIMIT, ScriptIn, read_script,
     write_text,
 };
+pub use threads::{play_gated, play_in_threads};

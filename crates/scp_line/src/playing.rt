@@ -19,13 +19,6 @@ use scp_types::Fault;
 use scp_wire::{Message, decode};
 use std::alloc::Global;
 
-/// How a script is played.
-#[derive(Clone, Copy, Debug, PartialEq, Eq)]
-pub enum Mode {
-    /// One step after another.
-    Serial,
-}
-
 /// Why a call was refused, and the node that the fault line names, or 0.
 #[derive(Clone, Copy, Debug, PartialEq, Eq)]
 pub struct PlayFault {
@@ -65,13 +58,12 @@ fn played(alloc: Global, text: &[u8]) -> Result<String, PlayFault>
     }
 }
 
-/// Plays a script: reads it whole, does what its lines say, and then writes the reports that they ask for. All that it
+/// Plays a script, one step after another: reads it whole, does what its lines say, and then writes the reports that they ask for. All that it
 /// writes is made before the first byte is written. The time grows with the script's length times the logarithm of the
 /// number of connections and keys. Refused as `check` refuses, by `Failed` where a node failed, which is then named, and by
 /// `Full` where a queue had no room for a line's event even after a settle.
 pub fn play<R: ScriptIn, W: ReportOut>(
     alloc: Global,
-    mode: Mode,
     reader: &mut R,
     writer: &mut W,
 ) -> Result<(), PlayFault>
@@ -102,9 +94,7 @@ pub fn play<R: ScriptIn, W: ReportOut>(
     ensures kept { OnOk result ((R.failures reader.new ≡ R.failures reader.old) × (W.failures writer.new ≡ W.failures writer.old)) }
 {
     let script = read_script(alloc, reader)?;
-    let text = match mode {
-        Mode::Serial => played(alloc, script.as_slice())?,
-    };
+    let text = played(alloc, script.as_slice())?;
     Ok(write_text(writer, text.as_str())?)
 }
 

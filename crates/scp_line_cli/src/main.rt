@@ -8,15 +8,21 @@ use scp_serve::serve;
 use std::alloc::{AllocError, Global};
 use std::io::ErrorKind;
 use std::process::ExitCode;
+use std::sync::Wait;
+use std::thread::Threads;
 use std::{env, io};
 
 /// Does what the words of the command line ask for, and answers the exit status.
-fn answer(rt: &HostRuntime, words: &[String]) -> Result<u8, AllocError> {
+fn answer<T: Threads + Wait + Sync>(
+    rt: &HostRuntime,
+    threads: &T,
+    words: &[String],
+) -> Result<u8, AllocError> {
     let alloc = rt.alloc();
     let words: Vec<&str> = words.iter().map(|word| word.as_str()).collect(alloc)?;
     let mut reader = Process::new(rt.reader());
     let mut writer = Process::new(io::writer(rt));
-    Ok(serve(alloc, words.as_slice(), &mut reader, &mut writer))
+    Ok(serve(threads, alloc, words.as_slice(), &mut reader, &mut writer))
 }
 
 /// Tells want of memory.
@@ -39,7 +45,7 @@ fn main(rt: HostRuntime) -> ExitCode {
     let Ok(words) = words_of(&rt, rt.alloc()) else {
         return short_of_memory(&rt);
     };
-    match answer(&rt, words.as_slice()) {
+    match answer(&rt, &rt, words.as_slice()) {
         Ok(status) => ExitCode::from(status),
         Err(_) => short_of_memory(&rt),
     }

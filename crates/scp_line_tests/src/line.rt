@@ -1,14 +1,17 @@
 mod again;
 mod devices;
 mod reports;
+mod threads;
 
-use scp_line::{FailsAt, MemoryIn, MemoryOut, Mode, PlayFault, check, line_of_fault, play, status};
+use scp_line::{FailsAt, MemoryIn, MemoryOut, PlayFault, check, line_of_fault, play, status};
 use scp_script::{Command, parse};
 use scp_serve::serve;
 use scp_types::Fault;
 use std::alloc::Global;
 use std::process::Abort;
+use std::sync::Wait;
 use std::test::Fail;
+use std::thread::Threads;
 
 const SCRIPT: &[u8] =
     b"nodes 2 2\nopen 2 1\nask 1 2 1\nsend 2 1 00000006000000000000000100000018000000010000000000000001610000000000000131000000\nsettle\nreport 1\n";
@@ -26,6 +29,8 @@ const VERDICTS_REPORT: &[u8] =
 
 const RUN: [&str; 2] = ["scp_line", "run"];
 
+const RUN_THREADS: [&str; 4] = ["scp_line", "run", "--mode", "threads"];
+
 const CHECK: [&str; 2] = ["scp_line", "check"];
 
 /// Whether the script is refused at this line, by both calls.
@@ -36,7 +41,7 @@ fn is_bad_at(alloc: Global, text: &[u8], line: usize) -> bool {
     };
     let mut writer = MemoryOut::new(Vec::new(alloc));
     let checked = check(alloc, &mut MemoryIn::new(text), &mut writer);
-    let played = play(alloc, Mode::Serial, &mut MemoryIn::new(text), &mut writer);
+    let played = play(alloc, &mut MemoryIn::new(text), &mut writer);
     checked == Err(want) && played == Err(want)
 }
 
@@ -61,13 +66,18 @@ fn a_script_is_a_list_of_commands(rt: HostRuntime) -> Result<(), Fail> {
 /// What a play answers whose reader fails after so many reads.
 fn play_unread(alloc: Global, calls: u64, writer: &mut MemoryOut) -> Result<(), PlayFault> {
     let mut reader = FailsAt::new(MemoryIn::new(SCRIPT), calls);
-    play(alloc, Mode::Serial, &mut reader, writer)
+    play(alloc, &mut reader, writer)
 }
 
 /// The status of a check whose reader fails after so many reads.
-fn check_unread(alloc: Global, calls: u64, writer: &mut MemoryOut) -> u8 {
+fn check_unread<T: Threads + Wait + Sync>(
+    rt: &T,
+    alloc: Global,
+    calls: u64,
+    writer: &mut MemoryOut,
+) -> u8 {
     let mut reader = FailsAt::new(MemoryIn::new(SCRIPT), calls);
-    serve(alloc, CHECK.as_slice(), &mut reader, writer)
+    serve(rt, alloc, CHECK.as_slice(), &mut reader, writer)
 }
 
 #[test]
@@ -80,19 +90,24 @@ fn tells_a_reader_that_fails(rt: HostRuntime) {
     for calls in 0..2u64 {
         let mut writer = MemoryOut::new(Vec::new(alloc));
         assert_eq!(rt; play_unread(alloc, calls, &mut writer), Err(want));
-        let status = check_unread(alloc, calls, &mut writer);
+        let status = check_unread(&rt, alloc, calls, &mut writer);
         assert_eq!(rt; status, 3, "after {calls} reads");
         assert!(rt; writer.text() == b"fault 14\n".as_slice());
     }
     let mut writer = MemoryOut::new(Vec::new(alloc));
-    assert_eq!(rt; check_unread(alloc, 2, &mut writer), 0);
+    assert_eq!(rt; check_unread(&rt, alloc, 2, &mut writer), 0);
 }
 
 /// The status of the words over a writer that fails from a call on, how often it failed, and whether it has no text.
-fn fails_from(alloc: Global, words: &[&str], calls: u64) -> (u8, u64, bool) {
+fn fails_from<T: Threads + Wait + Sync>(
+    rt: &T,
+    alloc: Global,
+    words: &[&str],
+    calls: u64,
+) -> (u8, u64, bool) {
     let mut reader = MemoryIn::new(SCRIPT);
     let mut writer = FailsAt::new(MemoryOut::new(Vec::new(alloc)), calls);
-    let status = serve(alloc, words, &mut reader, &mut writer);
+    let status = serve(rt, alloc, words, &mut reader, &mut writer);
     let (device, failures) = writer.into_parts();
     (status, failures, device.text().is_empty())
 }
@@ -101,9 +116,14 @@ fn fails_from(alloc: Global, words: &[&str], calls: u64) -> (u8, u64, bool) {
 #[test]
 fn tells_a_writer_that_fails(rt: HostRuntime) {
     let decode = ["scp_line", "decode", "00000006000000000000000700000000"];
-    for words in [RUN.as_slice(), CHECK.as_slice(), decode.as_slice()] {
-        assert_eq!(rt; fails_from(rt.alloc(), words, 0), (3, 2, true));
-        assert_eq!(rt; fails_from(rt.alloc(), words, 1), (0, 0, false));
+    for words in [
+        RUN.as_slice(),
+        RUN_THREADS.as_slice(),
+        CHECK.as_slice(),
+        decode.as_slice(),
+    ] {
+        assert_eq!(rt; fails_from(&rt, rt.alloc(), words, 0), (3, 2, true));
+        assert_eq!(rt; fails_from(&rt, rt.alloc(), words, 1), (0, 0, false));
     }
 }
 
@@ -111,7 +131,7 @@ fn tells_a_writer_that_fails(rt: HostRuntime) {
 const NO_CALLS: [&[&str]; 9] = [
     &["scp_line"],
     &["scp_line", "play"],
-    &["scp_line", "run", "--mode", "threads"],
+    &["scp_line", "run", "--mode", "both"],
     &["scp_line", "run", "--mode=serial", "--mode", "serial"],
     &["scp_line", "run", "more"],
     &["scp_line", "check", "--mode", "serial"],
@@ -121,10 +141,10 @@ const NO_CALLS: [&[&str]; 9] = [
 ];
 
 /// How often the words read, over a reader that fails at each call.
-fn reads_of(alloc: Global, words: &[&str]) -> u64 {
+fn reads_of<T: Threads + Wait + Sync>(rt: &T, alloc: Global, words: &[&str]) -> u64 {
     let mut reader = FailsAt::new(MemoryIn::new(SCRIPT), 0);
     let mut writer = MemoryOut::new(Vec::new(alloc));
-    let _status = serve(alloc, words, &mut reader, &mut writer);
+    let _status = serve(rt, alloc, words, &mut reader, &mut writer);
     let (_device, failures) = reader.into_parts();
     failures
 }
@@ -133,13 +153,14 @@ fn reads_of(alloc: Global, words: &[&str]) -> u64 {
 #[test]
 fn only_scripts_are_read(rt: HostRuntime) {
     for words in NO_CALLS {
-        assert_eq!(rt; reads_of(rt.alloc(), words), 0, "at {words:?}");
+        assert_eq!(rt; reads_of(&rt, rt.alloc(), words), 0, "at {words:?}");
     }
     let decode = ["scp_line", "decode", "00000006000000000000000700000000"];
-    assert_eq!(rt; reads_of(rt.alloc(), decode.as_slice()), 0);
-    assert_eq!(rt; reads_of(rt.alloc(), &["scp_line", "decode", "00"]), 0);
-    assert_eq!(rt; reads_of(rt.alloc(), RUN.as_slice()), 1);
-    assert_eq!(rt; reads_of(rt.alloc(), CHECK.as_slice()), 1);
+    assert_eq!(rt; reads_of(&rt, rt.alloc(), decode.as_slice()), 0);
+    assert_eq!(rt; reads_of(&rt, rt.alloc(), &["scp_line", "decode", "00"]), 0);
+    assert_eq!(rt; reads_of(&rt, rt.alloc(), RUN.as_slice()), 1);
+    assert_eq!(rt; reads_of(&rt, rt.alloc(), RUN_THREADS.as_slice()), 1);
+    assert_eq!(rt; reads_of(&rt, rt.alloc(), CHECK.as_slice()), 1);
 }
 
 #[test]

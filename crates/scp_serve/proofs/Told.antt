@@ -1,14 +1,16 @@
 -- What was told, after a call that was refused.
-use Rattle.std.proofs.Common.{◌≡◌, ◌≢◌, ◌⊎◌, ◌≤◌, inl, inr, ℕ, List, Option, refl, sym, ◌∙◌, subst, ap, arith}
+use Rattle.std.proofs.Common.{◌≡◌, ◌≢◌, ◌⊎◌, ◌≤◌, inl, inr, ℕ, List, Option, refl, sym, subst, ap, arith}
 use Rattle.scp_types.specs.declared.fault.Fault.{Fault}
 use Rattle.scp_types.specs.declared.fault.Fault.TheVariants.{NoMemory, Malformed, TooLong, Insane, Full, NotOpen, AlreadyOpen, LivesSpent, BadConfig, Failed, JournalFull, BadScript, Refused, Device}
 use Rattle.scp_device.specs.Device.{Fails}
 use Rattle.scp_line.specs.declared.playing.PlayFault.{PlayFault}
 use Rattle.std.specs.Prelude.{IfSome, length, ◌<◌}
 use Rattle.scp_script.specs.Script.{IsScript, IsBadLine, commands_in}
-use Rattle.scp_line.specs.Outcome.{fault_line, status_of, IsCheckFault, IsPlayFault}
+use Rattle.scp_line.specs.Outcome.{status_of, IsCheckFault, IsPlayFault}
 use Rattle.scp_line.specs.Play.{IsNamed, Stops, Overflows}
-use Rattle.scp_serve.specs.Serving.{IsWritten, IsTold, IsUnplayed}
+use Rattle.scp_line.specs.Threads.{IsThreadsFault}
+use Rattle.scp_types.specs.declared.fault.Stage.{Stage}
+use Rattle.scp_serve.specs.Serving.{IsTold, IsUnplayed, IsUnplayedInThreads}
 
 pub status_is : (fault : Fault) → (status_of fault ≡ 1) ⊎ (status_of fault ≡ 3)
 status_is NoMemory = inr refl
@@ -63,6 +65,13 @@ IsOverfull left = IfSome left (λ all. (length all ≤ 1048576) × IsScript all 
 pub unplayed : (left : Option (List ℕ)) (fault : PlayFault) → IsPlayFault fault.fault → IsNamed fault.node fault.fault → (fault.fault ≡ TooLong → IsTooLong left)
     → ((line : ℕ) → fault.fault ≡ BadScript line → IsBadAt left line) → (fault.fault ≡ Failed → IsStoppedAt left fault.node) → (fault.fault ≡ Full → IsOverfull left) → IsUnplayed left fault
 unplayed left fault cause named too_long line stops full = record { cause = cause; named = named; too_long = too_long; line = line; stops = stops; full = full }
+
+abbrev pub IsOfScript : Option (List ℕ) → Type 0
+IsOfScript left = IfSome left (λ all. (length all ≤ 1048576) × IsScript all)
+
+pub unplayed_in_threads : (left : Option (List ℕ)) (fault : PlayFault) → IsThreadsFault fault.fault → IsNamed fault.node fault.fault → (fault.fault ≡ TooLong → IsTooLong left)
+    → ((line : ℕ) → fault.fault ≡ BadScript line → IsBadAt left line) → ((stage : Stage) → fault.fault ≡ Refused stage → IsOfScript left) → (fault.fault ≡ Full → IsOfScript left) → IsUnplayedInThreads left fault
+unplayed_in_threads left fault cause named too_long line stage full = record { cause = cause; named = named; too_long = too_long; line = line; stage = stage; full = full }
 
 plays : (fault : Fault) → IsCheckFault fault → IsPlayFault fault
 plays NoMemory h = tt

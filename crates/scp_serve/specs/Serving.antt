@@ -1,12 +1,13 @@
 -- What a command line is answered with.
 use Rattle.std.specs.Prelude.{ℕ, ◌≡◌, ◌≤◌, ◌<◌, ◌⊎◌, List, length, Option, IfSome}
-use Rattle.scp_types.specs.declared.fault.Fault.{Fault}
-use Rattle.scp_types.specs.declared.fault.Fault.TheVariants.{TooLong, Full, Failed, BadScript}
+use Rattle.scp_types.specs.declared.fault.Fault.TheVariants.{TooLong, Full, Failed, BadScript, Refused}
+use Rattle.scp_types.specs.declared.fault.Stage.{Stage}
 use Rattle.scp_device.specs.Device.{Gains, Fails}
 use Rattle.scp_line.specs.declared.playing.PlayFault.{PlayFault}
 use Rattle.scp_script.specs.Script.{IsScript, IsBadLine, commands_in}
-use Rattle.scp_line.specs.Outcome.{fault_line, status_of, IsPlayFault}
+use Rattle.scp_line.specs.Outcome.{fault_line, IsPlayFault}
 use Rattle.scp_line.specs.Play.{IsNamed, Stops, Overflows}
+use Rattle.scp_line.specs.Threads.{IsThreadsFault}
 
 -- this text was written and nothing else, or the writer failed
 abbrev pub IsWritten : {W : Type 0} → (W → Option (List ℕ)) → (W → ℕ) → W → List ℕ → W → Type 0
@@ -24,3 +25,12 @@ pub record IsUnplayed (left : Option (List ℕ)) (fault : PlayFault) : Type 0 wh
   pub line : (line : ℕ) → fault.fault ≡ BadScript line → IfSome left (λ all. (length all ≤ 1048576) × IsBadLine all line)
   pub stops : fault.fault ≡ Failed → IfSome left (λ all. (length all ≤ 1048576) × IsScript all × Stops (commands_in all) fault.node)
   pub full : fault.fault ≡ Full → IfSome left (λ all. (length all ≤ 1048576) × IsScript all × Overflows (commands_in all))
+
+-- why a script that was read from here, all that was left, wasn't played in threads
+pub record IsUnplayedInThreads (left : Option (List ℕ)) (fault : PlayFault) : Type 0 where
+  pub cause : IsThreadsFault fault.fault
+  pub named : IsNamed fault.node fault.fault
+  pub too_long : fault.fault ≡ TooLong → IfSome left (λ all. 1048576 < length all)
+  pub line : (line : ℕ) → fault.fault ≡ BadScript line → IfSome left (λ all. (length all ≤ 1048576) × IsBadLine all line)
+  pub stage : (stage : Stage) → fault.fault ≡ Refused stage → IfSome left (λ all. (length all ≤ 1048576) × IsScript all)
+  pub full : fault.fault ≡ Full → IfSome left (λ all. (length all ≤ 1048576) × IsScript all)

@@ -3,9 +3,17 @@ ghost use Rattle.std.specs.Prelude.{◌≡◌, IsOkUnless, IfErr};
 
 use clap::error::ErrorKind;
 use clap::{Arg, ArgAction, Command, Error};
-use scp_line::Mode;
 use scp_types::Fault;
 use std::alloc::{AllocError, Global};
+
+/// How a script is played.
+#[derive(Clone, Copy, Debug, PartialEq, Eq)]
+pub enum Mode {
+    /// One step after another.
+    Serial,
+    /// Each stage of each node in a thread of its own.
+    Threads,
+}
 
 /// What the words of a command line ask for.
 #[derive(Clone, Copy, Debug, PartialEq, Eq)]
@@ -17,7 +25,7 @@ pub enum Asked<'a> {
     Usage,
 }
 
-static MODES: [&str; 1] = ["serial"];
+static MODES: [&str; 2] = ["serial", "threads"];
 
 fn commands<'a>(alloc: Global) -> Result<Command<'a>, AllocError> {
     let mode = Arg::new(alloc, "mode")
@@ -35,10 +43,18 @@ fn commands<'a>(alloc: Global) -> Result<Command<'a>, AllocError> {
         .subcommand(decode)
 }
 
+/// The mode of this word; any other word than `threads` is refused before, or is the default.
+fn mode_of(word: Option<&str>) -> Mode {
+    match word {
+        Some("threads") => Mode::Threads,
+        _ => Mode::Serial,
+    }
+}
+
 fn parsed<'a>(alloc: Global, words: &'a [&'a str]) -> Result<Asked<'a>, Error> {
     let matches = commands(alloc)?.try_get_matches_from(words)?;
     let asked = match matches.subcommand() {
-        Some(("run", _)) => Asked::Run(Mode::Serial),
+        Some(("run", inner)) => Asked::Run(mode_of(inner.get_str("mode"))),
         Some(("check", _)) => Asked::Check,
         Some(("decode", inner)) => match inner.get_str("hex") {
             Some(hex) => Asked::Decode(hex),

@@ -4,16 +4,19 @@ ghost use Rattle.scp_device.specs.Device.{Gains, IsAll};
 ghost use Rattle.scp_line.specs.declared.playing.PlayFault.{PlayFault};
 ghost use Rattle.scp_line.specs.Outcome.{status_of, IsCheckFault};
 ghost use Rattle.scp_line.specs.Play.{AreReports, IsShown, IsNamed, IsUnread};
+ghost use Rattle.scp_line.specs.Threads.{AreGatheredReports};
 ghost use Rattle.scp_script.specs.Script.{IsScript};
-ghost use Rattle.scp_serve.specs.Serving.{IsTold, IsWritten, IsUnplayed};
+ghost use Rattle.scp_serve.specs.Serving.{IsTold, IsWritten, IsUnplayed, IsUnplayedInThreads};
 
-use crate::asked::{Asked, read_words};
+use crate::asked::{Asked, Mode, read_words};
 use scp_line::{
-    Mode, PlayFault, ReportOut, SCRIPT_LIMIT, ScriptIn, check, line_of_fault, play, show, status,
-    write_text,
+    PlayFault, ReportOut, SCRIPT_LIMIT, ScriptIn, check, line_of_fault, play, play_in_threads,
+    show, status, write_text,
 };
 use scp_types::Fault;
 use std::alloc::Global;
+use std::sync::Wait;
+use std::thread::Threads;
 
 /// Writes the line that tells a fault, if there is memory for it and the writer takes it, and answers the exit status.
 #[tactic(auto, using(crate::proofs::Told::some_status, crate::proofs::Told::few_status, crate::proofs::Told::no_usage))]
@@ -30,15 +33,10 @@ fn tell<W: ReportOut>(alloc: Global, fault: PlayFault, writer: &mut W) -> u8
     status(fault.fault)
 }
 
-/// Plays a script, and answers 0 where its reports were written. Else the fault is told by its line, if there is memory for that
+/// Plays a script, one step after another, and answers 0 where its reports were written. Else the fault is told by its line, if there is memory for that
 /// and the writer takes it, and its status is answered: 1 where the script was refused, and 3.
 #[tactic(auto, using(crate::proofs::Told::told_after, crate::proofs::Told::unplayed))]
-pub fn serve_run<R: ScriptIn, W: ReportOut>(
-    alloc: Global,
-    mode: Mode,
-    reader: &mut R,
-    writer: &mut W,
-) -> u8
+pub fn serve_run<R: ScriptIn, W: ReportOut>(alloc: Global, reader: &mut R, writer: &mut W) -> u8
     ensures few { result ≤ 3 }
     ensures no_usage { result ≢ 2 }
     // What was read is a script of at most 1,048,576 bytes, and what was written are its reports.
@@ -46,7 +44,29 @@ pub fn serve_run<R: ScriptIn, W: ReportOut>(
     // Else just the line of the fault was written, if anything, or the writer failed.
     ensures refused { result ≢ 0 → (fault : PlayFault) × (result ≡ status_of fault.fault) × IsUnplayed (R.left reader.old) fault × IsTold W.written W.failures writer.old fault writer.new }
 {
-    match play(alloc, mode, reader, writer) {
+    match play(alloc, reader, writer) {
+        Ok(()) => 0,
+        Err(fault) => tell(alloc, fault, writer),
+    }
+}
+
+/// Plays a script by nodes whose stages run in threads of their own, and answers 0 where its reports were written. Else the fault is
+/// told as `serve_run` tells it.
+#[tactic(auto, using(crate::proofs::Told::told_after, crate::proofs::Told::unplayed_in_threads))]
+pub fn serve_threads<T: Threads + Wait + Sync, R: ScriptIn, W: ReportOut>(
+    rt: &T,
+    alloc: Global,
+    reader: &mut R,
+    writer: &mut W,
+) -> u8
+    ensures few { result ≤ 3 }
+    ensures no_usage { result ≢ 2 }
+    // What was read is a script of at most 1,048,576 bytes, and what was written are the reports of what its nodes' threads left.
+    ensures reports { result ≡ 0 → (script text : List ℕ) × IsAll (R.left reader.old) script × (length script ≤ SCRIPT_LIMIT) × IsScript script × AreGatheredReports script text × Gains (W.written writer.old) text (W.written writer.new) }
+    // Else just the line of the fault was written, if anything, or the writer failed.
+    ensures refused { result ≢ 0 → (fault : PlayFault) × (result ≡ status_of fault.fault) × IsUnplayedInThreads (R.left reader.old) fault × IsTold W.written W.failures writer.old fault writer.new }
+{
+    match play_in_threads(rt, alloc, reader, writer) {
         Ok(()) => 0,
         Err(fault) => tell(alloc, fault, writer),
     }
@@ -96,16 +116,19 @@ pub fn serve_usage<W: ReportOut>(writer: &mut W) -> u8
 /// Does what the words of a command line ask for, the program's own name first, and answers the exit status: 0 done, 1
 /// a script or a message was refused, 2 the words ask for nothing, 3 a node failed, want of memory, or the reader or the
 /// writer failed.
-pub fn serve<R: ScriptIn, W: ReportOut>(
+pub fn serve<T: Threads + Wait + Sync, R: ScriptIn, W: ReportOut>(
+    rt: &T,
     alloc: Global,
     words: &[&str],
     reader: &mut R,
     writer: &mut W,
 ) -> u8
     ensures status { result ≤ 3 }
-    // 0 is answered only where a script was played, a script was checked, or a message was shown and nothing was read.
+    // 0 is answered only where a script was played, in the one mode or the other, a script was checked, or a message was shown and
+    // nothing was read.
     ensures done { result ≡ 0 →
         ((script text : List ℕ) × IsAll (R.left reader.old) script × (length script ≤ SCRIPT_LIMIT) × IsScript script × AreReports script text × Gains (W.written writer.old) text (W.written writer.new))
+        ⊎ ((script text : List ℕ) × IsAll (R.left reader.old) script × (length script ≤ SCRIPT_LIMIT) × IsScript script × AreGatheredReports script text × Gains (W.written writer.old) text (W.written writer.new))
         ⊎ (((script : List ℕ) × IsAll (R.left reader.old) script × (length script ≤ SCRIPT_LIMIT) × IsScript script) × Gains (W.written writer.old) (codes "ok\n") (W.written writer.new))
         ⊎ ((digits : List ℕ) × ((text : List ℕ) × IsShown digits text × Gains (W.written writer.old) text (W.written writer.new)) × (reader.new ≡ reader.old)) }
     // 2 is answered only with `usage`, and nothing was read.
@@ -114,7 +137,8 @@ pub fn serve<R: ScriptIn, W: ReportOut>(
     ensures refused { result ≢ 0 → result ≢ 2 → (fault : PlayFault) × (result ≡ status_of fault.fault) × IsNamed fault.node fault.fault × IsTold W.written W.failures writer.old fault writer.new }
 {
     match read_words(alloc, words) {
-        Ok(Asked::Run(mode)) => serve_run(alloc, mode, reader, writer),
+        Ok(Asked::Run(Mode::Serial)) => serve_run(alloc, reader, writer),
+        Ok(Asked::Run(Mode::Threads)) => serve_threads(rt, alloc, reader, writer),
         Ok(Asked::Check) => serve_check(alloc, reader, writer),
         Ok(Asked::Decode(hex)) => serve_decode(alloc, hex, writer),
         Ok(Asked::Usage) => serve_usage(writer),

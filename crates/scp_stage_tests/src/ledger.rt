@@ -449,3 +449,39 @@ fn a_ledger_without_memory_fails(rt: HostRuntime) -> Result<(), Fail> {
     assert!(rt; is_taken_or_fails(rt.alloc())?);
     Ok(())
 }
+
+/// Takes so many ends of a connection, each of which adds an entry.
+fn fill(alloc: Global, ledger: &mut Ledger<KvDriver>, count: u32) -> Result<bool, Fault> {
+    for _ in 0..count {
+        if !takes(alloc, ledger, Close, None, Nothing)? {
+            return Ok(false);
+        }
+    }
+    Ok(true)
+}
+
+/// Whether one more end is refused, since the journal is full, and leaves its entries.
+fn is_full(alloc: Global, ledger: &mut Ledger<KvDriver>, entries: usize) -> Result<bool, Fault> {
+    match takes(alloc, ledger, Close, None, Nothing) {
+        Ok(_) => Ok(false),
+        Err(Fault::JournalFull) => Ok(ledger.journal().len() == entries),
+        Err(fault) => Err(fault),
+    }
+}
+
+/// Whether a journal of so many entries takes no more, asked twice, and what adds no entry still.
+fn takes_no_more(alloc: Global, count: u32, entries: usize) -> Result<bool, Fault> {
+    let mut ledger = ledger(alloc)?;
+    Ok(
+        fill(alloc, &mut ledger, count)?
+            && is_full(alloc, &mut ledger, entries)?
+            && is_full(alloc, &mut ledger, entries)?
+            && takes(alloc, &mut ledger, Tick, None, Nothing)?,
+    )
+}
+
+#[test]
+fn a_full_journal_takes_no_more(rt: HostRuntime) -> Result<(), Fail> {
+    assert!(rt; takes_no_more(rt.alloc(), 1_000_000, 1_000_000)?);
+    Ok(())
+}

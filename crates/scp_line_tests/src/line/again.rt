@@ -5,14 +5,15 @@
 
 use super::{REPORT, SCRIPT, VERDICTS, VERDICTS_REPORT};
 use scp_line::{
-    FailsAt, MemoryIn, MemoryOut, Mode, PlayFault, ReportOut, ScriptIn, check, play, show,
-    write_text,
+    FailsAt, MemoryIn, MemoryOut, PlayFault, ReportOut, ScriptIn, check, play, show, write_text,
 };
 use scp_serve::serve;
 use scp_types::Fault;
 use std::alloc::Global;
 use std::process::Abort;
+use std::sync::Wait;
 use std::test::Fail;
+use std::thread::Threads;
 
 /// Room for each text here, so that a writer in memory asks for none.
 const ROOM: usize = 2_048;
@@ -60,7 +61,7 @@ fn make<R: ScriptIn, W: ReportOut>(
     writer: &mut W,
 ) -> Result<(), Fault> {
     plain(match call {
-        Call::Play => play(alloc, Mode::Serial, reader, writer),
+        Call::Play => play(alloc, reader, writer),
         Call::Check => check(alloc, reader, writer),
         Call::Show => show(alloc, WORD, writer),
     })
@@ -116,7 +117,8 @@ fn is_want_told(status: u8, writer: &MemoryOut) -> bool {
 }
 
 /// Whether the words are answered by this status and this text. A fault may lack the memory for its line.
-fn answers<R: ScriptIn>(
+fn answers<T: Threads + Wait + Sync, R: ScriptIn>(
+    rt: &T,
     alloc: Global,
     words: &[&str],
     reader: &mut R,
@@ -124,7 +126,7 @@ fn answers<R: ScriptIn>(
     text: &[u8],
 ) -> Result<bool, Fault> {
     let mut writer = begun(alloc)?;
-    let answered = serve(alloc, words, reader, &mut writer);
+    let answered = serve(rt, alloc, words, reader, &mut writer);
     if answered == status && has(&writer, text) {
         return Ok(true);
     }
@@ -181,10 +183,10 @@ fn refused_words_are_served_again(rt: HostRuntime) -> Result<(), Fail> {
     let alloc = rt.alloc();
     for (words, script, status, text) in SERVED {
         let mut reader = MemoryIn::new(script);
-        expect_right_or_want(&rt, answers(alloc, words, &mut reader, status, text));
+        expect_right_or_want(&rt, answers(&rt, alloc, words, &mut reader, status, text));
         let mut reader = MemoryIn::new(script);
         assert!(rt;
-            answers(alloc, words, &mut reader, status, text)?,
+            answers(&rt, alloc, words, &mut reader, status, text)?,
             "at {words:?}"
         );
     }

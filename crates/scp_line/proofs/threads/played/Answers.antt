@@ -1,0 +1,20 @@
+use Rattle.std.proofs.Common.{◌≡◌, ◌++◌, ◌∙◌, ℕ, List, string_bytes, flat_map, ap, sym, subst}
+use Rattle.scp_gather.specs.declared.gathering.NodeReport.{NodeReport}
+use Rattle.scp_threads.specs.Reported.{AreNodesReported}
+use Rattle.scp_script.specs.Script.{commands_in}
+use Rattle.scp_script.specs.Nodes.{reports_in}
+use Rattle.scp_line.specs.Threads.{report_gathered_at}
+use Rattle.scp_line.proofs.Threaded.{threads_have_room, are_gathered_reports}
+use Rattle.scp_line.proofs.threads.played.Goals as goal
+
+pub run_lines-requires-clause-room : goal.run_lines-requires-clause-room
+run_lines-requires-clause-room g c = λ lives outlive. threads_have_room c.args.text.now c.as_slice-commands.result.now (c.as_slice-commands.ensures.value ∙ c.in_ok-script.ensures.commands)
+
+pub returns-in-Ok-clause-reports : goal.returns-in-Ok-clause-reports
+returns-in-Ok-clause-reports g c =
+    let commands = c.as_slice-commands.result.now in
+    let reports = c.as_slice-reports.result.now in
+    let same : commands ≡ commands_in c.args.text.now = c.as_slice-commands.ensures.value ∙ c.in_ok-script.ensures.commands in
+    let reported : AreNodesReported commands reports = subst (λ (l : List NodeReport). AreNodesReported commands l) (sym c.as_slice-reports.ensures.value) c.in_ok-nodes.ensures.reported in
+    let text : string_bytes c.write_all_gathered.new.text ≡ flat_map (report_gathered_at reports) (reports_in commands) = c.in-Ok.ensures ∙ ap (λ (l : List ℕ). l ++ flat_map (report_gathered_at reports) (reports_in commands)) c.new-printed.ensures.bytes in
+    are_gathered_reports c.args.text.now (string_bytes c.write_all_gathered.new.text) commands reports same reported text

@@ -1,0 +1,67 @@
+-- What is told of nodes whose stages ran in threads.
+use Rattle.std.specs.Prelude.{ℕ, ◌-◌, ◌≡◌, List, [], flat_map, fold, map, length, slice_get, option_to_list}
+use Rattle.std.specs.FinMap as fin
+use Rattle.std.specs.BTreeSet.{insert_key}
+use Rattle.scp_types.specs.declared.names.ConnId.{ConnId}
+use Rattle.scp_types.specs.declared.fault.Fault.{Fault}
+use Rattle.scp_types.specs.declared.fault.Fault.TheVariants.{NoMemory, TooLong, Device, Full, BadScript, Refused}
+use Rattle.scp_wire.specs.declared.carried.Carried.{Carried}
+use Rattle.scp_pending.specs.Messages.{messages_on}
+use Rattle.scp_gather.specs.declared.gathering.NodeReport.{NodeReport}
+use Rattle.scp_threads.specs.Reported.{AreNodesReported}
+use Rattle.scp_script.specs.Script.{commands_in}
+use Rattle.scp_script.specs.Nodes.{reports_in}
+use Rattle.scp_line.specs.declared.report.Parked.{Parked}
+use Rattle.scp_line.specs.Report.{ReportView, report_of, conn_cmp}
+
+-- ---- what waits, by connections
+
+-- the connections of messages, each once, ascending
+abbrev pub conns_waiting : List Carried → List ConnId
+conns_waiting messages = fold (λ conns message. insert_key conn_cmp conns message.conn) [] messages
+
+-- how many of the messages are of the connection
+abbrev pub count_on : List Carried → ConnId → Parked
+count_on messages conn = record { conn = conn; count = length (messages_on conn messages) }
+
+abbrev pub parked_counts : List Carried → List Parked
+parked_counts messages = map (count_on messages) (conns_waiting messages)
+
+-- ---- reports
+
+-- what the report of the node of this number tells, of what its threads left
+abbrev pub view_gathered : ℕ → NodeReport → ReportView
+view_gathered number r = record {
+  node = number;
+  journal = r.journal.items;
+  parked = parked_counts r.parked.items;
+  applied = r.applied.items;
+  state = fin.entries r.state;
+}
+
+abbrev pub report_gathered : ℕ → NodeReport → List ℕ
+report_gathered number r = report_of (view_gathered number r)
+
+-- the report of the node of this number
+abbrev pub report_gathered_at : List NodeReport → ℕ → List ℕ
+report_gathered_at nodes number = flat_map (report_gathered number) (option_to_list (slice_get nodes (number - 1)))
+
+-- The text is the reports that the script asks for, one for each `report` line, in their order, of nodes whose stages ran in threads: each
+-- holds its ledger of what was sent to it, its commands are the script's, and so is all that went over the links that the script drives.
+pub record AreGatheredReports (script text : List ℕ) : Type 0 where
+  pub nodes : List NodeReport
+  pub reported : AreNodesReported (commands_in script) nodes
+  pub reports : text ≡ flat_map (report_gathered_at nodes) (reports_in (commands_in script))
+
+-- ---- refusals
+
+-- why a script isn't played in threads: it can't be read, a line is bad, a stage of a node failed, a mark found no room, or memory or the
+-- taker of the reports was wanting
+abbrev pub IsThreadsFault : Fault → Type 0
+IsThreadsFault NoMemory = Unit {0}
+IsThreadsFault TooLong = Unit {0}
+IsThreadsFault Device = Unit {0}
+IsThreadsFault (BadScript line) = Unit {0}
+IsThreadsFault (Refused stage) = Unit {0}
+IsThreadsFault Full = Unit {0}
+IsThreadsFault fault = ⊥

@@ -1,0 +1,137 @@
+//! Playing a script by nodes whose stages run in threads.
+ghost use Rattle.std.specs.Prelude.{◌≡◌, ◌≢◌, ◌⊎◌, ◌≤◌, ◌<◌, ℕ, List, length, IfOk, IfErr, IfSome, OnOk, string_bytes};
+ghost use Rattle.scp_types.specs.declared.fault.Fault.TheVariants.{BadScript};
+ghost use Rattle.scp_types.specs.declared.fault.Stage.{Stage};
+ghost use Rattle.scp_device.specs.Device.{Gains, GainsPart, Fails, IsAll};
+ghost use Rattle.scp_script.specs.Script.{IsScript, IsBadLine};
+ghost use Rattle.scp_line.specs.Play.{IsNamed};
+ghost use Rattle.scp_line.specs.Threads.{AreGatheredReports, IsThreadsFault};
+
+use crate::gathered::write_all_gathered;
+use crate::playing::PlayFault;
+use scp_device::{ReportOut, SCRIPT_LIMIT, ScriptIn, read_script, write_text};
+use scp_gate::{Gate, Open};
+use scp_script::parse;
+use scp_threads::{NodeFault, run_lines};
+use scp_types::Fault;
+use std::alloc::Global;
+use std::sync::Wait;
+use std::thread::Threads;
+
+impl From<NodeFault> for PlayFault {
+    ghost from_gives = { λ e result. result ≡ record { fault = e.fault; node = e.node } };
+
+    fn from(error: NodeFault) -> PlayFault {
+        PlayFault {
+            fault: error.fault,
+            node: error.node,
+        }
+    }
+}
+
+/// All that a script prints.
+#[tactic(auto, using(crate::proofs::Threaded::given_up_cause, crate::proofs::Threaded::given_up_named, crate::proofs::Threaded::given_up_not_device, crate::proofs::Threaded::given_up_not_long, crate::proofs::Threaded::given_up_not_bad))]
+fn played<T: Threads + Wait + Sync, G: Gate + Sync>(
+    rt: &T,
+    gate: &G,
+    alloc: Global,
+    text: &[u8],
+) -> Result<String, PlayFault>
+    ensures script { OnOk result (IsScript text.now) }
+    ensures reports { IfOk result (λ printed. AreGatheredReports text.now (string_bytes printed)) }
+    ensures device { IfErr result (λ e. e.fault ≢ Fault.Device) }
+    ensures short { IfErr result (λ e. e.fault ≢ Fault.TooLong) }
+    ensures line { IfErr result (λ e. (line : ℕ) → e.fault ≡ BadScript line → IsBadLine text.now line) }
+    ensures named { IfErr result (λ e. IsNamed e.node e.fault) }
+    ensures stage { IfErr result (λ e. (stage : Stage) → e.fault ≡ Fault.Refused stage → IsScript text.now) }
+    ensures full { IfErr result (λ e. e.fault ≡ Fault.Full → IsScript text.now) }
+    ensures cause { IfErr result (λ e. IsThreadsFault e.fault) }
+{
+    let script = parse(alloc, text)?;
+    let commands = script.as_slice();
+    let nodes = run_lines(rt, gate, alloc, commands)?;
+    let reports = nodes.as_slice();
+    let mut printed = String::new(alloc);
+    match write_all_gathered(reports, &mut printed, commands) {
+        Ok(()) => Ok(printed),
+        Err(error) => Err(PlayFault::from(Fault::from(error))),
+    }
+}
+
+/// Plays a script by nodes whose stages run in threads of their own, as `play_in_threads` does; each worker calls the gate after
+/// each receive and before each send.
+pub fn play_gated<T: Threads + Wait + Sync, G: Gate + Sync, R: ScriptIn, W: ReportOut>(
+    rt: &T,
+    gate: &G,
+    alloc: Global,
+    reader: &mut R,
+    writer: &mut W,
+) -> Result<(), PlayFault>
+    // What was read is a script of at most 1,048,576 bytes, and what was written are the reports of what its nodes' threads left.
+    ensures reports { OnOk result ((script text : List ℕ) × IsAll (R.left reader.old) script × (length script ≤ SCRIPT_LIMIT) × IsScript script × AreGatheredReports script text × Gains (W.written writer.old) text (W.written writer.new)) }
+    // Device is answered only where the reader failed, and then nothing was written, or where the writer failed.
+    ensures device { IfErr result (λ e. e.fault ≡ Fault.Device →
+        (Fails (R.failures reader.old) (R.failures reader.new) × (writer.new ≡ writer.old)) ⊎ Fails (W.failures writer.old) (W.failures writer.new)) }
+    // TooLong is answered only of a script over the limit.
+    ensures too_long { IfErr result (λ e. e.fault ≡ Fault.TooLong → IfSome (R.left reader.old) (λ all. SCRIPT_LIMIT < length all)) }
+    // BadScript names the first bad line of a text within the limit.
+    ensures line { IfErr result (λ e. (line : ℕ) → e.fault ≡ BadScript line → IfSome (R.left reader.old) (λ all. (length all ≤ SCRIPT_LIMIT) × IsBadLine all line)) }
+    // No other refusal is answered.
+    ensures cause { IfErr result (λ e. IsThreadsFault e.fault) }
+    // A node is named where one of its stages failed, and only there.
+    ensures named { IfErr result (λ e. IsNamed e.node e.fault) }
+    // That a stage failed, or that there was no room for a mark, is answered only of a script.
+    ensures stage { IfErr result (λ e. (stage : Stage) → e.fault ≡ Fault.Refused stage → IfSome (R.left reader.old) (λ all. (length all ≤ SCRIPT_LIMIT) × IsScript all)) }
+    ensures full { IfErr result (λ e. e.fault ≡ Fault.Full → IfSome (R.left reader.old) (λ all. (length all ≤ SCRIPT_LIMIT) × IsScript all)) }
+    // After any other refusal than Device nothing was written.
+    ensures untouched { IfErr result (λ e. e.fault ≢ Fault.Device → writer.new ≡ writer.old) }
+    // After a refusal nothing was written, or a part of the reports, from the first byte on.
+    ensures part { IfErr result (λ e. (writer.new ≡ writer.old) ⊎ ((script text : List ℕ) × IsAll (R.left reader.old) script × IsScript script × AreGatheredReports script text × GainsPart (W.written writer.old) text (W.written writer.new))) }
+    // No failure is told as anything else, and no call goes on after one.
+    ensures hidden { IfErr result (λ e. e.fault ≢ Fault.Device → R.failures reader.new ≡ R.failures reader.old) }
+    ensures stopped { IfErr result (λ e. (writer.new ≡ writer.old) ⊎ Fails (W.failures writer.old) (W.failures writer.new)) }
+    ensures kept { OnOk result ((R.failures reader.new ≡ R.failures reader.old) × (W.failures writer.new ≡ W.failures writer.old)) }
+{
+    let script = read_script(alloc, reader)?;
+    let text = played(rt, gate, alloc, script.as_slice())?;
+    Ok(write_text(writer, text.as_str())?)
+}
+
+/// Plays a script by nodes whose stages run in threads of their own: reads it whole, does what its lines say, one after the other,
+/// ends every thread, and then writes the reports that the lines ask for. A `wait` yields until its node's applier received so many
+/// things, at most 1,000,000 times, and `settle` does nothing. Refused as `check` refuses; by `Refused` with a stage of a node, which
+/// is named, where a worker of that stage failed; by `Full` where there was no room for a mark of a link after 1,000,000 yields; and
+/// by `NoMemory`, also where only what carries an outbox to its link failed.
+pub fn play_in_threads<T: Threads + Wait + Sync, R: ScriptIn, W: ReportOut>(
+    rt: &T,
+    alloc: Global,
+    reader: &mut R,
+    writer: &mut W,
+) -> Result<(), PlayFault>
+    // What was read is a script of at most 1,048,576 bytes, and what was written are the reports of what its nodes' threads left.
+    ensures reports { OnOk result ((script text : List ℕ) × IsAll (R.left reader.old) script × (length script ≤ SCRIPT_LIMIT) × IsScript script × AreGatheredReports script text × Gains (W.written writer.old) text (W.written writer.new)) }
+    // Device is answered only where the reader failed, and then nothing was written, or where the writer failed.
+    ensures device { IfErr result (λ e. e.fault ≡ Fault.Device →
+        (Fails (R.failures reader.old) (R.failures reader.new) × (writer.new ≡ writer.old)) ⊎ Fails (W.failures writer.old) (W.failures writer.new)) }
+    // TooLong is answered only of a script over the limit.
+    ensures too_long { IfErr result (λ e. e.fault ≡ Fault.TooLong → IfSome (R.left reader.old) (λ all. SCRIPT_LIMIT < length all)) }
+    // BadScript names the first bad line of a text within the limit.
+    ensures line { IfErr result (λ e. (line : ℕ) → e.fault ≡ BadScript line → IfSome (R.left reader.old) (λ all. (length all ≤ SCRIPT_LIMIT) × IsBadLine all line)) }
+    // No other refusal is answered.
+    ensures cause { IfErr result (λ e. IsThreadsFault e.fault) }
+    // A node is named where one of its stages failed, and only there.
+    ensures named { IfErr result (λ e. IsNamed e.node e.fault) }
+    // That a stage failed, or that there was no room for a mark, is answered only of a script.
+    ensures stage { IfErr result (λ e. (stage : Stage) → e.fault ≡ Fault.Refused stage → IfSome (R.left reader.old) (λ all. (length all ≤ SCRIPT_LIMIT) × IsScript all)) }
+    ensures full { IfErr result (λ e. e.fault ≡ Fault.Full → IfSome (R.left reader.old) (λ all. (length all ≤ SCRIPT_LIMIT) × IsScript all)) }
+    // After any other refusal than Device nothing was written.
+    ensures untouched { IfErr result (λ e. e.fault ≢ Fault.Device → writer.new ≡ writer.old) }
+    // After a refusal nothing was written, or a part of the reports, from the first byte on.
+    ensures part { IfErr result (λ e. (writer.new ≡ writer.old) ⊎ ((script text : List ℕ) × IsAll (R.left reader.old) script × IsScript script × AreGatheredReports script text × GainsPart (W.written writer.old) text (W.written writer.new))) }
+    // No failure is told as anything else, and no call goes on after one.
+    ensures hidden { IfErr result (λ e. e.fault ≢ Fault.Device → R.failures reader.new ≡ R.failures reader.old) }
+    ensures stopped { IfErr result (λ e. (writer.new ≡ writer.old) ⊎ Fails (W.failures writer.old) (W.failures writer.new)) }
+    ensures kept { OnOk result ((R.failures reader.new ≡ R.failures reader.old) × (W.failures writer.new ≡ W.failures writer.old)) }
+{
+    play_gated(rt, &Open, alloc, reader, writer)
+}
