@@ -10,22 +10,29 @@
  *   READ_FAILS_AT=k   the k-th read fails; READ_FAILS_FOR=n as above, READ_FAILS_BY=errno (5, EIO)
  *   WRITE_FAILS_AT=k  the k-th write fails; WRITE_FAILS_FOR=n, WRITE_FAILS_BY=errno; a negative errno -n: the call answers n in place of failing
  *   READ_MOST=n       a read gives at most n bytes; WRITE_MOST=n a write takes at most n
+ *   START_FAILS_AT=k  the k-th start of a thread fails (EAGAIN); START_FAILS_FOR=n as above
  *   REFUSE_TELLS=file the counts, kept up to date in this file of 4,096 bytes whatever the program's end is:
  *                     64-bit words in the order of `struct counts`
  *
+ * Before the program's process ends, threads that are on their way out have a second to count as ended: so one that doesn't is one that was left.
+ *
  * An allocation is a call of malloc, calloc, realloc (but realloc(p, 0)), reallocarray, posix_memalign, aligned_alloc, memalign, valloc
- * or mmap of anonymous memory. A read is a call of read, pread or readv, a write one of write, pwrite or writev.
+ * or mmap of anonymous memory. A read is a call of read, pread or readv, a write one of write, pwrite or writev. Threads may do all of these:
+ * each count is one atomic number, and which thread makes the k-th call is up to the schedule.
  */
 #define _GNU_SOURCE
+#include <dlfcn.h>
 #include <errno.h>
 #include <fcntl.h>
 #include <link.h>
+#include <pthread.h>
 #include <stddef.h>
 #include <stdint.h>
 #include <stdlib.h>
 #include <sys/mman.h>
 #include <sys/syscall.h>
 #include <sys/uio.h>
+#include <time.h>
 #include <unistd.h>
 
 /* glibc's own names of what stands behind malloc and its kin */
@@ -46,6 +53,7 @@ struct counts {
     uint64_t made;         /* blocks given out */
     uint64_t freed;        /* blocks taken back */
     uint64_t reads, reads_failed, writes, writes_failed;
+    uint64_t starts, starts_failed, ends; /* of threads */
     uint64_t refused_size; /* of the first refused one */
     uint64_t frames;       /* and its callers, the innermost first */
     uint64_t frame[FRAMES];
@@ -59,9 +67,13 @@ struct range {
 };
 
 static uint64_t skip, skipped;
-static struct range refused, failing_reads, failing_writes;
+static struct range refused, failing_reads, failing_writes, failing_starts;
+static int (*start_thread)(pthread_t *, const pthread_attr_t *, void *(*)(void *), void *);
 static long read_error = EIO, write_error = EIO;
 static uint64_t read_most, write_most;
+
+/* One more; what it is then. */
+static uint64_t one_more(uint64_t *count) { return __atomic_add_fetch(count, 1, __ATOMIC_SEQ_CST); }
 
 static long number(const char *name, long if_none) {
     const char *word = getenv(name);
@@ -93,10 +105,12 @@ __attribute__((constructor)) static void start(void) {
         }
     }
     dl_iterate_phdr(base_of, &counts->base);
+    *(void **)&start_thread = dlsym(RTLD_NEXT, "pthread_create");
     skip = (uint64_t)number("REFUSE_SKIP", 0);
     refused = (struct range){(uint64_t)number("REFUSE_AT", 0), (uint64_t)number("REFUSE_FOR", 1)};
     failing_reads = (struct range){(uint64_t)number("READ_FAILS_AT", 0), (uint64_t)number("READ_FAILS_FOR", 1)};
     failing_writes = (struct range){(uint64_t)number("WRITE_FAILS_AT", 0), (uint64_t)number("WRITE_FAILS_FOR", 1)};
+    failing_starts = (struct range){(uint64_t)number("START_FAILS_AT", 0), (uint64_t)number("START_FAILS_FOR", 1)};
     read_error = number("READ_FAILS_BY", EIO);
     write_error = number("WRITE_FAILS_BY", EIO);
     read_most = (uint64_t)number("READ_MOST", 0);
@@ -124,8 +138,8 @@ static int is_refused(size_t size) {
         skipped++;
         return 0;
     }
-    if (!holds(refused, ++counts->allocations)) return 0;
-    if (!counts->refused++) {
+    if (!holds(refused, one_more(&counts->allocations))) return 0;
+    if (one_more(&counts->refused) == 1) {
         counts->refused_size = size;
         keep_callers();
     }
@@ -134,7 +148,7 @@ static int is_refused(size_t size) {
 }
 
 static void *made(void *block) {
-    if (block) counts->made++;
+    if (block) one_more(&counts->made);
     return block;
 }
 
@@ -144,7 +158,7 @@ void *calloc(size_t count, size_t size) { return is_refused(count * size) ? NULL
 
 void *realloc(void *block, size_t size) {
     if (block && !size) {
-        counts->freed++;
+        one_more(&counts->freed);
         return __libc_realloc(block, size);
     }
     if (is_refused(size)) return NULL;
@@ -176,7 +190,7 @@ int posix_memalign(void **to, size_t align, size_t size) {
 }
 
 void free(void *block) {
-    if (block) counts->freed++;
+    if (block) one_more(&counts->freed);
     __libc_free(block);
 }
 
@@ -187,8 +201,8 @@ void *mmap(void *at, size_t size, int rights, int flags, int file, off_t from) {
 
 /* Whether this call is to fail, with what it then answers in `answer`. */
 static int fails(struct range range, uint64_t *calls, uint64_t *failed, long error, ssize_t *answer) {
-    if (!counts->is_set || !holds(range, ++*calls)) return 0;
-    ++*failed;
+    if (!counts->is_set || !holds(range, one_more(calls))) return 0;
+    one_more(failed);
     *answer = -1;
     if (error > 0) errno = (int)error;
     else *answer = -error;
@@ -238,3 +252,48 @@ ssize_t writev(int file, const struct iovec *parts, int count) {
 ssize_t __read(int file, void *to, size_t count) { return read(file, to, count); }
 
 ssize_t __write(int file, const void *from, size_t count) { return write(file, from, count); }
+
+/* What a thread runs, and that it ended. */
+struct task {
+    void *(*run)(void *);
+    void *with;
+};
+
+static void *run_task(void *from) {
+    struct task task = *(struct task *)from;
+    __libc_free(from);
+    void *answer = task.run(task.with);
+    one_more(&counts->ends);
+    return answer;
+}
+
+int pthread_create(pthread_t *to, const pthread_attr_t *how, void *(*run)(void *), void *with) {
+    ssize_t answer;
+    if (fails(failing_starts, &counts->starts, &counts->starts_failed, EAGAIN, &answer)) return EAGAIN;
+    struct task *task = __libc_malloc(sizeof *task);
+    if (!task) return EAGAIN;
+    *task = (struct task){run, with};
+    int status = start_thread(to, how, run_task, task);
+    if (status) {
+        __libc_free(task);
+        one_more(&counts->starts_failed);
+    }
+    return status;
+}
+
+/* Waits until each thread that was started has ended, for a second at most. */
+static void wait_for_threads(void) {
+    struct timespec pause = {0, 1000000};
+    for (int turn = 0; turn < 1000; turn++) {
+        uint64_t ended = __atomic_load_n(&counts->ends, __ATOMIC_SEQ_CST) + __atomic_load_n(&counts->starts_failed, __ATOMIC_SEQ_CST);
+        if (ended >= __atomic_load_n(&counts->starts, __ATOMIC_SEQ_CST)) return;
+        syscall(SYS_nanosleep, &pause, NULL);
+    }
+}
+
+__attribute__((destructor)) static void end(void) { wait_for_threads(); }
+
+void _exit(int status) {
+    wait_for_threads();
+    for (;;) syscall(SYS_exit_group, status);
+}

@@ -13,7 +13,7 @@ from dataclasses import dataclass, field
 
 HERE = os.path.dirname(os.path.abspath(__file__))
 LIBRARY = f"{HERE}/refuse.so"
-WORDS = "is_set base allocations refused made freed reads reads_failed writes writes_failed refused_size frames".split()
+WORDS = "is_set base allocations refused made freed reads reads_failed writes writes_failed starts starts_failed ends refused_size frames".split()
 FRAMES = 24
 
 
@@ -33,6 +33,11 @@ class Ended:
     def kept(self):
         """Blocks that were never given back."""
         return self.counts["made"] - self.counts["freed"]
+
+    @property
+    def left(self):
+        """Threads that were started and hadn't ended when the program did."""
+        return self.counts["starts"] - self.counts["starts_failed"] - self.counts["ends"]
 
 
 class Room:
