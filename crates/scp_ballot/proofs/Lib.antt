@@ -1,4 +1,5 @@
 pub mod Aheads
+pub mod Comings
 pub mod Settling
 pub mod Emitting
 pub mod Heard
@@ -8,3 +9,4 @@ pub mod Advancing
 pub mod Calling
 pub mod Composing
 pub mod Taking
+pub mod Outcomes

@@ -17,6 +17,7 @@ use Rattle.scp_ballot.specs.Machine.{own_at, IsAtRest}
 use Rattle.scp_ballot.specs.Inputs.{IsHeardBy, HearsOne, TakesStatement}
 use Rattle.scp_ballot.specs.Inside.{ballots_of}
 use Rattle.scp_ballot.specs.Balloting.{Ballots, own, Advances, KeepsValue, GoesOn, IsDecided, IsWorthTelling, last_emitted, KeepsOthers, IsHeard, HearsOnly}
+use Rattle.scp_ballot.specs.Outcome.{HearsOn}
 use Rattle.scp_ballot.proofs.Heard.{heard_rests, own_heard}
 use Rattle.scp_ballot.proofs.Advancing.{advances, gives_rests, decided_phase, phase_decided}
 use Rattle.scp_ballot.proofs.Calling.{others_kept}
@@ -54,11 +55,15 @@ module _ (old new : Machine) (given : Balloted) (e : Envelope) (set : QuorumTree
   mid_rests : IsAtRest takes.mid
   mid_rests = heard_rests old takes.mid e set takes.hears rest
 
+  -- what was given after it was heard
+  pub take_mid : Advances (ballots_of takes.mid f) (ballots_of new g) given
+  take_mid = advances takes.mid new given None f g mid_rests refl (rises_itself takes.mid.state) (λ _. inl refl) takes.gives
+
   pub take_advances : Advances (ballots_of old f) (ballots_of new g) given
   take_advances =
       advances_from (ballots_of old f) (ballots_of takes.mid f) (ballots_of new g) given (own_heard old takes.mid e set takes.hears) (ap (option_map (λ (s : Statement). s.pledges)) takes.hears.rest.emitted)
       (ap (λ (s : Slot). s.0) takes.hears.rest.slot) takes.hears.rest.hash (me_heard old takes.mid e set takes.hears) (local_heard old takes.mid e set takes.hears)
-      (advances takes.mid new given None f g mid_rests refl (rises_itself takes.mid.state) (λ _. inl refl) takes.gives)
+      take_mid
 
   pub take_rests : IsAtRest new
   take_rests = gives_rests takes.mid new given None mid_rests takes.gives
@@ -71,6 +76,9 @@ module _ (old new : Machine) (given : Balloted) (e : Envelope) (set : QuorumTree
 
   is_heard : IsHeard (ballots_of old f) e → IsHeardBy old e
   is_heard h = (h.0, slot_is e.statement.slot old.slot h.1, h.2, λ d. h.3 (phase_decided (own_at old) old.hash old.state rest.stands d))
+
+  pub take_heard : HearsOn (ballots_of old f) e set (ballots_on takes.mid.board)
+  take_heard = elim takes.hears.board [ inl (heard, put) ↦ inl (heard_is heard, put) | inr (unheard, same) ↦ inr ((λ h. unheard (is_heard h)), ap ballots_on same) ]
 
   pub take_hears : HearsOnly (ballots_of old f) (ballots_of new g) e set
   take_hears = elim takes.hears.board [

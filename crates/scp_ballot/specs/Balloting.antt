@@ -19,24 +19,26 @@ use Rattle.scp_vote.specs.declared.claim.StatementKind.TheVariants.{Balloting}
 use Rattle.scp_vote.specs.declared.claim.Claim.TheVariants.{Committed}
 use Rattle.scp_vote.specs.Board.{Seen, Certificate, KeepsOwn, kind_of_pledges, counted_of_other}
 use Rattle.scp_vote.specs.Licence.{Licensed, IsExternalize}
+use Rattle.scp_ballot_rules.specs.declared.state.State.{State}
 use Rattle.scp_ballot_rules.specs.Owed.{OwesNothing, AreAheadOf}
 use Rattle.scp_ballot_steps.specs.Told.{ballots_on}
 use Rattle.scp_ballot.specs.View.{BalloterView}
 use Rattle.scp_ballot.specs.declared.balloted.Balloted.{Balloted}
 use Rattle.scp_ballot.specs.declared.balloted.Certified.{Certified}
 
--- What a balloter knows: its slot, the hash of its set, what it sees of ballots, the composite that is kept, the statement that
--- was emitted last, and whether it failed.
+-- What a balloter knows: its slot, the hash of its set, what it sees of ballots, the state of its own, the composite that is kept,
+-- the statement that was emitted last, and whether it failed.
 pub record Ballots : Type 0 where
   pub slot : ℕ
   pub hash : Hash
   pub board : Seen
+  pub state : State
   pub composite : Option (List ℕ)
   pub emitted : Option Pledges
   pub failed : Bool
 
 abbrev pub ballots : BalloterView → Ballots
-ballots v = record { slot = v.slot; hash = v.hash; board = ballots_on v.board; composite = v.composite; emitted = v.emitted; failed = v.failed }
+ballots v = record { slot = v.slot; hash = v.hash; board = ballots_on v.board; state = v.state; composite = v.composite; emitted = v.emitted; failed = v.failed }
 
 -- the own ballot statement on the board
 abbrev pub own : Ballots → Option Pledges

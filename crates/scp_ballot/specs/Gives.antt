@@ -19,6 +19,7 @@ use Rattle.scp_ballot.specs.declared.balloted.Balloted.{Balloted}
 use Rattle.scp_ballot.specs.declared.balloted.Certified.{Certified}
 use Rattle.scp_ballot_steps.specs.Told.{ballots_on}
 use Rattle.scp_ballot.specs.Machine.{IsSettled, IsOwnStatement}
+use Rattle.scp_ballot.specs.Exactly.{ComesTo}
 
 -- the statement is worth emitting
 abbrev pub IsWorth : Option Statement → Statement → Type 0
@@ -47,6 +48,7 @@ pub record Decides (before : Phase) (m : Machine) (found : Option Certified) : T
 pub record Gives (old : Machine) (first : Option State) (new : Machine) (given : Balloted) : Type 0 where
   pub settled : Machine
   pub settles : IsSettled old first settled
+  pub exact : ComesTo old first (ballots_on settled.board) settled.state given.more
   pub owed : given.more ≡ false → OwesNothing settled.hash (ballots_on settled.board)
   pub decides : Decides old.state.phase settled given.decided
   pub emits : Emits settled new given.statement

@@ -9,6 +9,8 @@ use Rattle.scp_ballot_rules.specs.declared.state.Phase.TheVariants.{Prepare, Con
 use Rattle.scp_ballot_rules.specs.Own.{counter_of}
 use Rattle.scp_ballot_rules.specs.Ready.{HasValue}
 use Rattle.scp_ballot_rules.specs.Rules.{Composes, Raises, RaisesMore}
+use Rattle.scp_ballot_rules.specs.Steps.{Answers}
+use Rattle.scp_ballot_rules.specs.Inputs.{Time}
 use Rattle.scp_ballot.specs.declared.machine.Machine.{Machine}
 use Rattle.scp_ballot.specs.declared.balloted.Balloted.{Balloted}
 use Rattle.scp_ballot_steps.specs.Told.{ballots_on}
@@ -35,6 +37,7 @@ pub record TakesTimer (old new : Machine) (given : Balloted) : Type 0 where
   pub first : Option State
   pub some : IfSome first (λ next. Times old.state next)
   pub none : IfNone first (CannotRaise old.state)
+  pub exact : Answers (λ s t. Time s t) old.state first
   pub gives : Gives old first new given
 
 -- another node's ballot statement of this slot, before anything is externalized

@@ -9,7 +9,7 @@ use Rattle.scp_ballot.specs.declared.machine.Machine.{Machine}
 use Rattle.scp_ballot.specs.declared.balloter.Balloter.TheInside as balloter
 
 abbrev pub machine_view : Machine → Bool → BalloterView
-machine_view m failed = record { slot = m.slot.0; hash = m.hash; board = m.board; composite = m.state.composite; emitted = option_map (λ (s : Statement). s.pledges) m.emitted; failed = failed }
+machine_view m failed = record { slot = m.slot.0; hash = m.hash; board = m.board; state = m.state; composite = m.state.composite; emitted = option_map (λ (s : Statement). s.pledges) m.emitted; failed = failed }
 
 abbrev pub balloter_view : balloter.Inside → BalloterView
 balloter_view a = machine_view a.machine a.failed

@@ -3,13 +3,15 @@ use Rattle.std.specs.Prelude.{ℕ, List, Bool, Option}
 use Rattle.scp_types.specs.declared.names.Hash.{Hash}
 use Rattle.scp_envelope.specs.declared.statement.Pledges.{Pledges}
 use Rattle.scp_vote.specs.declared.board.Board.{Board}
+use Rattle.scp_ballot_rules.specs.declared.state.State.{State}
 
--- The slot, the hash of the local set, the board, the composite that is kept, the statement that was emitted last, and whether it
--- failed.
+-- The slot, the hash of the local set, the board, the state of the ballots, the composite that is kept, the statement that was
+-- emitted last, and whether it failed.
 pub record BalloterView : Type 0 where
   pub slot : ℕ
   pub hash : Hash
   pub board : Board
+  pub state : State
   pub composite : Option (List ℕ)
   pub emitted : Option Pledges
   pub failed : Bool

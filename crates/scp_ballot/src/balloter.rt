@@ -25,8 +25,9 @@ impl Model for Balloter {
 
     ghost use Rattle.std.specs.Coded.{codes};
     ghost use Rattle.scp_vote.specs.contracts.board.Board as board;
+    ghost use Rattle.scp_ballot_rules.specs.contracts.state.State as state;
 
-    ghost coded = { Prim.hlevel (codes, board.the_row.coded) };
+    ghost coded = { Prim.hlevel (codes, board.the_row.coded, state.the_row.coded) };
 
     ghost use Rattle.scp_ballot.specs.Inside.{balloter_view, IsWell};
 
@@ -37,10 +38,12 @@ impl Model for Balloter {
 
 impl Balloter {
     ghost use Rattle.scp_ballot.specs.Balloting.{ballots, Begins, Advances, TakesValue, MakesFirst, HasBallot, KeepsOthers, HearsOnly, RaisesCounter};
+    ghost use Rattle.scp_ballot.specs.Outcome.{BeginsBlank, ComposesExactly, HearsExactly, TimesExactly};
 
     /// A balloter that has heard and said nothing, of this node and its set.
     pub fn new(alloc: Global, me: NodeId, slot: Slot, local: Arc<SaneSet>) -> Balloter
         ensures begins { Begins me slot.0 local.value (ballots result) }
+        ensures blank { BeginsBlank (ballots result) }
     {
         Balloter {
             machine: Machine::new(alloc, me, slot, local),
@@ -52,6 +55,7 @@ impl Balloter {
     /// is none. Refused by `Failed` once a call was refused, else by `NoMemory`.
     pub fn candidate(&mut self, value: Value) -> Result<Balloted, Fault>
         ensures advances { IfOk result (λ given. Advances (ballots self.old) (ballots self.new) given) }
+        ensures exact { IfOk result (λ given. ComposesExactly value (ballots self.old) (ballots self.new) given) }
         ensures composite { OnOk result (TakesValue value (ballots self.old) (ballots self.new)) }
         ensures first { OnOk result (MakesFirst value (ballots self.old) (ballots self.new)) }
         ensures ballot { OnOk result (HasBallot (ballots self.new)) }
@@ -79,6 +83,7 @@ impl Balloter {
         delivered: Arc<SaneSet>,
     ) -> Result<Balloted, Fault>
         ensures advances { IfOk result (λ given. Advances (ballots self.old) (ballots self.new) given) }
+        ensures exact { IfOk result (λ given. HearsExactly envelope delivered.value (ballots self.old) (ballots self.new) given) }
         ensures ballot { OnOk result (HasBallot (ballots self.old) → HasBallot (ballots self.new)) }
         ensures composite { OnOk result ((ballots self.new).composite ≡ (ballots self.old).composite) }
         ensures others { OnOk result (HearsOnly (ballots self.old) (ballots self.new) envelope delivered.value) }
@@ -101,6 +106,7 @@ impl Balloter {
     /// Refused by `Failed` once a call was refused, else by `NoMemory`.
     pub fn timer(&mut self) -> Result<Balloted, Fault>
         ensures advances { IfOk result (λ given. Advances (ballots self.old) (ballots self.new) given) }
+        ensures exact { IfOk result (λ given. TimesExactly (ballots self.old) (ballots self.new) given) }
         ensures ballot { OnOk result (HasBallot (ballots self.old) → HasBallot (ballots self.new)) }
         ensures composite { OnOk result ((ballots self.new).composite ≡ (ballots self.old).composite) }
         ensures raises { OnOk result (RaisesCounter (ballots self.old) (ballots self.new)) }

@@ -3,6 +3,8 @@ ghost use Rattle.std.specs.Prelude.{◌≡◌, ◌≢◌, ◌+◌, ◌⊎◌, �
 ghost use Rattle.scp_ballot_rules.specs.Own.{counter_of};
 ghost use Rattle.scp_ballot_rules.specs.Ready.{IsReady};
 ghost use Rattle.scp_ballot_rules.specs.Rules.{Composes, IsChange};
+ghost use Rattle.scp_ballot_rules.specs.Steps.{Answers};
+ghost use Rattle.scp_ballot_rules.specs.Inputs.{Time};
 ghost use Rattle.scp_ballot_steps.specs.Told.{ballots_on};
 ghost use Rattle.scp_ballot_rules.specs.declared.state.Phase.TheVariants.{Prepare};
 ghost use Rattle.scp_vote.specs.Board.{kind_of_pledges};
@@ -71,6 +73,7 @@ fn composed(state: &State, value: SharedValue) -> Result<Option<State>, Fault>
 fn timed(state: &State) -> Result<Option<State>, Fault>
     ensures raises { IfOk result (λ found. IfSome found (λ next. Times state.now next)) }
     ensures none { IfOk result (λ found. IfNone found (CannotRaise state.now)) }
+    ensures exact { IfOk result (λ found. Answers (λ s t. Time s t) state.now found) }
     ensures only_memory { IsOkUnless result Fault.NoMemory }
 {
     let counter = counter(&state.present);

@@ -7,6 +7,7 @@ ghost use Rattle.scp_ballot_rules.specs.Rules.{IsChange};
 ghost use Rattle.scp_ballot_rules.specs.Ready.{IsReady};
 ghost use Rattle.scp_ballot_rules.specs.Owed.{OwesNothing};
 ghost use Rattle.scp_ballot_steps.specs.Told.{ballots_on};
+ghost use Rattle.scp_ballot.specs.Exactly.{ComesTo};
 
 use crate::next::next;
 use scp_ballot_rules::{State, pledges_of};
@@ -81,13 +82,14 @@ impl Machine {
         requires first { IfSome first (λ next. IsChange (ballots_on self.old.board) self.old.state next) }
         ensures settled { OnOk result (IsSettled self.old first self.new) }
         ensures owed { IfOk result (λ more. more ≡ false → OwesNothing self.new.hash (ballots_on self.new.board)) }
+        ensures exact { IfOk result (λ more. ComesTo self.old first (ballots_on self.new.board) self.new.state more) }
         ensures only_memory { IsOkUnless result Fault.NoMemory }
     {
         match first {
             Some(next) => self.renew(next)?,
             None => {}
         }
-        for _ in 0..64 {
+        for _ in 0..64u32 {
             match next(self.alloc, &self.board, &self.state)? {
                 Some(next) => self.renew(next)?,
                 None => return Ok(false),

@@ -5,6 +5,12 @@ ghost use Rattle.scp_ballot_rules.specs.Ready.{IsReady, IsConfirming};
 ghost use Rattle.scp_ballot_rules.specs.Rules.{IsStep, AcceptsPrepared, ConfirmsPrepared, AcceptsCommit, CatchesUp, AcceptsMore, Grows, ConfirmsCommit, RaisesMore};
 ghost use Rattle.scp_ballot_rules.specs.Rests.{Rests, RestsInPrepare, RestsInConfirm, CommitsNone, RaisesNone, CommitsNoHigher, ConfirmsNone, AcceptsNoMore, ConfirmsNoMore};
 ghost use Rattle.scp_ballot_steps.specs.Told.{ballots_on};
+ghost use Rattle.scp_ballot_rules.specs.AcceptPrepared.{AcceptPrepared};
+ghost use Rattle.scp_ballot_rules.specs.ConfirmPrepared.{ConfirmPrepared};
+ghost use Rattle.scp_ballot_rules.specs.AcceptCommit.{AcceptCommit};
+ghost use Rattle.scp_ballot_rules.specs.ConfirmCommit.{ConfirmCommit};
+ghost use Rattle.scp_ballot_rules.specs.RaiseCounter.{RaiseCounter};
+ghost use Rattle.scp_ballot_rules.specs.Steps.{Answers, OrElse, Step};
 
 use crate::raise::{catch_up, catch_up_more};
 use scp_ballot_rules::{Phase, State};
@@ -22,6 +28,7 @@ use std::alloc::Global;
 fn prepare_next(alloc: Global, board: &Board, state: &State) -> Result<Option<State>, Fault>
     ensures step { IfOk result (λ next. IfSome next (λ next. AcceptsPrepared (ballots_on board.now) state.now next ⊎ ConfirmsPrepared (ballots_on board.now) state.now next)) }
     ensures rests { IfOk result (λ next. IfNone next (AcceptsNoMore (ballots_on board.now) state.now × ConfirmsNoMore (ballots_on board.now) state.now)) }
+    ensures exact { IfOk result (λ next. Answers (OrElse (AcceptPrepared Prepare (ballots_on board.now)) (ConfirmPrepared Prepare (ballots_on board.now))) state.now next) }
     ensures only_memory { IsOkUnless result Fault.NoMemory }
 {
     let named = candidates(alloc, board)?;
@@ -39,6 +46,7 @@ fn prepare_next(alloc: Global, board: &Board, state: &State) -> Result<Option<St
 fn commit_next(alloc: Global, board: &Board, state: &State) -> Result<Option<State>, Fault>
     ensures step { IfOk result (λ next. IfSome next (λ next. AcceptsCommit (ballots_on board.now) state.now next ⊎ CatchesUp (ballots_on board.now) state.now next)) }
     ensures rests { IfOk result (λ next. IfNone next (CommitsNone (ballots_on board.now) × RaisesNone (ballots_on board.now) state.now)) }
+    ensures exact { state.now.phase ≡ Prepare → IfOk result (λ next. Answers (OrElse (AcceptCommit Prepare (ballots_on board.now)) (RaiseCounter (ballots_on board.now))) state.now next) }
     ensures only_memory { IsOkUnless result Fault.NoMemory }
 {
     let ends = boundaries(alloc, board)?;
@@ -57,6 +65,7 @@ fn next_preparing(alloc: Global, board: &Board, state: &State) -> Result<Option<
     requires phase { state.now.phase ≡ Prepare }
     ensures step { IfOk result (λ next. IfSome next (λ next. IsStep (ballots_on board.now) state.now next)) }
     ensures rests { IfOk result (λ next. IfNone next (RestsInPrepare (ballots_on board.now) state.now)) }
+    ensures exact { IfOk result (λ next. Answers (Step (ballots_on board.now)) state.now next) }
     ensures only_memory { IsOkUnless result Fault.NoMemory }
 {
     match prepare_next(alloc, board, state)? {
@@ -71,6 +80,7 @@ fn next_preparing(alloc: Global, board: &Board, state: &State) -> Result<Option<
 /// The first rule, in the phase Confirm.
 fn accept_next(alloc: Global, board: &Board, state: &State) -> Result<Option<State>, Fault>
     ensures step { IfOk result (λ next. IfSome next (λ next. AcceptsMore (ballots_on board.now) state.now next)) }
+    ensures exact { IfOk result (λ next. Answers (AcceptPrepared Confirm (ballots_on board.now)) state.now next) }
     ensures only_memory { IsOkUnless result Fault.NoMemory }
 {
     let named = candidates(alloc, board)?;
@@ -84,6 +94,7 @@ fn range_next(alloc: Global, board: &Board, state: &State) -> Result<Option<Stat
     requires ready { IsConfirming state.now }
     ensures step { IfOk result (λ next. IfSome next (λ next. (AcceptsCommit (ballots_on board.now) state.now next × Grows state.now next) ⊎ ConfirmsCommit (ballots_on board.now) state.now next)) }
     ensures rests { IfOk result (λ next. IfNone next (CommitsNoHigher (ballots_on board.now) state.now × ConfirmsNone (ballots_on board.now) state.now)) }
+    ensures exact { state.now.phase ≡ Confirm → IfOk result (λ next. Answers (OrElse (AcceptCommit Confirm (ballots_on board.now)) (ConfirmCommit Confirm (ballots_on board.now))) state.now next) }
     ensures only_memory { IsOkUnless result Fault.NoMemory }
 {
     let ends = boundaries(alloc, board)?;
@@ -102,6 +113,7 @@ fn later_next(alloc: Global, board: &Board, state: &State) -> Result<Option<Stat
     requires ready { IsConfirming state.now }
     ensures step { IfOk result (λ next. IfSome next (λ next. (AcceptsCommit (ballots_on board.now) state.now next × Grows state.now next) ⊎ ConfirmsCommit (ballots_on board.now) state.now next ⊎ RaisesMore state.now next)) }
     ensures rests { IfOk result (λ next. IfNone next (RestsInConfirm (ballots_on board.now) state.now)) }
+    ensures exact { state.now.phase ≡ Confirm → IfOk result (λ next. Answers (OrElse (OrElse (AcceptCommit Confirm (ballots_on board.now)) (ConfirmCommit Confirm (ballots_on board.now))) (RaiseCounter (ballots_on board.now))) state.now next) }
     ensures only_memory { IsOkUnless result Fault.NoMemory }
 {
     match range_next(alloc, board, state)? {
@@ -119,6 +131,7 @@ fn next_confirming(alloc: Global, board: &Board, state: &State) -> Result<Option
     requires ready { IsConfirming state.now }
     ensures step { IfOk result (λ next. IfSome next (λ next. IsStep (ballots_on board.now) state.now next)) }
     ensures rests { IfOk result (λ next. IfNone next (RestsInConfirm (ballots_on board.now) state.now)) }
+    ensures exact { IfOk result (λ next. Answers (Step (ballots_on board.now)) state.now next) }
     ensures only_memory { IsOkUnless result Fault.NoMemory }
 {
     match accept_next(alloc, board, state)? {
@@ -135,6 +148,7 @@ pub(crate) fn next(alloc: Global, board: &Board, state: &State) -> Result<Option
     requires ready { IsReady state.now }
     ensures step { IfOk result (λ next. IfSome next (λ next. IsStep (ballots_on board.now) state.now next)) }
     ensures rests { IfOk result (λ next. IfNone next (Rests (ballots_on board.now) state.now)) }
+    ensures exact { IfOk result (λ next. Answers (Step (ballots_on board.now)) state.now next) }
     ensures only_memory { IsOkUnless result Fault.NoMemory }
 {
     match state.phase {

@@ -1,5 +1,5 @@
 //! The fifth rule: a higher counter, where the others are ahead.
-ghost use Rattle.std.specs.Prelude.{◌≡◌, ◌≢◌, ◌<◌, ◌⊎◌, ◌↔◌, None, Some, IsSome, IsTrue, IfOk, IfSome, IfNone, IsOkUnless};
+ghost use Rattle.std.specs.Prelude.{◌≡◌, ◌≢◌, ◌<◌, ◌≤◌, ◌⊎◌, ℕ, IsSomeAnd, ◌↔◌, None, Some, IsSome, IsTrue, IfOk, IfSome, IfNone, IsOkUnless};
 ghost use Rattle.std.specs.Option.{ForSome};
 ghost use Rattle.scp_types.specs.declared.names.NodeId.{NodeId};
 ghost use Rattle.scp_quorum.specs.NodeSet.{is_in};
@@ -9,7 +9,11 @@ ghost use Rattle.scp_ballot_rules.specs.Rules.{Raises, CatchesUp, RaisesMore, ra
 ghost use Rattle.scp_ballot_rules.specs.Rests.{RaisesNone};
 ghost use Rattle.scp_ballot_rules.specs.Owed.{AreAheadOf, counter_in};
 ghost use Rattle.scp_ballot_steps.specs.Told.{ballots_on};
-ghost use Rattle.scp_ballot.specs.Ahead.{IsAhead, PicksAhead};
+ghost use Rattle.scp_ballot.specs.Ahead.{IsAhead, PicksAhead, or_floor, Lessens, IsLeastOfStatement};
+ghost use Rattle.scp_ballot_rules.specs.Greatest.{Where};
+ghost use Rattle.scp_ballot_rules.specs.RaiseCounter.{IsLeastFree, Raised, RaiseTo, RaiseCounter};
+ghost use Rattle.scp_ballot_rules.specs.Steps.{Answers};
+ghost use Rattle.scp_ballot_rules.specs.declared.state.Phase.TheVariants.{Prepare, Confirm};
 
 use scp_ballot_rules::{State, copy_some, counter};
 use scp_ballot_steps::{local_set, me_of};
@@ -57,6 +61,7 @@ fn nodes_ahead(alloc: Global, board: &Board, n: u32) -> Result<BTreeSet<NodeId>,
 fn are_ahead(alloc: Global, board: &Board, n: u32) -> Result<bool, Fault>
     ensures exact { IfOk result (λ yes. IsTrue yes ↔ AreAheadOf (ballots_on board.now) n) }
     ensures someone { IfOk result (λ yes. IsTrue yes → ((v : NodeId) → IsAhead (ballots_on board.now) n v → ⊥) → ⊥) }
+    ensures nobody { IfOk result (λ _. (m : ℕ) → ((v : NodeId) → IsAhead (ballots_on board.now) m v → ⊥) → AreAheadOf (ballots_on board.now) m → ⊥) }
     ensures only_memory { IsOkUnless result Fault.NoMemory }
 {
     let nodes = nodes_ahead(alloc, board, n)?;
@@ -70,6 +75,7 @@ fn greater(top: Option<u32>, counter: u32, n: u32) -> Option<u32>
     requires above { n < counter }
     requires top { ForSome top (λ t. n < t) }
     ensures above { IfSome result (λ t. n < t) }
+    ensures highest { IfSome result (λ t. (counter ≤ t) × (or_floor n top ≤ t)) }
     ensures some { result ≡ None → ⊥ }
 {
     match top {
@@ -81,6 +87,7 @@ fn greater(top: Option<u32>, counter: u32, n: u32) -> Option<u32>
 /// The greatest counter of another node that is above n, if there is one.
 fn highest_above(board: &Board, n: u32) -> Option<u32>
     ensures above { IfSome result (λ top. n < top) }
+    ensures highest { IfSome result (λ top. (v : NodeId) → IsAhead (ballots_on board.now) top v → ⊥) }
     ensures none { result ≡ None → (v : NodeId) → IsAhead (ballots_on board.now) n v → ⊥ }
 {
     let me = me_of(board);
@@ -98,6 +105,7 @@ fn highest_above(board: &Board, n: u32) -> Option<u32>
 fn lesser(alloc: Global, board: &Board, n: u32, counter: u32, least: u32) -> Result<u32, Fault>
     requires above { n < least }
     ensures above { IfOk result (λ new. n < new) }
+    ensures lessens { IfOk result (λ new. Lessens (ballots_on board.now) n counter least new) }
     ensures only_memory { IsOkUnless result Fault.NoMemory }
 {
     if counter <= n || counter >= least {
@@ -114,7 +122,10 @@ fn lesser(alloc: Global, board: &Board, n: u32, counter: u32, least: u32) -> Res
 /// set.
 fn least_counter(alloc: Global, board: &Board, n: u32, top: u32) -> Result<u32, Fault>
     requires above { n < top }
+    requires free { ¬ (AreAheadOf (ballots_on board.now) top) }
     ensures above { IfOk result (λ new. n < new) }
+    ensures free { IfOk result (λ new. ¬ (AreAheadOf (ballots_on board.now) new)) }
+    ensures least { IfOk result (λ new. (v : NodeId) → IsLeastOfStatement (ballots_on board.now) n new v) }
     ensures only_memory { IsOkUnless result Fault.NoMemory }
 {
     let mut least = top;
@@ -131,6 +142,7 @@ fn least_counter(alloc: Global, board: &Board, n: u32, top: u32) -> Result<u32, 
 fn raised_counter(alloc: Global, board: &Board, n: u32) -> Result<Option<u32>, Fault>
     ensures above { IfOk result (λ found. IfSome found (λ new. n < new)) }
     ensures ahead { IfOk result (λ found. IfSome found (λ _. AreAheadOf (ballots_on board.now) n)) }
+    ensures least { IfOk result (λ found. IfSome found (λ new. IsLeastFree (ballots_on board.now) new)) }
     ensures none { IfOk result (λ found. IfNone found (AreAheadOf (ballots_on board.now) n → ⊥)) }
     ensures only_memory { IsOkUnless result Fault.NoMemory }
 {
@@ -166,6 +178,7 @@ fn share_raised_value(state: &State) -> Result<Option<SharedValue>, Fault>
 /// A copy of the low end where it is compatible with a present ballot of this value.
 fn copy_compatible(low: &Option<Ballot>, value: &SharedValue) -> Result<Option<Ballot>, Fault>
     ensures kept { IfOk result (λ kept. (kept ≡ None) ⊎ ((kept ≡ low.now) × ForSome low.now (λ c. c.value ≡ value.now))) }
+    ensures exact { IfOk result (λ kept. Where (IsSomeAnd low.now (λ c. c.value ≢ value.now)) None low.now kept) }
     ensures only_memory { IsOkUnless result Fault.NoMemory }
 {
     match low {
@@ -176,6 +189,7 @@ fn copy_compatible(low: &Option<Ballot>, value: &SharedValue) -> Result<Option<B
 
 /// A copy of the confirmed ballot, or else of the high end.
 fn copy_high(state: &State) -> Result<Option<Ballot>, Fault>
+    ensures exact { IfOk result (λ high. Where (IsSome state.now.confirmed) state.now.confirmed state.now.high high) }
     ensures high { IfOk result (λ high. (IfSome state.now.confirmed (λ w. high ≡ state.now.confirmed)) × (state.now.confirmed ≡ None → high ≡ state.now.high)) }
     ensures only_memory { IsOkUnless result Fault.NoMemory }
 {
@@ -190,6 +204,7 @@ fn copy_high(state: &State) -> Result<Option<Ballot>, Fault>
 pub(crate) fn raise_preparing(state: &State, counter: u32) -> Result<Option<State>, Fault>
     requires higher { counter_of state.now.present < counter }
     ensures raised { IfOk result (λ next. IfSome next (λ next. Raises state.now next × (counter_of next.present ≡ counter))) }
+    ensures exact { state.now.phase ≡ Prepare → IfOk result (λ next. Answers (RaiseTo counter) state.now next) }
     ensures none { IfOk result (λ next. IfNone next (HasValue state.now → ⊥)) }
     ensures only_memory { IsOkUnless result Fault.NoMemory }
 {
@@ -225,6 +240,7 @@ fn with_present(state: &State, counter: u32, value: SharedValue) -> Result<State
 pub(crate) fn raise_confirming(state: &State, counter: u32) -> Result<Option<State>, Fault>
     requires higher { counter_of state.now.present < counter }
     ensures raised { IfOk result (λ next. IfSome next (λ next. RaisesMore state.now next × (counter_of next.present ≡ counter))) }
+    ensures exact { state.now.phase ≡ Confirm → IfOk result (λ next. Answers (RaiseTo counter) state.now next) }
     ensures none { IfOk result (λ next. IfNone next (state.now.low ≡ None)) }
     ensures only_memory { IsOkUnless result Fault.NoMemory }
 {
@@ -249,6 +265,7 @@ fn has_value(state: &State) -> bool
 pub(crate) fn catch_up(alloc: Global, board: &Board, state: &State) -> Result<Option<State>, Fault>
     ensures step { IfOk result (λ next. IfSome next (λ next. CatchesUp (ballots_on board.now) state.now next)) }
     ensures rests { IfOk result (λ next. IfNone next (RaisesNone (ballots_on board.now) state.now)) }
+    ensures exact { state.now.phase ≡ Prepare → IfOk result (λ next. Answers (RaiseCounter (ballots_on board.now)) state.now next) }
     ensures only_memory { IsOkUnless result Fault.NoMemory }
 {
     if !has_value(state) {
@@ -272,6 +289,7 @@ pub(crate) fn catch_up_more(
     requires low { IsSome state.now.low }
     ensures step { IfOk result (λ next. IfSome next (λ next. RaisesMore state.now next)) }
     ensures rests { IfOk result (λ next. IfNone next (AreAheadOf (ballots_on board.now) (counter_of state.now.present) → ⊥)) }
+    ensures exact { state.now.phase ≡ Confirm → IfOk result (λ next. Answers (RaiseCounter (ballots_on board.now)) state.now next) }
     ensures only_memory { IsOkUnless result Fault.NoMemory }
 {
     match raised_counter(alloc, board, counter(&state.present))? {

@@ -12,3 +12,8 @@ pub mod Raised
 pub mod Ahead
 pub mod Certifying
 pub mod Moving
+pub mod Exacts
+pub mod Answering
+pub mod Licensing
+pub mod Resting
+pub mod Lawful

@@ -5,3 +5,13 @@ pub mod Rules
 pub mod Owed
 pub mod Rests
 pub mod Rises
+pub mod Greatest
+pub mod AcceptPrepared
+pub mod ConfirmPrepared
+pub mod Range
+pub mod AcceptCommit
+pub mod ConfirmCommit
+pub mod RaiseCounter
+pub mod Steps
+pub mod Inputs
+pub mod Laws

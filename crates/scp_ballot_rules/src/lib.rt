@@ -2,8 +2,10 @@
 //! state, what each rule may do to it, and what is owed.
 #![tactic(auto)]
 
+mod laws;
 mod own;
 mod state;
 
+pub use laws::{a_step_is_licensed, rest_owes_nothing, the_rules_are_a_function};
 pub use own::{copy_some, counter, pledges_of};
 pub use state::{Phase, State};

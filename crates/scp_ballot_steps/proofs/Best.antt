@@ -37,13 +37,13 @@ pub record IsLowest (R : ℕ → Type 0) (high least : ℕ) : Type 0 where
   pub reached : R least
 
 module _ (list : List Ballot) (i : ℕ) (ballot : Ballot) (lt : i < length list) (is : ballot ≡ get_or list i ballot) where
-  here_is : (x : Ballot) → get_or list i x ≡ x → ballot ≡ x
+  pub here_is : (x : Ballot) → get_or list i x ≡ x → ballot ≡ x
   here_is x e = is ∙ get_or_default list i ballot x lt ∙ e
 
-  contained : Contains list ballot
+  pub contained : Contains list ballot
   contained = (i, lt, sym is)
 
-  earlier : (x : Ballot) → IsBefore list (i + 1) x → IsBefore list i x ⊎ (ballot ≡ x)
+  pub earlier : (x : Ballot) → IsBefore list (i + 1) x → IsBefore list i x ⊎ (ballot ≡ x)
   earlier x h = elim (last_or_before i h.0 h.1) [
     | inl lt ↦ inl (h.0, lt, h.2)
     | inr e ↦ inr (here_is x (ap (λ k. get_or list k x) (sym e) ∙ h.2))

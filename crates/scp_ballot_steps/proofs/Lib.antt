@@ -1,6 +1,10 @@
 pub mod Adding
 pub mod Gathering
 pub mod Best
+pub mod Firsts
 pub mod Primes
 pub mod Stepping
+pub mod Exactly
 pub mod Ranges
+pub mod ExactRanges
+pub mod ExactConfirms

@@ -11,7 +11,7 @@ use Rattle.scp_ballot_rules.proofs.Options.{some_of, some_and, at_some, none_som
 use Rattle.scp_ballot_rules.proofs.Order.{either_way, at_most_trans}
 use Rattle.scp_ballot_steps.specs.declared.finding.Bound.{Bound}
 use Rattle.scp_ballot_steps.specs.declared.finding.Bound.TheVariants.{Under}
-use Rattle.scp_ballot_steps.specs.Finding.{IsWithin, IsGreatest, Keeps, IsPrimeUnder}
+use Rattle.scp_ballot_steps.specs.Finding.{IsWithin, IsGreatest, Keeps, IsPrimeUnder, IsPrimeOf}
 
 -- what isn't above is at most
 pub not_above : (x : Ballot) (o : Option Ballot) → ¬ (IsAbove x o) → IsSomeAnd o (λ y. AtMost x y)
@@ -76,6 +76,28 @@ module _ (b : Seen) (old : State) (p : Ballot) (first second prime : Option Ball
     ];
     kept = λ x held fits. up second prime x (greatest_rises (λ x. FitsUnder x p × Accepted b (Prepared x)) list second prime g) (held_rises x held (at_some (λ p. FitsUnder x p) prepared p is fits));
   }
+
+  pub prime_of : (prepared : Option Ballot) → prepared ≡ Some p → IsPrimeOf b list old prepared prime
+  prime_of prepared is = record {
+    among = λ x e. elim g.found [
+      | inl same ↦ let held = held_fits x (sym same ∙ e) in (inr held.0, some_and (λ p. FitsUnder x p) prepared p is held.1)
+      | inr more ↦
+          let y = at_some (λ x. (FitsUnder x p × Accepted b (Prepared x)) × IsAbove x second × Contains list x) prime x e more in
+          (inl (y.2, y.0.1), some_and (λ p. FitsUnder x p) prepared p is y.0.0)
+    ];
+    greatest = λ x h.
+        let fits : FitsUnder x p = at_some (λ p. FitsUnder x p) prepared p is h.1 in
+        elim h.0 [
+          | inl a ↦ not_above x prime (g.others x a.0 (fits, a.1))
+          | inr held ↦ up second prime x (greatest_rises (λ x. FitsUnder x p × Accepted b (Prepared x)) list second prime g) (held_rises x held fits)
+        ];
+  }
+
+pub no_prime_of : (b : Seen) (list : List Ballot) (old : State) (prepared : Option Ballot) → prepared ≡ None → IsPrimeOf b list old prepared None
+no_prime_of b list old prepared none = record {
+  among = λ x e. none_some None x refl e;
+  greatest = λ x h. let y = some_of (λ p. FitsUnder x p) prepared h.1 in none_some prepared y.0 none y.1;
+}
 
 -- nothing stands below an absent ballot
 pub no_prime : (b : Seen) (old : State) (prepared : Option Ballot) → prepared ≡ None → IsPrimeUnder b old prepared None

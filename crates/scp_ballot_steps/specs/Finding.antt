@@ -1,8 +1,10 @@
 -- What is looked for among the ballots and boundaries that statements on the board name.
-use Rattle.std.specs.Prelude.{◌≡◌, ◌≢◌, ◌≤◌, ◌↔◌, ◌⊎◌, ℕ, List, Contains, Option, Some, None, IsSomeAnd}
+use Rattle.std.specs.Prelude.{◌≡◌, ◌≢◌, ◌<◌, ◌≤◌, ◌↔◌, ◌⊎◌, ℕ, List, Contains, Option, Some, None, IsSomeAnd}
 use Rattle.std.specs.Option.{ForSome}
 use Rattle.scp_types.specs.declared.ballot.Ballot.{Ballot}
-use Rattle.scp_envelope.specs.Ballots.{IsLess}
+use Rattle.std.specs.declared.cmp.Ordering.TheVariants.{Less}
+use Rattle.scp_envelope.specs.Ballots.{IsLess, value_cmp}
+use Rattle.scp_ballot_rules.specs.Greatest.{IsGreatestOf, ballot_at}
 use Rattle.scp_vote.specs.declared.claim.Claim.TheVariants.{Committed}
 use Rattle.scp_vote.specs.Board.{Seen, Accepted}
 use Rattle.scp_vote.specs.declared.claim.Claim.TheVariants.{Prepared}
@@ -98,3 +100,43 @@ KeepsHeld s v held = ForSome held (λ x. IsHeld s x × (x.value ≡ v))
 -- the present ballot, or the high end where that is absent, less or incompatible with it
 abbrev pub Reaches : Option Ballot → Ballot → Ballot → Type 0
 Reaches present high new = IsSomeAnd present (λ b. AtMost high b × (b.value ≡ high.value) × (new ≡ b)) ⊎ ((new ≡ high) × ForSome present (λ b. IsLess b high ⊎ (b.value ≢ high.value)))
+
+-- the boundary comes before the other: its value is less, or the same and its counter greater
+abbrev pub Precedes : Ballot → Ballot → Type 0
+Precedes x y = ((x.value ≡ y.value) × (y.counter < x.counter)) ⊎ (value_cmp x.value y.value ≡ Less)
+
+-- it comes before the best so far, or there is none
+abbrev pub GoesBefore : Ballot → Option Ballot → Type 0
+GoesBefore x best = ForSome best (λ y. Precedes x y)
+
+-- the best so far, or the boundary where P holds of it and it comes before
+abbrev pub Leads : (Ballot → Type 0) → Ballot → Option Ballot → Option Ballot → Type 0
+Leads P x best new = ((new ≡ Some x) × P x × GoesBefore x best) ⊎ ((new ≡ best) × (P x → ¬ (GoesBefore x best)))
+
+-- the first of the list for which P holds, if there is one
+pub record IsFirst (P : Ballot → Type 0) (list : List Ballot) (best : Option Ballot) : Type 0 where
+  pub found : ForSome best (λ x. P x × Contains list x)
+  pub others : (x : Ballot) → Contains list x → P x → ¬ (GoesBefore x best)
+
+-- the least so far, or the boundary where it is lower and R holds of it
+abbrev pub Lowers : (ℕ → Type 0) → List ℕ → Ballot → ℕ → ℕ → Type 0
+Lowers R v x least new = ((new ≡ x.counter) × (new < least) × (x.value ≡ v) × R new) ⊎ ((new ≡ least) × (x.value ≡ v → R x.counter → least ≤ x.counter))
+
+-- the least boundary of the value for which R holds
+pub record IsLeastOf (R : ℕ → Type 0) (v : List ℕ) (list : List Ballot) (n : ℕ) : Type 0 where
+  pub among : Contains list (ballot_at n v) × R n
+  pub least : (x : Ballot) → Contains list x → x.value ≡ v → R x.counter → n ≤ x.counter
+
+-- the first boundary within the bound and above the floor that is reached, and the least one of its value from which it is
+pub record IsExactRange (stage : Stage) (b : Seen) (bound : Bound) (floor : ℕ) (list : List Ballot) (range : Range) : Type 0 where
+  pub high : IsFirst (λ x. ((floor < x.counter) × IsWithin bound x) × Reached stage b (Committed x.counter x.counter x.value)) list (Some range.high)
+  pub low : IsLeastOf (λ n. Reached stage b (Committed n range.high.counter range.high.value)) range.high.value list range.low.counter
+  pub compatible : range.low.value ≡ range.high.value
+
+-- the greatest accepted ballot of the list, or of those held, that stands under the highest one
+abbrev pub IsPrimeOf : Seen → List Ballot → State → Option Ballot → Option Ballot → Type 0
+IsPrimeOf b list s prepared prime = IsGreatestOf (λ x. ((Contains list x × Accepted b (Prepared x)) ⊎ IsHeld s x) × IsSomeAnd prepared (λ p. FitsUnder x p)) prime
+
+-- the low end alone is revised
+abbrev pub RevisesLow : State → State → Type 0
+RevisesLow s t = (t ≡ record s { low = t.low }) × Revises s t.low

@@ -9,7 +9,11 @@ ghost use Rattle.scp_ballot_rules.specs.Rules.{AcceptsCommit, Grows};
 ghost use Rattle.scp_ballot_rules.specs.Rests.{CommitsNone, CommitsNoHigher};
 ghost use Rattle.scp_ballot_rules.specs.declared.state.Phase.TheVariants.{Confirm};
 ghost use Rattle.scp_ballot_steps.specs.Told.{ballots_on};
-ghost use Rattle.scp_ballot_steps.specs.Finding.{AreBoundaries, IsReachedRange, KeepsHeld, Reaches};
+ghost use Rattle.scp_ballot_steps.specs.Finding.{AreBoundaries, IsReachedRange, IsExactRange, KeepsHeld, Reaches};
+ghost use Rattle.scp_ballot_steps.specs.declared.finding.Bound.TheVariants.{Of};
+ghost use Rattle.scp_ballot_rules.specs.AcceptCommit.{IsHeldOf, AcceptCommit};
+ghost use Rattle.scp_ballot_rules.specs.Steps.{Answers};
+ghost use Rattle.scp_ballot_rules.specs.declared.state.Phase.TheVariants.{Prepare};
 ghost use Rattle.scp_ballot_steps.specs.declared.told.Stage.TheVariants.{Acceptance};
 
 use crate::finding::{Bound, is_less};
@@ -36,6 +40,7 @@ fn copy_of_value(ballot: &Option<Ballot>, value: &SharedValue) -> Result<Option<
 /// The higher of the accepted ballots that has the value.
 fn held_of(state: &State, value: &SharedValue) -> Result<Option<Ballot>, Fault>
     ensures kept { IfOk result (λ held. KeepsHeld state.now value.now held) }
+    ensures exact { IfOk result (λ held. IsHeldOf value.now state.now held) }
     ensures only_memory { IsOkUnless result Fault.NoMemory }
 {
     let held = copy_of_value(&state.prepared, value)?;
@@ -91,6 +96,7 @@ pub fn accept_commit(
     requires all { AreBoundaries (ballots_on board.now) boundaries.now }
     ensures step { IfOk result (λ next. IfSome next (λ next. AcceptsCommit (ballots_on board.now) state.now next)) }
     ensures rests { IfOk result (λ next. IfNone next (CommitsNone (ballots_on board.now))) }
+    ensures exact { state.now.phase ≡ Prepare → IfOk result (λ next. Answers (AcceptCommit Prepare (ballots_on board.now)) state.now next) }
     ensures only_memory { IsOkUnless result Fault.NoMemory }
 {
     match reached_range(board, Stage::Acceptance, &Bound::Any, 0, boundaries)? {
@@ -112,6 +118,7 @@ fn higher_range(
 ) -> Result<Option<Range>, Fault>
     requires counted { (x : Ballot) → Contains boundaries.now x → x.counter ≢ 0 }
     ensures range { IfOk result (λ found. IfSome found (λ range. IsReachedRange Acceptance (ballots_on board.now) range × (counter_of state.now.high < range.high.counter) × (range.high.value ≡ low.now.value))) }
+    ensures exact { IfOk result (λ found. IfSome found (λ range. IsExactRange Acceptance (ballots_on board.now) (Of low.now.value) (counter_of state.now.high) boundaries.now range)) }
     ensures none { IfOk result (λ found. IfNone found ((x : Ballot) → Contains boundaries.now x → counter_of state.now.high < x.counter → x.value ≡ low.now.value → Accepted (ballots_on board.now) (Committed x.counter x.counter x.value) → ⊥)) }
     ensures only_memory { IsOkUnless result Fault.NoMemory }
 {
@@ -132,6 +139,7 @@ pub fn accept_higher(
     requires ready { IsConfirming state.now }
     ensures step { IfOk result (λ next. IfSome next (λ next. AcceptsCommit (ballots_on board.now) state.now next × Grows state.now next)) }
     ensures rests { IfOk result (λ next. IfNone next (CommitsNoHigher (ballots_on board.now) state.now)) }
+    ensures exact { IfOk result (λ next. Answers (AcceptCommit Confirm (ballots_on board.now)) state.now next) }
     ensures only_memory { IsOkUnless result Fault.NoMemory }
 {
     match &state.low {

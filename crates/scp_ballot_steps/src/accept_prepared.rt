@@ -8,7 +8,9 @@ ghost use Rattle.scp_ballot_rules.specs.Order.{IsAbove, IsOver, FitsUnder};
 ghost use Rattle.scp_ballot_rules.specs.Rules.{AcceptsPrepared, AcceptsMore};
 ghost use Rattle.scp_ballot_rules.specs.Rests.{AcceptsNoMore};
 ghost use Rattle.scp_ballot_steps.specs.Told.{ballots_on};
-ghost use Rattle.scp_ballot_steps.specs.Finding.{AreCandidates, Keeps, Clears, IsPrimeUnder};
+ghost use Rattle.scp_ballot_steps.specs.Finding.{AreCandidates, Keeps, Clears, IsPrimeUnder, IsPrimeOf};
+ghost use Rattle.scp_ballot_rules.specs.AcceptPrepared.{AcceptsInPrepare, AcceptsInConfirm};
+ghost use Rattle.scp_ballot_rules.specs.Steps.{Answers};
 
 use crate::finding::{Bound, greatest, is_above, is_over, is_same, is_within};
 use crate::told::Stage;
@@ -43,6 +45,7 @@ fn prime_under(
     prepared: &Option<Ballot>,
 ) -> Result<Option<Ballot>, Fault>
     ensures prime { IfOk result (λ prime. IsPrimeUnder (ballots_on board.now) state.now prepared.now prime) }
+    ensures exact { IfOk result (λ prime. IsPrimeOf (ballots_on board.now) candidates.now state.now prepared.now prime) }
     ensures only_memory { IsOkUnless result Fault.NoMemory }
 {
     match prepared {
@@ -79,7 +82,7 @@ fn is_held(
     prime: &Option<Ballot>,
     low: &Option<Ballot>,
 ) -> bool
-    ensures { IsTrue result → prepared.now ≡ state.now.prepared }
+    ensures { IsTrue result ↔ ((prepared.now ≡ state.now.prepared) × (prime.now ≡ state.now.prime) × (low.now ≡ state.now.low)) }
 {
     is_same(prepared, &state.prepared) && is_same(prime, &state.prime) && is_same(low, &state.low)
 }
@@ -112,6 +115,7 @@ pub fn accept_prepared(
     requires all { AreCandidates (ballots_on board.now) candidates.now }
     ensures step { IfOk result (λ next. IfSome next (λ next. AcceptsPrepared (ballots_on board.now) state.now next)) }
     ensures rests { IfOk result (λ next. IfNone next (AcceptsNoMore (ballots_on board.now) state.now)) }
+    ensures exact { IfOk result (λ next. Answers (AcceptsInPrepare (ballots_on board.now)) state.now next) }
     ensures only_memory { IsOkUnless result Fault.NoMemory }
 {
     let floor = &state.prepared;
@@ -145,6 +149,7 @@ fn accept_of(
     requires all { AreCandidates (ballots_on board.now) candidates.now }
     requires low { state.now.low ≡ Some low.now }
     ensures step { IfOk result (λ next. IfSome next (λ next. AcceptsMore (ballots_on board.now) state.now next)) }
+    ensures exact { IfOk result (λ next. Answers (AcceptsInConfirm (ballots_on board.now)) state.now next) }
     ensures only_memory { IsOkUnless result Fault.NoMemory }
 {
     let bound = Bound::Of(low.value.share()?);
@@ -171,6 +176,7 @@ pub fn accept_more(
 ) -> Result<Option<State>, Fault>
     requires all { AreCandidates (ballots_on board.now) candidates.now }
     ensures step { IfOk result (λ next. IfSome next (λ next. AcceptsMore (ballots_on board.now) state.now next)) }
+    ensures exact { IfOk result (λ next. Answers (AcceptsInConfirm (ballots_on board.now)) state.now next) }
     ensures only_memory { IsOkUnless result Fault.NoMemory }
 {
     match &state.low {

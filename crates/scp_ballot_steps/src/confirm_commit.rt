@@ -9,6 +9,11 @@ ghost use Rattle.scp_ballot_rules.specs.declared.state.Phase.TheVariants.{Extern
 ghost use Rattle.scp_ballot_steps.specs.Told.{ballots_on};
 ghost use Rattle.scp_ballot_steps.specs.Finding.{AreBoundaries, IsReachedRange};
 ghost use Rattle.scp_ballot_steps.specs.declared.told.Stage.TheVariants.{Confirmation};
+ghost use Rattle.scp_ballot_steps.specs.declared.finding.Bound.TheVariants.{Of};
+ghost use Rattle.scp_ballot_steps.specs.Finding.{IsExactRange};
+ghost use Rattle.scp_ballot_rules.specs.ConfirmCommit.{ConfirmCommit};
+ghost use Rattle.scp_ballot_rules.specs.Steps.{Answers};
+ghost use Rattle.scp_ballot_rules.specs.declared.state.Phase.TheVariants.{Confirm};
 
 use crate::finding::Bound;
 use crate::range::{Range, reached_range};
@@ -40,6 +45,7 @@ fn confirmed_range(
 ) -> Result<Option<Range>, Fault>
     requires counted { (x : Ballot) → Contains boundaries.now x → x.counter ≢ 0 }
     ensures range { IfOk result (λ found. IfSome found (λ range. IsReachedRange Confirmation (ballots_on board.now) range)) }
+    ensures exact { IfOk result (λ found. IfSome found (λ range. IsExactRange Confirmation (ballots_on board.now) (Of low.now.value) 0 boundaries.now range)) }
     ensures none { IfOk result (λ found. IfNone found ((x : Ballot) → Contains boundaries.now x → 0 < x.counter → x.value ≡ low.now.value → Confirmed (ballots_on board.now) (Committed x.counter x.counter x.value) → ⊥)) }
     ensures only_memory { IsOkUnless result Fault.NoMemory }
 {
@@ -57,6 +63,7 @@ pub fn confirm_commit(
     requires all { AreBoundaries (ballots_on board.now) boundaries.now }
     ensures step { IfOk result (λ next. IfSome next (λ next. ConfirmsCommit (ballots_on board.now) state.now next)) }
     ensures rests { IfOk result (λ next. IfNone next (ConfirmsNone (ballots_on board.now) state.now)) }
+    ensures exact { state.now.phase ≡ Confirm → IfOk result (λ next. Answers (ConfirmCommit Confirm (ballots_on board.now)) state.now next) }
     ensures only_memory { IsOkUnless result Fault.NoMemory }
 {
     match &state.low {

@@ -10,6 +10,10 @@ ghost use Rattle.scp_ballot_rules.specs.Rules.{ConfirmsPrepared};
 ghost use Rattle.scp_ballot_rules.specs.Rests.{ConfirmsNoMore};
 ghost use Rattle.scp_ballot_steps.specs.Told.{ballots_on};
 ghost use Rattle.scp_ballot_steps.specs.Finding.{AreCandidates, Revises, JoinsState, KeepsLow, MayVote};
+ghost use Rattle.scp_ballot_rules.specs.Greatest.{IsGreatestOf};
+ghost use Rattle.scp_ballot_rules.specs.ConfirmPrepared.{IsConfirmedCandidate, ConfirmsInPrepare};
+ghost use Rattle.scp_ballot_rules.specs.Steps.{Answers};
+ghost use Rattle.scp_ballot_steps.specs.Finding.{RevisesLow};
 
 use crate::finding::{Bound, greatest, is_less, is_over, is_same};
 use crate::told::Stage;
@@ -25,6 +29,7 @@ fn newly_confirmed(
 ) -> Result<Option<Ballot>, Fault>
     requires all { AreCandidates (ballots_on board.now) candidates.now }
     ensures found { IfOk result (λ found. IfSome found (λ x. (x.counter ≢ 0) × Confirmed (ballots_on board.now) (Prepared x) × IsAbove x state.now.confirmed)) }
+    ensures greatest { IfOk result (λ found. IfSome found (λ x. IsGreatestOf (λ y. IsConfirmedCandidate (ballots_on board.now) y) (Some x))) }
     ensures none { IfOk result (λ found. IfNone found (ConfirmsNoMore (ballots_on board.now) state.now)) }
     ensures only_memory { IsOkUnless result Fault.NoMemory }
 {
@@ -171,7 +176,9 @@ fn with_low(state: &State, low: Option<Ballot>) -> Result<State, Fault>
 /// The state with the newly confirmed ballot, and its low end revised.
 fn confirm(board: &Board, state: &State, ballot: &Ballot) -> Result<State, Fault>
     requires confirmed { (ballot.now.counter ≢ 0) × Confirmed (ballots_on board.now) (Prepared ballot.now) × IsAbove ballot.now state.now.confirmed }
+    requires greatest { IsGreatestOf (λ y. IsConfirmedCandidate (ballots_on board.now) y) (Some ballot.now) }
     ensures step { IfOk result (λ next. ConfirmsPrepared (ballots_on board.now) state.now next) }
+    ensures exact { IfOk result (λ next. Answers (ConfirmsInPrepare (ballots_on board.now)) state.now (Some next)) }
     ensures only_memory { IsOkUnless result Fault.NoMemory }
 {
     let joined = join(state, ballot)?;
@@ -183,6 +190,7 @@ fn confirm(board: &Board, state: &State, ballot: &Ballot) -> Result<State, Fault
 /// The state with its low end revised, if that differs.
 fn revise(state: &State) -> Result<Option<State>, Fault>
     ensures revised { IfOk result (λ next. IfSome next (λ next. (next ≡ record state.now { low = next.low }) × Revises state.now next.low)) }
+    ensures exact { IfOk result (λ next. Answers RevisesLow state.now next) }
     ensures only_memory { IsOkUnless result Fault.NoMemory }
 {
     let low = revised_low(state)?;
@@ -202,6 +210,7 @@ pub fn confirm_prepared(
     requires all { AreCandidates (ballots_on board.now) candidates.now }
     ensures step { IfOk result (λ next. IfSome next (λ next. ConfirmsPrepared (ballots_on board.now) state.now next)) }
     ensures rests { IfOk result (λ next. IfNone next (ConfirmsNoMore (ballots_on board.now) state.now)) }
+    ensures exact { IfOk result (λ next. Answers (ConfirmsInPrepare (ballots_on board.now)) state.now next) }
     ensures only_memory { IsOkUnless result Fault.NoMemory }
 {
     match newly_confirmed(board, state, candidates)? {

@@ -4,7 +4,7 @@ ghost use Rattle.std.specs.Option.{ForSome};
 ghost use Rattle.scp_types.specs.declared.ballot.Ballot.{Ballot};
 ghost use Rattle.scp_vote.specs.declared.claim.Claim.TheVariants.{Committed};
 ghost use Rattle.scp_ballot_steps.specs.Told.{ballots_on, Reached};
-ghost use Rattle.scp_ballot_steps.specs.Finding.{IsWithin, IsFound, IsReachedRange, Finds};
+ghost use Rattle.scp_ballot_steps.specs.Finding.{IsWithin, IsReachedRange, GoesBefore, Leads, IsFirst, Lowers, IsLeastOf, IsExactRange};
 
 use crate::finding::{Bound, is_within};
 use crate::told::{Stage, reached_commit};
@@ -20,7 +20,7 @@ pub(crate) struct Range {
 
 /// Whether the boundary goes before the best so far: the values ascend, and of one value the greatest comes first.
 fn goes_before(boundary: &Ballot, best: &Option<Ballot>) -> bool
-    ensures first { best.now ≡ None → IsTrue result }
+    ensures { IsTrue result ↔ GoesBefore boundary.now best.now }
 {
     match best {
         Some(best) if boundary.value == best.value => best.counter < boundary.counter,
@@ -64,7 +64,7 @@ fn first(
     boundary: &Ballot,
     best: Option<Ballot>,
 ) -> Result<Option<Ballot>, Fault>
-    ensures finds { IfOk result (λ new. Finds (λ x. ((floor < x.counter) × IsWithin bound.now x) × Reached stage (ballots_on board.now) (Committed x.counter x.counter x.value)) boundary.now best new) }
+    ensures leads { IfOk result (λ new. Leads (λ x. ((floor < x.counter) × IsWithin bound.now x) × Reached stage (ballots_on board.now) (Committed x.counter x.counter x.value)) boundary.now best new) }
     ensures only_memory { IsOkUnless result Fault.NoMemory }
 {
     if !goes_before(boundary, &best) {
@@ -86,7 +86,7 @@ fn highest(
     floor: u32,
     boundaries: &[Ballot],
 ) -> Result<Option<Ballot>, Fault>
-    ensures found { IfOk result (λ best. IsFound (λ x. ((floor < x.counter) × IsWithin bound.now x) × Reached stage (ballots_on board.now) (Committed x.counter x.counter x.value)) boundaries.now best) }
+    ensures first { IfOk result (λ best. IsFirst (λ x. ((floor < x.counter) × IsWithin bound.now x) × Reached stage (ballots_on board.now) (Committed x.counter x.counter x.value)) boundaries.now best) }
     ensures only_memory { IsOkUnless result Fault.NoMemory }
 {
     let mut best = None;
@@ -104,7 +104,7 @@ fn lower(
     boundary: &Ballot,
     least: u32,
 ) -> Result<u32, Fault>
-    ensures lower { IfOk result (λ new. (new ≡ least) ⊎ ((new ≡ boundary.now.counter) × (new < least) × Reached stage (ballots_on board.now) (Committed new high.now.counter high.now.value))) }
+    ensures lower { IfOk result (λ new. Lowers (λ n. Reached stage (ballots_on board.now) (Committed n high.now.counter high.now.value)) high.now.value boundary.now least new) }
     ensures only_memory { IsOkUnless result Fault.NoMemory }
 {
     let counter = boundary.counter;
@@ -122,10 +122,11 @@ fn lower(
 fn lowest(board: &Board, stage: Stage, boundaries: &[Ballot], high: &Ballot) -> Result<u32, Fault>
     requires counted { (x : Ballot) → Contains boundaries.now x → x.counter ≢ 0 }
     requires high { high.now.counter ≢ 0 }
+    requires there { Contains boundaries.now high.now }
     requires reached { Reached stage (ballots_on board.now) (Committed high.now.counter high.now.counter high.now.value) }
     ensures counted { IfOk result (λ low. low ≢ 0) }
     ensures ascends { IfOk result (λ low. low ≤ high.now.counter) }
-    ensures reached { IfOk result (λ low. Reached stage (ballots_on board.now) (Committed low high.now.counter high.now.value)) }
+    ensures least { IfOk result (λ low. IsLeastOf (λ n. Reached stage (ballots_on board.now) (Committed n high.now.counter high.now.value)) high.now.value boundaries.now low) }
     ensures only_memory { IsOkUnless result Fault.NoMemory }
 {
     let mut least = high.counter;
@@ -146,6 +147,7 @@ pub(crate) fn reached_range(
 ) -> Result<Option<Range>, Fault>
     requires counted { (x : Ballot) → Contains boundaries.now x → x.counter ≢ 0 }
     ensures range { IfOk result (λ found. IfSome found (λ range. IsReachedRange stage (ballots_on board.now) range)) }
+    ensures exact { IfOk result (λ found. IfSome found (λ range. IsExactRange stage (ballots_on board.now) bound.now floor boundaries.now range)) }
     ensures within { IfOk result (λ found. IfSome found (λ range. (floor < range.high.counter) × IsWithin bound.now range.high)) }
     ensures none { IfOk result (λ found. IfNone found ((x : Ballot) → Contains boundaries.now x → floor < x.counter → IsWithin bound.now x → Reached stage (ballots_on board.now) (Committed x.counter x.counter x.value) → ⊥)) }
     ensures only_memory { IsOkUnless result Fault.NoMemory }

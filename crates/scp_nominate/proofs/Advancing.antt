@@ -3,6 +3,7 @@ use Rattle.std.proofs.Common.{◌≡◌, ◌≢◌, ◌<◌, ◌≤◌, ◌↔�
 use Rattle.std.specs.Option.{ForSome, option_map}
 use Rattle.std.specs.BTreeMap.{is_at}
 use Rattle.std.proofs.lemmas.List.Elements.{Contains-get_or}
+use Rattle.std.specs.List.Sorted.{IsStrictlySortedBy}
 use Rattle.scp_types.specs.declared.names.NodeId.{NodeId}
 use Rattle.scp_types.specs.declared.names.Hash.{Hash}
 use Rattle.scp_quorum.specs.NodeSet.{node_cmp}
@@ -202,13 +203,14 @@ pub works : {D : Type 0} (level : D → ℕ → List ℕ → Level) (place : D �
     → IsSettling (IsFull (level m.guide.driver) m.guide.slot.0) old m.state b
     → OwesNothing (IsFull (level m.guide.driver) m.guide.slot.0) (λ node. Contains m.guide.leaders.items node) m.guide.proposal (heard m.state.board) (own_lists m.state.lists)
     → ((node : NodeId) → Contains m.guide.leaders.items node ↔ Leads (place m.guide.driver m.guide.slot.0) m.nodes.items m.rounds node)
-    → AreInTurn (heard old.board).me (heard old.board).local m.nodes.items → m.rounds ≤ length m.nodes.items → IsWorking level place m
-works level place m old b s owed leaders nodes rounds = record {
+    → AreInTurn (heard old.board).me (heard old.board).local m.nodes.items → m.rounds ≤ length m.nodes.items → IsStrictlySortedBy node_cmp m.guide.leaders.items → IsWorking level place m
+works level place m old b s owed leaders nodes rounds ascending = record {
   paid = paid_by (IsFull (level m.guide.driver) m.guide.slot.0) (λ node. Contains m.guide.leaders.items node) (Leads (place m.guide.driver m.guide.slot.0) m.nodes.items m.rounds) m.guide.proposal (heard m.state.board) (own_lists m.state.lists) (λ v l. (leaders v).1 l) owed;
   rest = settled_rests (IsFull (level m.guide.driver) m.guide.slot.0) old m.state b s;
   leaders = leaders;
   nodes = subst (λ v. AreInTurn v (heard m.state.board).local m.nodes.items) (sym s.chain.board.me) (subst (λ (q : QuorumTree). AreInTurn (heard old.board).me q m.nodes.items) (sym s.chain.board.local) nodes);
   rounds = rounds;
+  ascending = ascending;
 }
 
 -- nothing was given, and nothing changed

@@ -10,3 +10,6 @@ mod Leading
 mod Advancing
 mod Suggesting
 mod Turning
+mod Turns
+mod Inserting
+mod Repeated

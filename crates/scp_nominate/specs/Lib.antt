@@ -2,6 +2,11 @@ pub mod Heard
 pub mod Values
 pub mod Steps
 pub mod Owed
+pub mod InTurn
+pub mod Places
+pub mod Voting
+pub mod Taking
+pub mod Repeating
 pub mod Own
 pub mod State
 pub mod Turns

@@ -12,7 +12,7 @@ use Rattle.scp_envelope.specs.declared.statement.Pledges.{Pledges}
 use Rattle.scp_envelope.specs.declared.statement.Pledges.TheVariants.{Nominate as Nominating}
 use Rattle.scp_envelope.specs.declared.statement.Envelope.{Envelope}
 use Rattle.scp_vote.specs.declared.claim.Claim.TheVariants.{Nominated as IsNominated}
-use Rattle.scp_vote.specs.Board.{Seen, Confirmed}
+use Rattle.scp_vote.specs.Board.{Seen, Confirmed, PutsCounted}
 use Rattle.scp_vote.specs.Licence.{Licensed}
 use Rattle.scp_driver.specs.declared.driver.Level.{Level}
 use Rattle.scp_driver.specs.Driver.{IsFull}
@@ -25,6 +25,8 @@ use Rattle.scp_nominate.specs.Steps.{own_lists}
 use Rattle.scp_nominate.specs.State.{IsAtRest}
 use Rattle.scp_nominate.specs.Turns.{Leads, AreInTurn}
 use Rattle.scp_nominate.specs.Given.{IsWorth, GivesComposite}
+use Rattle.scp_nominate.specs.Repeating.{Rule, LeadsTo}
+use Rattle.std.specs.List.Sorted.{IsStrictlySortedBy}
 
 -- What a nominator knows: its slot, the hash of its set, the board, its lists, its proposal, the nodes that lead in turn, how
 -- many rounds there were, and whether it failed.
@@ -129,12 +131,28 @@ pub record IsWorking {D : Type 0} (level : D → ℕ → List ℕ → Level) (pl
   pub paid : IsPaid level place m
   pub rest : IsAtRest (IsFull (level m.guide.driver) m.guide.slot.0) m.state
   pub leaders : (node : NodeId) → Contains m.guide.leaders.items node ↔ Leads (place m.guide.driver m.guide.slot.0) m.nodes.items m.rounds node
+  pub ascending : IsStrictlySortedBy node_cmp m.guide.leaders.items
   pub nodes : AreInTurn (heard m.state.board).me (heard m.state.board).local m.nodes.items
   pub rounds : m.rounds ≤ length m.nodes.items
 
 -- each nominator is so, from the one that `new` makes on
 abbrev pub IsSound : {D : Type 0} → (D → ℕ → List ℕ → Level) → (D → ℕ → ℕ → ℕ → ℕ) → Nominator D → Type 0
 IsSound level place m = m.failed ≡ false → IsWorking level place m
+
+-- what the steps go by: its driver's levels and what that extracts, the leaders of its rounds, and its proposal
+abbrev pub rule_of : {D : Type 0} → (D → ℕ → List ℕ → Level) → (D → ℕ → List ℕ → Option (List ℕ)) → (D → ℕ → ℕ → ℕ → ℕ) → Nominator D → Rule
+rule_of level extracted place m =
+    record { full = IsFull (level m.guide.driver) m.guide.slot.0; extracted = extracted m.guide.driver m.guide.slot.0; leads = Leads (place m.guide.driver m.guide.slot.0) m.nodes.items m.rounds; proposal = m.guide.proposal }
+
+-- the steps lead to its board and its lists from this board and the lists that it had
+abbrev pub ComesFrom : {D : Type 0} → (D → ℕ → List ℕ → Level) → (D → ℕ → List ℕ → Option (List ℕ)) → (D → ℕ → ℕ → ℕ → ℕ) → Nomination → Seen → Nominator D → Type 0
+ComesFrom level extracted place old b m = LeadsTo (rule_of level extracted place m) old.hash b old.lists (heard m.state.board) (own_lists m.state.lists)
+
+-- so they do from the board with another node's statement
+pub record ComesFromHearing {D : Type 0} (level : D → ℕ → List ℕ → Level) (extracted : D → ℕ → List ℕ → Option (List ℕ)) (place : D → ℕ → ℕ → ℕ → ℕ) (old : Nomination) (e : Envelope) (delivered : QuorumTree) (m : Nominator D) : Type 0 where
+  pub board : Seen
+  pub puts : PutsCounted old.board board e.statement.node e.statement.pledges delivered
+  pub comes : ComesFrom level extracted place old board m
 
 -- A nominator that has heard nothing: round 1, no proposal, empty lists and an empty board.
 pub record Begins (node : NodeId) (number : ℕ) (set : QuorumTree) (n : Nomination) : Type 0 where

@@ -7,7 +7,11 @@ ghost use Rattle.scp_nominate.specs.Heard.{heard};
 ghost use Rattle.scp_nominate.specs.Own.{IsVoting, IsVoted, IsKnown, Passes};
 ghost use Rattle.scp_nominate.specs.Owed.{OwesNothing, MayVote, VotesFor};
 ghost use Rattle.scp_nominate.specs.Steps.{MoreVotes, IsTried, own_lists};
-ghost use Rattle.scp_nominate.specs.Values.{Has};
+ghost use Rattle.scp_nominate.specs.Values.{Has, items};
+ghost use Rattle.scp_nominate.specs.Voting.{VotesOwn, VotesFirst};
+ghost use Rattle.scp_nominate.specs.Repeating.{StepsOnce};
+ghost use Rattle.std.specs.List.Sorted.{IsStrictlySortedBy};
+ghost use Rattle.scp_quorum.specs.NodeSet.{node_cmp};
 
 use crate::heard::me_of;
 use crate::leaders::vote_leaders;
@@ -41,6 +45,7 @@ impl<D: Driver> Guide<D> {
         ensures more { OnOk result (MoreVotes votes.old votes.new) }
         ensures tried { OnOk result (Contains self.now.leaders.items me → ForSome self.now.proposal (λ v. IsTried votes.new v)) }
         ensures only { OnOk result ((v : List ℕ) → Has votes.new v → Has votes.old v ⊎ (Contains self.now.leaders.items me × (self.now.proposal ≡ Some v))) }
+        ensures exact { OnOk result (VotesOwn (Contains self.now.leaders.items me) self.now.proposal (items votes.old) (items votes.new)) }
         ensures only_memory { IsOkUnless result Fault.NoMemory }
     {
         if !has_node(self.leaders.as_slice(), &me) {
@@ -55,9 +60,11 @@ impl<D: Driver> Guide<D> {
 
     /// Step 1: where there is no candidate, votes for the proposal and for what other leaders name.
     fn vote_first(&self, alloc: Global, board: &Board, lists: &mut Lists) -> Result<(), Fault>
+        requires ascending { IsStrictlySortedBy node_cmp self.now.leaders.items }
         ensures voting { OnOk result (IsVoting lists.old lists.new) }
         ensures voted { OnOk result (lists.old.candidates.values.items ≡ [] → IsVoted (IsFull (D.level self.now.driver) self.now.slot.0) (λ node. Contains self.now.leaders.items node) self.now.proposal (heard board.now) lists.new) }
         ensures only { OnOk result (VotesFor (MayVote (IsFull (D.level self.now.driver) self.now.slot.0) (D.extracted self.now.driver self.now.slot.0) (λ node. Contains self.now.leaders.items node) self.now.proposal (heard board.now)) (own_lists lists.old) (own_lists lists.new)) }
+        ensures exact { OnOk result (VotesFirst (IsFull (D.level self.now.driver) self.now.slot.0) (D.extracted self.now.driver self.now.slot.0) (λ node. Contains self.now.leaders.items node) self.now.proposal (heard board.now) (own_lists lists.old) (own_lists lists.new)) }
         ensures only_memory { IsOkUnless result Fault.NoMemory }
     {
         if lists.candidates.len() > 0 {
@@ -86,9 +93,11 @@ impl<D: Driver> Guide<D> {
         lists: &mut Lists,
     ) -> Result<(), Fault>
         requires known { IsKnown (IsFull (D.level self.now.driver) self.now.slot.0) (heard board.now) known.now }
+        requires ascending { IsStrictlySortedBy node_cmp self.now.leaders.items }
         ensures passes { OnOk result (Passes (IsFull (D.level self.now.driver) self.now.slot.0) (heard board.now) lists.old lists.new) }
         ensures owed { OnOk result (OwesNothing (IsFull (D.level self.now.driver) self.now.slot.0) (λ node. Contains self.now.leaders.items node) self.now.proposal (heard board.now) (own_lists lists.new)) }
         ensures votes { OnOk result (VotesFor (MayVote (IsFull (D.level self.now.driver) self.now.slot.0) (D.extracted self.now.driver self.now.slot.0) (λ node. Contains self.now.leaders.items node) self.now.proposal (heard board.now)) (own_lists lists.old) (own_lists lists.new)) }
+        ensures exact { OnOk result (StepsOnce (record { full = IsFull (D.level self.now.driver) self.now.slot.0; extracted = D.extracted self.now.driver self.now.slot.0; leads = λ node. Contains self.now.leaders.items node; proposal = self.now.proposal }) (heard board.now) (own_lists lists.old) (own_lists lists.new)) }
         ensures only_memory { IsOkUnless result Fault.NoMemory }
     {
         self.vote_first(alloc, board, lists)?;

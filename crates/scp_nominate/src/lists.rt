@@ -3,8 +3,11 @@ ghost use Rattle.std.specs.Prelude.{◌≡◌, ◌⊎◌, ◌↔◌, ℕ, List, 
 ghost use Rattle.scp_vote.specs.Board.{Accepted, Confirmed};
 ghost use Rattle.scp_nominate.specs.Heard.{heard};
 ghost use Rattle.scp_vote.specs.declared.claim.Claim.TheVariants.{Nominated};
-ghost use Rattle.scp_nominate.specs.Values.{Has};
-ghost use Rattle.scp_nominate.specs.Steps.{MoreVotes, IsTried, HasRoom, IsTaken, Accepts, Confirms};
+ghost use Rattle.scp_nominate.specs.Values.{Has, items};
+ghost use Rattle.scp_nominate.specs.Steps.{MoreVotes, IsTried, HasRoom, IsTaken, Accepts, Confirms, own_lists};
+ghost use Rattle.scp_nominate.specs.InTurn.{InTurn};
+ghost use Rattle.scp_nominate.specs.Places.{VotesOne};
+ghost use Rattle.scp_nominate.specs.Taking.{TakesOne};
 
 use crate::values::ValueSet;
 use scp_types::{Fault, Value};
@@ -28,6 +31,7 @@ pub(crate) fn vote(votes: &mut ValueSet, value: &Value) -> Result<(), Fault>
     ensures tried { OnOk result (IsTried votes.new value.now) }
     ensures room { OnOk result (HasRoom votes.old value.now → Has votes.new value.now) }
     ensures only { OnOk result ((v : List ℕ) → Has votes.new v → Has votes.old v ⊎ (value.now ≡ v)) }
+    ensures exact { OnOk result (VotesOne value.now (items votes.old) (items votes.new)) }
     ensures only_memory { IsOkUnless result Fault.NoMemory }
 {
     if votes.contains(value) || votes.len() >= LIMIT {
@@ -66,6 +70,7 @@ fn is_confirmed(board: &Board, value: &Value) -> Result<bool, Fault>
 fn accept_one(board: &Board, value: &Value, lists: &mut Lists) -> Result<(), Fault>
     ensures accepts { OnOk result (Accepts (λ v. value.now ≡ v) (heard board.now) lists.old lists.new) }
     ensures taken { OnOk result (Accepted (heard board.now) (Nominated value.now) → IsTaken lists.new value.now) }
+    ensures exact { OnOk result (TakesOne (heard board.now) value.now (own_lists lists.old) (own_lists lists.new)) }
     ensures only_memory { IsOkUnless result Fault.NoMemory }
 {
     if lists.accepted.contains(value) {
@@ -86,6 +91,7 @@ fn accept_one(board: &Board, value: &Value, lists: &mut Lists) -> Result<(), Fau
 pub(crate) fn accept(board: &Board, known: &ValueSet, lists: &mut Lists) -> Result<(), Fault>
     ensures accepts { OnOk result (Accepts (λ v. Has known.now v) (heard board.now) lists.old lists.new) }
     ensures taken { OnOk result ((v : List ℕ) → Has known.now v → Accepted (heard board.now) (Nominated v) → IsTaken lists.new v) }
+    ensures exact { OnOk result (InTurn (λ v s t. TakesOne (heard board.now) v s t) (items known.now) (own_lists lists.old) (own_lists lists.new)) }
     ensures only_memory { IsOkUnless result Fault.NoMemory }
 {
     for value in known.as_slice() {

@@ -32,7 +32,7 @@ pub struct Nominator<D: Driver + Drop> {
 
 impl<D: Driver + Drop> Nominator<D> {
     ghost use Rattle.scp_nominate.specs.State.{IsAtRest, IsSettling, IsOwnOf};
-    ghost use Rattle.scp_nominate.specs.Nomination.{nomination, driver_of, own, Advances, HasOwnLists, SaysItsLists, VotesWell, KeepsMaking, KeepsOthers, Hears, IsSound, IsPaid, Begins, first_of};
+    ghost use Rattle.scp_nominate.specs.Nomination.{nomination, driver_of, own, Advances, HasOwnLists, SaysItsLists, VotesWell, KeepsMaking, KeepsOthers, Hears, IsSound, IsPaid, Begins, first_of, ComesFrom, ComesFromHearing};
 
     /// A nominator that has heard nothing, in round 1. The one refusal is `Fault::NoMemory`.
     pub fn new(
@@ -101,6 +101,7 @@ impl<D: Driver + Drop> Nominator<D> {
         ensures counted { OnOk result (KeepsOwn (nomination self.new).board) }
         ensures lists { OnOk result (HasOwnLists D.level self.new) }
         ensures votes { OnOk result (VotesWell D.level D.extracted D.place (nomination self.old).lists self.new) }
+        ensures exact { OnOk result ((nomination self.old).proposal ≡ None → ComesFrom D.level D.extracted D.place (nomination self.old) (nomination self.old).board self.new) }
         ensures paid { OnOk result (IsPaid D.level D.place self.new) }
         ensures refused { IfErr result (λ f. ((f ≡ Fault.Failed) × ((nomination self.old).failed ≡ true)) ⊎ ((f ≡ Fault.NoMemory) × ((nomination self.old).failed ≡ false))) }
         ensures working { OnOk result (((nomination self.old).failed ≡ false) × ((nomination self.new).failed ≡ false)) }
@@ -141,6 +142,7 @@ impl<D: Driver + Drop> Nominator<D> {
         ensures counted { OnOk result (KeepsOwn (nomination self.new).board) }
         ensures lists { OnOk result (HasOwnLists D.level self.new) }
         ensures votes { OnOk result (VotesWell D.level D.extracted D.place (nomination self.old).lists self.new) }
+        ensures exact { OnOk result (ComesFromHearing D.level D.extracted D.place (nomination self.old) envelope delivered.value self.new) }
         ensures paid { OnOk result (IsPaid D.level D.place self.new) }
         ensures refused { IfErr result (λ f. ((f ≡ Fault.Failed) × ((nomination self.old).failed ≡ true)) ⊎ ((f ≡ Fault.NoMemory) × ((nomination self.old).failed ≡ false))) }
         ensures working { OnOk result (((nomination self.old).failed ≡ false) × ((nomination self.new).failed ≡ false)) }
@@ -173,6 +175,7 @@ impl<D: Driver + Drop> Nominator<D> {
         ensures counted { OnOk result (KeepsOwn (nomination self.new).board) }
         ensures lists { OnOk result (HasOwnLists D.level self.new) }
         ensures votes { OnOk result (VotesWell D.level D.extracted D.place (nomination self.old).lists self.new) }
+        ensures exact { OnOk result ((nomination self.old).rounds < length (nomination self.old).nodes → ComesFrom D.level D.extracted D.place (nomination self.old) (nomination self.old).board self.new) }
         ensures paid { OnOk result (IsPaid D.level D.place self.new) }
         ensures refused { IfErr result (λ f. ((f ≡ Fault.Failed) × ((nomination self.old).failed ≡ true)) ⊎ ((f ≡ Fault.NoMemory) × ((nomination self.old).failed ≡ false))) }
         ensures working { OnOk result (((nomination self.old).failed ≡ false) × ((nomination self.new).failed ≡ false)) }

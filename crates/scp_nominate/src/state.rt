@@ -8,6 +8,9 @@ ghost use Rattle.scp_types.specs.declared.names.NodeId.{NodeId};
 ghost use Rattle.scp_driver.specs.Driver.{IsFull};
 ghost use Rattle.scp_nominate.specs.Owed.{OwesNothing, MayVote, VotesFor};
 ghost use Rattle.scp_nominate.specs.Steps.{own_lists};
+ghost use Rattle.scp_nominate.specs.Repeating.{LeadsTo};
+ghost use Rattle.std.specs.List.Sorted.{IsStrictlySortedBy};
+ghost use Rattle.scp_quorum.specs.NodeSet.{node_cmp};
 
 use crate::guide::Guide;
 use crate::heard::{local_of, me_of, new_board, put_nominate};
@@ -102,9 +105,11 @@ impl State {
     /// Repeats the steps until none changes the own lists, which then are on the board. Whether the own statement changed.
     fn settle<D: Driver>(&mut self, guide: &Guide<D>) -> Result<bool, Fault>
         requires rest { IsAtRest (IsFull (D.level guide.now.driver) guide.now.slot.0) self.old }
+        requires ascending { IsStrictlySortedBy node_cmp guide.now.leaders.items }
         ensures settled { IfOk result (λ renewed. IsSettling (IsFull (D.level guide.now.driver) guide.now.slot.0) self.old self.new renewed) }
         ensures owed { OnOk result (OwesNothing (IsFull (D.level guide.now.driver) guide.now.slot.0) (λ node. Contains guide.now.leaders.items node) guide.now.proposal (heard self.new.board) (own_lists self.new.lists)) }
         ensures votes { OnOk result (VotesFor (MayVote (IsFull (D.level guide.now.driver) guide.now.slot.0) (D.extracted guide.now.driver guide.now.slot.0) (λ node. Contains guide.now.leaders.items node) guide.now.proposal (heard self.new.board)) (own_lists self.old.lists) (own_lists self.new.lists)) }
+        ensures exact { OnOk result (LeadsTo (record { full = IsFull (D.level guide.now.driver) guide.now.slot.0; extracted = D.extracted guide.now.driver guide.now.slot.0; leads = λ node. Contains guide.now.leaders.items node; proposal = guide.now.proposal }) self.old.hash (heard self.old.board) (own_lists self.old.lists) (heard self.new.board) (own_lists self.new.lists)) }
         ensures only_memory { IsOkUnless result Fault.NoMemory }
     {
         let mut renewed = false;
@@ -150,9 +155,11 @@ impl State {
     /// Repeats the steps after an input, and what it gives.
     pub(crate) fn advance<D: Driver>(&mut self, guide: &Guide<D>) -> Result<Nominated, Fault>
         requires rest { IsAtRest (IsFull (D.level guide.now.driver) guide.now.slot.0) self.old }
+        requires ascending { IsStrictlySortedBy node_cmp guide.now.leaders.items }
         ensures settled { IfOk result (λ given. IsSettling (IsFull (D.level guide.now.driver) guide.now.slot.0) self.old self.new (is_some given.statement)) }
         ensures owed { OnOk result (OwesNothing (IsFull (D.level guide.now.driver) guide.now.slot.0) (λ node. Contains guide.now.leaders.items node) guide.now.proposal (heard self.new.board) (own_lists self.new.lists)) }
         ensures votes { OnOk result (VotesFor (MayVote (IsFull (D.level guide.now.driver) guide.now.slot.0) (D.extracted guide.now.driver guide.now.slot.0) (λ node. Contains guide.now.leaders.items node) guide.now.proposal (heard self.new.board)) (own_lists self.old.lists) (own_lists self.new.lists)) }
+        ensures exact { OnOk result (LeadsTo (record { full = IsFull (D.level guide.now.driver) guide.now.slot.0; extracted = D.extracted guide.now.driver guide.now.slot.0; leads = λ node. Contains guide.now.leaders.items node; proposal = guide.now.proposal }) self.old.hash (heard self.old.board) (own_lists self.old.lists) (heard self.new.board) (own_lists self.new.lists)) }
         ensures own { IfOk result (λ given. ForSome given.statement (λ e. IsOwnOf self.new guide.now.slot.0 e)) }
         ensures more { IfOk result (λ given. IsSome given.composite ↔ (length self.old.lists.candidates.values.items < length self.new.lists.candidates.values.items)) }
         ensures all { IfOk result (λ given. ForSome given.composite (λ v. v ≡ D.combined guide.now.driver guide.now.slot.0 self.new.lists.candidates.values.items)) }

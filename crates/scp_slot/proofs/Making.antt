@@ -16,6 +16,7 @@ use Rattle.scp_nominate.specs.declared.nominated.Nominated.{Nominated}
 use Rattle.scp_nominate.specs.Nomination as nominate
 use Rattle.scp_ballot.specs.declared.balloted.Balloted.{Balloted}
 use Rattle.scp_ballot.specs.Balloting as ballot
+use Rattle.scp_ballot.specs.Outcome.{ComposesExactly, HearsExactly}
 use Rattle.scp_slot.specs.declared.newest.Heard.{Heard}
 use Rattle.scp_slot.specs.declared.output.SlotOutput.{SlotOutput}
 use Rattle.scp_slot.specs.declared.output.Verdict.{Verdict}
@@ -45,6 +46,10 @@ moves_by old b out new given gives is more decided advances has working = record
   settled = decided ∙ ap (λ (g : Balloted). is_some g.decided) (sym gives);
 }
 
+-- what holds of what the ballots came to and gave holds of the machine's
+pub exact_by : (P : ballot.Ballots → Balloted → Type 0) (b new : ballot.Ballots) (out : SlotOutput) (given : Balloted) → ballots_given out ≡ given → new ≡ b → P b given → P new (ballots_given out)
+exact_by P b new out given gives is h = subst (λ (x : ballot.Ballots). P x (ballots_given out)) (sym is) (subst (λ (g : Balloted). P b g) (sym gives) h)
+
 pub kept_by : (old new b : ballot.Ballots) → new ≡ b → ballot.KeepsOthers old.board b.board → ballot.KeepsOthers old.board new.board
 kept_by old new b is others = subst (λ (x : ballot.Ballots). ballot.KeepsOthers old.board x.board) (sym is) others
 
@@ -63,6 +68,7 @@ passes_as (Some v) old mid out new b m d passes = record {
   first = subst (λ (x : ballot.Ballots). ballot.MakesFirst v x new.ballots) b passes.first;
   has_ballot = passes.has_ballot;
   others = subst (λ (x : ballot.Ballots). ballot.KeepsOthers x.board new.ballots.board) b passes.others;
+  exact = subst (λ (x : ballot.Ballots). ComposesExactly v x new.ballots (ballots_given out)) b passes.exact;
 }
 
 pub nominates_by : (combined : List (List ℕ) → List ℕ) (old mid : SlotView) (out : SlotOutput) (new : SlotView) (given : Nominated) → nominate.Advances combined (nominate.own old.nomination) old.nomination.lists mid.nomination given → nominate.KeepsMaking old.nomination mid.nomination
@@ -77,12 +83,12 @@ nominates_by combined old mid out new given advances making working b m d is pas
   verdict = verdict;
 }
 
-some_or : {A : Type 0} (o : Option A) (v : A) → ¬ (IsSome o) → o ≡ None
-some_or None v not = refl
-some_or (Some x) v not = absurd (not (search rules))
+pub none_proposed : (o : Option (List ℕ)) → ¬ (IsSome o) → o ≡ None
+none_proposed None not = refl
+none_proposed (Some v) not = absurd (not (search rules))
 
 pub first_kept : (o : Option (List ℕ)) (v : List ℕ) → ¬ (IsSome o) → nominate.first_of o v ≡ Some v
-first_kept o v not = subst (λ (x : Option (List ℕ)). nominate.first_of x v ≡ Some v) (sym (some_or o v not)) refl
+first_kept o v not = subst (λ (x : Option (List ℕ)). nominate.first_of x v ≡ Some v) (sym (none_proposed o not)) refl
 
 pub round_left : (rounds nodes : ℕ) → ¬ (nodes ≤ rounds) → rounds < nodes
 round_left rounds nodes not = elim (cases_lt rounds nodes) [ inl lt ↦ lt | inr ge ↦ absurd (not ge) ]
@@ -140,11 +146,12 @@ pub heard_by : (e : Enveloped) (set : Shared) (old mid : SlotView) (b : ballot.B
     → mid.me ≡ old.me → mid.slot ≡ old.slot → mid.nomination ≡ old.nomination → mid.ballots ≡ old.ballots → Enters e set old mid
     → new.me ≡ mid.me → new.slot ≡ mid.slot → new.nomination ≡ mid.nomination → new.newest ≡ mid.newest → new.ballots ≡ b → new.more ≡ given.more → new.decided ≡ is_some given.decided
     → ballots_given out ≡ given → out.emitted.nomination ≡ None → out.verdict ≡ Fresh
-    → ballot.Advances mid.ballots b given → (ballot.HasBallot mid.ballots → ballot.HasBallot b) → b.failed ≡ false → b.composite ≡ mid.ballots.composite → ballot.HearsOnly mid.ballots b e set.value → HearsBallot e set old out new
-heard_by e set old mid b out new given runs undecided other slot kind m_me m_slot m_nomination m_ballots enters n_me n_slot n_nomination n_newest n_ballots n_more n_decided gives silent fresh advances has working composite hears = record {
+    → ballot.Advances mid.ballots b given → (ballot.HasBallot mid.ballots → ballot.HasBallot b) → b.failed ≡ false → b.composite ≡ mid.ballots.composite → ballot.HearsOnly mid.ballots b e set.value → HearsExactly e set.value mid.ballots b given → HearsBallot e set old out new
+heard_by e set old mid b out new given runs undecided other slot kind m_me m_slot m_nomination m_ballots enters n_me n_slot n_nomination n_newest n_ballots n_more n_decided gives silent fresh advances has working composite hears exact = record {
   machine = record { me = n_me ∙ m_me; slot = n_slot ∙ m_slot };
   ballots = moves_by old b out new given gives n_ballots n_more n_decided (subst (λ (x : ballot.Ballots). ballot.Advances x b given) m_ballots advances) (subst (λ (x : ballot.Ballots). ballot.HasBallot x → ballot.HasBallot b) m_ballots has) working;
   composite = ap (λ (x : ballot.Ballots). x.composite) n_ballots ∙ composite ∙ ap (λ (x : ballot.Ballots). x.composite) m_ballots;
+  exact = exact_by (λ x g. HearsExactly e set.value old.ballots x g) b new.ballots out given gives n_ballots (subst (λ (x : ballot.Ballots). HearsExactly e set.value x b given) m_ballots exact);
   hears = subst (λ (x : ballot.Ballots). ballot.Hears old.ballots.board x.board e.statement.node e.statement.pledges (counted_of_other e.statement.node e.statement.pledges set.value)) (sym n_ballots)
       (hears_ballot old.ballots b e set.value (λ is. other (is ∙ runs.ballots_me)) (slot ∙ sym runs.ballots_slot) kind (λ was. let t : true ≡ false = sym (runs.decided.1 was) ∙ undecided in absurd cc) (subst (λ (x : ballot.Ballots). ballot.HearsOnly x b e set.value) m_ballots hears));
   nomination = n_nomination ∙ m_nomination;

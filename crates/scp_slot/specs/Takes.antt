@@ -14,8 +14,11 @@ use Rattle.scp_vote.specs.declared.claim.StatementKind.TheVariants.{Nomination a
 use Rattle.scp_vote.specs.Board.{kind_of_pledges, counted_of_other}
 use Rattle.scp_nominate.specs.declared.nominated.Nominated.{Nominated}
 use Rattle.scp_nominate.specs.Nomination as nominate
+use Rattle.scp_nominate.specs.Nomination.{Nomination}
+use Rattle.scp_nominate.specs.declared.nominator.Nominator.{Nominator}
 use Rattle.scp_ballot.specs.declared.balloted.Balloted.{Balloted}
 use Rattle.scp_ballot.specs.Balloting as ballot
+use Rattle.scp_ballot.specs.Outcome.{ComposesExactly, TimesExactly, HearsExactly}
 use Rattle.scp_slot.specs.declared.newest.Heard.{Heard}
 use Rattle.scp_slot.specs.declared.output.SlotInput.{SlotInput}
 use Rattle.scp_slot.specs.declared.output.SlotInput.TheVariants.{Propose, Round, Timer, Envelope}
@@ -23,6 +26,7 @@ use Rattle.scp_slot.specs.declared.output.SlotOutput.{SlotOutput}
 use Rattle.scp_slot.specs.declared.output.Verdict.{Verdict}
 use Rattle.scp_slot.specs.declared.output.Verdict.TheVariants.{Fresh, Stale, Own, BadStatement, BadValue, Idle}
 use Rattle.scp_slot.specs.Judged.{HasInvalid, IsBehind}
+use Rattle.scp_slot.specs.declared.machine.SlotMachine.{SlotMachine}
 use Rattle.scp_slot.specs.Newest.{Puts}
 use Rattle.scp_slot.specs.Slot.{SlotView}
 
@@ -67,6 +71,7 @@ pub record Candidate (value : List ℕ) (old : SlotView) (out : SlotOutput) (new
   pub first : ballot.MakesFirst value old.ballots new.ballots
   pub has_ballot : ballot.HasBallot new.ballots
   pub others : ballot.KeepsOthers old.ballots.board new.ballots.board
+  pub exact : ComposesExactly value old.ballots new.ballots (ballots_given out)
 
 abbrev pub PassesOn : Option (List ℕ) → SlotView → SlotOutput → SlotView → Type 0
 PassesOn None old out new = BallotsRest old out new
@@ -113,6 +118,7 @@ pub record Times (old : SlotView) (out : SlotOutput) (new : SlotView) : Type 0 w
   pub machine : IsSameMachine old new
   pub ballots : Ballots old out new
   pub composite : new.ballots.composite ≡ old.ballots.composite
+  pub exact : TimesExactly old.ballots new.ballots (ballots_given out)
   pub raises : ballot.RaisesCounter old.ballots new.ballots
   pub others : ballot.KeepsOthers old.ballots.board new.ballots.board
   pub nomination : new.nomination ≡ old.nomination
@@ -144,6 +150,7 @@ pub record HearsBallot (e : Enveloped) (set : Shared) (old : SlotView) (out : Sl
   pub machine : IsSameMachine old new
   pub ballots : Ballots old out new
   pub composite : new.ballots.composite ≡ old.ballots.composite
+  pub exact : HearsExactly e set.value old.ballots new.ballots (ballots_given out)
   pub hears : ballot.Hears old.ballots.board new.ballots.board e.statement.node e.statement.pledges (counted_of_other e.statement.node e.statement.pledges set.value)
   pub nomination : new.nomination ≡ old.nomination
   pub emitted : out.emitted.nomination ≡ None
@@ -181,6 +188,17 @@ TakesInput level combined (Envelope e set) old out new = TakesEnvelope level com
 -- An input; after the decision none changes anything.
 abbrev pub Takes : (List ℕ → Level) → (List (List ℕ) → List ℕ) → SlotInput → SlotView → SlotOutput → SlotView → Type 0
 Takes level combined input old out new = Cases (old.decided ≡ true) (Rests Idle old out new) (TakesInput level combined input old out new)
+
+-- By its driver's levels, what that extracts, and its places, the nomination is as it was, or its steps lead to it: from the board
+-- and the lists that it had, and by an envelope from that board with the envelope's statement.
+abbrev pub NominatesBy : {D : Type 0} → (D → ℕ → List ℕ → Level) → (D → ℕ → List ℕ → Option (List ℕ)) → (D → ℕ → ℕ → ℕ → ℕ) → Nomination → SlotInput → Nominator D → Type 0
+NominatesBy level extracted place old (Propose value) m = (nominate.nomination m ≡ old) ⊎ nominate.ComesFrom level extracted place old old.board m
+NominatesBy level extracted place old Round m = (nominate.nomination m ≡ old) ⊎ nominate.ComesFrom level extracted place old old.board m
+NominatesBy level extracted place old Timer m = nominate.nomination m ≡ old
+NominatesBy level extracted place old (Envelope e set) m = (nominate.nomination m ≡ old) ⊎ nominate.ComesFromHearing level extracted place old e set.value m
+
+abbrev pub NominatesExactly : {D : Type 0} → (D → ℕ → List ℕ → Level) → (D → ℕ → List ℕ → Option (List ℕ)) → (D → ℕ → ℕ → ℕ → ℕ) → SlotView → SlotInput → SlotMachine D → Type 0
+NominatesExactly level extracted place old input m = NominatesBy level extracted place old.nomination input m.state.value.nominator
 
 -- an envelope is given to the machine of its slot
 abbrev pub IsOfSlot : ℕ → SlotInput → Type 0

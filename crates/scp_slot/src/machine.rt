@@ -19,7 +19,7 @@ pub struct SlotMachine<D: Driver + Drop> {
 
 impl<D: Driver + Drop> SlotMachine<D> {
     ghost use Rattle.scp_slot.specs.Slot.{slot_view, driver_of, Begins, IsRunning, IsSound, OwesNoVote, VotesWell};
-    ghost use Rattle.scp_slot.specs.Takes.{Takes, Decides, IsOfSlot};
+    ghost use Rattle.scp_slot.specs.Takes.{Takes, Decides, IsOfSlot, NominatesExactly};
 
     /// The machine of a slot of which nothing was heard or said. The one refusal is `Fault::NoMemory`.
     pub fn new(
@@ -71,6 +71,8 @@ impl<D: Driver + Drop> SlotMachine<D> {
         ensures running { OnOk result (IsRunning (slot_view self.new)) }
         // Each new vote has its reason.
         ensures votes { OnOk result (VotesWell D.level D.extracted D.place (slot_view self.old) self.new) }
+        // The votes, the accepted values and the candidates are those that the steps of nomination come to.
+        ensures nominates { OnOk result (NominatesExactly D.level D.extracted D.place (slot_view self.old) input self.new) }
         // Nomination owes nothing.
         ensures owed { OnOk result (OwesNoVote D.level D.place self.new) }
         ensures driver { OnOk result (driver_of self.new ≡ driver_of self.old) }

@@ -42,7 +42,7 @@ pub(crate) struct State<D: Driver + Drop> {
 
 impl<D: Driver + Drop> State<D> {
     ghost use Rattle.scp_slot.specs.Slot.{view_of, Begins, IsWorking};
-    ghost use Rattle.scp_slot.specs.Takes.{PassesOn, Candidate, Enters, TakesInput, Takes, HearsFresh, HearsNomination, HearsBallot, IsOfSlot};
+    ghost use Rattle.scp_slot.specs.Takes.{PassesOn, Candidate, Enters, TakesInput, Takes, HearsFresh, HearsNomination, HearsBallot, IsOfSlot, NominatesBy};
 
     /// Nothing was heard or said.
     pub(crate) fn new(
@@ -203,6 +203,7 @@ impl<D: Driver + Drop> State<D> {
         ensures driver { OnOk result (nominate.driver_of self.new.nominator ≡ nominate.driver_of self.old.nominator) }
         ensures sound { OnOk result (nominate.IsSound D.level D.place self.new.nominator) }
         ensures votes { OnOk result (nominate.VotesWell D.level D.extracted D.place (nominate.nomination self.old.nominator).lists self.new.nominator) }
+        ensures nominates { OnOk result (NominatesBy D.level D.extracted D.place (nominate.nomination self.old.nominator) (Propose value) self.new.nominator) }
         ensures only_memory { IsOkUnless result Fault.NoMemory }
     {
         if !self.is_full(&value) {
@@ -223,6 +224,7 @@ impl<D: Driver + Drop> State<D> {
         ensures driver { OnOk result (nominate.driver_of self.new.nominator ≡ nominate.driver_of self.old.nominator) }
         ensures sound { OnOk result (nominate.IsSound D.level D.place self.new.nominator) }
         ensures votes { OnOk result (nominate.VotesWell D.level D.extracted D.place (nominate.nomination self.old.nominator).lists self.new.nominator) }
+        ensures nominates { OnOk result (NominatesBy D.level D.extracted D.place (nominate.nomination self.old.nominator) (Round) self.new.nominator) }
         ensures only_memory { IsOkUnless result Fault.NoMemory }
     {
         if self.nominator.is_last_round() {
@@ -240,6 +242,7 @@ impl<D: Driver + Drop> State<D> {
         ensures driver { OnOk result (nominate.driver_of self.new.nominator ≡ nominate.driver_of self.old.nominator) }
         ensures sound { OnOk result (nominate.IsSound D.level D.place self.new.nominator) }
         ensures votes { OnOk result (nominate.VotesWell D.level D.extracted D.place (nominate.nomination self.old.nominator).lists self.new.nominator) }
+        ensures nominates { OnOk result (NominatesBy D.level D.extracted D.place (nominate.nomination self.old.nominator) (Timer) self.new.nominator) }
         ensures only_memory { IsOkUnless result Fault.NoMemory }
     {
         let given = self.balloter.timer()?;
@@ -275,6 +278,7 @@ impl<D: Driver + Drop> State<D> {
         ensures driver { OnOk result (nominate.driver_of self.new.nominator ≡ nominate.driver_of self.old.nominator) }
         ensures sound { OnOk result (nominate.IsSound D.level D.place self.new.nominator) }
         ensures votes { OnOk result (nominate.VotesWell D.level D.extracted D.place (nominate.nomination self.old.nominator).lists self.new.nominator) }
+        ensures nominates { OnOk result (NominatesBy D.level D.extracted D.place (nominate.nomination self.old.nominator) (Enveloped envelope set) self.new.nominator) }
         ensures only_memory { IsOkUnless result Fault.NoMemory }
     {
         self.note(&envelope, &set)?;
@@ -298,6 +302,7 @@ impl<D: Driver + Drop> State<D> {
         ensures driver { OnOk result (nominate.driver_of self.new.nominator ≡ nominate.driver_of self.old.nominator) }
         ensures sound { OnOk result (nominate.IsSound D.level D.place self.new.nominator) }
         ensures votes { OnOk result (nominate.VotesWell D.level D.extracted D.place (nominate.nomination self.old.nominator).lists self.new.nominator) }
+        ensures nominates { OnOk result (NominatesBy D.level D.extracted D.place (nominate.nomination self.old.nominator) (Enveloped envelope set) self.new.nominator) }
         ensures only_memory { IsOkUnless result Fault.NoMemory }
     {
         self.note(&envelope, &set)?;
@@ -315,6 +320,7 @@ impl<D: Driver + Drop> State<D> {
         ensures driver { OnOk result (nominate.driver_of self.new.nominator ≡ nominate.driver_of self.old.nominator) }
         ensures sound { OnOk result (nominate.IsSound D.level D.place self.new.nominator) }
         ensures votes { OnOk result (nominate.VotesWell D.level D.extracted D.place (nominate.nomination self.old.nominator).lists self.new.nominator) }
+        ensures nominates { OnOk result (NominatesBy D.level D.extracted D.place (nominate.nomination self.old.nominator) (Enveloped envelope set) self.new.nominator) }
         ensures only_memory { IsOkUnless result Fault.NoMemory }
     {
         match kind_of_pledges(&envelope.get().statement.pledges) {
@@ -338,6 +344,7 @@ impl<D: Driver + Drop> State<D> {
         ensures driver { OnOk result (nominate.driver_of self.new.nominator ≡ nominate.driver_of self.old.nominator) }
         ensures sound { OnOk result (nominate.IsSound D.level D.place self.new.nominator) }
         ensures votes { OnOk result (nominate.VotesWell D.level D.extracted D.place (nominate.nomination self.old.nominator).lists self.new.nominator) }
+        ensures nominates { OnOk result (NominatesBy D.level D.extracted D.place (nominate.nomination self.old.nominator) (Enveloped envelope set) self.new.nominator) }
         ensures only_memory { IsOkUnless result Fault.NoMemory }
     {
         let verdict = self.judge(&envelope.get().statement);
@@ -357,6 +364,7 @@ impl<D: Driver + Drop> State<D> {
         ensures driver { OnOk result (nominate.driver_of self.new.nominator ≡ nominate.driver_of self.old.nominator) }
         ensures sound { OnOk result (nominate.IsSound D.level D.place self.new.nominator) }
         ensures votes { OnOk result (nominate.VotesWell D.level D.extracted D.place (nominate.nomination self.old.nominator).lists self.new.nominator) }
+        ensures nominates { OnOk result (NominatesBy D.level D.extracted D.place (nominate.nomination self.old.nominator) input self.new.nominator) }
         ensures only_memory { IsOkUnless result Fault.NoMemory }
     {
         match input {
@@ -375,6 +383,7 @@ impl<D: Driver + Drop> State<D> {
         ensures driver { OnOk result (nominate.driver_of self.new.nominator ≡ nominate.driver_of self.old.nominator) }
         ensures working { OnOk result (IsWorking D.level D.place self.new) }
         ensures votes { OnOk result (nominate.VotesWell D.level D.extracted D.place (nominate.nomination self.old.nominator).lists self.new.nominator) }
+        ensures nominates { OnOk result (NominatesBy D.level D.extracted D.place (nominate.nomination self.old.nominator) input self.new.nominator) }
         ensures only_memory { IsOkUnless result Fault.NoMemory }
     {
         if self.decided {

@@ -18,3 +18,6 @@ returns-clause-someone c passed nobody =
     let exact = ahead_by (ballots_on c.args.board.now) c.args.n nodes c.blocked-yes.result c.in_ok-nodes.ensures
     (subst (λ (q : QuorumTree). IsTrue c.blocked-yes.result ↔ Blocks nodes q) c.local_set-set.ensures.value c.blocked-yes.ensures) in
     nobody_ahead (ballots_on c.args.board.now) c.args.n c.local_set-set.ensures.sane.in_range nobody (exact.0 passed)
+
+pub returns-clause-nobody : goal.returns-clause-nobody
+returns-clause-nobody c m nobody = nobody_ahead (ballots_on c.args.board.now) m c.local_set-set.ensures.sane.in_range nobody

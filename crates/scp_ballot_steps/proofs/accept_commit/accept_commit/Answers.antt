@@ -1,5 +1,6 @@
 use Rattle.scp_ballot_steps.specs.Told.{ballots_on}
 use Rattle.scp_ballot_steps.proofs.Ranges.{accepts_commit, commits_none, none_zero}
+use Rattle.scp_ballot_steps.proofs.ExactRanges.{first_answers, first_rests}
 use Rattle.scp_ballot_steps.proofs.accept_commit.accept_commit.Goals as goal
 
 pub reached_range-requires : goal.reached_range-requires
@@ -15,3 +16,14 @@ pub returns-in-None-clause-rests : goal.returns-in-None-clause-rests
 returns-in-None-clause-rests c =
     let none = rw c.in-None.is at c.in_ok-range.ensures.none in
     commits_none (ballots_on c.args.board.now) c.args.boundaries.now c.requires.all none
+
+pub returns-in_ok-next-in-Some-clause-exact : goal.returns-in_ok-next-in-Some-clause-exact
+returns-in_ok-next-in-Some-clause-exact c phase =
+    let exact = rw c.in-Some.is at c.in_ok-range.ensures.exact in
+    let made = c.in_ok-next-in-Some.ensures.made in
+    first_answers (ballots_on c.args.board.now) c.args.state.now c.args.boundaries.now c.requires.all c.in-Some.range exact c.in_ok-next-in-Some.next c.in_ok-held-in-Some.held made.0 made.1 c.in_ok-held-in-Some.ensures.exact phase
+
+pub returns-in-None-clause-exact : goal.returns-in-None-clause-exact
+returns-in-None-clause-exact c _ =
+    let none = rw c.in-None.is at c.in_ok-range.ensures.none in
+    first_rests (ballots_on c.args.board.now) c.args.state.now (commits_none (ballots_on c.args.board.now) c.args.boundaries.now c.requires.all none)

@@ -5,6 +5,8 @@ use Rattle.scp_ballot.specs.Inside.{ballots_of}
 use Rattle.scp_ballot.proofs.Advancing.{advances, gives_rests}
 use Rattle.scp_ballot.proofs.Calling.{others_kept, composite_ballot, composite_phase, composite_rises}
 use Rattle.scp_ballot.proofs.Composing.{composite_enters, composite_taken, composite_first}
+use Rattle.scp_ballot.specs.Outcome.{ComposesExactly}
+use Rattle.scp_ballot.proofs.Outcomes.{composite_comes}
 use Rattle.scp_ballot.proofs.balloter.Balloter.candidate.Goals as goal
 
 pub candidate-requires : goal.candidate-requires
@@ -19,6 +21,17 @@ returns-clause-advances c =
     let takes = c.in_ok-given.ensures.takes in
     subst (λ (v : BalloterView). Advances (ballots v) (ballots_of n false) given) c.self.view_is
     (advances m n given takes.first c.self.inside.failed false (c.self.invariant whole) (composite_phase c.args.value m n given takes) (composite_rises c.args.value m n given takes) (composite_enters c.args.value m n given takes) takes.gives)
+
+pub returns-clause-exact : goal.returns-clause-exact
+returns-clause-exact c =
+    let whole : c.self.inside.failed ≡ false = search rules in
+    let m = c.self.inside.machine in
+    let n = c.candidate.new.self in
+    let given = c.in_ok-given.given in
+    let takes = c.in_ok-given.ensures.takes in
+    subst (λ (v : BalloterView). ComposesExactly c.args.value (ballots v) (ballots_of n false) given) c.self.view_is
+    (composite_comes c.args.value m n given c.self.inside.failed false (c.self.invariant whole) takes
+    (advances m n given takes.first c.self.inside.failed false (c.self.invariant whole) (composite_phase c.args.value m n given takes) (composite_rises c.args.value m n given takes) (composite_enters c.args.value m n given takes) takes.gives))
 
 pub returns-clause-composite : goal.returns-clause-composite
 returns-clause-composite c =

@@ -5,6 +5,8 @@ use Rattle.scp_ballot.specs.Inside.{ballots_of}
 use Rattle.scp_ballot.proofs.Calling.{take_ballot}
 use Rattle.scp_ballot.proofs.Composing.{take_composite}
 use Rattle.scp_ballot.proofs.Taking.{take_advances, take_rests, take_hears}
+use Rattle.scp_ballot.specs.Outcome.{HearsExactly}
+use Rattle.scp_ballot.proofs.Outcomes.{take_comes}
 use Rattle.scp_ballot.proofs.balloter.Balloter.take.Goals as goal
 
 pub take-requires : goal.take-requires
@@ -18,6 +20,15 @@ returns-clause-advances c =
     let given = c.in_ok-given.given in
     subst (λ (v : BalloterView). Advances (ballots v) (ballots_of n false) given) c.self.view_is
     (take_advances m n given c.args.envelope c.args.delivered.value c.self.inside.failed false (c.self.invariant whole) c.in_ok-given.ensures.takes)
+
+pub returns-clause-exact : goal.returns-clause-exact
+returns-clause-exact c =
+    let whole : c.self.inside.failed ≡ false = search rules in
+    let m = c.self.inside.machine in
+    let n = c.take.new.self in
+    let given = c.in_ok-given.given in
+    subst (λ (v : BalloterView). HearsExactly c.args.envelope c.args.delivered.value (ballots v) (ballots_of n false) given) c.self.view_is
+    (take_comes m n given c.args.envelope c.args.delivered.value c.self.inside.failed false (c.self.invariant whole) c.in_ok-given.ensures.takes)
 
 pub returns-clause-ballot : goal.returns-clause-ballot
 returns-clause-ballot c had =

@@ -5,6 +5,8 @@ use Rattle.scp_ballot.specs.Inside.{ballots_of}
 use Rattle.scp_ballot.proofs.Advancing.{advances, gives_rests}
 use Rattle.scp_ballot.proofs.Calling.{others_kept, timer_ballot, timer_raises, timer_phase, timer_rises}
 use Rattle.scp_ballot.proofs.Composing.{timer_enters, timer_composite}
+use Rattle.scp_ballot.specs.Outcome.{TimesExactly}
+use Rattle.scp_ballot.proofs.Outcomes.{timer_comes}
 use Rattle.scp_ballot.proofs.balloter.Balloter.timer.Goals as goal
 
 pub timer-requires : goal.timer-requires
@@ -19,6 +21,17 @@ returns-clause-advances c =
     let takes = c.in_ok-given.ensures.takes in
     subst (λ (v : BalloterView). Advances (ballots v) (ballots_of n false) given) c.self.view_is
     (advances m n given takes.first c.self.inside.failed false (c.self.invariant whole) (timer_phase m n given takes) (timer_rises m n given takes) (timer_enters m n given (c.self.invariant whole) takes) takes.gives)
+
+pub returns-clause-exact : goal.returns-clause-exact
+returns-clause-exact c =
+    let whole : c.self.inside.failed ≡ false = search rules in
+    let m = c.self.inside.machine in
+    let n = c.timer.new.self in
+    let given = c.in_ok-given.given in
+    let takes = c.in_ok-given.ensures.takes in
+    subst (λ (v : BalloterView). TimesExactly (ballots v) (ballots_of n false) given) c.self.view_is
+    (timer_comes m n given c.self.inside.failed false (c.self.invariant whole) takes
+    (advances m n given takes.first c.self.inside.failed false (c.self.invariant whole) (timer_phase m n given takes) (timer_rises m n given takes) (timer_enters m n given (c.self.invariant whole) takes) takes.gives))
 
 pub returns-clause-ballot : goal.returns-clause-ballot
 returns-clause-ballot c had =

@@ -12,4 +12,4 @@ advance-requires c = record {
 }
 
 pub returns-clause-takes : goal.returns-clause-takes
-returns-clause-takes c = record { first = c.in_ok-first.first; some = c.in_ok-first.ensures.raises; none = c.in_ok-first.ensures.none; gives = c.in_ok-given.ensures.gives }
+returns-clause-takes c = record { first = c.in_ok-first.first; some = c.in_ok-first.ensures.raises; none = c.in_ok-first.ensures.none; exact = c.in_ok-first.ensures.exact; gives = c.in_ok-given.ensures.gives }

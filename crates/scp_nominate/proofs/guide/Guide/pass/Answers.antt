@@ -5,6 +5,8 @@ use Rattle.scp_nominate.specs.Values.{Has}
 use Rattle.scp_nominate.specs.Owed.{MayVote}
 use Rattle.scp_nominate.proofs.Suggesting.{votes_of_steps}
 use Rattle.scp_nominate.proofs.Passing.{pass_of_steps, owes_nothing}
+use Rattle.scp_nominate.specs.Steps.{own_lists}
+use Rattle.scp_nominate.proofs.Repeated.{takes_all, finds_all}
 use Rattle.scp_nominate.proofs.guide.Guide.pass.Goals as goal
 
 pub returns-clause-passes : goal.returns-clause-passes
@@ -26,3 +28,12 @@ returns-clause-votes g c =
     c.accept.new.lists
     c.in_ok-vote_first.ensures.only
     c.in_ok-accept.ensures.accepts
+
+pub returns-clause-exact : goal.returns-clause-exact
+returns-clause-exact g c = record {
+  voted = own_lists c.vote_first.new.lists;
+  votes = c.in_ok-vote_first.ensures.exact;
+  taken = own_lists c.accept.new.lists;
+  takes = takes_all (IsFull (g.D.Driver.level c.args.self.now.driver) c.args.self.now.slot.0) (heard c.args.board.now) c.args.known.now c.vote_first.new.lists c.accept.new.lists c.requires.known c.in_ok-accept.ensures.exact;
+  finds = finds_all (heard c.args.board.now) c.accept.new.lists c.confirm.new.candidates c.in_ok-confirm.ensures.confirms c.in_ok-confirm.ensures.done;
+}

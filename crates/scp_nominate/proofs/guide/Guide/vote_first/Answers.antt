@@ -1,6 +1,12 @@
-use Rattle.std.proofs.Common.{◌≡◌, refl, sym, subst, inl, inr, [], Contains, rules}
+use Rattle.std.proofs.Common.{◌≡◌, List, refl, sym, subst, inl, inr, [], Contains, rules}
 use Rattle.scp_nominate.proofs.Growing.{votes_trans, tried_stays}
 use Rattle.scp_nominate.proofs.Suggesting.{none_of}
+use Rattle.scp_types.specs.declared.names.NodeId.{NodeId}
+use Rattle.scp_nominate.specs.Heard.{heard}
+use Rattle.scp_driver.specs.Driver.{IsFull}
+use Rattle.scp_nominate.specs.Values.{items}
+use Rattle.scp_nominate.specs.InTurn.{InTurn}
+use Rattle.scp_nominate.specs.Voting.{VotesAfter, VotesOwn}
 use Rattle.scp_nominate.proofs.guide.Guide.vote_first.Goals as goal
 
 pub returns-clause-voting : goal.returns-clause-voting
@@ -22,3 +28,18 @@ returns-clause-only g c v has =
       ]
       | inr led ↦ inr (inr (none, inr (led.0, subst (λ ns. Contains ns led.0) c.as_slice-leaders.ensures.value led.1, led.2)))
     ]
+
+pub returns-clause-exact : goal.returns-clause-exact
+returns-clause-exact g c =
+    let none : c.args.lists.now.candidates.values.items ≡ [] = none_of c.args.lists.now.candidates.values.items (λ lt. (search rules)) in
+    inl (
+      none,
+      record {
+        proposed = items c.vote_own.new.votes;
+        own = subst (λ (n : NodeId). VotesOwn (Contains c.args.self.now.leaders.items n) c.args.self.now.proposal (items c.args.lists.now.votes) (items c.vote_own.new.votes)) c.me_of.ensures c.in_ok-vote_own.ensures.exact;
+        leaders = c.args.self.now.leaders.items;
+        lead = record { ascend = c.requires.ascending; all = λ v. (λ h. h, λ h. h) };
+        others = subst (λ (ns : List NodeId). InTurn (λ node s t. VotesAfter (IsFull (g.D.Driver.level c.args.self.now.driver) c.args.self.now.slot.0) (g.D.Driver.extracted c.args.self.now.driver c.args.self.now.slot.0) (heard c.args.board.now) node s t) ns (items c.vote_own.new.votes) (items c.vote_leaders.new.votes)) c.as_slice-leaders.ensures.value c.in_ok-vote_leaders.ensures.exact;
+      },
+      refl,
+    )

@@ -6,6 +6,7 @@ use Rattle.scp_nominate.specs.Turns.{Leads, AreInTurn}
 use Rattle.scp_quorum.specs.QuorumTree.{QuorumTree}
 use Rattle.scp_nominate.proofs.Advancing.{begins_rests, begins_paid}
 use Rattle.scp_nominate.proofs.Turning.{first_leads, some_turn}
+use Rattle.scp_nominate.proofs.Inserting.{none_ascend}
 use Rattle.scp_nominate.proofs.nominator.Nominator.new.Goals as goal
 
 pub add_leader-requires-clause-some : goal.add_leader-requires-clause-some
@@ -22,4 +23,8 @@ returns-clause-sound g c e =
       leaders = first_leads (g.D.Driver.place c.args.driver c.args.slot.0) c.in_ok-nodes.nodes.items c.new-leaders.result.items (λ v. Contains c.add_leader.new.leaders.items v) c.new-leaders.ensures.items (subst (λ xs. (v : NodeId) → Contains c.add_leader.new.leaders.items v ↔ (Contains c.new-leaders.result.items v ⊎ (slice_get xs ((g.D.Driver.place c.args.driver c.args.slot.0) 1 (length xs)) ≡ Some v))) c.as_slice.ensures.value c.in_ok-add_leader.ensures.added);
       nodes = subst (λ v. AreInTurn v (heard m.board).local c.in_ok-nodes.nodes.items) (sym begins.board.me) (subst (λ (s : QuorumTree). AreInTurn c.args.me s c.in_ok-nodes.nodes.items) (sym begins.board.local) turns);
       rounds = some_turn c.args.me c.args.local.value c.in_ok-nodes.nodes.items c.in_ok-nodes.nodes.items refl turns;
+      ascending = c.in_ok-add_leader.ensures.ascending;
     }
+
+pub add_leader-requires-clause-ascending : goal.add_leader-requires-clause-ascending
+add_leader-requires-clause-ascending g c = none_ascend c.new-leaders.result.items c.new-leaders.ensures.items

@@ -5,6 +5,7 @@ use Rattle.scp_nominate.specs.Steps.{own_lists}
 use Rattle.scp_nominate.specs.Turns.{Leads}
 use Rattle.scp_nominate.proofs.Advancing.{advances, works, paid_by, keeps_others, unchanged}
 use Rattle.scp_nominate.proofs.Suggesting.{own_lists_of, votes_led}
+use Rattle.scp_nominate.proofs.Repeated.{leads_to}
 use Rattle.scp_nominate.proofs.nominator.Nominator.propose.Goals as goal
 
 pub returns-then-is_some-clause-advances : goal.returns-then-is_some-clause-advances
@@ -24,7 +25,7 @@ returns-clause-making g c = record { slot = refl; hash = c.in_ok-given.ensures.s
 pub returns-clause-sound : goal.returns-clause-sound
 returns-clause-sound g c e =
     let whole : c.args.self.now.failed ≡ false = search rules in
-    works g.D.Driver.level g.D.Driver.place _ c.args.self.now.state _ c.in_ok-given.ensures.settled c.in_ok-given.ensures.owed (c.requires.sound whole).leaders (c.requires.sound whole).nodes (c.requires.sound whole).rounds
+    works g.D.Driver.level g.D.Driver.place _ c.args.self.now.state _ c.in_ok-given.ensures.settled c.in_ok-given.ensures.owed (c.requires.sound whole).leaders (c.requires.sound whole).nodes (c.requires.sound whole).rounds (c.requires.sound whole).ascending
 
 pub returns-clause-paid : goal.returns-clause-paid
 returns-clause-paid g c =
@@ -59,3 +60,8 @@ returns-then-is_some-clause-counted g c =
 
 pub returns-clause-counted : goal.returns-clause-counted
 returns-clause-counted g c = c.in_ok-given.ensures.settled.chain.keeps
+
+pub returns-clause-exact : goal.returns-clause-exact
+returns-clause-exact g c none =
+    let whole : c.args.self.now.failed ≡ false = search rules in
+    leads_to (IsFull (g.D.Driver.level c.args.self.now.guide.driver) c.args.self.now.guide.slot.0) (g.D.Driver.extracted c.args.self.now.guide.driver c.args.self.now.guide.slot.0) (Some c.args.value) (λ v. Contains c.args.self.now.guide.leaders.items v) (Leads (g.D.Driver.place c.args.self.now.guide.driver c.args.self.now.guide.slot.0) c.args.self.now.nodes.items c.args.self.now.rounds) (c.requires.sound whole).leaders c.args.self.now.state.hash (heard c.args.self.now.state.board) (own_lists c.args.self.now.state.lists) (heard c.advance.new.self.board) (own_lists c.advance.new.self.lists) c.in_ok-given.ensures.exact

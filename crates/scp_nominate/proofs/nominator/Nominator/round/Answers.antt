@@ -7,6 +7,7 @@ use Rattle.scp_nominate.specs.Turns.{Leads}
 use Rattle.scp_nominate.proofs.Advancing.{advances, works, paid_by, keeps_others, unchanged}
 use Rattle.scp_nominate.proofs.Turning.{more_leads}
 use Rattle.scp_nominate.proofs.Suggesting.{own_lists_of, votes_led}
+use Rattle.scp_nominate.proofs.Repeated.{leads_to}
 use Rattle.scp_nominate.proofs.nominator.Nominator.round.Goals as goal
 
 pub returns-then-self-len-clause-advances : goal.returns-then-self-len-clause-advances
@@ -28,7 +29,7 @@ returns-clause-paid g c =
 pub returns-clause-sound : goal.returns-clause-sound
 returns-clause-sound g c e =
     let whole : c.args.self.now.failed ≡ false = search rules in
-    works g.D.Driver.level g.D.Driver.place _ c.args.self.now.state _ c.in_ok-given.ensures.settled c.in_ok-given.ensures.owed (more_leads (g.D.Driver.place c.args.self.now.guide.driver c.args.self.now.guide.slot.0) c.args.self.now.nodes.items c.args.self.now.rounds (λ v. Contains c.add_leader.new.leaders.items v) (λ v. Contains c.args.self.now.guide.leaders.items v) (c.requires.sound whole).leaders (subst (λ xs. (v : NodeId) → Contains c.add_leader.new.leaders.items v ↔ (Contains c.args.self.now.guide.leaders.items v ⊎ (slice_get xs ((g.D.Driver.place c.args.self.now.guide.driver c.args.self.now.guide.slot.0) (c.args.self.now.rounds + 1) (length xs)) ≡ Some v))) c.as_slice-nodes.ensures.value c.in_ok-add_leader.ensures.added)) (c.requires.sound whole).nodes (omega (arith, c.if-self-len.false, c.len.ensures))
+    works g.D.Driver.level g.D.Driver.place _ c.args.self.now.state _ c.in_ok-given.ensures.settled c.in_ok-given.ensures.owed (more_leads (g.D.Driver.place c.args.self.now.guide.driver c.args.self.now.guide.slot.0) c.args.self.now.nodes.items c.args.self.now.rounds (λ v. Contains c.add_leader.new.leaders.items v) (λ v. Contains c.args.self.now.guide.leaders.items v) (c.requires.sound whole).leaders (subst (λ xs. (v : NodeId) → Contains c.add_leader.new.leaders.items v ↔ (Contains c.args.self.now.guide.leaders.items v ⊎ (slice_get xs ((g.D.Driver.place c.args.self.now.guide.driver c.args.self.now.guide.slot.0) (c.args.self.now.rounds + 1) (length xs)) ≡ Some v))) c.as_slice-nodes.ensures.value c.in_ok-add_leader.ensures.added)) (c.requires.sound whole).nodes (omega (arith, c.if-self-len.false, c.len.ensures)) c.in_ok-add_leader.ensures.ascending
 
 pub returns-then-self-len-clause-stands : goal.returns-then-self-len-clause-stands
 returns-then-self-len-clause-stands g c =
@@ -58,3 +59,13 @@ returns-then-self-len-clause-counted g c =
 
 pub returns-clause-counted : goal.returns-clause-counted
 returns-clause-counted g c = c.in_ok-given.ensures.settled.chain.keeps
+
+pub add_leader-requires-clause-ascending : goal.add_leader-requires-clause-ascending
+add_leader-requires-clause-ascending g c =
+    let whole : c.args.self.now.failed ≡ false = search rules in
+    (c.requires.sound whole).ascending
+
+pub returns-clause-exact : goal.returns-clause-exact
+returns-clause-exact g c below =
+    let whole : c.args.self.now.failed ≡ false = search rules in
+    leads_to (IsFull (g.D.Driver.level c.args.self.now.guide.driver) c.args.self.now.guide.slot.0) (g.D.Driver.extracted c.args.self.now.guide.driver c.args.self.now.guide.slot.0) c.args.self.now.guide.proposal (λ v. Contains c.add_leader.new.leaders.items v) (Leads (g.D.Driver.place c.args.self.now.guide.driver c.args.self.now.guide.slot.0) c.args.self.now.nodes.items (c.args.self.now.rounds + 1)) (more_leads (g.D.Driver.place c.args.self.now.guide.driver c.args.self.now.guide.slot.0) c.args.self.now.nodes.items c.args.self.now.rounds (λ v. Contains c.add_leader.new.leaders.items v) (λ v. Contains c.args.self.now.guide.leaders.items v) (c.requires.sound whole).leaders (subst (λ xs. (v : NodeId) → Contains c.add_leader.new.leaders.items v ↔ (Contains c.args.self.now.guide.leaders.items v ⊎ (slice_get xs ((g.D.Driver.place c.args.self.now.guide.driver c.args.self.now.guide.slot.0) (c.args.self.now.rounds + 1) (length xs)) ≡ Some v))) c.as_slice-nodes.ensures.value c.in_ok-add_leader.ensures.added)) c.args.self.now.state.hash (heard c.args.self.now.state.board) (own_lists c.args.self.now.state.lists) (heard c.advance.new.self.board) (own_lists c.advance.new.self.lists) c.in_ok-given.ensures.exact

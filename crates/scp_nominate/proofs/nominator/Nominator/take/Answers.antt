@@ -9,12 +9,15 @@ use Rattle.scp_nominate.specs.State.{own_at}
 use Rattle.scp_nominate.specs.Nomination.{Advances, nomination_of}
 use Rattle.scp_nominate.proofs.Advancing.{advances, works, paid_by, keeps_others, heard_rests, same_own, hears_of, turns_kept}
 use Rattle.scp_nominate.proofs.Suggesting.{own_lists_of, votes_led}
+use Rattle.scp_types.specs.declared.names.Hash.{Hash}
+use Rattle.scp_nominate.specs.Repeating.{Rule, LeadsTo}
+use Rattle.scp_nominate.proofs.Repeated.{leads_to}
 use Rattle.scp_nominate.proofs.nominator.Nominator.take.Goals as goal
 
 pub advance-requires : goal.advance-requires
 advance-requires g c =
     let whole : c.args.self.now.failed ≡ false = search rules in
-    record { rest = heard_rests (IsFull (g.D.Driver.level c.args.self.now.guide.driver) c.args.self.now.guide.slot.0) c.args.self.now.state c.hear.new.self c.args.envelope.statement.node c.args.envelope.statement.pledges c.args.delivered.value (c.requires.sound whole).rest c.in_ok-hear.ensures.heard c.requires.other }
+    record { rest = heard_rests (IsFull (g.D.Driver.level c.args.self.now.guide.driver) c.args.self.now.guide.slot.0) c.args.self.now.state c.hear.new.self c.args.envelope.statement.node c.args.envelope.statement.pledges c.args.delivered.value (c.requires.sound whole).rest c.in_ok-hear.ensures.heard c.requires.other; ascending = (c.requires.sound whole).ascending }
 
 pub returns-clause-advances : goal.returns-clause-advances
 returns-clause-advances g c =
@@ -35,7 +38,7 @@ returns-clause-paid g c =
 pub returns-clause-sound : goal.returns-clause-sound
 returns-clause-sound g c e =
     let whole : c.args.self.now.failed ≡ false = search rules in
-    works g.D.Driver.level g.D.Driver.place _ c.hear.new.self _ c.in_ok-given.ensures.settled c.in_ok-given.ensures.owed (c.requires.sound whole).leaders (turns_kept (IsFull (g.D.Driver.level c.args.self.now.guide.driver) c.args.self.now.guide.slot.0) c.args.self.now.state c.hear.new.self c.args.envelope.statement.node c.args.envelope.statement.pledges c.args.delivered.value c.args.self.now.nodes.items c.in_ok-hear.ensures.heard (c.requires.sound whole).nodes) (c.requires.sound whole).rounds
+    works g.D.Driver.level g.D.Driver.place _ c.hear.new.self _ c.in_ok-given.ensures.settled c.in_ok-given.ensures.owed (c.requires.sound whole).leaders (turns_kept (IsFull (g.D.Driver.level c.args.self.now.guide.driver) c.args.self.now.guide.slot.0) c.args.self.now.state c.hear.new.self c.args.envelope.statement.node c.args.envelope.statement.pledges c.args.delivered.value c.args.self.now.nodes.items c.in_ok-hear.ensures.heard (c.requires.sound whole).nodes) (c.requires.sound whole).rounds (c.requires.sound whole).ascending
 
 pub returns-clause-stands : goal.returns-clause-stands
 returns-clause-stands g c = c.in_ok-given.ensures.settled.stands
@@ -56,3 +59,18 @@ returns-clause-votes g c =
 
 pub returns-clause-counted : goal.returns-clause-counted
 returns-clause-counted g c = c.in_ok-given.ensures.settled.chain.keeps
+
+pub returns-clause-exact : goal.returns-clause-exact
+returns-clause-exact g c =
+    let whole : c.args.self.now.failed ≡ false = search rules in
+    let h = c.in_ok-hear.ensures.heard in
+    let b = heard c.hear.new.self.board in
+    let d = heard c.advance.new.self.board in
+    let t = own_lists c.advance.new.self.lists in
+    let rule : Rule = record { full = (IsFull (g.D.Driver.level c.args.self.now.guide.driver) c.args.self.now.guide.slot.0); extracted = (g.D.Driver.extracted c.args.self.now.guide.driver c.args.self.now.guide.slot.0); leads = (Leads (g.D.Driver.place c.args.self.now.guide.driver c.args.self.now.guide.slot.0) c.args.self.now.nodes.items c.args.self.now.rounds); proposal = c.args.self.now.guide.proposal } in
+    let led = leads_to (IsFull (g.D.Driver.level c.args.self.now.guide.driver) c.args.self.now.guide.slot.0) (g.D.Driver.extracted c.args.self.now.guide.driver c.args.self.now.guide.slot.0) c.args.self.now.guide.proposal (λ v. Contains c.args.self.now.guide.leaders.items v) (Leads (g.D.Driver.place c.args.self.now.guide.driver c.args.self.now.guide.slot.0) c.args.self.now.nodes.items c.args.self.now.rounds) (c.requires.sound whole).leaders c.hear.new.self.hash b (own_lists c.hear.new.self.lists) d t c.in_ok-given.ensures.exact in
+    record {
+      board = b;
+      puts = h.put;
+      comes = subst (λ (s : Lists). LeadsTo rule c.args.self.now.state.hash b (own_lists s) d t) h.lists (subst (λ (k : Hash). LeadsTo rule k b (own_lists c.hear.new.self.lists) d t) h.hash led);
+    }

@@ -5,6 +5,7 @@ use Rattle.scp_nominate.specs.Own.{size}
 use Rattle.scp_nominate.specs.Owed.{MayVote, VotesFor}
 use Rattle.scp_nominate.specs.State.{IsSettling}
 use Rattle.scp_nominate.specs.Steps.{own_lists}
+use Rattle.scp_nominate.proofs.Repeated.{GoesRound}
 use Rattle.scp_nominate.proofs.state.State.settle.Given as goal
 
 abbrev pub invariant-loop-self : goal.invariant-loop-self
@@ -14,6 +15,7 @@ invariant-loop-self g l = record {
       (MayVote (IsFull (g.D.Driver.level l.guide.driver) l.guide.slot.0) (g.D.Driver.extracted l.guide.driver l.guide.slot.0) (λ node. Contains l.guide.leaders.items node) l.guide.proposal (heard l.self.board))
       (own_lists l.fn.self.lists)
       (own_lists l.self.lists);
+  exact : GoesRound (record { full = IsFull (g.D.Driver.level l.guide.driver) l.guide.slot.0; extracted = g.D.Driver.extracted l.guide.driver l.guide.slot.0; leads = λ node. Contains l.guide.leaders.items node; proposal = l.guide.proposal }) l.fn.self.hash (heard l.fn.self.board) (own_lists l.fn.self.lists) (heard l.self.board) (own_lists l.self.lists);
 }
 
 abbrev pub decreases-loop-self : goal.decreases-loop-self

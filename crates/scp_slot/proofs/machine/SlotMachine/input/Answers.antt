@@ -15,3 +15,6 @@ returns-clause-decides g c = decides_taken _ _ c.args.input _ _ _ (returns-claus
 
 pub returns-clause-votes : goal.returns-clause-votes
 returns-clause-votes g c = rw c.deref_mut.ensures.value at c.in_ok-out.ensures.votes
+
+pub returns-clause-nominates : goal.returns-clause-nominates
+returns-clause-nominates g c = rw c.deref_mut.ensures.value at c.in_ok-out.ensures.nominates

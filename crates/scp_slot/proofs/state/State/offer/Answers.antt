@@ -6,7 +6,8 @@ use Rattle.scp_slot.specs.declared.output.Verdict.TheVariants.{Fresh, Idle}
 use Rattle.scp_slot.specs.Slot.{SlotView, view_of}
 use Rattle.scp_slot.specs.Takes.{Cases, ballots_given}
 use Rattle.std.specs.Prelude.{IsSome}
-use Rattle.scp_slot.proofs.Making.{after, moves_by, kept_by}
+use Rattle.scp_ballot.specs.Outcome.{ComposesExactly}
+use Rattle.scp_slot.proofs.Making.{after, moves_by, exact_by, kept_by}
 use Rattle.scp_slot.proofs.state.State.offer.Goals as goal
 
 pub returns-clause-passes : goal.returns-clause-passes
@@ -21,5 +22,6 @@ returns-clause-passes g c =
       composite = subst (λ (x : ballot.Ballots). ballot.TakesValue c.args.value old.ballots x) (sym is) c.in_ok-given.ensures.composite;
       first = subst (λ (x : ballot.Ballots). ballot.MakesFirst c.args.value old.ballots x) (sym is) c.in_ok-given.ensures.first;
       has_ballot = subst (λ (x : ballot.Ballots). ballot.HasBallot x) (sym is) c.in_ok-given.ensures.ballot;
+      exact = exact_by (λ x g. ComposesExactly c.args.value old.ballots x g) b new.ballots c.balloted.result c.in_ok-given.given (ap (λ (o : SlotOutput). ballots_given o) c.balloted.ensures.out) is c.in_ok-given.ensures.exact;
       others = kept_by old.ballots new.ballots b is c.in_ok-given.ensures.others;
     }

@@ -21,4 +21,4 @@ returns-clause-takes g c =
     (ap (λ (v : SlotView). v.me) e1) (ap (λ (v : SlotView). v.slot) e1) (ap (λ (v : SlotView). v.nomination) e1) (ap (λ (v : SlotView). v.ballots) e1) c.in_ok-note.ensures.enters
     (ap (λ (v : SlotView). v.me) e2) (ap (λ (v : SlotView). v.slot) e2) (ap (λ (v : SlotView). v.nomination) e2) (ap (λ (v : SlotView). v.newest) e2) (ap (λ (v : SlotView). v.ballots) e2) (ap (λ (v : SlotView). v.more) e2) (ap (λ (v : SlotView). v.decided) e2)
     (ap (λ (o : SlotOutput). ballots_given o) c.balloted.ensures.out) (ap (λ (o : SlotOutput). o.emitted.nomination) c.balloted.ensures.out) (ap (λ (o : SlotOutput). o.verdict) c.balloted.ensures.out)
-    c.in_ok-given.ensures.advances c.in_ok-given.ensures.ballot c.in_ok-given.ensures.working.1 c.in_ok-given.ensures.composite c.in_ok-given.ensures.others
+    c.in_ok-given.ensures.advances c.in_ok-given.ensures.ballot c.in_ok-given.ensures.working.1 c.in_ok-given.ensures.composite c.in_ok-given.ensures.others c.in_ok-given.ensures.exact

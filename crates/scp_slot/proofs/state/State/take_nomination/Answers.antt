@@ -8,6 +8,8 @@ use Rattle.scp_slot.specs.Slot.{SlotView, view_of}
 use Rattle.scp_slot.specs.Takes.{Cases, ballots_given}
 use Rattle.std.specs.Prelude.{IsSome}
 use Rattle.scp_slot.proofs.Making.{after, same_nominator, nominated_by}
+use Rattle.scp_slot.specs.declared.output.SlotInput.TheVariants.{Envelope}
+use Rattle.scp_slot.specs.Takes.{NominatesBy}
 use Rattle.scp_slot.proofs.state.State.take_nomination.Goals as goal
 
 pub returns-clause-takes : goal.returns-clause-takes
@@ -29,3 +31,8 @@ pub returns-clause-votes : goal.returns-clause-votes
 returns-clause-votes g c =
     subst (λ m. nominate.VotesWell g.D.Driver.level g.D.Driver.extracted g.D.Driver.place (nominate.nomination c.args.self.now.nominator).lists m) (sym (ap (λ (s : State _). s.nominator) c.in_ok-out.ensures.rest))
     (subst (λ m. nominate.VotesWell g.D.Driver.level g.D.Driver.extracted g.D.Driver.place (nominate.nomination m).lists c.take.new.self) (ap (λ (s : State _). s.nominator) c.in_ok-note.ensures.rest) c.in_ok-given.ensures.votes)
+
+pub returns-clause-nominates : goal.returns-clause-nominates
+returns-clause-nominates g c =
+    subst (λ m. NominatesBy g.D.Driver.level g.D.Driver.extracted g.D.Driver.place (nominate.nomination c.args.self.now.nominator) (Envelope c.args.envelope c.args.set) m) (sym (ap (λ (s : State _). s.nominator) c.in_ok-out.ensures.rest))
+    (inr (subst (λ m. nominate.ComesFromHearing g.D.Driver.level g.D.Driver.extracted g.D.Driver.place (nominate.nomination m) c.args.envelope c.args.set.value c.take.new.self) (ap (λ (s : State _). s.nominator) c.in_ok-note.ensures.rest) c.in_ok-given.ensures.exact))

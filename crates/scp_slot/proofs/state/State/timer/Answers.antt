@@ -6,7 +6,8 @@ use Rattle.scp_slot.specs.declared.output.Verdict.TheVariants.{Fresh, Idle}
 use Rattle.scp_slot.specs.Slot.{SlotView, view_of}
 use Rattle.scp_slot.specs.Takes.{Cases, ballots_given}
 use Rattle.std.specs.Prelude.{IsSome}
-use Rattle.scp_slot.proofs.Making.{after, moves_by, kept_by}
+use Rattle.scp_ballot.specs.Outcome.{TimesExactly}
+use Rattle.scp_slot.proofs.Making.{after, moves_by, exact_by, kept_by}
 use Rattle.scp_slot.proofs.state.State.timer.Goals as goal
 
 pub returns-clause-takes : goal.returns-clause-takes
@@ -21,6 +22,7 @@ returns-clause-takes g c =
       ballots = moves_by old b c.balloted.result new c.in_ok-given.given (ap (λ (o : SlotOutput). ballots_given o) c.balloted.ensures.out) is (ap (λ (v : SlotView). v.more) e) (ap (λ (v : SlotView). v.decided) e) c.in_ok-given.ensures.advances c.in_ok-given.ensures.ballot c.in_ok-given.ensures.working.1;
       composite = ap (λ (x : ballot.Ballots). x.composite) is ∙ c.in_ok-given.ensures.composite;
       raises = subst (λ (x : ballot.Ballots). ballot.RaisesCounter old.ballots x) (sym is) c.in_ok-given.ensures.raises;
+      exact = exact_by (λ x g. TimesExactly old.ballots x g) b new.ballots c.balloted.result c.in_ok-given.given (ap (λ (o : SlotOutput). ballots_given o) c.balloted.ensures.out) is c.in_ok-given.ensures.exact;
       others = kept_by old.ballots new.ballots b is c.in_ok-given.ensures.others;
       nomination = ap (λ (v : SlotView). v.nomination) e;
       emitted = ap (λ (o : SlotOutput). o.emitted.nomination) c.balloted.ensures.out;
