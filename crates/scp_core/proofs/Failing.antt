@@ -21,7 +21,7 @@ which true = inl refl
 which false = inr refl
 
 -- the past says of an exchange that it failed the node: it did
-failing : (c : Config) (p : Past) (old new : NodeView) (event : Event) (reply : Reply) → p.failed ≡ false → (hears c p event reply).failed ≡ true → Step old event reply new → IsFailure reply × Fails old new
+failing : (c : Config) (p : Past) (old new : NodeView) (event : Event) (reply : Reply) → p.failed ≡ false → (hears c p event reply).failed ≡ true → Step old event reply new → IsFailure reply × Fails old event new
 failing c p old new event JournalFull was now s = (tt, s.0)
 failing c p old new event NoMemory was now s = (tt, s.0)
 failing c p old new event Accepted was now s = absurd (true_isnt (sym now ∙ past-runs c p event ∙ was))
@@ -72,7 +72,7 @@ record FailsAt (c : Config) (p : Past) (v : NodeView) (xs : List Exchange) (last
   flows : Flows (fold (λ q y. hears c q y.0 y.1) p before) moment
   reply_fails : IsFailure reply
   step : Step moment event reply last
-  fails : Fails moment last
+  fails : Fails moment event last
   silent_then : AllByRecursion (λ (x : Exchange). x.1 ≡ Failed) later
 
 at_first : (c : Config) (x : Exchange) (xs : List Exchange) (p : Past) (v last : NodeView) → p.failed ≡ false → (hears c p x.0 x.1).failed ≡ true → AreSteps c p v (x ∷ xs) last → FailsAt c p v (x ∷ xs) last
@@ -93,7 +93,7 @@ at_first c x xs p v last was now a =
       flows = w.flows;
       reply_fails = f.0;
       step = subst (λ (u : NodeView). Step v x.0 x.1 u) (sym rest.0) w.step;
-      fails = subst (λ (u : NodeView). Fails v u) (sym rest.0) f.1;
+      fails = subst (λ (u : NodeView). Fails v x.0 u) (sym rest.0) f.1;
       silent_then = rest.1;
     }
 
@@ -133,7 +133,7 @@ pub record Failure (past : List Exchange) (v : NodeView) : Type 0 where
   pub later : List Exchange
   pub is : past ≡ earlier ++ (event, reply) ∷ later
   pub step : Step moment event reply v
-  pub fails : Fails moment v
+  pub fails : Fails moment event v
   pub silent_then : AllByRecursion (λ (x : Exchange). x.1 ≡ Failed) later
 
 pub failure_of : (past : List Exchange) (v : NodeView) → LedgerTheorem past v → v.failed ≡ true → Failure past v

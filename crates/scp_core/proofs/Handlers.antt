@@ -1,9 +1,10 @@
 -- What a handler did to one link is a step of the node.
-use Rattle.std.proofs.Common.{◌≡◌, ◌≢◌, ℕ, Bool, true, false, List, [], ◌∷◌, refl, sym, ◌∙◌, ap, subst, inl, inr, zero, suc, length}
+use Rattle.std.proofs.Common.{◌≡◌, ◌≢◌, ◌+◌, ℕ, Bool, true, false, List, [], ◌∷◌, refl, sym, ◌∙◌, ap, subst, inl, inr, zero, suc, length}
 use Rattle.std.specs.Prelude.{◌↔◌, Option, Some, None, map, slice_get, slice_set, Result, Ok, Err, is_ok, OnOk, nat_lt, if◌then◌else◌}
 use Rattle.std.proofs.lemmas.Bool.{ltb-true, lt-ltb}
 use Rattle.scp_types.specs.declared.names.NodeId.{NodeId}
 use Rattle.scp_wire.specs.declared.link.Inbound.{Inbound}
+use Rattle.scp_core.specs.declared.event.Event.{Event}
 use Rattle.scp_core.specs.declared.event.Event.TheVariants.{Open, Send, Close, ReaderTake, ReaderPut, SlotTake, ApplyTake, Drain}
 use Rattle.scp_core.specs.declared.event.Reply.{Reply}
 use Rattle.scp_core.specs.declared.event.Reply.TheVariants.{NoLink, AlreadyOpen, LivesSpent, NotOpen, Full, Accepted, Blocked, Idle, Moved, Sent, JournalFull, NoMemory}
@@ -11,7 +12,7 @@ use Rattle.scp_pending.specs.declared.ready.Ready.{Ready}
 use Rattle.scp_pending.specs.Rules.{PendingView}
 use Rattle.scp_pending.specs.Pends.{Pends, IsSettled, IsIdle}
 use Rattle.scp_core.specs.History.{peer_at}
-use Rattle.scp_core.specs.Node.{LinkView, NodeView, with_link, Step, Fails, Hands, life_of}
+use Rattle.scp_core.specs.Node.{LinkView, NodeView, with_link, Step, Fails, LeavesRoom, Hands, life_of, room_in, room_of, room_at}
 use Rattle.scp_ledger.specs.Takes.{adds_entry}
 use Rattle.scp_core.specs.Stages.{KvLedger, KvTakes}
 use Rattle.scp_wire.specs.declared.message.Message.{Message}
@@ -87,6 +88,27 @@ lives_same (x ∷ xs) zero k k2 there e = ap (λ n. n ∷ map life_of xs) (e ∙
     the_first a b e = cc
 lives_same (x ∷ xs) (suc l) k k2 there e = ap (λ ns. x.life ∷ ns) (lives_same xs l k k2 there e)
 
+there_set : (xs : List LinkView) (l : ℕ) (k k2 : LinkView) → slice_get xs l ≡ Some k → slice_get (slice_set xs l k2) l ≡ Some k2
+there_set [] l k k2 there = absurd cc
+there_set (x ∷ xs) zero k k2 there = refl
+there_set (x ∷ xs) (suc l) k k2 there = there_set xs l k k2 there
+
+others_set : (xs : List LinkView) (l m : ℕ) (k2 : LinkView) → m ≢ l → slice_get (slice_set xs l k2) m ≡ slice_get xs m
+others_set [] l m k2 ne = refl
+others_set (x ∷ xs) zero zero k2 ne = absurd (ne refl)
+others_set (x ∷ xs) zero (suc m) k2 ne = refl
+others_set (x ∷ xs) (suc l) zero k2 ne = refl
+others_set (x ∷ xs) (suc l) (suc m) k2 ne = others_set xs l m k2 (λ e. ne (ap suc e))
+
+-- one item fewer waits at the link
+one_more : (v : NodeView) (l : ℕ) (k k2 : LinkView) (links : List LinkView) → slice_get v.links l ≡ Some k → room_in k2 ≡ room_in k + 1 → links ≡ slice_set v.links l k2 → LeavesRoom v (ReaderTake l) (record v { links = links; failed = true })
+one_more v l k k2 links there more is =
+    let now : slice_get links l ≡ Some k2 = ap (λ (xs : List LinkView). slice_get xs l) is ∙ there_set v.links l k k2 there in
+    (
+      ap room_of now ∙ more ∙ sym (ap (λ (o : Option LinkView). room_of o + 1) there),
+      λ other ne. ap (λ (xs : List LinkView). room_of (slice_get xs other)) is ∙ ap room_of (others_set v.links l other k2 ne),
+    )
+
 -- a reader's take; for want of memory the node fails
 abbrev failing : NodeView → Reply → NodeView
 failing v NoMemory = record v { failed = true }
@@ -96,7 +118,7 @@ read-at : (v : NodeView) (l : ℕ) (reply : Reply) (links : List LinkView) (k k2
 read-at v l Blocked links k k2 r there d is = (r, (k, there, d.0), same v l k k2 links there d.1 is)
 read-at v l Idle links k k2 r there d is = (r, (k, there, (d.0, d.1)), same v l k k2 links there d.2 is)
 read-at v l Moved links k k2 r there d is = (r, (k, there, (d.0, d.1, d.2, d.3, here v l k2 _ links d.4 is)))
-read-at v l NoMemory links k k2 r there d is = (record { was = r; failed = refl; keeps = record { config = refl; journal = refl; decisions = refl; asked = refl; applied = refl; lives = ap (map life_of) is ∙ lives_same v.links l k k2 there d.2 } }, (k, there, (d.0, d.1)))
+read-at v l NoMemory links k k2 r there d is = (record { was = r; failed = refl; keeps = record { config = refl; journal = refl; decisions = refl; asked = refl; applied = refl; lives = ap (map life_of) is ∙ lives_same v.links l k k2 there d.2 }; room = one_more v l k k2 links there d.3 is }, (k, there, (d.0, d.1)))
 read-at v l reply links k k2 r there d is = absurd d
 
 pub read-step : (v : NodeView) (l : ℕ) (reply : Reply) (links : List LinkView) → v.failed ≡ false → OnLinks Reads v.links l reply links → Step v (ReaderTake l) reply (failing (with_links v links) reply)
@@ -151,8 +173,8 @@ isnt_empty x rest e = cc
 same_first : {X : Type 0} (x y : X) (xs ys : List X) → x ∷ xs ≡ y ∷ ys → x ≡ y
 same_first x y xs ys e = cc
 
-fails_by : (v u w : NodeView) (d d2 : DeciderView) → v ≡ with_decider v d → w ≡ with_decider u d2 → u.config ≡ v.config → u.links ≡ v.links → v.failed ≡ false → Keeps d d2 → Fails v w
-fails_by v u w d d2 e is config links runs k = record {
+fails_by : (v u w : NodeView) (event : Event) (d d2 : DeciderView) → (((l : ℕ) → room_at w l ≡ room_at v l) → LeavesRoom v event w) → v ≡ with_decider v d → w ≡ with_decider u d2 → u.config ≡ v.config → u.links ≡ v.links → v.failed ≡ false → Keeps d d2 → Fails v event w
+fails_by v u w event d d2 leaves e is config links runs k = record {
   was = runs;
   failed = ap (λ (x : NodeView). x.failed) is ∙ k.failed;
   keeps = record {
@@ -163,10 +185,11 @@ fails_by v u w d d2 e is config links runs k = record {
     applied = ap (λ (x : NodeView). x.applier.applied) is ∙ k.applied ∙ sym (ap (λ (x : NodeView). x.applier.applied) e);
     lives = ap (λ (x : NodeView). map life_of x.links) is ∙ ap (map life_of) links;
   };
+  room = leaves (λ l. ap (λ (x : NodeView). room_at x l) is ∙ ap (λ (xs : List LinkView). room_of (slice_get xs l)) links);
 }
 
-slot-fails : (v w : NodeView) (d d2 : DeciderView) (rest : List Ready) → v ≡ with_decider v d → w ≡ with_decider (record v { ready = rest; outboxes = w.outboxes }) d2 → v.failed ≡ false → Keeps d d2 → Fails v w
-slot-fails v w d d2 rest e is runs k = fails_by v (record v { ready = rest; outboxes = w.outboxes }) w d d2 e is refl refl runs k
+slot-fails : (v w : NodeView) (d d2 : DeciderView) (rest : List Ready) → v ≡ with_decider v d → w ≡ with_decider (record v { ready = rest; outboxes = w.outboxes }) d2 → v.failed ≡ false → Keeps d d2 → Fails v SlotTake w
+slot-fails v w d d2 rest e is runs k = fails_by v (record v { ready = rest; outboxes = w.outboxes }) w SlotTake d d2 (λ same. same) e is refl refl runs k
 
 pub slot-step : (v w : NodeView) (d d2 : DeciderView) (x : Ready) (rest : List Ready) (reply : Reply) → v ≡ with_decider v d → w ≡ with_decider (record v { ready = rest; outboxes = w.outboxes }) d2 → v.failed ≡ false → v.slot_hand ≡ None → v.ready ≡ x ∷ rest → Decides d v.outboxes x reply d2 w.outboxes → Step v SlotTake reply w
 slot-step v w d d2 x rest Moved e is runs empty q h = (
@@ -212,7 +235,7 @@ apply-step v w d d2 answer e is runs a hands = (
 
 pub apply-refused : (v w : NodeView) (d d2 : DeciderView) (reply : Reply) → v ≡ with_decider v d → w ≡ with_decider v d2 → v.failed ≡ false → Applies d (Err reply) d2 → Step v ApplyTake reply w
 apply-refused v w d d2 Idle e is runs h = (runs, ap (λ (u : NodeView). u.decided) e ∙ h.0, is ∙ ap (with_decider v) h.1 ∙ sym e)
-apply-refused v w d d2 NoMemory e is runs h = (fails_by v v w d d2 e is refl refl runs h.1, λ none. h.0 (sym (ap (λ (u : NodeView). u.decided) e) ∙ none))
+apply-refused v w d d2 NoMemory e is runs h = (fails_by v v w ApplyTake d d2 (λ same. same) e is refl refl runs h.1, λ none. h.0 (sym (ap (λ (u : NodeView). u.decided) e) ∙ none))
 apply-refused v w d d2 reply e is runs h = absurd h
 
 -- ---- a drain
@@ -226,7 +249,7 @@ gives_nothing old l new g = g.is ∙ ap (slice_set old l) g.gives.1 ∙ set_same
 
 drain-step : (v : NodeView) (l : ℕ) (reply : Reply) (boxes : List OutboxView) → v.failed ≡ false → Draws v.outboxes l reply boxes → Step v (Drain l) reply (failing (with_outboxes v boxes) reply)
 drain-step v l (Sent bytes) boxes r d = (r, record { message = d.0; gives = d.1; spells = d.2; is = refl })
-drain-step v l NoMemory boxes r d = (record { was = r; failed = refl; keeps = record { config = refl; journal = refl; decisions = refl; asked = refl; applied = refl; lives = refl } }, (d.0, boxes, d.1))
+drain-step v l NoMemory boxes r d = (record { was = r; failed = refl; keeps = record { config = refl; journal = refl; decisions = refl; asked = refl; applied = refl; lives = refl }; room = λ k. refl }, (d.0, boxes, d.1))
 drain-step v l Idle boxes r d = (r, (d.before, d.there, (d.gives.0, refl)), ap (with_outboxes v) (gives_nothing v.outboxes l boxes d))
 drain-step v l NoLink boxes r d = (r, d.0, ap (with_outboxes v) d.1)
 drain-step v l reply boxes r d = absurd d

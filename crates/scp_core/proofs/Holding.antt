@@ -111,7 +111,7 @@ stays past old new event reply none was e s h =
     old (subst (λ (q : Past). Flows q old) (sym (none (past_of old.config past))) k.flows) (λ _. e) (subst (λ (v : NodeView). Keeps old v) (sym e) (keeps-refl old))
 
 -- the node fails
-fails : (past : List Exchange) (old new : NodeView) (event : Event) (reply : Reply) → ((p : Past) → hears old.config p event reply ≡ record p { failed = true }) → Fails old new → Step old event reply new → LedgerTheorem past old → LedgerTheorem (past ++ (event, reply) ∷ []) new
+fails : (past : List Exchange) (old new : NodeView) (event : Event) (reply : Reply) → ((p : Past) → hears old.config p event reply ≡ record p { failed = true }) → Fails old event new → Step old event reply new → LedgerTheorem past old → LedgerTheorem (past ++ (event, reply) ∷ []) new
 fails past old new event reply fail f s h =
     let k = ran past old f.was h in
     let is = fail (past_of old.config past) in

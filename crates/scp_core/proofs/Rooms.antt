@@ -9,7 +9,8 @@ use Rattle.scp_core.specs.History.{Exchange, Past, past_of, tail_of}
 use Rattle.scp_core.specs.Node.{NodeView, LinkView, life_of, lives_of, room_of}
 use Rattle.scp_core.specs.Flow.{Flows, LinkFlows}
 use Rattle.scp_core.specs.Theorem.{LedgerTheorem}
-use Rattle.scp_core.specs.Room.{opens_in, LinkHasRoom, RunningHasRoom, HasRoom, TheoremGivesRoom}
+use Rattle.scp_core.specs.Room.{opens_in, LinkHasRoom, RunningHasRoom, FailedHasRoom, HasRoom, TheoremGivesRoom}
+use Rattle.scp_core.proofs.Failing.{Failure, failure_of}
 use Rattle.scp_core.proofs.Queues.{within, there_is}
 
 lives_from : (t : Tail) (items : List LinkItem) → (fold goes t items).life ≡ t.life + opens_in items
@@ -67,12 +68,28 @@ running p v f = record {
   inbox = omega (arith, ap length f.inbox, length-append f.arrived v.inbox);
 }
 
+failed_room : (past : List Exchange) (v : NodeView) → Failure past v → FailedHasRoom past v
+failed_room past v f =
+    let h = f.theorem in
+    record {
+      earlier = f.earlier;
+      event = f.event;
+      reply = f.reply;
+      fails = f.reply_fails;
+      later = f.later;
+      past_is = f.is;
+      moment = f.moment;
+      was = running (past_of f.moment.config f.earlier) f.moment (subst (λ (w : NodeView). Flows (past_of f.moment.config f.earlier) w) (sym (h.now f.fails.was)) h.flows);
+      left = f.fails.room;
+    }
+
 rooms : (past : List Exchange) (v : NodeView) → LedgerTheorem past v → HasRoom past v
 rooms past v h =
     let p = past_of v.config past in
     record {
       lives = λ l k there. let other = same_place v.links h.moment.links l k h.keeps.lives there in ap lives_of there ∙ other.2 ∙ lives_of_link p h.moment h.flows l other.0 other.1;
       running = λ runs. running p v (subst (λ (w : NodeView). Flows p w) (sym (h.now runs)) h.flows);
+      failed = λ failed. failed_room past v (failure_of past v h failed);
     }
 
 pub theorem_gives_room : TheoremGivesRoom

@@ -239,10 +239,27 @@ pub record Keeps (old new : NodeView) : Type 0 where
   pub applied : new.applier.applied ≡ old.applier.applied
   pub lives : map life_of new.links ≡ map life_of old.links
 
-pub record Fails (old new : NodeView) : Type 0 where
+-- how many items a link's queue can still take; 0 for a link that isn't there
+abbrev pub room_in : LinkView → ℕ
+room_in k = k.room - length k.queue
+
+abbrev pub room_of : Option LinkView → ℕ
+room_of None = 0
+room_of (Some k) = room_in k
+
+abbrev pub room_at : NodeView → ℕ → ℕ
+room_at v l = room_of (slice_get v.links l)
+
+-- The room of each link at the event that fails a node: what it was, and one more where the link's reader took an item.
+abbrev pub LeavesRoom : NodeView → Event → NodeView → Type 0
+LeavesRoom old (ReaderTake l) new = (room_at new l ≡ room_at old l + 1) × ((other : ℕ) → other ≢ l → room_at new other ≡ room_at old other)
+LeavesRoom old event new = (l : ℕ) → room_at new l ≡ room_at old l
+
+pub record Fails (old : NodeView) (event : Event) (new : NodeView) : Type 0 where
   pub was : old.failed ≡ false
   pub failed : new.failed ≡ true
   pub keeps : Keeps old new
+  pub room : LeavesRoom old event new
 
 -- the front of the ready queue would be entry number 1,000,001
 abbrev pub FillsJournal : NodeView → Event → Type 0
@@ -264,24 +281,17 @@ Step old event Failed new = (old.failed ≡ true) × (new ≡ old)
 Step old event Accepted new = (old.failed ≡ false) × Accepts old event new
 Step old event Moved new = (old.failed ≡ false) × Moves old event new
 Step old event (Sent bytes) new = (old.failed ≡ false) × SendsOut old event bytes new
-Step old event JournalFull new = Fails old new × FillsJournal old event
-Step old event NoMemory new = Fails old new × TakesMemory old event
+Step old event JournalFull new = Fails old event new × FillsJournal old event
+Step old event NoMemory new = Fails old event new × TakesMemory old event
 Step old event reply new = (old.failed ≡ false) × Refuses old event reply × (new ≡ old)
 
--- how often a link was opened, and how many items its queue can still take; 0 for a link that isn't there
+-- how often a link was opened; 0 for a link that isn't there
 abbrev pub lives_of : Option LinkView → ℕ
 lives_of None = 0
 lives_of (Some k) = k.life
 
 abbrev pub lives_at : NodeView → ℕ → ℕ
 lives_at v l = lives_of (slice_get v.links l)
-
-abbrev pub room_of : Option LinkView → ℕ
-room_of None = 0
-room_of (Some k) = k.room - length k.queue
-
-abbrev pub room_at : NodeView → ℕ → ℕ
-room_at v l = room_of (slice_get v.links l)
 
 -- whether what is sent on a link would be accepted
 abbrev pub link_accepts : LinkView → Bool

@@ -1,9 +1,12 @@
--- Lengths of queues, and how often links were opened, by the replies.
-use Rattle.std.specs.Prelude.{ℕ, ◌+◌, ◌-◌, ◌≤◌, ◌≡◌, false, List, [], ◌∷◌, Some, length, slice_get}
+-- Lengths of queues, and how often links were opened, by the replies; of a node that failed too.
+use Rattle.std.specs.Prelude.{ℕ, ◌+◌, ◌-◌, ◌≤◌, ◌≡◌, true, false, List, [], ◌∷◌, ◌++◌, Some, length, slice_get}
 use Rattle.scp_wire.specs.declared.link.LinkItem.{LinkItem}
 use Rattle.scp_wire.specs.declared.link.LinkItem.TheVariants.{Opened, Bytes, Closed}
+use Rattle.scp_core.specs.declared.event.Event.{Event}
+use Rattle.scp_core.specs.declared.event.Reply.{Reply}
 use Rattle.scp_core.specs.History.{Exchange, past_of, Past}
-use Rattle.scp_core.specs.Node.{NodeView, LinkView, lives_at, room_at}
+use Rattle.scp_core.specs.Node.{NodeView, LinkView, lives_at, room_at, LeavesRoom}
+use Rattle.scp_core.specs.Ledger.{IsFailure}
 use Rattle.scp_core.specs.Theorem.{LedgerTheorem}
 
 abbrev pub opened_by : LinkItem → ℕ
@@ -30,10 +33,23 @@ pub record RunningHasRoom (v : NodeView) (p : Past) : Type 0 where
   pub decided : p.decided_put ≡ p.decided_taken + length v.decided
   pub inbox : length v.inbox ≤ length p.came
 
+-- of a node that failed: what it had before the exchange that failed it, and what that left
+pub record FailedHasRoom (past : List Exchange) (v : NodeView) : Type 0 where
+  pub earlier : List Exchange
+  pub event : Event
+  pub reply : Reply
+  pub fails : IsFailure reply
+  pub later : List Exchange
+  pub past_is : past ≡ earlier ++ (event, reply) ∷ later
+  pub moment : NodeView
+  pub was : RunningHasRoom moment (past_of moment.config earlier)
+  pub left : LeavesRoom moment event v
+
 -- the lives of each link are the accepted opens, of a node that failed too
 pub record HasRoom (past : List Exchange) (v : NodeView) : Type 0 where
   pub lives : (l : ℕ) → (k : LinkView) → slice_get v.links l ≡ Some k → lives_at v l ≡ opens_in ((past_of v.config past).links l).items
   pub running : v.failed ≡ false → RunningHasRoom v (past_of v.config past)
+  pub failed : v.failed ≡ true → FailedHasRoom past v
 
 abbrev pub TheoremGivesRoom : Type 0
 TheoremGivesRoom = (past : List Exchange) (v : NodeView) → LedgerTheorem past v → HasRoom past v

@@ -28,7 +28,8 @@ pub fn what_is_idle_is_settled()
 {}
 
 /// The length of each queue is what was put into it less what was taken; its room is its capacity less that; and the lives of
-/// a link are its accepted opens.
+/// a link are its accepted opens. Of a node that failed it is so at the moment before, and each link's room is what it was, but for
+/// the item that a reader took.
 pub fn queues_hold_what_was_put_and_not_taken()
     ensures room { TheoremGivesRoom }
 {}

@@ -4,7 +4,7 @@ ghost use Rattle.scp_ledger.specs.declared.journal.Fate.{Fate};
 ghost use Rattle.scp_pending.specs.Line.{count_held};
 ghost use Rattle.scp_core.specs.Config.{IsConfig, IsFit};
 ghost use Rattle.scp_core.specs.History.{peer_at, Exchange};
-ghost use Rattle.scp_core.specs.Node.{Step, Keeps, HasLink, lives_at, room_at, accepts_at};
+ghost use Rattle.scp_core.specs.Node.{Step, Keeps, LeavesRoom, HasLink, lives_at, room_at, accepts_at};
 ghost use Rattle.scp_core.specs.Theorem.{LedgerTheorem};
 ghost use Rattle.scp_core.specs.inside.Starting.{IsNew};
 
@@ -189,7 +189,7 @@ impl Node {
     }
 
     /// How many items the link's queue can still take: its capacity less its length; 0 for a link that isn't there. Of a
-    /// failed node it says nothing.
+    /// failed node that is what it was before the step that failed it, and one more where that step's reader took an item.
     pub fn room(&self, link: u8) -> usize
         ensures { result ≡ room_at self.now link }
     {
@@ -242,6 +242,8 @@ impl Node {
         // A node that fails keeps its journal, its decisions and whom it asked, what is applied, and how often each link was opened.
         ensures kept { (result ≡ Reply.NoMemory) ⊎ (result ≡ Reply.JournalFull) → Keeps self.old self.new }
         ensures fails { (result ≡ Reply.NoMemory) ⊎ (result ≡ Reply.JournalFull) → self.new.failed ≡ true }
+        // Each link's room is then what it was, but for the item that a reader took.
+        ensures room { (result ≡ Reply.NoMemory) ⊎ (result ≡ Reply.JournalFull) → LeavesRoom self.old event self.new }
         // A failed node answers so, and no other does.
         ensures failed { result ≡ Reply.Failed ↔ (self.old.failed ≡ true) }
         // The journal grows at its end alone.

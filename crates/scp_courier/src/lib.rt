@@ -2,9 +2,10 @@
 //!
 //! What it promises, under every schedule:
 //! - all bytes that a courier sent spell messages;
-//! - a courier ends once the mark Stop was given, and ends well where nothing that was given before it was lost; then its
-//!   link's end is handed on, and the link's end is the last that it sent;
-//! - a courier that failed goes on taking what waits and gives it up, so that nobody waits for it.
+//! - where a courier ends well its link's end is handed on, and it opened the link as often as it says, and left it open or not.
+//!
+//! What no clause says, and the tests and the sweeps in threads show: it takes what its outbox gives until that is the mark Stop, and
+//! ends its link then; one that failed doesn't end well, but goes on taking and gives up what it takes, so that nobody waits for it.
 #![tactic(auto)]
 
 mod courier;

@@ -16,7 +16,7 @@ use Rattle.scp_script.specs.Script.{node_count, is_open, lives, IsNode, IsLink, 
 use Rattle.scp_line.specs.Play.{HasNoRoom, event_by}
 use Rattle.scp_line.proofs.Places.{of_map}
 use Rattle.scp_line.proofs.Tails.{tail_at, tails, tail_said}
-use Rattle.scp_line.proofs.Standing.{open_is_link}
+use Rattle.scp_script.proofs.Admitted.{open_is_link}
 
 -- ---- one node
 

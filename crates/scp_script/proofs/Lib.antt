@@ -2,3 +2,4 @@ pub mod Lines
 pub mod QuorumSets
 pub mod Tables
 pub mod Peers
+pub mod Admitted

@@ -8,7 +8,7 @@ use Rattle.scp_wire.specs.LinkReading.{reading, after}
 use Rattle.scp_wire.specs.Connections.{conn_at}
 use Rattle.scp_core.specs.declared.event.Reply.{Reply}
 use Rattle.scp_core.specs.declared.event.Reply.TheVariants.{AlreadyOpen, LivesSpent, NotOpen, Full, Accepted, Blocked, Idle, Moved, NoLink, NoMemory}
-use Rattle.scp_core.specs.Node.{LinkView, is_full}
+use Rattle.scp_core.specs.Node.{LinkView, is_full, room_in}
 
 abbrev pub Opens : NodeId → NodeId → LinkView → Reply → LinkView → Type 0
 Opens peer me k AlreadyOpen k2 = (k.is_open ≡ true) × (k2 ≡ k)
@@ -33,7 +33,7 @@ abbrev pub Reads : LinkView → Reply → LinkView → Type 0
 Reads k Blocked k2 = (k.hand ≢ []) × (k2 ≡ k)
 Reads k Idle k2 = (k.hand ≡ []) × (k.queue ≡ []) × (k2 ≡ k)
 Reads k Moved k2 = (k.hand ≡ []) × (x : LinkItem) × (rest : List LinkItem) × (k.queue ≡ x ∷ rest) × (k2 ≡ record k { queue = rest; reader = after k.reader x; hand = reading k.reader x })
-Reads k NoMemory k2 = (k.hand ≡ []) × (k.queue ≢ []) × (k2.life ≡ k.life)
+Reads k NoMemory k2 = (k.hand ≡ []) × (k.queue ≢ []) × (k2.life ≡ k.life) × (room_in k2 ≡ room_in k + 1)
 Reads k reply k2 = ⊥
 
 -- one of the links, if it is there
