@@ -1,8 +1,7 @@
-use crate::quorum::Shape;
-use crate::votes::Sharing;
 use crate::workload::{SMALL, Workload};
 use clap::error::ErrorKind;
 use clap::{Arg, ArgAction, Command, Error};
+use scp_bench_parts::{Shape, Sharing};
 use scp_types::Fault;
 use std::alloc::{AllocError, Global};
 

@@ -1,6 +1,6 @@
 use crate::hearing::{HEARD, ask, both_nodes, send, settle, with_node};
-use crate::messages::batch;
 use crate::records::Ledgers;
+use scp_bench_parts::batch;
 use scp_core::Node;
 use scp_types::Fault;
 use std::alloc::Global;

@@ -1,6 +1,6 @@
 use crate::hearing::{HEARD, peer, send, settle, with_node};
-use crate::messages::externalize;
 use crate::records::Ledgers;
+use scp_bench_parts::externalize;
 use scp_core::Node;
 use scp_quorum::QuorumSet;
 use scp_types::{Fault, Hash};

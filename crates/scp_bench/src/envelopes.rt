@@ -1,5 +1,5 @@
 use crate::hearing::{HEARD, both_nodes, peer, send, settle, with_node};
-use crate::messages::prepare;
+use scp_bench_parts::prepare;
 use scp_core::{Fate, Node, Verdict};
 use scp_types::{Fault, Hash};
 use std::alloc::Global;

@@ -6,19 +6,14 @@
 
 mod asked;
 mod batches;
-mod consensus;
 mod decide;
-mod decode;
 mod envelopes;
 mod hearing;
-mod messages;
 mod network;
 mod parked;
-mod quorum;
 mod records;
 mod script;
 mod threads;
-mod votes;
 mod workload;
 
 use crate::asked::{Asked, read_words};

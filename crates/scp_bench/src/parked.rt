@@ -1,7 +1,6 @@
 use crate::envelopes::Judged;
 use crate::hearing::{HEARD, both_nodes, peer, send, settle, with_node};
-use crate::messages::{prepare, set_message};
-use crate::quorum::node;
+use scp_bench_parts::{node, prepare, set_message};
 use scp_core::Node;
 use scp_quorum::QuorumSet;
 use scp_types::{Fault, Hash};

@@ -1,5 +1,5 @@
 use crate::hearing::{HEARD, ask, both_nodes, send, settle, with_node};
-use crate::messages::{record, slot_at};
+use scp_bench_parts::{record, slot_at};
 use scp_core::Node;
 use scp_types::Fault;
 use std::alloc::Global;

@@ -1,4 +1,4 @@
-use crate::messages::{record, slot_at};
+use scp_bench_parts::{record, slot_at};
 use scp_line::{MemoryIn, MemoryOut, play};
 use scp_types::Fault;
 use std::alloc::{AllocError, Global};

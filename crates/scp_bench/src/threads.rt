@@ -1,5 +1,5 @@
 use crate::hearing::{ask, peer, send, settle, with_node};
-use crate::messages::{prepare, record};
+use scp_bench_parts::{prepare, record};
 use scp_core::Node;
 use scp_line::{MemoryIn, MemoryOut, play_in_threads};
 use scp_quorum::QuorumSet;

@@ -1,15 +1,15 @@
 use crate::batches::hear_batches;
-use crate::consensus::{Consensus, decide_slots};
 use crate::decide::decide_by_envelopes;
-use crate::decode::{Decoded, decode_records};
 use crate::envelopes::{Judged, hear_envelopes};
 use crate::network::{Networks, close_slots};
 use crate::parked::park_envelopes;
-use crate::quorum::{Quorums, Shape, find_quorums};
 use crate::records::{Ledgers, hear_records};
 use crate::script::{Played, play_scripts};
 use crate::threads::{Rounds, hear_in_threads, hear_in_turn};
-use crate::votes::{Sharing, Votes, count_votes};
+use scp_bench_parts::{
+    Consensus, Decoded, Quorums, Shape, Sharing, Votes, count_votes, decide_slots, decode_records,
+    find_quorums,
+};
 use scp_line::{ReportOut, write_text};
 use scp_types::Fault;
 use std::alloc::Global;

@@ -103,8 +103,7 @@ others_set (x ∷ xs) (suc l) (suc m) k2 ne = others_set xs l m k2 (λ e. ne (ap
 -- one item fewer waits at the link
 one_more : (v : NodeView) (l : ℕ) (k k2 : LinkView) (links : List LinkView) → slice_get v.links l ≡ Some k → room_in k2 ≡ room_in k + 1 → links ≡ slice_set v.links l k2 → LeavesRoom v (ReaderTake l) (record v { links = links; failed = true })
 one_more v l k k2 links there more is =
-    let now : slice_get links l ≡ Some k2 = ap (λ (xs : List LinkView). slice_get xs l) is ∙ there_set v.links l k k2 there in
-    (
+    let now : slice_get links l ≡ Some k2 = ap (λ (xs : List LinkView). slice_get xs l) is ∙ there_set v.links l k k2 there in (
       ap room_of now ∙ more ∙ sym (ap (λ (o : Option LinkView). room_of o + 1) there),
       λ other ne. ap (λ (xs : List LinkView). room_of (slice_get xs other)) is ∙ ap room_of (others_set v.links l other k2 ne),
     )
