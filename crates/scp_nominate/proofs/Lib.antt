@@ -13,3 +13,5 @@ mod Turning
 mod Turns
 mod Inserting
 mod Repeated
+mod Merging
+pub mod Lawful

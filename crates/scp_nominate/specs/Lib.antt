@@ -12,3 +12,4 @@ pub mod State
 pub mod Turns
 pub mod Given
 pub mod Nomination
+pub mod Laws

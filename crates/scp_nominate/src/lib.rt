@@ -9,11 +9,14 @@
 //! - New candidates are confirmed, and where there are any the composite is that of all candidates, ascending.
 //! - The first proposal is kept, and a round adds its leader, up to as many rounds as there are nodes that lead in turn.
 //! - A refusal leaves it failed, and changes nothing from then on.
+//!
+//! What it promises of its steps: by one rule, over one board, they lead one state to one board and one state.
 #![tactic(auto)]
 
 mod guide;
 mod heard;
 mod known;
+mod laws;
 mod leaders;
 mod lists;
 mod nodes;
@@ -22,5 +25,6 @@ mod nominator;
 mod state;
 mod values;
 
+pub use laws::{an_input_is_a_function, the_steps_are_a_function};
 pub use nominated::Nominated;
 pub use nominator::Nominator;
