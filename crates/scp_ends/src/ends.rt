@@ -17,6 +17,10 @@ use std::sync::Wait;
 #[derive(Drop)]
 pub struct Gone<T>(pub T);
 
+/// That no producer is there any more; only a receive finds it.
+#[derive(Drop)]
+pub struct Nobody(());
+
 /// The end of one producer.
 #[derive(Drop)]
 pub struct Tx<T: Drop, L: Law<T>> {
@@ -129,14 +133,14 @@ impl<T: Drop, L: Law<T>> Rx<T, L> {
     }
 
     /// Receives the next item, of any producer.
-    pub fn recv_as<R: Wait>(&mut self, rt: &R) -> Result<Item<T>, Gone<()>>
+    pub fn recv_as<R: Wait>(&mut self, rt: &R) -> Result<Item<T>, Gone<Nobody>>
         ensures received { MatchResult result (λ x. (self.new ≡ record self.old { got = self.old.got ++ x ∷ [] }) × (order.number_of x < self.old.producers)) (λ _. self.new ≡ self.old) }
         ensures fits { IfOk result (λ x. (p : ℕ) → L.fits (order.values (order.of p (self.old.got ++ x ∷ [])))) }
         ensures alone { self.old.producers ≡ 1 → IfOk result (λ x. L.fits (order.values (self.old.got ++ x ∷ []))) }
     {
         match self.receiver.recv_as::<Receives<L>, R>(rt, &mut self.pass) {
             Ok(item) => Ok(item),
-            Err(_) => Err(Gone(())),
+            Err(_) => Err(Gone(Nobody(()))),
         }
     }
 

@@ -24,7 +24,7 @@ pub use channels::{
     ReadyTx, decided, inbox, link, ready,
 };
 pub use commands::{LocalDone, LocalTx};
-pub use ends::{Done, Gone, Rx, Tx};
+pub use ends::{Done, Gone, Nobody, Rx, Tx};
 pub use item::{Item, View};
 pub use make::{MOST_ITEMS, MOST_PRODUCERS};
 pub use rule::{Any, InOrder, Law};

@@ -68,6 +68,7 @@ use Rattle.scp_gate.proofs.Counter.TheSendSync as counters
 use Rattle.scp_ends.proofs.ends.Tx.TheSendSync as txs
 use Rattle.scp_ends.proofs.ends.Rx.TheSendSync as rxs
 use Rattle.scp_ends.proofs.ends.Done.TheSendSync as dones
+use Rattle.scp_ends.proofs.ends.Nobody.TheSendSync as nobodies
 use Rattle.scp_ends.proofs.rule.Any.TheSendSync as anys
 use Rattle.scp_ends.proofs.window.InWindow.TheSendSync as in_windows
 use Rattle.scp_ends.proofs.tail.LinkTx.TheSendSync as tails
@@ -229,54 +230,54 @@ its_ledger_send = ledger_send (ledger_state_send its_sane_send its_sane_sync (fa
 
 -- ---- the ends of channels, and the workers
 
-ruleset ends = (sendable, crosses, txs.the_send, rxs.the_send, dones.the_send, anys.the_send, in_windows.the_send)
+ruleset ends = (sendable, crosses, txs.the_send, rxs.the_send, dones.the_send, nobodies.the_send, anys.the_send, in_windows.the_send)
 
 ruleset outlets = (sendable, crosses, shared_send, shared_sync)
 
 reader_worker_inside_send : IsSend inbound.the_row → IsSend link_reader.the_row → IsSend reader_worker_inside.the_row
-reader_worker_inside_send i l = declared_send reader_worker_inside.the_type (search (sendable, crosses) depth 20, (search (ends, items.the_send) depth 20, (search ends depth 20, (l, (counters.the_send, (search sendable depth 20, tt))))))
+reader_worker_inside_send i l = declared_send reader_worker_inside.the_type (search (sendable, crosses) depth 20, (search (ends, items.the_send) depth 20, (search ends depth 20, (l, (counters.the_send, (search sendable depth 20, (search ends depth 20, tt)))))))
 
 pub reader_worker_send : IsSend reader_worker.the_row
 reader_worker_send = view_send _ _ _ _ _ (reader_worker_inside_send its_inbound_send its_link_reader_send)
 
 reader_ended_inside_send : IsSend inbound.the_row → IsSend reader_ended_inside.the_row
-reader_ended_inside_send i = declared_send reader_ended_inside.the_type (search (ends, items.the_send) depth 20, (search ends depth 20, tt))
+reader_ended_inside_send i = declared_send reader_ended_inside.the_type (search (ends, items.the_send) depth 20, (search ends depth 20, (search ends depth 20, tt)))
 
 pub reader_ended_send : IsSend reader_ended.the_row
 reader_ended_send = view_send _ _ _ _ _ (reader_ended_inside_send its_inbound_send)
 
 pend_worker_inside_send : IsSend inbound.the_row → IsSend ready.the_row → IsSend pending.the_row → IsSend sane.the_row → IsSync sane.the_row → IsSend pend_worker_inside.the_row
-pend_worker_inside_send i r p s y = declared_send pend_worker_inside.the_type (search ends depth 20, (search ends depth 20, (p, (search outlets depth 20, (nodes.the_send, (search (sendable, crosses) depth 20, (search (sendable, crosses) depth 20, (search sendable depth 20, (search sendable depth 20, (counters.the_send, (search sendable depth 20, tt)))))))))))
+pend_worker_inside_send i r p s y = declared_send pend_worker_inside.the_type (search ends depth 20, (search ends depth 20, (p, (search outlets depth 20, (nodes.the_send, (search (sendable, crosses) depth 20, (search (sendable, crosses) depth 20, (search sendable depth 20, (search sendable depth 20, (counters.the_send, (search sendable depth 20, (search ends depth 20, tt))))))))))))
 
 pub pend_worker_send : IsSend pend_worker.the_row
 pend_worker_send = view_send _ _ _ _ _ (pend_worker_inside_send its_inbound_send its_ready_send its_pending_send its_sane_send its_sane_sync)
 
 pend_ended_inside_send : IsSend inbound.the_row → IsSend ready.the_row → IsSend pending.the_row → IsSend pend_ended_inside.the_row
-pend_ended_inside_send i r p = declared_send pend_ended_inside.the_type (search ends depth 20, (search ends depth 20, (p, tt)))
+pend_ended_inside_send i r p = declared_send pend_ended_inside.the_type (search ends depth 20, (search ends depth 20, (p, (search ends depth 20, tt))))
 
 pub pend_ended_send : IsSend pend_ended.the_row
 pend_ended_send = view_send _ _ _ _ _ (pend_ended_inside_send its_inbound_send its_ready_send its_pending_send)
 
 slot_worker_inside_send : IsSend ready.the_row → IsSend (ledger.the_row driver.the_row ghosts) → IsSend sane.the_row → IsSync sane.the_row → IsSend slot_worker_inside.the_row
-slot_worker_inside_send r l s y = declared_send slot_worker_inside.the_type (search ends depth 20, (search (ends, onwards.the_send) depth 20, (l, (search outlets depth 20, (nodes.the_send, (search (sendable, crosses) depth 20, (search (sendable, crosses) depth 20, (counters.the_send, (search sendable depth 20, tt)))))))))
+slot_worker_inside_send r l s y = declared_send slot_worker_inside.the_type (search ends depth 20, (search (ends, onwards.the_send) depth 20, (l, (search outlets depth 20, (nodes.the_send, (search (sendable, crosses) depth 20, (search (sendable, crosses) depth 20, (counters.the_send, (search sendable depth 20, (search ends depth 20, tt))))))))))
 
 pub slot_worker_send : IsSend slot_worker.the_row
 slot_worker_send = view_send _ _ _ _ _ (slot_worker_inside_send its_ready_send its_ledger_send its_sane_send its_sane_sync)
 
 slot_ended_inside_send : IsSend ready.the_row → IsSend (ledger.the_row driver.the_row ghosts) → IsSend slot_ended_inside.the_row
-slot_ended_inside_send r l = declared_send slot_ended_inside.the_type (search ends depth 20, (search (ends, onwards.the_send) depth 20, (l, tt)))
+slot_ended_inside_send r l = declared_send slot_ended_inside.the_type (search ends depth 20, (search (ends, onwards.the_send) depth 20, (l, (search ends depth 20, tt))))
 
 pub slot_ended_send : IsSend slot_ended.the_row
 slot_ended_send = view_send _ _ _ _ _ (slot_ended_inside_send its_ready_send its_ledger_send)
 
 apply_worker_inside_send : IsSend apply_worker_inside.the_row
-apply_worker_inside_send = declared_send apply_worker_inside.the_type (search (ends, onwards.the_send) depth 20, (appliers.the_send, (search outlets depth 20, (counters.the_send, (search sendable depth 20, tt)))))
+apply_worker_inside_send = declared_send apply_worker_inside.the_type (search (ends, onwards.the_send) depth 20, (appliers.the_send, (search outlets depth 20, (counters.the_send, (search sendable depth 20, (search ends depth 20, tt))))))
 
 pub apply_worker_send : IsSend apply_worker.the_row
 apply_worker_send = view_send _ _ _ _ _ apply_worker_inside_send
 
 apply_ended_inside_send : IsSend apply_ended_inside.the_row
-apply_ended_inside_send = declared_send apply_ended_inside.the_type (search (ends, onwards.the_send) depth 20, (appliers.the_send, (search sendable depth 20, tt)))
+apply_ended_inside_send = declared_send apply_ended_inside.the_type (search (ends, onwards.the_send) depth 20, (appliers.the_send, (search sendable depth 20, (search ends depth 20, tt))))
 
 pub apply_ended_send : IsSend apply_ended.the_row
 apply_ended_send = view_send _ _ _ _ _ apply_ended_inside_send

@@ -166,7 +166,7 @@ fn make_pend(
     requires few { length peers.now ≤ 7 }
     requires unused { (rx.got ≡ []) × (tx.sent ≡ []) }
     requires producers { rx.producers ≡ length peers.now + 1 }
-    ensures { IfOk result (λ w. w ≡ record { me = me; peers = peers.now; local = set.value; input = rx; output = tx; failed = false }) }
+    ensures { IfOk result (λ w. w ≡ record { me = me; peers = peers.now; local = set.value; input = rx; output = tx; failed = false; cut_off = false }) }
 {
     let known = Vec::from_slice(alloc, peers)?;
     let outlets = again(alloc, outboxes)?;
@@ -187,7 +187,7 @@ fn make_slot(
     requires few { length peers.now ≤ 7 }
     requires unused { (rx.got ≡ []) × (tx.sent ≡ []) }
     requires one { rx.producers ≡ 1 }
-    ensures { IfOk result (λ w. w ≡ record { me = me; peers = peers.now; local = set.value; input = rx; output = tx; failed = false }) }
+    ensures { IfOk result (λ w. w ≡ record { me = me; peers = peers.now; local = set.value; input = rx; output = tx; failed = false; cut_off = false }) }
 {
     let known = Vec::from_slice(alloc, peers)?;
     let outlets = again(alloc, outboxes)?;
@@ -203,7 +203,7 @@ fn make_apply(
 ) -> Result<ApplyWorker, AllocError>
     requires unused { rx.got ≡ [] }
     requires one { rx.producers ≡ 1 }
-    ensures { IfOk result (λ w. w ≡ record { input = rx; failed = false }) }
+    ensures { IfOk result (λ w. w ≡ record { input = rx; failed = false; cut_off = false }) }
 {
     Ok(ApplyWorker::new(alloc, me, again(alloc, outboxes)?, rx))
 }

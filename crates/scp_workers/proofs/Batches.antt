@@ -1,6 +1,5 @@
 -- What the steps of a reader's worker give.
-use Rattle.std.proofs.Common.{◌≡◌, List, [], ◌∷◌, ◌++◌, sym, ap, ◌∙◌, subst}
-use Rattle.std.specs.Prelude.{Option, option_to_list}
+use Rattle.std.proofs.Common.{◌≡◌, List, [], ◌++◌, sym, ap, ◌∙◌}
 use Rattle.std.proofs.lemmas.List.{append-nil}
 use Rattle.scp_wire.specs.declared.link.LinkItem.{LinkItem}
 use Rattle.scp_wire.specs.declared.link.Inbound.{Inbound}

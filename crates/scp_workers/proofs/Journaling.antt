@@ -1,6 +1,5 @@
 -- How the slot stage's worker begins and ends.
-use Rattle.std.proofs.Common.{◌≡◌, Bool, true, false, not, List, [], ◌∷◌, ◌++◌, sym, refl, ap, ◌∙◌, subst}
-use Rattle.std.specs.Prelude.{Option, Some, None, option_to_list}
+use Rattle.std.proofs.Common.{◌≡◌, Bool, true, false, not, List, [], sym, refl, subst}
 use Rattle.scp_types.specs.declared.names.NodeId.{NodeId}
 use Rattle.scp_quorum.specs.QuorumTree.{QuorumTree}
 use Rattle.scp_pending.specs.declared.ready.Ready.{Ready}
@@ -13,8 +12,8 @@ pub not_failed : (b : Bool) → not b ≡ true → b ≡ false
 not_failed true e = cc
 not_failed false e = refl
 
-pub heard_of : (w v : SlotWorking) → w ≡ v → (v.failed ≡ false → HeardAll v.input) → w.failed ≡ false → HeardAll w.input
-heard_of w v e h = subst (λ (u : SlotWorking). u.failed ≡ false → HeardAll u.input) (sym e) h
+pub heard_of : (w v : SlotWorking) → w ≡ v → (v.cut_off ≡ false → HeardAll v.input) → w.cut_off ≡ false → HeardAll w.input
+heard_of w v e h = subst (λ (u : SlotWorking). u.cut_off ≡ false → HeardAll u.input) (sym e) h
 
 -- the ledger is that of this node
 pub is_for : (me : NodeId) (local : QuorumTree) (peers : List NodeId) (took : List Ready) (sent : List Onward) (v : KvLedger) → KvJournals me local peers took sent v → IsFor me peers local v

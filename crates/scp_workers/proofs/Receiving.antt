@@ -35,3 +35,8 @@ if_some P Q None f h = tt
 pub not_lost : (b : Bool) → not b ≡ false → b ≡ true
 not_lost true e = refl
 not_lost false e = cc
+
+-- one that didn't fail was not cut off
+pub not_cut_off : (cut failed : Bool) → (cut ≡ true → failed ≡ true) → failed ≡ false → cut ≡ false
+not_cut_off false failed f kept = refl
+not_cut_off true failed f kept = let lost = f refl in cc

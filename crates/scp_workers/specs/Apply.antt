@@ -9,12 +9,14 @@ use Rattle.scp_ends.specs.Ends.{Receiver, HeardAll}
 pub record ApplyWorking : Type 0 where
   pub input : Receiver Onward
   pub failed : Bool
+  pub cut_off : Bool  -- nobody sends to it any more
 
 -- what it ends with
 pub record ApplyEnd : Type 0 where
   pub input : Receiver Onward
   pub view : ApplierView
   pub well : Bool
+  pub cut_off : Bool  -- nobody sends to it any more
 
 -- its producer ended, and the applier took what was received
 pub record HasAppliedAll (input : Receiver Onward) (v : ApplierView) : Type 0 where

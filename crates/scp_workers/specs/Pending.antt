@@ -19,12 +19,14 @@ pub record PendWorking : Type 0 where
   pub input : Receiver Inbound
   pub output : Sender Ready
   pub failed : Bool
+  pub cut_off : Bool  -- nobody sends to it any more
 
 -- what it ends with: the stage, and its sending end where it ended well
 pub record PendEnd : Type 0 where
   pub input : Receiver Inbound
   pub output : Option (Sender Ready)
   pub view : PendingView
+  pub cut_off : Bool  -- nobody sends to it any more
 
 -- each producer ended; what was sent is what the stage gives of what was received; and nothing is ready
 pub record HasPendedAll (input : Receiver Inbound) (v : PendingView) (output : Sender Ready) : Type 0 where

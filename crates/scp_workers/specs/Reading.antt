@@ -11,11 +11,13 @@ pub record ReaderWorking : Type 0 where
   pub input : Receiver LinkItem
   pub output : Sender Inbound
   pub failed : Bool
+  pub cut_off : Bool  -- nobody sends to it any more
 
 -- what it ends with: its sending end is there where it ended well
 pub record ReaderEnd : Type 0 where
   pub input : Receiver LinkItem
   pub output : Option (Sender Inbound)
+  pub cut_off : Bool  -- nobody sends to it any more
 
 -- the link ended, and what was sent is what the items that were received are read as
 pub record HasReadAll (input : Receiver LinkItem) (output : Sender Inbound) : Type 0 where

@@ -27,12 +27,14 @@ pub record SlotWorking : Type 0 where
   pub input : Receiver Ready
   pub output : Sender Onward
   pub failed : Bool
+  pub cut_off : Bool  -- nobody sends to it any more
 
 -- what it ends with: the ledger, and its sending end where it ended well
 pub record SlotEnd : Type 0 where
   pub input : Receiver Ready
   pub output : Option (Sender Onward)
   pub view : KvLedger
+  pub cut_off : Bool  -- nobody sends to it any more
 
 -- its producer ended, and the ledger took what was received and gave what was sent
 pub record HasJournaledAll (input : Receiver Ready) (v : KvLedger) (output : Sender Onward) : Type 0 where

@@ -8,7 +8,7 @@ ghost use Rattle.scp_workers.specs.Apply.{SameEnds, HoldsEnds, EndsWell};
 
 use crate::handing::hand_out;
 use scp_apply::{Applier, what_holds_of_an_applier_holds_with_one_thing_more};
-use scp_ends::{DecidedRx, Item};
+use scp_ends::{DecidedRx, Gone, Item, Nobody};
 use scp_gate::{Counter, Gate, Stage};
 use scp_ledger::Onward;
 use scp_outbox::SharedOutbox;
@@ -25,43 +25,48 @@ pub struct ApplyWorker {
     outlets: Vec<Arc<SharedOutbox>>,
     counter: Counter,
     failed: bool,
+    gone: Option<Nobody>,
 }
 
 impl Model for ApplyWorker {
-    ghost use Rattle.std.specs.Prelude.{◌≡◌, false};
+    ghost use Rattle.std.specs.Prelude.{◌≡◌, true, false, is_some};
     ghost use Rattle.scp_ends.specs.Order.{values};
     ghost use Rattle.scp_apply.specs.Applies.{Applies};
     ghost use Rattle.scp_workers.specs.Apply.{ApplyWorking};
 
     ghost Value = { ApplyWorking };
 
-    ghost view = { λ w. record { input = w.rx; failed = w.failed } };
+    ghost view = { λ w. record { input = w.rx; failed = w.failed; cut_off = is_some w.gone } };
 
-    ghost invariant = { λ w. (w.rx.producers ≡ 1) × (w.failed ≡ false → Applies (values w.rx.got) w.applier) };
+    ghost invariant = { λ w. (w.rx.producers ≡ 1) × (w.failed ≡ false → Applies (values w.rx.got) w.applier) × (is_some w.gone ≡ true → w.failed ≡ true) };
 }
 
-/// What the worker of the applier ends with: its receiving end, the applier, and whether it ended well.
+/// What the worker of the applier ends with: its receiving end, the applier, whether it ended well, and whether nobody sent to it
+/// any more.
 #[derive(Drop)]
 pub struct ApplyEnded {
     rx: DecidedRx,
     applier: Applier,
     well: bool,
+    gone: Option<Nobody>,
 }
 
 impl Model for ApplyEnded {
+    ghost use Rattle.std.specs.Prelude.{is_some};
     ghost use Rattle.std.specs.FinMap as map;
     ghost use Rattle.std.specs.Ordering.{nat_cmp};
     ghost use Rattle.std.specs.Cmp.Lexicographic.{slice_cmp};
     ghost use Rattle.std.specs.Coded.{codes, coded_ℕ, coded_list};
+    ghost use Rattle.scp_workers.specs.Working.{HearsToTheEnd};
     ghost use Rattle.scp_workers.specs.Apply.{ApplyEnd, EndsWell};
 
     ghost Value = { ApplyEnd };
 
     ghost coded = { Prim.hlevel (codes, map.code {R = slice_cmp nat_cmp} (coded_list coded_ℕ) (coded_list coded_ℕ)) };
 
-    ghost view = { λ e. record { input = e.rx; view = e.applier; well = e.well } };
+    ghost view = { λ e. record { input = e.rx; view = e.applier; well = e.well; cut_off = is_some e.gone } };
 
-    ghost invariant = { λ e. EndsWell (record { input = e.rx; view = e.applier; well = e.well }) };
+    ghost invariant = { λ e. EndsWell (record { input = e.rx; view = e.applier; well = e.well; cut_off = is_some e.gone }) × HearsToTheEnd e.rx (is_some e.gone) };
 }
 
 impl ApplyEnded {
@@ -72,10 +77,18 @@ impl ApplyEnded {
         self.well
     }
 
+    /// Whether it ended since nobody sent to it any more, without an end of each producer.
+    pub fn is_cut_off(&self) -> bool
+        ensures { result ≡ self.now.cut_off }
+    {
+        self.gone.is_some()
+    }
+
     /// Its receiving end, and the applier.
     pub fn into_parts(self) -> (DecidedRx, Applier)
         ensures parts { (result.0 ≡ self.input) × (result.1 ≡ self.view) }
         ensures well { EndsWell self }
+        ensures heard { self.cut_off ≡ false → HeardAll self.input }
     {
         let ApplyEnded { rx, applier, .. } = self;
         (rx, applier)
@@ -113,7 +126,7 @@ impl ApplyWorker {
     ) -> ApplyWorker
         requires unused { rx.got ≡ [] }
         requires one { rx.producers ≡ 1 }
-        ensures { result ≡ record { input = rx; failed = false } }
+        ensures { result ≡ record { input = rx; failed = false; cut_off = false } }
     {
         what_holds_of_an_applier_holds_with_one_thing_more();
         ApplyWorker {
@@ -122,17 +135,22 @@ impl ApplyWorker {
             outlets,
             counter: Counter::new(node, Stage::Apply),
             failed: false,
+            gone: None,
         }
     }
 
     /// One receive, and what follows of it. Says whether to go on.
     fn step<R: Wait, G: Gate>(&mut self, rt: &R, gate: &G) -> bool
         ensures same { SameEnds self.old self.new }
-        ensures over { result ≡ false → self.new.failed ≡ false → HeardAll self.new.input }
+        ensures over { result ≡ false → self.new.cut_off ≡ false → HeardAll self.new.input }
     {
-        let Ok(item) = self.rx.recv_as(rt) else {
-            self.failed = true;
-            return false;
+        let item = match self.rx.recv_as(rt) {
+            Ok(item) => item,
+            Err(Gone(nobody)) => {
+                self.gone = Some(nobody);
+                self.failed = true;
+                return false;
+            }
         };
         self.counter.taken(gate);
         let Item::One(_, thing) = item else {
@@ -158,12 +176,14 @@ impl ApplyWorker {
             rx,
             applier,
             failed,
+            gone,
             ..
         } = self;
         ApplyEnded {
             rx,
             applier,
             well: !failed,
+            gone,
         }
     }
 }

@@ -1,12 +1,12 @@
 //! The worker of the stage where messages wait for their quorum sets.
 ghost use Rattle.std.specs.Prelude.{◌≡◌, ◌≢◌, ℕ, ◌<◌, ◌≤◌, true, false, [], ◌∷◌, ◌++◌, IsTrue, ◌↔◌, IsSome, length};
-ghost use Rattle.scp_ends.specs.Ends.{stopped, HeardAll};
+ghost use Rattle.scp_ends.specs.Ends.{HeardAll};
 ghost use Rattle.scp_workers.specs.Working.{IsSameEnd};
 ghost use Rattle.scp_workers.specs.Pending.{GivesOn, TakesIn, TakesOn, SameEnds, HoldsEnds, EndsWell};
 
 use crate::ending::stop_well;
 use crate::handing::hand_out;
-use scp_ends::{InboxRx, Item, ReadyDone, ReadyTx};
+use scp_ends::{Gone, InboxRx, Item, Nobody, ReadyDone, ReadyTx};
 use scp_gate::{Counter, Gate, Stage};
 use scp_outbox::SharedOutbox;
 use scp_pending::{Pending, Ready};
@@ -33,10 +33,11 @@ pub struct PendWorker {
     stops: [bool; 8],
     counter: Counter,
     failed: bool,
+    gone: Option<Nobody>,
 }
 
 impl Model for PendWorker {
-    ghost use Rattle.std.specs.Prelude.{◌≡◌, ◌≤◌, false};
+    ghost use Rattle.std.specs.Prelude.{◌≡◌, ◌≤◌, true, false, is_some};
     ghost use Rattle.std.specs.Coded.{codes};
     ghost use Rattle.scp_xdr.specs.TreeModel.{coded_row};
     ghost use Rattle.scp_quorum.specs.QuorumTree.{coded_level};
@@ -46,33 +47,36 @@ impl Model for PendWorker {
 
     ghost coded = { Prim.hlevel (codes, coded_row coded_level) };
 
-    ghost view = { λ w. record { me = w.node; peers = w.peers.value.items; local = w.local.value.value; input = w.rx; output = w.tx; failed = w.failed } };
+    ghost view = { λ w. record { me = w.node; peers = w.peers.value.items; local = w.local.value.value; input = w.rx; output = w.tx; failed = w.failed; cut_off = is_some w.gone } };
 
-    ghost invariant = { λ w. (w.rx.producers ≡ w.producers) × (w.producers ≤ 8) × (w.failed ≡ false → HasPended w.node w.peers.value.items w.local.value.value w.rx.got w.tx.sent w.pending × AreStops w.stops w.rx.got) };
+    ghost invariant = { λ w. (w.rx.producers ≡ w.producers) × (w.producers ≤ 8) × (w.failed ≡ false → HasPended w.node w.peers.value.items w.local.value.value w.rx.got w.tx.sent w.pending) × AreStops w.stops w.rx.got × (is_some w.gone ≡ true → w.failed ≡ true) };
 }
 
-/// What the worker of the pending stage ends with: its receiving end, the stage, and where it ended well what its sending end
-/// leaves.
+/// What the worker of the pending stage ends with: its receiving end, the stage, where it ended well what its sending end leaves,
+/// and whether nobody sent to it any more.
 #[derive(Drop)]
 pub struct PendEnded {
     rx: InboxRx,
     done: Option<ReadyDone>,
     pending: Pending,
+    gone: Option<Nobody>,
 }
 
 impl Model for PendEnded {
+    ghost use Rattle.std.specs.Prelude.{is_some};
     ghost use Rattle.std.specs.Coded.{codes};
     ghost use Rattle.scp_xdr.specs.TreeModel.{coded_row};
     ghost use Rattle.scp_quorum.specs.QuorumTree.{coded_level};
+    ghost use Rattle.scp_workers.specs.Working.{HearsToTheEnd};
     ghost use Rattle.scp_workers.specs.Pending.{PendEnd, EndsWell};
 
     ghost Value = { PendEnd };
 
     ghost coded = { Prim.hlevel (codes, coded_row coded_level) };
 
-    ghost view = { λ e. record { input = e.rx; output = e.done; view = e.pending } };
+    ghost view = { λ e. record { input = e.rx; output = e.done; view = e.pending; cut_off = is_some e.gone } };
 
-    ghost invariant = { λ e. EndsWell (record { input = e.rx; output = e.done; view = e.pending }) };
+    ghost invariant = { λ e. EndsWell (record { input = e.rx; output = e.done; view = e.pending; cut_off = is_some e.gone }) × HearsToTheEnd e.rx (is_some e.gone) };
 }
 
 impl PendEnded {
@@ -83,12 +87,25 @@ impl PendEnded {
         self.done.is_some()
     }
 
+    /// Whether it ended since nobody sent to it any more, without an end of each producer.
+    pub fn is_cut_off(&self) -> bool
+        ensures { result ≡ self.now.cut_off }
+    {
+        self.gone.is_some()
+    }
+
     /// Its receiving end, where it ended well what its sending end left, and the stage.
     pub fn into_parts(self) -> (InboxRx, Option<ReadyDone>, Pending)
         ensures parts { (result.0 ≡ self.input) × (result.1 ≡ self.output) × (result.2 ≡ self.view) }
         ensures well { EndsWell self }
+        ensures heard { self.cut_off ≡ false → HeardAll self.input }
     {
-        let PendEnded { rx, done, pending } = self;
+        let PendEnded {
+            rx,
+            done,
+            pending,
+            ..
+        } = self;
         (rx, done, pending)
     }
 }
@@ -192,6 +209,25 @@ fn take_one<R: Wait, G: Gate>(
     give_all(rt, gate, counter, pending, tx)
 }
 
+/// Takes one item more, and sends all that is ready then, where nothing was lost before. Says whether something is lost.
+fn take_or_lose<R: Wait, G: Gate>(
+    rt: &R,
+    gate: &G,
+    counter: &mut Counter,
+    outlets: &[Arc<SharedOutbox>],
+    pending: &mut Pending,
+    tx: &mut ReadyTx,
+    failed: bool,
+    item: Inbound,
+) -> bool
+    requires { failed ≡ false → pending.old.leaving ≡ [] }
+    ensures same { IsSameEnd tx.old tx.new }
+    ensures lost { failed ≡ true → result ≡ true }
+    ensures takes { result ≡ false → (failed ≡ false) × TakesOn item pending.old tx.old.sent pending.new tx.new.sent }
+{
+    failed || !take_one(rt, gate, counter, outlets, pending, tx, item)
+}
+
 impl PendWorker {
     /// A worker of this node between its inbox, of so many producers, and the slot stage; both carried nothing yet. `peers[l]`
     /// is the sender of link l, and `outlets[l]` the outbox of link l; `local` is the node's own quorum set. Takes no memory.
@@ -208,7 +244,7 @@ impl PendWorker {
         requires few { length peers.items ≤ 7 }
         requires unused { (rx.got ≡ []) × (tx.sent ≡ []) }
         requires producers { (rx.producers ≡ producers) × (producers ≤ 8) }
-        ensures { result ≡ record { me = node; peers = peers.items; local = local.value; input = rx; output = tx; failed = false } }
+        ensures { result ≡ record { me = node; peers = peers.items; local = local.value; input = rx; output = tx; failed = false; cut_off = false } }
     {
         let set = Snapshot::of(&local);
         let known = Snapshot::of(&peers);
@@ -224,34 +260,36 @@ impl PendWorker {
             stops: [false; 8],
             counter: Counter::new(node, Stage::Pend),
             failed: false,
+            gone: None,
         }
     }
 
     /// One receive, and what follows of it. Says whether to go on.
     fn step<R: Wait, G: Gate>(&mut self, rt: &R, gate: &G) -> bool
         ensures same { SameEnds self.old self.new }
-        ensures gone { result ≡ false → self.new.failed ≡ true }
+        ensures gone { result ≡ false → self.new.cut_off ≡ true }
     {
-        let Ok(item) = self.rx.recv_as(rt) else {
-            self.failed = true;
-            return false;
+        let item = match self.rx.recv_as(rt) {
+            Ok(item) => item,
+            Err(Gone(nobody)) => {
+                self.gone = Some(nobody);
+                self.failed = true;
+                return false;
+            }
         };
         self.counter.taken(gate);
         match item {
             Item::One(_, thing) => {
-                if !self.failed
-                    && !take_one(
-                        rt,
-                        gate,
-                        &mut self.counter,
-                        self.outlets.as_slice(),
-                        &mut self.pending,
-                        &mut self.tx,
-                        thing,
-                    )
-                {
-                    self.failed = true;
-                }
+                self.failed = take_or_lose(
+                    rt,
+                    gate,
+                    &mut self.counter,
+                    self.outlets.as_slice(),
+                    &mut self.pending,
+                    &mut self.tx,
+                    self.failed,
+                    thing,
+                );
             }
             Item::Stop(number) => self.stops[number as usize] = true,
         }
@@ -260,7 +298,7 @@ impl PendWorker {
 
     /// Whether each producer has ended.
     fn is_over(&self) -> bool
-        ensures { result ≡ true → (p : ℕ) → p < self.now.input.producers → self.now.failed ≡ false → stopped p self.now.input.got ≡ true }
+        ensures { result ≡ true → HeardAll self.now.input }
     {
         self.stops[..self.producers as usize].iter().all(|x| *x)
     }
@@ -274,7 +312,8 @@ impl PendWorker {
 
     /// Works until each producer has ended, or the inbox has none any more.
     fn work<R: Wait, G: Gate>(&mut self, rt: &R, gate: &G)
-        ensures { SameEnds self.old self.new }
+        ensures same { SameEnds self.old self.new }
+        ensures over { self.new.cut_off ≡ false → HeardAll self.new.input }
     {
         for _ in rt.forever() {
             if self.is_over() || !self.step(rt, gate) {
@@ -285,6 +324,7 @@ impl PendWorker {
 
     /// Ends.
     fn end<R: Wait>(self, rt: &R) -> PendEnded
+        requires { self.cut_off ≡ false → HeardAll self.input }
         ensures { HoldsEnds self result }
     {
         let well = self.is_well();
@@ -292,10 +332,16 @@ impl PendWorker {
             rx,
             tx,
             pending,
+            gone,
             ..
         } = self;
         let done = stop_well(rt, tx, well);
-        PendEnded { rx, done, pending }
+        PendEnded {
+            rx,
+            done,
+            pending,
+            gone,
+        }
     }
 
     /// Works until each producer has ended, and then ends. Where it fails it goes on receiving and gives up what it receives;

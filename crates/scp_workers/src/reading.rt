@@ -6,7 +6,7 @@ ghost use Rattle.scp_workers.specs.Working.{IsSameEnd};
 ghost use Rattle.scp_workers.specs.Reading.{HasGiven, HoldsEnds, SameEnds, EndsWell};
 
 use crate::ending::stop_well;
-use scp_ends::{InboxDone, InboxTx, Item, LinkRx};
+use scp_ends::{Gone, InboxDone, InboxTx, Item, LinkRx, Nobody};
 use scp_gate::{Counter, Gate, Stage};
 use scp_types::NodeId;
 use scp_wire::{Inbound, LinkItem, LinkReader};
@@ -23,10 +23,11 @@ pub struct ReaderWorker {
     reader: LinkReader,
     counter: Counter,
     failed: bool,
+    gone: Option<Nobody>,
 }
 
 impl Model for ReaderWorker {
-    ghost use Rattle.std.specs.Prelude.{◌≡◌, false};
+    ghost use Rattle.std.specs.Prelude.{◌≡◌, true, false, is_some};
     ghost use Rattle.std.specs.Coded.{codes};
     ghost use Rattle.scp_xdr.specs.TreeModel.{coded_row};
     ghost use Rattle.scp_quorum.specs.QuorumTree.{coded_level};
@@ -37,31 +38,35 @@ impl Model for ReaderWorker {
 
     ghost coded = { Prim.hlevel (codes, coded_row coded_level) };
 
-    ghost view = { λ w. record { input = w.rx; output = w.tx; failed = w.failed } };
+    ghost view = { λ w. record { input = w.rx; output = w.tx; failed = w.failed; cut_off = is_some w.gone } };
 
-    ghost invariant = { λ w. (w.rx.producers ≡ 1) × (w.failed ≡ false → HasGiven (values w.rx.got) w.tx.sent w.reader) };
+    ghost invariant = { λ w. (w.rx.producers ≡ 1) × (w.failed ≡ false → HasGiven (values w.rx.got) w.tx.sent w.reader) × (is_some w.gone ≡ true → w.failed ≡ true) };
 }
 
-/// What the worker of a link ends with: its receiving end, and where it ended well what its sending end leaves.
+/// What the worker of a link ends with: its receiving end, where it ended well what its sending end leaves, and whether nobody
+/// sent to it any more.
 #[derive(Drop)]
 pub struct ReaderEnded {
     rx: LinkRx,
     done: Option<InboxDone>,
+    gone: Option<Nobody>,
 }
 
 impl Model for ReaderEnded {
+    ghost use Rattle.std.specs.Prelude.{is_some};
     ghost use Rattle.std.specs.Coded.{codes};
     ghost use Rattle.scp_xdr.specs.TreeModel.{coded_row};
     ghost use Rattle.scp_quorum.specs.QuorumTree.{coded_level};
+    ghost use Rattle.scp_workers.specs.Working.{HearsToTheEnd};
     ghost use Rattle.scp_workers.specs.Reading.{ReaderEnd, EndsWell};
 
     ghost Value = { ReaderEnd };
 
     ghost coded = { Prim.hlevel (codes, coded_row coded_level) };
 
-    ghost view = { λ e. record { input = e.rx; output = e.done } };
+    ghost view = { λ e. record { input = e.rx; output = e.done; cut_off = is_some e.gone } };
 
-    ghost invariant = { λ e. EndsWell (record { input = e.rx; output = e.done }) };
+    ghost invariant = { λ e. EndsWell (record { input = e.rx; output = e.done; cut_off = is_some e.gone }) × HearsToTheEnd e.rx (is_some e.gone) };
 }
 
 impl ReaderEnded {
@@ -72,12 +77,20 @@ impl ReaderEnded {
         self.done.is_some()
     }
 
+    /// Whether it ended since nobody sent to it any more, without an end of each producer.
+    pub fn is_cut_off(&self) -> bool
+        ensures { result ≡ self.now.cut_off }
+    {
+        self.gone.is_some()
+    }
+
     /// Its receiving end, and where it ended well what its sending end left.
     pub fn into_parts(self) -> (LinkRx, Option<InboxDone>)
         ensures parts { (result.0 ≡ self.input) × (result.1 ≡ self.output) }
         ensures well { EndsWell self }
+        ensures heard { self.cut_off ≡ false → HeardAll self.input }
     {
-        let ReaderEnded { rx, done } = self;
+        let ReaderEnded { rx, done, .. } = self;
         (rx, done)
     }
 }
@@ -162,7 +175,7 @@ impl ReaderWorker {
     pub fn new(alloc: Global, node: NodeId, link: u8, rx: LinkRx, tx: InboxTx) -> ReaderWorker
         requires unused { (rx.got ≡ []) × (tx.sent ≡ []) }
         requires one { rx.producers ≡ 1 }
-        ensures { result ≡ record { input = rx; output = tx; failed = false } }
+        ensures { result ≡ record { input = rx; output = tx; failed = false; cut_off = false } }
     {
         ReaderWorker {
             alloc,
@@ -171,17 +184,22 @@ impl ReaderWorker {
             reader: LinkReader::new(alloc),
             counter: Counter::new(node, Stage::Reader(link)),
             failed: false,
+            gone: None,
         }
     }
 
     /// One receive, and what follows of it. Says whether to go on.
     fn step<R: Wait, G: Gate>(&mut self, rt: &R, gate: &G) -> bool
         ensures same { SameEnds self.old self.new }
-        ensures over { result ≡ false → self.new.failed ≡ false → HeardAll self.new.input }
+        ensures over { result ≡ false → self.new.cut_off ≡ false → HeardAll self.new.input }
     {
-        let Ok(item) = self.rx.recv_as(rt) else {
-            self.failed = true;
-            return false;
+        let item = match self.rx.recv_as(rt) {
+            Ok(item) => item,
+            Err(Gone(nobody)) => {
+                self.gone = Some(nobody);
+                self.failed = true;
+                return false;
+            }
         };
         self.counter.taken(gate);
         let Item::One(_, thing) = item else {
@@ -212,8 +230,14 @@ impl ReaderWorker {
             }
         }
         self.counter.putting(gate);
-        let ReaderWorker { rx, tx, failed, .. } = self;
+        let ReaderWorker {
+            rx,
+            tx,
+            failed,
+            gone,
+            ..
+        } = self;
         let done = stop_well(rt, tx, !failed);
-        ReaderEnded { rx, done }
+        ReaderEnded { rx, done, gone }
     }
 }

@@ -11,7 +11,7 @@ ghost use Rattle.scp_workers.specs.Slot.{KvJournals, Stands, JournalsOn, MayFoll
 use crate::ending::stop_well;
 use crate::handing::hand_out_all;
 use scp_driver::KvDriver;
-use scp_ends::{DecidedDone, DecidedTx, Item, ReadyRx};
+use scp_ends::{DecidedDone, DecidedTx, Gone, Item, Nobody, ReadyRx};
 use scp_gate::{Counter, Gate, Stage};
 use scp_ledger::{
     Ledger, Onward, Took, what_holds_of_a_ledger_holds_with_one_thing_more,
@@ -39,10 +39,11 @@ pub struct SlotWorker {
     peers: Snapshot<Vec<NodeId>>,
     counter: Counter,
     failed: bool,
+    gone: Option<Nobody>,
 }
 
 impl Model for SlotWorker {
-    ghost use Rattle.std.specs.Prelude.{◌≡◌, false};
+    ghost use Rattle.std.specs.Prelude.{◌≡◌, true, false, is_some};
     ghost use Rattle.std.specs.Coded.{codes};
     ghost use Rattle.scp_xdr.specs.TreeModel.{coded_row};
     ghost use Rattle.scp_quorum.specs.QuorumTree.{coded_level};
@@ -53,35 +54,38 @@ impl Model for SlotWorker {
 
     ghost coded = { Prim.hlevel (codes, coded_row coded_level) };
 
-    ghost view = { λ w. record { me = w.node; local = w.local.value.value; peers = w.peers.value.items; input = w.rx; output = w.tx; failed = w.failed } };
+    ghost view = { λ w. record { me = w.node; local = w.local.value.value; peers = w.peers.value.items; input = w.rx; output = w.tx; failed = w.failed; cut_off = is_some w.gone } };
 
-    ghost invariant = { λ w. (w.rx.producers ≡ 1) × (w.failed ≡ false → KvJournals w.node w.local.value.value w.peers.value.items (values w.rx.got) w.tx.sent w.ledger) };
+    ghost invariant = { λ w. (w.rx.producers ≡ 1) × (w.failed ≡ false → KvJournals w.node w.local.value.value w.peers.value.items (values w.rx.got) w.tx.sent w.ledger) × (is_some w.gone ≡ true → w.failed ≡ true) };
 }
 
-/// What the worker of the slot stage ends with: its receiving end, the ledger, and where it ended well what its sending end
-/// leaves.
+/// What the worker of the slot stage ends with: its receiving end, the ledger, where it ended well what its sending end leaves,
+/// and whether nobody sent to it any more.
 #[derive(Drop)]
 pub struct SlotEnded {
     rx: ReadyRx,
     done: Option<DecidedDone>,
     ledger: Ledger<KvDriver>,
+    gone: Option<Nobody>,
 }
 
 impl Model for SlotEnded {
+    ghost use Rattle.std.specs.Prelude.{is_some};
     ghost use Rattle.std.specs.Coded.{codes};
     ghost use Rattle.scp_xdr.specs.TreeModel.{coded_row};
     ghost use Rattle.scp_quorum.specs.QuorumTree.{coded_level};
     ghost use Rattle.scp_driver.specs.contracts.kv_driver.KvDriver as driver;
     ghost use Rattle.scp_ledger.specs.Coding.{machine_code};
+    ghost use Rattle.scp_workers.specs.Working.{HearsToTheEnd};
     ghost use Rattle.scp_workers.specs.Slot.{SlotEnd, EndsWell};
 
     ghost Value = { SlotEnd };
 
     ghost coded = { Prim.hlevel (codes, machine_code driver.the_row.coded, coded_row coded_level) };
 
-    ghost view = { λ e. record { input = e.rx; output = e.done; view = e.ledger } };
+    ghost view = { λ e. record { input = e.rx; output = e.done; view = e.ledger; cut_off = is_some e.gone } };
 
-    ghost invariant = { λ e. EndsWell (record { input = e.rx; output = e.done; view = e.ledger }) };
+    ghost invariant = { λ e. EndsWell (record { input = e.rx; output = e.done; view = e.ledger; cut_off = is_some e.gone }) × HearsToTheEnd e.rx (is_some e.gone) };
 }
 
 impl SlotEnded {
@@ -92,12 +96,25 @@ impl SlotEnded {
         self.done.is_some()
     }
 
+    /// Whether it ended since nobody sent to it any more, without an end of each producer.
+    pub fn is_cut_off(&self) -> bool
+        ensures { result ≡ self.now.cut_off }
+    {
+        self.gone.is_some()
+    }
+
     /// Its receiving end, where it ended well what its sending end left, and the ledger.
     pub fn into_parts(self) -> (ReadyRx, Option<DecidedDone>, Ledger<KvDriver>)
         ensures parts { (result.0 ≡ self.input) × (result.1 ≡ self.output) × (result.2 ≡ self.view) }
         ensures well { EndsWell self }
+        ensures heard { self.cut_off ≡ false → HeardAll self.input }
     {
-        let SlotEnded { rx, done, ledger } = self;
+        let SlotEnded {
+            rx,
+            done,
+            ledger,
+            ..
+        } = self;
         (rx, done, ledger)
     }
 }
@@ -197,7 +214,7 @@ impl SlotWorker {
         requires few { length peers.items ≤ 255 }
         requires unused { (rx.got ≡ []) × (tx.sent ≡ []) }
         requires one { rx.producers ≡ 1 }
-        ensures { result ≡ record { me = node; peers = peers.items; local = local.value; input = rx; output = tx; failed = false } }
+        ensures { result ≡ record { me = node; peers = peers.items; local = local.value; input = rx; output = tx; failed = false; cut_off = false } }
     {
         what_holds_of_a_ledger_holds_with_one_thing_more::<KvDriver>();
         let set = Snapshot::of(&local);
@@ -212,17 +229,22 @@ impl SlotWorker {
             peers: known,
             counter: Counter::new(node, Stage::Slot),
             failed: false,
+            gone: None,
         }
     }
 
     /// One receive, and what follows of it. Says whether to go on.
     fn step<R: Wait, G: Gate>(&mut self, rt: &R, gate: &G) -> bool
         ensures same { SameEnds self.old self.new }
-        ensures over { result ≡ false → self.new.failed ≡ false → HeardAll self.new.input }
+        ensures over { result ≡ false → self.new.cut_off ≡ false → HeardAll self.new.input }
     {
-        let Ok(item) = self.rx.recv_as(rt) else {
-            self.failed = true;
-            return false;
+        let item = match self.rx.recv_as(rt) {
+            Ok(item) => item,
+            Err(Gone(nobody)) => {
+                self.gone = Some(nobody);
+                self.failed = true;
+                return false;
+            }
         };
         self.counter.taken(gate);
         let Item::One(_, thing) = item else {
@@ -247,19 +269,18 @@ impl SlotWorker {
     /// Works until the pending stage ends, or is gone.
     fn work<R: Wait, G: Gate>(&mut self, rt: &R, gate: &G)
         ensures same { SameEnds self.old self.new }
-        ensures over { self.new.failed ≡ false → HeardAll self.new.input }
+        ensures over { self.new.cut_off ≡ false → HeardAll self.new.input }
     {
         for _ in rt.forever() {
             if !self.step(rt, gate) {
-                return;
+                break;
             }
         }
-        self.failed = true;
     }
 
     /// Ends.
     fn end<R: Wait>(self, rt: &R) -> SlotEnded
-        requires { self.failed ≡ false → HeardAll self.input }
+        requires { self.cut_off ≡ false → HeardAll self.input }
         ensures { HoldsEnds self result }
     {
         let SlotWorker {
@@ -267,10 +288,16 @@ impl SlotWorker {
             tx,
             ledger,
             failed,
+            gone,
             ..
         } = self;
         let done = stop_well(rt, tx, !failed);
-        SlotEnded { rx, done, ledger }
+        SlotEnded {
+            rx,
+            done,
+            ledger,
+            gone,
+        }
     }
 
     /// Works until the pending stage ends, and then ends. Where it fails it goes on receiving and gives up what it receives;

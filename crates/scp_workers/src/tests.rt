@@ -150,6 +150,7 @@ fn a_reader_without_an_inbox_hears_its_link_to_the_end(rt: HostRuntime) -> Resul
     let (tx, worker, out) = between(alloc, 8).ok().expect(&rt, "ends");
     drop(out);
     assert!(rt; send_all(&rt, tx, good, bad));
-    assert!(rt; !worker.run(&rt, &Open).well());
+    let ended = worker.run(&rt, &Open);
+    assert!(rt; !ended.well() && !ended.is_cut_off());
     Ok(())
 }

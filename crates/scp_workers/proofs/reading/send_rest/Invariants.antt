@@ -1,4 +1,4 @@
-use Rattle.std.proofs.Common.{ℕ, ◌≡◌, ◌++◌, length}
+use Rattle.std.proofs.Common.{◌≡◌, ◌++◌, length}
 use Rattle.scp_workers.specs.Working.{IsSameEnd}
 use Rattle.scp_workers.proofs.reading.send_rest.Given as goal
 

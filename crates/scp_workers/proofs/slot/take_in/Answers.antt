@@ -1,4 +1,3 @@
-use Rattle.std.specs.Prelude.{option_to_list}
 use Rattle.scp_workers.proofs.slot.take_in.Goals as goal
 
 pub returns-clause-journals : goal.returns-clause-journals

@@ -1,5 +1,5 @@
 use Rattle.std.proofs.Common.{◌++◌, [], ◌∷◌, sym, subst}
-use Rattle.std.specs.Prelude.{List, option_to_list}
+use Rattle.std.specs.Prelude.{List}
 use Rattle.scp_ledger.specs.declared.took.Onward.{Onward}
 use Rattle.scp_workers.specs.Slot.{KvJournals}
 use Rattle.scp_workers.proofs.slot.take_one.Goals as goal

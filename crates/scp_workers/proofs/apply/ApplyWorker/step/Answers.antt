@@ -1,4 +1,4 @@
-use Rattle.std.proofs.Common.{rules, ◌≡◌, ◌<◌, ap, ◌∙◌, sym, List, [], ◌∷◌, ◌++◌, arith}
+use Rattle.std.proofs.Common.{rules, ap, ◌∙◌, List, [], ◌∷◌, ◌++◌, arith}
 use Rattle.scp_ledger.specs.declared.took.Onward.{Onward}
 use Rattle.scp_ends.specs.Order.{number_of, values}
 use Rattle.scp_ledger.specs.Onwards.{KeepsWindow}
@@ -13,18 +13,19 @@ take_one-requires g c = (
   fits_one KeepsWindow c.self.inside.rx.got c.in-One.field-0 c.in-One.thing c.in-Ok.item c.in-One.is (c.in-Ok.ensures.alone c.self.invariant.0),
 )
 
-pub invariant_of-self-in_default-item : goal.invariant_of-self-in_default-item
-invariant_of-self-in_default-item g c =
-    let now = ap (λ r. r.got) c.in-Ok.ensures.received.0 ∙ ap (λ x. c.self.inside.rx.got ++ x ∷ []) c.in_default-item.is in (
+pub invariant_of-self-in_default : goal.invariant_of-self-in_default
+invariant_of-self-in_default g c =
+    let now = ap (λ r. r.got) c.in-Ok.ensures.received.0 ∙ ap (λ x. c.self.inside.rx.got ++ x ∷ []) c.in_default.is in (
       ap (λ r. r.producers) c.in-Ok.ensures.received.0 ∙ c.self.invariant.0,
-      λ kept. no_more (λ (xs : List Onward). Applies xs c.self.inside.applier) c.self.inside.rx.got _ c.in_default-item.field-0 now (c.self.invariant.1 kept),
+      λ kept. no_more (λ (xs : List Onward). Applies xs c.self.inside.applier) c.self.inside.rx.got _ c.in_default.field-0 now (c.self.invariant.1 kept),
+      c.self.invariant.2,
     )
 
-pub returns-in_default-item-clause-over : goal.returns-in_default-item-clause-over
-returns-in_default-item-clause-over g c = λ _ _.
-    let now = ap (λ r. r.got) c.in-Ok.ensures.received.0 ∙ ap (λ x. c.self.inside.rx.got ++ x ∷ []) c.in_default-item.is in
-    let number = ap number_of c.in_default-item.is in let one = c.self.invariant.0 in let below = c.in-Ok.ensures.received.1 in
-    heard_end c.recv_as.new.self c.self.inside.rx.got c.in_default-item.field-0 (ap (λ r. r.producers) c.in-Ok.ensures.received.0 ∙ one) (omega arith) now
+pub returns-in_default-clause-over : goal.returns-in_default-clause-over
+returns-in_default-clause-over g c = λ _ _.
+    let now = ap (λ r. r.got) c.in-Ok.ensures.received.0 ∙ ap (λ x. c.self.inside.rx.got ++ x ∷ []) c.in_default.is in
+    let number = ap number_of c.in_default.is in let one = c.self.invariant.0 in let below = c.in-Ok.ensures.received.1 in
+    heard_end c.recv_as.new.self c.self.inside.rx.got c.in_default.field-0 (ap (λ r. r.producers) c.in-Ok.ensures.received.0 ∙ one) (omega arith) now
 
 pub invariant_of-self-else-not-take_one : goal.invariant_of-self-else-not-take_one
 invariant_of-self-else-not-take_one g c =
@@ -32,4 +33,5 @@ invariant_of-self-else-not-take_one g c =
       ap (λ r. r.producers) c.in-Ok.ensures.received.0 ∙ c.self.invariant.0,
       λ kept. one_more (λ (xs : List Onward). Applies xs c.take_one.new.applier) c.self.inside.rx.got _ c.in-One.field-0 c.in-One.thing now
           (c.if-not-take_one.ensures (search rules) (values c.self.inside.rx.got) (c.self.invariant.1 kept)),
+      c.self.invariant.2,
     )

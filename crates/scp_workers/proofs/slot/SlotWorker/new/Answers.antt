@@ -11,4 +11,5 @@ invariant_of-result c = (
       (ap values c.requires.unused.0) c.requires.unused.1 (ap (λ a. a.value) c.of-set.ensures) (ap (λ v. v.items) c.of-known.ensures)
       (c.what_holds_of_a_ledger_holds_with_one_thing_more.ensures.journals.begins c.args.node c.args.local.value c.args.peers.items c.new.result
       (c.new.ensures.empty ∙ ap (λ d. nothing_taken c.args.node c.args.local.value d c.args.peers.items) (sym (ap (λ v. v.driver) c.new.ensures.empty))) c.new.ensures.known c.new.ensures.running),
+  λ e. cc,
 )
