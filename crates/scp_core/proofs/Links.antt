@@ -1,5 +1,5 @@
 -- One event on one link.
-use Rattle.std.proofs.Common.{◌≡◌, ℕ, ◌+◌, ◌≤◌, List, [], ◌∷◌, ◌++◌, refl, sym, ◌∙◌, ap, arith, length, add-one, length-append, take, drop}
+use Rattle.std.proofs.Common.{◌≡◌, ℕ, suc, ◌+◌, ◌-◌, ◌≤◌, List, [], ◌∷◌, ◌++◌, refl, sym, ◌∙◌, ap, arith, length, add-one, length-append, take, drop}
 use Rattle.std.specs.Prelude.{option_to_list, fold}
 use Rattle.std.proofs.lemmas.List.{take-append-drop, take-append-le, drop-append-le}
 use Rattle.scp_types.specs.declared.names.NodeId.{NodeId}
@@ -106,3 +106,7 @@ first_and_others (x ∷ xs) = refl
 -- an item was read
 pub read_into : (k : LinkView) (x : LinkItem) (rest : List LinkItem) (xs : List Inbound) → record k { queue = rest; reader = after k.reader x; hand = option_to_list (first_of xs) ++ drop 1 xs } ≡ record k { queue = rest; reader = after k.reader x; hand = xs }
 read_into k x rest xs = ap (λ (hand : List Inbound). record k { queue = rest; reader = after k.reader x; hand = hand }) (first_and_others xs)
+
+-- with one item fewer there is room for one more
+pub one_out : (room left n m : ℕ) → left ≡ room → n ≡ suc m → n ≤ room → left - m ≡ room - n + 1
+one_out room left n m same more le = omega (arith, same, more, le)

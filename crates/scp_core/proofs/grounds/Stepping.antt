@@ -210,8 +210,8 @@ with_nothing p sent v event reply q s = record {
 
 -- ---- a node that fails
 
-fails : (p : Past) (sent : ℕ → List (List ℕ)) (old new : NodeView) (f : Flows p old) → Fails old new → Stands sent (grounds_of old f.arrived) old.ledger old.outboxes → State (record p { failed = true }) sent new
-fails p sent old new f x st =
+fails : (p : Past) (sent : ℕ → List (List ℕ)) (old new : NodeView) (event : Event) (f : Flows p old) → Fails old event new → Stands sent (grounds_of old f.arrived) old.ledger old.outboxes → State (record p { failed = true }) sent new
+fails p sent old new event f x st =
     let k = x.keeps in
     let g = grounds_of old f.arrived in
     let same : grounds_of new f.arrived ≡ g = rw (k.config, k.journal, k.decisions, k.applied) refl in
@@ -233,8 +233,8 @@ stepped law p sent old new event Failed f s st = absurd (true_isnt (sym s.0 ∙ 
 stepped law p sent old new event Accepted f s st = with_nothing _ sent new event Accepted (λ bytes e. cc) (accepted p sent old new event f s.1 st)
 stepped law p sent old new event Moved f s st = with_nothing _ sent new event Moved (λ bytes e. cc) (moved law p sent old new event f s.1 st)
 stepped law p sent old new event (Sent bytes) f s st = drained p sent old new event bytes f s.1 st
-stepped law p sent old new event JournalFull f s st = with_nothing _ sent new event JournalFull (λ bytes e. cc) (fails p sent old new f s.0 st)
-stepped law p sent old new event NoMemory f s st = with_nothing _ sent new event NoMemory (λ bytes e. cc) (fails p sent old new f s.0 st)
+stepped law p sent old new event JournalFull f s st = with_nothing _ sent new event JournalFull (λ bytes e. cc) (fails p sent old new event f s.0 st)
+stepped law p sent old new event NoMemory f s st = with_nothing _ sent new event NoMemory (λ bytes e. cc) (fails p sent old new event f s.0 st)
 stepped law p sent old new event NoLink f s st = with_nothing _ sent new event NoLink (λ bytes e. cc) (stays p sent old new f s.2 st)
 stepped law p sent old new event AlreadyOpen f s st = with_nothing _ sent new event AlreadyOpen (λ bytes e. cc) (stays p sent old new f s.2 st)
 stepped law p sent old new event LivesSpent f s st = with_nothing _ sent new event LivesSpent (λ bytes e. cc) (stays p sent old new f s.2 st)
