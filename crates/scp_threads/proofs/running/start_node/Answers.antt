@@ -1,4 +1,5 @@
 use Rattle.std.proofs.Common.{◌∙◌, ap, subst, length, arith}
+use Rattle.std.proofs.lemmas.Result.{err_from_is_err_and}
 use Rattle.scp_script.specs.Nodes.{id_of, peers_of, set_at}
 use Rattle.scp_running.specs.Seats.{AreLanes, IsLocal, AreStages}
 use Rattle.scp_threads.specs.Lines.{driven_to}
@@ -31,3 +32,8 @@ returns-clause-runs g c =
 
 pub returns-clause-driven : goal.returns-clause-driven
 returns-clause-driven g c = c.start.ensures.driven (driven_to c.args.commands.now c.args.number) c.in_ok-sources.ensures.driven
+
+pub returns-in_err-sources-clause-only_memory : goal.returns-in_err-sources-clause-only_memory
+returns-in_err-sources-clause-only_memory g c =
+    let p = err_from_is_err_and c.from_residual-in_err-sources.result c.from_residual-in_err-sources.ensures.1 in
+    rw (p.1, p.2) c.in_err-sources.ensures.only_memory
