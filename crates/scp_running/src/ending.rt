@@ -234,8 +234,9 @@ fn stop<R: Threads + Wait>(
 }
 
 /// Stops a node, joins each of its threads, and gathers what they left; `stood[l]` is how link l stands where a courier sends on it.
-/// Refused by `Refused` with the first stage, in the order of the pipeline, of which a worker failed; else by `NoMemory` where a courier
-/// failed, or its link stands otherwise, or memory was wanting.
+/// Refused by `Refused` with a stage, or by `NoMemory`. The code tells the first stage, in the order of the pipeline, of which a worker
+/// failed, else that memory was wanting, a courier failed, or its link stands otherwise; no clause can say so, since of what a thread
+/// ends with nothing but its promise is known.
 pub fn end<R: Threads + Wait>(
     rt: &R,
     alloc: Global,

@@ -5,7 +5,7 @@
 //! - what is done on a link that the script drives is what goes over it, in order, and nothing else does; any other link is a courier's;
 //! - `end` stops a node, joins each of its threads, and gathers what they left: the ledger theorem, of what was sent over its links and of
 //!   its own commands;
-//! - where a stage failed the first such stage is told.
+//! - where it isn't gathered a stage is told, or that memory was wanting: the first stage that failed, which no clause can say.
 #![tactic(auto)]
 
 mod acting;

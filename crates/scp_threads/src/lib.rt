@@ -6,7 +6,7 @@
 //! - each node's commands are those of the lines, in order;
 //! - each other link was opened and closed as often as the lines say, and all that went over it spells messages.
 //!
-//! Where a stage failed it is named, with its node. At each way out all threads have ended.
+//! Where they give up, a stage is named with its node, or a full outbox, or want of memory. At each way out all threads have ended.
 #![tactic(auto)]
 
 mod gate;

@@ -257,7 +257,7 @@ fn end_nodes<R: Threads + Wait>(
     ended
 }
 
-/// Ends all nodes. Refused by the first stage that failed, which is named with its node, else by `NoMemory`.
+/// Ends all nodes. Refused by a stage, which is named with its node, else by `NoMemory`.
 fn end_all<R: Threads + Wait>(
     rt: &R,
     alloc: Global,
@@ -362,8 +362,9 @@ fn run_scoped<R: Threads + Wait + Sync, G: Gate + Sync>(
 /// ends the nodes: what is told of them. Each worker of a node calls the gate after each receive and before each send. At each way out all
 /// threads have ended.
 ///
-/// Refused by `Refused` with the first stage that failed, of the first such node, which is named; by `Full` where a mark of an `open` or a
-/// `close` line found no room in an outbox after 1,000,000 yields; by `NoMemory` where memory was wanting or a courier failed.
+/// Refused by `Refused` with a stage, of a node from 1 to 8, which is named: the first that failed of the first such node, as no clause can
+/// say; by `Full` where a mark of an `open` or a `close` line found no room in an outbox after 1,000,000 yields; by `NoMemory` where memory
+/// was wanting or a courier failed.
 pub fn run_lines<R: Threads + Wait + Sync, G: Gate + Sync>(
     rt: &R,
     gate: &G,
