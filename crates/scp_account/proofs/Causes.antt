@@ -16,20 +16,17 @@ use Rattle.scp_pending.specs.declared.ready.Ready.{Ready}
 use Rattle.scp_pending.specs.Rules.{Settled, fresh, settled_by, released_by}
 use Rattle.scp_pending.specs.Causes.{HasCause}
 use Rattle.scp_pending.specs.Endings.{way, ways, commands_in, commands_of, passed, passing}
+use Rattle.scp_pending.specs.Linked.{IsOfLink, IsReadyOf}
 use Rattle.scp_pending.specs.Pends.{start_of as start_by}
 use Rattle.scp_pending.specs.Placing.{StandsAt}
-use Rattle.scp_pending.proofs.Basics.{all_left}
-use Rattle.scp_pending.proofs.Passing.{all_have_causes}
-use Rattle.scp_pending.proofs.Ending.{commands_pass}
-use Rattle.scp_pending.proofs.Placing.{commands_keep_place}
 use Rattle.scp_ledger.specs.declared.journal.Asking.{Asking}
 use Rattle.scp_ledger.specs.Journals.{entry_of}
 use Rattle.scp_ledger.specs.Seen.{is_asked}
 use Rattle.scp_account.specs.Account.{Account, Ran}
-use Rattle.scp_account.specs.Fates.{IsOfLink, conn_of, FateHasCause, ways_on}
+use Rattle.scp_account.specs.Fates.{conn_of, FateHasCause, ways_on}
 use Rattle.scp_account.specs.Kept.{start_of, leaving, AreJudgedInTurn}
-use Rattle.scp_account.proofs.Entries.{IsOf, same_ways, journal_caused, journal_of}
-use Rattle.scp_account.proofs.OfLinks.{released_of_links}
+use Rattle.scp_account.proofs.Entries.{same_ways, journal_caused, journal_of}
+use Rattle.scp_account.proofs.Below.{Laws}
 
 -- ---- a command that is given came
 
@@ -57,6 +54,12 @@ command_in (x ∷ xs) link slot c = elim (Contains-append_cases (passing x) (com
   | inr later ↦ Contains-append_right (x ∷ []) xs (inbound.Local (Ask link slot)) (command_in xs link slot later)
 ]
 
+-- ---- plain lists
+
+pub all_front : {X : Type 0} (P : X → Type 0) (xs ys : List X) → AllByRecursion P (xs ++ ys) → AllByRecursion P xs
+all_front P [] ys a = tt
+all_front P (x ∷ xs) ys a = (a.0, all_front P xs ys a.1)
+
 -- ---- an account
 
 module _ {D : Type 0} {level : D → ℕ → List ℕ → Level} {combined : D → ℕ → List (List ℕ) → List ℕ} {place : D → ℕ → ℕ → ℕ → ℕ} (a : Account D) (r : Ran level combined place a) where
@@ -64,45 +67,46 @@ module _ {D : Type 0} {level : D → ℕ → List ℕ → Level} {combined : D �
   start_is = ap (λ (set : QuorumTree). fresh a.me a.peers set) r.local
 
   -- what left the pending stage's queues, by where it is
-  pub left_is : r.given ++ a.pending.leaving ≡ r.took ++ leaving a
+  left_is : r.given ++ a.pending.leaving ≡ r.took ++ leaving a
   left_is = ap (λ rs. rs ++ a.pending.leaving) r.ready ∙ append_assoc r.took a.on_way a.pending.leaving
 
   pub by_rules : a.pending.settled ≡ settled_by (start_of a) a.came
   by_rules = r.pends.settled ∙ ap (λ (s : Settled). settled_by s a.came) start_is
 
-  -- ---- causes
-
-  left_caused : AllByRecursion (HasCause (start_of a) a.came) (r.took ++ leaving a)
-  left_caused =
-      subst (λ (rs : List Ready). AllByRecursion (HasCause (start_of a) a.came) rs) left_is
-      (subst (λ (s : Settled). AllByRecursion (HasCause s a.came) (r.given ++ a.pending.leaving)) start_is
-      (all_have_causes a.me a.peers a.came r.given a.pending r.pends))
-
-  pub causes_at : AllByRecursion (FateHasCause (start_of a) a.came) a.ledger.journal
-  causes_at = journal_caused (start_of a) a.came r.took a.ledger.journal r.journals.entries (all_left (HasCause (start_of a) a.came) r.took (leaving a) left_caused).0
-
   released_is : r.took ++ leaving a ≡ released_by (start_of a) a.came
   released_is = sym left_is ∙ r.pends.left ∙ ap (λ (s : Settled). released_by s a.came) start_is
-
-  pub of_links_at : AllByRecursion (λ fate. IsOfLink a.me a.peers (conn_of fate)) a.ledger.journal
-  of_links_at =
-      let all : AllByRecursion (IsOf (IsOfLink a.me a.peers)) (r.took ++ leaving a) = released_of_links a.me a.peers a.set a.came (r.took ++ leaving a) released_is left_caused in
-      journal_of (IsOfLink a.me a.peers) r.took a.ledger.journal r.journals.entries (all_left (IsOf (IsOfLink a.me a.peers)) r.took (leaving a) all).0
 
   -- how the messages of a connection left, by where they are
   pub ways_are : (c : ConnId) → ways c (r.given ++ a.pending.leaving) ≡ ways_on c a.ledger.journal ++ ways c (leaving a)
   ways_are c = ap (ways c) left_is ∙ flat_map-append (way c) r.took (leaving a) ∙ ap (λ ws. ws ++ ways c (leaving a)) (same_ways c r.took a.ledger.journal r.journals.entries)
 
+module _ (laws : Laws) {D : Type 0} {level : D → ℕ → List ℕ → Level} {combined : D → ℕ → List (List ℕ) → List ℕ} {place : D → ℕ → ℕ → ℕ → ℕ} (a : Account D) (r : Ran level combined place a) where
+  -- ---- causes
+
+  pub left_caused : AllByRecursion (HasCause (start_of a) a.came) (r.took ++ leaving a)
+  left_caused =
+      subst (λ (rs : List Ready). AllByRecursion (HasCause (start_of a) a.came) rs) (left_is a r)
+      (subst (λ (s : Settled). AllByRecursion (HasCause s a.came) (r.given ++ a.pending.leaving)) (start_is a r)
+      (laws.causes a.me a.peers a.came r.given a.pending r.pends))
+
+  pub causes_at : AllByRecursion (FateHasCause (start_of a) a.came) a.ledger.journal
+  causes_at = journal_caused (start_of a) a.came r.took a.ledger.journal r.journals.entries (all_front (HasCause (start_of a) a.came) r.took (leaving a) left_caused)
+
+  pub of_links_at : AllByRecursion (λ fate. IsOfLink a.me a.peers (conn_of fate)) a.ledger.journal
+  of_links_at =
+      let all : AllByRecursion (IsReadyOf (IsOfLink a.me a.peers)) (r.took ++ leaving a) = subst (λ (rs : List Ready). AllByRecursion (IsReadyOf (IsOfLink a.me a.peers)) rs) (sym (released_is a r)) (laws.links a.me a.peers a.set a.came).given in
+      journal_of (IsOfLink a.me a.peers) r.took a.ledger.journal r.journals.entries (all_front (IsReadyOf (IsOfLink a.me a.peers)) r.took (leaving a) all)
+
   -- ---- commands and verdicts
 
   commands_are : commands_of (r.took ++ leaving a) ≡ commands_in a.came
-  commands_are = ap commands_of (sym left_is) ∙ commands_pass a.me a.peers a.came r.given a.pending r.pends
+  commands_are = ap commands_of (sym (left_is a r)) ∙ laws.commands a.me a.peers a.came r.given a.pending r.pends
 
   places_at : (before : List Inbound) (command : Command) (after' : List Inbound) → a.came ≡ before ++ inbound.Local command ∷ after' → StandsAt (start_of a) before command (r.took ++ leaving a)
   places_at before command after' at =
-      subst (λ (rs : List Ready). StandsAt (start_of a) before command rs) left_is
-      (subst (λ (s : Settled). StandsAt s before command (r.given ++ a.pending.leaving)) start_is
-      (commands_keep_place a.me a.peers a.came r.given a.pending r.pends before command after' at))
+      subst (λ (rs : List Ready). StandsAt (start_of a) before command rs) (left_is a r)
+      (subst (λ (s : Settled). StandsAt s before command (r.given ++ a.pending.leaving)) (start_is a r)
+      (laws.places a.me a.peers a.came r.given a.pending r.pends before command after' at))
 
   asked_at : (asking : Asking) → is_asked a.ledger.asked asking ≡ true → Contains a.came (inbound.Local (Ask asking.link asking.slot))
   asked_at asking is =
@@ -116,7 +120,7 @@ module _ {D : Type 0} {level : D → ℕ → List ℕ → Level} {combined : D �
       record {
         takes = j.takes;
         leads = j.run.leads;
-        released = ap (λ rs. rs ++ leaving a) j.took_are ∙ released_is;
+        released = ap (λ rs. rs ++ leaving a) j.took_are ∙ released_is a r;
         entries = j.entries ∙ ap (flat_map entry_of) (sym j.took_are);
         verdicts = j.run.verdicts;
         judged = j.run.judged;

@@ -1,5 +1,5 @@
 -- What the entries of a journal say, by the ready things that they are of.
-use Rattle.std.proofs.Common.{◌≡◌, true, List, [], ◌∷◌, ◌++◌, refl, sym, ◌∙◌, ap, subst}
+use Rattle.std.proofs.Common.{◌≡◌, ℕ, zero, suc, true, List, [], ◌∷◌, ◌++◌, refl, sym, ◌∙◌, ap, subst}
 use Rattle.std.specs.Prelude.{Some, slice_get, flat_map, map}
 use Rattle.std.specs.List.{AllByRecursion}
 use Rattle.scp_types.specs.declared.names.ConnId.{ConnId}
@@ -7,13 +7,13 @@ use Rattle.scp_wire.specs.declared.message.Message.{Message}
 use Rattle.scp_wire.specs.declared.link.Inbound.{Inbound}
 use Rattle.scp_wire.specs.Connections.{same_conn}
 use Rattle.scp_wire.specs.Marks.{Mark, number, ended, one_if}
-use Rattle.scp_wire.proofs.Lines.{slice_get-front}
 use Rattle.scp_pending.specs.declared.ready.Ready.{Ready}
 use Rattle.scp_pending.specs.declared.ready.Ready.TheVariants as ready
 use Rattle.scp_pending.specs.Line.{marks_of, HaveMessages}
 use Rattle.scp_pending.specs.Rules.{Settled}
 use Rattle.scp_pending.specs.Causes.{IsTaken, HasCause}
 use Rattle.scp_pending.specs.Endings.{Way, went, over, way_by, ways}
+use Rattle.scp_pending.specs.Linked.{IsReadyOf}
 use Rattle.scp_ledger.specs.declared.journal.Fate.{Fate}
 use Rattle.scp_ledger.specs.declared.journal.Fate.TheVariants.{Taken, Dropped, Closed}
 use Rattle.scp_ledger.specs.Journals.{Entry, taken, dropped, closed, entry_in, entry_of}
@@ -85,9 +85,14 @@ entries_right c messages (ready.Closed conn cause ∷ rs) a = (tt, entries_right
 entries_right c messages (ready.Local command ∷ rs) a = entries_right c messages rs a.1
 
 -- with more messages sent
+still_there : {X : Type 0} (xs ys : List X) (n : ℕ) (x : X) → slice_get xs n ≡ Some x → slice_get (xs ++ ys) n ≡ Some x
+still_there [] ys n x e = cc
+still_there (z ∷ zs) ys zero x e = e
+still_there (z ∷ zs) ys (suc n) x e = still_there zs ys n x e
+
 fates_right : (c : ConnId) (messages later : List Message) (fates : List Fate) → AllByRecursion (IsRight c messages) (map entry_in fates) → AllByRecursion (HasItsNumber c (messages ++ later)) fates
 fates_right c messages later [] a = tt
-fates_right c messages later (Taken conn seq message set verdict ∷ fates) a = (λ s. slice_get-front messages later seq.0 message (a.0 s), fates_right c messages later fates a.1)
+fates_right c messages later (Taken conn seq message set verdict ∷ fates) a = (λ s. still_there messages later seq.0 message (a.0 s), fates_right c messages later fates a.1)
 fates_right c messages later (Dropped conn seq cause ∷ fates) a = (tt, fates_right c messages later fates a.1)
 fates_right c messages later (Closed conn cause ∷ fates) a = (tt, fates_right c messages later fates a.1)
 
@@ -119,19 +124,12 @@ journal_caused start came took fates e a = fates_caused start came fates (subst 
 
 -- ---- whose they are
 
--- what holds of the connection of a thing that has an entry
-abbrev pub IsOf : (ConnId → Type 0) → Ready → Type 0
-IsOf P (ready.Deliver d) = P d.conn
-IsOf P (ready.Dropped conn seq cause) = P conn
-IsOf P (ready.Closed conn cause) = P conn
-IsOf P (ready.Local command) = Unit {0}
-
 abbrev EntryIsOf : (ConnId → Type 0) → Entry → Type 0
 EntryIsOf P (taken conn seq message set) = P conn
 EntryIsOf P (dropped conn seq cause) = P conn
 EntryIsOf P (closed conn cause) = P conn
 
-things_of : (P : ConnId → Type 0) (things : List Ready) → AllByRecursion (IsOf P) things → AllByRecursion (EntryIsOf P) (flat_map entry_of things)
+things_of : (P : ConnId → Type 0) (things : List Ready) → AllByRecursion (IsReadyOf P) things → AllByRecursion (EntryIsOf P) (flat_map entry_of things)
 things_of P [] a = tt
 things_of P (ready.Deliver d ∷ rs) a = (a.0, things_of P rs a.1)
 things_of P (ready.Dropped conn seq cause ∷ rs) a = (a.0, things_of P rs a.1)
@@ -144,5 +142,5 @@ fates_of P (Taken conn seq message set verdict ∷ fates) a = (a.0, fates_of P f
 fates_of P (Dropped conn seq cause ∷ fates) a = (a.0, fates_of P fates a.1)
 fates_of P (Closed conn cause ∷ fates) a = (a.0, fates_of P fates a.1)
 
-pub journal_of : (P : ConnId → Type 0) (took : List Ready) (fates : List Fate) → AreOf fates took → AllByRecursion (IsOf P) took → AllByRecursion (λ fate. P (conn_of fate)) fates
+pub journal_of : (P : ConnId → Type 0) (took : List Ready) (fates : List Fate) → AreOf fates took → AllByRecursion (IsReadyOf P) took → AllByRecursion (λ fate. P (conn_of fate)) fates
 journal_of P took fates e a = fates_of P fates (subst (λ (es : List Entry). AllByRecursion (EntryIsOf P) es) (sym e) (things_of P took a))

@@ -2,6 +2,7 @@
 use Rattle.std.proofs.Common.{◌≡◌, ℕ, List, ◌++◌, sym, ◌∙◌, ap, subst, append_assoc, inl, inr}
 use Rattle.std.specs.Prelude.{Option, Some, slice_get}
 use Rattle.std.specs.List.{AllByRecursion}
+use Rattle.std.proofs.lemmas.Grind.{flat_map-append}
 use Rattle.std.proofs.lemmas.List.Elements.{filter-append}
 use Rattle.scp_types.specs.declared.names.ConnId.{ConnId}
 use Rattle.scp_types.specs.declared.names.NodeId.{NodeId}
@@ -14,29 +15,21 @@ use Rattle.scp_wire.specs.LinkReading.{unread, readings}
 use Rattle.scp_wire.specs.ReaderLaws.{IsSent}
 use Rattle.scp_wire.specs.Shape.{HasShape, AreInOrder, nothing_came, of_peer, is_from}
 use Rattle.scp_wire.specs.Marks.{Mark, marks_in, messages_in, IsWhole}
-use Rattle.scp_wire.specs.Lanes.{in_lane, lane_numbers, EndsLast, HaveSlots}
+use Rattle.scp_wire.specs.Lanes.{slots_of, in_lane, lane_numbers, EndsLast, HaveSlots}
 use Rattle.scp_wire.specs.Sent.{sent, is_closed, carried_of, end_of}
-use Rattle.scp_wire.proofs.Lanes.{lanes_of_sent, whole_follows}
-use Rattle.scp_wire.proofs.Lines.{marks_in-append, messages_in-append, marks_of_peer, messages_of_peer}
-use Rattle.scp_wire.proofs.Sents.{readings_are_sent}
-use Rattle.scp_wire.proofs.Shapes.{readings_in_order, in_order-front}
 use Rattle.scp_pending.specs.declared.ready.Ready.{Ready}
 use Rattle.scp_pending.specs.Endings.{Way, Exits, ways}
-use Rattle.scp_pending.specs.Line.{marks_of, HaveMessages, HasItsMessage, Accounts, held}
+use Rattle.scp_pending.specs.Line.{ready_mark, marks_of, HaveMessages, HasItsMessage, Accounts, held}
 use Rattle.scp_pending.specs.Queues.{is_open}
 use Rattle.scp_pending.specs.Rules.{Settled, settled_by}
-use Rattle.scp_pending.proofs.Accounting.{all_accounts}
-use Rattle.scp_pending.proofs.Basics.{all_left}
-use Rattle.scp_pending.proofs.Ending.{all_exits}
-use Rattle.scp_pending.proofs.Laning.{in_lane-append}
-use Rattle.scp_pending.proofs.Numbered.{IsNumbered, numbered_right, numbered_all, slots_are}
-use Rattle.scp_pending.proofs.Serving.{marks_of-append}
 use Rattle.scp_ledger.specs.Marks.{marks_of as marks_on}
 use Rattle.scp_account.specs.Account.{Account, Ran}
 use Rattle.scp_account.specs.Fates.{Fates, HasItsNumber, ways_on}
 use Rattle.scp_account.specs.Kept.{start_of, leaving, slots_sent, line_sent, line_held, HasItsFates}
 use Rattle.scp_account.proofs.Entries.{same_marks, journal_right}
-use Rattle.scp_account.proofs.Causes.{start_is, by_rules, ways_are}
+use Rattle.scp_account.proofs.Holding.{held_are_messages, is_live_by_place}
+use Rattle.scp_account.proofs.Below.{Laws}
+use Rattle.scp_account.proofs.Causes.{start_is, by_rules, ways_are, all_front}
 
 -- ---- plain lists
 
@@ -58,23 +51,23 @@ by_parts f peer came inbox upcoming append of =
 
 -- ---- what came
 
-module _ {D : Type 0} {level : D → ℕ → List ℕ → Level} {combined : D → ℕ → List (List ℕ) → List ℕ} {place : D → ℕ → ℕ → ℕ → ℕ} (a : Account D) (r : Ran level combined place a) where
+module _ (laws : Laws) {D : Type 0} {level : D → ℕ → List ℕ → Level} {combined : D → ℕ → List (List ℕ) → List ℕ} {place : D → ℕ → ℕ → ℕ → ℕ} (a : Account D) (r : Ran level combined place a) where
   -- what is read of a link, by where it is
   read_is : (l : ℕ) (peer : NodeId) → slice_get a.peers l ≡ Some peer → readings unread (a.sent l) ≡ of_peer peer a.came ++ (of_peer peer a.inbox ++ a.upcoming l)
   read_is l peer at = r.read l peer at ∙ ap (λ xs. xs ++ a.upcoming l) (filter-append (is_from peer) a.came a.inbox) ∙ append_assoc (of_peer peer a.came) (of_peer peer a.inbox) (a.upcoming l)
 
   in_order : (l : ℕ) (peer : NodeId) → slice_get a.peers l ≡ Some peer → AreInOrder peer a.me nothing_came (readings unread (a.sent l))
-  in_order l peer at = readings_in_order peer a.me (a.sent l) (r.links l peer at)
+  in_order l peer at = laws.in_order peer a.me (a.sent l) (r.links l peer at)
 
   shape : HasShape a.me a.peers a.came
-  shape l peer at = in_order-front peer a.me nothing_came (of_peer peer a.came) (of_peer peer a.inbox ++ a.upcoming l) (subst (λ (xs : List Inbound). AreInOrder peer a.me nothing_came xs) (read_is l peer at) (in_order l peer at))
+  shape l peer at = laws.front peer a.me nothing_came (of_peer peer a.came) (of_peer peer a.inbox ++ a.upcoming l) (subst (λ (xs : List Inbound). AreInOrder peer a.me nothing_came xs) (read_is l peer at) (in_order l peer at))
 
   given_marks : (c : ConnId) → marks_of c r.given ≡ marks_on c a.ledger.journal ++ marks_of c a.on_way
-  given_marks c = ap (marks_of c) r.ready ∙ marks_of-append c r.took a.on_way ∙ ap (λ ms. ms ++ marks_of c a.on_way) (sym (same_marks c r.took a.ledger.journal r.journals.entries))
+  given_marks c = ap (marks_of c) r.ready ∙ flat_map-append (ready_mark c) r.took a.on_way ∙ ap (λ ms. ms ++ marks_of c a.on_way) (sym (same_marks c r.took a.ledger.journal r.journals.entries))
 
 -- ---- one connection
 
-module _ {D : Type 0} {level : D → ℕ → List ℕ → Level} {combined : D → ℕ → List (List ℕ) → List ℕ} {place : D → ℕ → ℕ → ℕ → ℕ} (a : Account D) (r : Ran level combined place a) (l : ℕ) (peer : NodeId) (at : slice_get a.peers l ≡ Some peer) (life : ℕ) where
+module _ (laws : Laws) {D : Type 0} {level : D → ℕ → List ℕ → Level} {combined : D → ℕ → List (List ℕ) → List ℕ} {place : D → ℕ → ℕ → ℕ → ℕ} (a : Account D) (r : Ran level combined place a) (l : ℕ) (peer : NodeId) (at : slice_get a.peers l ≡ Some peer) (life : ℕ) where
   abbrev it : ConnId
   it = conn_at peer a.me life
 
@@ -93,32 +86,29 @@ module _ {D : Type 0} {level : D → ℕ → List ℕ → Level} {combined : D �
   messages_behind = messages_in it a.inbox ++ messages_in it (a.upcoming l)
 
   told : IsSent it (a.sent l)
-  told = readings_are_sent peer a.me (a.sent l) (r.links l peer at) life
+  told = laws.sent_is peer a.me (a.sent l) (r.links l peer at) life
 
   line_is : line_sent a l it ≡ marks_in it a.came ++ behind
-  line_is = sym told.line ∙ ap (marks_in it) (read_is a r l peer at) ∙ by_parts (marks_in it) peer a.came a.inbox (a.upcoming l) (marks_in-append it) (marks_of_peer it)
+  line_is = sym told.line ∙ ap (marks_in it) (read_is laws a r l peer at) ∙ by_parts (marks_in it) peer a.came a.inbox (a.upcoming l) (λ xs ys. (laws.parts it xs ys).marks) (λ xs. (laws.peers it xs).marks)
 
   messages_are : messages ≡ messages_in it a.came ++ messages_behind
-  messages_are = sym told.messages ∙ ap (messages_in it) (read_is a r l peer at) ∙ by_parts (messages_in it) peer a.came a.inbox (a.upcoming l) (messages_in-append it) (messages_of_peer it)
+  messages_are = sym told.messages ∙ ap (messages_in it) (read_is laws a r l peer at) ∙ by_parts (messages_in it) peer a.came a.inbox (a.upcoming l) (λ xs ys. (laws.parts it xs ys).messages) (λ xs. (laws.peers it xs).messages)
 
   slots_fit : HaveSlots it slots a.came
-  slots_fit =
-      let right : AllByRecursion (IsNumbered it messages) (readings unread (a.sent l)) = subst (λ (ms : List Message). AllByRecursion (IsNumbered it ms) (readings unread (a.sent l))) told.messages (numbered_right peer a.me life (readings unread (a.sent l)) (in_order a r l peer at)) in
-      let front = (all_left (IsNumbered it messages) (of_peer peer a.came) (of_peer peer a.inbox ++ a.upcoming l) (subst (AllByRecursion (IsNumbered it messages)) (read_is a r l peer at) right)).0 in
-      slots_are it messages a.came (numbered_all it messages a.came front)
+  slots_fit = subst (λ (ms : List Message). HaveSlots it (slots_of ms) a.came) (sym messages_are) (laws.numbers peer a.me a.came (shape laws a r l peer at) life messages_behind).slots
 
   accounts : Accounts it slots a.came r.given (held it a.pending)
-  accounts = all_accounts a.me a.peers a.came r.given a.pending r.pends (shape a r) l peer at life slots slots_fit
+  accounts = laws.accounts a.me a.peers a.came r.given a.pending r.pends (shape laws a r) l peer at life slots slots_fit
 
   -- ---- nothing is lost
 
   sent_lane : (s : ℕ) → in_lane slots s (line_sent a l it) ≡ in_lane slots s (marks_in it a.came) ++ in_lane slots s behind
-  sent_lane s = ap (in_lane slots s) line_is ∙ in_lane-append slots s (marks_in it a.came) behind
+  sent_lane s = ap (in_lane slots s) line_is ∙ laws.lanes slots s (marks_in it a.came) behind
 
   held_lane : (s : ℕ) → in_lane slots s (marks_of it r.given ++ held it a.pending) ++ in_lane slots s behind ≡ in_lane slots s (marks_on it a.ledger.journal ++ line_held a l it)
   held_lane s =
-      sym (in_lane-append slots s (marks_of it r.given ++ held it a.pending) behind)
-      ∙ ap (λ ms. in_lane slots s ((ms ++ held it a.pending) ++ behind)) (given_marks a r it)
+      sym (laws.lanes slots s (marks_of it r.given ++ held it a.pending) behind)
+      ∙ ap (λ ms. in_lane slots s ((ms ++ held it a.pending) ++ behind)) (given_marks laws a r it)
       ∙ ap (in_lane slots s) (regroup (marks_on it a.ledger.journal) (marks_of it a.on_way) (held it a.pending) behind)
 
   whole_at : (s : ℕ) → IsWhole (in_lane slots s (line_sent a l it)) (in_lane slots s (marks_on it a.ledger.journal ++ line_held a l it))
@@ -135,18 +125,18 @@ module _ {D : Type 0} {level : D → ℕ → List ℕ → Level} {combined : D �
 
   apart : (s : ℕ) → in_lane slots s (marks_of it r.given ++ held it a.pending) ≡ in_lane slots s (marks_on it a.ledger.journal) ++ in_lane slots s beyond
   apart s =
-      ap (λ ms. in_lane slots s (ms ++ held it a.pending)) (given_marks a r it)
+      ap (λ ms. in_lane slots s (ms ++ held it a.pending)) (given_marks laws a r it)
       ∙ ap (in_lane slots s) (append_assoc (marks_on it a.ledger.journal) (marks_of it a.on_way) (held it a.pending))
-      ∙ in_lane-append slots s (marks_on it a.ledger.journal) beyond
+      ∙ laws.lanes slots s (marks_on it a.ledger.journal) beyond
 
   took_messages : HaveMessages it (messages_in it a.came) r.took
-  took_messages = (all_left (HasItsMessage it (messages_in it a.came)) r.took a.on_way (subst (λ (rs : List Ready). HaveMessages it (messages_in it a.came) rs) r.ready accounts.messages)).0
+  took_messages = all_front (HasItsMessage it (messages_in it a.came)) r.took a.on_way (subst (λ (rs : List Ready). HaveMessages it (messages_in it a.came) rs) r.ready accounts.messages)
 
   fates_at : Fates it messages a.ledger.journal
   fates_at =
       let end : Option Cause = end_of 1000000 (sent it (a.sent l)) (is_closed it (a.sent l)) in
       record {
-        follows = λ s. whole_follows (lane_numbers s 0 messages) end (in_lane slots s (marks_in it a.came)) (in_lane slots s behind) (in_lane slots s (marks_on it a.ledger.journal)) (in_lane slots s beyond) (sym (lanes_of_sent messages end s) ∙ sent_lane s) (subst (IsWhole (in_lane slots s (marks_in it a.came))) (apart s) (accounts.whole s)) (subst EndsLast (apart s) (accounts.ends s));
+        follows = λ s. laws.follows (lane_numbers s 0 messages) end (in_lane slots s (marks_in it a.came)) (in_lane slots s behind) (in_lane slots s (marks_on it a.ledger.journal)) (in_lane slots s beyond) (sym (laws.lanes_sent messages end s) ∙ sent_lane s) (subst (IsWhole (in_lane slots s (marks_in it a.came))) (apart s) (accounts.whole s)) (subst EndsLast (apart s) (accounts.ends s));
         messages_are = subst (λ (ms : List Message). AllByRecursion (HasItsNumber it ms) a.ledger.journal) (sym messages_are) (journal_right it (messages_in it a.came) messages_behind r.took a.ledger.journal r.journals.entries took_messages);
       }
 
@@ -155,7 +145,13 @@ module _ {D : Type 0} {level : D → ℕ → List ℕ → Level} {combined : D �
       subst (λ (ws : List Way). Exits (start_of a) slots a.came it (is_open it (settled_by (start_of a) a.came).queues) ws) (ways_are a r it)
       (subst (λ (s : Settled). Exits (start_of a) slots a.came it (is_open it s.queues) (ways it (r.given ++ a.pending.leaving))) (by_rules a r)
       (subst (λ (s : Settled). Exits s slots a.came it (is_open it a.pending.settled.queues) (ways it (r.given ++ a.pending.leaving))) (start_is a r)
-      (all_exits a.me a.peers a.came r.given a.pending r.pends (shape a r) l peer at life slots slots_fit)))
+      (laws.exits a.me a.peers a.came r.given a.pending r.pends (shape laws a r) l peer at life slots slots_fit)))
 
   pub has_its_fates : HasItsFates a l it
-  has_its_fates = record { fates = fates_at; whole = whole_at; ends = ends_at }
+  has_its_fates = record {
+    fates = fates_at;
+    whole = whole_at;
+    ends = ends_at;
+    held_are = held_are_messages laws a r l peer at life (read_is laws a r l peer at) (in_order laws a r l peer at) (shape laws a r);
+    live = is_live_by_place laws a r l peer at life (read_is laws a r l peer at) (in_order laws a r l peer at) (shape laws a r);
+  }

@@ -5,16 +5,17 @@ use Rattle.scp_account.specs.Kept.{RanKeepsLedger}
 use Rattle.scp_account.proofs.Causes.{by_rules, causes_at, of_links_at, judged_at}
 use Rattle.scp_account.proofs.Decided.{decided_at, applied_at}
 use Rattle.scp_account.proofs.Fates.{has_its_fates}
+use Rattle.scp_account.proofs.Below.{Laws}
 
-pub ran_keeps_ledger : {D : Type 0} (level : D → ℕ → List ℕ → Level) (combined : D → ℕ → List (List ℕ) → List ℕ) (place : D → ℕ → ℕ → ℕ → ℕ) → RanKeepsLedger level combined place
-ran_keeps_ledger level combined place = λ a r. record {
+pub ran_keeps_ledger : Laws → {D : Type 0} (level : D → ℕ → List ℕ → Level) (combined : D → ℕ → List (List ℕ) → List ℕ) (place : D → ℕ → ℕ → ℕ → ℕ) → RanKeepsLedger level combined place
+ran_keeps_ledger laws level combined place = λ a r. record {
   links = r.links;
   read = r.read;
   stands = by_rules a r;
-  fates = λ l peer at life. has_its_fates a r l peer at life;
-  of_links = of_links_at a r;
-  causes = causes_at a r;
-  verdicts = judged_at a r;
+  fates = λ l peer at life. has_its_fates laws a r l peer at life;
+  of_links = of_links_at laws a r;
+  causes = causes_at laws a r;
+  verdicts = judged_at laws a r;
   decisions = decided_at a r;
   applied = applied_at a r;
 }

@@ -1,6 +1,7 @@
+pub mod Below
 pub mod Entries
-pub mod OfLinks
 pub mod Causes
+pub mod Holding
 pub mod Fates
 pub mod Decided
 pub mod Keeping

@@ -1,17 +1,17 @@
 -- A connection's fates, in order, and each with its cause.
-use Rattle.std.specs.Prelude.{ℕ, ◌≡◌, Bool, true, List, Some, slice_get, option_map, flat_map}
-use Rattle.std.specs.List.{list_any, AllByRecursion}
+use Rattle.std.specs.Prelude.{ℕ, ◌≡◌, true, List, Some, slice_get, option_map, flat_map}
+use Rattle.std.specs.List.{AllByRecursion}
 use Rattle.scp_types.specs.declared.names.ConnId.{ConnId}
-use Rattle.scp_types.specs.declared.names.NodeId.{NodeId}
 use Rattle.scp_wire.specs.declared.message.Message.{Message}
 use Rattle.scp_wire.specs.declared.link.Inbound.{Inbound}
-use Rattle.scp_wire.specs.Connections.{same_conn, same_node}
+use Rattle.scp_wire.specs.Connections.{same_conn}
 use Rattle.scp_wire.specs.Marks.{one_if}
 use Rattle.scp_wire.specs.Lanes.{slots_of, in_lane, lane_numbers, FollowsIn}
 use Rattle.scp_pending.specs.declared.ready.Ready.TheVariants as ready
 use Rattle.scp_pending.specs.Rules.{Settled}
 use Rattle.scp_pending.specs.Causes.{IsTaken, HasCause}
 use Rattle.scp_pending.specs.Endings.{Way, went, over, way_by}
+pub use Rattle.scp_pending.specs.Linked.{is_among, IsOfLink}
 use Rattle.scp_ledger.specs.declared.journal.Fate.{Fate}
 use Rattle.scp_ledger.specs.declared.journal.Fate.TheVariants.{Taken, Dropped, Closed}
 use Rattle.scp_ledger.specs.Marks.{marks_of as marks_on}
@@ -33,14 +33,6 @@ abbrev pub conn_of : Fate → ConnId
 conn_of (Taken conn seq message set verdict) = conn
 conn_of (Dropped conn seq cause) = conn
 conn_of (Closed conn cause) = conn
-
-abbrev pub is_among : NodeId → List NodeId → Bool
-is_among node peers = list_any (λ peer. same_node peer node) peers
-
--- the connection comes from one of the peers, and leads to the node
-pub record IsOfLink (me : NodeId) (peers : List NodeId) (conn : ConnId) : Type 0 where
-  pub from : is_among conn.from peers ≡ true
-  pub to : conn.to ≡ me
 
 -- ---- causes
 

@@ -1,24 +1,29 @@
 -- The ledger theorem, in one record.
-use Rattle.std.specs.Prelude.{ℕ, ◌+◌, ◌≡◌, ◌≢◌, ◌≤◌, true, List, [], ◌∷◌, ◌++◌, Some, All, Contains, length, slice_get, map, flat_map}
+use Rattle.std.specs.Prelude.{ℕ, ◌+◌, ◌≡◌, ◌≢◌, ◌≤◌, true, not, ◌&&◌, List, [], ◌∷◌, ◌++◌, Some, All, Contains, length, slice_get, map, flat_map, fold}
 use Rattle.std.specs.List.{AllByRecursion}
 use Rattle.std.specs.List.Sorted.{IsPermutation}
 use Rattle.scp_types.specs.declared.names.ConnId.{ConnId}
 use Rattle.scp_types.specs.declared.names.NodeId.{NodeId}
 use Rattle.scp_driver.specs.declared.driver.Level.{Level}
 use Rattle.scp_kv.specs.State.{fold_of}
+use Rattle.scp_wire.specs.declared.carried.Carried.{Carried}
+use Rattle.scp_wire.specs.declared.message.Message.{Message}
 use Rattle.scp_wire.specs.declared.link.Command.{Command}
 use Rattle.scp_wire.specs.declared.link.Command.TheVariants.{Ask}
 use Rattle.scp_wire.specs.declared.link.Inbound.{Inbound}
 use Rattle.scp_wire.specs.declared.link.Inbound.TheVariants as inbound
 use Rattle.scp_wire.specs.Connections.{conn_at}
 use Rattle.scp_wire.specs.LinkReading.{unread, readings}
-use Rattle.scp_wire.specs.Shape.{AreOfLink, never_open, of_peer}
+use Rattle.scp_wire.specs.Parts.{IsNumbered}
+use Rattle.scp_wire.specs.Shape.{AreOfLink, never_open, comes, nothing_came, of_peer}
 use Rattle.scp_wire.specs.Lanes.{slots_of, in_lane}
 use Rattle.scp_wire.specs.Marks.{Mark, marks_in, IsWhole}
 use Rattle.scp_wire.specs.Sent.{sent, is_closed, carried_of, line_of_sent}
 use Rattle.scp_pending.specs.declared.ready.Ready.{Ready}
 use Rattle.scp_pending.specs.Endings.{Exits, ways, commands_in, commands_of}
-use Rattle.scp_pending.specs.Line.{marks_of, held}
+use Rattle.scp_pending.specs.Line.{marks_of, held, HaveMessages}
+use Rattle.scp_pending.specs.Living.{stands, is_cut_off}
+use Rattle.scp_pending.specs.Messages.{AreParked}
 use Rattle.scp_pending.specs.Placing.{StandsAt}
 use Rattle.scp_pending.specs.Queues.{is_open}
 use Rattle.scp_pending.specs.Rules.{Settled, fresh, settled_by, released_by}
@@ -57,13 +62,32 @@ module _ {D : Type 0} where
   abbrev pub line_held : Account D → ℕ → ConnId → List Mark
   line_held a l c = marks_of c a.on_way ++ (held c a.pending ++ (marks_in c a.inbox ++ marks_in c (a.upcoming l)))
 
+  -- its messages
+  abbrev pub messages_sent : Account D → ℕ → ConnId → List Message
+  messages_sent a l c = carried_of 1000000 (sent c (a.sent l))
+
+  -- what the node holds of it is messages, and not only numbers: each is the message of its number, on its way with its set, parked,
+  -- in the inbox, and on the link
+  pub record HeldAreMessages (a : Account D) (l : ℕ) (c : ConnId) : Type 0 where
+    pub on_way : HaveMessages c (messages_sent a l c) (leaving a)
+    pub parked : (parked : List Carried) → AreParked a.pending parked → AllByRecursion (λ (x : Carried). IsNumbered c (messages_sent a l c) (inbound.Carried x)) parked
+    pub inbox : AllByRecursion (IsNumbered c (messages_sent a l c)) a.inbox
+    pub upcoming : AllByRecursion (IsNumbered c (messages_sent a l c)) (a.upcoming l)
+
+  -- at each place of what came it is open, so that what comes of it next is live, exactly where what came before opened it and
+  -- didn't close it, and no end as parked-full left by then
+  abbrev pub IsLiveByPlace : Account D → ConnId → Type 0
+  IsLiveByPlace a c = (before rest : List Inbound) → a.came ≡ before ++ rest → is_open c (settled_by (start_of a) before).queues ≡ (stands c.life (fold comes nothing_came (of_peer c.from before)) && not (is_cut_off c (released_by (start_of a) before)))
+
   -- Its messages have one fate each, and within each slot from the first, in the order sent, none after its end, each the message
   -- of its number. In each slot the fates and then what is held are what was sent, whole, so that nothing is lost; or where it was
-  -- cut off a beginning of that. And it ends by its cause.
+  -- cut off a beginning of that. It ends by its cause, what is held of it is messages, and what is live of it is so by its place.
   pub record HasItsFates (a : Account D) (l : ℕ) (c : ConnId) : Type 0 where
-    pub fates : Fates c (carried_of 1000000 (sent c (a.sent l))) a.ledger.journal
+    pub fates : Fates c (messages_sent a l c) a.ledger.journal
     pub whole : (s : ℕ) → IsWhole (in_lane (slots_sent a l c) s (line_sent a l c)) (in_lane (slots_sent a l c) s (marks_on c a.ledger.journal ++ line_held a l c))
     pub ends : Exits (start_of a) (slots_sent a l c) a.came c (is_open c (settled_by (start_of a) a.came).queues) (ways_on c a.ledger.journal ++ ways c (leaving a))
+    pub held_are : HeldAreMessages a l c
+    pub live : IsLiveByPlace a c
 
   -- ---- verdicts and commands
 

@@ -3,7 +3,7 @@
 //! What it promises (`KeepsLedger` in `specs/Kept.antt`), wherever each stage stands to what it took and gave as its calls promise,
 //! and took in order what the one before it gave:
 //! - each connection's carried messages have one fate each, and within each slot from the first, in the order sent, none after
-//!   its end, and nothing is lost;
+//!   its end, and nothing is lost; what is held of it is messages; and what is live of it is so by its place;
 //! - each fate has its cause among what came, each taken envelope its quorum set, and each verdict is the first that fits;
 //! - slots 1 to n are applied once each, in order, each with its slot's one decision, certified by a quorum or named by a taken
 //!   record; and the state is their fold.

@@ -1,5 +1,5 @@
 -- The applier: one thing more.
-use Rattle.std.proofs.Common.{◌≡◌, ℕ, false, List, [], ◌∷◌, ◌++◌, refl, sym, ◌∙◌, ap, subst, append_assoc}
+use Rattle.std.proofs.Common.{◌≡◌, ℕ, false, List, [], ◌∷◌, ◌++◌, sym, ◌∙◌, ap, subst, append_assoc}
 use Rattle.std.specs.Prelude.{Option}
 use Rattle.std.specs.List.Sorted.{IsPermutation}
 use Rattle.std.proofs.lemmas.List.{append-nil}
@@ -9,8 +9,7 @@ use Rattle.scp_wire.specs.declared.message.Message.{Message}
 use Rattle.scp_ledger.specs.declared.journal.Decision.{Decision}
 use Rattle.scp_ledger.specs.declared.took.Onward.{Onward}
 use Rattle.scp_ledger.specs.declared.took.Onward.TheVariants.{Decided, Asked}
-use Rattle.scp_ledger.specs.Onwards.{decision_on, decisions_on, MaySend, KeepsWindow}
-use Rattle.scp_ledger.proofs.Journaling.{kept_last}
+use Rattle.scp_ledger.specs.Onwards.{decision_on, decisions_on, MaySend, WindowIsKept}
 use Rattle.scp_apply.specs.Applier.{ApplierView, IsApplier, IsRunning, CanTake}
 use Rattle.scp_apply.specs.Applier.{Takes as ApplierTakes}
 use Rattle.scp_apply.specs.Applies.{Applies, AppliesPass, ApplierKeepsUp}
@@ -49,8 +48,8 @@ applies_pass = record {
   passes = λ took old x answer new takes known running a. applies_step took old x answer new takes known (running (applies_runs old x answer new a.runs takes)) a;
 }
 
-pub applier_keeps_up : ApplierKeepsUp
-applier_keeps_up = λ took v x a k. by_thing took v x a (kept_last took x k)
+pub applier_keeps_up : WindowIsKept → ApplierKeepsUp
+applier_keeps_up window = λ took v x a k. by_thing took v x a (window.last took x k)
   where
     by_thing : (took : List Onward) (v : ApplierView) (x : Onward) → Applies took v → MaySend took x → CanTake v x
     by_thing took v (Decided d) a may = next_can_be_taken v (decisions_on took) d a.known a.running a.shared_out may

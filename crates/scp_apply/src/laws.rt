@@ -2,6 +2,8 @@
 ghost use Rattle.scp_apply.specs.Applies.{ApplierKeepsUp, AppliesPass};
 ghost use Rattle.scp_apply.specs.Laws.{NextCanBeTaken};
 
+use scp_ledger::a_beginning_keeps_the_window;
+
 /// An applier that took the decisions of a ledger in their order can take the next one: where what it applied and buffers is
 /// just what the ledger decided before.
 pub fn the_next_decision_can_be_taken()
@@ -13,4 +15,6 @@ pub fn the_next_decision_can_be_taken()
 pub fn what_holds_of_an_applier_holds_with_one_thing_more()
     ensures passes { AppliesPass }
     ensures keeps_up { ApplierKeepsUp }
-{}
+{
+    a_beginning_keeps_the_window();
+}

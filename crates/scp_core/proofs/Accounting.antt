@@ -8,18 +8,15 @@ use Rattle.scp_wire.specs.declared.link.Inbound.{Inbound}
 use Rattle.scp_wire.specs.LinkReading.{readings}
 use Rattle.scp_wire.specs.Shape.{of_peer}
 use Rattle.scp_account.specs.Account.{Account, Ran}
-use Rattle.scp_account.specs.Kept.{KeepsLedger, RanKeepsLedger}
+use Rattle.scp_account.specs.Kept.{KeepsLedger}
 use Rattle.scp_core.specs.Flow.{Flows}
 use Rattle.scp_core.specs.History.{Past, readings_of, read_so_far}
 use Rattle.scp_core.specs.Ledger.{upcoming_of}
 use Rattle.scp_core.specs.Node.{LinkView, NodeView}
 use Rattle.scp_core.proofs.Deciding.{level_by, combined_by, place_by}
+use Rattle.scp_core.proofs.Below.{ReadLaws, Laws}
 use Rattle.scp_core.proofs.Links.{whole, front}
 use Rattle.scp_core.proofs.Queues.{within, there_is}
-
--- the law below, of this node's driver
-abbrev pub KvKeeps : Type 0
-KvKeeps = RanKeepsLedger level_by combined_by place_by
 
 abbrev pub account_at : Past → NodeView → List Inbound → Account KvDriver
 account_at p v came = record {
@@ -42,24 +39,24 @@ link_at : (p : Past) (v : NodeView) (f : Flows p v) (l : ℕ) (peer : NodeId) �
 link_at p v f l peer at = there_is v.links l (rw f.count (within v.config.peers l peer at))
 
 -- what is read of all that was sent over a link: what came of it, and then what comes yet
-read_at : (p : Past) (v : NodeView) (f : Flows p v) (l : ℕ) (peer : NodeId) → slice_get v.config.peers l ≡ Some peer → readings_of (p.links l) ≡ of_peer peer (f.arrived ++ v.inbox) ++ upcoming_of (slice_get v.links l)
-read_at p v f l peer at =
+read_at : ReadLaws → (p : Past) (v : NodeView) (f : Flows p v) (l : ℕ) (peer : NodeId) → slice_get v.config.peers l ≡ Some peer → readings_of (p.links l) ≡ of_peer peer (f.arrived ++ v.inbox) ++ upcoming_of (slice_get v.links l)
+read_at read p v f l peer at =
     let link = link_at p v f l peer at in
     let k = link.0 in
     let o = p.links l in
     let g = f.links l k link.1 peer at in
     let came : List Inbound = of_peer peer (f.arrived ++ v.inbox) in
-    let given : take o.given (read_so_far o) ≡ came = sym (front v.config.me peer v.config.capacities.link o k g) ∙ sym (f.came l peer at) ∙ ap (of_peer peer) f.inbox in
+    let given : take o.given (read_so_far o) ≡ came = sym (front read v.config.me peer v.config.capacities.link o k g) ∙ sym (f.came l peer at) ∙ ap (of_peer peer) f.inbox in
     let far : read_so_far o ≡ came ++ k.hand = sym (take-append-drop o.given (read_so_far o)) ∙ ap (λ (xs : List Inbound). xs ++ drop o.given (read_so_far o)) given ∙ ap (λ (xs : List Inbound). came ++ xs) (sym g.hand) in
-    whole v.config.me peer v.config.capacities.link o k g
+    whole read v.config.me peer v.config.capacities.link o k g
     ∙ ap (λ (xs : List Inbound). xs ++ readings k.reader k.queue) far
     ∙ append_assoc came k.hand (readings k.reader k.queue)
     ∙ ap (λ (xs : List Inbound). came ++ xs) (sym (ap upcoming_of link.1))
 
-ran : (p : Past) (v : NodeView) (f : Flows p v) → Ran level_by combined_by place_by (account_at p v f.arrived)
-ran p v f = record {
+ran : ReadLaws → (p : Past) (v : NodeView) (f : Flows p v) → Ran level_by combined_by place_by (account_at p v f.arrived)
+ran laws p v f = record {
   links = λ l peer at. let link = link_at p v f l peer at in (f.links l link.0 link.1 peer at).shape;
-  read = λ l peer at. read_at p v f l peer at;
+  read = λ l peer at. read_at laws p v f l peer at;
   local = f.local;
   given = f.given;
   pends = f.pending;
@@ -73,5 +70,5 @@ ran p v f = record {
 }
 
 -- so it keeps the ledger
-pub kept_at : KvKeeps → (p : Past) (v : NodeView) (f : Flows p v) → KeepsLedger level_by combined_by (account_at p v f.arrived)
-kept_at law p v f = law (account_at p v f.arrived) (ran p v f)
+pub kept_at : Laws → (p : Past) (v : NodeView) (f : Flows p v) → KeepsLedger level_by combined_by (account_at p v f.arrived)
+kept_at law p v f = law.ran (account_at p v f.arrived) (ran law.read p v f)

@@ -17,16 +17,14 @@ use Rattle.scp_ledger.specs.declared.took.Onward.{Onward}
 use Rattle.scp_ledger.specs.declared.took.Onward.TheVariants.{Decided, Asked}
 use Rattle.scp_ledger.specs.declared.took.Took.{Took}
 use Rattle.scp_ledger.specs.Decisions.{AreInWindow, IsNext}
-use Rattle.scp_ledger.specs.Journals.{IsToAll, Grows}
+use Rattle.scp_ledger.specs.Journals.{IsToAll, TakesGrow, JournalsPass}
 use Rattle.scp_ledger.specs.Ledger.{IsLedger}
 use Rattle.scp_ledger.specs.Onwards.{decision_on, decisions_on}
 use Rattle.scp_ledger.specs.Runs.{nothing_taken}
-use Rattle.scp_ledger.proofs.Journaling.{takes_grow, journals_pass}
 use Rattle.scp_apply.specs.Applier.{ApplierView, IsApplier, IsRunning, CanTake}
 use Rattle.scp_apply.specs.Applier.{Takes as ApplierTakes}
-use Rattle.scp_apply.specs.Applies.{Applies}
+use Rattle.scp_apply.specs.Applies.{Applies, AppliesPass}
 use Rattle.scp_apply.specs.Laws.{NextCanBeTaken}
-use Rattle.scp_apply.proofs.Taking.{applies_pass}
 use Rattle.scp_core.specs.Stages.{KvLedger, KvTakes, KvRuns, KvJournals}
 use Rattle.scp_core.specs.inside.Decider.{DeciderView, IsSound}
 use Rattle.scp_core.specs.inside.Stage.{shown, Shows}
@@ -42,16 +40,21 @@ combined_by driver slot values = greatest values
 abbrev pub place_by : KvDriver → ℕ → ℕ → ℕ → ℕ
 place_by driver slot round n = leader_place slot round n
 
-grown : (old : KvLedger) (x : Ready) (t : Took) (new : KvLedger) → KvTakes old x t new → Grows old t new
-grown = takes_grow level_by combined_by place_by
+-- a ledger grows by what it takes
+abbrev pub KvGrow : Type 0
+KvGrow = TakesGrow level_by combined_by
+
+-- and what holds of it holds with one thing more
+abbrev pub KvPass : Type 0
+KvPass = JournalsPass level_by combined_by place_by
 
 -- a ledger that runs and takes a thing runs on
-pub runs_on : (old : KvLedger) (x : Ready) (t : Took) (new : KvLedger) → old.failed ≡ false → KvTakes old x t new → new.failed ≡ false
-runs_on old x t new runs takes = (grown old x t new takes).runs ∙ runs
+pub runs_on : KvGrow → (old : KvLedger) (x : Ready) (t : Took) (new : KvLedger) → old.failed ≡ false → KvTakes old x t new → new.failed ≡ false
+runs_on grown old x t new runs takes = (grown old x t new takes).runs ∙ runs
 
 -- what a ledger shows of before a thing was taken, where the thing made it hand out own statements
-pub shown_before : (v : KvLedger) (x : Ready) (t : Took) (new : KvLedger) → KvTakes v x t new → Any IsToAll t.outgoing → Shows v (shown (Some (record { journal = length v.journal; decisions = length v.decisions })) new)
-shown_before v x t new takes out =
+pub shown_before : KvGrow → (v : KvLedger) (x : Ready) (t : Took) (new : KvLedger) → KvTakes v x t new → Any IsToAll t.outgoing → Shows v (shown (Some (record { journal = length v.journal; decisions = length v.decisions })) new)
+shown_before grown v x t new takes out =
     let g = grown v x t new takes in
     (ap (take (length v.journal)) g.journal ∙ take_front v.journal g.fates, ap (take (length v.decisions)) g.decisions ∙ take_front v.decisions (decisions_on (option_to_list t.onward)), g.asked out)
   where
@@ -59,11 +62,11 @@ shown_before v x t new takes out =
     take_front [] ys = refl
     take_front (y ∷ xs) ys = ap (λ zs. y ∷ zs) (take_front xs ys)
 
-pub journals_begin : (me : NodeId) (local : QuorumTree) (peers : List NodeId) (v : KvLedger) → v ≡ nothing_taken me local v.driver peers → IsLedger v → KvRuns v → KvJournals me local peers [] [] v
-journals_begin = (journals_pass level_by combined_by place_by).begins
+pub journals_begin : KvPass → (me : NodeId) (local : QuorumTree) (peers : List NodeId) (v : KvLedger) → v ≡ nothing_taken me local v.driver peers → IsLedger v → KvRuns v → KvJournals me local peers [] [] v
+journals_begin law = law.begins
 
-pub journals_step : (me : NodeId) (local : QuorumTree) (peers : List NodeId) (took : List Ready) (onwards : List Onward) (old : KvLedger) (x : Ready) (t : Took) (new : KvLedger) → KvTakes old x t new → IsLedger new → KvRuns new → KvJournals me local peers took onwards old → KvJournals me local peers (took ++ x ∷ []) (onwards ++ option_to_list t.onward) new
-journals_step me local peers took onwards old x t new takes known running j = (journals_pass level_by combined_by place_by).passes me local peers old x t new takes known (λ runs. running) took onwards j
+pub journals_step : KvPass → (me : NodeId) (local : QuorumTree) (peers : List NodeId) (took : List Ready) (onwards : List Onward) (old : KvLedger) (x : Ready) (t : Took) (new : KvLedger) → KvTakes old x t new → IsLedger new → KvRuns new → KvJournals me local peers took onwards old → KvJournals me local peers (took ++ x ∷ []) (onwards ++ option_to_list t.onward) new
+journals_step law me local peers took onwards old x t new takes known running j = law.passes me local peers old x t new takes known (λ runs. running) took onwards j
 
 -- ---- the applier
 
@@ -73,13 +76,13 @@ one_more taken applied buffer rest d p q =
     (subst (λ (xs : List Decision). IsPermutation (taken ++ d ∷ []) xs) (append_assoc applied buffer (d ∷ [])) (IsPermutation-append taken (applied ++ buffer) (d ∷ []) (d ∷ []) p (IsPermutation-refl (d ∷ []))))
     q
 
-pub applies_step : (took : List Onward) (old : ApplierView) (x : Onward) (answer : Option (ℕ × Message)) (new : ApplierView) → ApplierTakes old x answer new → IsApplier new → IsRunning new → Applies took old → Applies (took ++ x ∷ []) new
-applies_step took old x answer new takes known running a = applies_pass.passes took old x answer new takes known (λ runs. running) a
+pub applies_step : AppliesPass → (took : List Onward) (old : ApplierView) (x : Onward) (answer : Option (ℕ × Message)) (new : ApplierView) → ApplierTakes old x answer new → IsApplier new → IsRunning new → Applies took old → Applies (took ++ x ∷ []) new
+applies_step law took old x answer new takes known running a = law.passes took old x answer new takes known (λ runs. running) a
 
 -- ---- what the code keeps
 
-pub sound_take : (v : DeciderView) (x : Ready) (t : Took) (new : KvLedger) → v.hand ≡ None → KvTakes v.ledger x t new → IsLedger new → KvRuns new → IsSound v → IsSound (record v { ledger = new; hand = t.onward })
-sound_take v x t new empty takes known running s =
+pub sound_take : KvGrow → (v : DeciderView) (x : Ready) (t : Took) (new : KvLedger) → v.hand ≡ None → KvTakes v.ledger x t new → IsLedger new → KvRuns new → IsSound v → IsSound (record v { ledger = new; hand = t.onward })
+sound_take grown v x t new empty takes known running s =
     let g = grown v.ledger x t new takes in
     let queue : List Decision = decisions_on v.queue in
     let before : v.ledger.decisions ≡ s.taken ++ queue = s.decided ∙ ap (λ (o : Option Onward). s.taken ++ decisions_on (v.queue ++ option_to_list o)) empty ∙ ap (λ os. s.taken ++ decisions_on os) (append-nil v.queue) in

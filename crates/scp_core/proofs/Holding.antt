@@ -10,6 +10,7 @@ use Rattle.scp_core.specs.History.{Exchange, Past, hears, accepts, moves, past_o
 use Rattle.scp_core.specs.Node.{NodeView, Accepts, Moves, SendsOut, Step, Keeps, Fails}
 use Rattle.scp_core.specs.Flow.{Flows}
 use Rattle.scp_core.specs.Theorem.{IsReply, AreSteps, LedgerTheorem, StepsKeep}
+use Rattle.scp_core.proofs.Below.{StepLaws}
 use Rattle.scp_core.proofs.Steps.{Flows-failed, Flows-accepts, Flows-moves, Flows-sends}
 
 abbrev SameConfig : NodeView → NodeView → Type 0
@@ -122,36 +123,36 @@ fails past old new event reply fail f s h =
     true_isnt : true ≡ false → ⊥
     true_isnt e = cc
 
-holds : (past : List Exchange) (old new : NodeView) (event : Event) (reply : Reply) → Step old event reply new → LedgerTheorem past old → LedgerTheorem (past ++ (event, reply) ∷ []) new
-holds past old new event Failed s h =
+holds : StepLaws → (past : List Exchange) (old new : NodeView) (event : Event) (reply : Reply) → Step old event reply new → LedgerTheorem past old → LedgerTheorem (past ++ (event, reply) ∷ []) new
+holds laws past old new event Failed s h =
     build past old new event Failed (same-view old new old refl s.1) h (inl (sym h.failed ∙ s.0, refl, s.1)) (ap (λ (v : NodeView). v.failed) s.1 ∙ h.failed)
     h.moment h.flows (λ n. s.1 ∙ h.now (sym (ap (λ (v : NodeView). v.failed) s.1) ∙ n)) (subst (λ (v : NodeView). Keeps h.moment v) (sym s.1) h.keeps)
-holds past old new event Accepted s h =
+holds laws past old new event Accepted s h =
     let k = ran past old s.0 h in
     build past old new event Accepted (accepts-config old new event s.1) h (is-reply _ old new event Accepted k s)
     (accepts-runs old new event s.1 ∙ h.failed ∙ sym (past-runs old.config (past_of old.config past) event))
-    new (Flows-accepts (past_of old.config past) old new event s.1 k.flows) (λ _. refl) (keeps-refl new)
-holds past old new event Moved s h =
+    new (Flows-accepts laws (past_of old.config past) old new event s.1 k.flows) (λ _. refl) (keeps-refl new)
+holds laws past old new event Moved s h =
     let k = ran past old s.0 h in
-    let f = Flows-moves (past_of old.config past) old new event s.1 k.flows in
+    let f = Flows-moves laws (past_of old.config past) old new event s.1 k.flows in
     build past old new event Moved (moves-config old new event s.1) h (is-reply _ old new event Moved k s)
     (f.runs ∙ sym (past-goes (past_of old.config past) event ∙ k.past))
     new f (λ _. refl) (keeps-refl new)
-holds past old new event (Sent bytes) s h =
+holds laws past old new event (Sent bytes) s h =
     let k = ran past old s.0 h in
-    let f = Flows-sends (past_of old.config past) old new event bytes s.1 k.flows in
+    let f = Flows-sends laws (past_of old.config past) old new event bytes s.1 k.flows in
     build past old new event (Sent bytes) (sends-config old new event bytes s.1) h (is-reply _ old new event (Sent bytes) k s)
     (f.runs ∙ sym k.past)
     new f (λ _. refl) (keeps-refl new)
-holds past old new event JournalFull s h = fails past old new event JournalFull (λ p. refl) s.0 s h
-holds past old new event NoMemory s h = fails past old new event NoMemory (λ p. refl) s.0 s h
-holds past old new event NoLink s h = stays past old new event NoLink (λ p. refl) s.0 s.2 s h
-holds past old new event AlreadyOpen s h = stays past old new event AlreadyOpen (λ p. refl) s.0 s.2 s h
-holds past old new event LivesSpent s h = stays past old new event LivesSpent (λ p. refl) s.0 s.2 s h
-holds past old new event NotOpen s h = stays past old new event NotOpen (λ p. refl) s.0 s.2 s h
-holds past old new event Full s h = stays past old new event Full (λ p. refl) s.0 s.2 s h
-holds past old new event Blocked s h = stays past old new event Blocked (λ p. refl) s.0 s.2 s h
-holds past old new event Idle s h = stays past old new event Idle (λ p. refl) s.0 s.2 s h
+holds laws past old new event JournalFull s h = fails past old new event JournalFull (λ p. refl) s.0 s h
+holds laws past old new event NoMemory s h = fails past old new event NoMemory (λ p. refl) s.0 s h
+holds laws past old new event NoLink s h = stays past old new event NoLink (λ p. refl) s.0 s.2 s h
+holds laws past old new event AlreadyOpen s h = stays past old new event AlreadyOpen (λ p. refl) s.0 s.2 s h
+holds laws past old new event LivesSpent s h = stays past old new event LivesSpent (λ p. refl) s.0 s.2 s h
+holds laws past old new event NotOpen s h = stays past old new event NotOpen (λ p. refl) s.0 s.2 s h
+holds laws past old new event Full s h = stays past old new event Full (λ p. refl) s.0 s.2 s h
+holds laws past old new event Blocked s h = stays past old new event Blocked (λ p. refl) s.0 s.2 s h
+holds laws past old new event Idle s h = stays past old new event Idle (λ p. refl) s.0 s.2 s h
 
-pub steps_keep : StepsKeep
-steps_keep = λ past old new event reply s h. holds past old new event reply s h
+pub steps_keep : StepLaws → StepsKeep
+steps_keep laws = λ past old new event reply s h. holds laws past old new event reply s h

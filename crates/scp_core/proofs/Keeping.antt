@@ -10,7 +10,8 @@ use Rattle.scp_core.specs.Ledger.{account_of, HoldsLedger, TheoremGivesLedger}
 use Rattle.scp_core.specs.Node.{NodeView}
 use Rattle.scp_core.specs.Sent.{IsSentOut, grounds_of, sent_to}
 use Rattle.scp_core.specs.Theorem.{AreSteps, LedgerTheorem}
-use Rattle.scp_core.proofs.Accounting.{KvKeeps, kept_at}
+use Rattle.scp_core.proofs.Accounting.{kept_at}
+use Rattle.scp_core.proofs.Below.{Laws}
 use Rattle.scp_core.proofs.Failing.{Failure, failure_of, which}
 use Rattle.scp_core.proofs.grounds.All.{sent_at, sent_before}
 
@@ -21,7 +22,7 @@ record Kept (past : List Exchange) (v : NodeView) : Type 0 where
   keeps : KeepsLedger (λ driver slot value. kv_level value) (λ driver slot values. greatest values) (account_of past v came)
   sent : (link : ℕ) → IsSentOut (grounds_of v came) link (sent_to link past)
 
-kept : KvKeeps → (past : List Exchange) (v : NodeView) → LedgerTheorem past v → v.failed ≡ false → Kept past v
+kept : Laws → (past : List Exchange) (v : NodeView) → LedgerTheorem past v → v.failed ≡ false → Kept past v
 kept law past v h runs =
     let f : Flows (past_of v.config past) v = subst (λ (w : NodeView). Flows (past_of v.config past) w) (sym (h.now runs)) h.flows in
     record {
@@ -31,7 +32,7 @@ kept law past v h runs =
       sent = sent_at law past v h f;
     }
 
-of_running : KvKeeps → (past : List Exchange) (v : NodeView) → LedgerTheorem past v → v.failed ≡ false → HoldsLedger past v
+of_running : Laws → (past : List Exchange) (v : NodeView) → LedgerTheorem past v → v.failed ≡ false → HoldsLedger past v
 of_running law past v h runs =
     let k = kept law past v h runs in
     record {
@@ -48,7 +49,7 @@ of_running law past v h runs =
       sent = k.sent;
     }
 
-of_failed : KvKeeps → (past : List Exchange) (v : NodeView) → v.failed ≡ true → Failure past v → HoldsLedger past v
+of_failed : Laws → (past : List Exchange) (v : NodeView) → v.failed ≡ true → Failure past v → HoldsLedger past v
 of_failed law past v failed x =
     let k = kept law x.earlier x.moment x.theorem x.fails.was in
     let left = x.fails.keeps in
@@ -66,7 +67,7 @@ of_failed law past v failed x =
       sent = λ link. subst (λ (bytes : List (List ℕ)). IsSentOut (grounds_of x.moment k.came) link bytes) (sym (ap (sent_to link) x.is ∙ sent_before link x.earlier x.later x.event x.reply x.reply_fails x.silent_then)) (k.sent link);
     }
 
-pub theorem_gives_ledger : KvKeeps → TheoremGivesLedger
+pub theorem_gives_ledger : Laws → TheoremGivesLedger
 theorem_gives_ledger law = λ past v h. elim (which v.failed) [
   | inl failed ↦ of_failed law past v failed (failure_of past v h failed)
   | inr runs ↦ of_running law past v h runs

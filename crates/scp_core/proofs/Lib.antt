@@ -1,6 +1,7 @@
 pub mod Queues
-pub mod Links
 pub mod Deciding
+pub mod Below
+pub mod Links
 pub mod Staging
 pub mod Steps
 pub mod Holding

@@ -17,7 +17,7 @@ use Rattle.scp_core.specs.declared.stage.Shown.{Shown}
 use Rattle.scp_core.specs.Stages.{KvLedger, KvTakes, KvRuns}
 use Rattle.scp_core.specs.Node.{HandsOne, HandsEach}
 use Rattle.scp_core.specs.inside.Stage.{shown, Shows, TakesOut}
-use Rattle.scp_core.proofs.Deciding.{shown_before, runs_on}
+use Rattle.scp_core.proofs.Deciding.{KvGrow, shown_before, runs_on}
 
 true_isnt : true ≡ false → ⊥
 true_isnt e = cc
@@ -33,21 +33,21 @@ refused_shows None before now runs h = h
 refused_shows (Some so_much) before now runs h = absurd (true_isnt runs)
 
 -- where a copy is refused, the ledger is shown as before
-pub cut_shows : (cut : Option Shown) (before : KvLedger) (x : Ready) (t : Took) (now : KvLedger) (journal decisions : ℕ) → (shown cut before).failed ≡ false → journal ≡ length before.journal → decisions ≡ length before.decisions → KvTakes before x t now → Any IsToAll t.outgoing → Shows (shown cut before) (shown (Some (record { journal = journal; decisions = decisions })) now)
-cut_shows cut before x t now journal decisions runs j d takes out =
+pub cut_shows : KvGrow → (cut : Option Shown) (before : KvLedger) (x : Ready) (t : Took) (now : KvLedger) (journal decisions : ℕ) → (shown cut before).failed ≡ false → journal ≡ length before.journal → decisions ≡ length before.decisions → KvTakes before x t now → Any IsToAll t.outgoing → Shows (shown cut before) (shown (Some (record { journal = journal; decisions = decisions })) now)
+cut_shows grown cut before x t now journal decisions runs j d takes out =
     subst (λ (v : KvLedger). Shows v (shown (Some (record { journal = journal; decisions = decisions })) now)) (sym (all_is_shown cut before before runs))
     (subst (λ n. Shows before (shown (Some (record { journal = n; decisions = decisions })) now)) (sym j)
-    (subst (λ n. Shows before (shown (Some (record { journal = length before.journal; decisions = n })) now)) (sym d) (shown_before before x t now takes out)))
+    (subst (λ n. Shows before (shown (Some (record { journal = length before.journal; decisions = n })) now)) (sym d) (shown_before grown before x t now takes out)))
 
 -- what is taken is taken of all that is shown
-pub takes_out : (cut : Option Shown) (before : KvLedger) (boxes : List OutboxView) (x : Ready) (t : Took) (now : KvLedger) (boxes2 : List OutboxView) → (shown cut before).failed ≡ false → KvTakes before x t now → IsLedger now → (now.failed ≡ false → KvRuns now) → HandsEach boxes t.outgoing boxes2 → TakesOut (shown cut before) boxes x t.onward (shown cut now) boxes2
-takes_out cut before boxes x t now boxes2 runs takes known running hands =
+pub takes_out : KvGrow → (cut : Option Shown) (before : KvLedger) (boxes : List OutboxView) (x : Ready) (t : Took) (now : KvLedger) (boxes2 : List OutboxView) → (shown cut before).failed ≡ false → KvTakes before x t now → IsLedger now → (now.failed ≡ false → KvRuns now) → HandsEach boxes t.outgoing boxes2 → TakesOut (shown cut before) boxes x t.onward (shown cut now) boxes2
+takes_out grown cut before boxes x t now boxes2 runs takes known running hands =
     let was : shown cut before ≡ before = all_is_shown cut before before runs in
     let is : shown cut now ≡ now = all_is_shown cut before now runs in
     let failed : before.failed ≡ false = ap (λ (v : KvLedger). v.failed) (sym was) ∙ runs in
     subst (λ (v : KvLedger). TakesOut v boxes x t.onward (shown cut now) boxes2) (sym was)
     (subst (λ (v : KvLedger). TakesOut before boxes x t.onward v boxes2) (sym is)
-    (record { took = t; takes = takes; onward_is = refl; known = known; running = running (runs_on before x t now failed takes); hands = hands }))
+    (record { took = t; takes = takes; onward_is = refl; known = known; running = running (runs_on grown before x t now failed takes); hands = hands }))
 
 abbrev taken_as : Took → Result Took Fault
 taken_as t = Ok t

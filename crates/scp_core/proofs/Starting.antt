@@ -10,7 +10,7 @@ use Rattle.scp_core.specs.Node.{LinkView, NodeView, new_link}
 use Rattle.scp_core.specs.Flow.{LinkFlows, Flows, AreApart}
 use Rattle.scp_core.specs.Theorem.{LedgerTheorem}
 use Rattle.scp_core.specs.inside.Starting.{IsNew}
-use Rattle.scp_core.proofs.Deciding.{journals_begin}
+use Rattle.scp_core.proofs.Deciding.{KvPass, journals_begin}
 use Rattle.scp_core.proofs.Steps.{same_node-refl}
 
 pub replicate-push : {X : Type 0} (n : ℕ) (x : X) → replicate n x ++ x ∷ [] ≡ replicate (suc n) x
@@ -66,8 +66,8 @@ apart : (peers : List NodeId) → are_apart peers ≡ true → AreApart peers
 apart [] e = λ l m peer a b. absurd cc
 apart (p ∷ ps) e = λ l m peer a b. by_places p ps e (apart ps (last_and (not (is_among p ps)) (are_apart ps) e)) l m peer a b
 
-starts : (v : NodeView) → IsNew v → Flows nothing_heard v
-starts v n = record {
+starts : KvPass → (v : NodeView) → IsNew v → Flows nothing_heard v
+starts law v n = record {
   runs = n.runs;
   rooms = (n.inbox.1, n.ready.1, n.decided.1);
   count = ap length n.links ∙ length-replicate' (length v.config.peers) (new_link v.config.capacities.link);
@@ -82,7 +82,7 @@ starts v n = record {
   took = [];
   ready = rw (n.ready.0, n.hands.0) refl;
   onwards = [];
-  journal = journals_begin v.config.me v.config.set v.config.peers v.ledger n.ledger n.known n.deciding;
+  journal = journals_begin law v.config.me v.config.set v.config.peers v.ledger n.ledger n.known n.deciding;
   applied = [];
   decided = rw (n.decided.0, n.hands.1) refl;
   applier = n.applier;
@@ -90,8 +90,8 @@ starts v n = record {
   decided_count = omega (arith, ap length n.decided.0);
 }
 
-pub new_holds : (v : NodeView) → IsNew v → LedgerTheorem [] v
-new_holds v n = record { first = v; made = n.made; replies = refl; failed = n.runs; moment = v; flows = starts v n; now = λ _. refl; keeps = record { config = refl; journal = refl; decisions = refl; asked = refl; applied = refl; lives = refl } }
+pub new_holds : KvPass → (v : NodeView) → IsNew v → LedgerTheorem [] v
+new_holds law v n = record { first = v; made = n.made; replies = refl; failed = n.runs; moment = v; flows = starts law v n; now = λ _. refl; keeps = record { config = refl; journal = refl; decisions = refl; asked = refl; applied = refl; lives = refl } }
 
 pub if_ok : {X Y : Type 0} (P Q : X → Type 0) (r : Result X Y) → ((x : X) → P x → Q x) → IfOk r P → IfOk r Q
 if_ok P Q (Ok x) f h = f x h

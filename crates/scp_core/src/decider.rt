@@ -9,8 +9,9 @@ use crate::stage::SlotStage;
 use crate::stop::Stop;
 use circular_buffer::HeapCircularBuffer;
 use scp_apply::{Applier, the_next_decision_can_be_taken};
+use scp_driver::KvDriver;
 use scp_kv::KvState;
-use scp_ledger::{Fate, Onward, SharedDecision};
+use scp_ledger::{Fate, Onward, SharedDecision, what_holds_of_a_ledger_holds_with_one_thing_more};
 use scp_pending::Ready;
 use scp_quorum::SaneSet;
 use scp_sent::Outboxes;
@@ -127,6 +128,7 @@ impl Decider {
         requires empty { self.old.hand ≡ None }
         ensures { Decides self.old outboxes.old ready result self.new outboxes.new }
     {
+        what_holds_of_a_ledger_holds_with_one_thing_more::<KvDriver>();
         match self.stage.take(ready, outboxes) {
             Ok(onward) => {
                 self.hand = onward;

@@ -6,12 +6,29 @@ ghost use Rattle.scp_core.specs.Settled.{IdleIsSettled};
 ghost use Rattle.scp_core.specs.Handed.{StepsPutAll, DrainsGiveNext, RepliesFit};
 
 use scp_account::what_ran_keeps_the_ledger;
+use scp_apply::what_holds_of_an_applier_holds_with_one_thing_more;
 use scp_driver::KvDriver;
+use scp_ledger::what_holds_of_a_ledger_holds_with_one_thing_more;
+use scp_pending::{
+    nothing_is_of_a_stranger, the_last_sets_are_stored, what_is_replied_was_asked_for,
+    who_it_is_stays,
+};
+use scp_sent::{what_fits_a_link, what_is_sent_was_handed_out};
+use scp_wire::{
+    a_beginning_keeps_the_shape, what_is_read_grows_with_the_items, what_is_read_keeps_the_shape,
+};
 
 /// What holds of a list of exchanges and the node holds of the list with one step more.
 pub fn what_holds_of_a_past_holds_with_one_step_more()
     ensures { StepsKeep }
-{}
+{
+    what_is_read_grows_with_the_items();
+    what_is_read_keeps_the_shape();
+    a_beginning_keeps_the_shape();
+    who_it_is_stays();
+    what_holds_of_a_ledger_holds_with_one_thing_more::<KvDriver>();
+    what_holds_of_an_applier_holds_with_one_thing_more();
+}
 
 /// The node holds its ledger: each message has one fate, each fate and each verdict its cause, each decision its ground, the
 /// state is the fold of the applied values, and all that was sent has its ground.
@@ -19,6 +36,13 @@ pub fn each_node_holds_its_ledger()
     ensures ledger { TheoremGivesLedger }
 {
     what_ran_keeps_the_ledger::<KvDriver>();
+    what_is_read_grows_with_the_items();
+    what_is_read_keeps_the_shape();
+    a_beginning_keeps_the_shape();
+    who_it_is_stays();
+    nothing_is_of_a_stranger();
+    what_is_replied_was_asked_for();
+    what_is_sent_was_handed_out();
 }
 
 /// Where the pending stage answers Idle nothing is ready, and the head of each lane that it holds is an envelope that waits for
@@ -37,7 +61,11 @@ pub fn queues_hold_what_was_put_and_not_taken()
 /// Whatever the pending stage replies fits a link: a request for a quorum set, a sane one, or the answer that there is none.
 pub fn whatever_is_replied_fits()
     ensures fits { RepliesFit }
-{}
+{
+    what_fits_a_link();
+    what_is_replied_was_asked_for();
+    the_last_sets_are_stored();
+}
 
 /// Each step puts what its stage hands out into the outboxes of its links, in order, all but what is too long for a link; and
 /// a drain of a link gives what its outbox gives next, Idle where that is nothing.

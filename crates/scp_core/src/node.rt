@@ -12,11 +12,13 @@ use crate::config::{Capacities, Config, Peers, are_peers_apart, has_peer};
 use crate::decider::Decider;
 use crate::event::{Event, Reply};
 use crate::handing::{draw, hand_out};
+use crate::laws::what_holds_of_a_past_holds_with_one_step_more;
 use crate::link::{self, Link};
 use crate::queue;
 use circular_buffer::HeapCircularBuffer;
+use scp_driver::KvDriver;
 use scp_kv::KvState;
-use scp_ledger::{Fate, SharedDecision};
+use scp_ledger::{Fate, SharedDecision, what_holds_of_a_ledger_holds_with_one_thing_more};
 use scp_pending::{PEER_LIMIT, Pending, Ready};
 use scp_quorum::SaneSet;
 use scp_sent::Outboxes;
@@ -88,6 +90,7 @@ impl Node {
         ensures refused { result ≡ Err Fault.BadConfig ↔ ¬ (IsConfig config) }
         ensures only { IfErr result (λ f. (f ≡ Fault.BadConfig) ⊎ (f ≡ Fault.NoMemory)) }
     {
+        what_holds_of_a_ledger_holds_with_one_thing_more::<KvDriver>();
         let Config {
             me,
             set,
@@ -250,6 +253,7 @@ impl Node {
         ensures grows { (more : List Fate) × (self.new.ledger.journal ≡ self.old.ledger.journal ++ more) }
         ensures config { self.new.config ≡ self.old.config }
     {
+        what_holds_of_a_past_holds_with_one_step_more();
         self.perform(event)
     }
 

@@ -7,7 +7,10 @@ ghost use Rattle.scp_core.specs.inside.Stage.{TakesOut, new_ledger};
 
 use crate::handing::hand_out_all;
 use scp_driver::KvDriver;
-use scp_ledger::{Fate, JOURNAL_LIMIT, Ledger, Onward, SharedDecision};
+use scp_ledger::{
+    Fate, JOURNAL_LIMIT, Ledger, Onward, SharedDecision,
+    what_holds_of_a_ledger_holds_with_one_thing_more,
+};
 use scp_pending::Ready;
 use scp_quorum::SaneSet;
 use scp_sent::Outboxes;
@@ -86,6 +89,7 @@ impl SlotStage {
         ensures full { IsErrOf result Fault.JournalFull ↔ ((adds_entry ready ≡ true) × (length self.old.journal ≡ JOURNAL_LIMIT)) }
         ensures read { OnErr result ((self.new.journal ≡ self.old.journal) × (self.new.decisions ≡ self.old.decisions) × (self.new.asked ≡ self.old.asked)) }
     {
+        what_holds_of_a_ledger_holds_with_one_thing_more::<KvDriver>();
         let journal = self.ledger.journal().len();
         let decisions = self.ledger.decisions().len();
         let took = match self.ledger.take(ready) {

@@ -2,7 +2,7 @@ use crate::Courier;
 use scp_ends::{Item, LinkRx, link};
 use scp_envelope::{Envelope, Nominate, Pledges, Signature, Statement, ValueList};
 use scp_gate::{Gate, Moment, Open, Place};
-use scp_outbox::{FittingMessage, Mark, SharedOutbox};
+use scp_outbox::{FittingMessage, Mark, SharedOutbox, a_shared_outbox_crosses_threads};
 use scp_types::{Fault, Hash, NodeId, Slot, Value};
 use scp_wire::{BoxedEnvelope, LinkItem, Message, decode};
 use std::alloc::Global;
@@ -158,6 +158,7 @@ fn came_whole<R: Wait>(rt: &R, alloc: Global, rx: &mut LinkRx) -> bool {
 
 #[test]
 fn a_courier_carries_all_in_order(rt: HostRuntime) -> Result<(), Fail> {
+    a_shared_outbox_crosses_threads();
     let alloc = rt.alloc();
     let (tx, mut rx) = link(alloc, ME, PEER, 128).ok().expect(&rt, "a link");
     let outbox = filled(&rt, alloc)?.expect(&rt, "messages that fit");
@@ -181,6 +182,7 @@ fn a_courier_carries_all_in_order(rt: HostRuntime) -> Result<(), Fail> {
 
 #[test]
 fn a_courier_whose_link_is_gone_goes_on_to_the_stop(rt: HostRuntime) -> Result<(), Fail> {
+    a_shared_outbox_crosses_threads();
     let alloc = rt.alloc();
     let (tx, rx) = link(alloc, ME, PEER, 1).ok().expect(&rt, "a link");
     drop(rx);

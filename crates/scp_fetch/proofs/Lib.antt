@@ -1,3 +1,4 @@
 pub mod Tables
 pub mod Ring
 pub mod Storing
+pub mod Calls

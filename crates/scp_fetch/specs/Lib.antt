@@ -3,3 +3,4 @@ pub mod Store
 pub mod Ring
 pub mod Table
 pub mod Wants
+pub mod Calls

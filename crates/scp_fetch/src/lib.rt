@@ -12,10 +12,12 @@
 
 mod answers;
 mod fetcher;
+mod laws;
 mod store;
 mod waiters;
 mod want;
 
 pub use answers::{Answer, Missed};
 pub use fetcher::{Fetcher, LINK_LIMIT, MISS_LIMIT};
+pub use laws::a_link_counts_as_asked_by_the_calls;
 pub use store::{OTHER_SETS_LIMIT, SetStore};

@@ -1,5 +1,5 @@
 -- What follows where every worker of a node ended well.
-use Rattle.std.proofs.Common.{◌≡◌, ℕ, ◌+◌, ◌<◌, ◌≤◌, ◌==◌, inl, inr, ◌⊎◌, true, false, List, [], ◌∷◌, ◌++◌, refl, sym, ◌∙◌, ap, subst, arith, length, eq-eqb}
+use Rattle.std.proofs.Common.{◌≡◌, ℕ, ◌+◌, ◌<◌, inl, inr, List, [], ◌++◌, refl, sym, ◌∙◌, ap, subst, arith, length, eq-eqb}
 use Rattle.std.specs.Prelude.{Option, Some, IfSome, slice_get, filter}
 use Rattle.std.specs.List.{AllByRecursion}
 use Rattle.std.proofs.lemmas.List.{append-nil}
@@ -11,13 +11,13 @@ use Rattle.scp_driver.specs.Kv.{kv_level, greatest, leader_place}
 use Rattle.scp_driver.specs.declared.kv_driver.KvDriver.{KvDriver}
 use Rattle.scp_wire.specs.declared.carried.Carried.{Carried}
 use Rattle.scp_wire.specs.declared.link.Inbound.{Inbound}
-use Rattle.scp_wire.specs.declared.link.LinkItem.{LinkItem}
 use Rattle.scp_wire.specs.declared.message.Message.{Message}
 use Rattle.scp_wire.specs.Connections.{conn_at}
-use Rattle.scp_wire.specs.Lanes.{in_lane, EndsLast}
+use Rattle.scp_wire.specs.Lanes.{slots_of, in_lane, EndsLast, HaveSlots}
 use Rattle.scp_wire.specs.LinkReading.{unread, readings}
 use Rattle.scp_wire.specs.Marks.{Mark, messages_in, IsWhole}
-use Rattle.scp_wire.specs.ReaderLaws.{IsSent, ReadingsAreInOrder, ReadingsAreSent}
+use Rattle.scp_wire.specs.Parts.{IsNumbered, PeersSayAllOfTheirs, NumbersNameMessages}
+use Rattle.scp_wire.specs.ReaderLaws.{ReadingsAreInOrder, ReadingsAreSent}
 use Rattle.scp_wire.specs.Sent.{sent, carried_of}
 use Rattle.scp_wire.specs.Shape.{HasShape, Come, MayCome, AreInOrder, AreOfLink, never_open, nothing_came, of_peer, is_from}
 use Rattle.scp_pending.specs.declared.ready.Ready.{Ready}
@@ -25,10 +25,8 @@ use Rattle.scp_pending.specs.Causes.{IsSettledBy}
 use Rattle.scp_pending.specs.Laws.{AllAccounts}
 use Rattle.scp_pending.specs.Line.{Accounts, held, marks_of, marks_parked}
 use Rattle.scp_pending.specs.Messages.{AreParked, StandFor, ParkedStandFor, marks_of_messages}
-use Rattle.scp_pending.specs.Pends.{Pends, start_of}
+use Rattle.scp_pending.specs.Pends.{Pends, RestIsSettled, start_of}
 use Rattle.scp_pending.specs.Rules.{Settled, fresh}
-use Rattle.scp_pending.proofs.Numbered.{IsNumbered, messages_of_peer, numbered_right, numbered_all, slots_are}
-use Rattle.scp_pending.proofs.Passing.{IsSettled-of}
 use Rattle.scp_ledger.specs.declared.took.Onward.{Onward}
 use Rattle.scp_ledger.specs.Marks.{marks_of as marks_on}
 use Rattle.scp_account.specs.Account.{Account, Ran}
@@ -54,7 +52,10 @@ pub record Laws : Type 0 where
   pub ran : RanKeepsLedger {D = KvDriver} (λ driver slot value. kv_level value) (λ driver slot values. greatest values) (λ driver slot round n. leader_place slot round n)
   pub in_order : ReadingsAreInOrder
   pub sent_is : ReadingsAreSent
+  pub peers_say : PeersSayAllOfTheirs
+  pub numbers : NumbersNameMessages
   pub accounts : AllAccounts
+  pub settled : RestIsSettled
   pub parked : ParkedStandFor
 
 -- the stage of the node stands to what it took and gave
@@ -187,7 +188,7 @@ module _ (laws : Laws) (me : NodeId) (set : QuorumTree) (peers : List NodeId) (e
   start_is = ap (λ (q : QuorumTree). fresh me peers q) pends_for.local_is
 
   settled_is : IsSettledBy (fresh me peers set) came e.pend.view
-  settled_is = subst (λ (s : Settled). IsSettledBy s came e.pend.view) start_is (IsSettled-of me peers came took e.pend.view w.pends.nothing_ready pends_is)
+  settled_is = subst (λ (s : Settled). IsSettledBy s came e.pend.view) start_is (laws.settled me peers came took e.pend.view w.pends.nothing_ready pends_is)
 
   ran : Ran (λ driver slot value. kv_level value) (λ driver slot values. greatest values) (λ driver slot round n. leader_place slot round n) account
   ran = record {
@@ -236,18 +237,22 @@ module _ (laws : Laws) (me : NodeId) (set : QuorumTree) (peers : List NodeId) (e
   messages_are : (l : ℕ) (peer : NodeId) → slice_get peers l ≡ Some peer → (life : ℕ) → messages_in (conn_at peer me life) came ≡ carried_of 1000000 (sent (conn_at peer me life) (sent_over e.links l))
   messages_are l peer at life =
       let c = conn_at peer me life in
-      sym (messages_of_peer c came) ∙ ap (messages_in c) (read_is l peer at) ∙ (laws.sent_is peer me (sent_over e.links l) (links_are l peer at) life).messages
+      sym (laws.peers_say c came).messages ∙ ap (messages_in c) (read_is l peer at) ∙ (laws.sent_is peer me (sent_over e.links l) (links_are l peer at) life).messages
+
+  -- the messages that came are those that were sent
+  all_came : (l : ℕ) (peer : NodeId) → slice_get peers l ≡ Some peer → (life : ℕ) → messages_in (conn_at peer me life) came ++ [] ≡ carried_of 1000000 (sent (conn_at peer me life) (sent_over e.links l))
+  all_came l peer at life = append-nil (messages_in (conn_at peer me life) came) ∙ messages_are l peer at life
 
   numbered_is : (l : ℕ) (peer : NodeId) → slice_get peers l ≡ Some peer → (life : ℕ) → AllByRecursion (IsNumbered (conn_at peer me life) (carried_of 1000000 (sent (conn_at peer me life) (sent_over e.links l)))) came
-  numbered_is l peer at life =
-      let c = conn_at peer me life in
-      subst (λ (ms : List Message). AllByRecursion (IsNumbered c ms) came) (messages_are l peer at life)
-      (numbered_all c (messages_in c came) came (subst (λ (ms : List Message). AllByRecursion (IsNumbered c ms) (of_peer peer came)) (messages_of_peer c came) (numbered_right peer me life (of_peer peer came) (shape_is l peer at))))
+  numbered_is l peer at life = subst (λ (ms : List Message). AllByRecursion (IsNumbered (conn_at peer me life) ms) came) (all_came l peer at life) (laws.numbers peer me came (shape_is l peer at) life []).messages_are
+
+  slots_fit : (l : ℕ) (peer : NodeId) → slice_get peers l ≡ Some peer → (life : ℕ) → HaveSlots (conn_at peer me life) (slots_sent account l (conn_at peer me life)) came
+  slots_fit l peer at life = subst (λ (ms : List Message). HaveSlots (conn_at peer me life) (slots_of ms) came) (all_came l peer at life) (laws.numbers peer me came (shape_is l peer at) life []).slots
 
   accounts_is : (l : ℕ) (peer : NodeId) → slice_get peers l ≡ Some peer → (life : ℕ) → Accounts (conn_at peer me life) (slots_sent account l (conn_at peer me life)) came took (held (conn_at peer me life) e.pend.view)
   accounts_is l peer at life =
       let c = conn_at peer me life in
-      laws.accounts me peers came took e.pend.view pends_is shape_is l peer at life (slots_sent account l c) (slots_are c (carried_of 1000000 (sent c (sent_over e.links l))) came (numbered_is l peer at life))
+      laws.accounts me peers came took e.pend.view pends_is shape_is l peer at life (slots_sent account l c) (slots_fit l peer at life)
 
   line_held_is : (l : ℕ) (c : ConnId) (parked : List Carried) → AreParked e.pend.view parked → line_held account l c ≡ marks_of_messages c parked
   line_held_is l c parked are = append-nil (held c e.pend.view) ∙ held_is c parked are

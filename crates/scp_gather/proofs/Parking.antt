@@ -1,6 +1,5 @@
 -- What is parked came.
-use Rattle.std.proofs.Common.{◌≡◌, true, List, [], ◌∷◌, ◌++◌, refl, sym, ◌∙◌, ap, subst}
-use Rattle.std.specs.Prelude.{Some, slice_get}
+use Rattle.std.proofs.Common.{List, [], ◌∷◌}
 use Rattle.std.specs.List.{AllByRecursion}
 use Rattle.scp_types.specs.declared.names.ConnId.{ConnId}
 use Rattle.scp_types.specs.declared.names.NodeId.{NodeId}
@@ -8,9 +7,9 @@ use Rattle.scp_wire.specs.declared.carried.Carried.{Carried}
 use Rattle.scp_wire.specs.declared.message.Message.{Message}
 use Rattle.scp_wire.specs.declared.link.Inbound.{Inbound}
 use Rattle.scp_wire.specs.declared.link.Inbound.TheVariants as inbound
+use Rattle.scp_wire.specs.Parts.{IsNumbered}
 use Rattle.scp_pending.specs.Causes.{Place}
 use Rattle.scp_pending.specs.Rules.{Settled}
-use Rattle.scp_pending.proofs.Numbered.{IsNumbered}
 use Rattle.scp_account.specs.Fates.{IsOfLink}
 use Rattle.scp_gather.specs.Gathered.{IsOfItsNumber}
 use Rattle.scp_gather.proofs.Coming.{IsCarriedByLink}

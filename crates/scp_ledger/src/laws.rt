@@ -18,9 +18,13 @@ pub fn what_holds_of_a_ledger_holds_with_one_thing_more<D: Driver + Drop + Copy>
     ensures grows { TakesGrow D.level D.combined }
 {}
 
-/// Each decision that a ledger gives on is of one of the 16 slots from the least one on that none before it has, and none of
-/// those has its slot. This holds of the front of what was given, and with one thing more that may be given.
-pub fn what_is_given_on_keeps_the_window<D: Driver + Drop + Copy>()
+/// The window of a list of decisions, each of which is of one of the 16 slots from the least one on that none before it has, where
+/// none of those has its slot: a beginning of such a list keeps it, and with one thing more it is kept just where that may be given.
+pub fn a_beginning_keeps_the_window()
     ensures kept { WindowIsKept }
+{}
+
+/// What a ledger gives next fits the window of all that it gave before, so that the applier can take it.
+pub fn what_is_given_on_keeps_the_window<D: Driver + Drop + Copy>()
     ensures given { LedgerKeepsWindow D.level D.combined D.place }
 {}

@@ -26,8 +26,8 @@ mod window;
 
 pub use journal::{Asking, Decision, Fate, Origin, Verdict};
 pub use laws::{
-    the_journal_stands_for_what_was_taken, what_holds_of_a_ledger_holds_with_one_thing_more,
-    what_is_given_on_keeps_the_window,
+    a_beginning_keeps_the_window, the_journal_stands_for_what_was_taken,
+    what_holds_of_a_ledger_holds_with_one_thing_more, what_is_given_on_keeps_the_window,
 };
 pub use ledger::{JOURNAL_LIMIT, Ledger};
 pub use quorum::Quorum;

@@ -1,5 +1,5 @@
 use crate::outbox::{Given, in_short, nomination};
-use scp_outbox::{FittingMessage, Mark, SharedOutbox};
+use scp_outbox::{FittingMessage, Mark, SharedOutbox, a_shared_outbox_crosses_threads};
 use scp_types::{Fault, Hash};
 use scp_wire::Message;
 use std::alloc::Global;
@@ -117,6 +117,7 @@ fn the_17th_shared_mark_is_refused(rt: HostRuntime) -> Result<(), Fail> {
 
 #[test]
 fn whoever_waits_is_woken(rt: HostRuntime) -> Result<(), Fail> {
+    a_shared_outbox_crosses_threads();
     let alloc = rt.alloc();
     let statement = nomination(alloc, 1, 1)?;
     let outbox = shared(alloc)?;
@@ -136,6 +137,7 @@ fn whoever_waits_is_woken(rt: HostRuntime) -> Result<(), Fail> {
 
 #[test]
 fn another_thread_is_given_marks_first(rt: HostRuntime) -> Result<(), Fail> {
+    a_shared_outbox_crosses_threads();
     let alloc = rt.alloc();
     let outbox = shared(alloc)?;
     assert!(rt; put(&rt, &outbox, nomination(alloc, 1, 1)?));
@@ -176,6 +178,7 @@ fn are_both_whole<R: Wait>(rt: &R, outbox: &SharedOutbox) -> bool {
 
 #[test]
 fn what_two_threads_put_is_given_whole(rt: HostRuntime) -> Result<(), Fail> {
+    a_shared_outbox_crosses_threads();
     let outbox = shared(rt.alloc())?;
     let (first, second) = (Arc::try_clone(&outbox)?, Arc::try_clone(&outbox)?);
     let low = thread::spawn(&rt, move || ask(&rt, &first, 1, 31))?;

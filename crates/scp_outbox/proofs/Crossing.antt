@@ -14,6 +14,7 @@ use Rattle.scp_wire.specs.contracts.message.Message as message
 use Rattle.scp_outbox.specs.contracts.mark.Mark as mark
 use Rattle.scp_outbox.specs.contracts.outbox.Outbox as outbox
 use Rattle.scp_outbox.specs.contracts.shared.SharedOutbox as shared
+use Rattle.scp_outbox.specs.Crossing.{SharedCrosses}
 
 set_send : IsSend set.the_row
 set_send = search (sendable, crosses, send-QuorumSet) depth 40
@@ -44,8 +45,5 @@ of_outbox_send o = search (sendable, crosses) depth 40
 of_outbox_sync : IsSend outbox.the_row → IsSync shared.the_row
 of_outbox_sync o = search (sendable, crosses) depth 40
 
-pub shared_send : IsSend shared.the_row
-shared_send = of_outbox_send its_outbox_send
-
-pub shared_sync : IsSync shared.the_row
-shared_sync = of_outbox_sync its_outbox_send
+pub shared_crosses : SharedCrosses
+shared_crosses = record { send = of_outbox_send its_outbox_send; sync = of_outbox_sync its_outbox_send }

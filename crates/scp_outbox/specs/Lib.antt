@@ -2,3 +2,4 @@ pub mod Fitting
 pub mod Outbox
 pub mod Inside
 pub mod Laws
+pub mod Crossing

@@ -8,7 +8,7 @@
 //! - What was given is gone, and each message that is given was put. It is never too long for a link.
 //! - To put a message takes no memory, waits for nobody and is never refused.
 //! - A `SharedOutbox` is the same behind a lock, for threads: what stands behind the lock at each turn keeps these limits, and
-//!   `next` waits where there is nothing.
+//!   `next` waits where there is nothing. It may be moved to another thread, and threads may share it.
 #![tactic(auto)]
 
 mod fitting;
@@ -19,7 +19,8 @@ mod shared;
 
 pub use fitting::FittingMessage;
 pub use laws::{
-    one_statement_waits_of_each_slot_and_kind, what_is_given_is_gone, what_is_given_was_put,
+    a_shared_outbox_crosses_threads, one_statement_waits_of_each_slot_and_kind,
+    what_is_given_is_gone, what_is_given_was_put,
 };
 pub use mark::{Mark, Out};
 pub use outbox::{MARK_LIMIT, Outbox, WAITING_LIMIT};

@@ -31,7 +31,7 @@ use Rattle.scp_pending.specs.Outcome.{parked_in_all}
 use Rattle.scp_pending.specs.Pends.{Pends}
 use Rattle.scp_pending.specs.Messages.{IsParkedAs, message_cmp}
 use Rattle.scp_pending.proofs.Basics.{all_weaker, all_append, same_conn-refl}
-use Rattle.scp_pending.proofs.Serving.{how_many, AreSingle, IsMine, AreMine}
+use Rattle.scp_pending.proofs.Serving.{how_many, AreSingle, IsParkedOf, AreMine}
 use Rattle.scp_pending.proofs.Rising.{rises_ascend, seqs_of}
 use Rattle.scp_pending.proofs.Following.{AllConns, come_of}
 use Rattle.scp_pending.proofs.Numbered.{slots_are}
@@ -151,7 +151,7 @@ abbrev Follow : ConnId → ℕ → Carried → Type 0
 Follow c n y = (y.conn ≡ c) × (n ≤ y.seq.0)
 
 -- those of a queue with ascending numbers
-queue_ascends : (c : ConnId) (n : ℕ) (ps : List Parked) (ys : List Carried) → AllByRecursion (IsMine c) ps → Ascend n (map seq_of ps) → AllZip IsParkedAs ps ys → IsStrictlySortedBy message_cmp ys × AllByRecursion (Follow c n) ys
+queue_ascends : (c : ConnId) (n : ℕ) (ps : List Parked) (ys : List Carried) → AllByRecursion (IsParkedOf c) ps → Ascend n (map seq_of ps) → AllZip IsParkedAs ps ys → IsStrictlySortedBy message_cmp ys × AllByRecursion (Follow c n) ys
 unfolding IsStrictlySortedBy
 queue_ascends c n [] [] m up z = (tt, tt)
 queue_ascends c n [] (y ∷ ys) m up z = absurd z
@@ -175,7 +175,7 @@ conns_of P (q ∷ qs) ys m a z =
     let k = parts q.parked (parked_in_all qs) ys z in
     subst (AllByRecursion (λ (y : Carried). P y.conn)) (sym k.is) (all_append (λ (y : Carried). P y.conn) k.first k.later (of_queue q.parked k.first m.0 k.firsts) (conns_of P qs k.later m.1 a.1 k.laters))
   where
-    of_queue : (ps : List Parked) (zs : List Carried) → AllByRecursion (IsMine q.conn) ps → AllZip IsParkedAs ps zs → AllByRecursion (λ (y : Carried). P y.conn) zs
+    of_queue : (ps : List Parked) (zs : List Carried) → AllByRecursion (IsParkedOf q.conn) ps → AllZip IsParkedAs ps zs → AllByRecursion (λ (y : Carried). P y.conn) zs
     of_queue [] [] n w = tt
     of_queue [] (y ∷ zs) n w = absurd w
     of_queue (p ∷ ps) [] n w = absurd w

@@ -13,6 +13,7 @@ use Rattle.scp_pending.specs.declared.parked.Parked.TheVariants.{Waits, Free, Lo
 use Rattle.scp_pending.specs.declared.ready.Ready.{Ready}
 use Rattle.scp_pending.specs.declared.ready.Ready.TheVariants.{Deliver, Dropped}
 use Rattle.scp_pending.specs.Queues.{lane_of, is_at, at_slot, waits, is_held, fate, leaves_behind, stays_behind, leaves_of, stays_of, seq_of}
+pub use Rattle.scp_pending.specs.Linked.{IsParkedOf}
 use Rattle.scp_pending.specs.Line.{ready_mark, marks_of, parked_mark}
 pub use Rattle.scp_pending.specs.Kept.{AreHeld}
 use Rattle.scp_pending.proofs.Basics.{append_nil, clash, or_none, or_right, or_left, flat-append, same_conn-refl, all_append}
@@ -40,22 +41,16 @@ in_lane-append slots s xs ys = filter-append (is_in_lane slots s) xs ys
 
 -- ---- one that is parked
 
--- what is parked here is of this connection
-abbrev pub IsMine : ConnId → Parked → Type 0
-IsMine c (Waits x) = x.conn ≡ c
-IsMine c (Free delivery) = delivery.conn ≡ c
-IsMine c (Lost x cause) = x.conn ≡ c
-
 -- its number is of its lane
 abbrev pub HasLane : (ℕ → ℕ) → Parked → Type 0
 HasLane slots p = slots (seq_of p).0 ≡ lane_of p
 
-pub marks-fate : (c : ConnId) (p : Parked) → waits p ≡ false → IsMine c p → marks_of c (fate c p) ≡ parked_mark p ∷ []
+pub marks-fate : (c : ConnId) (p : Parked) → waits p ≡ false → IsParkedOf c p → marks_of c (fate c p) ≡ parked_mark p ∷ []
 marks-fate c (Waits x) w m = absurd cc
 marks-fate c (Free d) w m = rw (ap (λ (k : ConnId). same_conn k c) m ∙ same_conn-refl c) refl
 marks-fate c (Lost x cause) w m = rw (same_conn-refl c) refl
 
-pub marks-fate_other : (c d : ConnId) (p : Parked) → same_conn c d ≡ false → IsMine c p → marks_of d (fate c p) ≡ []
+pub marks-fate_other : (c d : ConnId) (p : Parked) → same_conn c d ≡ false → IsParkedOf c p → marks_of d (fate c p) ≡ []
 marks-fate_other c d (Waits x) o m = refl
 marks-fate_other c d (Free y) o m = rw (ap (λ (k : ConnId). same_conn k d) m ∙ o) refl
 marks-fate_other c d (Lost x cause) o m = rw o refl
@@ -100,11 +95,11 @@ module _ (slots : ℕ → ℕ) (c : ConnId) (s : ℕ) where
   pub marks-one : (p : Parked) (ps : List Parked) (b : Bool) → HasLane slots p → is_at s p ≡ b → in_lane slots s (map parked_mark (p ∷ ps)) ≡ one_if b (parked_mark p) ++ in_lane slots s (map parked_mark ps)
   marks-one p ps b l k = in_lane-append slots s (parked_mark p ∷ []) (map parked_mark ps) ∙ ap (λ zs. zs ++ in_lane slots s (map parked_mark ps)) (mark_in p b l k)
 
-  marks-gone : (p : Parked) (rs : List Ready) (b : Bool) → waits p ≡ false → IsMine c p → HasLane slots p → is_at s p ≡ b → in_lane slots s (marks_of c (fate c p ++ rs)) ≡ one_if b (parked_mark p) ++ in_lane slots s (marks_of c rs)
+  marks-gone : (p : Parked) (rs : List Ready) (b : Bool) → waits p ≡ false → IsParkedOf c p → HasLane slots p → is_at s p ≡ b → in_lane slots s (marks_of c (fate c p ++ rs)) ≡ one_if b (parked_mark p) ++ in_lane slots s (marks_of c rs)
   marks-gone p rs b w m l k = ap (in_lane slots s) (flat-append (ready_mark c) (fate c p) rs ∙ ap (λ zs. zs ++ marks_of c rs) (marks-fate c p w m)) ∙ in_lane-append slots s (parked_mark p ∷ []) (marks_of c rs) ∙ ap (λ zs. zs ++ in_lane slots s (marks_of c rs)) (mark_in p b l k)
 
   -- of a lane in which something stays nothing leaves
-  pub stuck_leaves : (kept ps : List Parked) → has s kept ≡ true → AllByRecursion (IsMine c) ps → AllByRecursion (HasLane slots) ps → in_lane slots s (marks_of c (leaves_behind c kept ps)) ≡ []
+  pub stuck_leaves : (kept ps : List Parked) → has s kept ≡ true → AllByRecursion (IsParkedOf c) ps → AllByRecursion (HasLane slots) ps → in_lane slots s (marks_of c (leaves_behind c kept ps)) ≡ []
   stuck_leaves kept [] h a l = refl
   stuck_leaves kept (p ∷ ps) h a l = by_test (is_held kept p) refl (stuck_leaves (kept ++ p ∷ []) ps (more s kept p h) a.1 l.1) (stuck_leaves kept ps h a.1 l.1)
     where
@@ -121,7 +116,7 @@ module _ (slots : ℕ → ℕ) (c : ConnId) (s : ℕ) where
       by_test false e stay go = go ∙ sym (marks-one p ps false l.0 (not_there s kept p e h))
 
   -- what leaves of a lane, and then what stays of it, is what was parked of it
-  pub lane_apart : (kept ps : List Parked) → has s kept ≡ false → AllByRecursion (IsMine c) ps → AllByRecursion (HasLane slots) ps → in_lane slots s (marks_of c (leaves_behind c kept ps)) ++ in_lane slots s (map parked_mark (stays_behind kept ps)) ≡ in_lane slots s (map parked_mark ps)
+  pub lane_apart : (kept ps : List Parked) → has s kept ≡ false → AllByRecursion (IsParkedOf c) ps → AllByRecursion (HasLane slots) ps → in_lane slots s (marks_of c (leaves_behind c kept ps)) ++ in_lane slots s (map parked_mark (stays_behind kept ps)) ≡ in_lane slots s (map parked_mark ps)
   lane_apart kept [] h a l = refl
   lane_apart kept (p ∷ ps) h a l = by_tests (is_held kept p) (is_at s p) refl refl (λ n. lane_apart (kept ++ p ∷ []) ps n a.1 l.1) (lane_apart kept ps h a.1 l.1)
     where
@@ -132,7 +127,7 @@ module _ (slots : ℕ → ℕ) (c : ConnId) (s : ℕ) where
       by_tests false false e k stay go = ap (λ zs. zs ++ in_lane slots s (map parked_mark (stays_behind kept ps))) (marks-gone p (leaves_behind c kept ps) false (free_of kept p e).0 a.0 l.0 k) ∙ go ∙ sym (marks-one p ps false l.0 k)
 
 -- of another connection nothing leaves
-pub leaves-other : (c d : ConnId) (kept ps : List Parked) → same_conn c d ≡ false → AllByRecursion (IsMine c) ps → marks_of d (leaves_behind c kept ps) ≡ []
+pub leaves-other : (c d : ConnId) (kept ps : List Parked) → same_conn c d ≡ false → AllByRecursion (IsParkedOf c) ps → marks_of d (leaves_behind c kept ps) ≡ []
 leaves-other c d kept [] o a = refl
 leaves-other c d kept (p ∷ ps) o a = by_test (is_held kept p) (leaves-other c d (kept ++ p ∷ []) ps o a.1) (leaves-other c d kept ps o a.1)
   where

@@ -30,4 +30,7 @@ pub mod Firsts
 pub mod Numbers
 pub mod Ordering
 pub mod Placing
+pub mod Strangers
+pub mod Placed
+pub mod Fetching
 pub mod Keeping

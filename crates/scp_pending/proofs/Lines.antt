@@ -33,7 +33,7 @@ use Rattle.scp_pending.specs.Causes.{plus}
 use Rattle.std.proofs.lemmas.Bool.{eqb-true}
 use Rattle.scp_pending.proofs.Basics.{append_nil, clash, or_none, map-append, same_conn-true, same_conn-refl, same_conn-other, all_step, all_weaker}
 use Rattle.scp_pending.proofs.Laning.{HasLane, in_lane-append, mark_in, marks-one, marks-fate, marks-fate_other}
-use Rattle.scp_pending.proofs.Serving.{how_many, AreSingle, how_many-append, how_many-map, how_many-served, how_many-parked_in, how_many-others_mine, how_many-others_other, shut_none, none_shut, open_as, parked_shut, parked-opened, parked-others_mine, parked-others_other, parked_in-mine, parked_in-other, parked-resolved, parked-served, IsMine, AreMine, marks-leaving, marks_of-append, all_in_order, how_many-in_order, parked-in_order, single-in_order}
+use Rattle.scp_pending.proofs.Serving.{how_many, AreSingle, how_many-append, how_many-map, how_many-served, how_many-parked_in, how_many-others_mine, how_many-others_other, shut_none, none_shut, open_as, parked_shut, parked-opened, parked-others_mine, parked-others_other, parked_in-mine, parked_in-other, parked-resolved, parked-served, IsParkedOf, AreMine, marks-leaving, marks_of-append, all_in_order, how_many-in_order, parked-in_order, single-in_order}
 
 -- ---- a close
 
@@ -66,13 +66,13 @@ resolved_mark test f same (Waits x ∷ ps) = by_test (test (named x.message)) (r
 resolved_mark test f same (Free d ∷ ps) = ap (λ ms. number d.seq.0 ∷ ms) (resolved_mark test f same ps)
 resolved_mark test f same (Lost x cause ∷ ps) = ap (λ ms. number x.seq.0 ∷ ms) (resolved_mark test f same ps)
 
-resolved_mine : (test : Option Hash → Bool) (f : Carried → Parked) → ((c : ConnId) (x : Carried) → x.conn ≡ c → IsMine c (f x)) → (q : QueueView) → AreMine q → AreMine (resolved_in test f q)
-resolved_mine test f mine q a = all_step (IsMine q.conn) (IsMine q.conn) (resolved_one test f) q.parked one a
+pub resolved_mine : (test : Option Hash → Bool) (f : Carried → Parked) → ((c : ConnId) (x : Carried) → x.conn ≡ c → IsParkedOf c (f x)) → (q : QueueView) → AreMine q → AreMine (resolved_in test f q)
+resolved_mine test f mine q a = all_step (IsParkedOf q.conn) (IsParkedOf q.conn) (resolved_one test f) q.parked one a
   where
-    one : (p : Parked) → IsMine q.conn p → IsMine q.conn (resolved_one test f p)
+    one : (p : Parked) → IsParkedOf q.conn p → IsParkedOf q.conn (resolved_one test f p)
     one (Waits x) h = by_test (test (named x.message))
       where
-        by_test : (b : Bool) → IsMine q.conn (cond b (f x) (Waits x))
+        by_test : (b : Bool) → IsParkedOf q.conn (cond b (f x) (Waits x))
         by_test true = mine q.conn x h
         by_test false = h
     one (Free d) h = h
@@ -91,7 +91,7 @@ resolved_lane slots test f same ps a = all_step (HasLane slots) (HasLane slots) 
     one (Free d) h = h
     one (Lost x cause) h = h
 
-serving : (slots : ℕ → ℕ) (n : ℕ) (d : ConnId) (test : Option Hash → Bool) (f : Carried → Parked) (qs : List QueueView) → ((x : Carried) → parked_mark (f x) ≡ number x.seq.0) → ((c : ConnId) (x : Carried) → x.conn ≡ c → IsMine c (f x)) → ((x : Carried) → slots x.seq.0 ≡ slot_of x.message → HasLane slots (f x)) → AreSingle qs → AllByRecursion AreMine qs → AllByRecursion (HasLane slots) (parked_of d qs) → in_lane slots n (marks_of d (leaving_of (resolved test f qs)) ++ marks_parked d (served (resolved test f qs))) ≡ in_lane slots n (marks_parked d qs ++ [])
+serving : (slots : ℕ → ℕ) (n : ℕ) (d : ConnId) (test : Option Hash → Bool) (f : Carried → Parked) (qs : List QueueView) → ((x : Carried) → parked_mark (f x) ≡ number x.seq.0) → ((c : ConnId) (x : Carried) → x.conn ≡ c → IsParkedOf c (f x)) → ((x : Carried) → slots x.seq.0 ≡ slot_of x.message → HasLane slots (f x)) → AreSingle qs → AllByRecursion AreMine qs → AllByRecursion (HasLane slots) (parked_of d qs) → in_lane slots n (marks_of d (leaving_of (resolved test f qs)) ++ marks_parked d (served (resolved test f qs))) ≡ in_lane slots n (marks_parked d qs ++ [])
 serving slots n d test f qs same mine lane single a l =
     let few : how_many d (resolved test f qs) ≤ 1 = subst (λ (n : ℕ). n ≤ 1) (sym (how_many-map d (resolved_in test f) (λ q. refl) qs)) (single d) in
     let lanes : AllByRecursion (HasLane slots) (parked_of d (resolved test f qs)) = subst (AllByRecursion (HasLane slots)) (sym (parked-resolved d test f qs)) (resolved_lane slots test f lane (parked_of d qs) l) in
@@ -120,14 +120,14 @@ entering_seq s x = by_name (named x.message)
     by_name None = refl
     by_name (Some hash) = by_lookup (lookup hash s.store)
 
-entering_mine : (s : Settled) (x : Carried) → IsMine x.conn (entering s.store x)
+pub entering_mine : (s : Settled) (x : Carried) → IsParkedOf x.conn (entering s.store x)
 entering_mine s x = by_name (named x.message)
   where
-    by_lookup : (o : Option QuorumTree) → IsMine x.conn (found x o)
+    by_lookup : (o : Option QuorumTree) → IsParkedOf x.conn (found x o)
     by_lookup None = refl
     by_lookup (Some set) = refl
 
-    by_name : (o : Option Hash) → IsMine x.conn (entering_by o s.store x)
+    by_name : (o : Option Hash) → IsParkedOf x.conn (entering_by o s.store x)
     by_name None = refl
     by_name (Some hash) = by_lookup (lookup hash s.store)
 
@@ -143,7 +143,7 @@ entering_lane slots s x e = by_name (named x.message)
     by_name (Some hash) = by_lookup (lookup hash s.store)
 
 -- one that goes through
-through : (c d : ConnId) (p : Parked) → waits p ≡ false → IsMine c p → marks_of d (fate c p) ≡ one_if (same_conn c d) (parked_mark p)
+through : (c d : ConnId) (p : Parked) → waits p ≡ false → IsParkedOf c p → marks_of d (fate c p) ≡ one_if (same_conn c d) (parked_mark p)
 through c d p w m = by_test (same_conn c d) refl
   where
     by_test : (b : Bool) → same_conn c d ≡ b → marks_of d (fate c p) ≡ one_if b (parked_mark p)
@@ -218,7 +218,7 @@ line_step slots n d s (inbound.Side c m) single a l h = by_open (is_open c s.que
     by_answer_seq set true x = refl
     by_answer_seq set false x = refl
 
-    by_answer_mine : (set : QuorumTree) (b : Bool) (k : ConnId) (x : Carried) → x.conn ≡ k → IsMine k ((cond b (with_set (Some set)) (lost_by BadSet)) x)
+    by_answer_mine : (set : QuorumTree) (b : Bool) (k : ConnId) (x : Carried) → x.conn ≡ k → IsParkedOf k ((cond b (with_set (Some set)) (lost_by BadSet)) x)
     by_answer_mine set true k x e = e
     by_answer_mine set false k x e = e
 

@@ -1,8 +1,7 @@
 -- Each queue is of a connection of a peer's link.
-use Rattle.std.proofs.Common.{◌≡◌, ℕ, zero, suc, Bool, true, false, cond, not, List, [], ◌∷◌, length, refl, sym, ◌∙◌, ap, subst, arith}
-use Rattle.std.specs.Prelude.{◌&&◌, ◌||◌, nat_lt, Some, None, is_some, position, slice_get}
-use Rattle.std.specs.List.{list_any, position_or_len}
-use Rattle.std.proofs.lemmas.Bool.{ltb-true}
+use Rattle.std.proofs.Common.{◌≡◌, ℕ, zero, suc, Bool, true, false, not, List, [], ◌∷◌, refl, sym, ◌∙◌, ap, subst}
+use Rattle.std.specs.Prelude.{◌||◌, Some, is_some, slice_get}
+use Rattle.std.specs.List.{list_any}
 use Rattle.scp_types.specs.declared.names.ConnId.{ConnId}
 use Rattle.scp_types.specs.declared.names.NodeId.{NodeId}
 use Rattle.scp_wire.specs.declared.link.Inbound.{Inbound}
@@ -11,8 +10,9 @@ use Rattle.scp_pending.specs.declared.ready.Ready.{Ready}
 use Rattle.scp_pending.specs.Queues.{is_link_open}
 use Rattle.scp_pending.specs.Rules.{Settled, PendingView, link_of, opens, rules, settled_by}
 use Rattle.scp_pending.specs.Pends.{Pends, start_of}
-use Rattle.scp_pending.proofs.Basics.{or_none, same_node-true}
+use Rattle.scp_pending.proofs.Basics.{same_node-true}
 use Rattle.scp_pending.proofs.Following.{AllConns, conns_step, frame_step}
+use Rattle.scp_pending.proofs.Strangers.{first, second, there_is_one}
 
 pub record IsLinked (me : NodeId) (peers : List NodeId) (c : ConnId) : Type 0 where
   pub link : ℕ
@@ -35,36 +35,6 @@ pub its_node : (me : NodeId) (peers : List NodeId) (taken : List Inbound) (given
 its_node me peers taken given v p = subst (λ (s : Settled). (s.me ≡ me) × (s.peers ≡ peers)) (sym p.settled) (frame_all (λ n ps. (n ≡ me) × (ps ≡ peers)) (start_of me peers v) taken (refl, refl))
 
 -- ---- a connection that opens
-
-first : (a b c : Bool) → (a && b && c) ≡ true → a ≡ true
-first true b c e = refl
-first false b c e = absurd cc
-
-second : (a b c : Bool) → (a && b && c) ≡ true → b ≡ true
-second true true c e = refl
-second true false c e = absurd cc
-second false b c e = absurd cc
-
-none_len : (p : NodeId → Bool) (xs : List NodeId) → list_any p xs ≡ false → position_or_len p xs ≡ length xs
-none_len p [] e = refl
-none_len p (x ∷ xs) e = (let both = or_none (p x) (list_any p xs) e in rw both.0 (omega (arith, none_len p xs both.1)))
-
-not_below : (n : ℕ) → is_some (cond (nat_lt n n) (Some n) None) ≡ true → ⊥
-not_below n e = by_test (nat_lt n n) refl
-  where
-    by_test : (b : Bool) → nat_lt n n ≡ b → ⊥
-    by_test true k = omega (arith, ltb-true n n k)
-    by_test false k = clash (subst (λ (b : Bool). is_some (cond b (Some n) None) ≡ true) k e)
-      where
-        clash : false ≡ true → ⊥
-        clash c = cc
-
-there_is_one : (p : NodeId → Bool) (xs : List NodeId) → is_some (position p xs) ≡ true → list_any p xs ≡ true
-there_is_one p xs e = by_test (list_any p xs) refl
-  where
-    by_test : (b : Bool) → list_any p xs ≡ b → list_any p xs ≡ true
-    by_test true k = k
-    by_test false k = absurd (not_below (length xs) (subst (λ n. is_some (cond (nat_lt n (length xs)) (Some n) None) ≡ true) (none_len p xs k) e))
 
 link_among : (node : NodeId) (peers : List NodeId) → list_any (λ peer. same_node peer node) peers ≡ true → (link : ℕ) × (slice_get peers link ≡ Some node)
 link_among node [] e = absurd cc

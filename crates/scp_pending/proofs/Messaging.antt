@@ -27,7 +27,7 @@ use Rattle.scp_pending.specs.Outcome.{Adds, parked_in_all}
 use Rattle.scp_pending.specs.Pends.{Pends, start_of}
 use Rattle.scp_pending.specs.Messages.{IsParkedAs, is_on, messages_on, AreParked, message_mark, StandFor, ParkedStandFor}
 use Rattle.scp_pending.proofs.Basics.{append_nil, clash, flat-append, same_conn-refl, same_conn-true, all_weaker}
-use Rattle.scp_pending.proofs.Serving.{how_many, AreSingle, IsMine, AreMine, parked_shut}
+use Rattle.scp_pending.proofs.Serving.{how_many, AreSingle, IsParkedOf, AreMine, parked_shut}
 use Rattle.scp_pending.proofs.Standing.{Stands, AllStand, Fits, mine_of}
 use Rattle.scp_pending.proofs.Passing.{sound_of}
 
@@ -42,7 +42,7 @@ same_carried x y c s m =
     let by_message : (k : IsCarried y.message) → carried_of x.conn x.seq x.message x.carried ≡ carried_of x.conn x.seq y.message k = subst (λ (n : Message). (k : IsCarried n) → carried_of x.conn x.seq x.message x.carried ≡ carried_of x.conn x.seq n k) m (λ k. ap (carried_of x.conn x.seq x.message) (IsCarried-prop x.message x.carried k)) in
     by_message y.carried ∙ ap (λ (d : ConnId). carried_of d x.seq y.message y.carried) c ∙ ap (λ (n : Seq). carried_of y.conn n y.message y.carried) s
 
-pub its_conn : (c : ConnId) (p : Parked) (y : Carried) → IsMine c p → IsParkedAs p y → y.conn ≡ c
+pub its_conn : (c : ConnId) (p : Parked) (y : Carried) → IsParkedOf c p → IsParkedAs p y → y.conn ≡ c
 its_conn c (Waits x) y m e = ap (λ (z : Carried). z.conn) e ∙ m
 its_conn c (Free d) y m e = e.0 ∙ m
 its_conn c (Lost x cause) y m e = ap (λ (z : Carried). z.conn) e ∙ m
@@ -131,7 +131,7 @@ abbrev none : List Parked
 none = []
 
 -- of a queue all is of its connection
-queue_on : (c d : ConnId) (ps : List Parked) (ys : List Carried) (b : Bool) → same_conn d c ≡ b → AllByRecursion (IsMine d) ps → AllZip IsParkedAs ps ys → AllZip IsParkedAs (cond b ps []) (messages_on c ys)
+queue_on : (c d : ConnId) (ps : List Parked) (ys : List Carried) (b : Bool) → same_conn d c ≡ b → AllByRecursion (IsParkedOf d) ps → AllZip IsParkedAs ps ys → AllZip IsParkedAs (cond b ps []) (messages_on c ys)
 queue_on c d [] [] true e m a = tt
 queue_on c d [] [] false e m a = tt
 queue_on c d [] (y ∷ ys) b e m a = absurd a
@@ -235,7 +235,7 @@ moved P qs rs same a = recursion_from_All P rs (All-permutation P qs rs same (Al
 pub all_mine : (me : NodeId) (peers : List NodeId) (taken : List Inbound) (given : List Ready) (v : PendingView) → Pends me peers taken given v → AllByRecursion AreMine v.settled.queues
 all_mine me peers taken given v p =
     let start = start_of me peers v in
-    all_weaker (AllStand start taken v.settled.wanted) AreMine v.settled.queues (λ q w. all_weaker (Stands start taken v.settled.wanted q.conn) (IsMine q.conn) q.parked (λ r s. mine_of start taken v.settled.wanted q.conn r s) w) (all_stand me peers taken given v p)
+    all_weaker (AllStand start taken v.settled.wanted) AreMine v.settled.queues (λ q w. all_weaker (Stands start taken v.settled.wanted q.conn) (IsParkedOf q.conn) q.parked (λ r s. mine_of start taken v.settled.wanted q.conn r s) w) (all_stand me peers taken given v p)
 
 -- the messages of the queues, in whatever order these stand
 pub are_parked : (me : NodeId) (peers : List NodeId) (taken : List Inbound) (given : List Ready) (v : PendingView) (queues : List QueueView) (messages : List Carried) → IsPermutation v.settled.queues queues → AllZip IsParkedAs (parked_in_all queues) messages → Pends me peers taken given v → AreParked v messages

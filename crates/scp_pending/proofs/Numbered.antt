@@ -14,6 +14,7 @@ use Rattle.scp_wire.specs.declared.link.Inbound.TheVariants.{Opened, Carried, Si
 use Rattle.scp_wire.specs.Connections.{conn_at, same_conn, same_node}
 use Rattle.scp_wire.specs.Shape.{Come, nothing_came, comes, MayCome, AreInOrder, is_from, of_peer}
 use Rattle.scp_wire.specs.Marks.{one_if, came_message, messages_in}
+pub use Rattle.scp_wire.specs.Parts.{IsNumbered}
 use Rattle.scp_wire.specs.Lanes.{slot_in, slots_of, HasSlot, HaveSlots}
 
 -- ---- connections
@@ -53,13 +54,6 @@ messages_of_peer c xs = kept (came_message c) (is_from c.from) (other_message c)
 slice_get-at : {X : Type 0} (xs : List X) (x : X) (ys : List X) → slice_get (xs ++ x ∷ ys) (length xs) ≡ Some x
 slice_get-at [] x ys = refl
 slice_get-at (z ∷ zs) x ys = slice_get-at zs x ys
-
-abbrev pub IsNumbered : ConnId → List Message → Inbound → Type 0
-IsNumbered c messages (Opened conn) = Unit {0}
-IsNumbered c messages (Carried x) = same_conn x.conn c ≡ true → slice_get messages x.seq.0 ≡ Some x.message
-IsNumbered c messages (Side conn message) = Unit {0}
-IsNumbered c messages (Closed conn cause) = Unit {0}
-IsNumbered c messages (Local command) = Unit {0}
 
 -- so many messages came already
 record Came (life : ℕ) (h : Come) (before : List Message) : Type 0 where

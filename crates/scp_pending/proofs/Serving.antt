@@ -15,7 +15,7 @@ use Rattle.scp_pending.specs.Queues.{QueueView, is_of, is_open, parked_of, other
 use Rattle.scp_pending.specs.Line.{ready_mark, marks_of, parked_mark, marks_parked}
 use Rattle.scp_pending.specs.Causes.{plus}
 pub use Rattle.scp_pending.specs.Kept.{how_many, AreSingle}
-pub use Rattle.scp_pending.proofs.Laning.{IsMine}
+pub use Rattle.scp_pending.proofs.Laning.{IsParkedOf}
 use Rattle.scp_pending.proofs.Laning.{HasLane, leaves-other, lane_apart}
 use Rattle.scp_wire.specs.Lanes.{in_lane}
 use Rattle.scp_pending.proofs.Basics.{append_nil, clash, same_conn-true, same_conn-refl, same_conn-other, flat-append, all_append, all_filter}
@@ -275,7 +275,7 @@ single-in_order hashes qs a c = subst (λ (n : ℕ). n ≤ 1) (sym (how_many-in_
 -- ---- what leaves
 
 abbrev pub AreMine : QueueView → Type 0
-AreMine q = AllByRecursion (IsMine q.conn) q.parked
+AreMine q = AllByRecursion (IsParkedOf q.conn) q.parked
 
 pub marks_of-append : (c : ConnId) (xs ys : List Ready) → marks_of c (xs ++ ys) ≡ marks_of c xs ++ marks_of c ys
 marks_of-append c xs ys = flat-append (ready_mark c) xs ys

@@ -41,7 +41,7 @@ use Rattle.scp_pending.proofs.Wanting.{AtLeast, zero_least, wanted_by-own, is_fo
 use Rattle.scp_wire.specs.Connections.{same_conn}
 use Rattle.scp_wire.specs.Lanes.{slot_of, HasSlot, HaveSlots}
 use Rattle.scp_pending.proofs.Laning.{HasLane, AreHeld, stays_held, stays_few, stays_all, leaves_all, FirstIs, first_waits}
-use Rattle.scp_pending.proofs.Serving.{IsMine, AreMine}
+use Rattle.scp_pending.proofs.Serving.{IsParkedOf, AreMine}
 
 pub record WaitsWell (start : Settled) (taken : List Inbound) (wanted : List Want) (x : Carried) : Type 0 where
   pub hash : Hash
@@ -99,7 +99,7 @@ stays start taken s wanted wanted' item c (Lost x cause) e k w = (w.0, later sta
 
 -- ---- what leaves has its cause, and what stays stands
 
-pub mine_of : (start : Settled) (taken : List Inbound) (wanted : List Want) (c : ConnId) (p : Parked) → Stands start taken wanted c p → IsMine c p
+pub mine_of : (start : Settled) (taken : List Inbound) (wanted : List Want) (c : ConnId) (p : Parked) → Stands start taken wanted c p → IsParkedOf c p
 mine_of start taken wanted c (Waits x) w = w.0
 mine_of start taken wanted c (Free d) w = w.0
 mine_of start taken wanted c (Lost x cause) w = w.0

@@ -14,3 +14,5 @@ pub mod Waiters
 pub mod Laws
 pub mod Messages
 pub mod Placing
+pub mod Linked
+pub mod Fetching

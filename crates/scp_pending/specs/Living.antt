@@ -3,6 +3,8 @@ use Rattle.std.specs.Prelude.{ℕ, ◌≡◌, Bool, true, false, not, ◌&&◌, 
 use Rattle.std.specs.List.{list_any}
 use Rattle.scp_types.specs.declared.names.ConnId.{ConnId}
 use Rattle.scp_types.specs.declared.names.NodeId.{NodeId}
+use Rattle.scp_quorum.specs.QuorumTree.{QuorumTree}
+use Rattle.scp_quorum.specs.Sane.{IsSane}
 use Rattle.scp_wire.specs.declared.link.Cause.{Cause}
 use Rattle.scp_wire.specs.declared.link.Cause.TheVariants.{Malformed, Spent, Link, ParkedFull}
 use Rattle.scp_wire.specs.declared.link.Inbound.{Inbound}
@@ -11,7 +13,7 @@ use Rattle.scp_wire.specs.Shape.{Come, nothing_came, comes, of_peer, HasShape}
 use Rattle.scp_pending.specs.declared.ready.Ready.{Ready}
 use Rattle.scp_pending.specs.declared.ready.Ready.TheVariants.{Deliver, Dropped, Closed, Local}
 use Rattle.scp_pending.specs.Queues.{is_open}
-use Rattle.scp_pending.specs.Rules.{PendingView}
+use Rattle.scp_pending.specs.Rules.{PendingView, fresh, settled_by, released_by}
 use Rattle.scp_pending.specs.Pends.{Pends}
 
 -- of what came of a link: its last life is this one, and is open
@@ -38,3 +40,8 @@ is_cut_off c readies = list_any (cuts_off c) readies
 -- was taken, and wasn't cut off in what was given or is on its way.
 abbrev pub OpenByPlace : Type 0
 OpenByPlace = (me : NodeId) (peers : List NodeId) (taken : List Inbound) (given : List Ready) (v : PendingView) → Pends me peers taken given v → HasShape me peers taken → (link : ℕ) (peer : NodeId) → slice_get peers link ≡ Some peer → (life : ℕ) → is_open (conn_at peer me life) v.settled.queues ≡ (stands life (fold comes nothing_came (of_peer peer taken)) && not (is_cut_off (conn_at peer me life) (given ++ v.leaving)))
+
+-- The same at each place of what was taken: the connection is open, so that what comes next of it is live, exactly where what
+-- came before opened it and didn't close it, and it wasn't cut off in what left by then.
+abbrev pub OpenAtEachPlace : Type 0
+OpenAtEachPlace = (me : NodeId) (peers : List NodeId) (local : QuorumTree) (before rest : List Inbound) → IsSane local → HasShape me peers (before ++ rest) → (link : ℕ) (peer : NodeId) → slice_get peers link ≡ Some peer → (life : ℕ) → is_open (conn_at peer me life) (settled_by (fresh me peers local) before).queues ≡ (stands life (fold comes nothing_came (of_peer peer before)) && not (is_cut_off (conn_at peer me life) (released_by (fresh me peers local) before)))

@@ -37,3 +37,7 @@ HereFromNothing = (me : NodeId) (peers : List NodeId) (v : PendingView) → Pend
 -- and what passes for every node and peers passes so
 abbrev pub HerePasses : Type 0
 HerePasses = (more : List Inbound) (out : List Ready) (old new : PendingView) → ((me : NodeId) → (peers : List NodeId) → Passes (Pends me peers) more out old new) → Passes PendsHere more out old new
+
+-- a stage that has nothing ready is settled
+abbrev pub RestIsSettled : Type 0
+RestIsSettled = (me : NodeId) (peers : List NodeId) (taken : List Inbound) (given : List Ready) (v : PendingView) → v.leaving ≡ [] → Pends me peers taken given v → IsSettled me peers taken v

@@ -1,9 +1,13 @@
 //! What follows of the rules, for every list of takes: each law is the contract of a function that does nothing.
-ghost use Rattle.scp_pending.specs.Living.{OpenByPlace};
+ghost use Rattle.scp_pending.specs.Fetching.{RepliesAreAskedFor, TheLastAreStored};
+ghost use Rattle.scp_pending.specs.Linked.{NothingIsOfAStranger, WhoItIsStays};
+ghost use Rattle.scp_pending.specs.Living.{OpenAtEachPlace, OpenByPlace};
 ghost use Rattle.scp_pending.specs.Messages.{ParkedStandFor};
-ghost use Rattle.scp_pending.specs.Pends.{HereFromNothing, HerePasses};
+ghost use Rattle.scp_pending.specs.Pends.{HereFromNothing, HerePasses, RestIsSettled};
 ghost use Rattle.scp_pending.specs.Placing.{CommandsKeepPlace};
 ghost use Rattle.scp_pending.specs.Laws.{AllAccounts, AllExits, AllHaveCauses, CommandsPass, FewAreParked, WaitersWait, WaitersInOrder, WantedWhileWaited};
+
+use scp_wire::a_beginning_keeps_the_shape;
 
 /// All that was given, and all that is ready, has its cause among what was taken.
 pub fn each_fate_has_its_cause()
@@ -53,10 +57,13 @@ pub fn each_command_passes_once()
 
 /// Where the items of each link have that shape: a connection is open in what is parked, so that its items are live, exactly
 /// where it was opened and not closed in what was taken, and wasn't cut off by one message too many in what was given or is
-/// on its way.
+/// on its way. This holds at each place of what was taken, by what came before it and what left by then.
 pub fn what_is_live_is_so_by_its_place()
     ensures live { OpenByPlace }
-{}
+    ensures places { OpenAtEachPlace }
+{
+    a_beginning_keeps_the_shape();
+}
 
 /// The messages that are parked came live, each with its connection, its number and its content; and of each connection they
 /// have the numbers of what is parked of it, in order.
@@ -74,4 +81,32 @@ pub fn what_holds_of_a_stage_holds_with_one_call_more()
 /// cause among that.
 pub fn each_command_keeps_its_place()
     ensures place { CommandsKeepPlace }
+{}
+
+/// Who a stage is never changes: its node, its peers, its quorum set.
+pub fn who_it_is_stays()
+    ensures config { WhoItIsStays }
+{}
+
+/// Only connections from a peer to the node are ever open, what is parked of a connection is its own, and all that was given or
+/// is ready is of such a connection.
+pub fn nothing_is_of_a_stranger()
+    ensures links { NothingIsOfAStranger }
+{}
+
+/// Besides the local quorum set just the last 256 are stored of those that came live, wanted, sane and unknown, in order; each
+/// is sane, and is found under its own hash.
+pub fn the_last_sets_are_stored()
+    ensures sets { TheLastAreStored }
+{}
+
+/// What is replied was asked for: a request goes over the link of a live envelope that names a set that isn't stored, where that
+/// link wasn't asked yet; a set that is stored, or that it isn't, goes over the link of a live request for it.
+pub fn what_is_replied_was_asked_for()
+    ensures replies { RepliesAreAskedFor }
+{}
+
+/// A stage that has nothing ready is settled: the head of each lane is an envelope that waits for its quorum set.
+pub fn what_has_nothing_ready_is_settled()
+    ensures settled { RestIsSettled }
 {}

@@ -6,6 +6,8 @@
 //! - A message is lost by its set alone, which isn't sane or was missed twelve times, or by the end of its connection.
 //! - A hash is wanted just while something that is parked waits for it, and `waiting` tells the connections that wait, each once,
 //!   in the order of their first message that waits.
+//! - Only connections of its links are ever open, given or held. Besides the local set the last 256 that were wanted and came are
+//!   stored, each sane; and what is replied was asked for.
 //! - Where memory is refused the stage is failed: it answers that, and gives nothing more.
 //!
 //! A set, a twelfth miss and a Tick look into the queues of those connections alone that wait for the hash.
@@ -20,9 +22,10 @@ mod ready;
 pub use laws::{
     a_hash_is_wanted_while_something_waits, each_command_keeps_its_place, each_command_passes_once,
     each_connection_ends_by_its_cause, each_fate_has_its_cause, few_are_parked,
-    no_message_is_lost_or_overtaken, what_holds_of_a_stage_holds_with_one_call_more,
-    what_is_live_is_so_by_its_place, what_is_parked_came, who_waits_is_listed,
-    who_waits_stands_in_order,
+    no_message_is_lost_or_overtaken, nothing_is_of_a_stranger, the_last_sets_are_stored,
+    what_has_nothing_ready_is_settled, what_holds_of_a_stage_holds_with_one_call_more,
+    what_is_live_is_so_by_its_place, what_is_parked_came, what_is_replied_was_asked_for,
+    who_it_is_stays, who_waits_is_listed, who_waits_stands_in_order,
 };
 pub use pending::{PARKED_LIMIT, PEER_LIMIT, Pending};
 pub use ready::{Delivery, DropCause, Ready};

@@ -60,7 +60,7 @@ use Rattle.scp_ledger.specs.contracts.journal.Fate as fate
 use Rattle.scp_ledger.specs.contracts.state.State as ledger_state
 use Rattle.scp_ledger.specs.contracts.ledger.Ledger as ledger
 use Rattle.scp_ledger.specs.contracts.ledger.Ledger.TheInside as ledger_inside
-use Rattle.scp_outbox.proofs.Crossing.{shared_send, shared_sync}
+use Rattle.scp_outbox.specs.Crossing.{SharedCrosses}
 use Rattle.scp_apply.proofs.applier.Applier.TheSendSync as appliers
 use Rattle.scp_wire.proofs.link.LinkItem.TheSendSync as items
 use Rattle.scp_ledger.proofs.took.Onward.TheSendSync as onwards
@@ -232,8 +232,6 @@ its_ledger_send = ledger_send (ledger_state_send its_sane_send its_sane_sync (fa
 
 ruleset ends = (sendable, crosses, txs.the_send, rxs.the_send, dones.the_send, nobodies.the_send, anys.the_send, in_windows.the_send)
 
-ruleset outlets = (sendable, crosses, shared_send, shared_sync)
-
 reader_worker_inside_send : IsSend inbound.the_row → IsSend link_reader.the_row → IsSend reader_worker_inside.the_row
 reader_worker_inside_send i l = declared_send reader_worker_inside.the_type (search (sendable, crosses) depth 20, (search (ends, items.the_send) depth 20, (search ends depth 20, (l, (counters.the_send, (search sendable depth 20, (search ends depth 20, tt)))))))
 
@@ -246,11 +244,11 @@ reader_ended_inside_send i = declared_send reader_ended_inside.the_type (search 
 pub reader_ended_send : IsSend reader_ended.the_row
 reader_ended_send = view_send _ _ _ _ _ (reader_ended_inside_send its_inbound_send)
 
-pend_worker_inside_send : IsSend inbound.the_row → IsSend ready.the_row → IsSend pending.the_row → IsSend sane.the_row → IsSync sane.the_row → IsSend pend_worker_inside.the_row
-pend_worker_inside_send i r p s y = declared_send pend_worker_inside.the_type (search ends depth 20, (search ends depth 20, (p, (search outlets depth 20, (nodes.the_send, (search (sendable, crosses) depth 20, (search (sendable, crosses) depth 20, (search sendable depth 20, (search sendable depth 20, (counters.the_send, (search sendable depth 20, (search ends depth 20, tt))))))))))))
+pend_worker_inside_send : SharedCrosses → IsSend inbound.the_row → IsSend ready.the_row → IsSend pending.the_row → IsSend sane.the_row → IsSync sane.the_row → IsSend pend_worker_inside.the_row
+pend_worker_inside_send o i r p s y = declared_send pend_worker_inside.the_type (search ends depth 20, (search ends depth 20, (p, ((let send = o.send in let sync = o.sync in search (sendable, crosses) depth 20), (nodes.the_send, (search (sendable, crosses) depth 20, (search (sendable, crosses) depth 20, (search sendable depth 20, (search sendable depth 20, (counters.the_send, (search sendable depth 20, (search ends depth 20, tt))))))))))))
 
-pub pend_worker_send : IsSend pend_worker.the_row
-pend_worker_send = view_send _ _ _ _ _ (pend_worker_inside_send its_inbound_send its_ready_send its_pending_send its_sane_send its_sane_sync)
+pub pend_worker_send : SharedCrosses → IsSend pend_worker.the_row
+pend_worker_send o = view_send _ _ _ _ _ (pend_worker_inside_send o its_inbound_send its_ready_send its_pending_send its_sane_send its_sane_sync)
 
 pend_ended_inside_send : IsSend inbound.the_row → IsSend ready.the_row → IsSend pending.the_row → IsSend pend_ended_inside.the_row
 pend_ended_inside_send i r p = declared_send pend_ended_inside.the_type (search ends depth 20, (search ends depth 20, (p, (search ends depth 20, tt))))
@@ -258,11 +256,11 @@ pend_ended_inside_send i r p = declared_send pend_ended_inside.the_type (search 
 pub pend_ended_send : IsSend pend_ended.the_row
 pend_ended_send = view_send _ _ _ _ _ (pend_ended_inside_send its_inbound_send its_ready_send its_pending_send)
 
-slot_worker_inside_send : IsSend ready.the_row → IsSend (ledger.the_row driver.the_row ghosts) → IsSend sane.the_row → IsSync sane.the_row → IsSend slot_worker_inside.the_row
-slot_worker_inside_send r l s y = declared_send slot_worker_inside.the_type (search ends depth 20, (search (ends, onwards.the_send) depth 20, (l, (search outlets depth 20, (nodes.the_send, (search (sendable, crosses) depth 20, (search (sendable, crosses) depth 20, (counters.the_send, (search sendable depth 20, (search ends depth 20, tt))))))))))
+slot_worker_inside_send : SharedCrosses → IsSend ready.the_row → IsSend (ledger.the_row driver.the_row ghosts) → IsSend sane.the_row → IsSync sane.the_row → IsSend slot_worker_inside.the_row
+slot_worker_inside_send o r l s y = declared_send slot_worker_inside.the_type (search ends depth 20, (search (ends, onwards.the_send) depth 20, (l, ((let send = o.send in let sync = o.sync in search (sendable, crosses) depth 20), (nodes.the_send, (search (sendable, crosses) depth 20, (search (sendable, crosses) depth 20, (counters.the_send, (search sendable depth 20, (search ends depth 20, tt))))))))))
 
-pub slot_worker_send : IsSend slot_worker.the_row
-slot_worker_send = view_send _ _ _ _ _ (slot_worker_inside_send its_ready_send its_ledger_send its_sane_send its_sane_sync)
+pub slot_worker_send : SharedCrosses → IsSend slot_worker.the_row
+slot_worker_send o = view_send _ _ _ _ _ (slot_worker_inside_send o its_ready_send its_ledger_send its_sane_send its_sane_sync)
 
 slot_ended_inside_send : IsSend ready.the_row → IsSend (ledger.the_row driver.the_row ghosts) → IsSend slot_ended_inside.the_row
 slot_ended_inside_send r l = declared_send slot_ended_inside.the_type (search ends depth 20, (search (ends, onwards.the_send) depth 20, (l, (search ends depth 20, tt))))
@@ -270,11 +268,11 @@ slot_ended_inside_send r l = declared_send slot_ended_inside.the_type (search en
 pub slot_ended_send : IsSend slot_ended.the_row
 slot_ended_send = view_send _ _ _ _ _ (slot_ended_inside_send its_ready_send its_ledger_send)
 
-apply_worker_inside_send : IsSend apply_worker_inside.the_row
-apply_worker_inside_send = declared_send apply_worker_inside.the_type (search (ends, onwards.the_send) depth 20, (appliers.the_send, (search outlets depth 20, (counters.the_send, (search sendable depth 20, (search ends depth 20, tt))))))
+apply_worker_inside_send : SharedCrosses → IsSend apply_worker_inside.the_row
+apply_worker_inside_send o = declared_send apply_worker_inside.the_type (search (ends, onwards.the_send) depth 20, (appliers.the_send, ((let send = o.send in let sync = o.sync in search (sendable, crosses) depth 20), (counters.the_send, (search sendable depth 20, (search ends depth 20, tt))))))
 
-pub apply_worker_send : IsSend apply_worker.the_row
-apply_worker_send = view_send _ _ _ _ _ apply_worker_inside_send
+pub apply_worker_send : SharedCrosses → IsSend apply_worker.the_row
+apply_worker_send o = view_send _ _ _ _ _ (apply_worker_inside_send o)
 
 apply_ended_inside_send : IsSend apply_ended_inside.the_row
 apply_ended_inside_send = declared_send apply_ended_inside.the_type (search (ends, onwards.the_send) depth 20, (appliers.the_send, (search sendable depth 20, (search ends depth 20, tt))))
@@ -282,11 +280,11 @@ apply_ended_inside_send = declared_send apply_ended_inside.the_type (search (end
 pub apply_ended_send : IsSend apply_ended.the_row
 apply_ended_send = view_send _ _ _ _ _ apply_ended_inside_send
 
-courier_inside_send : IsSend courier_inside.the_row
-courier_inside_send = declared_send courier_inside.the_type (search (sendable, crosses) depth 20, (search outlets depth 20, (tails.the_send, (counters.the_send, (search sendable depth 20, tt)))))
+courier_inside_send : SharedCrosses → IsSend courier_inside.the_row
+courier_inside_send o = declared_send courier_inside.the_type (search (sendable, crosses) depth 20, ((let send = o.send in let sync = o.sync in search (sendable, crosses) depth 20), (tails.the_send, (counters.the_send, (search sendable depth 20, tt)))))
 
-pub courier_send : IsSend courier.the_row
-courier_send = view_send _ _ _ _ _ courier_inside_send
+pub courier_send : SharedCrosses → IsSend courier.the_row
+courier_send o = view_send _ _ _ _ _ (courier_inside_send o)
 
 courier_ended_inside_send : IsSend courier_ended_inside.the_row
 courier_ended_inside_send = declared_send courier_ended_inside.the_type (search (sendable, crosses, tails_done.the_send) depth 20, (search sendable depth 20, (search sendable depth 20, tt)))

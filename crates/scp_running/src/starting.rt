@@ -8,6 +8,7 @@ ghost use Rattle.scp_courier.specs.Carrying as carrying;
 
 use scp_courier::{Courier, CourierEnded};
 use scp_gate::Gate;
+use scp_outbox::a_shared_outbox_crosses_threads;
 use scp_types::Fault;
 use scp_workers::{
     ApplyEnded, ApplyWorker, PendEnded, PendWorker, ReaderEnded, ReaderWorker, SlotEnded,
@@ -109,6 +110,7 @@ pub fn start_pend<'s, E, R: Threads + Wait + Sync, G: Gate + Sync>(
     ensures worker { IfOk result (λ h. h.promise.0.value ≡ worker) }
     ensures only_memory { IsOkUnless result Fault.NoMemory }
 {
+    a_shared_outbox_crosses_threads();
     let promise = HoldsPend(Snapshot::of(&worker));
     match scope.spawn_with(
         promise,
@@ -131,6 +133,7 @@ pub fn start_slot<'s, E, R: Threads + Wait + Sync, G: Gate + Sync>(
     ensures worker { IfOk result (λ h. h.promise.0.value ≡ worker) }
     ensures only_memory { IsOkUnless result Fault.NoMemory }
 {
+    a_shared_outbox_crosses_threads();
     let promise = HoldsSlot(Snapshot::of(&worker));
     match scope.spawn_with(
         promise,
@@ -153,6 +156,7 @@ pub fn start_apply<'s, E, R: Threads + Wait + Sync, G: Gate + Sync>(
     ensures worker { IfOk result (λ h. h.promise.0.value ≡ worker) }
     ensures only_memory { IsOkUnless result Fault.NoMemory }
 {
+    a_shared_outbox_crosses_threads();
     let promise = HoldsApply(Snapshot::of(&worker));
     match scope.spawn_with(
         promise,
@@ -175,6 +179,7 @@ pub fn start_courier<'s, E, R: Threads + Wait + Sync, G: Gate + Sync>(
     ensures worker { IfOk result (λ h. h.promise.0.value ≡ worker) }
     ensures only_memory { IsOkUnless result Fault.NoMemory }
 {
+    a_shared_outbox_crosses_threads();
     let promise = HoldsCourier(Snapshot::of(&worker));
     match scope.spawn_with(
         promise,

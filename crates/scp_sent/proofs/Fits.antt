@@ -14,7 +14,7 @@ use Rattle.scp_envelope.specs.declared.statement.Pledges.TheVariants.{Prepare, C
 use Rattle.scp_wire.specs.declared.message.Message.{Message}
 use Rattle.scp_wire.specs.declared.message.Message.TheVariants.{Envelope, GetSet, Set, NoSet, GetRecord, Record, Records}
 use Rattle.scp_wire.specs.Message.{message_kind, message_value, SpellsMessage, FitsMessage, HasRanges}
-use Rattle.scp_wire.proofs.Limits.{over_breaks, over_is}
+use Rattle.scp_wire.specs.Parts.{LimitsAreOfTheValue}
 use Rattle.scp_outbox.specs.Fitting.{IsFitting}
 use Rattle.scp_sent.specs.Fit.{NamesFit, SaneSetsFit, ShortRecordsFit, HasShortLists, ShortEnvelopesFit, WhatIsSpeltFits}
 
@@ -74,17 +74,19 @@ short_envelope = λ e fits few. λ b. elim b [
 fits_message : (bytes : List ℕ) (v : Values message_kind) → SpellsMessage bytes v → FitsMessage v
 fits_message bytes v s = record { fits = s.spells.fits; within = subst (λ (text : List ℕ). length text ≤ 65536) s.spells.spelt s.within }
 
-spelt_by : (bytes : List ℕ) (m : Message) → HasRanges m → SpellsMessage bytes (message_value m) → IsFitting m
-spelt_by bytes m range s = λ b. over_breaks (message_value m) ((over_is m range).1 b) (fits_message bytes (message_value m) s)
+-- by the law on what breaks a limit
+module _ (limits : LimitsAreOfTheValue) where
+  spelt_by : (bytes : List ℕ) (m : Message) → HasRanges m → SpellsMessage bytes (message_value m) → IsFitting m
+  spelt_by bytes m range s = λ b. (limits m range).1 b (fits_message bytes (message_value m) s)
 
-spelt_fits : (bytes : List ℕ) (m : Message) → SpellsMessage bytes (message_value m) → IsFitting m
-spelt_fits bytes (Envelope e) s = spelt_by bytes (Envelope e) tt s
-spelt_fits bytes (GetSet hash) s = λ b. b
-spelt_fits bytes (Set q) s = spelt_by bytes (Set q) tt s
-spelt_fits bytes (NoSet hash) s = λ b. b
-spelt_fits bytes (GetRecord slot) s = λ b. b
-spelt_fits bytes (Record slot value) s = λ longer. omega (arith, longer, s.spells.fits.1.1.1.1.1.1.1.0)
-spelt_fits bytes (Records first values) s = spelt_by bytes (Records first values) s.spells.fits.1.1.1.1.1.1.1.0 s
+  spelt_fits : (bytes : List ℕ) (m : Message) → SpellsMessage bytes (message_value m) → IsFitting m
+  spelt_fits bytes (Envelope e) s = spelt_by bytes (Envelope e) tt s
+  spelt_fits bytes (GetSet hash) s = λ b. b
+  spelt_fits bytes (Set q) s = spelt_by bytes (Set q) tt s
+  spelt_fits bytes (NoSet hash) s = λ b. b
+  spelt_fits bytes (GetRecord slot) s = λ b. b
+  spelt_fits bytes (Record slot value) s = λ longer. omega (arith, longer, s.spells.fits.1.1.1.1.1.1.1.0)
+  spelt_fits bytes (Records first values) s = spelt_by bytes (Records first values) s.spells.fits.1.1.1.1.1.1.1.0 s
 
-pub spelt : WhatIsSpeltFits
-spelt = spelt_fits
+  pub spelt : WhatIsSpeltFits
+  spelt = spelt_fits

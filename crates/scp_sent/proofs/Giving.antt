@@ -12,7 +12,7 @@ use Rattle.scp_wire.specs.declared.message.Message.TheVariants.{Envelope}
 use Rattle.scp_outbox.specs.Outbox.{OutboxView, are_alike, IsOutbox, Gives, given_messages, given_statements}
 use Rattle.scp_outbox.specs.declared.mark.Out.{Out}
 use Rattle.scp_outbox.specs.declared.mark.Out.TheVariants as out
-use Rattle.scp_outbox.proofs.Kept.{gives_known}
+use Rattle.scp_outbox.specs.Laws.{GivesKeepOneEach}
 use Rattle.scp_sent.specs.Sent.{statement_of, IsStep, AreNewer}
 use Rattle.scp_sent.specs.Waiting.{Owes}
 use Rattle.scp_sent.specs.Laws.{GivesKeepSends, SendsAreSent}
@@ -91,8 +91,8 @@ by_ring : (handed ms : List Message) (o : OutboxView) (ring : List Message) (m :
 by_ring handed ms o [] m p first gives known h = by_statements handed ms o o.statements m p refl gives known h
 by_ring handed ms o (n ∷ rest) m p first gives known h = subst (λ (k : Message). Left handed ms k p) (sym (same_message m n (ap (λ (x : Out × OutboxView). x.0) gives))) (gives_ring handed ms o n rest p first (ap (λ (x : Out × OutboxView). x.1) gives) known h)
 
-left : (handed ms : List Message) (o : OutboxView) (m : Message) (p : OutboxView) → Gives o (out.Message m) p → Owes handed ms o → Left handed ms m p
-left handed ms o m p gives h = by_ring handed ms o o.ring m p refl (unmarked o (out.Message m) p (h.live, h.no_marks) gives) (gives_known o (out.Message m) p h.known gives).0 h
+left : GivesKeepOneEach → (handed ms : List Message) (o : OutboxView) (m : Message) (p : OutboxView) → Gives o (out.Message m) p → Owes handed ms o → Left handed ms m p
+left known handed ms o m p gives h = by_ring handed ms o o.ring m p refl (unmarked o (out.Message m) p (h.live, h.no_marks) gives) (known o (out.Message m) p h.known gives).0 h
 
 spelt_push : (sent : List (List ℕ)) (ms : List Message) (bytes : List ℕ) (m : Message) → Spelt sent ms → SpellsMessage bytes (message_value m) → Spelt (sent ++ bytes ∷ []) (ms ++ m ∷ [])
 spelt_push [] [] bytes m h k = (k, tt)
@@ -100,9 +100,9 @@ spelt_push [] (n ∷ ms) bytes m h k = absurd h
 spelt_push (b ∷ sent) [] bytes m h k = absurd h
 spelt_push (b ∷ sent) (n ∷ ms) bytes m h k = (h.0, spelt_push sent ms bytes m h.1 k)
 
-pub gives_next : GivesKeepSends
-gives_next = λ handed sent o p m bytes gives spells h.
-    let l = left handed h.sent.messages o m p gives h.waits in
+pub gives_next : GivesKeepOneEach → GivesKeepSends
+gives_next known = λ handed sent o p m bytes gives spells h.
+    let l = left known handed h.sent.messages o m p gives h.waits in
     record {
       sent = record {
         messages = h.sent.messages ++ m ∷ [];

@@ -7,7 +7,7 @@ use Rattle.scp_wire.specs.Boxed.{Boxed}
 use Rattle.scp_wire.specs.declared.message.Message.{Message}
 use Rattle.scp_wire.specs.declared.message.Message.TheVariants.{Envelope, GetSet, Set, NoSet, GetRecord, Record, Records}
 use Rattle.scp_outbox.specs.Outbox.{OutboxView, keep_last, are_alike, Takes, Replaces, Puts, IsOutbox}
-use Rattle.scp_outbox.proofs.Kept.{puts_known}
+use Rattle.scp_outbox.specs.Laws.{PutsKeepOneEach}
 use Rattle.scp_sent.specs.Handing.{PutsAll, empty_outbox}
 use Rattle.scp_sent.specs.Sent.{statement_of, IsStep, AreNewer}
 use Rattle.scp_sent.specs.Waiting.{Owes}
@@ -75,12 +75,12 @@ owes_put handed ms o (Record slot value) p next puts known h = put_ring handed m
 owes_put handed ms o (Records first values) p next puts known h = put_ring handed ms o (Records first values) p refl next puts known h
 
 -- all that is handed out is put
-owes_puts : (handed ms : List Message) (o : OutboxView) (more : List Message) (p : OutboxView) → All (IsNext handed ms) more → PutsAll o more p → Owes handed ms o → Owes handed ms p
-owes_puts handed ms o [] p next puts h = subst (Owes handed ms) (sym puts) h
-owes_puts handed ms o (m ∷ more) p next puts h =
+owes_puts : PutsKeepOneEach → (handed ms : List Message) (o : OutboxView) (more : List Message) (p : OutboxView) → All (IsNext handed ms) more → PutsAll o more p → Owes handed ms o → Owes handed ms p
+owes_puts known handed ms o [] p next puts h = subst (Owes handed ms) (sym puts) h
+owes_puts known handed ms o (m ∷ more) p next puts h =
     let one : IsNext handed ms m = next 0 m (omega arith) in
-    let then = owes_put handed ms o m puts.0 one puts.2 (puts_known o m puts.0 h.known puts.1 puts.2) h in
-    owes_puts handed ms puts.0 more p (All-tail (IsNext handed ms) m more next) puts.3 then
+    let then = owes_put handed ms o m puts.0 one puts.2 (known o m puts.0 h.known puts.1 puts.2) h in
+    owes_puts known handed ms puts.0 more p (All-tail (IsNext handed ms) m more next) puts.3 then
 
 -- of two lists, one after the other: each of the first and each of the second
 pairs_across : {X : Type 0} (R : X → X → Type 0) (xs ys : List X) (x : X) (k : ℕ) (d : X) → AllPairs R (xs ++ ys) → Contains xs x → k < length ys → R x (get_or ys k d)
@@ -95,8 +95,8 @@ pairs_across R xs ys x k d pairs there below =
 step_to : (handed more : List Message) (n : Message) (k : ℕ) (d : Message) → AreNewer (handed ++ more) → Contains handed n → k < length more → IsStep (statement_of n) (statement_of (get_or more k d))
 step_to handed more n k d newer there below = pairs_across (λ a b. IsStep (statement_of a) (statement_of b)) handed more n k d newer there below
 
-pub puts : PutsKeepSends
-puts = λ handed more sent o p newer put h.
+pub puts : PutsKeepOneEach → PutsKeepSends
+puts known = λ handed more sent o p newer put h.
     let next : All (IsNext (handed ++ more) h.sent.messages) more = λ k d below. (Contains-append_right handed more (get_or more k d) (Contains-get_or more k d below), λ i e there. step_to handed more (get_or h.sent.messages i e) k d newer (h.sent.were_handed i e there) below) in
     record {
       sent = record {
@@ -105,7 +105,7 @@ puts = λ handed more sent o p newer put h.
         were_handed = λ k d below. Contains-append_left handed more (get_or h.sent.messages k d) (h.sent.were_handed k d below);
         newer = h.sent.newer;
       };
-      waits = owes_puts (handed ++ more) h.sent.messages o more p next put (owes_grow handed more h.sent.messages o h.waits);
+      waits = owes_puts known (handed ++ more) h.sent.messages o more p next put (owes_grow handed more h.sent.messages o h.waits);
     }
 
 no_outbox : IsOutbox empty_outbox

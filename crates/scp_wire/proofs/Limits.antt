@@ -11,6 +11,7 @@ use Rattle.scp_envelope.specs.Kinds.{envelope_kind, envelope_value}
 use Rattle.scp_wire.specs.declared.message.Message.{Message}
 use Rattle.scp_wire.specs.declared.message.Message.TheVariants.{Envelope, GetSet, Set, NoSet, GetRecord, Record, Records}
 use Rattle.scp_wire.specs.Message.{message_kind, message_value, SpellsMessage, FitsMessage, HasRanges, BreaksALimit}
+use Rattle.scp_wire.specs.Parts.{LimitsAreOfTheValue}
 
 padded_len : (bytes : List ℕ) → length (padded bytes) ≤ length bytes + 3
 unfolding padded
@@ -102,3 +103,7 @@ over_is (Records first values) range = (over, back)
     back : BreaksALimit (Records first values) → IsOver (message_value (Records first values))
     back (inl unfit) = inl (λ fits. unfit fits.1.1.1.1.1.1.1)
     back (inr longer) = inr (omega (arith, longer, text_len 7 (spelling (numbered 32 value_kind) (first.0, values))))
+
+-- it breaks a limit just where its value doesn't fit
+pub limits_are : LimitsAreOfTheValue
+limits_are = λ m range. (λ unfit. (over_is m range).0 (breaks_over (message_value m) unfit), λ breaks. over_breaks (message_value m) ((over_is m range).1 breaks))

@@ -12,8 +12,11 @@ use Rattle.scp_wire.specs.declared.message.Message.{Message}
 use Rattle.scp_wire.specs.declared.link.Inbound.{Inbound}
 use Rattle.scp_wire.specs.declared.link.Inbound.TheVariants.{Opened, Carried, Side, Closed, Local}
 use Rattle.scp_wire.specs.Connections.{conn_at, same_conn, same_node}
-use Rattle.scp_wire.specs.Shape.{Come, nothing_came, AreInOrder, is_from, of_peer}
+use Rattle.scp_wire.specs.Shape.{Come, nothing_came, comes, MayCome, AreInOrder, is_from, of_peer}
+use Rattle.scp_wire.specs.Lanes.{slot_in, slots_of, HasSlot, HaveSlots, is_in_lane}
 use Rattle.scp_wire.specs.Marks.{Mark, number, ended, one_if, came_mark, marks_in, came_message, messages_in, Follows}
+use Rattle.scp_wire.specs.Parts.{PartsSayWhatTheWholeSays, LanesArePartByPart, PeersSayAllOfTheirs, IsNumbered, NumbersNameMessages, OrderIsOfThePeer, OthersHaveNoNumber}
+use Rattle.scp_wire.proofs.Lanes.{filter-append}
 
 -- ---- connections
 
@@ -125,13 +128,6 @@ slice_get-at : {X : Type 0} (xs : List X) (x : X) (ys : List X) → slice_get (x
 slice_get-at [] x ys = refl
 slice_get-at (z ∷ zs) x ys = slice_get-at zs x ys
 
-abbrev pub IsNumbered : ConnId → List Message → Inbound → Type 0
-IsNumbered c messages (Opened conn) = Unit {0}
-IsNumbered c messages (Carried x) = same_conn x.conn c ≡ true → slice_get messages x.seq.0 ≡ Some x.message
-IsNumbered c messages (Side conn message) = Unit {0}
-IsNumbered c messages (Closed conn cause) = Unit {0}
-IsNumbered c messages (Local command) = Unit {0}
-
 -- so many messages came already
 record Came (life : ℕ) (h : Come) (before : List Message) : Type 0 where
   later : h.life < life → before ≡ []
@@ -182,3 +178,64 @@ numbered_all c messages (x ∷ xs) a = by_test (is_from c.from x) refl (numbered
     by_test : (b : Bool) → is_from c.from x ≡ b → (AllByRecursion (IsNumbered c messages) (of_peer c.from xs) → AllByRecursion (IsNumbered c messages) xs) → AllByRecursion (IsNumbered c messages) (cond b (x ∷ of_peer c.from xs) (of_peer c.from xs)) → AllByRecursion (IsNumbered c messages) (x ∷ xs)
     by_test true e k h = (h.0, k h.1)
     by_test false e k h = (other_numbered c messages x e, k h)
+
+-- the slots of the messages that came are those of their numbers
+slot_is : (c : ConnId) (messages : List Message) (x : Inbound) → IsNumbered c messages x → HasSlot c (slots_of messages) x
+slot_is c messages (Opened conn) k = tt
+slot_is c messages (Carried x) k = λ e. ap slot_in (k e)
+slot_is c messages (Side conn message) k = tt
+slot_is c messages (Closed conn cause) k = tt
+slot_is c messages (Local command) k = tt
+
+slots_are : (c : ConnId) (messages : List Message) (xs : List Inbound) → AllByRecursion (IsNumbered c messages) xs → HaveSlots c (slots_of messages) xs
+slots_are c messages [] a = tt
+slots_are c messages (x ∷ xs) a = (slot_is c messages x a.0, slots_are c messages xs a.1)
+
+-- with more that come later
+numbered_with : (c : ConnId) (messages later : List Message) (x : Inbound) → IsNumbered c messages x → IsNumbered c (messages ++ later) x
+numbered_with c messages later (Opened conn) k = tt
+numbered_with c messages later (Carried x) k = λ e. slice_get-front messages later x.seq.0 x.message (k e)
+numbered_with c messages later (Side conn message) k = tt
+numbered_with c messages later (Closed conn cause) k = tt
+numbered_with c messages later (Local command) k = tt
+
+all_with : (c : ConnId) (messages later : List Message) (xs : List Inbound) → AllByRecursion (IsNumbered c messages) xs → AllByRecursion (IsNumbered c (messages ++ later)) xs
+all_with c messages later [] a = tt
+all_with c messages later (x ∷ xs) a = (numbered_with c messages later x a.0, all_with c messages later xs a.1)
+
+-- ---- what is in order is of its peer
+
+from_peer : (peer me : NodeId) (h : Come) (x : Inbound) → MayCome peer me h x → is_from peer x ≡ true
+from_peer peer me h (Opened conn) m = ap (λ (c : ConnId). same_node c.from peer) m.1 ∙ nat_list_eq_equiv.refl peer.0
+from_peer peer me h (Carried x) m = ap (λ (c : ConnId). same_node c.from peer) m.1 ∙ nat_list_eq_equiv.refl peer.0
+from_peer peer me h (Side conn message) m = ap (λ (c : ConnId). same_node c.from peer) m.1 ∙ nat_list_eq_equiv.refl peer.0
+from_peer peer me h (Closed conn cause) m = ap (λ (c : ConnId). same_node c.from peer) m.1 ∙ nat_list_eq_equiv.refl peer.0
+from_peer peer me h (Local command) m = absurd m
+
+all_of_peer : (peer me : NodeId) (h : Come) (xs : List Inbound) → AreInOrder peer me h xs → of_peer peer xs ≡ xs
+all_of_peer peer me h [] a = refl
+all_of_peer peer me h (x ∷ xs) a = ap (λ (b : Bool). cond b (x ∷ of_peer peer xs) (of_peer peer xs)) (from_peer peer me h x a.0) ∙ ap (λ ys. x ∷ ys) (all_of_peer peer me (comes h x) xs a.1)
+
+pub order_is_of_the_peer : OrderIsOfThePeer
+order_is_of_the_peer = all_of_peer
+
+-- ---- the laws
+
+pub parts_say : PartsSayWhatTheWholeSays
+parts_say = λ c front rest. record { marks = marks_in-append c front rest; messages = messages_in-append c front rest }
+
+pub lanes_part : LanesArePartByPart
+lanes_part = λ slots s front rest. filter-append (is_in_lane slots s) front rest
+
+pub peers_say : PeersSayAllOfTheirs
+peers_say = λ c items. record { marks = marks_of_peer c items; messages = messages_of_peer c items }
+
+pub numbers_name : NumbersNameMessages
+numbers_name = λ peer me items shape life later.
+    let c = conn_at peer me life in
+    let right : AllByRecursion (IsNumbered c (messages_in c items)) items = numbered_all c (messages_in c items) items (subst (λ (ms : List Message). AllByRecursion (IsNumbered c ms) (of_peer peer items)) (messages_of_peer c items) (numbered_right peer me life (of_peer peer items) shape)) in
+    let all : AllByRecursion (IsNumbered c (messages_in c items ++ later)) items = all_with c (messages_in c items) later items right in
+    record { messages_are = all; slots = slots_are c (messages_in c items ++ later) items all }
+
+pub others_have_none : OthersHaveNoNumber
+others_have_none = numbered_all

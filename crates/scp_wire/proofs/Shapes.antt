@@ -21,6 +21,7 @@ use Rattle.scp_wire.specs.declared.side.SideMessage.{SideMessage}
 use Rattle.scp_wire.specs.declared.side.SideMessage.TheVariants as side
 use Rattle.scp_wire.specs.Connections.{conn_at}
 use Rattle.scp_wire.specs.Shape.{Tail, never_open, goes, MayGo, AreOfLink, Come, nothing_came, comes, MayCome, AreInOrder}
+use Rattle.scp_wire.specs.Parts.{FrontsAreInOrder, OneMoreIsOfLink}
 use Rattle.scp_wire.specs.ReaderLaws.{ReadingsAreInOrder, ReadingsGrow, ReadingsGrowByOne, GrowsByOne}
 
 -- a message that is read as itself
@@ -94,13 +95,19 @@ pub in_order-append : (peer me : NodeId) (h : Come) (xs ys : List Inbound) → A
 in_order-append peer me h [] ys a b = b
 in_order-append peer me h (x ∷ xs) ys a b = (a.0, in_order-append peer me (comes h x) xs ys a.1 b)
 
-pub in_order-front : (peer me : NodeId) (h : Come) (xs ys : List Inbound) → AreInOrder peer me h (xs ++ ys) → AreInOrder peer me h xs
+in_order-front : (peer me : NodeId) (h : Come) (xs ys : List Inbound) → AreInOrder peer me h (xs ++ ys) → AreInOrder peer me h xs
 in_order-front peer me h [] ys a = tt
 in_order-front peer me h (x ∷ xs) ys a = (a.0, in_order-front peer me (comes h x) xs ys a.1)
 
-pub of_link-push : (peer me : NodeId) (t : Tail) (xs : List LinkItem) (x : LinkItem) → AreOfLink peer me t xs → MayGo peer me (fold goes t xs) x → AreOfLink peer me t (xs ++ x ∷ [])
+of_link-push : (peer me : NodeId) (t : Tail) (xs : List LinkItem) (x : LinkItem) → AreOfLink peer me t xs → MayGo peer me (fold goes t xs) x → AreOfLink peer me t (xs ++ x ∷ [])
 of_link-push peer me t [] x a b = (b, tt)
 of_link-push peer me t (y ∷ ys) x a b = (a.0, of_link-push peer me (goes t y) ys x a.1 b)
+
+pub fronts_are_in_order : FrontsAreInOrder
+fronts_are_in_order = in_order-front
+
+pub one_more_is_of_link : OneMoreIsOfLink
+one_more_is_of_link = of_link-push
 
 -- ---- one item
 

@@ -10,3 +10,4 @@ pub mod Marks
 pub mod Sent
 pub mod Lanes
 pub mod ReaderLaws
+pub mod Parts

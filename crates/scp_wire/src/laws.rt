@@ -1,5 +1,6 @@
 //! Laws of the definitions, each the contract of a function that does nothing.
 ghost use Rattle.scp_wire.specs.Lanes.{LanesOfSent, WholeFollows};
+ghost use Rattle.scp_wire.specs.Parts.{FrontsAreInOrder, LanesArePartByPart, LimitsAreOfTheValue, NumbersNameMessages, OneMoreIsOfLink, OrderIsOfThePeer, OthersHaveNoNumber, PartsSayWhatTheWholeSays, PeersSayAllOfTheirs};
 ghost use Rattle.scp_wire.specs.ReaderLaws.{ReadingsAreInOrder, ReadingsAreSent, ReadingsGrow, ReadingsGrowByOne};
 
 /// What is read of a link's items has its shape: lives 1, 2, .., on each the numbers 0, 1, 2, .., and nothing between the
@@ -27,4 +28,32 @@ pub fn what_is_read_grows_with_the_items()
 pub fn a_lane_follows_what_was_sent()
     ensures lanes { LanesOfSent }
     ensures follows { WholeFollows }
+{}
+
+/// A beginning of what has the shape of a link has it; all of it is of the link's peer; and a link's items with one more that may
+/// go next are of the link.
+pub fn a_beginning_keeps_the_shape()
+    ensures front { FrontsAreInOrder }
+    ensures peer { OrderIsOfThePeer }
+    ensures more { OneMoreIsOfLink }
+{}
+
+/// Of a connection two parts of what came say, one after the other, what the whole says, and so in each lane; and what came of
+/// its peer says all of it.
+pub fn parts_say_what_the_whole_says()
+    ensures parts { PartsSayWhatTheWholeSays }
+    ensures lanes { LanesArePartByPart }
+    ensures peers { PeersSayAllOfTheirs }
+{}
+
+/// Where what came of a link has its shape, each carried message is that of its number among the messages of its connection,
+/// and each number names its message's slot, whatever comes later. What is of another peer has none of these numbers.
+pub fn each_number_names_its_message()
+    ensures numbers { NumbersNameMessages }
+    ensures others { OthersHaveNoNumber }
+{}
+
+/// A message breaks a limit just where its value doesn't fit, so what has a spelling breaks none.
+pub fn what_fits_breaks_no_limit()
+    ensures limits { LimitsAreOfTheValue }
 {}

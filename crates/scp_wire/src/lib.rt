@@ -25,8 +25,9 @@ pub use boxed::BoxedEnvelope;
 pub use carried::Carried;
 pub use codec::{BATCH_LIMIT, decode, encode, is_side_message, reading_of_is_what_is_spelt};
 pub use laws::{
-    a_lane_follows_what_was_sent, what_is_read_grows_with_the_items, what_is_read_is_what_was_sent,
-    what_is_read_keeps_the_shape,
+    a_beginning_keeps_the_shape, a_lane_follows_what_was_sent, each_number_names_its_message,
+    parts_say_what_the_whole_says, what_fits_breaks_no_limit, what_is_read_grows_with_the_items,
+    what_is_read_is_what_was_sent, what_is_read_keeps_the_shape,
 };
 pub use link::{Bytes, Cause, Command, Inbound, LinkItem};
 pub use message::{MESSAGE_LIMIT, Message};

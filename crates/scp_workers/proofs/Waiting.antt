@@ -6,11 +6,10 @@ use Rattle.scp_types.specs.declared.names.NodeId.{NodeId}
 use Rattle.scp_quorum.specs.QuorumTree.{QuorumTree}
 use Rattle.scp_wire.specs.declared.link.Inbound.{Inbound}
 use Rattle.scp_pending.specs.declared.ready.Ready.{Ready}
+use Rattle.scp_pending.specs.Linked.{WhoItIsStays}
 use Rattle.scp_pending.specs.Passes.{Passes}
-use Rattle.scp_pending.specs.Rules.{PendingView, taken_in}
-use Rattle.scp_pending.specs.Pends.{Pends, PendsHere}
-use Rattle.scp_pending.proofs.Linked.{its_node}
-use Rattle.scp_pending.proofs.Sound.{local_step}
+use Rattle.scp_pending.specs.Rules.{PendingView, Settled, taken_in}
+use Rattle.scp_pending.specs.Pends.{Pends, PendsHere, start_of}
 use Rattle.scp_ends.specs.declared.item.Item.{Item}
 use Rattle.scp_ends.specs.declared.item.Item.TheVariants.{One, Stop}
 use Rattle.scp_ends.specs.Order.{values}
@@ -19,8 +18,8 @@ use Rattle.scp_ends.proofs.Steps.{values_append, values_stop}
 use Rattle.scp_workers.specs.Working.{IsSameEnd}
 use Rattle.scp_workers.specs.Pending.{PendWorking, PendEnd, GivesOn, TakesIn, TakesOn, HasPended, HasPendedAll, IsFor, HoldsEnds}
 
-pub takes_in : (x : Inbound) (old new : PendingView) → ((me : NodeId) → (peers : List NodeId) → Passes (Pends me peers) (x ∷ []) [] old new) → new ≡ taken_in old x → TakesIn x old new
-takes_in x old new passes e = (passes, ap (λ (v : PendingView). v.settled.store.local) e ∙ local_step old.settled x)
+pub takes_in : WhoItIsStays → (x : Inbound) (old new : PendingView) → ((me : NodeId) → (peers : List NodeId) → Passes (Pends me peers) (x ∷ []) [] old new) → new ≡ taken_in old x → TakesIn x old new
+takes_in stays x old new passes e = (passes, ap (λ (v : PendingView). v.settled.store.local) e ∙ (stays old.settled (x ∷ [])).local)
 
 pub gives_then : (u v w : PendingView) (a b d : List Ready) → GivesOn u a v b → GivesOn v b w d → GivesOn u a w d
 gives_then u v w a b d f g = (λ me peers taken p. g.0 me peers taken (f.0 me peers taken p), g.1 ∙ f.1)
@@ -55,14 +54,18 @@ pended_stop me peers local got now n v sent h e = record {
 }
 
 -- the stage is that of this node
-pub is_for : (me : NodeId) (peers : List NodeId) (local : QuorumTree) (got : List (Item Inbound)) (sent : List Ready) (v : PendingView) → HasPended me peers local got sent v → IsFor me peers local v
-is_for me peers local got sent v h =
-    let is = its_node me peers (values got) sent v h.pends in
-    record { me_is = is.0; peers_are = is.1; local_is = h.local_is }
+pub is_for : WhoItIsStays → (me : NodeId) (peers : List NodeId) (local : QuorumTree) (got : List (Item Inbound)) (sent : List Ready) (v : PendingView) → HasPended me peers local got sent v → IsFor me peers local v
+is_for stays me peers local got sent v h =
+    let is = stays (start_of me peers v) (values got) in
+    record {
+      me_is = ap (λ (s : Settled). s.me) h.pends.settled ∙ is.me;
+      peers_are = ap (λ (s : Settled). s.peers) h.pends.settled ∙ is.peers;
+      local_is = h.local_is;
+    }
 
-pub ends_well : (me : NodeId) (peers : List NodeId) (local : QuorumTree) (input : Receiver Inbound) (tx done : Sender Ready) (v : PendingView) → done ≡ tx → HeardAll input → HasPended me peers local input.got tx.sent v → HasPendedAll input v done
-ends_well me peers local input tx done v same heard h =
-    let is = is_for me peers local input.got tx.sent v h in
+pub ends_well : WhoItIsStays → (me : NodeId) (peers : List NodeId) (local : QuorumTree) (input : Receiver Inbound) (tx done : Sender Ready) (v : PendingView) → done ≡ tx → HeardAll input → HasPended me peers local input.got tx.sent v → HasPendedAll input v done
+ends_well stays me peers local input tx done v same heard h =
+    let is = is_for stays me peers local input.got tx.sent v h in
     record {
       heard = heard;
       pends = subst (λ (s : Sender Ready). PendsHere (values input.got) s.sent v) (sym same)

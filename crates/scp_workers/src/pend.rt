@@ -9,7 +9,7 @@ use crate::handing::hand_out;
 use scp_ends::{Gone, InboxRx, Item, Nobody, ReadyDone, ReadyTx};
 use scp_gate::{Counter, Gate, Stage};
 use scp_outbox::SharedOutbox;
-use scp_pending::{Pending, Ready};
+use scp_pending::{Pending, Ready, who_it_is_stays};
 use scp_quorum::SaneSet;
 use scp_types::NodeId;
 use scp_wire::Inbound;
@@ -180,6 +180,7 @@ fn take_in<R: Wait>(
     requires { pending.old.leaving ≡ [] }
     ensures { result ≡ true → TakesIn item pending.old pending.new }
 {
+    who_it_is_stays();
     match pending.take(item) {
         Ok(answer) => {
             hand_out(rt, outlets, answer);
@@ -327,6 +328,7 @@ impl PendWorker {
         requires { self.cut_off ≡ false → HeardAll self.input }
         ensures { HoldsEnds self result }
     {
+        who_it_is_stays();
         let well = self.is_well();
         let PendWorker {
             rx,

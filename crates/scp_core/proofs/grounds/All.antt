@@ -18,7 +18,7 @@ use Rattle.scp_core.specs.Ledger.{IsFailure}
 use Rattle.scp_core.specs.Node.{NodeView}
 use Rattle.scp_core.specs.Theorem.{IsMade, AreSteps, LedgerTheorem}
 use Rattle.scp_core.specs.Sent.{sent_by, sent_to, IsSentOut, grounds_of}
-use Rattle.scp_core.proofs.Accounting.{KvKeeps}
+use Rattle.scp_core.proofs.Below.{Laws}
 use Rattle.scp_core.proofs.grounds.Basics.{none_some}
 use Rattle.scp_core.proofs.grounds.Handing.{Boxes, boxes_sent, first_boxes, sent_out}
 use Rattle.scp_core.proofs.grounds.Putting.{IsSaid}
@@ -26,10 +26,10 @@ use Rattle.scp_core.proofs.grounds.Stepping.{State, state_of, at_arrived, state_
 
 -- ---- the node as it was made
 
-made_stands : (v : NodeView) → IsMade v → State nothing_heard (λ link. []) v
-made_stands v m = state_of nothing_heard (λ link. []) v [] (sym m.queues.0) (record {
+made_stands : Laws → (v : NodeView) → IsMade v → State nothing_heard (λ link. []) v
+made_stands law v m = state_of nothing_heard (λ link. []) v [] (sym m.queues.0) (record {
   handed = λ link. [];
-  boxes = subst (λ (o : List OutboxView). Boxes (grounds_of v []) (λ link. []) o (λ link. [])) (sym m.outboxes) (first_boxes (grounds_of v []) (length v.config.peers));
+  boxes = subst (λ (o : List OutboxView). Boxes (grounds_of v []) (λ link. []) o (λ link. [])) (sym m.outboxes) (first_boxes law.empty (grounds_of v []) (length v.config.peers));
   machines = λ at machine e. none_some None machine refl (sym (ap (λ (ms : List (ℕ × SlotMachine KvDriver)). machine_at ms at) m.ledger.3) ∙ e);
   behind = λ link. All-nil (IsSaid v.ledger);
 })
@@ -46,7 +46,7 @@ same_bytes p sent same v e s = record {
   now = λ runs. ((s.now runs).0, (let st = (s.now runs).1 in record { handed = st.handed; boxes = boxes_sent (grounds_of v s.taken) sent same v.outboxes st.handed e st.boxes; machines = st.machines; behind = st.behind }));
 }
 
-along : KvKeeps → (c : Config) (xs : List Exchange) (p : Past) (sent : ℕ → List (List ℕ)) (v last : NodeView) → AreSteps c p v xs last → State p sent v → State (fold (λ q x. hears c q x.0 x.1) p xs) (λ link. sent link ++ sent_to link xs) last
+along : Laws → (c : Config) (xs : List Exchange) (p : Past) (sent : ℕ → List (List ℕ)) (v last : NodeView) → AreSteps c p v xs last → State p sent v → State (fold (λ q x. hears c q x.0 x.1) p xs) (λ link. sent link ++ sent_to link xs) last
 along law c [] p sent v last a s = subst (λ (w : NodeView). State p (λ link. sent link ++ []) w) (sym a) (same_bytes p sent (λ link. sent link ++ []) v (λ link. append-nil (sent link)) s)
 along law c (x ∷ xs) p sent v last a s =
     let next : State (hears c p x.0 x.1) (λ link. sent link ++ sent_by link x.0 x.1) a.0 = state_step law c p sent v x.0 x.1 a.0 a.1 s in
@@ -56,9 +56,9 @@ along law c (x ∷ xs) p sent v last a s =
 -- ---- all that was sent
 
 -- by the exchanges and the node that they left, while it runs
-pub sent_at : KvKeeps → (past : List Exchange) (v : NodeView) → LedgerTheorem past v → (f : Flows (past_of v.config past) v) → (link : ℕ) → IsSentOut (grounds_of v f.arrived) link (sent_to link past)
+pub sent_at : Laws → (past : List Exchange) (v : NodeView) → LedgerTheorem past v → (f : Flows (past_of v.config past) v) → (link : ℕ) → IsSentOut (grounds_of v f.arrived) link (sent_to link past)
 sent_at law past v h f =
-    let s : State (past_of v.config past) (λ link. sent_to link past) v = along law v.config past nothing_heard (λ link. []) h.first v h.replies (made_stands h.first h.made) in
+    let s : State (past_of v.config past) (λ link. sent_to link past) v = along law v.config past nothing_heard (λ link. []) h.first v h.replies (made_stands law h.first h.made) in
     let st = at_arrived (past_of v.config past) (λ link. sent_to link past) v f s in
     sent_out (grounds_of v f.arrived) (λ link. sent_to link past) v.outboxes st.handed st.boxes
 

@@ -35,7 +35,8 @@ use Rattle.scp_core.specs.History.{Past}
 use Rattle.scp_core.specs.Node.{NodeView}
 use Rattle.scp_ledger.specs.Journals.{request_by}
 use Rattle.scp_ledger.specs.Onwards.{request_on, requests_on}
-use Rattle.scp_core.proofs.Accounting.{KvKeeps, kept_at}
+use Rattle.scp_core.proofs.Accounting.{kept_at}
+use Rattle.scp_core.proofs.Below.{Laws}
 use Rattle.scp_core.specs.Sent.{Grounds, IsLifeOf, TellsToAsk, AsksForRecord, IsApplied, grounds_of}
 use Rattle.scp_core.proofs.grounds.Basics.{any_here, any_later, none_some, some_same}
 use Rattle.scp_core.proofs.grounds.Places.{place_of, life_at}
@@ -70,7 +71,7 @@ command_in (x ∷ xs) link slot h = elim (Contains-append_cases (passing x) (com
 ]
 
 -- a command that the slot stage takes was taken
-pub told_to_ask : KvKeeps → (p : Past) (v : NodeView) (f : Flows p v) (rest : List Ready) (link : ℕ) (slot : Slot) → v.ready ≡ ready.Local (Ask link slot) ∷ rest → Any (TellsToAsk link slot) f.arrived
+pub told_to_ask : Laws → (p : Past) (v : NodeView) (f : Flows p v) (rest : List Ready) (link : ℕ) (slot : Slot) → v.ready ≡ ready.Local (Ask link slot) ∷ rest → Any (TellsToAsk link slot) f.arrived
 told_to_ask law p v f rest link slot e =
     let verdicts = (kept_at law p v f).verdicts in
     let took : List Ready = things verdicts.takes in
@@ -137,7 +138,7 @@ request_there p v f rest link slot e =
     subst (λ (xs : List Onward). Contains xs (Asked link slot)) (sym requests ∙ f.journal.requests)
     (Contains-append_right (requests_on f.applied) (Asked link slot ∷ requests_on behind) (Asked link slot) (Contains-append_left (Asked link slot ∷ []) (requests_on behind) (Asked link slot) (Contains-push [] (Asked link slot))))
 
-asks_there : KvKeeps → (p : Past) (v : NodeView) (f : Flows p v) (rest : List Onward) (link : ℕ) (slot : Slot) → v.decided ≡ Asked link slot ∷ rest → AsksForRecord (grounds_of v f.arrived) link slot
+asks_there : Laws → (p : Past) (v : NodeView) (f : Flows p v) (rest : List Onward) (link : ℕ) (slot : Slot) → v.decided ≡ Asked link slot ∷ rest → AsksForRecord (grounds_of v f.arrived) link slot
 asks_there law p v f rest link slot e =
     let h = entry_in v.config.peers v.ledger.journal link slot (request_there p v f rest link slot e) in
     let fate : Fate = Taken h.conn h.seq (message.GetRecord slot) h.set h.verdict in
@@ -172,7 +173,7 @@ answer_may : (g : Grounds) (link : ℕ) (slot : Slot) (found : Option (List ℕ)
 answer_may g link slot None has asked = tt
 answer_may g link slot (Some value) has asked = ((has value refl, asked), refl)
 
-pub applied_may : KvKeeps → (p : Past) (v : NodeView) (f : Flows p v) (x : Onward) (rest : List Onward) (answer : Option (ℕ × Message)) (new : ApplierView) → v.decided ≡ x ∷ rest → Takes v.applier x answer new → MayReply (grounds_of v f.arrived) answer
+pub applied_may : Laws → (p : Past) (v : NodeView) (f : Flows p v) (x : Onward) (rest : List Onward) (answer : Option (ℕ × Message)) (new : ApplierView) → v.decided ≡ x ∷ rest → Takes v.applier x answer new → MayReply (grounds_of v f.arrived) answer
 applied_may law p v f (Decided d) rest answer new e t = subst (MayReply (grounds_of v f.arrived)) (sym t.0) tt
 applied_may law p v f (Asked link slot) rest answer new e t =
     let g = grounds_of v f.arrived in

@@ -1,6 +1,10 @@
 -- Lists that grow, and tests.
 use Rattle.std.proofs.Common.{◌≡◌, ℕ, Bool, true, false, List, [], ◌∷◌, ◌++◌, refl, sym, ◌∙◌, subst, arith, append-nil, zero, suc, inl, inr, ◌⊎◌}
 use Rattle.std.specs.Prelude.{Option, Some, None, IsSome, Any, Contains, slice_get, replicate, ◌&&◌}
+use Rattle.std.specs.BTreeMap as tree
+use Rattle.std.specs.Cmp.{unsigned_tied}
+use Rattle.std.specs.Ordering.{nat_cmp}
+use Rattle.std.proofs.lemmas.Bool.{eqb-true}
 use Rattle.std.proofs.lemmas.List.{get_or_append_left, length-append}
 
 -- the new list is the old one, and maybe more
@@ -71,3 +75,7 @@ pub get_replicate : {X : Type 0} (n : ℕ) (x : X) (l : ℕ) (y : X) → slice_g
 get_replicate zero x l y e = absurd cc
 get_replicate (suc n) x zero y e = cc
 get_replicate (suc n) x (suc l) y e = get_replicate n x l y e
+
+-- two keys of a map that are the same
+pub at_is : (a b : ℕ) → tree.is_at (nat_cmp a) b ≡ true → a ≡ b
+at_is a b e = eqb-true a b (sym (unsigned_tied a b) ∙ e)

@@ -10,8 +10,7 @@ use Rattle.scp_outbox.specs.Outbox.{OutboxView}
 use Rattle.scp_sent.specs.Handing.{PutsAll, HandsOut, GivesThere, empty_outbox}
 use Rattle.scp_sent.specs.Sent.{statement_of, IsStep, AreNewer, AreSent}
 use Rattle.scp_sent.specs.Waiting.{Sends}
-use Rattle.scp_sent.proofs.Waiting.{empty, puts}
-use Rattle.scp_sent.proofs.Giving.{gives_next, sends_are_sent}
+use Rattle.scp_sent.specs.Laws.{EmptySends, PutsKeepSends, GivesKeepSends}
 use Rattle.scp_ledger.specs.declared.took.Outgoing.{Outgoing}
 use Rattle.scp_core.specs.Node.{HandsOne, messages_for, handed_by}
 use Rattle.scp_core.proofs.Queues.{get_set, within, there_is}
@@ -31,8 +30,8 @@ pub record Boxes (g : Grounds) (sent : ℕ → List (List ℕ)) (boxes : List Ou
 none_newer : AreNewer []
 none_newer i j d lt below = absurd (omega (arith, below))
 
-pub first_boxes : (g : Grounds) (n : ℕ) → Boxes g (λ link. []) (replicate n empty_outbox) (λ link. [])
-first_boxes g n = record {
+pub first_boxes : EmptySends → (g : Grounds) (n : ℕ) → Boxes g (λ link. []) (replicate n empty_outbox) (λ link. [])
+first_boxes empty g n = record {
   sends = λ link o there. subst (λ (b : OutboxView). Sends [] [] b) (sym (get_replicate n empty_outbox link o there)) empty;
   none = λ link there. refl;
   allowed = λ link. All-nil (MaySend g link);
@@ -75,7 +74,7 @@ sent_out g sent boxes handed b link = by_there (slice_get boxes link) refl
   where
     by_there : (o : Option OutboxView) → slice_get boxes link ≡ o → IsSentOut g link (sent link)
     by_there None e = subst (λ (s : List (List ℕ)). IsSentOut g link s) (sym (b.none link e)) (nothing_sent g link)
-    by_there (Some o) e = sent_of g link (handed link) (sent link) (b.allowed link) (sends_are_sent (handed link) (sent link) o (b.sends link o e))
+    by_there (Some o) e = sent_of g link (handed link) (sent link) (b.allowed link) (b.sends link o e).sent
 
 -- ---- one thing is handed out
 
@@ -89,9 +88,9 @@ pub record PutsOne (g : Grounds) (sent : ℕ → List (List ℕ)) (handed : ℕ 
   pub boxes : Boxes g sent new now
   pub is : (link : ℕ) → IsPut (handed link) (messages_for link one) (now link)
 
-pub puts_one : (g : Grounds) (sent : ℕ → List (List ℕ)) (old : List OutboxView) (handed : ℕ → List Message) (one : Outgoing) (new : List OutboxView) → Boxes g sent old handed → HandsOne old one new
+pub puts_one : PutsKeepSends → (g : Grounds) (sent : ℕ → List (List ℕ)) (old : List OutboxView) (handed : ℕ → List Message) (one : Outgoing) (new : List OutboxView) → Boxes g sent old handed → HandsOne old one new
     → ((link : ℕ) → All (MaySend g link) (messages_for link one)) → ((link : ℕ) → AreNewer (handed link ++ messages_for link one)) → PutsOne g sent handed one new
-puts_one g sent old handed one new b hands may newer = elim hands [
+puts_one puts g sent old handed one new b hands may newer = elim hands [
   | inl put ↦ fitting put.1
   | inr left ↦ record { now = handed; boxes = subst (λ (o : List OutboxView). Boxes g sent o handed) (sym left.1) b; is = λ link. inr refl }
 ]
@@ -142,9 +141,9 @@ set_else (z ∷ zs) zero (suc m) y ne = refl
 set_else (z ∷ zs) (suc l) zero y ne = refl
 set_else (z ∷ zs) (suc l) (suc m) y ne = set_else zs l m y (λ e. ne (ap suc e))
 
-pub gives_one : (g : Grounds) (sent same : ℕ → List (List ℕ)) (old : List OutboxView) (handed : ℕ → List Message) (link : ℕ) (message : Message) (bytes : List ℕ) (new : List OutboxView) → Boxes g sent old handed → GivesThere old link (Some message) new → SpellsMessage bytes (message_value message)
+pub gives_one : GivesKeepSends → (g : Grounds) (sent same : ℕ → List (List ℕ)) (old : List OutboxView) (handed : ℕ → List Message) (link : ℕ) (message : Message) (bytes : List ℕ) (new : List OutboxView) → Boxes g sent old handed → GivesThere old link (Some message) new → SpellsMessage bytes (message_value message)
     → (same link ≡ sent link ++ bytes ∷ []) → ((m : ℕ) → m ≢ link → same m ≡ sent m) → Boxes g same new handed
-gives_one g sent same old handed link message bytes new b gives spells here others = subst (λ (o : List OutboxView). Boxes g same o handed) (sym gives.is) (record {
+gives_one gives_next g sent same old handed link message bytes new b gives spells here others = subst (λ (o : List OutboxView). Boxes g same o handed) (sym gives.is) (record {
   sends = λ m o there. by_link m o (get_set old link gives.after' m o there);
   none = λ m there. by_none m there (which_link m);
   allowed = b.allowed;

@@ -33,10 +33,9 @@ use Rattle.scp_ledger.specs.declared.took.Took.{Took}
 use Rattle.scp_ledger.specs.Seen.{machine_at}
 use Rattle.scp_ledger.specs.Decisions.{is_decided, named_by}
 use Rattle.scp_ledger.specs.Takes.{to_peers, decision_of, RunsAt, Passes, Decides, Forwards, TakesMessage, Commands, Asks, TakesAsk, TakesCommand}
-use Rattle.scp_ledger.proofs.Ran.{at_is}
 use Rattle.scp_core.specs.declared.config.Config.{Config}
 use Rattle.scp_core.specs.Stages.{KvLedger, KvTakes}
-use Rattle.scp_core.proofs.grounds.Basics.{IsMore, no_more, more_of, none_some, which}
+use Rattle.scp_core.proofs.grounds.Basics.{IsMore, no_more, more_of, none_some, which, at_is}
 use Rattle.scp_core.proofs.grounds.Emitted.{IsMine}
 use Rattle.scp_core.proofs.grounds.Machines.{AreMine, IsBehind, Ran, ran, decided_then, decided_last}
 

@@ -37,11 +37,10 @@ use Rattle.scp_ledger.specs.declared.took.Took.{Took}
 use Rattle.scp_ledger.specs.Seen.{machine_at}
 use Rattle.scp_ledger.specs.Decisions.{is_at, is_decided}
 use Rattle.scp_ledger.specs.Takes.{IsMachineFor, decision_of, RunsAt}
-use Rattle.scp_ledger.proofs.Ran.{at_is}
 use Rattle.scp_core.specs.declared.config.Config.{Config}
 use Rattle.scp_core.specs.Stages.{KvLedger}
 use Rattle.scp_core.specs.Sent.{IsOwn, IsOwnOf, IsDecided}
-use Rattle.scp_core.proofs.grounds.Basics.{none_some, some_same, true_isnt, which, and_first, and_second}
+use Rattle.scp_core.proofs.grounds.Basics.{none_some, some_same, true_isnt, which, and_first, and_second, at_is}
 use Rattle.scp_core.proofs.grounds.Emitted.{IsTold, Tells, HasDecision, IsMine, Says, mine_then, says}
 
 -- ---- the last one said

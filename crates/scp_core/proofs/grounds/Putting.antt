@@ -9,6 +9,7 @@ use Rattle.scp_envelope.specs.declared.statement.Statement.{Statement}
 use Rattle.scp_wire.specs.declared.message.Message.{Message}
 use Rattle.scp_wire.specs.declared.message.Message.TheVariants.{Envelope, GetSet, Set, NoSet, GetRecord, Record, Records}
 use Rattle.scp_outbox.specs.Outbox.{OutboxView, is_nomination, same_bool}
+use Rattle.scp_sent.specs.Laws.{PutsKeepSends}
 use Rattle.scp_sent.specs.Handing.{to_link}
 use Rattle.scp_sent.specs.Sent.{statement_of, IsStep, AreNewer}
 use Rattle.scp_pending.specs.Queues.{hash_of}
@@ -71,11 +72,11 @@ newer_to messages to link m e newer = by_test (nat_eq link to)
 
 -- ---- a message for one link
 
-module _ (sent : ℕ → List (List ℕ)) (g : Grounds) (v : KvLedger) where
+module _ (puts : PutsKeepSends) (sent : ℕ → List (List ℕ)) (g : Grounds) (v : KvLedger) where
   -- it may be sent, and is no statement
   pub stands_one : (old new : List OutboxView) (to : ℕ) (m : Message) → Stands sent g v old → MaySend g to m → statement_of m ≡ None → HandsOne old (To to m) new → Stands sent g v new
   stands_one old new to m st may none hands =
-      let put = puts_one g sent old st.handed (To to m) new st.boxes hands (λ link. all_to (MaySend g) to link m may) (λ link. newer_to (st.handed link) to link m none (st.boxes.newer link)) in
+      let put = puts_one puts g sent old st.handed (To to m) new st.boxes hands (λ link. all_to (MaySend g) to link m may) (λ link. newer_to (st.handed link) to link m none (st.boxes.newer link)) in
       record {
         handed = put.now;
         boxes = put.boxes;
@@ -107,7 +108,7 @@ step_told g old new link e (Records first values) may said tell = tt
 abbrev told : Enveloped → Message
 told e = Envelope (record { value = e })
 
-module _ (sent : ℕ → List (List ℕ)) (g : Grounds) (before v : KvLedger) (same : g.decisions ≡ v.decisions) where
+module _ (puts : PutsKeepSends) (sent : ℕ → List (List ℕ)) (g : Grounds) (before v : KvLedger) (same : g.decisions ≡ v.decisions) where
   -- what is told may be sent, and is said then
   may_be_told : (link : ℕ) (e : Enveloped) → MayTell g.config before v e → MaySend g link (told e)
   may_be_told link e t = (t.own, rw same t.decided)
@@ -126,7 +127,7 @@ module _ (sent : ℕ → List (List ℕ)) (g : Grounds) (before v : KvLedger) (s
 
   tell_one : (old new : List OutboxView) (handed : ℕ → List Message) (e : Enveloped) → Boxes g sent old handed → MayTell g.config before v e → ((link : ℕ) → IsAhead (handed link) (told e)) → HandsOne old (ToAll e) new → Told handed e new
   tell_one old new handed e b t ahead hands =
-      let put = puts_one g sent old handed (ToAll e) new b hands (λ link. all_one (MaySend g link) (told e) (may_be_told link e t)) (λ link. newer_push (handed link) (told e) (b.newer link) (ahead link)) in
+      let put = puts_one puts g sent old handed (ToAll e) new b hands (λ link. all_one (MaySend g link) (told e) (may_be_told link e t)) (λ link. newer_push (handed link) (told e) (b.newer link) (ahead link)) in
       record { now = put.now; stands = put.boxes; is = put.is }
 
   module _ (handed : ℕ → List Message) (allowed : (link : ℕ) → All (MaySend g link) (handed link)) (was : (link : ℕ) → All (IsSaid before) (handed link)) (behind : (link : ℕ) → All (IsSaid v) (handed link)) (mine : AreMine g.config.me (hash_of g.config.set) v) where

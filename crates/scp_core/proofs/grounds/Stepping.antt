@@ -29,7 +29,7 @@ use Rattle.scp_core.specs.Node.{NodeView, HandsEach, PendTakes, SlotTakes, Apply
 use Rattle.scp_core.specs.Settled.{start_at}
 use Rattle.scp_core.specs.Stages.{KvLedger}
 use Rattle.scp_core.specs.Theorem.{IsReply}
-use Rattle.scp_core.proofs.Accounting.{KvKeeps}
+use Rattle.scp_core.proofs.Below.{Laws}
 use Rattle.scp_core.proofs.Links.{hand_cut}
 use Rattle.scp_core.proofs.Idling.{start_is}
 use Rattle.scp_core.proofs.Queues.{within, there_is}
@@ -84,24 +84,24 @@ accepted p sent old new event f a st = absurd a
 
 -- ---- the stages
 
-pend_takes : (p : Past) (sent : ℕ → List (List ℕ)) (old new : NodeView) (f : Flows p old) → PendTakes old new → Stands sent (grounds_of old f.arrived) old.ledger old.outboxes → State p sent new
-pend_takes p sent old new f b st =
+pend_takes : Laws → (p : Past) (sent : ℕ → List (List ℕ)) (old new : NodeView) (f : Flows p old) → PendTakes old new → Stands sent (grounds_of old f.arrived) old.ledger old.outboxes → State p sent new
+pend_takes law p sent old new f b st =
     let taken : List Inbound = f.arrived ++ b.x ∷ [] in
     let g = grounds_of old f.arrived in
     let h = grounds_of old taken in
     let more : Grows g h = record { config = refl; taken = more_of f.arrived taken (b.x ∷ []) refl; journal = no_more old.ledger.journal old.ledger.journal refl; decisions = no_more old.ledger.decisions old.ledger.decisions refl; applied = no_more old.applier.applied old.applier.applied refl } in
     let rules : old.pending.settled ≡ settled_by (start_at old.config) f.arrived = f.pending.settled ∙ ap (λ (start : Settled). settled_by start f.arrived) (start_is p old f) in
-    let may : MayReply h (reply_to old.pending.settled b.x) = subst (λ (s : Settled). MayReply h (reply_to s b.x)) (sym rules) (reply_may h f.arrived b.x refl) in
+    let may : MayReply h (reply_to old.pending.settled b.x) = subst (λ (s : Settled). MayReply h (reply_to s b.x)) (sym rules) (reply_may law.replies law.stays law.links h f.arrived b.x refl) in
     let came : p.came ≡ taken ++ b.rest = f.inbox ∙ ap (λ (xs : List Inbound). f.arrived ++ xs) b.inbox ∙ sym (append_assoc f.arrived (b.x ∷ []) b.rest) in
     subst (λ (v : NodeView). State p sent v) (sym b.is)
     (state_of p sent (record old { inbox = b.rest; pending = b.after'; pend_hand = b.thing; outboxes = new.outboxes }) taken came
-    (stands_answer sent h old.ledger old.outboxes new.outboxes (reply_to old.pending.settled b.x) (stands_more sent g h old.ledger old.outboxes more st) may b.hands))
+    (stands_answer law.puts sent h old.ledger old.outboxes new.outboxes (reply_to old.pending.settled b.x) (stands_more sent g h old.ledger old.outboxes more st) may b.hands))
 
 applied_more : (old : ApplierView) (x : Onward) (answer : Option (ℕ × Message)) (new : ApplierView) → Applies old x answer new → IsMore old.applied new.applied
 applied_more old (Decided d) answer new t = more_of old.applied new.applied t.1.more t.1.grows
 applied_more old (Asked link slot) answer new t = no_more old.applied new.applied (ap (λ (v : ApplierView). v.applied) t.1)
 
-apply_takes : KvKeeps → (p : Past) (sent : ℕ → List (List ℕ)) (old new : NodeView) (f : Flows p old) → ApplyTakes old new → Stands sent (grounds_of old f.arrived) old.ledger old.outboxes → State (moves p ApplyTake) sent new
+apply_takes : Laws → (p : Past) (sent : ℕ → List (List ℕ)) (old new : NodeView) (f : Flows p old) → ApplyTakes old new → Stands sent (grounds_of old f.arrived) old.ledger old.outboxes → State (moves p ApplyTake) sent new
 apply_takes law p sent old new f b st =
     let w : NodeView = record old { decided = b.rest; applier = b.after'; outboxes = new.outboxes } in
     let g = grounds_of old f.arrived in
@@ -109,10 +109,10 @@ apply_takes law p sent old new f b st =
     let more : Grows g h = record { config = refl; taken = no_more f.arrived f.arrived refl; journal = no_more old.ledger.journal old.ledger.journal refl; decisions = no_more old.ledger.decisions old.ledger.decisions refl; applied = applied_more old.applier b.x b.answer b.after' b.takes } in
     subst (λ (v : NodeView). State (moves p ApplyTake) sent v) (sym b.is)
     (state_of (moves p ApplyTake) sent w f.arrived f.inbox
-    (stands_answer sent h old.ledger old.outboxes new.outboxes b.answer (stands_more sent g h old.ledger old.outboxes more st) (reply_more g h b.answer more (applied_may law p old f b.x b.rest b.answer b.after' b.decided b.takes)) b.hands))
+    (stands_answer law.puts sent h old.ledger old.outboxes new.outboxes b.answer (stands_more sent g h old.ledger old.outboxes more st) (reply_more g h b.answer more (applied_may law p old f b.x b.rest b.answer b.after' b.decided b.takes)) b.hands))
 
 -- what the slot stage sends
-module _ (law : KvKeeps) (p : Past) (sent : ℕ → List (List ℕ)) (old new : NodeView) (f : Flows p old) (b : SlotTakes old new) (s : LedgerStep old.config old.ledger b.x b.took b.after') (st : Stands sent (grounds_of old f.arrived) old.ledger old.outboxes) where
+module _ (law : Laws) (p : Past) (sent : ℕ → List (List ℕ)) (old new : NodeView) (f : Flows p old) (b : SlotTakes old new) (s : LedgerStep old.config old.ledger b.x b.took b.after') (st : Stands sent (grounds_of old f.arrived) old.ledger old.outboxes) where
   abbrev g : Grounds
   g = grounds_of old f.arrived
 
@@ -132,16 +132,16 @@ module _ (law : KvKeeps) (p : Past) (sent : ℕ → List (List ℕ)) (old new : 
   stood = record { handed = st.handed; boxes = boxes_then; machines = s.machines; behind = behind_then }
 
   asks : (link : ℕ) (slot : Slot) → b.x ≡ ready.Local (Ask link slot) → HandsEach old.outboxes (To link (GetRecord slot) ∷ []) new.outboxes → Stands sent h b.after' new.outboxes
-  asks link slot e hands = subst (λ (o : List OutboxView). Stands sent h b.after' o) (sym hands.2) (stands_one sent h b.after' old.outboxes hands.0 link (GetRecord slot) stood (told_to_ask law p old f b.rest link slot (b.ready ∙ ap (λ (x : Ready). x ∷ b.rest) e)) refl hands.1)
+  asks link slot e hands = subst (λ (o : List OutboxView). Stands sent h b.after' o) (sym hands.2) (stands_one law.puts sent h b.after' old.outboxes hands.0 link (GetRecord slot) stood (told_to_ask law p old f b.rest link slot (b.ready ∙ ap (λ (x : Ready). x ∷ b.rest) e)) refl hands.1)
 
   slot_sends : Stands sent h b.after' new.outboxes
   slot_sends = elim s.outs [
     | inl none ↦ subst (λ (o : List OutboxView). Stands sent h b.after' o) (sym (subst (λ (out : List Outgoing). HandsEach old.outboxes out new.outboxes) none b.hands)) stood
     | inr (inl w) ↦ asks w.0 w.1 w.2 (subst (λ (out : List Outgoing). HandsEach old.outboxes out new.outboxes) w.3 b.hands)
-    | inr (inr w) ↦ tell_peers sent h old.ledger b.after' refl st.handed boxes_then.allowed st.behind behind_then s.machines old.outboxes new.outboxes w.0.emitted.nomination w.0.emitted.ballot boxes_then w.2.nomination w.2.ballots (subst (λ (out : List Outgoing). HandsEach old.outboxes out new.outboxes) w.1 b.hands)
+    | inr (inr w) ↦ tell_peers law.puts sent h old.ledger b.after' refl st.handed boxes_then.allowed st.behind behind_then s.machines old.outboxes new.outboxes w.0.emitted.nomination w.0.emitted.ballot boxes_then w.2.nomination w.2.ballots (subst (λ (out : List Outgoing). HandsEach old.outboxes out new.outboxes) w.1 b.hands)
   ]
 
-slot_takes : KvKeeps → (p : Past) (sent : ℕ → List (List ℕ)) (old new : NodeView) (f : Flows p old) → SlotTakes old new → Stands sent (grounds_of old f.arrived) old.ledger old.outboxes → State (moves p SlotTake) sent new
+slot_takes : Laws → (p : Past) (sent : ℕ → List (List ℕ)) (old new : NodeView) (f : Flows p old) → SlotTakes old new → Stands sent (grounds_of old f.arrived) old.ledger old.outboxes → State (moves p SlotTake) sent new
 slot_takes law p sent old new f b st =
     let s = ledger_step old.config old.ledger b.x b.took b.after' f.journal.me_is f.journal.local_is st.machines b.takes in
     subst (λ (v : NodeView). State (moves p SlotTake) sent v) (sym b.is)
@@ -149,19 +149,19 @@ slot_takes law p sent old new f b st =
 
 -- ---- events that move something
 
-moved : KvKeeps → (p : Past) (sent : ℕ → List (List ℕ)) (old new : NodeView) (event : Event) (f : Flows p old) → Moves old event new → Stands sent (grounds_of old f.arrived) old.ledger old.outboxes → State (moves p event) sent new
+moved : Laws → (p : Past) (sent : ℕ → List (List ℕ)) (old new : NodeView) (event : Event) (f : Flows p old) → Moves old event new → Stands sent (grounds_of old f.arrived) old.ledger old.outboxes → State (moves p event) sent new
 moved law p sent old new (ReaderTake l) f a st = subst (λ (v : NodeView). State (moves p (ReaderTake l)) sent v) (sym a.2.4) (state_of (moves p (ReaderTake l)) sent _ f.arrived f.inbox st)
 moved law p sent old new (ReaderPut l) f a st =
     let k = a.0 in
     let x = a.2.1 in
     let o = p.links l in
     let at = there_is old.config.peers l (rw (← f.count) (within old.links l k a.1)) in
-    let next : take 1 (drop o.given (readings_of o)) ≡ x ∷ [] = ap (take 1) (hand_cut old.config.me at.0 old.config.capacities.link o k x a.2.2 a.2.3 (f.links l k a.1 at.0 at.1)) in
+    let next : take 1 (drop o.given (readings_of o)) ≡ x ∷ [] = ap (take 1) (hand_cut law.read old.config.me at.0 old.config.capacities.link o k x a.2.2 a.2.3 (f.links l k a.1 at.0 at.1)) in
     subst (λ (v : NodeView). State (moves p (ReaderPut l)) sent v) (sym a.2.4)
     (state_of (moves p (ReaderPut l)) sent (record old { links = slice_set old.links l (record k { hand = a.2.2 }); inbox = old.inbox ++ x ∷ [] }) f.arrived (ap (λ (xs : List Inbound). p.came ++ xs) next ∙ ap (λ (xs : List Inbound). xs ++ x ∷ []) f.inbox ∙ append_assoc f.arrived old.inbox (x ∷ [])) st)
 moved law p sent old new PendTake f a st = elim a.1 [
   | inl b ↦ subst (λ (v : NodeView). State p sent v) (sym b.is) (state_of p sent (record old { pending = b.after'; pend_hand = Some b.thing }) f.arrived f.inbox st)
-  | inr b ↦ pend_takes p sent old new f b st
+  | inr b ↦ pend_takes law p sent old new f b st
 ]
 moved law p sent old new PendPut f a st = subst (λ (v : NodeView). State (moves p PendPut) sent v) (sym a.3) (state_of (moves p PendPut) sent _ f.arrived f.inbox st)
 moved law p sent old new SlotTake f a st = slot_takes law p sent old new f a.1 st
@@ -174,18 +174,18 @@ moved law p sent old new event f a st = absurd a
 abbrev with_sent : (ℕ → List (List ℕ)) → Event → Reply → ℕ → List (List ℕ)
 with_sent sent event reply link = sent link ++ sent_by link event reply
 
-drained : (p : Past) (sent : ℕ → List (List ℕ)) (old new : NodeView) (event : Event) (bytes : List ℕ) (f : Flows p old) → SendsOut old event bytes new → Stands sent (grounds_of old f.arrived) old.ledger old.outboxes → State p (with_sent sent event (Sent bytes)) new
-drained p sent old new (Drain l) bytes f d st =
+drained : Laws → (p : Past) (sent : ℕ → List (List ℕ)) (old new : NodeView) (event : Event) (bytes : List ℕ) (f : Flows p old) → SendsOut old event bytes new → Stands sent (grounds_of old f.arrived) old.ledger old.outboxes → State p (with_sent sent event (Sent bytes)) new
+drained law p sent old new (Drain l) bytes f d st =
     subst (λ (v : NodeView). State p (with_sent sent (Drain l) (Sent bytes)) v) (sym d.is)
     (state_of p (with_sent sent (Drain l) (Sent bytes)) (record old { outboxes = new.outboxes }) f.arrived f.inbox (record {
       handed = st.handed;
-      boxes = gives_one (grounds_of old f.arrived) sent (with_sent sent (Drain l) (Sent bytes)) old.outboxes st.handed l d.message bytes new.outboxes st.boxes d.gives d.spells
+      boxes = gives_one law.gives (grounds_of old f.arrived) sent (with_sent sent (Drain l) (Sent bytes)) old.outboxes st.handed l d.message bytes new.outboxes st.boxes d.gives d.spells
           (ap (λ (b : Bool). sent l ++ (if b then bytes ∷ [] else [])) (eq-eqb l l refl))
           (λ m ne. ap (λ (b : Bool). sent m ++ (if b then bytes ∷ [] else [])) (ne_eqb l m (λ e. ne (sym e))) ∙ append-nil (sent m));
       machines = st.machines;
       behind = st.behind;
     }))
-drained p sent old new event bytes f d st = absurd d
+drained law p sent old new event bytes f d st = absurd d
 
 -- ---- nothing is sent
 
@@ -228,11 +228,11 @@ fails p sent old new event f x st =
 stays : (p : Past) (sent : ℕ → List (List ℕ)) (old new : NodeView) (f : Flows p old) → new ≡ old → Stands sent (grounds_of old f.arrived) old.ledger old.outboxes → State p sent new
 stays p sent old new f e st = subst (λ (v : NodeView). State p sent v) (sym e) (state_of p sent old f.arrived f.inbox st)
 
-stepped : KvKeeps → (p : Past) (sent : ℕ → List (List ℕ)) (old new : NodeView) (event : Event) (reply : Reply) (f : Flows p old) → Step old event reply new → Stands sent (grounds_of old f.arrived) old.ledger old.outboxes → State (hears old.config p event reply) (with_sent sent event reply) new
+stepped : Laws → (p : Past) (sent : ℕ → List (List ℕ)) (old new : NodeView) (event : Event) (reply : Reply) (f : Flows p old) → Step old event reply new → Stands sent (grounds_of old f.arrived) old.ledger old.outboxes → State (hears old.config p event reply) (with_sent sent event reply) new
 stepped law p sent old new event Failed f s st = absurd (true_isnt (sym s.0 ∙ f.runs))
 stepped law p sent old new event Accepted f s st = with_nothing _ sent new event Accepted (λ bytes e. cc) (accepted p sent old new event f s.1 st)
 stepped law p sent old new event Moved f s st = with_nothing _ sent new event Moved (λ bytes e. cc) (moved law p sent old new event f s.1 st)
-stepped law p sent old new event (Sent bytes) f s st = drained p sent old new event bytes f s.1 st
+stepped law p sent old new event (Sent bytes) f s st = drained law p sent old new event bytes f s.1 st
 stepped law p sent old new event JournalFull f s st = with_nothing _ sent new event JournalFull (λ bytes e. cc) (fails p sent old new event f s.0 st)
 stepped law p sent old new event NoMemory f s st = with_nothing _ sent new event NoMemory (λ bytes e. cc) (fails p sent old new event f s.0 st)
 stepped law p sent old new event NoLink f s st = with_nothing _ sent new event NoLink (λ bytes e. cc) (stays p sent old new f s.2 st)
@@ -247,7 +247,7 @@ stepped law p sent old new event Idle f s st = with_nothing _ sent new event Idl
 failed_reply : (c : Config) (p : Past) (sent : ℕ → List (List ℕ)) (old new : NodeView) (event : Event) (reply : Reply) → reply ≡ Failed → new ≡ old → State p sent old → State (hears c p event reply) (with_sent sent event reply) new
 failed_reply c p sent old new event reply e same s = subst (λ (r : Reply). State (hears c p event r) (with_sent sent event r) new) (sym e) (subst (λ (v : NodeView). State p (with_sent sent event Failed) v) (sym same) (with_nothing p sent old event Failed (λ bytes k. cc) s))
 
-pub state_step : KvKeeps → (c : Config) (p : Past) (sent : ℕ → List (List ℕ)) (old : NodeView) (event : Event) (reply : Reply) (new : NodeView) → IsReply c p old event reply new → State p sent old → State (hears c p event reply) (with_sent sent event reply) new
+pub state_step : Laws → (c : Config) (p : Past) (sent : ℕ → List (List ℕ)) (old : NodeView) (event : Event) (reply : Reply) (new : NodeView) → IsReply c p old event reply new → State p sent old → State (hears c p event reply) (with_sent sent event reply) new
 state_step law c p sent old event reply new r s = elim r [
   | inl w ↦ failed_reply c p sent old new event reply w.1 w.2 s
   | inr w ↦ subst (λ (d : Config). State (hears d p event reply) (with_sent sent event reply) new) w.1.config (stepped law p sent old new event reply w.1.flows w.1.step (at_arrived p sent old w.1.flows s))

@@ -2,4 +2,20 @@ use Rattle.scp_core.proofs.Keeping.{theorem_gives_ledger}
 use Rattle.scp_core.proofs.laws.each_node_holds_its_ledger.Goals as goal
 
 pub returns : goal.returns
-returns c = record { ledger = theorem_gives_ledger c.what_ran_keeps_the_ledger.ensures }
+returns c = record {
+  ledger = theorem_gives_ledger (record {
+    read = record {
+      grow = c.what_is_read_grows_with_the_items.ensures.more;
+      one = c.what_is_read_grows_with_the_items.ensures.one;
+      in_order = c.what_is_read_keeps_the_shape.ensures;
+      more = c.a_beginning_keeps_the_shape.ensures.more;
+    };
+    ran = c.what_ran_keeps_the_ledger.ensures;
+    stays = c.who_it_is_stays.ensures.config;
+    links = c.nothing_is_of_a_stranger.ensures.links;
+    replies = c.what_is_replied_was_asked_for.ensures.replies;
+    empty = c.what_is_sent_was_handed_out.ensures.empty;
+    puts = c.what_is_sent_was_handed_out.ensures.puts;
+    gives = c.what_is_sent_was_handed_out.ensures.gives;
+  });
+}

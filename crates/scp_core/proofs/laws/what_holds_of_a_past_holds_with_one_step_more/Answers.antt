@@ -2,4 +2,14 @@ use Rattle.scp_core.proofs.Holding.{steps_keep}
 use Rattle.scp_core.proofs.laws.what_holds_of_a_past_holds_with_one_step_more.Goals as goal
 
 pub returns : goal.returns
-returns c = steps_keep
+returns c = steps_keep (record {
+  read = record {
+    grow = c.what_is_read_grows_with_the_items.ensures.more;
+    one = c.what_is_read_grows_with_the_items.ensures.one;
+    in_order = c.what_is_read_keeps_the_shape.ensures;
+    more = c.a_beginning_keeps_the_shape.ensures.more;
+  };
+  stays = c.who_it_is_stays.ensures.config;
+  journals = c.what_holds_of_a_ledger_holds_with_one_thing_more.ensures.journals;
+  applies = c.what_holds_of_an_applier_holds_with_one_thing_more.ensures.passes;
+})

@@ -10,6 +10,6 @@ pub spawn_with-requires : goal.spawn_with-requires
 spawn_with-requires g c κs =
     let r = c.type_bounds.sync-R in
     let t = c.type_bounds.sync-G in
-    let w = slot_worker_send in
+    let w = slot_worker_send c.a_shared_outbox_crosses_threads.ensures.crosses in
     let e = slot_ended_send in
     (search (sendable, crosses) depth 40, (search (sendable, crosses) depth 40, (tt, λ left holds. subst (λ (worker : SlotWorking). stage.HoldsEnds worker left) (sym c.of.ensures) holds)))

@@ -14,4 +14,4 @@ pub returns-clause-envelope : goal.returns-clause-envelope
 returns-clause-envelope c = short_envelope
 
 pub returns-clause-spelt : goal.returns-clause-spelt
-returns-clause-spelt c = spelt
+returns-clause-spelt c = spelt c.what_fits_breaks_no_limit.ensures.limits

@@ -6,10 +6,10 @@ pub returns-clause-empty : goal.returns-clause-empty
 returns-clause-empty c = empty
 
 pub returns-clause-puts : goal.returns-clause-puts
-returns-clause-puts c = puts
+returns-clause-puts c = puts c.one_statement_waits_of_each_slot_and_kind.ensures.put
 
 pub returns-clause-gives : goal.returns-clause-gives
-returns-clause-gives c = gives_next
+returns-clause-gives c = gives_next c.one_statement_waits_of_each_slot_and_kind.ensures.given
 
 pub returns-clause-sent : goal.returns-clause-sent
 returns-clause-sent c = sends_are_sent

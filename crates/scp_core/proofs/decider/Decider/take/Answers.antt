@@ -9,7 +9,7 @@ take-requires c = record { runs = (c.self.invariant (ap (λ (v : DeciderView). v
 pub invariant_of-self : goal.invariant_of-self
 invariant_of-self c = λ runs.
     let t = c.in-Ok.ensures.takes in
-    rw (← t.onward_is) (sound_take _ _ t.took _ (ap (λ (v : DeciderView). v.hand) c.self.view_is ∙ c.requires.empty) t.takes t.known t.running (c.self.invariant runs))
+    rw (← t.onward_is) (sound_take c.what_holds_of_a_ledger_holds_with_one_thing_more.ensures.grows _ _ t.took _ (ap (λ (v : DeciderView). v.hand) c.self.view_is ∙ c.requires.empty) t.takes t.known t.running (c.self.invariant runs))
 
 pub returns-in-Ok : goal.returns-in-Ok
 returns-in-Ok c =

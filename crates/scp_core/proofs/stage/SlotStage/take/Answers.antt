@@ -19,12 +19,12 @@ returns-then-is_err-clause-full c = rw (← c.self.view_is) (isnt_full _ _ c.sel
 pub returns-then-is_err-clause-read : goal.returns-then-is_err-clause-read
 returns-then-is_err-clause-read c =
     let err : is_err c.hand_out_all.result ≡ true = search rules in
-    rw (← c.self.view_is) (cut_shows c.self.inside.cut c.self.inside.ledger c.args.ready c.in-Ok.took c.take.new.self (length c.journal-journal.result.now) (length c.decisions-decisions.result.now) (ap (λ (v : KvLedger). v.failed) c.self.view_is ∙ c.requires.runs) (ap length c.journal-journal.ensures.same) (ap length c.decisions-decisions.ensures.same) c.in-Ok.ensures.takes (on_refusal _ c.hand_out_all.result err c.hand_out_all.ensures.to_all))
+    rw (← c.self.view_is) (cut_shows c.what_holds_of_a_ledger_holds_with_one_thing_more.ensures.grows c.self.inside.cut c.self.inside.ledger c.args.ready c.in-Ok.took c.take.new.self (length c.journal-journal.result.now) (length c.decisions-decisions.result.now) (ap (λ (v : KvLedger). v.failed) c.self.view_is ∙ c.requires.runs) (ap length c.journal-journal.ensures.same) (ap length c.decisions-decisions.ensures.same) c.in-Ok.ensures.takes (on_refusal _ c.hand_out_all.result err c.hand_out_all.ensures.to_all))
 
 pub returns-clause-takes : goal.returns-clause-takes
 returns-clause-takes c =
     let ok : is_ok c.hand_out_all.result ≡ true = search rules in
-    rw (← c.self.view_is) (takes_out c.self.inside.cut c.self.inside.ledger c.args.outboxes.now c.args.ready c.in-Ok.took c.take.new.self c.hand_out_all.new.outboxes (ap (λ (v : KvLedger). v.failed) c.self.view_is ∙ c.requires.runs) c.in-Ok.ensures.takes c.take.ensures.known c.take.ensures.running (on_ok _ c.hand_out_all.result ok c.hand_out_all.ensures.hands))
+    rw (← c.self.view_is) (takes_out c.what_holds_of_a_ledger_holds_with_one_thing_more.ensures.grows c.self.inside.cut c.self.inside.ledger c.args.outboxes.now c.args.ready c.in-Ok.took c.take.new.self c.hand_out_all.new.outboxes (ap (λ (v : KvLedger). v.failed) c.self.view_is ∙ c.requires.runs) c.in-Ok.ensures.takes c.take.ensures.known c.take.ensures.running (on_ok _ c.hand_out_all.result ok c.hand_out_all.ensures.hands))
 
 pub returns-clause-full : goal.returns-clause-full
 returns-clause-full c = rw (← c.self.view_is) (isnt_full _ _ c.self.inside.cut c.self.inside.ledger c.args.ready (ap (λ (v : KvLedger). v.failed) c.self.view_is ∙ c.requires.runs) (taken_isnt c.in-Ok.took) (given_isnt c.in-Ok.took.onward) c.in-Ok.ensures.full)

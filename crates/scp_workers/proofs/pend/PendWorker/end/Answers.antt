@@ -14,7 +14,7 @@ invariant_of-result g c = (
   if_some (λ (d : Sender Ready). (d ≡ c.self.inside.tx) × (c.is_well-well.result ≡ true)) (HasPendedAll c.self.inside.rx c.self.inside.pending) c.stop_well-done.result
       (λ d h.
       let w = c.is_well-well.ensures h.1 in
-      ends_well c.self.inside.node c.self.inside.peers.value.items c.self.inside.local.value.value c.self.inside.rx c.self.inside.tx d c.self.inside.pending h.0
+      ends_well c.who_it_is_stays.ensures.config c.self.inside.node c.self.inside.peers.value.items c.self.inside.local.value.value c.self.inside.rx c.self.inside.tx d c.self.inside.pending h.0
       (subst (λ (r : Receiver Inbound). HeardAll r) (sym (ap (λ (s : PendWorking). s.input) c.self.view_is)) w.1)
       (c.self.invariant.2 (ap (λ (s : PendWorking). s.failed) c.self.view_is ∙ w.0)))
       c.stop_well-done.ensures,
@@ -30,4 +30,4 @@ returns g c =
     (if_some (λ (d : Sender Ready). (d ≡ s.tx) × (c.is_well-well.result ≡ true)) (IsSameEnd s.tx) c.stop_well-done.result
     (λ d h. (ap (λ (x : Sender Ready). x.line) h.0, ap (λ (x : Sender Ready). x.number) h.0)) c.stop_well-done.ensures)
     (if_some (λ (d : Sender Ready). (d ≡ s.tx) × (c.is_well-well.result ≡ true)) (λ _. IsFor s.node s.peers.value.items s.local.value.value s.pending) c.stop_well-done.result
-    (λ d h. is_for s.node s.peers.value.items s.local.value.value s.rx.got s.tx.sent s.pending (c.self.invariant.2 (ap (λ (x : PendWorking). x.failed) c.self.view_is ∙ (c.is_well-well.ensures h.1).0))) c.stop_well-done.ensures)
+    (λ d h. is_for c.who_it_is_stays.ensures.config s.node s.peers.value.items s.local.value.value s.rx.got s.tx.sent s.pending (c.self.invariant.2 (ap (λ (x : PendWorking). x.failed) c.self.view_is ∙ (c.is_well-well.ensures h.1).0))) c.stop_well-done.ensures)
