@@ -1,6 +1,7 @@
 //! An applier.
 ghost use Rattle.std.specs.Prelude.{◌≡◌, ◌↔◌, IsTrue, ◌⊎◌, [], true, false, OnOk, OnErr, IfOk, IfErr, IsErrOf, Some, option_copied, option_map};
 ghost use Rattle.std.specs.FinMap as map;
+ghost use Rattle.scp_wire.specs.Fitting.{IsFitting};
 ghost use Rattle.scp_apply.specs.Applied.{value_of};
 ghost use Rattle.scp_apply.specs.Applier.{IsApplier, IsRunning, IsInWindow, CanTake, Takes};
 
@@ -104,6 +105,8 @@ impl Applier {
     pub fn take(&mut self, onward: Onward) -> Result<Option<(u8, Message)>, Fault>
         requires next { self.old.failed ≡ false → CanTake self.old onward }
         ensures takes { IfOk result (λ answer. Takes self.old onward answer self.new) }
+        // What is answered fits a link.
+        ensures fits { IfOk result (λ answer. IfSome answer (λ sent. IsFitting sent.1)) }
         ensures known { IsApplier self.new }
         ensures running { self.new.failed ≡ false → IsRunning self.new }
         // When each refusal comes, and what it leaves.

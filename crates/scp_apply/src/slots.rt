@@ -1,5 +1,6 @@
 //! Decisions in the order of their slots, and the state that their values make.
-ghost use Rattle.std.specs.Prelude.{◌≡◌, ◌↔◌, IsTrue, ◌++◌, ◌∷◌, [], ◌+◌, ◌<◌, ◌≤◌, length, List, IfOk, OnOk, OnErr, IsOkUnless, position, option_copied, option_map, false};
+ghost use Rattle.std.specs.Prelude.{◌≡◌, ◌↔◌, IsTrue, ◌++◌, ◌∷◌, [], ◌+◌, ◌<◌, ◌≤◌, length, List, IfOk, IfSome, OnOk, OnErr, IsOkUnless, position, option_copied, option_map, false};
+ghost use Rattle.scp_wire.specs.Fitting.{IsFitting};
 ghost use Rattle.scp_ledger.specs.declared.journal.Decision.{Decision};
 ghost use Rattle.scp_ledger.specs.Decisions.{is_at, is_decided};
 ghost use Rattle.scp_apply.specs.Applied.{AreInOrder, value_of};
@@ -7,7 +8,7 @@ ghost use Rattle.scp_apply.specs.Applier.{IsInWindow, CanTake, Takes};
 ghost use Rattle.scp_apply.specs.Inside.{slots_view, IsApplied, IsSound, AppliesOne, Advances, Enters};
 
 use scp_kv::{KvState, apply_value};
-use scp_ledger::{Onward, SharedDecision, WINDOW};
+use scp_ledger::{DECIDED_LIMIT, Onward, SharedDecision, WINDOW};
 use scp_types::{Fault, Slot, Value};
 use scp_wire::Message;
 use std::alloc::Global;
@@ -36,7 +37,8 @@ impl Slots {
     /// The value of a slot that is applied. Constant time.
     pub fn value_at(&self, slot: Slot) -> Option<&Value>
         requires in_order { AreInOrder 1 self.now.applied.items }
-        ensures { option_copied result ≡ value_of slot.0 self.now.applied.items }
+        ensures same { option_copied result ≡ value_of slot.0 self.now.applied.items }
+        ensures short { IfSome result (λ value. length value.now ≤ DECIDED_LIMIT) }
     {
         if slot.0 == 0 {
             return None;
@@ -61,6 +63,7 @@ impl Slots {
         requires sound { IsSound self.old }
         requires next { CanTake (slots_view false self.old) onward }
         ensures takes { IfOk result (λ answer. Takes (slots_view false self.old) onward answer (slots_view false self.new)) }
+        ensures fits { IfOk result (λ answer. IfSome answer (λ sent. IsFitting sent.1)) }
         ensures sound { OnOk result (IsSound self.new) }
         ensures err { OnErr result (self.new.applied.items ≡ self.old.applied.items) }
         ensures only_memory { IsOkUnless result Fault.NoMemory }
@@ -78,6 +81,7 @@ impl Slots {
     fn record_of(&self, link: u8, slot: Slot) -> Result<Option<(u8, Message)>, Fault>
         requires in_order { AreInOrder 1 self.now.applied.items }
         ensures answer { IfOk result (λ answer. answer ≡ option_map (λ value. (link, Message.Record slot value)) (value_of slot.0 self.now.applied.items)) }
+        ensures fits { IfOk result (λ answer. IfSome answer (λ sent. IsFitting sent.1)) }
         ensures only_memory { IsOkUnless result Fault.NoMemory }
     {
         match self.value_at(slot) {

@@ -28,23 +28,21 @@ same_out old new f g same h = record {
   puts = λ link before there. (let p = h.puts link before there in (p.0, p.1, subst (λ (ms : List Message). PutsAll before ms p.0) (same link) p.2));
 }
 
-pub hands_to : (old new : List OutboxView) (link : ℕ) (message : Message) → IsFitting message → HandsOut old (to_link link message) new → HandsOne old (To link message) new
-hands_to old new link message fits h = inl (fits, same_out old new (to_link link message) (handed_by (To link message ∷ [])) (λ l. sym (append-nil (to_link link message l))) h)
+pub hands_to : (old new : List OutboxView) (link : ℕ) (message : Message) → HandsOut old (to_link link message) new → HandsOne old (To link message) new
+hands_to old new link message h = same_out old new (to_link link message) (handed_by (To link message ∷ [])) (λ l. sym (append-nil (to_link link message l))) h
 
-pub hands_to_all : (old new : List OutboxView) (e : Enveloped) → IsFitting (Envelope (record { value = e })) → HandsOut old (to_each (Envelope (record { value = e }))) new → HandsOne old (ToAll e) new
-hands_to_all old new e fits h = inl (fits, same_out old new (to_each (Envelope (record { value = e }))) (handed_by (ToAll e ∷ [])) (λ l. refl) h)
+pub hands_to_all : (old new : List OutboxView) (e : Enveloped) → HandsOut old (to_each (Envelope (record { value = e }))) new → HandsOne old (ToAll e) new
+hands_to_all old new e h = same_out old new (to_each (Envelope (record { value = e }))) (handed_by (ToAll e ∷ [])) (λ l. refl) h
 
 -- of a message in a box
-pub all_put_out : (old new : List OutboxView) (e : Enveloped) (b : Boxed) (m : Message) → b.value ≡ e → m ≡ Envelope b → IsFitting m → HandsOut old (to_each m) new → HandsOne old (ToAll e) new
-all_put_out old new e b m same is fits h =
+pub all_put_out : (old new : List OutboxView) (e : Enveloped) (b : Boxed) (m : Message) → b.value ≡ e → m ≡ Envelope b → HandsOut old (to_each m) new → HandsOne old (ToAll e) new
+all_put_out old new e b m same is h =
     let whole : m ≡ Envelope (record { value = e }) = is ∙ ap (λ (x : Enveloped). Envelope (record { value = x })) same in
-    hands_to_all old new e (subst IsFitting whole fits) (subst (λ (n : Message). HandsOut old (to_each n) new) whole h)
+    hands_to_all old new e (subst (λ (n : Message). HandsOut old (to_each n) new) whole h)
 
-pub none_put_out : (old : List OutboxView) (e : Enveloped) (b : Boxed) → b.value ≡ e → (IsFitting (Envelope b) → ⊥) → HandsOne old (ToAll e) old
-none_put_out old e b same not_fits = inr (λ fits. not_fits (subst IsFitting (ap (λ (x : Enveloped). Envelope (record { value = x })) (sym same)) fits), refl)
-
-pub false_isnt : false ≡ true → ⊥
-false_isnt e = cc
+-- and it fits as that of the statement does
+pub box_fits : (e : Enveloped) (b : Boxed) → b.value ≡ e → IsFitting (Envelope (record { value = e })) → IsFitting (Envelope b)
+box_fits e b same fits = subst IsFitting (ap (λ (x : Enveloped). Envelope (record { value = x })) (sym same)) fits
 
 hands_each : (old new : List OutboxView) (answer : Option (ℕ × Message)) → Hands old answer new → HandsEach old (out_of answer) new
 hands_each old new None h = h

@@ -88,10 +88,6 @@ Accepts old (Close l) new = AtLink old l (λ k. (k.is_open ≡ true) × (length 
 Accepts old (Local command) new = HasLink old command × (length old.inbox ≢ old.inbox_room) × (new ≡ record old { inbox = old.inbox ++ inbound.Local command ∷ [] })
 Accepts old event new = ⊥
 
-abbrev pub FitsLink : Option (ℕ × Message) → Type 0
-FitsLink None = Unit {0}
-FitsLink (Some answer) = IsFitting answer.1
-
 -- what goes out to all peers is for each link
 abbrev pub messages_for : ℕ → Outgoing → List Message
 messages_for link (ToAll envelope) = Envelope (record { value = envelope }) ∷ []
@@ -101,13 +97,9 @@ messages_for link (To l message) = to_link l message link
 abbrev pub handed_by : List Outgoing → ℕ → List Message
 handed_by outgoing link = flat_map (messages_for link) outgoing
 
-abbrev pub FitsOut : Outgoing → Type 0
-FitsOut (ToAll envelope) = IsFitting (Envelope (record { value = envelope }))
-FitsOut (To l message) = IsFitting message
-
--- one thing that goes out is put into the outboxes of its links; what is too long for a link isn't
+-- one thing that goes out is put into the outboxes of its links
 abbrev pub HandsOne : List OutboxView → Outgoing → List OutboxView → Type 0
-HandsOne old outgoing new = (FitsOut outgoing × HandsOut old (handed_by (outgoing ∷ [])) new) ⊎ ((¬ (FitsOut outgoing)) × (new ≡ old))
+HandsOne old outgoing new = HandsOut old (handed_by (outgoing ∷ [])) new
 
 -- so each of these, in order
 abbrev pub HandsEach : List OutboxView → List Outgoing → List OutboxView → Type 0

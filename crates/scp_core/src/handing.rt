@@ -1,5 +1,7 @@
 //! What stages hand out for links, put into the outboxes, and what is sent out of them.
-ghost use Rattle.std.specs.Prelude.{◌≡◌, OnOk, OnErr, Any};
+ghost use Rattle.std.specs.Prelude.{◌≡◌, OnOk, OnErr, All, Any, IfSome};
+ghost use Rattle.scp_wire.specs.Fitting.{IsFitting};
+ghost use Rattle.scp_ledger.specs.Fitting.{FitsOut};
 ghost use Rattle.scp_ledger.specs.Journals.{IsToAll};
 ghost use Rattle.scp_core.specs.Node.{Hands, HandsOne, HandsEach};
 ghost use Rattle.scp_core.specs.inside.Draining.{Draws, IsSpelt, empty_reply};
@@ -7,14 +9,14 @@ ghost use Rattle.scp_core.specs.inside.Draining.{Draws, IsSpelt, empty_reply};
 use crate::event::Reply;
 use scp_envelope::SharedEnvelope;
 use scp_ledger::{Outgoing, OutgoingList};
-use scp_outbox::FittingMessage;
 use scp_sent::Outboxes;
 use scp_types::Fault;
-use scp_wire::{BoxedEnvelope, Bytes, Message, encode};
+use scp_wire::{BoxedEnvelope, Bytes, FittingMessage, Message, encode};
 use std::alloc::Global;
 
-/// Puts a stage's answer for a link into that link's outbox. One that is too long for a link isn't put.
+/// Puts a stage's answer for a link into that link's outbox.
 pub fn hand_out(outboxes: &mut Outboxes, answer: Option<(u8, Message)>)
+    requires fits { IfSome answer (λ sent. IsFitting sent.1) }
     ensures { Hands outboxes.old answer outboxes.new }
 {
     match answer {
@@ -24,12 +26,10 @@ pub fn hand_out(outboxes: &mut Outboxes, answer: Option<(u8, Message)>)
 }
 
 fn hand(outboxes: &mut Outboxes, link: u8, message: Message)
+    requires fits { IsFitting message }
     ensures { HandsOne outboxes.old (Outgoing.To link message) outboxes.new }
 {
-    match FittingMessage::new(message) {
-        Ok(fitting) => outboxes.put(link, fitting),
-        Err(_) => {}
-    }
+    outboxes.put(link, FittingMessage::of(message));
 }
 
 /// Puts all that goes out into the outboxes, in order. Where a copy of what goes to all peers is refused, some outboxes have it
@@ -43,6 +43,7 @@ pub fn hand_out_all(outboxes: &mut Outboxes, outgoing: OutgoingList) -> Result<(
 
 /// The same of a list, the last of which comes at last.
 fn hand_out_rest(outboxes: &mut Outboxes, outgoing: Vec<Outgoing>) -> Result<(), Fault>
+    requires fits { All FitsOut outgoing.items }
     ensures hands { OnOk result (HandsEach outboxes.old outgoing.items outboxes.new) }
     ensures to_all { OnErr result (Any IsToAll outgoing.items) }
 {
@@ -57,6 +58,7 @@ fn hand_out_rest(outboxes: &mut Outboxes, outgoing: Vec<Outgoing>) -> Result<(),
 }
 
 fn hand_out_one(outboxes: &mut Outboxes, outgoing: Outgoing) -> Result<(), Fault>
+    requires fits { FitsOut outgoing }
     ensures hands { OnOk result (HandsOne outboxes.old outgoing outboxes.new) }
     ensures to_all { OnErr result (IsToAll outgoing) }
 {
@@ -70,13 +72,11 @@ fn hand_out_one(outboxes: &mut Outboxes, outgoing: Outgoing) -> Result<(), Fault
 }
 
 fn hand_to_all(outboxes: &mut Outboxes, envelope: SharedEnvelope) -> Result<(), Fault>
+    requires fits { FitsOut (Outgoing.ToAll envelope) }
     ensures hands { OnOk result (HandsOne outboxes.old (Outgoing.ToAll envelope) outboxes.new) }
 {
     let boxed = BoxedEnvelope::from_shared(envelope);
-    match FittingMessage::new(Message::Envelope(boxed)) {
-        Ok(fitting) => outboxes.put_all(&fitting),
-        Err(_) => Ok(()),
-    }
+    outboxes.put_all(&FittingMessage::of(Message::Envelope(boxed)))
 }
 
 /// What is next in the link's outbox, as bytes.

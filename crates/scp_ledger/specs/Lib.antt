@@ -5,6 +5,7 @@ pub mod Decisions
 pub mod Verdicts
 pub mod Marks
 pub mod Ledger
+pub mod Fitting
 pub mod Takes
 pub mod Laws
 pub mod Window

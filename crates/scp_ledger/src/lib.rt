@@ -9,6 +9,7 @@
 //! - a machine's decision has its certificate over the journal; a record decides its slot where its link was asked for it; and
 //!   no slot has two decisions;
 //! - each decision is of one of the 16 slots from the lowest that had none, so that an applier can take them in their order;
+//! - what goes out fits a link, and a decision's value has at most 4,096 bytes;
 //! - a decision goes on to the applier as it was made, and so does each request for a record; what a machine emits goes to all
 //!   peers, and the request of a fresh ask to its link;
 //! - a ledger that failed keeps its journal and its decisions.
@@ -31,6 +32,6 @@ pub use laws::{
 };
 pub use ledger::{JOURNAL_LIMIT, Ledger};
 pub use quorum::Quorum;
-pub use shared::SharedDecision;
+pub use shared::{DECIDED_LIMIT, SharedDecision};
 pub use took::{Onward, Outgoing, OutgoingList, Took};
 pub use window::{LAST_SLOT, WINDOW};

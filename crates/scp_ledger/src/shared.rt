@@ -1,5 +1,5 @@
 //! A decision that several lists share.
-ghost use Rattle.std.specs.Prelude.{◌≡◌, IfOk, IsOkUnless};
+ghost use Rattle.std.specs.Prelude.{◌≡◌, ◌<◌, ◌≤◌, ◌↔◌, ◌⊎◌, length, IfOk, IfErr, IsOkUnless, IsErrOf};
 
 use crate::journal::Decision;
 use scp_types::Fault;
@@ -8,24 +8,36 @@ use std::marker::Model;
 use std::ops::Deref;
 use std::sync::Arc;
 
-/// A decision that several lists hold, kept once. Contracts see the decision.
+/// The most bytes of a decision's value (this project's profile).
+pub const DECIDED_LIMIT: usize = 4096;
+
+/// A decision that several lists hold, kept once: its value has at most 4,096 bytes, so that a record of it fits a link.
+/// Contracts see the decision.
 #[derive(Debug, Drop)]
 pub struct SharedDecision(Arc<Decision>);
 
 impl Model for SharedDecision {
     ghost use Rattle.scp_ledger.specs.declared.journal.Decision.{Decision};
 
+    ghost use Rattle.std.specs.Prelude.{◌≤◌, length};
+
     ghost Value = { Decision };
 
     ghost view = { λ s. s.0.value };
+
+    ghost invariant = { λ s. length s.0.value.value ≤ 4096 };
 }
 
 impl SharedDecision {
-    /// The decision, to be shared.
+    /// The decision, to be shared. Refused by `TooLong` where its value has over 4,096 bytes, else by `NoMemory`.
     pub fn new(alloc: Global, decision: Decision) -> Result<SharedDecision, Fault>
         ensures same { IfOk result (λ s. s ≡ decision) }
-        ensures only_memory { IsOkUnless result Fault.NoMemory }
+        ensures too_long { IsErrOf result Fault.TooLong ↔ (DECIDED_LIMIT < length decision.value) }
+        ensures only { IfErr result (λ f. (f ≡ Fault.NoMemory) ⊎ (f ≡ Fault.TooLong)) }
     {
+        if decision.value.as_slice().len() > DECIDED_LIMIT {
+            return Err(Fault::TooLong);
+        }
         Ok(SharedDecision(Arc::new(alloc, decision)?))
     }
 
@@ -39,7 +51,8 @@ impl SharedDecision {
 
     /// The decision.
     pub fn get(&self) -> &Decision
-        ensures { result.now ≡ self.now }
+        ensures same { result.now ≡ self.now }
+        ensures short { length self.now.value ≤ DECIDED_LIMIT }
     {
         &*self.0
     }

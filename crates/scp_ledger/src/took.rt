@@ -25,7 +25,7 @@ pub enum Outgoing {
     To(u8, Message),
 }
 
-/// What goes out, in its order. Contracts see the list.
+/// What goes out, in its order: each message fits a link. Contracts see the list.
 #[derive(Debug, Drop)]
 pub struct OutgoingList(Vec<Outgoing>);
 
@@ -36,18 +36,25 @@ impl Model for OutgoingList {
     ghost use Rattle.std.specs.Prelude.{List};
     ghost use Rattle.scp_ledger.specs.declared.took.Outgoing.{Outgoing};
 
+    ghost use Rattle.std.specs.Prelude.{All};
+    ghost use Rattle.scp_ledger.specs.Fitting.{FitsOut};
+
     ghost Value = { List Outgoing };
 
     ghost coded = { Prim.hlevel (codes, coded_row coded_level) };
 
     ghost view = { λ o. o.0.items };
+
+    ghost invariant = { λ o. All FitsOut o.0.items };
 }
 
 impl OutgoingList {
-    ghost use Rattle.std.specs.Prelude.{◌≡◌};
+    ghost use Rattle.std.specs.Prelude.{◌≡◌, All};
+    ghost use Rattle.scp_ledger.specs.Fitting.{FitsOut};
 
     /// The list of these. Moves them and takes no memory.
-    pub fn new(outgoing: Vec<Outgoing>) -> OutgoingList
+    pub(crate) fn new(outgoing: Vec<Outgoing>) -> OutgoingList
+        requires fits { All FitsOut outgoing.items }
         ensures { result ≡ outgoing.items }
     {
         OutgoingList(outgoing)
@@ -55,7 +62,8 @@ impl OutgoingList {
 
     /// Gives them back. Takes no memory.
     pub fn into_vec(self) -> Vec<Outgoing>
-        ensures { result.items ≡ self }
+        ensures same { result.items ≡ self }
+        ensures fits { All FitsOut self }
     {
         let OutgoingList(inside) = self;
         inside
@@ -63,7 +71,8 @@ impl OutgoingList {
 
     /// What goes out, as a slice.
     pub fn as_slice(&self) -> &[Outgoing]
-        ensures { result.now ≡ self.now }
+        ensures same { result.now ≡ self.now }
+        ensures fits { All FitsOut self.now }
     {
         self.0.as_slice()
     }

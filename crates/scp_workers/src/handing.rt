@@ -1,37 +1,41 @@
 //! What stages hand out for links, put into the links' outboxes.
+ghost use Rattle.scp_wire.specs.Fitting.{IsFitting};
+ghost use Rattle.scp_ledger.specs.Fitting.{FitsOut};
 
 use scp_envelope::SharedEnvelope;
 use scp_ledger::{Outgoing, OutgoingList};
-use scp_outbox::{FittingMessage, SharedOutbox};
+use scp_outbox::SharedOutbox;
 use scp_types::Fault;
-use scp_wire::{BoxedEnvelope, Message};
+use scp_wire::{BoxedEnvelope, FittingMessage, Message};
 use std::sync::{Arc, Wait};
 
-/// Puts a stage's answer for a link into that link's outbox. What is for a link that isn't there, or is too long for a link, is
-/// given up.
+/// Puts a stage's answer for a link into that link's outbox. What is for a link that isn't there is given up.
 pub(crate) fn hand_out<R: Wait>(
     rt: &R,
     outlets: &[Arc<SharedOutbox>],
     answer: Option<(u8, Message)>,
-) {
+)
+    requires fits { IfSome answer (λ sent. IsFitting sent.1) }
+{
     match answer {
         Some((link, message)) => hand(rt, outlets, link, message),
         None => {}
     }
 }
 
-fn hand<R: Wait>(rt: &R, outlets: &[Arc<SharedOutbox>], link: u8, message: Message) {
+fn hand<R: Wait>(rt: &R, outlets: &[Arc<SharedOutbox>], link: u8, message: Message)
+    requires fits { IsFitting message }
+{
     match outlets.get(link as usize) {
         Some(outlet) => put(rt, outlet, message),
         None => {}
     }
 }
 
-fn put<R: Wait>(rt: &R, outlet: &SharedOutbox, message: Message) {
-    match FittingMessage::new(message) {
-        Ok(fitting) => outlet.put(rt, fitting),
-        Err(_) => {}
-    }
+fn put<R: Wait>(rt: &R, outlet: &SharedOutbox, message: Message)
+    requires fits { IsFitting message }
+{
+    outlet.put(rt, FittingMessage::of(message));
 }
 
 /// Puts all that goes out into the outboxes, in its order: a message into that of its link, and what is for all into each.
@@ -50,7 +54,9 @@ fn hand_out_one<R: Wait>(
     rt: &R,
     outlets: &[Arc<SharedOutbox>],
     outgoing: Outgoing,
-) -> Result<(), Fault> {
+) -> Result<(), Fault>
+    requires fits { FitsOut outgoing }
+{
     match outgoing {
         Outgoing::ToAll(envelope) => hand_to_all(rt, outlets, &envelope),
         Outgoing::To(link, message) => {
@@ -64,7 +70,9 @@ fn hand_to_all<R: Wait>(
     rt: &R,
     outlets: &[Arc<SharedOutbox>],
     envelope: &SharedEnvelope,
-) -> Result<(), Fault> {
+) -> Result<(), Fault>
+    requires fits { FitsOut (Outgoing.ToAll envelope.now) }
+{
     for outlet in outlets {
         let boxed = BoxedEnvelope::from_shared(envelope.share()?);
         put(rt, outlet, Message::Envelope(boxed));

@@ -78,9 +78,9 @@ sent_out g sent boxes handed b link = by_there (slice_get boxes link) refl
 
 -- ---- one thing is handed out
 
--- what is handed out then: this is put, or left out
+-- what is handed out then
 abbrev pub IsPut : List Message → List Message → List Message → Type 0
-IsPut before more after' = (after' ≡ before ++ more) ⊎ (after' ≡ before)
+IsPut before more after' = after' ≡ before ++ more
 
 -- the outboxes with one thing more
 pub record PutsOne (g : Grounds) (sent : ℕ → List (List ℕ)) (handed : ℕ → List Message) (one : Outgoing) (new : List OutboxView) : Type 0 where
@@ -90,13 +90,10 @@ pub record PutsOne (g : Grounds) (sent : ℕ → List (List ℕ)) (handed : ℕ 
 
 pub puts_one : PutsKeepSends → (g : Grounds) (sent : ℕ → List (List ℕ)) (old : List OutboxView) (handed : ℕ → List Message) (one : Outgoing) (new : List OutboxView) → Boxes g sent old handed → HandsOne old one new
     → ((link : ℕ) → All (MaySend g link) (messages_for link one)) → ((link : ℕ) → AreNewer (handed link ++ messages_for link one)) → PutsOne g sent handed one new
-puts_one puts g sent old handed one new b hands may newer = elim hands [
-  | inl put ↦ fitting put.1
-  | inr left ↦ record { now = handed; boxes = subst (λ (o : List OutboxView). Boxes g sent o handed) (sym left.1) b; is = λ link. inr refl }
-]
+puts_one puts g sent old handed one new b out may newer = put_of
   where
-    fitting : HandsOut old (handed_by (one ∷ [])) new → PutsOne g sent handed one new
-    fitting out = record {
+    put_of : PutsOne g sent handed one new
+    put_of = record {
       now = λ link. handed link ++ messages_for link one;
       boxes = record {
         sends = λ link o there. sends_there link o there (there_is old link (subst (λ (n : ℕ). link < n) out.count (within new link o there)));
@@ -104,7 +101,7 @@ puts_one puts g sent old handed one new b hands may newer = elim hands [
         allowed = λ link. All-append (MaySend g link) (handed link) (messages_for link one) (b.allowed link) (may link);
         newer = newer;
       };
-      is = λ link. inl refl;
+      is = λ link. refl;
     }
       where
         sends_there : (link : ℕ) (o : OutboxView) → slice_get new link ≡ Some o → (before : OutboxView) × (slice_get old link ≡ Some before) → Sends (handed link ++ messages_for link one) (sent link) o

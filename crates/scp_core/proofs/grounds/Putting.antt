@@ -41,10 +41,7 @@ some_isnt x e = cc
 -- ---- what is put
 
 put_all : (P : Message → Type 0) (before more after' : List Message) → IsPut before more after' → All P before → All P more → All P after'
-put_all P before more after' put old new = elim put [
-  | inl e ↦ subst (All P) (sym e) (All-append P before more old new)
-  | inr e ↦ subst (All P) (sym e) old
-]
+put_all P before more after' e old new = subst (All P) (sym e) (All-append P before more old new)
 
 all_one : (P : Message → Type 0) (m : Message) → P m → All P (m ∷ [])
 all_one P m p = All-cons P m [] p (All-nil P)
