@@ -7,10 +7,9 @@ ghost use Rattle.scp_core.specs.inside.Draining.{Draws, IsSpelt, empty_reply};
 use crate::event::Reply;
 use scp_envelope::SharedEnvelope;
 use scp_ledger::{Outgoing, OutgoingList};
-use scp_outbox::FittingMessage;
 use scp_sent::Outboxes;
 use scp_types::Fault;
-use scp_wire::{BoxedEnvelope, Bytes, Message, encode};
+use scp_wire::{BoxedEnvelope, Bytes, FittingMessage, Message, encode};
 use std::alloc::Global;
 
 /// Puts a stage's answer for a link into that link's outbox. One that is too long for a link isn't put.

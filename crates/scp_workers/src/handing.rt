@@ -2,9 +2,9 @@
 
 use scp_envelope::SharedEnvelope;
 use scp_ledger::{Outgoing, OutgoingList};
-use scp_outbox::{FittingMessage, SharedOutbox};
+use scp_outbox::SharedOutbox;
 use scp_types::Fault;
-use scp_wire::{BoxedEnvelope, Message};
+use scp_wire::{BoxedEnvelope, FittingMessage, Message};
 use std::sync::{Arc, Wait};
 
 /// Puts a stage's answer for a link into that link's outbox. What is for a link that isn't there, or is too long for a link, is
