@@ -7,6 +7,7 @@ ghost use Rattle.scp_outbox.specs.Outbox.{IfMessage, IsOutbox};
 use crate::mark::{Mark, Out};
 use crate::outbox::Outbox;
 use scp_types::Fault;
+use scp_wire::FittingMessage;
 use std::alloc::Global;
 use std::sync::{Condvar, Mutex, MutexGuard, Wait};
 
