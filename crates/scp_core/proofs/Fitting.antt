@@ -6,8 +6,7 @@ use Rattle.scp_types.specs.declared.names.Hash.{Hash}
 use Rattle.scp_wire.specs.declared.message.Message.{Message}
 use Rattle.scp_wire.specs.declared.message.Message.TheVariants.{Envelope, GetSet, Set, NoSet, GetRecord, Record, Records}
 use Rattle.scp_wire.specs.declared.link.Inbound.{Inbound}
-use Rattle.scp_outbox.specs.Fitting.{IsFitting}
-use Rattle.scp_sent.specs.Fit.{NamesFit, SaneSetsFit}
+use Rattle.scp_wire.specs.Fitting.{IsFitting, NamesFit, SaneSetsFit}
 use Rattle.scp_fetch.specs.Store.{lookup}
 use Rattle.scp_pending.specs.Fetching.{IsReplied, IfReplied, RepliesAreAskedFor, TheLastAreStored}
 use Rattle.scp_pending.specs.Pends.{start_of}

@@ -13,9 +13,10 @@ use scp_pending::{
     nothing_is_of_a_stranger, the_last_sets_are_stored, what_is_replied_was_asked_for,
     who_it_is_stays,
 };
-use scp_sent::{what_fits_a_link, what_is_sent_was_handed_out};
+use scp_sent::what_is_sent_was_handed_out;
 use scp_wire::{
-    a_beginning_keeps_the_shape, what_is_read_grows_with_the_items, what_is_read_keeps_the_shape,
+    a_beginning_keeps_the_shape, what_fits_a_link, what_is_read_grows_with_the_items,
+    what_is_read_keeps_the_shape,
 };
 
 /// What holds of a list of exchanges and the node holds of the list with one step more.

@@ -1,7 +1,7 @@
 use scp_envelope::{Envelope, Nominate, Pledges, Prepare, Signature, Statement, ValueList};
-use scp_outbox::{FittingMessage, Mark, Out, Outbox};
+use scp_outbox::{Mark, Out, Outbox};
 use scp_types::{Ballot, Fault, Hash, NodeId, SharedValue, Slot, Value};
-use scp_wire::{BoxedEnvelope, Message, encode};
+use scp_wire::{BoxedEnvelope, FittingMessage, Message, encode};
 use std::alloc::Global;
 use std::process::Abort;
 use std::test::*;

@@ -1,7 +1,6 @@
-use scp_outbox::FittingMessage;
 use scp_sent::Outboxes;
 use scp_types::Hash;
-use scp_wire::Message;
+use scp_wire::{FittingMessage, Message};
 use std::test::*;
 
 /// Asks the link for the set whose hash has equal bytes; whether the message fits.

@@ -1,7 +1,7 @@
 use crate::outbox::{Given, in_short, nomination};
-use scp_outbox::{FittingMessage, Mark, SharedOutbox, a_shared_outbox_crosses_threads};
+use scp_outbox::{Mark, SharedOutbox, a_shared_outbox_crosses_threads};
 use scp_types::{Fault, Hash};
-use scp_wire::Message;
+use scp_wire::{FittingMessage, Message};
 use std::alloc::Global;
 use std::sync::{Arc, Wait};
 use std::test::*;

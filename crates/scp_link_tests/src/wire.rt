@@ -498,16 +498,20 @@ fn carried_messages_and_other_kinds_are_no_side_messages(rt: HostRuntime) {
 #[test]
 fn a_carried_message_has_its_number(rt: HostRuntime) -> Result<(), Fail> {
     let value = Value::new(Vec::from_slice(rt.alloc(), &RECORD[16..])?);
-    let carried = Carried {
-        conn: ConnId {
-            from: NodeId([2; 32]),
-            to: NodeId([1; 32]),
-            life: 1,
-        },
-        seq: Seq(0),
-        message: Message::Record(Slot(1), value),
-    };
-    assert!(rt; carried.message.is_carried());
+    let record = FittingMessage::new(Message::Record(Slot(1), value));
+    assert!(rt; record.is_ok());
+    if let Ok(message) = record {
+        let carried = Carried {
+            conn: ConnId {
+                from: NodeId([2; 32]),
+                to: NodeId([1; 32]),
+                life: 1,
+            },
+            seq: Seq(0),
+            message,
+        };
+        assert!(rt; carried.message.get().is_carried());
+    }
     Ok(())
 }
 

@@ -15,7 +15,7 @@ use Rattle.scp_envelope.specs.declared.statement.Statement.{Statement}
 use Rattle.scp_wire.specs.Boxed.{Boxed}
 use Rattle.scp_wire.specs.declared.message.Message.{Message}
 use Rattle.scp_wire.specs.declared.message.Message.TheVariants.{Envelope, GetSet, Set, NoSet, GetRecord, Record, Records}
-use Rattle.scp_outbox.specs.Fitting.{IsFitting}
+use Rattle.scp_wire.specs.Fitting.{IsFitting}
 use Rattle.scp_outbox.specs.declared.mark.Mark.{Mark}
 use Rattle.scp_outbox.specs.declared.mark.Out.{Out}
 use Rattle.scp_outbox.specs.Outbox.{OutboxView, is_nomination, same_bool, are_alike, AreOneEach, Takes, Replaces, Puts, Gives, live_after, given_statements, given_messages, given_live, given_from, IfMessage, IsOutbox}

@@ -1,5 +1,4 @@
 pub mod Kept
 pub mod Waiting
 pub mod Giving
-pub mod Room
 pub mod Crossing

@@ -1,4 +1,3 @@
-pub mod Fitting
 pub mod Outbox
 pub mod Inside
 pub mod Laws

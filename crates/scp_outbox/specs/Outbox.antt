@@ -8,7 +8,7 @@ use Rattle.scp_envelope.specs.Newer.{IsNewer}
 use Rattle.scp_wire.specs.Boxed.{Boxed}
 use Rattle.scp_wire.specs.declared.message.Message.{Message}
 use Rattle.scp_wire.specs.declared.message.Message.TheVariants.{Envelope, GetSet, Set, NoSet, GetRecord, Record, Records}
-use Rattle.scp_outbox.specs.Fitting.{IsFitting}
+use Rattle.scp_wire.specs.Fitting.{IsFitting}
 use Rattle.scp_outbox.specs.declared.mark.Mark.{Mark}
 use Rattle.scp_outbox.specs.declared.mark.Mark.TheVariants.{Opened, Closed, Stop}
 use Rattle.scp_outbox.specs.declared.mark.Out.{Out}

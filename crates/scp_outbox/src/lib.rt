@@ -11,13 +11,11 @@
 //!   `next` waits where there is nothing. It may be moved to another thread, and threads may share it.
 #![tactic(auto)]
 
-mod fitting;
 mod laws;
 mod mark;
 mod outbox;
 mod shared;
 
-pub use fitting::FittingMessage;
 pub use laws::{
     a_shared_outbox_crosses_threads, one_statement_waits_of_each_slot_and_kind,
     what_is_given_is_gone, what_is_given_was_put,

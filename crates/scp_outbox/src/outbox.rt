@@ -3,14 +3,13 @@ ghost use Rattle.std.specs.Prelude.{◌≡◌, ◌≢◌, ◌∷◌, ◌++◌, [
 ghost use Rattle.scp_envelope.specs.Newer.{IsNewer};
 ghost use Rattle.scp_wire.specs.Boxed.{Boxed};
 ghost use Rattle.scp_outbox.specs.Outbox.{are_alike, is_nomination as is_nominating, is_statement, live_after, Puts, Gives, IsOutbox, Takes, Replaces, StatementsTake, IfMessage};
-ghost use Rattle.scp_outbox.specs.Fitting.{IsFitting};
+ghost use Rattle.scp_wire.specs.Fitting.{IsFitting};
 
-use crate::fitting::FittingMessage;
 use crate::mark::{Mark, Out};
 use circular_buffer::HeapCircularBuffer;
 use scp_envelope::{Pledges, Statement, newer};
 use scp_types::Fault;
-use scp_wire::{BoxedEnvelope, Message};
+use scp_wire::{BoxedEnvelope, FittingMessage, Message};
 use std::alloc::Global;
 use std::marker::Model;
 
@@ -73,12 +72,11 @@ impl Outbox {
     /// with at most 64 others by slot and kind, and with one by content.
     pub fn put(&mut self, message: FittingMessage)
         // How the lists change.
-        ensures puts { Puts self.old message.message self.new }
+        ensures puts { Puts self.old message self.new }
         // The limits, and one statement of each slot and kind.
         ensures known { IsOutbox self.new }
     {
-        let FittingMessage { message } = message;
-        match message {
+        match message.into_inner() {
             Message::Envelope(envelope) => self.put_statement(envelope),
             other => self.put_other(other),
         }

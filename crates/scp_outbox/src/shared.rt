@@ -1,13 +1,13 @@
 //! An outbox that threads share.
 ghost use Rattle.std.specs.Prelude.{◌≢◌, IsOkUnless};
 ghost use Rattle.std.specs.Sync.Mutex.{mutex_guard_value};
-ghost use Rattle.scp_outbox.specs.Fitting.{IsFitting};
+ghost use Rattle.scp_wire.specs.Fitting.{IsFitting};
 ghost use Rattle.scp_outbox.specs.Outbox.{IfMessage, IsOutbox};
 
-use crate::fitting::FittingMessage;
 use crate::mark::{Mark, Out};
 use crate::outbox::Outbox;
 use scp_types::Fault;
+use scp_wire::FittingMessage;
 use std::alloc::Global;
 use std::sync::{Condvar, Mutex, MutexGuard, Wait};
 

@@ -11,7 +11,7 @@ use crate::ready::{Delivery, DropCause};
 use scp_fetch::Fetcher;
 use scp_quorum::SaneSet;
 use scp_types::{ConnId, Fault, Hash, NodeId, Seq, Slot};
-use scp_wire::{Carried, Message};
+use scp_wire::{Carried, FittingMessage, Message};
 use std::sync::Arc;
 
 /// A parked message. It leaves once it waits for nothing and nothing of its lane stays before it, or with all that is parked of
@@ -81,7 +81,7 @@ impl Parked {
                     life: 0,
                 },
                 seq: Seq(0),
-                message: Message::GetRecord(Slot(0)),
+                message: FittingMessage::of(Message::GetRecord(Slot(0))),
             },
             DropCause::Closed,
         )
@@ -95,7 +95,11 @@ impl Parked {
             Parked::Waits(carried) => carried,
             Parked::Free(delivery) => {
                 let (conn, seq, message, _set) = delivery.into_parts();
-                Carried { conn, seq, message }
+                Carried {
+                    conn,
+                    seq,
+                    message: FittingMessage::of(message),
+                }
             }
             Parked::Lost(carried, _cause) => carried,
         }
@@ -106,9 +110,9 @@ impl Parked {
         ensures { result.0 ≡ lane_of self.now }
     {
         match self {
-            Parked::Waits(carried) => slot_in(&carried.message),
+            Parked::Waits(carried) => slot_in(carried.message.get()),
             Parked::Free(delivery) => slot_in(delivery.message()),
-            Parked::Lost(carried, _) => slot_in(&carried.message),
+            Parked::Lost(carried, _) => slot_in(carried.message.get()),
         }
     }
 
@@ -143,7 +147,7 @@ impl Parked {
         ensures { result ≡ waited_by self.now }
     {
         match self {
-            Parked::Waits(carried) => named(&carried.message),
+            Parked::Waits(carried) => named(carried.message.get()),
             Parked::Free(_) | Parked::Lost(..) => None,
         }
     }
@@ -153,7 +157,7 @@ impl Parked {
         ensures { result ≡ waits hash.now self.now }
     {
         match self {
-            Parked::Waits(carried) => names(&carried.message, hash),
+            Parked::Waits(carried) => names(carried.message.get(), hash),
             Parked::Free(_) | Parked::Lost(..) => false,
         }
     }
@@ -168,7 +172,7 @@ impl Parked {
         let Parked::Waits(carried) = self else {
             return Ok(self);
         };
-        if names(&carried.message, hash) {
+        if names(carried.message.get(), hash) {
             outcome.of(carried)
         } else {
             Ok(Parked::Waits(carried))
@@ -182,7 +186,7 @@ impl Parked {
         let Parked::Waits(carried) = self else {
             return self;
         };
-        match named(&carried.message) {
+        match named(carried.message.get()) {
             Some(hash) if fetcher.is_at_last_miss(&hash) => {
                 Parked::Lost(carried, DropCause::GaveUp)
             }

@@ -9,6 +9,7 @@ ghost use Rattle.scp_pending.specs.Queues.{is_of, is_open, parked_of, others, ch
 ghost use Rattle.scp_pending.specs.Rules.{PendingView, Settled, fresh, rules, releases, reply, taken_in, entering as entering_with, link_number, opens, opened, closed_off, asks, brings, brought, enters, goes_through, overflows, parks, hears, heard_out, replies, answer as answer_for, is_full, wanted_with, asks_named, wanted_named};
 ghost use Rattle.scp_pending.specs.Outcome.{outcome_of, HasHash};
 ghost use Rattle.scp_quorum.specs.Sane.{IsSane};
+ghost use Rattle.scp_wire.specs.Fitting.{IsFitting};
 ghost use Rattle.scp_wire.specs.Connections.{same_node};
 ghost use Rattle.scp_pending.specs.Line.{is_message_of, count_held};
 ghost use Rattle.std.specs.List.Sorted.{IsStrictlySortedBy};
@@ -28,7 +29,7 @@ use crate::ready::{Delivery, DropCause, Ready};
 use scp_fetch::{Fetcher, SetStore};
 use scp_quorum::{QuorumSet, SaneSet};
 use scp_types::{ConnId, Fault, Hash, NodeId};
-use scp_wire::{Carried, Cause, Command, Inbound, Message, SideMessage};
+use scp_wire::{Carried, Cause, Command, Inbound, Message, SideMessage, what_fits_a_link};
 use std::alloc::Global;
 use std::collections::VecDeque;
 use std::marker::Model;
@@ -135,6 +136,8 @@ impl Pending {
     pub fn take(&mut self, item: Inbound) -> Result<Option<(u8, Message)>, Fault>
         requires nothing_ready { self.old.failed ≡ false → self.old.leaving ≡ [] }
         ensures reply { IfOk result (λ answer. answer ≡ reply self.old.settled item) }
+        // What is answered fits a link.
+        ensures fits { IfOk result (λ answer. IfSome answer (λ sent. IsFitting sent.1)) }
         ensures rules { OnOk result (self.new ≡ taken_in self.old item) }
         ensures passes { OnOk result ((me : NodeId) → (peers : List NodeId) → Passes (Pends me peers) (item ∷ []) [] self.old self.new) }
         ensures failed { OnErr result (self.new.failed ≡ true) }
@@ -215,6 +218,7 @@ impl Parking {
     fn settle(&mut self, item: Inbound) -> Result<Option<(u8, Message)>, Fault>
         requires kept { IsKept self.old.settled.queues self.old.settled.wanted }
         ensures reply { IfOk result (λ answer. answer ≡ reply self.old.settled item) }
+        ensures fits { IfOk result (λ answer. IfSome answer (λ sent. IsFitting sent.1)) }
         ensures rules { OnOk result (self.new ≡ taken_in self.old item) }
     {
         match item {
@@ -264,6 +268,7 @@ impl Parking {
 
     fn bring(&mut self, carried: Carried) -> Result<Option<(u8, Message)>, Fault>
         ensures reply { IfOk result (λ answer. answer ≡ reply self.old.settled (Inbound.Carried carried)) }
+        ensures fits { IfOk result (λ answer. IfSome answer (λ sent. IsFitting sent.1)) }
         ensures rules { OnOk result (self.new ≡ taken_in self.old (Inbound.Carried carried)) }
     {
         let conn = carried.conn;
@@ -289,7 +294,7 @@ impl Parking {
         ensures { result ≡ is_held (parked_of carried.now.conn self.now.settled.queues) (entering_with self.now.settled.store carried.now) }
     {
         will_wait(&self.store, carried)
-            || has_lane_on(&self.queues, &carried.conn, slot_in(&carried.message))
+            || has_lane_on(&self.queues, &carried.conn, slot_in(carried.message.get()))
     }
 
     /// One too many would be parked: all that is parked of the connection is dropped with it, and the connection is cut off.
@@ -341,6 +346,7 @@ impl Parking {
     fn park(&mut self, conn: ConnId, parked: Parked) -> Result<Option<(u8, Message)>, Fault>
         requires open { is_open conn self.old.settled.queues ≡ true }
         ensures reply { IfOk result (λ answer. answer ≡ asks (link_number conn.from self.old.settled) parked self.old.settled.wanted) }
+        ensures fits { IfOk result (λ answer. IfSome answer (λ sent. IsFitting sent.1)) }
         ensures rules { OnOk result (self.new ≡ record self.old { settled = record self.old.settled { queues = parked_in conn parked self.old.settled.queues; wanted = wanted_with (link_number conn.from self.old.settled) conn parked self.old.settled.wanted } }) }
     {
         let hash = parked.waited();
@@ -359,6 +365,7 @@ impl Parking {
     ) -> Result<Option<(u8, Message)>, Fault>
         requires few { link < 8 }
         ensures reply { IfOk result (λ answer. answer ≡ asks_named link hash self.old.settled.wanted) }
+        ensures fits { IfOk result (λ answer. IfSome answer (λ sent. IsFitting sent.1)) }
         ensures rules { OnOk result (self.new ≡ record self.old { settled = record self.old.settled { wanted = wanted_named link conn hash self.old.settled.wanted } }) }
     {
         let Some(hash) = hash else {
@@ -374,6 +381,7 @@ impl Parking {
     fn hear(&mut self, conn: ConnId, message: SideMessage) -> Result<Option<(u8, Message)>, Fault>
         requires kept { IsKept self.old.settled.queues self.old.settled.wanted }
         ensures reply { IfOk result (λ answer. answer ≡ reply self.old.settled (Inbound.Side conn message)) }
+        ensures fits { IfOk result (λ answer. IfSome answer (λ sent. IsFitting sent.1)) }
         ensures rules { OnOk result (self.new ≡ taken_in self.old (Inbound.Side conn message)) }
     {
         if place_of(&self.queues, &conn).is_none() {
@@ -397,10 +405,11 @@ impl Parking {
 
     /// The answer to a GetSet.
     fn answer_to(&self, hash: &Hash) -> Result<Message, Fault>
-        ensures { IfOk result (λ message. message ≡ answer_for hash.now (lookup hash.now self.now.settled.store)) }
+        ensures answer { IfOk result (λ message. message ≡ answer_for hash.now (lookup hash.now self.now.settled.store)) }
+        ensures fits { IfOk result IsFitting }
     {
         match self.store.get(hash) {
-            Some(set) => Ok(Message::Set(set.set().copy()?)),
+            Some(set) => set_answer(set),
             None => Ok(Message::NoSet(*hash)),
         }
     }
@@ -535,11 +544,20 @@ impl Parking {
     }
 }
 
+/// The answer that has a set.
+fn set_answer(set: &SaneSet) -> Result<Message, Fault>
+    ensures same { IfOk result (λ message. message ≡ Message.Set set.now) }
+    ensures fits { IfOk result IsFitting }
+{
+    what_fits_a_link();
+    Ok(Message::Set(set.set().copy()?))
+}
+
 /// A message that came: an envelope waits for its quorum set, or has it; nothing else waits.
 fn entering(store: &SetStore, carried: Carried) -> Result<Parked, Fault>
     ensures { IfOk result (λ parked. parked ≡ entering_with store.now carried) }
 {
-    let Some(hash) = named(&carried.message) else {
+    let Some(hash) = named(carried.message.get()) else {
         return Ok(Parked::Free(Delivery::alone(carried)));
     };
     match store.get(&hash) {
@@ -552,7 +570,7 @@ fn entering(store: &SetStore, carried: Carried) -> Result<Parked, Fault>
 fn will_wait(store: &SetStore, carried: &Carried) -> bool
     ensures { result ≡ waits (entering_with store.now carried.now) }
 {
-    match named(&carried.message) {
+    match named(carried.message.get()) {
         Some(hash) => store.get(&hash).is_none(),
         None => false,
     }

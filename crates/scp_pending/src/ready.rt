@@ -1,13 +1,14 @@
 //! What the pending stage gives to the slot stage.
 ghost use Rattle.std.specs.Prelude.{◌≡◌, option_map, true, Some, None};
 ghost use Rattle.scp_wire.specs.Carried.{is_carried};
+ghost use Rattle.scp_wire.specs.Fitting.{IsFitting};
 ghost use Rattle.scp_wire.specs.Sets.{IsSetOf};
 ghost use Rattle.scp_pending.specs.Queues.{named, hash_of};
 ghost use Rattle.scp_pending.specs.Line.{is_message_of as is_it};
 
 use scp_quorum::SaneSet;
 use scp_types::{ConnId, Seq};
-use scp_wire::{Carried, Cause, Command, Message};
+use scp_wire::{Carried, Cause, Command, FittingMessage, Message};
 use std::marker::Model;
 use std::sync::Arc;
 
@@ -24,13 +25,13 @@ pub enum DropCause {
     ParkedFull,
 }
 
-/// A carried message on its way to the slot stage. Beside an envelope there is a sane quorum set that has the hash which
+/// A carried message on its way to the slot stage, which breaks no limit. Beside an envelope there is a sane quorum set that has the hash which
 /// the envelope names; beside another message there is none.
 #[derive(Debug, Drop)]
 pub struct Delivery {
     conn: ConnId,
     seq: Seq,
-    message: Message,
+    message: FittingMessage,
     set: Option<Arc<SaneSet>>,
 }
 
@@ -100,8 +101,10 @@ impl Delivery {
     pub fn message(&self) -> &Message
         ensures same { result.now ≡ self.now.message }
         ensures carried { is_carried self.now.message ≡ true }
+        // It breaks no limit: a record's value has at most 4,096 bytes.
+        ensures fits { IsFitting self.now.message }
     {
-        &self.message
+        self.message.get()
     }
 
     /// The quorum set beside an envelope: it is sane, and has the hash that the envelope names. None beside another
@@ -120,6 +123,7 @@ impl Delivery {
         ensures message { result.2 ≡ self.message }
         ensures set { option_map (λ set. set.value) result.3 ≡ self.set }
         ensures carried { is_carried self.message ≡ true }
+        ensures fits { IsFitting self.message }
         ensures its_set { IsSetOf self.message self.set }
     {
         let Delivery {
@@ -128,7 +132,7 @@ impl Delivery {
             message,
             set,
         } = self;
-        (conn, seq, message, set)
+        (conn, seq, message.into_inner(), set)
     }
 }
 

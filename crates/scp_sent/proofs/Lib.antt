@@ -1,4 +1,3 @@
-pub mod Fits
 pub mod Waiting
 pub mod Giving
 pub mod Putting

@@ -5,7 +5,7 @@ use Rattle.std.proofs.lemmas.Bool.{eqb-true, eqb-false}
 use Rattle.std.proofs.lemmas.List.{length-set}
 use Rattle.scp_wire.specs.declared.message.Message.{Message}
 use Rattle.scp_outbox.specs.Outbox.{OutboxView, Puts}
-use Rattle.scp_outbox.specs.Fitting.{IsFitting}
+use Rattle.scp_wire.specs.Fitting.{IsFitting}
 use Rattle.scp_sent.specs.Handing.{PutsAll, HandsOut, to_link, to_each}
 use Rattle.scp_sent.specs.Inside.{PutsAt}
 use Rattle.scp_sent.specs.Laws.{NothingChangesNothing, TurnsAddUp}

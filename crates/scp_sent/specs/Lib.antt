@@ -1,5 +1,4 @@
 pub mod Handing
-pub mod Fit
 pub mod Sent
 pub mod Waiting
 pub mod Inside

@@ -1,21 +1,7 @@
 //! Laws of what is sent, each the contract of a function that does nothing.
-ghost use Rattle.scp_sent.specs.Fit.{NamesFit, SaneSetsFit, ShortRecordsFit, ShortEnvelopesFit, WhatIsSpeltFits};
 ghost use Rattle.scp_sent.specs.Laws.{EmptySends, PutsKeepSends, GivesKeepSends, SendsAreSent, NothingChangesNothing, TurnsAddUp};
 
 use scp_outbox::one_statement_waits_of_each_slot_and_kind;
-use scp_wire::what_fits_breaks_no_limit;
-
-/// What fits a link for certain: a message of a hash or a slot alone, a sane quorum set, a record of at most 4,096 bytes, an
-/// envelope that keeps its own limits and has at most seven votes and seven accepted values, and all that came over a link.
-pub fn what_fits_a_link()
-    ensures names { NamesFit }
-    ensures set { SaneSetsFit }
-    ensures value { ShortRecordsFit }
-    ensures envelope { ShortEnvelopesFit }
-    ensures spelt { WhatIsSpeltFits }
-{
-    what_fits_breaks_no_limit();
-}
 
 /// All that is sent was handed out, and where each statement that is handed out is newer than all of its slot and kind before
 /// it, each that is sent is newer than all of its slot and kind that were sent before: it holds at first, stays so where more

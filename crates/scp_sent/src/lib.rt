@@ -11,5 +11,5 @@
 mod laws;
 mod outboxes;
 
-pub use laws::{what_fits_a_link, what_is_handed_out_adds_up, what_is_sent_was_handed_out};
+pub use laws::{what_is_handed_out_adds_up, what_is_sent_was_handed_out};
 pub use outboxes::Outboxes;

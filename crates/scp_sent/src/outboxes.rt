@@ -1,13 +1,13 @@
 //! The outboxes of a node.
 ghost use Rattle.std.specs.Prelude.{◌≡◌, ◌<◌, length, IfOk, OnOk, IsOkUnless, IfSome, replicate};
-ghost use Rattle.scp_outbox.specs.Fitting.{IsFitting};
+ghost use Rattle.scp_wire.specs.Fitting.{IsFitting};
 ghost use Rattle.scp_outbox.specs.Outbox.{Puts};
 ghost use Rattle.scp_sent.specs.Handing.{empty_outbox, HandsOut, to_link, to_each, GivesNext, GivesAt};
 ghost use Rattle.scp_sent.specs.Inside.{PutsAt};
 
-use scp_outbox::{FittingMessage, Out, Outbox};
+use scp_outbox::{Out, Outbox};
 use scp_types::Fault;
-use scp_wire::Message;
+use scp_wire::{FittingMessage, Message};
 use std::alloc::Global;
 use std::marker::Model;
 
@@ -46,7 +46,7 @@ impl LiveOutbox {
 
     /// Lets a message wait.
     fn put(&mut self, message: FittingMessage)
-        ensures { Puts self.old message.message self.new }
+        ensures { Puts self.old message self.new }
     {
         self.outbox.put(message);
     }
@@ -106,7 +106,7 @@ impl Outboxes {
     /// takes no memory and waits for nobody, and costs what `Outbox::put` costs.
     pub fn put(&mut self, link: u8, message: FittingMessage)
         // It is put there, and the other outboxes stay.
-        ensures puts { HandsOut self.old (to_link link message.message) self.new }
+        ensures puts { HandsOut self.old (to_link link message) self.new }
     {
         put_at(&mut self.0, link, message);
     }
@@ -115,7 +115,7 @@ impl Outboxes {
     /// message, and others haven't.
     pub fn put_all(&mut self, message: &FittingMessage) -> Result<(), Fault>
         // It is put into each outbox.
-        ensures puts { OnOk result (HandsOut self.old (to_each message.now.message) self.new) }
+        ensures puts { OnOk result (HandsOut self.old (to_each message.now) self.new) }
         // Only want of memory is a reason to refuse.
         ensures only_memory { IsOkUnless result Fault.NoMemory }
     {
@@ -135,7 +135,7 @@ impl Outboxes {
 }
 
 fn put_at(outboxes: &mut Vec<LiveOutbox>, link: u8, message: FittingMessage)
-    ensures { PutsAt outboxes.old.items link message.message outboxes.new.items }
+    ensures { PutsAt outboxes.old.items link message outboxes.new.items }
 {
     if let Some(outbox) = outboxes.get_mut(link as usize) {
         outbox.put(message);
@@ -143,7 +143,7 @@ fn put_at(outboxes: &mut Vec<LiveOutbox>, link: u8, message: FittingMessage)
 }
 
 fn put_each(outboxes: &mut Vec<LiveOutbox>, message: &FittingMessage) -> Result<(), Fault>
-    ensures puts { OnOk result (HandsOut outboxes.old.items (to_each message.now.message) outboxes.new.items) }
+    ensures puts { OnOk result (HandsOut outboxes.old.items (to_each message.now) outboxes.new.items) }
     ensures only_memory { IsOkUnless result Fault.NoMemory }
 {
     for outbox in outboxes.iter_mut() {
@@ -153,12 +153,10 @@ fn put_each(outboxes: &mut Vec<LiveOutbox>, message: &FittingMessage) -> Result<
 }
 
 fn copy(message: &FittingMessage) -> Result<FittingMessage, Fault>
-    ensures same { IfOk result (λ copied. copied.message ≡ message.now.message) }
+    ensures same { IfOk result (λ copied. copied ≡ message.now) }
     ensures only_memory { IsOkUnless result Fault.NoMemory }
 {
-    Ok(FittingMessage {
-        message: message.message.copy()?,
-    })
+    Ok(FittingMessage::of(message.get().copy()?))
 }
 
 fn next_at(outboxes: &mut Vec<LiveOutbox>, link: u8) -> Option<Message>

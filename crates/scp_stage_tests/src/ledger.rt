@@ -9,7 +9,7 @@ use scp_ledger::{Ledger, Onward, Origin, Outgoing, SharedDecision, Took, Verdict
 use scp_pending::{DropCause, Pending, Ready};
 use scp_quorum::{QuorumSet, SaneSet};
 use scp_types::{Ballot, ConnId, Fault, NodeId, Seq, SharedValue, Slot, Value};
-use scp_wire::{BoxedEnvelope, Carried, Cause, Command, Inbound, Message};
+use scp_wire::{BoxedEnvelope, Carried, Cause, Command, FittingMessage, Inbound, Message};
 use std::alloc::Global;
 use std::process::Abort;
 use std::sync::Arc;
@@ -143,18 +143,10 @@ fn message(alloc: Global, node: NodeId, slot: u64, pledges: Pledges) -> Result<M
 fn ready(alloc: Global, act: Act) -> Result<Option<Ready>, Fault> {
     let seq = Seq(0);
     match act {
-        Record(from, slot) => {
-            let message = Message::Record(Slot(slot), value(alloc)?);
-            let conn = conn(from);
-            delivered(alloc, from, Carried { conn, seq, message })
-        }
-        GetRecord(from, slot) => {
-            let message = Message::GetRecord(Slot(slot));
-            let conn = conn(from);
-            delivered(alloc, from, Carried { conn, seq, message })
-        }
-        Nomination(node, slot, votes) => enveloped(alloc, nomination(alloc, node, slot, votes)?),
-        Externalizes(node, slot) => enveloped(alloc, externalize(alloc, node, slot)?),
+        Record(from, slot) => { came(alloc, from, Message::Record(Slot(slot), value(alloc)?)) }
+        GetRecord(from, slot) => { came(alloc, from, Message::GetRecord(Slot(slot))) }
+        Nomination(node, slot, votes) => came(alloc, TWO, nomination(alloc, node, slot, votes)?),
+        Externalizes(node, slot) => came(alloc, TWO, externalize(alloc, node, slot)?),
         Drop => Ok(Some(Ready::Dropped {
             conn: conn(TWO),
             seq,
@@ -179,25 +171,20 @@ fn ready(alloc: Global, act: Act) -> Result<Option<Ready>, Fault> {
     }
 }
 
-/// What the pending stage gives of an envelope of node 2's connection.
-fn enveloped(alloc: Global, message: Message) -> Result<Option<Ready>, Fault> {
-    let Ok(carried) = carried(conn(TWO), message) else {
+/// What the pending stage gives of a message of the node's connection.
+fn came(alloc: Global, from: NodeId, message: Message) -> Result<Option<Ready>, Fault> {
+    let Ok(message) = FittingMessage::new(message) else {
         return Ok(None);
     };
-    delivered(alloc, TWO, carried)
-}
-
-/// An envelope, with the number 0 on the connection.
-fn carried(conn: ConnId, message: Message) -> Result<Carried, Message> {
-    let seq = Seq(0);
-    match message {
-        Message::Envelope(envelope) => Ok(Carried {
-            conn,
-            seq,
-            message: Message::Envelope(envelope),
-        }),
-        other => Err(other),
+    if !message.get().is_carried() {
+        return Ok(None);
     }
+    let carried = Carried {
+        conn: conn(from),
+        seq: Seq(0),
+        message,
+    };
+    delivered(alloc, from, carried)
 }
 
 fn ledger(alloc: Global) -> Result<Ledger<KvDriver>, Fault> {

@@ -7,7 +7,9 @@ use scp_envelope::{Envelope, Nominate, Pledges, Signature, Statement, ValueList}
 use scp_pending::*;
 use scp_quorum::QuorumSet;
 use scp_types::{ConnId, Fault, Hash, NodeId, Seq, Slot};
-use scp_wire::{BoxedEnvelope, Carried, Cause, Command, Inbound, Message, SideMessage};
+use scp_wire::{
+    BoxedEnvelope, Carried, Cause, Command, FittingMessage, Inbound, Message, SideMessage,
+};
 use std::alloc::Global;
 use std::process::Abort;
 use std::sync::Arc;
@@ -179,7 +181,7 @@ impl Event {
             GetRecord(conn, seq) => Inbound::Carried(Carried {
                 conn: *conn,
                 seq: Seq(*seq),
-                message: Message::GetRecord(Slot(1)),
+                message: FittingMessage::of(Message::GetRecord(Slot(1))),
             }),
             GetSet(conn, set) => Inbound::Side {
                 conn: *conn,
@@ -219,11 +221,14 @@ fn nominate(
         },
         signature: Signature::new(Vec::new(alloc)),
     };
-    Ok(Inbound::Carried(Carried {
-        conn,
-        seq: Seq(seq),
-        message: Message::Envelope(BoxedEnvelope::new(alloc, envelope)?),
-    }))
+    match FittingMessage::new(Message::Envelope(BoxedEnvelope::new(alloc, envelope)?)) {
+        Ok(message) => Ok(Inbound::Carried(Carried {
+            conn,
+            seq: Seq(seq),
+            message,
+        })),
+        Err(_) => Err(Fault::TooLong),
+    }
 }
 
 /// What the message for one link is.
@@ -749,7 +754,7 @@ fn the_65_of_several_lanes_leave_in_the_order_of_their_numbers(
 type Place = (ConnId, u64, u64, u8);
 
 fn place(names: &Names, carried: &Carried) -> Place {
-    let (slot, set) = match &carried.message {
+    let (slot, set) = match carried.message.get() {
         Message::Envelope(envelope) => (
             envelope.get().statement.slot.0,
             number(names, &envelope.set_hash()),

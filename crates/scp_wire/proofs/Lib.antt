@@ -6,3 +6,5 @@ pub mod Numbered
 pub mod Lines
 pub mod Sents
 pub mod Lanes
+pub mod Room
+pub mod Fits

@@ -1,5 +1,6 @@
 pub mod Boxed
 pub mod Message
+pub mod Fitting
 pub mod Reading
 pub mod Carried
 pub mod Sets

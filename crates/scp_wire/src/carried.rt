@@ -1,7 +1,7 @@
 //! A message with its connection and its number there.
 ghost use Rattle.scp_wire.specs.Carried.{IsCarried, IsCarried-prop};
 
-use crate::message::Message;
+use crate::fitting::FittingMessage;
 use scp_types::{ConnId, Seq};
 
 /// A message that is numbered on its connection: an envelope, a request for a record, or a record.
@@ -11,7 +11,7 @@ pub struct Carried {
     pub conn: ConnId,
     /// Its number among the carried messages of that life, from 0.
     pub seq: Seq,
-    /// The message.
-    pub message: Message,
+    /// The message, which breaks no limit.
+    pub message: FittingMessage,
     pub ghost carried: { IsCarried message } by { IsCarried-prop message },
 }

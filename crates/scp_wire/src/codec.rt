@@ -6,6 +6,7 @@ ghost use Rattle.scp_xdr.specs.Kind.{Values};
 ghost use Rattle.scp_xdr.specs.Reading.{start, read_uint32};
 ghost use Rattle.scp_xdr.specs.Words.{Gives, IsReadingFault};
 ghost use Rattle.scp_wire.specs.Carried.{is_side};
+ghost use Rattle.scp_wire.specs.Fitting.{IsFitting};
 ghost use Rattle.scp_wire.specs.Message.{message_kind, message_value, message_reading, SpellsMessage, FitsMessage, HasRanges, BreaksALimit};
 ghost use Rattle.scp_wire.specs.Reading.{reading_of, has_side_word, ReadingIsSpelt};
 
@@ -173,6 +174,8 @@ impl Xdr for Message {
 pub fn decode(alloc: Global, bytes: &[u8]) -> Result<Message, Fault>
     // What is read is spelt by just these bytes.
     ensures found { IfOk result (λ m. SpellsMessage bytes.now (message_value m)) }
+    // What is read breaks no limit.
+    ensures fits { IfOk result IsFitting }
     // What is spelt is read, unless memory runs out.
     ensures only { (v : Values message_kind) → SpellsMessage bytes.now v → Gives message_value result (Ok v) }
     // Which fault is the first, and its place.

@@ -1,4 +1,5 @@
 //! Laws of the definitions, each the contract of a function that does nothing.
+ghost use Rattle.scp_wire.specs.Fitting.{NamesFit, SaneSetsFit, ShortRecordsFit, ShortEnvelopesFit, WhatIsSpeltFits};
 ghost use Rattle.scp_wire.specs.Lanes.{LanesOfSent, WholeFollows};
 ghost use Rattle.scp_wire.specs.Parts.{FrontsAreInOrder, LanesArePartByPart, LimitsAreOfTheValue, NumbersNameMessages, OneMoreIsOfLink, OrderIsOfThePeer, OthersHaveNoNumber, PartsSayWhatTheWholeSays, PeersSayAllOfTheirs};
 ghost use Rattle.scp_wire.specs.ReaderLaws.{ReadingsAreInOrder, ReadingsAreSent, ReadingsGrow, ReadingsGrowByOne};
@@ -56,4 +57,14 @@ pub fn each_number_names_its_message()
 /// A message breaks a limit just where its value doesn't fit, so what has a spelling breaks none.
 pub fn what_fits_breaks_no_limit()
     ensures limits { LimitsAreOfTheValue }
+{}
+
+/// What fits a link for certain: a message of a hash or a slot alone, a sane quorum set, a record of at most 4,096 bytes, an
+/// envelope that keeps its own limits and has at most seven votes and seven accepted values, and all that came over a link.
+pub fn what_fits_a_link()
+    ensures names { NamesFit }
+    ensures set { SaneSetsFit }
+    ensures value { ShortRecordsFit }
+    ensures envelope { ShortEnvelopesFit }
+    ensures spelt { WhatIsSpeltFits }
 {}

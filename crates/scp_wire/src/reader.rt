@@ -3,10 +3,12 @@ ghost use Rattle.std.specs.Prelude.{List, [], ◌∷◌, ◌++◌, ◌+◌, ◌^
 ghost use Rattle.scp_wire.specs.declared.link.LinkItem.{LinkItem};
 ghost use Rattle.scp_wire.specs.declared.link.Inbound.{Inbound};
 ghost use Rattle.scp_wire.specs.Carried.{is_carried};
+ghost use Rattle.scp_wire.specs.Fitting.{IsFitting};
 ghost use Rattle.scp_wire.specs.LinkReading.{reading, after, unread, brought_each, after_each, records_from, brought_one, after_one, brought, after_read, HasRoom, first_of, taken_by, HasRead};
 
 use crate::carried::Carried;
 use crate::codec::decode;
+use crate::fitting::FittingMessage;
 use crate::link::{Cause, Inbound, LinkItem};
 use crate::message::Message;
 use crate::side::SideMessage;
@@ -158,6 +160,7 @@ impl LinkReader {
         requires no_rest { self.old.rest ≡ [] }
         requires runs { self.old.at.ended ≡ false }
         requires room { HasRoom message }
+        requires fits { IsFitting message }
         ensures reading { IfOk result (λ got. got ≡ first_of (brought conn self.old.at.next (Some message))) }
         ensures after { OnOk result (self.new ≡ record { at = after_read self.old.at (Some message); rest = drop 1 (brought conn self.old.at.next (Some message)) }) }
         ensures unchanged { OnErr result (self.new ≡ self.old) }
@@ -190,6 +193,7 @@ impl Place {
     ) -> Result<VecDeque<Inbound>, Fault>
         requires last { first.0 + length values ≤ 2 ^ 64 }
         requires runs { self.old.ended ≡ false }
+        requires fits { IsFitting (Message.Records first values) }
         ensures read { IfOk result (λ read. read.items ≡ brought_each conn self.old.next (records_from first.0 values)) }
         ensures after { OnOk result (self.new ≡ after_each self.old (records_from first.0 values)) }
         ensures unchanged { OnErr result (self.new ≡ self.old) }
@@ -222,7 +226,8 @@ impl Place {
 
     /// What a carried message brings.
     fn carry(&mut self, conn: ConnId, message: Message) -> Inbound
-        requires { is_carried message ≡ true }
+        requires carried { is_carried message ≡ true }
+        requires fits { IsFitting message }
         ensures read { result ≡ brought_one conn self.old.next message }
         ensures after { self.new ≡ after_one self.old message }
     {
@@ -231,7 +236,11 @@ impl Place {
         }
         let seq = Seq(self.next);
         self.next += 1;
-        Inbound::Carried(Carried { conn, seq, message })
+        Inbound::Carried(Carried {
+            conn,
+            seq,
+            message: FittingMessage::of(message),
+        })
     }
 }
 

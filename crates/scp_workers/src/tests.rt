@@ -105,7 +105,7 @@ fn kind(item: Item<Inbound>) -> u64 {
             },
         ) => 3,
         Item::Stop(0) => 4,
-        Item::One(0, Inbound::Carried(carried)) => numbered(carried.seq.0, &carried.message),
+        Item::One(0, Inbound::Carried(carried)) => numbered(carried.seq.0, carried.message.get()),
         _ => 0,
     }
 }

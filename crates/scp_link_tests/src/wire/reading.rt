@@ -25,7 +25,7 @@ fn conn(life: u32) -> ConnId {
 
 fn carried(carried: &Carried) -> Read {
     let life = carried.conn.life;
-    match &carried.message {
+    match carried.message.get() {
         Message::GetRecord(slot) => Read::Asks(life, carried.seq.0, slot.0),
         Message::Record(slot, _) => Read::Record(life, carried.seq.0, slot.0),
         _ => Read::Other,

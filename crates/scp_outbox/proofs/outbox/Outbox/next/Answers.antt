@@ -1,6 +1,6 @@
 use Rattle.std.proofs.Common.{All, length, ap, sym, subst, arith, ◌∙◌}
 use Rattle.std.proofs.lemmas.List.Elements.{All-nil}
-use Rattle.scp_outbox.specs.Fitting.{IsFitting}
+use Rattle.scp_wire.specs.Fitting.{IsFitting}
 use Rattle.scp_outbox.specs.Outbox.{IsOutbox}
 use Rattle.scp_outbox.specs.Inside.{outbox_view}
 use Rattle.scp_outbox.proofs.Kept.{ring_leaves_known, leaves_known}

@@ -4,11 +4,13 @@ ghost use Rattle.scp_xdr.specs.Kind.{Fits, numbered, spelling};
 ghost use Rattle.scp_xdr.specs.Length.{spelled_len};
 ghost use Rattle.scp_xdr.specs.Shared.{value_kind};
 ghost use Rattle.scp_xdr.specs.Words.{Leaves};
-ghost use Rattle.scp_outbox.specs.Fitting.{IsFitting};
+ghost use Rattle.scp_wire.specs.Fitting.{IsFitting};
 
+use crate::codec::BATCH_LIMIT;
+use crate::message::Message;
 use scp_types::Value;
-use scp_wire::{BATCH_LIMIT, Message};
 use scp_xdr::{Xdr, numbered_fits, spend_array, spend_u64};
+use std::marker::Model;
 
 /// The most bytes of an envelope, a quorum set or a batch in a link message: 65,536 without the 4 of its kind (this project's
 /// profile).
@@ -17,12 +19,26 @@ const PART_LIMIT: usize = 65_532;
 /// The most bytes of a value (this project's profile).
 const VALUE_LIMIT: usize = 4096;
 
-/// A message that breaks no limit of a link message: `scp_wire::encode` never refuses it as too long.
+/// A message that breaks no limit of a link message: `encode` never refuses it as too long. Contracts see the message.
 #[derive(Debug, Drop)]
 pub struct FittingMessage {
-    /// The message.
-    pub message: Message,
-    pub ghost fits: { IsFitting message },
+    message: Message,
+}
+
+impl Model for FittingMessage {
+    ghost use Rattle.std.specs.Coded.{codes};
+    ghost use Rattle.scp_xdr.specs.TreeModel.{coded_row};
+    ghost use Rattle.scp_quorum.specs.QuorumTree.{coded_level};
+    ghost use Rattle.scp_wire.specs.declared.message.Message.{Message};
+    ghost use Rattle.scp_wire.specs.Fitting.{IsFitting};
+
+    ghost Value = { Message };
+
+    ghost coded = { Prim.hlevel (codes, coded_row coded_level) };
+
+    ghost view = { λ m. m.message };
+
+    ghost invariant = { λ m. IsFitting m.message };
 }
 
 impl FittingMessage {
@@ -33,7 +49,7 @@ impl FittingMessage {
         // It is made just where the message fits.
         ensures exact { IsOk result ↔ IsFitting message }
         // It is this message.
-        ensures same { IfOk result (λ made. made.message ≡ message) }
+        ensures same { IfOk result (λ made. made ≡ message) }
         // Else the message comes back.
         ensures handed_back { IfErr result (λ back. back ≡ message) }
     {
@@ -42,6 +58,32 @@ impl FittingMessage {
         } else {
             Err(message)
         }
+    }
+
+    /// The message, for who knows that it fits: nothing is tested.
+    pub fn of(message: Message) -> FittingMessage
+        requires fits { IsFitting message }
+        ensures same { result ≡ message }
+    {
+        FittingMessage { message }
+    }
+
+    /// The message.
+    pub fn get(&self) -> &Message
+        ensures same { result.now ≡ self.now }
+        // It breaks no limit.
+        ensures fits { IsFitting self.now }
+    {
+        &self.message
+    }
+
+    /// The message. Takes no memory.
+    pub fn into_inner(self) -> Message
+        ensures same { result ≡ self }
+        // It breaks no limit.
+        ensures fits { IsFitting self }
+    {
+        self.message
     }
 }
 

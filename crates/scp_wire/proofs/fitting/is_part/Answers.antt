@@ -1,5 +1,5 @@
-use Rattle.scp_outbox.proofs.Room.{within_room}
-use Rattle.scp_outbox.proofs.fitting.is_part.Goals as goal
+use Rattle.scp_wire.proofs.Room.{within_room}
+use Rattle.scp_wire.proofs.fitting.is_part.Goals as goal
 
 pub returns-then-fits : goal.returns-then-fits
 returns-then-fits g c =

@@ -1,10 +1,12 @@
 -- What fits a link for certain.
 use Rattle.std.proofs.Common.{ℕ, ◌+◌, ◌*◌, ◌≤◌, List, [], ◌∷◌, length, subst, arith, inl, inr}
-use Rattle.std.specs.Prelude.{Option, Some, None, option_map}
+use Rattle.std.specs.Prelude.{Option, Some, None, option_map, Result, Ok, Err, IfOk, ◌++◌}
 use Rattle.std.specs.List.{AllByRecursion, sum_by}
 use Rattle.std.proofs.lemmas.List.Sums.{sum_by-cons}
 use Rattle.scp_types.specs.declared.ballot.Ballot.{Ballot}
-use Rattle.scp_xdr.specs.Kind.{Values, Fits, optional}
+use Rattle.scp_types.specs.declared.fault.Fault.{Fault}
+use Rattle.scp_types.specs.declared.names.Slot.{Slot}
+use Rattle.scp_xdr.specs.Kind.{Values, Fits, Spells, optional}
 use Rattle.scp_xdr.specs.Length.{padded_len, spelled_len}
 use Rattle.scp_xdr.specs.Shared.{value_kind, ballot_kind, ballot_value}
 use Rattle.scp_xdr.proofs.Lengths.{length_is}
@@ -14,9 +16,8 @@ use Rattle.scp_envelope.specs.declared.statement.Pledges.TheVariants.{Prepare, C
 use Rattle.scp_wire.specs.declared.message.Message.{Message}
 use Rattle.scp_wire.specs.declared.message.Message.TheVariants.{Envelope, GetSet, Set, NoSet, GetRecord, Record, Records}
 use Rattle.scp_wire.specs.Message.{message_kind, message_value, SpellsMessage, FitsMessage, HasRanges}
-use Rattle.scp_wire.specs.Parts.{LimitsAreOfTheValue}
-use Rattle.scp_outbox.specs.Fitting.{IsFitting}
-use Rattle.scp_sent.specs.Fit.{NamesFit, SaneSetsFit, ShortRecordsFit, HasShortLists, ShortEnvelopesFit, WhatIsSpeltFits}
+use Rattle.scp_wire.specs.Fitting.{IsFitting, NamesFit, SaneSetsFit, ShortRecordsFit, HasShortLists, ShortEnvelopesFit, WhatIsSpeltFits}
+use Rattle.scp_wire.proofs.Limits.{limits_are}
 
 pub names : NamesFit
 names = λ hash slot. (λ b. b, λ b. b, λ b. b)
@@ -74,19 +75,31 @@ short_envelope = λ e fits few. λ b. elim b [
 fits_message : (bytes : List ℕ) (v : Values message_kind) → SpellsMessage bytes v → FitsMessage v
 fits_message bytes v s = record { fits = s.spells.fits; within = subst (λ (text : List ℕ). length text ≤ 65536) s.spells.spelt s.within }
 
--- by the law on what breaks a limit
-module _ (limits : LimitsAreOfTheValue) where
-  spelt_by : (bytes : List ℕ) (m : Message) → HasRanges m → SpellsMessage bytes (message_value m) → IsFitting m
-  spelt_by bytes m range s = λ b. (limits m range).1 b (fits_message bytes (message_value m) s)
+spelt_by : (bytes : List ℕ) (m : Message) → HasRanges m → SpellsMessage bytes (message_value m) → IsFitting m
+spelt_by bytes m range s = λ b. (limits_are m range).1 b (fits_message bytes (message_value m) s)
 
-  spelt_fits : (bytes : List ℕ) (m : Message) → SpellsMessage bytes (message_value m) → IsFitting m
-  spelt_fits bytes (Envelope e) s = spelt_by bytes (Envelope e) tt s
-  spelt_fits bytes (GetSet hash) s = λ b. b
-  spelt_fits bytes (Set q) s = spelt_by bytes (Set q) tt s
-  spelt_fits bytes (NoSet hash) s = λ b. b
-  spelt_fits bytes (GetRecord slot) s = λ b. b
-  spelt_fits bytes (Record slot value) s = λ longer. omega (arith, longer, s.spells.fits.1.1.1.1.1.1.1.0)
-  spelt_fits bytes (Records first values) s = spelt_by bytes (Records first values) s.spells.fits.1.1.1.1.1.1.1.0 s
+spelt_fits : (bytes : List ℕ) (m : Message) → SpellsMessage bytes (message_value m) → IsFitting m
+spelt_fits bytes (Envelope e) s = spelt_by bytes (Envelope e) tt s
+spelt_fits bytes (GetSet hash) s = λ b. b
+spelt_fits bytes (Set q) s = spelt_by bytes (Set q) tt s
+spelt_fits bytes (NoSet hash) s = λ b. b
+spelt_fits bytes (GetRecord slot) s = λ b. b
+spelt_fits bytes (Record slot value) s = λ longer. omega (arith, longer, s.spells.fits.1.1.1.1.1.1.1.0)
+spelt_fits bytes (Records first values) s = spelt_by bytes (Records first values) s.spells.fits.1.1.1.1.1.1.1.0 s
 
-  pub spelt : WhatIsSpeltFits
-  spelt = spelt_fits
+pub spelt : WhatIsSpeltFits
+spelt = spelt_fits
+
+-- what was decoded
+pub decoded_fits : (bytes : List ℕ) (r : Result Message Fault) → length bytes ≤ 65536 → IfOk r (λ m. Spells message_kind bytes (message_value m)) → IfOk r IsFitting
+decoded_fits bytes (Ok m) within s = spelt_fits bytes m (record { within = within; spells = s })
+decoded_fits bytes (Err f) within s = tt
+
+-- ---- the records of a batch that fits
+
+short_at : (before : List (List ℕ)) (v : List ℕ) (later : List (List ℕ)) → AllByRecursion (λ x. Fits value_kind x) (before ++ v ∷ later) → length v ≤ 4096
+short_at [] v later fits = fits.0.0
+short_at (w ∷ ws) v later fits = short_at ws v later fits.1
+
+pub one_of_batch : (first slot : Slot) (before : List (List ℕ)) (v : List ℕ) (later : List (List ℕ)) → IsFitting (Records first (before ++ v ∷ later)) → IsFitting (Record slot v)
+one_of_batch first slot before v later fits = λ longer. fits (inl (λ f. omega (arith, longer, short_at before v later f.5)))

@@ -1,4 +1,4 @@
--- Which messages fit a link for certain (this project's profile).
+-- Which messages fit a link, and which do so for certain (this project's profile).
 use Rattle.std.specs.Prelude.{ℕ, ◌≤◌, List, length}
 use Rattle.scp_types.specs.declared.names.Hash.{Hash}
 use Rattle.scp_types.specs.declared.names.Slot.{Slot}
@@ -9,10 +9,13 @@ use Rattle.scp_envelope.specs.Kinds.{envelope_kind, envelope_value}
 use Rattle.scp_envelope.specs.declared.statement.Pledges.{Pledges}
 use Rattle.scp_envelope.specs.declared.statement.Pledges.TheVariants.{Prepare, Confirm, Externalize, Nominate}
 use Rattle.scp_wire.specs.Boxed.{Boxed}
-use Rattle.scp_wire.specs.Message.{message_value, SpellsMessage}
 use Rattle.scp_wire.specs.declared.message.Message.{Message}
 use Rattle.scp_wire.specs.declared.message.Message.TheVariants.{Envelope, GetSet, Set, NoSet, GetRecord, Record}
-use Rattle.scp_outbox.specs.Fitting.{IsFitting}
+use Rattle.scp_wire.specs.Message.{message_value, SpellsMessage, BreaksALimit}
+
+-- no limit of a link message is broken
+abbrev pub IsFitting : Message → Type 0
+IsFitting message = ¬ (BreaksALimit message)
 
 -- what has a hash or a slot alone fits
 abbrev pub NamesFit : Type 0

@@ -1,5 +1,5 @@
-use Rattle.scp_sent.proofs.Fits.{names, set, short_record, short_envelope, spelt}
-use Rattle.scp_sent.proofs.laws.what_fits_a_link.Goals as goal
+use Rattle.scp_wire.proofs.Fits.{names, set, short_record, short_envelope, spelt}
+use Rattle.scp_wire.proofs.laws.what_fits_a_link.Goals as goal
 
 pub returns-clause-names : goal.returns-clause-names
 returns-clause-names c = names
@@ -14,4 +14,4 @@ pub returns-clause-envelope : goal.returns-clause-envelope
 returns-clause-envelope c = short_envelope
 
 pub returns-clause-spelt : goal.returns-clause-spelt
-returns-clause-spelt c = spelt c.what_fits_breaks_no_limit.ensures.limits
+returns-clause-spelt c = spelt
