@@ -15,3 +15,4 @@ pub mod RaiseCounter
 pub mod Steps
 pub mod Inputs
 pub mod Laws
+pub mod Values

@@ -1,5 +1,5 @@
 //! The trait by which an application checks and combines values.
-ghost use Rattle.std.specs.Prelude.{◌≡◌, ◌≢◌, ◌<◌, ◌≤◌, ℕ, List, [], Option, IfOk, IfSome, All, IsOkUnless};
+ghost use Rattle.std.specs.Prelude.{◌≡◌, ◌≢◌, ◌<◌, ◌≤◌, ℕ, List, [], length, Option, IfOk, IfSome, All, IsOkUnless};
 ghost use Rattle.scp_driver.specs.Driver.{IsFull};
 
 use scp_types::{Fault, Slot, Value};
@@ -15,9 +15,11 @@ pub enum Level {
 
 /// What nomination asks of the application (the validation, the combining and the leaders of the SCP draft). An
 /// implementation gives the four answers as functions of the slot and the values, and proves that what `extract` takes is
-/// fully validated, and so is the composite of values that are.
+/// fully validated, and so is the composite of values that are, and that a value that isn't invalid has at most 4,096 bytes,
+/// the limit of values on a link.
 pub trait Driver {
     ghost use Rattle.scp_driver.specs.declared.driver.Level.{Level};
+    ghost use Rattle.scp_driver.specs.declared.driver.Level.TheVariants.{Invalid};
 
     ghost level: { Self → ℕ → List ℕ → Level };
 
@@ -52,4 +54,6 @@ pub trait Driver {
     ghost extracts_full: { (d : Self) (slot : ℕ) (v : List ℕ) → IfSome (extracted d slot v) (λ found. IsFull (level d) slot found) };
 
     ghost combines_full: { (d : Self) (slot : ℕ) (vs : List (List ℕ)) → vs ≢ [] → All (λ v. IsFull (level d) slot v) vs → IsFull (level d) slot (combined d slot vs) };
+
+    ghost valid_is_short: { (d : Self) (slot : ℕ) (v : List ℕ) → level d slot v ≢ Invalid → length v ≤ 4096 };
 }

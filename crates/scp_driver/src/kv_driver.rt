@@ -1,7 +1,7 @@
 //! The driver of the product, whose values are operation lists.
 ghost use Rattle.std.specs.Prelude.{◌≡◌, ◌≢◌, ◌≤◌, ℕ, List, [], Option, None, IfOk, IsOkUnless};
 ghost use Rattle.scp_driver.specs.Kv.{kv_level, greatest, greatest_from, leader_place, IsGreatest, IsPlace};
-ghost use Rattle.scp_driver.specs.KvLaws.{greatest_full};
+ghost use Rattle.scp_driver.specs.KvLaws.{greatest_full, list_is_short};
 
 use crate::driver::{Driver, Level};
 use scp_kv::is_ops;
@@ -60,6 +60,8 @@ impl Driver for KvDriver {
     ghost extracts_full = { λ d slot v. tt };
 
     ghost combines_full = { λ d slot vs some all. greatest_full vs some all };
+
+    ghost valid_is_short = { λ d slot v valid. list_is_short v valid };
 }
 
 /// The place (slot + round - 2) mod n, over the integers, of a round's leader among n nodes: nodes lead in turn, and for slot 1

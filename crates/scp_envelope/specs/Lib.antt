@@ -5,3 +5,4 @@ pub mod Claims
 pub mod Sane
 pub mod Newer
 pub mod Laws
+pub mod Short

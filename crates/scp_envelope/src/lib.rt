@@ -21,6 +21,7 @@ mod lists;
 mod order;
 mod sanity;
 mod shared;
+mod short;
 mod signature;
 mod statement;
 
@@ -32,5 +33,6 @@ pub use laws::{
 pub use lists::ValueList;
 pub use order::newer;
 pub use shared::{SharedEnvelope, SharedStatement};
+pub use short::a_short_envelope_fits;
 pub use signature::Signature;
 pub use statement::{Confirm, Envelope, Externalize, Nominate, Pledges, Prepare, Statement};

@@ -2,3 +2,4 @@ pub mod Newest
 pub mod Judged
 pub mod Slot
 pub mod Takes
+pub mod Limits

@@ -1,8 +1,9 @@
 -- The machine of one slot as its contracts see it.
-use Rattle.std.specs.Prelude.{◌≡◌, ◌≢◌, ◌↔◌, ◌⊎◌, ℕ, List, [], Bool, true, false, Option, None}
-use Rattle.std.specs.Option.{option_map}
+use Rattle.std.specs.Prelude.{◌≡◌, ◌≢◌, ◌↔◌, ◌⊎◌, ℕ, List, [], Bool, true, false, Option, None, Contains}
+use Rattle.std.specs.Option.{option_map, ForSome}
 use Rattle.scp_types.specs.declared.names.NodeId.{NodeId}
 use Rattle.scp_quorum.specs.QuorumTree.{QuorumTree}
+use Rattle.scp_envelope.specs.Short.{IsShortValue}
 use Rattle.scp_driver.specs.declared.driver.Level.{Level}
 use Rattle.scp_vote.specs.declared.claim.StatementKind.{StatementKind}
 use Rattle.scp_vote.specs.declared.claim.StatementKind.TheVariants.{Nomination as Nominating, Balloting}
@@ -10,6 +11,7 @@ use Rattle.scp_vote.specs.Board.{Seen, counted_of_other}
 use Rattle.scp_nominate.specs.Nomination as nominate
 use Rattle.scp_nominate.specs.Nomination.{Nomination, nomination}
 use Rattle.scp_ballot_rules.specs.Owed.{OwesNothing}
+use Rattle.scp_ballot_rules.specs.Values.{BoardSaysOnly, StateSaysOnly}
 use Rattle.scp_ballot.specs.Balloting as ballot
 use Rattle.scp_ballot.specs.Balloting.{Ballots, ballots, IsDecided, HasBallot}
 use Rattle.scp_slot.specs.declared.newest.Heard.{Heard}
@@ -78,8 +80,15 @@ pub record IsWorking {D : Type 0} (level : D → ℕ → List ℕ → Level) (pl
   pub running : IsRunning (view_of s false)
   pub nominator : nominate.IsSound level place s.nominator
 
+-- All that it may say has at most 4,096 bytes: its proposal, its votes, and the values of the ballots on the board and in the state.
+pub record HoldsShort (v : SlotView) : Type 0 where
+  pub proposal : ForSome v.nomination.proposal IsShortValue
+  pub votes : (w : List ℕ) → Contains v.nomination.lists.votes w → IsShortValue w
+  pub board : BoardSaysOnly IsShortValue v.ballots.board
+  pub state : StateSaysOnly IsShortValue v.ballots.state
+
 abbrev pub IsSound : {D : Type 0} → (D → ℕ → List ℕ → Level) → (D → ℕ → ℕ → ℕ → ℕ) → SlotMachine D → Type 0
-IsSound level place m = m.failed ≡ false → IsWorking level place m.state.value
+IsSound level place m = m.failed ≡ false → IsWorking level place m.state.value × HoldsShort (slot_view m)
 
 -- A machine that has heard and said nothing.
 pub record Begins (node : NodeId) (number : ℕ) (set : QuorumTree) (v : SlotView) : Type 0 where

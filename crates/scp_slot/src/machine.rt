@@ -20,6 +20,7 @@ pub struct SlotMachine<D: Driver + Drop> {
 impl<D: Driver + Drop> SlotMachine<D> {
     ghost use Rattle.scp_slot.specs.Slot.{slot_view, driver_of, Begins, IsRunning, IsSound, OwesNoVote, VotesWell};
     ghost use Rattle.scp_slot.specs.Takes.{Takes, Decides, IsOfSlot, NominatesExactly};
+    ghost use Rattle.scp_slot.specs.Limits.{KeepsLimits};
 
     /// The machine of a slot of which nothing was heard or said. The one refusal is `Fault::NoMemory`.
     pub fn new(
@@ -69,6 +70,8 @@ impl<D: Driver + Drop> SlotMachine<D> {
         ensures decides { IfOk result (λ out. Decides (slot_view self.old) out (slot_view self.new)) }
         // The boards are those of the newest fresh envelopes, and the ballots owe nothing on them.
         ensures running { OnOk result (IsRunning (slot_view self.new)) }
+        // What is emitted, and what a decision has, keeps the limits of a link.
+        ensures fits { IfOk result (λ out. KeepsLimits out) }
         // Each new vote has its reason.
         ensures votes { OnOk result (VotesWell D.level D.extracted D.place (slot_view self.old) self.new) }
         // The votes, the accepted values and the candidates are those that the steps of nomination come to.

@@ -1,11 +1,14 @@
 //! A driver whose values are one byte: it knows values that may be valid, and takes something of them.
-ghost use Rattle.scp_voting_tests.specs.Byte.{byte_level, first_byte, first_value, turn, first_byte_full, first_value_full};
+ghost use Rattle.scp_voting_tests.specs.Byte.{byte_level, first_byte, first_value, turn, first_byte_full, first_value_full, byte_is_short};
 
 use scp_driver::{Driver, Level};
 use scp_types::{Fault, Slot, Value};
 use std::alloc::Global;
 
-/// One byte is fully validated, more bytes may be valid and none are invalid. Of a value its first byte is taken, the first
+/// The most bytes of a value.
+const LIMIT: usize = 4_096;
+
+/// One byte is fully validated, more bytes may be valid up to the limit, and no bytes and bytes over it are invalid. Of a value its first byte is taken, the first
 /// candidate is the composite, and rounds lead in turn, whatever the slot.
 #[derive(Clone, Copy, Debug)]
 pub struct ByteDriver;
@@ -23,7 +26,8 @@ impl Driver for ByteDriver {
         match value.as_slice() {
             [] => Level::Invalid,
             [_] => Level::FullyValidated,
-            _ => Level::MaybeValid,
+            bytes if bytes.len() <= LIMIT => Level::MaybeValid,
+            _ => Level::Invalid,
         }
     }
 
@@ -45,4 +49,6 @@ impl Driver for ByteDriver {
     ghost extracts_full = { λ d slot v. first_byte_full v };
 
     ghost combines_full = { λ d slot vs some all. first_value_full vs some all };
+
+    ghost valid_is_short = { λ d slot v valid. byte_is_short v valid };
 }
