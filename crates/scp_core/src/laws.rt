@@ -68,8 +68,8 @@ pub fn whatever_is_replied_fits()
     the_last_sets_are_stored();
 }
 
-/// Each step puts what its stage hands out into the outboxes of its links, in order, all but what is too long for a link; and
-/// a drain of a link gives what its outbox gives next, Idle where that is nothing.
+/// Each step puts all that its stage hands out into the outboxes of its links, in order; and a drain of a link gives what its
+/// outbox gives next, Idle where that is nothing.
 pub fn what_is_handed_out_is_put()
     ensures puts { StepsPutAll }
     ensures drains { DrainsGiveNext }

@@ -8,7 +8,7 @@
 //! - all that was sent over a link spells messages that may be sent there, each own statement newer than those before it.
 //!
 //! And of each event: its reply is that of the table of replies, and a queue is full exactly at its capacity; what a stage hands
-//! out for a link is put into that link's outbox, in order, all but what is too long for a link; and a drain gives what is next.
+//! out for a link is put into that link's outbox, in order; and a drain gives what is next.
 #![tactic(auto)]
 
 mod config;

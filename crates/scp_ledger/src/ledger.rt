@@ -1,7 +1,8 @@
 //! A ledger.
-ghost use Rattle.std.specs.Prelude.{◌≡◌, ◌↔◌, ◌≤◌, ◌⊎◌, ◌++◌, [], true, false, length, OnOk, OnErr, IfOk, IfErr, IsErrOf};
+ghost use Rattle.std.specs.Prelude.{◌≡◌, ◌↔◌, ◌≤◌, ◌⊎◌, ◌++◌, [], true, false, length, All, OnOk, OnErr, IfOk, IfErr, IsErrOf};
 ghost use Rattle.scp_types.specs.declared.names.ConnId.{ConnId};
 ghost use Rattle.scp_pending.specs.Line.{ready_mark};
+ghost use Rattle.scp_ledger.specs.Fitting.{FitsOut};
 ghost use Rattle.scp_ledger.specs.Ledger.{IsLedger, IsRunning};
 ghost use Rattle.scp_ledger.specs.Marks.{marks_of};
 ghost use Rattle.scp_ledger.specs.Takes.{Takes, adds_entry};
@@ -108,6 +109,8 @@ impl<D: Driver + Drop + Copy> Ledger<D> {
     pub fn take(&mut self, ready: Ready) -> Result<Took, Fault>
         // The entry, the verdict, the machine, the decision and the answer are these.
         ensures takes { IfOk result (λ took. Takes D.level D.combined self.old ready took self.new) }
+        // What goes out fits a link.
+        ensures fits { IfOk result (λ took. All FitsOut took.outgoing) }
         // Of each connection the journal says what the things said that were taken.
         ensures marks { OnOk result ((c : ConnId) → marks_of c self.new.journal ≡ marks_of c self.old.journal ++ ready_mark c ready) }
         // At most one decision per slot, and each has its certificate over the journal, or the record that named it, failed or not.
@@ -130,7 +133,10 @@ impl<D: Driver + Drop + Copy> Ledger<D> {
             return Err(Fault::JournalFull);
         }
         match self.state.take(ready) {
-            Ok(took) => Ok(took),
+            Ok(took) => {
+                let _ = took.outgoing.as_slice();
+                Ok(took)
+            }
             Err(_) => {
                 self.failed = true;
                 Err(Fault::NoMemory)

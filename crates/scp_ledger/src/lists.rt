@@ -1,16 +1,20 @@
 //! What is told of a ledger's lists by plain functions.
-ghost use Rattle.std.specs.Prelude.{◌≡◌, ◌<◌, ◌≤◌, ◌++◌, ◌∷◌, [], OnOk, OnErr, IfOk, IfSome, IsOkUnless, Some, None, option_to_list, map, length, position, vec_len};
+ghost use Rattle.std.specs.Prelude.{◌≡◌, ◌<◌, ◌≤◌, ◌++◌, ◌∷◌, [], OnOk, OnErr, IfOk, IfSome, IsOkUnless, Some, None, All, option_to_list, map, length, position, vec_len};
 ghost use Rattle.std.specs.Vec.{vec_capacity};
+ghost use Rattle.std.specs.Option.{ForSome};
 ghost use Rattle.scp_wire.specs.Connections.{same_node};
 ghost use Rattle.scp_ledger.specs.Verdicts.{link_of};
+ghost use Rattle.scp_envelope.specs.Short.{IsShort};
+ghost use Rattle.scp_ledger.specs.Fitting.{FitsOut};
 ghost use Rattle.scp_ledger.specs.Takes.{to_all, to_peers};
 
 use crate::journal::Fate;
 use crate::shared::SharedDecision;
 use crate::took::{Outgoing, OutgoingList};
-use scp_envelope::SharedEnvelope;
+use scp_envelope::{SharedEnvelope, a_short_envelope_fits};
 use scp_slot::Emitted;
 use scp_types::{ConnId, Fault, NodeId};
+use scp_wire::what_fits_a_link;
 use std::alloc::Global;
 
 /// The link of a connection: the place of its sender among the peers, or their number, which is no link.
@@ -71,6 +75,8 @@ fn add_decision(decisions: &mut Vec<SharedDecision>, decision: Option<SharedDeci
 
 /// The own statements, for all peers.
 pub fn to_all_peers(alloc: Global, emitted: Emitted) -> Result<OutgoingList, Fault>
+    requires nomination { ForSome emitted.nomination IsShort }
+    requires ballot { ForSome emitted.ballot IsShort }
     ensures same { IfOk result (λ all. all ≡ to_peers emitted) }
     ensures only_memory { IsOkUnless result Fault.NoMemory }
 {
@@ -82,11 +88,26 @@ pub fn to_all_peers(alloc: Global, emitted: Emitted) -> Result<OutgoingList, Fau
 }
 
 fn push_some(all: &mut Vec<Outgoing>, envelope: Option<SharedEnvelope>) -> Result<(), Fault>
+    requires short { ForSome envelope IsShort }
+    requires fits { All FitsOut all.old.items }
+    ensures fits { OnOk result (All FitsOut all.new.items) }
     ensures same { OnOk result (all.new.items ≡ all.old.items ++ map to_all (option_to_list envelope)) }
     ensures only_memory { IsOkUnless result Fault.NoMemory }
 {
     if let Some(envelope) = envelope {
-        all.push(Outgoing::ToAll(envelope))?;
+        let one = to_each(envelope);
+        all.push(one)?;
     }
     Ok(())
+}
+
+/// A short statement, which fits a link, for each peer.
+fn to_each(envelope: SharedEnvelope) -> Outgoing
+    requires short { IsShort envelope }
+    ensures same { result ≡ to_all envelope }
+    ensures fits { FitsOut result }
+{
+    a_short_envelope_fits(envelope.get());
+    what_fits_a_link();
+    Outgoing::ToAll(envelope)
 }

@@ -18,7 +18,6 @@ pub struct SharedDecision(Arc<Decision>);
 
 impl Model for SharedDecision {
     ghost use Rattle.scp_ledger.specs.declared.journal.Decision.{Decision};
-
     ghost use Rattle.std.specs.Prelude.{◌≤◌, length};
 
     ghost Value = { Decision };

@@ -2,9 +2,13 @@
 ghost use Rattle.std.specs.Prelude.{◌≡◌, ◌↔◌, ◌<◌, ◌≤◌, ◌+◌, ◌++◌, ◌∷◌, [], ℕ, true, false, cond, IsTrue, OnOk, OnErr, IfOk, IfSome, IfNone, IsOkUnless, Some, None, option_to_list, option_map, length};
 ghost use Rattle.std.specs.BTreeMap as tree;
 ghost use Rattle.std.specs.Ordering.{nat_cmp};
+ghost use Rattle.std.specs.Option.{ForSome};
+ghost use Rattle.scp_envelope.specs.Short.{IsShortValue};
 ghost use Rattle.scp_wire.specs.Carried.{is_carried};
+ghost use Rattle.scp_wire.specs.Fitting.{IsFitting};
 ghost use Rattle.scp_wire.specs.Sets.{IsSetOf};
 ghost use Rattle.scp_slot.specs.Slot.{slot_view, driver_of, IsSound as IsSlotSound, IsRunning as IsSlotRunning};
+ghost use Rattle.scp_slot.specs.Limits.{KeepsLimits};
 ghost use Rattle.scp_slot.specs.Takes.{IsOfSlot, Takes as SlotTakes, Decides as SlotDecides};
 ghost use Rattle.scp_ledger.specs.Seen.{machine_at, is_asked};
 ghost use Rattle.scp_ledger.specs.Decisions.{is_decided, named_by};
@@ -165,6 +169,7 @@ impl<D: Driver + Drop + Copy> State<D> {
         requires is_open { IsOpen self.old.window.lowest self.old.decisions.items slot.0 }
         requires of_slot { IsOfSlot slot.0 input }
         ensures ran { IfOk result (λ out. Ran D.level D.combined D.place self.old slot input out self.new) }
+        ensures fits { IfOk result KeepsLimits }
         ensures same { self.new ≡ record self.old { machines = self.new.machines } }
         ensures only_memory { IsOkUnless result Fault.NoMemory }
     {
@@ -185,6 +190,7 @@ impl<D: Driver + Drop + Copy> State<D> {
         requires of_slot { IsOfSlot slot.0 input }
         requires none { machine_at self.old.machines.entries slot.0 ≡ None }
         ensures ran { IfOk result (λ out. Ran D.level D.combined D.place self.old slot input out self.new) }
+        ensures fits { IfOk result KeepsLimits }
         ensures same { self.new ≡ record self.old { machines = self.new.machines } }
         ensures only_memory { IsOkUnless result Fault.NoMemory }
     {
@@ -273,6 +279,7 @@ impl<D: Driver + Drop + Copy> State<D> {
 
     /// Takes what came of an input of a slot's machine: the decision, if there is one, and the entry, if there is one.
     fn settle(&mut self, slot: Slot, out: SlotOutput, fate: Option<Fate>) -> Result<Took, Fault>
+        requires fits { KeepsLimits out }
         requires window { IsWindow self.old.decisions.items self.old.window }
         requires is_open { IsOpen self.old.window.lowest self.old.decisions.items slot.0 }
         ensures verdict { IfOk result (λ took. took.verdict ≡ Some (verdict_as out.verdict)) }
@@ -306,6 +313,7 @@ impl<D: Driver + Drop + Copy> State<D> {
         decided: Option<Certified>,
         fate: Option<Fate>,
     ) -> Result<Option<Onward>, Fault>
+        requires short { ForSome decided (λ d. IsShortValue d.value) }
         requires window { IsWindow self.old.decisions.items self.old.window }
         requires is_open { IsOpen self.old.window.lowest self.old.decisions.items slot.0 }
         ensures onward { IfOk result (λ onward. onward ≡ option_map decided_onward (decided_by slot decided)) }
@@ -464,6 +472,7 @@ impl<D: Driver + Drop + Copy> State<D> {
         requires sound { IsSound D.level D.place self.old }
         requires room { length self.old.journal.items < 1000000 }
         requires its_set { IsSetOf (Message.Record slot value) (option_map (λ s. s.value) set) }
+        requires fits { IsFitting (Message.Record slot value) }
         ensures takes { IfOk result (λ took. TakesRecord (state_view false self.old) conn seq slot value set took (state_view false self.new)) }
         ensures sound { OnOk result (IsSound D.level D.place self.new) }
         ensures err { OnErr result (Leaves self.old self.new) }
@@ -497,6 +506,7 @@ impl<D: Driver + Drop + Copy> State<D> {
         requires sound { IsSound D.level D.place self.old }
         requires room { length self.old.journal.items < 1000000 }
         requires its_set { IsSetOf (Message.Record slot value) (option_map (λ s. s.value) set) }
+        requires fits { IsFitting (Message.Record slot value) }
         requires is_open { IsOpen self.old.window.lowest self.old.decisions.items slot.0 }
         requires asked { is_asked self.old.asked.keys (record { link = place_of_link self.old.peers.items conn; slot = slot }) ≡ true }
         ensures verdict { IfOk result (λ took. took.verdict ≡ Some Verdict.Decided) }
@@ -657,6 +667,7 @@ fn enter<D: Driver + Drop + Copy>(
     requires of_slot { IsOfSlot (slot_view machine.old).slot input }
     ensures takes { IfOk result (λ out. SlotTakes (D.level (driver_of machine.old) (slot_view machine.old).slot) (D.combined (driver_of machine.old) (slot_view machine.old).nomination.slot) input (slot_view machine.old) out (slot_view machine.new)) }
     ensures decides { IfOk result (λ out. SlotDecides (slot_view machine.old) out (slot_view machine.new)) }
+    ensures fits { IfOk result KeepsLimits }
     ensures running { OnOk result (IsSlotRunning (slot_view machine.new)) }
     ensures driver { OnOk result (driver_of machine.new ≡ driver_of machine.old) }
     ensures sound { IsSlotSound D.level D.place machine.new }
@@ -714,6 +725,7 @@ fn named_decision(
     slot: Slot,
     value: &Value,
 ) -> Result<SharedDecision, Fault>
+    requires fits { IsFitting (Message.Record slot value.now) }
     ensures same { IfOk result (λ d. d ≡ named_by conn seq slot value.now) }
     ensures only_memory { IsOkUnless result Fault.NoMemory }
 {
@@ -735,6 +747,7 @@ fn certified_decision(
     slot: Slot,
     certified: Certified,
 ) -> Result<SharedDecision, Fault>
+    requires short { IsShortValue certified.value }
     ensures same { IfOk result (λ d. decided_by slot (Some certified) ≡ Some d) }
     ensures only_memory { IsOkUnless result Fault.NoMemory }
 {

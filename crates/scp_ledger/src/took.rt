@@ -35,7 +35,6 @@ impl Model for OutgoingList {
     ghost use Rattle.scp_quorum.specs.QuorumTree.{coded_level};
     ghost use Rattle.std.specs.Prelude.{List};
     ghost use Rattle.scp_ledger.specs.declared.took.Outgoing.{Outgoing};
-
     ghost use Rattle.std.specs.Prelude.{All};
     ghost use Rattle.scp_ledger.specs.Fitting.{FitsOut};
 
