@@ -16,7 +16,8 @@ use Rattle.scp_envelope.specs.declared.statement.Pledges.TheVariants.{Prepare, C
 use Rattle.scp_wire.specs.declared.message.Message.{Message}
 use Rattle.scp_wire.specs.declared.message.Message.TheVariants.{Envelope, GetSet, Set, NoSet, GetRecord, Record, Records}
 use Rattle.scp_wire.specs.Message.{message_kind, message_value, SpellsMessage, FitsMessage, HasRanges}
-use Rattle.scp_wire.specs.Fitting.{IsFitting, NamesFit, SaneSetsFit, ShortRecordsFit, HasShortLists, ShortEnvelopesFit, WhatIsSpeltFits}
+use Rattle.scp_envelope.specs.Short.{HasShortLists}
+use Rattle.scp_wire.specs.Fitting.{IsFitting, NamesFit, SaneSetsFit, ShortRecordsFit, ShortEnvelopesFit, WhatIsSpeltFits}
 use Rattle.scp_wire.proofs.Limits.{limits_are}
 
 pub names : NamesFit
