@@ -17,3 +17,4 @@ pub mod Answering
 pub mod Licensing
 pub mod Resting
 pub mod Lawful
+pub mod Saying

@@ -6,6 +6,8 @@ mod laws;
 mod own;
 mod state;
 
-pub use laws::{a_step_is_licensed, rest_owes_nothing, the_rules_are_a_function};
+pub use laws::{
+    a_step_is_licensed, rest_owes_nothing, the_rules_are_a_function, the_rules_say_what_stands,
+};
 pub use own::{copy_some, counter, pledges_of};
 pub use state::{Phase, State};
