@@ -275,12 +275,12 @@ module _ (P : List ℕ → Type 0) where
     composite = subst (λ (o : Option (List ℕ)). ForSome o P) (sym (ap (λ (x : State). x.composite) a.frame)) (one_has P z pz);
   }
 
-  compose_has : (p : Phase) (z : List ℕ) (s t : State) → P z → StateSaysOnly P s → Compose p z s t → StateSaysOnly P t
+  pub compose_has : (p : Phase) (z : List ℕ) (s t : State) → P z → StateSaysOnly P s → Compose p z s t → StateSaysOnly P t
   compose_has Prepare z s t pz h a = composed_has z s t pz h a
   compose_has Confirm z s t pz h e = same_has s t e h
   compose_has Externalize z s t pz h e = same_has s t e h
 
-  time_has : (s t : State) → StateSaysOnly P s → Time s t → StateSaysOnly P t
+  pub time_has : (s t : State) → StateSaysOnly P s → Time s t → StateSaysOnly P t
   time_has s t h (inl last) = same_has s t last.1 h
   time_has s t h (inr on) = raise_to _ s t h on.1
 

@@ -1,3 +1,4 @@
 pub mod Running
 pub mod Taking
 pub mod Making
+pub mod Limiting

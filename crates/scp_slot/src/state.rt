@@ -7,6 +7,7 @@ ghost use Rattle.scp_envelope.specs.declared.statement.Statement.{Statement};
 ghost use Rattle.scp_vote.specs.Board.{kind_of_pledges};
 ghost use Rattle.scp_nominate.specs.Nomination as nominate;
 ghost use Rattle.scp_ballot.specs.Balloting as ballot;
+ghost use Rattle.scp_ballot.specs.Outcome.{BeginsBlank};
 ghost use Rattle.scp_slot.specs.Judged.{HasInvalid, IsBehind, IsJudged};
 ghost use Rattle.scp_slot.specs.Newest.{newest_of};
 ghost use Rattle.scp_slot.specs.Takes.{quiet, Cases};
@@ -55,6 +56,7 @@ impl<D: Driver + Drop> State<D> {
         ensures begins { IfOk result (λ made. Begins me slot.0 set.value (view_of made false)) }
         ensures driver { IfOk result (λ made. nominate.driver_of made.nominator ≡ driver) }
         ensures sound { IfOk result (λ made. nominate.IsSound D.level D.place made.nominator) }
+        ensures blank { IfOk result (λ made. BeginsBlank (ballot.ballots made.balloter)) }
         ensures only_memory { IsOkUnless result Fault.NoMemory }
     {
         let shared = set.clone()?;
