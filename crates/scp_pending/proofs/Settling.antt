@@ -1,7 +1,7 @@
 -- A place of a list, replaced twice; and each place in turn.
-use Rattle.std.proofs.Common.{◌≡◌, ◌<◌, ◌+◌, ◌++◌, Bool, false, ℕ, zero, suc, List, [], ◌∷◌, length, map, take, drop, get_or, set, refl, sym, ◌∙◌, ap, subst}
+use Rattle.std.proofs.Common.{◌≡◌, ◌<◌, ◌+◌, ◌++◌, Bool, false, ℕ, zero, suc, List, [], ◌∷◌, length, map, take, drop, get_or, set, refl, sym, ◌∙◌, ap, subst, append_assoc}
 use Rattle.std.specs.Prelude.{if◌then◌else◌}
-use Rattle.std.proofs.lemmas.List.{set-get_or}
+use Rattle.std.proofs.lemmas.List.{set-get_or, drop_more, take_more, map-append}
 use Rattle.std.proofs.lemmas.List.Edits.{map_over_more}
 use Rattle.scp_types.specs.declared.names.Hash.{Hash}
 use Rattle.scp_wire.specs.declared.carried.Carried.{Carried}
@@ -24,3 +24,13 @@ pub other_stays : (hash : Hash) (g : Carried → Parked) (p : Parked) → waits_
 other_stays hash g (Waits x) e = ap (λ (b : Bool). if b then g x else Waits x) e
 other_stays hash g (Free delivery) e = refl
 other_stays hash g (Lost x cause) e = refl
+
+-- one more was taken from the front, changed, and put at the end
+pub passed_more : {X : Type 0} (f : X → X) (xs : List X) (i : ℕ) (x : X) (rest : List X) → i < length xs → drop i xs ++ map f (take i xs) ≡ x ∷ rest → rest ++ f x ∷ [] ≡ drop (i + 1) xs ++ map f (take (i + 1) xs)
+passed_more f xs i x rest within is =
+    let y = get_or xs i x in
+    let whole : y ∷ (drop (i + 1) xs ++ map f (take i xs)) ≡ x ∷ rest = ap (λ zs. zs ++ map f (take i xs)) (sym (drop_more xs i x within)) ∙ is in
+    let same : y ≡ x = cc in
+    let others : drop (i + 1) xs ++ map f (take i xs) ≡ rest = cc in
+    let one_more : map f (take (i + 1) xs) ≡ map f (take i xs) ++ f x ∷ [] = ap (λ zs. map f zs) (take_more xs i x within) ∙ map-append f (take i xs) (y ∷ []) ∙ ap (λ z. map f (take i xs) ++ f z ∷ []) same in
+    ap (λ zs. zs ++ f x ∷ []) (sym others) ∙ append_assoc (drop (i + 1) xs) (map f (take i xs)) (f x ∷ []) ∙ ap (λ zs. drop (i + 1) xs ++ zs) (sym one_more)

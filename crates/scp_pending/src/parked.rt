@@ -93,14 +93,7 @@ impl Parked {
     {
         match self {
             Parked::Waits(carried) => carried,
-            Parked::Free(delivery) => {
-                let (conn, seq, message, _set) = delivery.into_parts();
-                Carried {
-                    conn,
-                    seq,
-                    message: FittingMessage::of(message),
-                }
-            }
+            Parked::Free(delivery) => delivery.into_carried(),
             Parked::Lost(carried, _cause) => carried,
         }
     }

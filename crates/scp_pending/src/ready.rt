@@ -116,6 +116,21 @@ impl Delivery {
         self.set.as_ref()
     }
 
+    /// The message as it came, without its set. Takes no memory.
+    pub(crate) fn into_carried(self) -> Carried
+        ensures conn { result.conn ≡ self.conn }
+        ensures seq { result.seq ≡ self.seq }
+        ensures message { result.message ≡ self.message }
+    {
+        let Delivery {
+            conn,
+            seq,
+            message,
+            set: _set,
+        } = self;
+        Carried { conn, seq, message }
+    }
+
     /// Its parts. Takes no memory.
     pub fn into_parts(self) -> (ConnId, Seq, Message, Option<Arc<SaneSet>>)
         ensures conn { result.0 ≡ self.conn }
