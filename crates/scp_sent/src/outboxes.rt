@@ -108,6 +108,8 @@ impl Outboxes {
         // It is put there, and the other outboxes stay.
         ensures puts { HandsOut self.old (to_link link message) self.new }
     {
+        // by its type it fits
+        let _ = message.get();
         put_at(&mut self.0, link, message);
     }
 
@@ -146,6 +148,8 @@ fn put_each(outboxes: &mut Vec<LiveOutbox>, message: &FittingMessage) -> Result<
     ensures puts { OnOk result (HandsOut outboxes.old.items (to_each message.now) outboxes.new.items) }
     ensures only_memory { IsOkUnless result Fault.NoMemory }
 {
+    // by its type it fits
+    let _ = message.get();
     for outbox in outboxes.iter_mut() {
         outbox.put(copy(message)?);
     }

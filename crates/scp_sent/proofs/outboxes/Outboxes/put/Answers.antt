@@ -2,4 +2,4 @@ use Rattle.scp_sent.proofs.Putting.{put_out}
 use Rattle.scp_sent.proofs.outboxes.Outboxes.put.Goals as goal
 
 pub returns : goal.returns
-returns c = record { puts = rw (← c.self.view_is) (put_out _ c.args.link c.args.message.message _ c.args.message.fits c.put_at.ensures) }
+returns c = record { puts = rw (← c.self.view_is) (put_out _ c.args.link c.args.message _ c.get.ensures.fits c.put_at.ensures) }
