@@ -42,7 +42,6 @@ one_has : {A : Type 0} (R : A → Type 0) (y : A) → R y → ForSome (Some y) R
 one_has R y h = for_some R (Some y) y refl h
 
 module _ (P : List ℕ → Type 0) where
-
   abbrev Has : Option Ballot → Type 0
   Has o = ForSome o (λ (x : Ballot). P x.value)
 

@@ -167,10 +167,10 @@ contains_each new old all = All-weaker (λ v. Contains old v) (λ v. Contains ne
 no_longer : (old new : List (List ℕ)) → IsStrictlySortedBy value_cmp old → IsStrictlySortedBy value_cmp new → ((v : List ℕ) → Contains old v → Contains new v) → length old ≤ length new
 no_longer old new first second all = elim (cases_lt (length new) (length old)) [
   | inl lt ↦
-    let here : ContainsAll new old = contains_each new old all in
-    let not : ¬ (ContainsAll old new) = λ back. (larger_is_longer new old second first back).1 lt here in
-    let longer : length old < length new = (larger_is_longer old new first second here).0 not in
-    omega (arith, lt, longer)
+      let here : ContainsAll new old = contains_each new old all in
+      let not : ¬ (ContainsAll old new) = λ back. (larger_is_longer new old second first back).1 lt here in
+      let longer : length old < length new = (larger_is_longer old new first second here).0 not in
+      omega (arith, lt, longer)
   | inr le ↦ le
 ]
 
@@ -199,8 +199,7 @@ short_nominated level combined old out new given holds proposal n =
     λ z is.
     subst (λ (v : List ℕ). IsShortValue v) (sym (n.advances.composite.all z is))
     (given.made n.making.slot (some_more old.nomination.lists.candidates new.nomination.lists.candidates (n.advances.composite.grew.0 (some_is n.composite z is)))) in
-    let part : Part out new = part_passed n.composite old out new (were_short old holds) composite n.passed in
-    (
+    let part : Part out new = part_passed n.composite old out new (were_short old holds) composite n.passed in (
       record { proposal = proposal; votes = votes; board = part.are.board; state = part.are.state },
       record { nomination = λ e is. nomination_short new.nomination e given.few given.voted votes (sane_in (λ q. ForSome (nominate.own old.nomination) (λ p. ArePledgesNewer p q)) (nominate.own new.nomination) e.statement.pledges (n.advances.statement e is).stands (n.advances.emitted.0 (some_is out.emitted.nomination e is))) (n.advances.statement e is); ballot = part.ballot; own = part.own; value = part.value },
     )
@@ -213,8 +212,7 @@ short_nominated level combined old out new given holds proposal n =
 
 short_balloted : (old : SlotView) (out : SlotOutput) (new : SlotView) → HoldsShort old → AreShort new.ballots → Ballots old out new → new.nomination ≡ old.nomination → out.emitted.nomination ≡ None → Holds out new
 short_balloted old out new holds are moves stays none =
-    let part : Part out new = part_of old out new are moves in
-    (
+    let part : Part out new = part_of old out new are moves in (
       record {
         proposal = subst (λ (n : nominate.Nomination). ForSome n.proposal IsShortValue) (sym stays) holds.proposal;
         votes = subst (λ (n : nominate.Nomination). (v : List ℕ) → Contains n.lists.votes v → IsShortValue v) (sym stays) holds.votes;
@@ -314,9 +312,9 @@ given_by {D} level extracted combined place valid_is_short extracts_full combine
       voted = ready.voted;
       votes = λ proposed before. votes_short full (extracted own n.slot) _ n.proposal n.board old.lists n.lists short (λ named v e. subst (λ (o : Option (List ℕ)). IfSome o (λ found. full found)) e (extracts_full own n.slot named)) ready.valid votes proposed before;
       made = λ same some.
-      let whole : full (combined own n.slot n.lists.candidates) =
-      combines_full own n.slot n.lists.candidates some (All-weaker (λ v. Contains n.lists.candidates v) full (λ v has. ready.valid v (ready.candidates v has)) n.lists.candidates (All-contains_itself n.lists.candidates)) in
-      subst (λ (k : ℕ). IsShortValue (combined d k n.lists.candidates)) same (subst (λ (x : D). IsShortValue (combined x n.slot n.lists.candidates)) driver (short (combined own n.slot n.lists.candidates) whole));
+          let whole : full (combined own n.slot n.lists.candidates) =
+          combines_full own n.slot n.lists.candidates some (All-weaker (λ v. Contains n.lists.candidates v) full (λ v has. ready.valid v (ready.candidates v has)) n.lists.candidates (All-contains_itself n.lists.candidates)) in
+          subst (λ (k : ℕ). IsShortValue (combined d k n.lists.candidates)) same (subst (λ (x : D). IsShortValue (combined x n.slot n.lists.candidates)) driver (short (combined own n.slot n.lists.candidates) whole));
     }
 
 -- ---- a machine that has heard and said nothing
