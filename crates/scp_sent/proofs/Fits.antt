@@ -9,6 +9,7 @@ use Rattle.scp_xdr.specs.Length.{padded_len, spelled_len}
 use Rattle.scp_xdr.specs.Shared.{value_kind, ballot_kind, ballot_value}
 use Rattle.scp_xdr.proofs.Lengths.{length_is}
 use Rattle.scp_envelope.specs.Kinds.{envelope_kind, envelope_value, pledges_kind, pledges_value, list_kind}
+use Rattle.scp_envelope.specs.Short.{HasShortLists}
 use Rattle.scp_envelope.specs.declared.statement.Pledges.{Pledges}
 use Rattle.scp_envelope.specs.declared.statement.Pledges.TheVariants.{Prepare, Confirm, Externalize, Nominate}
 use Rattle.scp_wire.specs.declared.message.Message.{Message}
@@ -16,7 +17,7 @@ use Rattle.scp_wire.specs.declared.message.Message.TheVariants.{Envelope, GetSet
 use Rattle.scp_wire.specs.Message.{message_kind, message_value, SpellsMessage, FitsMessage, HasRanges}
 use Rattle.scp_wire.specs.Parts.{LimitsAreOfTheValue}
 use Rattle.scp_outbox.specs.Fitting.{IsFitting}
-use Rattle.scp_sent.specs.Fit.{NamesFit, SaneSetsFit, ShortRecordsFit, HasShortLists, ShortEnvelopesFit, WhatIsSpeltFits}
+use Rattle.scp_sent.specs.Fit.{NamesFit, SaneSetsFit, ShortRecordsFit, ShortEnvelopesFit, WhatIsSpeltFits}
 
 pub names : NamesFit
 names = λ hash slot. (λ b. b, λ b. b, λ b. b)

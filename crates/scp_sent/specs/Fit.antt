@@ -6,8 +6,7 @@ use Rattle.scp_xdr.specs.Kind.{Fits}
 use Rattle.scp_quorum.specs.QuorumTree.{QuorumTree}
 use Rattle.scp_quorum.specs.Sane.{IsSane}
 use Rattle.scp_envelope.specs.Kinds.{envelope_kind, envelope_value}
-use Rattle.scp_envelope.specs.declared.statement.Pledges.{Pledges}
-use Rattle.scp_envelope.specs.declared.statement.Pledges.TheVariants.{Prepare, Confirm, Externalize, Nominate}
+use Rattle.scp_envelope.specs.Short.{HasShortLists}
 use Rattle.scp_wire.specs.Boxed.{Boxed}
 use Rattle.scp_wire.specs.Message.{message_value, SpellsMessage}
 use Rattle.scp_wire.specs.declared.message.Message.{Message}
@@ -26,14 +25,7 @@ SaneSetsFit = (set : QuorumTree) → IsSane set → IsFitting (Set set)
 abbrev pub ShortRecordsFit : Type 0
 ShortRecordsFit = (slot : Slot) (value : List ℕ) → length value ≤ 4096 → IsFitting (Record slot value)
 
--- the lists of a nomination have at most seven values each, as those of own statements
-abbrev pub HasShortLists : Pledges → Type 0
-HasShortLists (Prepare p) = Unit {0}
-HasShortLists (Confirm p) = Unit {0}
-HasShortLists (Externalize p) = Unit {0}
-HasShortLists (Nominate p) = (length p.votes ≤ 7) × (length p.accepted ≤ 7)
-
--- an envelope with such lists fits where it keeps the limits of its kind: values of at most 4,096 bytes, and a signature of at
+-- an envelope whose lists have at most seven values each fits where it keeps the limits of its kind: values of at most 4,096 bytes, and a signature of at
 -- most 64
 abbrev pub ShortEnvelopesFit : Type 0
 ShortEnvelopesFit = (e : Boxed) → Fits envelope_kind (envelope_value e.value) → HasShortLists e.value.statement.pledges → IsFitting (Envelope e)
