@@ -1,8 +1,9 @@
 use Rattle.std.proofs.Common.{◌≡◌, ◌≢◌, Bool, true, false, Option, Some, None, refl, sym, ◌∙◌, ap, subst, inl, inr, rules}
 use Rattle.scp_nominate.specs.Nomination as nominate
-use Rattle.scp_slot.specs.Slot.{SlotView, view_of}
+use Rattle.scp_slot.specs.Slot.{SlotView, view_of, slot_view, driver_of}
 use Rattle.scp_slot.specs.Takes.{Takes}
 use Rattle.scp_slot.proofs.Taking.{decides_taken}
+use Rattle.scp_slot.proofs.Limiting.{short_taken, given_by}
 use Rattle.scp_slot.proofs.machine.SlotMachine.input.Goals as goal
 
 pub returns-clause-takes : goal.returns-clause-takes
@@ -18,3 +19,21 @@ returns-clause-votes g c = rw c.deref_mut.ensures.value at c.in_ok-out.ensures.v
 
 pub returns-clause-nominates : goal.returns-clause-nominates
 returns-clause-nominates g c = rw c.deref_mut.ensures.value at c.in_ok-out.ensures.nominates
+
+pub returns-clause-fits : goal.returns-clause-fits
+returns-clause-fits g c =
+    let whole : c.args.self.now.failed ≡ false = search rules in
+    let all = short_taken _ _ c.args.input (slot_view c.args.self.now) c.in_ok-out.out (view_of c.enter.new.self false)
+    (given_by g.D.Driver.level g.D.Driver.extracted g.D.Driver.combined g.D.Driver.place g.met.D.Driver.valid_is_short g.met.D.Driver.extracts_full g.met.D.Driver.combines_full (driver_of c.args.self.now) (slot_view c.args.self.now).slot (slot_view c.args.self.now).nomination c.enter.new.self.nominator
+    (rw c.deref_mut.ensures.value at c.in_ok-out.ensures.driver) c.in_ok-out.ensures.working.nominator c.in_ok-out.ensures.working.running.nominating (returns-clause-votes g c))
+    (c.requires.sound whole).1 (returns-clause-takes g c) in
+    all.1
+
+pub returns-clause-sound : goal.returns-clause-sound
+returns-clause-sound g c e =
+    let whole : c.args.self.now.failed ≡ false = search rules in
+    let all = short_taken _ _ c.args.input (slot_view c.args.self.now) c.in_ok-out.out (view_of c.enter.new.self false)
+    (given_by g.D.Driver.level g.D.Driver.extracted g.D.Driver.combined g.D.Driver.place g.met.D.Driver.valid_is_short g.met.D.Driver.extracts_full g.met.D.Driver.combines_full (driver_of c.args.self.now) (slot_view c.args.self.now).slot (slot_view c.args.self.now).nomination c.enter.new.self.nominator
+    (rw c.deref_mut.ensures.value at c.in_ok-out.ensures.driver) c.in_ok-out.ensures.working.nominator c.in_ok-out.ensures.working.running.nominating (returns-clause-votes g c))
+    (c.requires.sound whole).1 (returns-clause-takes g c) in
+    (c.in_ok-out.ensures.working, all.0)
