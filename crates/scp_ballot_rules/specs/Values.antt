@@ -7,7 +7,7 @@ use Rattle.scp_envelope.specs.Short.{SaysOnly}
 use Rattle.scp_vote.specs.Board.{Seen}
 use Rattle.scp_ballot_rules.specs.declared.state.State.{State}
 use Rattle.scp_ballot_rules.specs.declared.state.Phase.{Phase}
-use Rattle.scp_ballot_rules.specs.Steps.{Step, Settles}
+use Rattle.scp_ballot_rules.specs.Steps.{Step}
 use Rattle.scp_ballot_rules.specs.Inputs.{Compose, Time, AfterInput}
 
 -- P holds of each value in each statement on the board
