@@ -7,7 +7,7 @@ use Rattle.scp_envelope.specs.Short.{SaysOnly}
 use Rattle.scp_vote.specs.Board.{Seen}
 use Rattle.scp_ballot_rules.specs.declared.state.State.{State}
 use Rattle.scp_ballot_rules.specs.declared.state.Phase.{Phase}
-use Rattle.scp_ballot_rules.specs.Steps.{Step, Settles}
+use Rattle.scp_ballot_rules.specs.Steps.{Step}
 use Rattle.scp_ballot_rules.specs.Inputs.{Compose, Time, AfterInput}
 
 -- P holds of each value in each statement on the board
@@ -39,7 +39,7 @@ ComposingSaysNoMore = (test : List ℕ → Bool) (p : Phase) (z : List ℕ) (s t
 abbrev pub TimingSaysNoMore : Type 0
 TimingSaysNoMore = (test : List ℕ → Bool) (s t : State) → StateSaysOnly (Passes test) s → Time s t → StateSaysOnly (Passes test) t
 
--- where no bytes pass too, which stand where a ballot is absent, so does what the rules come to after an input, on the board and in
+-- and where no bytes pass, as which an absent ballot is said, so does what the rules come to after an input, on the board and in
 -- the state
 abbrev pub InputSaysNoMore : Type 0
 InputSaysNoMore =

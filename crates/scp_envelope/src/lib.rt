@@ -4,6 +4,7 @@
 //! - an envelope is read and written as its XDR says (RFC 4506), bytes spell one envelope at most, and a copy equals its
 //!   original;
 //! - the set hash is the one that the statement names;
+//! - an envelope of short values, short lists and a short signature, as own statements are, keeps the limits of its kind;
 //! - a test is true exactly where its relation in specs/ holds, for every statement, sane or not, and takes no memory:
 //!   which ballots a statement votes for or accepts as prepared, which it votes for or accepts as committed, which
 //!   values it nominates, whether it is sane, and whether it is newer than another;

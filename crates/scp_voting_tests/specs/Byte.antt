@@ -1,7 +1,7 @@
 -- A driver whose values are one byte.
-use Rattle.std.specs.Prelude.{◌≡◌, ◌≢◌, ◌≤◌, ℕ, ◌+◌, ◌-◌, ◌%◌, nat_le, List, [], ◌∷◌, length, Bool, true, false, Option, Some, None, All, IfSome, refl}
+use Rattle.std.specs.Prelude.{◌≡◌, ◌≢◌, ◌≤◌, ℕ, ◌-◌, ◌%◌, nat_le, List, [], ◌∷◌, length, Bool, true, false, Option, Some, None, All, IfSome, refl}
 use Rattle.std.proofs.lemmas.Bool.{leb-true}
-use Rattle.std.proofs.lemmas.List.Elements.{All-head, All-tail}
+use Rattle.std.proofs.lemmas.List.Elements.{All-head}
 use Rattle.scp_driver.specs.declared.driver.Level.{Level}
 use Rattle.scp_driver.specs.declared.driver.Level.TheVariants.{FullyValidated, MaybeValid, Invalid}
 
