@@ -84,7 +84,7 @@ impl Fetcher {
     /// both the hash became wanted and the link last opened. The link counts as asked from then on, and the connection waits,
     /// behind those that waited before. The one refusal is `Fault::NoMemory`, and it leaves all as it was.
     pub fn want(&mut self, hash: &Hash, link: u8, conn: &ConnId) -> Result<bool, Fault>
-        requires link { link < 8 }
+        requires link { link < LINK_LIMIT }
         ensures asks { IfOk result (λ asks. asks ≡ not (is_asked hash.now link self.old)) }
         ensures wanted { OnOk result (self.new ≡ wanted_by hash.now link conn.now self.old) }
         ensures unchanged { OnErr result (self.new ≡ self.old) }
@@ -100,7 +100,7 @@ impl Fetcher {
     /// Whether the hash is wanted and that link was asked for it since both the hash became wanted and the link last
     /// opened.
     pub fn asked(&self, hash: &Hash, link: u8) -> bool
-        requires link { link < 8 }
+        requires link { link < LINK_LIMIT }
         ensures { result ≡ is_asked hash.now link self.now }
     {
         has_asked(&self.wants, hash, link as usize)
@@ -145,7 +145,7 @@ impl Fetcher {
 
     /// The link opened: it is unasked for all hashes.
     pub fn opened(&mut self, link: u8)
-        requires link { link < 8 }
+        requires link { link < LINK_LIMIT }
         ensures { self.new ≡ unasked link self.old }
     {
         note_unasked(&mut self.wants, link as usize);

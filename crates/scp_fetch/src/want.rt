@@ -5,7 +5,7 @@ ghost use Rattle.std.specs.List.{AllByRecursion};
 ghost use Rattle.scp_fetch.specs.Wants.{joined, is_wanted, is_asked, unasked, without, waiting_for, waits_besides, leave, left_by, gives_up, ask, unask, new_want, missed_by, count_miss, is_last, is_missed, last_missed};
 ghost use Rattle.scp_fetch.specs.Table.{wants_in, IsUnderHash};
 
-use crate::fetcher::MISS_LIMIT;
+use crate::fetcher::{LINK_LIMIT, MISS_LIMIT};
 use crate::waiters::Waiters;
 use indexmap::IndexMap;
 use scp_types::{ConnId, Fault, Hash};
@@ -20,7 +20,7 @@ pub struct Want {
     /// How many nodes had no such set, and how often time went on.
     pub misses: u8,
     /// By the number of a link.
-    pub asked: [bool; 8],
+    pub asked: [bool; LINK_LIMIT as usize],
     /// In the order of their first wait.
     pub waiting: Waiters,
 }
@@ -69,7 +69,7 @@ pub fn has_last(wants: &IndexMap<[u8; 32], Want>, miss: Miss, hash: &Hash) -> bo
 }
 
 pub fn has_asked(wants: &IndexMap<[u8; 32], Want>, hash: &Hash, link: usize) -> bool
-    requires link { link < 8 }
+    requires link { link < LINK_LIMIT }
     requires under { AllByRecursion IsUnderHash wants.now.entries }
     ensures { result ≡ is_asked hash.now link (wants_in wants.now.entries) }
 {
@@ -108,11 +108,11 @@ pub fn waiters<'w>(wants: &'w IndexMap<[u8; 32], Want>, hash: &Hash) -> &'w [Con
 }
 
 fn first_want(alloc: Global, hash: Hash, link: usize, conn: ConnId) -> Result<Want, Fault>
-    requires { link < 8 }
+    requires { link < LINK_LIMIT }
     ensures made { IfOk result (λ want. want ≡ new_want hash link conn) }
     ensures only_memory { IsOkUnless result Fault.NoMemory }
 {
-    let mut asked = [false; 8];
+    let mut asked = [false; LINK_LIMIT as usize];
     asked[link] = true;
     Ok(Want {
         hash,
@@ -129,7 +129,7 @@ pub fn add_want(
     link: usize,
     conn: &ConnId,
 ) -> Result<(), Fault>
-    requires link { link < 8 }
+    requires link { link < LINK_LIMIT }
     requires under { AllByRecursion IsUnderHash wants.old.entries }
     requires new { is_wanted hash.now (wants_in wants.old.entries) ≡ false }
     ensures added { OnOk result (wants_in wants.new.entries ≡ wants_in wants.old.entries ++ new_want hash.now link conn.now ∷ []) }
@@ -145,7 +145,7 @@ pub fn add_want(
 
 /// The link is asked and the connection waits; then whether the link wasn't asked before.
 fn note(want: &mut Want, link: usize, conn: &ConnId) -> Result<bool, Fault>
-    requires link { link < 8 }
+    requires link { link < LINK_LIMIT }
     ensures asks { IfOk result (λ asks. asks ≡ not (slice_index_or want.old.asked link false)) }
     ensures noted { OnOk result (want.new ≡ record want.old { asked = slice_set want.old.asked link true; waiting = joined conn.now want.old.waiting }) }
     ensures unchanged { OnErr result (want.new ≡ want.old) }
@@ -165,7 +165,7 @@ pub fn note_asked(
     link: usize,
     conn: &ConnId,
 ) -> Result<Option<bool>, Fault>
-    requires link { link < 8 }
+    requires link { link < LINK_LIMIT }
     requires under { AllByRecursion IsUnderHash wants.old.entries }
     ensures wanted { IfOk result (λ noted. is_some noted ≡ is_wanted hash.now (wants_in wants.old.entries)) }
     ensures asks { IfOk result (λ noted. IfSome noted (λ asks. asks ≡ not (is_asked hash.now link (wants_in wants.old.entries)))) }
@@ -269,14 +269,14 @@ pub fn count_all(wants: &mut IndexMap<[u8; 32], Want>)
 
 /// The link is unasked for all.
 pub fn note_unasked(wants: &mut IndexMap<[u8; 32], Want>, link: usize)
-    requires link { link < 8 }
+    requires link { link < LINK_LIMIT }
     requires under { AllByRecursion IsUnderHash wants.old.entries }
     ensures asked { wants_in wants.new.entries ≡ unasked link (wants_in wants.old.entries) }
     ensures under { AllByRecursion IsUnderHash wants.new.entries }
 {
     wants.retain(
         |_hash: &[u8; 32], want: &mut Want| -> bool
-            requires { link < 8 }
+            requires { link < LINK_LIMIT }
             ensures { (result ≡ true) × (want.new ≡ unask link want.old) }
         {
             want.asked[link] = false;

@@ -101,7 +101,7 @@ impl Pending {
     /// A stage of this node that took nothing. `peers[l]` is the sender of link l; `local` is the node's own quorum set.
     /// Takes no memory.
     pub fn new(alloc: Global, me: NodeId, peers: Vec<NodeId>, local: Arc<SaneSet>) -> Pending
-        requires few { length peers.items ≤ 7 }
+        requires few { length peers.items ≤ PEER_LIMIT }
         ensures settled { result.settled ≡ fresh me peers.items local.value }
         ensures pends { Pends me peers.items [] [] result }
         ensures nothing_ready { result.leaving ≡ [] }
