@@ -1,5 +1,6 @@
 -- Whatever the pending stage replies fits a link: the quorum sets that it stores are sane.
 use Rattle.std.proofs.Common.{◌≡◌, ℕ, Option, Some, None, sym, subst}
+use Rattle.std.specs.Prelude.{IfSome}
 use Rattle.scp_quorum.specs.QuorumTree.{QuorumTree}
 use Rattle.scp_quorum.specs.Sane.{IsSane}
 use Rattle.scp_types.specs.declared.names.Hash.{Hash}
@@ -12,7 +13,6 @@ use Rattle.scp_pending.specs.Fetching.{IsReplied, IfReplied, RepliesAreAskedFor,
 use Rattle.scp_pending.specs.Pends.{start_of}
 use Rattle.scp_pending.specs.Queues.{hash_of}
 use Rattle.scp_pending.specs.Rules.{Settled, settled_by, reply}
-use Rattle.scp_core.specs.Node.{FitsLink}
 use Rattle.scp_core.specs.Handed.{RepliesFit}
 
 module _ (names : NamesFit) (sets : SaneSetsFit) where
@@ -25,7 +25,7 @@ module _ (names : NamesFit) (sets : SaneSetsFit) where
   replied_fits s item link (Record slot value) found w = absurd w
   replied_fits s item link (Records first values) found w = absurd w
 
-  if_replied : (s : Settled) (item : Inbound) (o : Option (ℕ × Message)) → ((hash : Hash) (set : QuorumTree) → lookup hash s.store ≡ Some set → IsSane set × (hash_of set ≡ hash)) → IfReplied s item o → FitsLink o
+  if_replied : (s : Settled) (item : Inbound) (o : Option (ℕ × Message)) → ((hash : Hash) (set : QuorumTree) → lookup hash s.store ≡ Some set → IsSane set × (hash_of set ≡ hash)) → IfReplied s item o → IfSome o (λ sent. IsFitting sent.1)
   if_replied s item None found w = tt
   if_replied s item (Some r) found w = replied_fits s item r.0 r.1 found w
 
@@ -33,5 +33,5 @@ module _ (names : NamesFit) (sets : SaneSetsFit) where
   replies_fit_always asked stored = λ me peers taken given v pends item.
       let local = v.settled.store.local in
       let now : Settled = settled_by (start_of me peers v) taken in
-      subst (λ (s : Settled). FitsLink (reply s item)) (sym pends.settled)
+      subst (λ (s : Settled). IfSome (reply s item) (λ sent. IsFitting sent.1)) (sym pends.settled)
       (if_replied now item (reply now item) (stored me peers local taken pends.local_is_sane).found (asked me peers local taken item))

@@ -1,7 +1,9 @@
 -- What a slot stage shows, and what it hands out.
-use Rattle.std.proofs.Common.{◌≡◌, ◌↔◌, true, false, ℕ, List, [], ◌∷◌, ◌++◌, refl, sym, ◌∙◌, ap, subst, arith, length}
+use Rattle.std.proofs.Common.{◌≡◌, ◌↔◌, true, false, ℕ, List, [], ◌∷◌, ◌++◌, refl, sym, ◌∙◌, ap, subst, arith, length, All}
 use Rattle.std.specs.Prelude.{Option, Some, None, Result, Ok, Err, IsErrOf, OnErr, is_err, Any, option_to_list}
 use Rattle.std.proofs.lemmas.List.{get_or_append_left, length-append}
+use Rattle.std.specs.List.{AllByRecursion}
+use Rattle.std.proofs.lemmas.List.Elements.{All-from_recursion, recursion_from_All}
 use Rattle.std.proofs.lemmas.List.Quantifiers.{Any-push}
 use Rattle.scp_types.specs.declared.fault.Fault.{Fault}
 use Rattle.scp_types.specs.declared.fault.Fault.TheVariants.{NoMemory, JournalFull}
@@ -98,6 +100,21 @@ hands_more old now new (x ∷ outgoing) one h more = (h.0, h.1, hands_more h.0 n
 
 pub hands_last : (old now new : List OutboxView) (all rest : List Outgoing) (one : Outgoing) → all ≡ rest ++ option_to_list (Some one) → HandsEach old rest now → HandsOne now one new → HandsEach old all new
 hands_last old now new all rest one is h more = subst (λ (os : List Outgoing). HandsEach old os new) (sym is) (hands_more old now new rest one h more)
+
+-- what holds of all holds of those before the last, and of the last
+front_by : (P : Outgoing → Type 0) (rest : List Outgoing) (one : Outgoing) → AllByRecursion P (rest ++ one ∷ []) → AllByRecursion P rest
+front_by P [] one h = tt
+front_by P (x ∷ xs) one h = (h.0, front_by P xs one h.1)
+
+last_by : (P : Outgoing → Type 0) (rest : List Outgoing) (one : Outgoing) → AllByRecursion P (rest ++ one ∷ []) → P one
+last_by P [] one h = h.0
+last_by P (x ∷ xs) one h = last_by P xs one h.1
+
+pub all_before : (P : Outgoing → Type 0) (all rest : List Outgoing) (one : Outgoing) → all ≡ rest ++ option_to_list (Some one) → All P all → All P rest
+all_before P all rest one is h = All-from_recursion P rest (front_by P rest one (recursion_from_All P (rest ++ one ∷ []) (subst (All P) is h)))
+
+pub all_last : (P : Outgoing → Type 0) (all rest : List Outgoing) (one : Outgoing) → all ≡ rest ++ option_to_list (Some one) → All P all → P one
+all_last P all rest one is h = last_by P rest one (recursion_from_All P (rest ++ one ∷ []) (subst (All P) is h))
 
 -- ---- what goes to all among them
 

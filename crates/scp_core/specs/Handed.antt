@@ -1,9 +1,10 @@
 -- What each step hands out for the links, and what a drain gives.
-use Rattle.std.specs.Prelude.{ℕ, ◌≡◌, ◌≢◌, ◌⊎◌, false, List, [], ◌∷◌, Option, Some, None, slice_get}
+use Rattle.std.specs.Prelude.{ℕ, ◌≡◌, ◌≢◌, ◌⊎◌, false, List, [], ◌∷◌, Option, Some, None, IfSome, slice_get}
 use Rattle.scp_types.specs.declared.names.NodeId.{NodeId}
 use Rattle.scp_wire.specs.declared.link.Inbound.{Inbound}
 use Rattle.scp_wire.specs.declared.message.Message.{Message}
 use Rattle.scp_wire.specs.Message.{message_value, SpellsMessage}
+use Rattle.scp_wire.specs.Fitting.{IsFitting}
 use Rattle.scp_outbox.specs.Outbox.{OutboxView}
 use Rattle.scp_sent.specs.Handing.{GivesThere}
 use Rattle.scp_ledger.specs.declared.took.Outgoing.{Outgoing}
@@ -15,7 +16,7 @@ use Rattle.scp_core.specs.declared.event.Event.{Event}
 use Rattle.scp_core.specs.declared.event.Event.TheVariants.{PendTake, SlotTake, ApplyTake, Drain}
 use Rattle.scp_core.specs.declared.event.Reply.{Reply}
 use Rattle.scp_core.specs.declared.event.Reply.TheVariants.{Moved, Idle, Sent, NoLink, NoMemory}
-use Rattle.scp_core.specs.Node.{NodeView, Step, HandsEach, PendBrings, PendTakes, SlotTakes, ApplyTakes, FitsLink}
+use Rattle.scp_core.specs.Node.{NodeView, Step, HandsEach, PendBrings, PendTakes, SlotTakes, ApplyTakes}
 
 -- ---- what a step hands out
 
@@ -64,4 +65,4 @@ DrainsGiveNext = (old new : NodeView) (link : ℕ) (reply : Reply) → old.faile
 
 -- whatever the pending stage replies fits a link
 abbrev pub RepliesFit : Type 0
-RepliesFit = (me : NodeId) (peers : List NodeId) (taken : List Inbound) (given : List Ready) (v : PendingView) → Pends me peers taken given v → (item : Inbound) → FitsLink (reply_to v.settled item)
+RepliesFit = (me : NodeId) (peers : List NodeId) (taken : List Inbound) (given : List Ready) (v : PendingView) → Pends me peers taken given v → (item : Inbound) → IfSome (reply_to v.settled item) (λ sent. IsFitting sent.1)

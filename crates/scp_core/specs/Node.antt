@@ -13,7 +13,6 @@ use Rattle.scp_wire.specs.Message.{message_value, SpellsMessage}
 use Rattle.scp_wire.specs.LinkReading.{ReaderView, unread, reading, after}
 use Rattle.scp_wire.specs.Connections.{conn_at}
 use Rattle.scp_outbox.specs.Outbox.{OutboxView}
-use Rattle.scp_wire.specs.Fitting.{IsFitting}
 use Rattle.scp_sent.specs.Handing.{HandsOut, to_link, GivesNext, GivesThere}
 use Rattle.scp_pending.specs.declared.ready.Ready.{Ready}
 use Rattle.scp_pending.specs.Passes.{Passes}

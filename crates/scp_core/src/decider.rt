@@ -1,5 +1,6 @@
 //! The slot stage, the queue behind it, and the applier.
-ghost use Rattle.std.specs.Prelude.{◌≡◌, ◌≢◌, ◌≤◌, ◌∷◌, [], ◌<◌, false, true, length, None, Some, IfOk, IsOkUnless, option_copied, if◌then◌else◌};
+ghost use Rattle.std.specs.Prelude.{◌≡◌, ◌≢◌, ◌≤◌, ◌∷◌, [], ◌<◌, false, true, length, None, Some, IfOk, IfSome, IsOkUnless, option_copied, if◌then◌else◌};
+ghost use Rattle.scp_wire.specs.Fitting.{IsFitting};
 ghost use Rattle.scp_core.specs.inside.Decider.{new_decider, Decides, Applies, PutsOn, fail as failed_now};
 ghost use Rattle.scp_core.specs.inside.Stops.{told};
 
@@ -165,7 +166,8 @@ impl Decider {
     /// The applier takes what is next, and gives its answer for a link, if there is one.
     pub fn apply(&mut self) -> Result<Option<(u8, Message)>, Stop>
         requires runs { self.old.failed ≡ false }
-        ensures { Applies self.old (told result) self.new }
+        ensures applies { Applies self.old (told result) self.new }
+        ensures fits { IfOk result (λ answer. IfSome answer (λ sent. IsFitting sent.1)) }
     {
         let Some(onward) = queue::next(&mut self.queue) else {
             return Err(Stop::Idle);

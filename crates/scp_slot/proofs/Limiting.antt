@@ -1,5 +1,5 @@
 -- What a machine holds and gives is short, after each input.
-use Rattle.std.proofs.Common.{◌≡◌, ◌≢◌, ◌<◌, ◌≤◌, ◌⊎◌, ℕ, Bool, true, false, List, [], length, Option, Some, None, cond, refl, sym, ◌∙◌, ap, subst, inl, inr, arith}
+use Rattle.std.proofs.Common.{◌≡◌, ◌≢◌, ◌<◌, ◌≤◌, ℕ, Bool, true, false, List, [], length, Option, Some, None, cond, refl, sym, ◌∙◌, ap, subst, inl, inr, arith}
 use Rattle.std.specs.Prelude.{IsSome, IsSomeAnd, IfSome, All, Contains}
 use Rattle.std.specs.Option.{ForSome}
 use Rattle.std.specs.BTreeMap.{is_at}
@@ -39,11 +39,10 @@ use Rattle.scp_slot.specs.declared.output.SlotInput.{SlotInput}
 use Rattle.scp_slot.specs.declared.output.SlotInput.TheVariants.{Propose, Round, Timer, Envelope}
 use Rattle.scp_slot.specs.declared.output.SlotOutput.{SlotOutput}
 use Rattle.scp_slot.specs.declared.output.Verdict.{Verdict}
-use Rattle.scp_slot.specs.declared.state.State.{State as SlotState}
 use Rattle.scp_slot.specs.Judged.{HasInvalid, IsInvalid}
 use Rattle.scp_slot.specs.Limits.{KeepsLimits}
-use Rattle.scp_slot.specs.Slot.{SlotView, view_of, Begins, HoldsShort}
-use Rattle.scp_slot.specs.Takes.{Rests, Ballots, BallotsRest, PassesOn, Nominates, Proposes, AddsRound, Times, Shared, HearsNomination, HearsBallot, HearsKind, TakesEnvelope, TakesInput, Takes, quiet, ballots_given, nomination_given}
+use Rattle.scp_slot.specs.Slot.{SlotView, Begins, HoldsShort}
+use Rattle.scp_slot.specs.Takes.{Rests, Ballots, BallotsRest, PassesOn, Nominates, Shared, HearsKind, TakesEnvelope, TakesInput, Takes, ballots_given}
 
 no_one : {A : Type 0} (R : A → Type 0) (o : Option A) → o ≡ None → ForSome o R
 no_one R o none = λ x e. none_some o x none e

@@ -2,8 +2,19 @@ use Rattle.std.proofs.Common.{◌++◌, ◌∙◌, ap}
 use Rattle.std.specs.Prelude.{Option, option_to_list}
 use Rattle.std.proofs.lemmas.Result.{on_ok_weaker, on_err_weaker}
 use Rattle.scp_ledger.specs.declared.took.Outgoing.{Outgoing}
-use Rattle.scp_core.proofs.Staging.{hands_last, any_before, any_last}
+use Rattle.scp_ledger.specs.Fitting.{FitsOut}
+use Rattle.scp_core.proofs.Staging.{hands_last, any_before, any_last, all_before, all_last}
 use Rattle.scp_core.proofs.handing.+hand_out_rest.Goals as goal
+
+pub hand_out_rest-requires : goal.hand_out_rest-requires
+hand_out_rest-requires t c =
+    let is = c.pop.ensures.items ∙ ap (λ (o : Option Outgoing). c.pop.new.self.items ++ option_to_list o) c.in-Some.is in
+    record { fits = all_before FitsOut c.args.outgoing.items c.pop.new.self.items c.in-Some.last is c.requires.fits }
+
+pub hand_out_one-requires : goal.hand_out_one-requires
+hand_out_one-requires t c =
+    let is = c.pop.ensures.items ∙ ap (λ (o : Option Outgoing). c.pop.new.self.items ++ option_to_list o) c.in-Some.is in
+    record { fits = all_last FitsOut c.args.outgoing.items c.pop.new.self.items c.in-Some.last is c.requires.fits }
 
 pub returns-in-Ok : goal.returns-in-Ok
 returns-in-Ok t c =

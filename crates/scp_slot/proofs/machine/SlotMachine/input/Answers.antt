@@ -1,6 +1,6 @@
-use Rattle.std.proofs.Common.{◌≡◌, ◌≢◌, Bool, true, false, Option, Some, None, refl, sym, ◌∙◌, ap, subst, inl, inr, rules}
+use Rattle.std.proofs.Common.{◌≡◌, Bool, false, sym, subst, rules}
 use Rattle.scp_nominate.specs.Nomination as nominate
-use Rattle.scp_slot.specs.Slot.{SlotView, view_of, slot_view, driver_of}
+use Rattle.scp_slot.specs.Slot.{view_of, slot_view, driver_of}
 use Rattle.scp_slot.specs.Takes.{Takes}
 use Rattle.scp_slot.proofs.Taking.{decides_taken}
 use Rattle.scp_slot.proofs.Limiting.{short_taken, given_by}

@@ -1,5 +1,4 @@
 use Rattle.std.proofs.Common.{sym, subst, false}
-use Rattle.scp_nominate.specs.Nomination as nominate
 use Rattle.scp_slot.specs.declared.state.State.{State}
 use Rattle.scp_slot.specs.Slot.{view_of, IsRunning, IsWorking, HoldsShort}
 use Rattle.scp_slot.proofs.Taking.{begins_running}
