@@ -13,7 +13,6 @@ pub const SCRIPT_LIMIT: usize = 1_048_576;
 const NODES: u8 = 8;
 const LIVES: u32 = 65_535;
 const ROUNDS: u32 = 100_000;
-const VALUE_LIMIT: usize = 4_096;
 
 /// What a line says of the link between two nodes.
 enum Act {
@@ -94,7 +93,7 @@ fn command(words: &[&str]) -> Option<Command> {
         ["propose", node, slot, word] => Some(Command::Propose {
             node: small_number(node)?,
             slot: number(slot)?,
-            value: bytes_of(word).filter(|value| value.len() <= VALUE_LIMIT)?,
+            value: bytes_of(word)?,
         }),
         ["round", node, slot] => Some(Command::Round(small_number(node)?, number(slot)?)),
         ["timer", node, slot] => Some(Command::Timer(small_number(node)?, number(slot)?)),

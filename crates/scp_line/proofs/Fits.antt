@@ -17,7 +17,7 @@ use Rattle.scp_core.specs.Node.{NodeView}
 use Rattle.scp_script.specs.declared.command.Command.{Command}
 use Rattle.scp_script.specs.declared.command.Command.TheVariants.{Caps, Nodes, Set, Open, Close, Send, Propose, Round, Timer, Tick, Ask, Settle, Wait, Report}
 use Rattle.scp_script.specs.declared.command.Capacities.{Capacities}
-use Rattle.scp_script.specs.Words.{words_of, lines_of, same, node_in, link_in, number_in, capacity_in, capacity_by, hex_bytes, value_in, set_in}
+use Rattle.scp_script.specs.Words.{words_of, lines_of, same, node_in, link_in, number_in, capacity_in, capacity_by, hex_bytes, set_in}
 use Rattle.scp_script.specs.Script.{node_count, command_in, commands_of, commands_in, caps_by, nodes_by, set_by, open_by, close_by, send_by, ask_by, propose_by, round_by, timer_by, wait_by}
 use Rattle.scp_script.specs.Nodes.{id_of, peers_of, set_at, capacities_given, capacities_of_none, capacities_in}
 use Rattle.scp_line.specs.Play.{config_of}
@@ -200,7 +200,7 @@ line_fits (verb ∷ first ∷ second ∷ []) =
 line_fits (verb ∷ first ∷ second ∷ third ∷ []) =
     chosen (same verb (codes "ask")) _ _ (ask_fits (link_in first second) (number_in third))
     (chosen (same verb (codes "send")) _ _ (send_fits (link_in first second) (hex_bytes third))
-    (chosen (same verb (codes "propose")) _ None (propose_fits (node_in first) (number_in second) (value_in (hex_bytes third))) tt))
+    (chosen (same verb (codes "propose")) _ None (propose_fits (node_in first) (number_in second) (hex_bytes third)) tt))
 line_fits (verb ∷ link ∷ inbox ∷ ready ∷ decided ∷ []) =
     chosen (same verb (codes "caps")) _ None
     (caps_fit (capacity_in link) (capacity_in inbox) (capacity_in ready) (capacity_in decided) (is_in_range (number_in link)) (is_in_range (number_in inbox)) (is_in_range (number_in ready)) (is_in_range (number_in decided))) tt

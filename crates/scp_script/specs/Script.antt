@@ -8,7 +8,7 @@ use Rattle.scp_quorum.specs.QuorumTree.{QuorumTree}
 use Rattle.scp_quorum.specs.Sane.{IsSane}
 use Rattle.scp_script.specs.declared.command.Command.{Command}
 use Rattle.scp_script.specs.declared.command.Command.TheVariants.{Caps, Nodes, Set, Open, Close, Send, Propose, Round, Timer, Tick, Ask, Settle, Wait, Report}
-use Rattle.scp_script.specs.Words.{lines_of, is_ascii, is_skipped, words_of, same, node_in, link_in, number_in, capacity_in, hex_bytes, value_in, set_in}
+use Rattle.scp_script.specs.Words.{lines_of, is_ascii, is_skipped, words_of, same, node_in, link_in, number_in, capacity_in, hex_bytes, set_in}
 
 -- ---- the command of a line
 
@@ -89,7 +89,7 @@ command_in (verb ∷ first ∷ second ∷ []) =
 command_in (verb ∷ first ∷ second ∷ third ∷ []) =
     if same verb (codes "ask") then ask_by (link_in first second) (number_in third)
     else (if same verb (codes "send") then send_by (link_in first second) (hex_bytes third)
-    else (if same verb (codes "propose") then propose_by (node_in first) (number_in second) (value_in (hex_bytes third)) else None))
+    else (if same verb (codes "propose") then propose_by (node_in first) (number_in second) (hex_bytes third) else None))
 command_in (verb ∷ link ∷ inbox ∷ ready ∷ decided ∷ []) =
     if same verb (codes "caps") then caps_by (capacity_in link) (capacity_in inbox) (capacity_in ready) (capacity_in decided) else None
 command_in (verb ∷ a ∷ b ∷ c ∷ d ∷ more ∷ words) = None

@@ -66,11 +66,6 @@ digits_bytes (digit ∷ digits) = result_ok (decode_of (digit ∷ digits))
 abbrev pub hex_bytes : List ℕ → Option (List ℕ)
 hex_bytes word = if same word (codes "-") then Some [] else digits_bytes word
 
--- the value of these bytes, at most 4,096
-abbrev pub value_in : Option (List ℕ) → Option (List ℕ)
-value_in (Some bytes) = if nat_le (length bytes) 4096 then Some bytes else None
-value_in None = None
-
 -- the quorum set that bytes spell, all of the bytes
 abbrev pub set_in : Option (List ℕ) → Option QuorumTree
 set_in (Some bytes) = option_map quorum_set_of (result_ok (reading_whole set_kind bytes))

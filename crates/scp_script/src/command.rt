@@ -33,7 +33,7 @@ pub enum Command {
     Close { from: u8, to: u8 },
     /// These bytes are sent on the open link.
     Send { from: u8, to: u8, bytes: Bytes },
-    /// A value of at most 4,096 bytes for the nomination of a slot at the node of this number.
+    /// A value, of any length, for the nomination of a slot at the node of this number.
     Propose { node: u8, slot: u64, value: Value },
     /// One more round of the slot's nomination at the node of this number.
     Round { node: u8, slot: u64 },

@@ -1,6 +1,6 @@
 //! The command that a line's words say.
 ghost use Rattle.std.specs.Prelude.{◌≡◌, ◌∷◌, [], IfOk, IfSome, IsOkUnless, map, option_map};
-ghost use Rattle.scp_script.specs.Words.{node_in, link_in, number_in, capacity_in, hex_bytes, value_in, set_in};
+ghost use Rattle.scp_script.specs.Words.{node_in, link_in, number_in, capacity_in, hex_bytes, set_in};
 ghost use Rattle.scp_script.specs.Script.{caps_by, nodes_by, set_by, open_by, close_by, send_by, ask_by, propose_by, round_by, timer_by, wait_by, command_in};
 ghost use Rattle.scp_script.specs.Nodes.{NamesNodes};
 ghost use Rattle.scp_script.specs.declared.command.Command.TheVariants.{Tick, Report};
@@ -139,9 +139,9 @@ fn send(alloc: Global, from: &str, to: &str, bytes: &str) -> Result<Option<Comma
     Ok(Some(Command::Send { from, to, bytes }))
 }
 
-/// A `propose` line.
+/// A `propose` line. Its value may have any length: what can be proposed is for the ledger to say.
 fn propose(alloc: Global, word: &str, slot: &str, digits: &str) -> Result<Option<Command>, Fault>
-    ensures found { IfOk result (λ found. found ≡ propose_by (node_in word.now) (number_in slot.now) (value_in (hex_bytes digits.now))) }
+    ensures found { IfOk result (λ found. found ≡ propose_by (node_in word.now) (number_in slot.now) (hex_bytes digits.now)) }
     ensures nodes { IfOk result (λ found. IfSome found NamesNodes) }
     ensures only_memory { IsOkUnless result Fault.NoMemory }
 {

@@ -1,7 +1,7 @@
 //! The lines of a text, their words, and what single words say.
 ghost use Rattle.std.specs.Prelude.{◌≡◌, ◌≢◌, ◌==◌, ℕ, IfOk, IfSome, IsOkUnless, is_some, map, option_map};
 ghost use Rattle.std.specs.List.{slice_split};
-ghost use Rattle.scp_script.specs.Words.{lines_of, is_ascii, is_skipped, node_in, link_in, number_in, capacity_by, capacity_in, hex_bytes, value_in, set_in};
+ghost use Rattle.scp_script.specs.Words.{lines_of, is_ascii, is_skipped, node_in, link_in, number_in, capacity_by, capacity_in, hex_bytes, set_in};
 ghost use Rattle.scp_script.specs.Nodes.{IsSmall};
 
 use hex::FromHexError;
@@ -143,23 +143,15 @@ pub fn bytes_of(alloc: Global, word: &str) -> Result<Option<Bytes>, Fault>
     Ok(Some(Bytes::new(bytes)))
 }
 
-/// The most bytes that a value may have.
-const MOST_BYTES: usize = 4096;
-
-/// A value of at most 4,096 bytes in digits, or a dash for none. `None` where the word is neither. The one refusal is
-/// `NoMemory`.
+/// A value in digits, as `decoded`, of any length.
 pub fn value_of(alloc: Global, word: &str) -> Result<Option<Value>, Fault>
-    ensures value { IfOk result (λ value. value ≡ value_in (hex_bytes word.now)) }
+    ensures value { IfOk result (λ value. value ≡ hex_bytes word.now) }
     ensures only_memory { IsOkUnless result Fault.NoMemory }
 {
     let Some(bytes) = decoded(alloc, word)? else {
         return Ok(None);
     };
-    if bytes.len() <= MOST_BYTES {
-        Ok(Some(Value::new(bytes)))
-    } else {
-        Ok(None)
-    }
+    Ok(Some(Value::new(bytes)))
 }
 
 /// The quorum set that bytes in digits spell, all of them. `None` where they spell none.
