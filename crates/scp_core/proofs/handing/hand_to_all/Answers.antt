@@ -6,4 +6,4 @@ pub of-requires : goal.of-requires
 of-requires c = record { fits = box_fits c.args.envelope c.from_shared-boxed.result c.from_shared-boxed.ensures.same c.requires.fits }
 
 pub returns : goal.returns
-returns c = record { hands = on_ok_weaker c.put_all.result (λ h. all_put_out c.args.outboxes.now c.put_all.new.self c.args.envelope c.from_shared-boxed.result c.of.result c.from_shared-boxed.ensures.same c.of.ensures h) c.put_all.ensures.puts }
+returns c = record { hands = on_ok_weaker c.put_all.result (λ h. all_put_out c.args.outboxes.now c.put_all.new.self c.args.envelope c.from_shared-boxed.result c.of.result c.from_shared-boxed.ensures.same c.of.ensures.same h) c.put_all.ensures.puts }
