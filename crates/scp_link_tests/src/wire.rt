@@ -496,23 +496,18 @@ fn carried_messages_and_other_kinds_are_no_side_messages(rt: HostRuntime) {
 }
 
 #[test]
-fn a_carried_message_has_its_number(rt: HostRuntime) -> Result<(), Fail> {
-    let value = Value::new(Vec::from_slice(rt.alloc(), &RECORD[16..])?);
-    let record = FittingMessage::new(Message::Record(Slot(1), value));
-    assert!(rt; record.is_ok());
-    if let Ok(message) = record {
-        let carried = Carried {
-            conn: ConnId {
-                from: NodeId([2; 32]),
-                to: NodeId([1; 32]),
-                life: 1,
-            },
-            seq: Seq(0),
-            message,
-        };
-        assert!(rt; carried.message.get().is_carried());
-    }
-    Ok(())
+fn a_carried_message_has_its_number(rt: HostRuntime) {
+    let carried = Carried {
+        conn: ConnId {
+            from: NodeId([2; 32]),
+            to: NodeId([1; 32]),
+            life: 1,
+        },
+        seq: Seq(0),
+        message: FittingMessage::of(Message::GetRecord(Slot(1))),
+    };
+    assert!(rt; carried.message.get().is_carried());
+    assert!(rt; matches!(carried.message.into_inner(), Message::GetRecord(Slot(1))));
 }
 
 #[test]
