@@ -1,5 +1,5 @@
 //! An applier.
-ghost use Rattle.std.specs.Prelude.{◌≡◌, ◌↔◌, IsTrue, ◌⊎◌, [], true, false, OnOk, OnErr, IfOk, IfErr, IsErrOf, Some, option_copied, option_map};
+ghost use Rattle.std.specs.Prelude.{◌≡◌, ◌↔◌, IsTrue, ◌⊎◌, [], true, false, OnOk, OnErr, IfOk, IfErr, IfSome, IsErrOf, Some, option_copied, option_map};
 ghost use Rattle.std.specs.FinMap as map;
 ghost use Rattle.scp_wire.specs.Fitting.{IsFitting};
 ghost use Rattle.scp_apply.specs.Applied.{value_of};
