@@ -76,7 +76,8 @@ fn hand_to_all(outboxes: &mut Outboxes, envelope: SharedEnvelope) -> Result<(), 
     ensures hands { OnOk result (HandsOne outboxes.old (Outgoing.ToAll envelope) outboxes.new) }
 {
     let boxed = BoxedEnvelope::from_shared(envelope);
-    outboxes.put_all(&FittingMessage::of(Message::Envelope(boxed)))
+    let fitting = FittingMessage::of(Message::Envelope(boxed));
+    outboxes.put_all(&fitting)
 }
 
 /// What is next in the link's outbox, as bytes.

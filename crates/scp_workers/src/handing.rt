@@ -1,4 +1,5 @@
 //! What stages hand out for links, put into the links' outboxes.
+ghost use Rattle.std.specs.Prelude.{IfSome};
 ghost use Rattle.scp_wire.specs.Fitting.{IsFitting};
 ghost use Rattle.scp_ledger.specs.Fitting.{FitsOut};
 

@@ -1,4 +1,4 @@
-use Rattle.std.proofs.Common.{◌++◌, ◌∙◌, ap}
+use Rattle.std.proofs.Common.{◌++◌, ◌∙◌, ap, rules}
 use Rattle.std.specs.Prelude.{Option, option_to_list}
 use Rattle.std.proofs.lemmas.Result.{on_ok_weaker, on_err_weaker}
 use Rattle.scp_ledger.specs.declared.took.Outgoing.{Outgoing}
@@ -9,7 +9,7 @@ use Rattle.scp_core.proofs.handing.+hand_out_rest.Goals as goal
 pub hand_out_rest-requires : goal.hand_out_rest-requires
 hand_out_rest-requires t c =
     let is = c.pop.ensures.items ∙ ap (λ (o : Option Outgoing). c.pop.new.self.items ++ option_to_list o) c.in-Some.is in
-    record { fits = all_before FitsOut c.args.outgoing.items c.pop.new.self.items c.in-Some.last is c.requires.fits }
+    (search rules, all_before FitsOut c.args.outgoing.items c.pop.new.self.items c.in-Some.last is c.requires.fits)
 
 pub hand_out_one-requires : goal.hand_out_one-requires
 hand_out_one-requires t c =

@@ -11,8 +11,8 @@ invariant_of-self-in-Ok c = λ runs.
     let sound = c.self.invariant runs in
     rw c.next.ensures.room (sound_apply _ c.in-Some.onward c.next.new.queue.items c.in-Ok.answer _ c.in-Some.ensures.item c.in-Ok.ensures.takes c.take.ensures.known (c.take.ensures.running (takes_runs _ c.in-Some.onward c.in-Ok.answer _ sound.applier_runs c.in-Ok.ensures.takes)) sound)
 
-pub returns-in-Ok : goal.returns-in-Ok
-returns-in-Ok c =
+pub returns-in-Ok-clause-applies : goal.returns-in-Ok-clause-applies
+returns-in-Ok-clause-applies c =
     let sound = c.self.invariant (ap (λ (v : DeciderView). v.failed) c.self.view_is ∙ c.requires.runs) in
     record {
       x = c.in-Some.onward;
