@@ -153,6 +153,20 @@ impl Node {
         })
     }
 
+    /// Who the node is.
+    pub fn me(&self) -> NodeId
+        ensures { result ≡ self.now.config.me }
+    {
+        self.me
+    }
+
+    /// The nodes at the other ends of its links, in their order.
+    pub fn peers(&self) -> &[NodeId]
+        ensures { result.now ≡ self.now.config.peers }
+    {
+        self.peers.as_slice()
+    }
+
     /// Every fate so far, in the order in which they fell; of a failed node, those of before the step that failed it.
     pub fn journal(&self) -> &[Fate]
         ensures { result.now ≡ self.now.ledger.journal }

@@ -39,11 +39,11 @@ not_true false e = refl
 not_true true e = sym e
 
 -- it passes each number from 1 to this one
-up_to : (ℕ → Bool) → ℕ → Bool
+unfoldable pub up_to : (ℕ → Bool) → ℕ → Bool
 up_to p zero = true
 up_to p (suc n) = p (suc n) && up_to p n
 
-passes : (p : ℕ → Bool) (n i : ℕ) → up_to p n ≡ true → 1 ≤ i → i ≤ n → p i ≡ true
+pub passes : (p : ℕ → Bool) (n i : ℕ) → up_to p n ≡ true → 1 ≤ i → i ≤ n → p i ≡ true
 unfolding up_to
 passes p zero i e one le = absurd (omega (arith, one, le))
 passes p (suc n) i e one le = ⊎_elim

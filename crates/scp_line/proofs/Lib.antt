@@ -14,3 +14,4 @@ pub mod Making
 pub mod Reports
 pub mod Scripts
 pub mod Threaded
+pub mod Others

@@ -42,7 +42,7 @@ new_is (Err fault) commands number config theorem is same = tt
 made_now : (commands : List Command) (number : ℕ) (v : NodeView) → IsNew commands number v → IsMade v
 made_now commands number v new = subst (λ (u : NodeView). IsMade u) (sym new.theorem.replies) new.theorem.made
 
-new_at : (commands : List Command) (nodes : Nodes) (i : ℕ) (v : NodeView) → AreNew commands nodes → slice_get nodes i ≡ Some v → IsNew commands (i + 1) v
+pub new_at : (commands : List Command) (nodes : Nodes) (i : ℕ) (v : NodeView) → AreNew commands nodes → slice_get nodes i ≡ Some v → IsNew commands (i + 1) v
 new_at commands nodes i v are at = subst (λ (u : NodeView). IsNew commands (i + 1) u) (get_or_from_slice_get nodes i v v at) (are.each i v (slice_get_within nodes i v at))
 
 new_linked : (commands : List Command) (from to : ℕ) (v : NodeView) → 1 ≤ from → from ≤ node_count commands → 1 ≤ to → to ≤ node_count commands → from ≢ to → IsNew commands to v → slice_get (tails v) (link_of from to) ≡ Some (tail_said from to [])

@@ -1,5 +1,5 @@
 //! The nodes of a script, and what its lines do to them.
-ghost use Rattle.std.specs.Prelude.{◌≡◌, ◌≢◌, ◌⊎◌, ◌≤◌, ◌++◌, [], ℕ, List, All, OnOk, IfOk, IfErr, IfSome, IsOkUnless, string_bytes, flat_map, length};
+ghost use Rattle.std.specs.Prelude.{◌≡◌, ◌≢◌, ◌⊎◌, ◌≤◌, ◌++◌, [], ℕ, List, All, OnOk, IfOk, IfErr, IfSome, IsOkUnless, string_bytes, flat_map, length, replicate, false};
 ghost use Rattle.scp_script.specs.Script.{AreAdmitted, node_count};
 ghost use Rattle.scp_script.specs.Nodes.{NamesNodes, IsSmall, reports_in};
 ghost use Rattle.scp_core.specs.Config.{IsConfig};
@@ -74,6 +74,19 @@ fn new_nodes(alloc: Global, commands: &[Command]) -> Result<Vec<Node>, Fault>
     Ok(nodes)
 }
 
+/// The nodes of a script, which have heard nothing, linked to each other. The one refusal is `NoMemory`.
+fn linked_nodes(alloc: Global, commands: &[Command]) -> Result<Network, Fault>
+    requires names { All NamesNodes commands.now }
+    requires admitted { AreAdmitted [] commands.now }
+    requires room { HaveRoom commands.now }
+    ensures nodes { IfOk result (λ network. AreNew commands.now network.nodes) }
+    ensures driven { IfOk result (λ network. network.driven ≡ replicate 64 false) }
+    ensures only_memory { IsOkUnless result Fault.NoMemory }
+{
+    let nodes = new_nodes(alloc, commands)?;
+    Network::new(alloc, nodes)
+}
+
 /// The nodes of a script, which have heard nothing; the links that a `send` line names are driven by the script alone.
 pub fn new_network(alloc: Global, commands: &[Command]) -> Result<Network, Fault>
     requires names { All NamesNodes commands.now }
@@ -82,8 +95,7 @@ pub fn new_network(alloc: Global, commands: &[Command]) -> Result<Network, Fault
     ensures made { IfOk result (λ network. AreMade commands.now network) }
     ensures only_memory { IsOkUnless result Fault.NoMemory }
 {
-    let nodes = new_nodes(alloc, commands)?;
-    let mut network = Network::new(alloc, nodes)?;
+    let mut network = linked_nodes(alloc, commands)?;
     for command in commands {
         if let Command::Send { from, to, .. } = command {
             network.drive(*from, *to);

@@ -1,3 +1,4 @@
 pub mod Heard
 pub mod Rounds
 pub mod Inside
+pub mod Linked

@@ -1,6 +1,7 @@
 //! Nodes that send to each other, each in its turn.
 //!
 //! What it promises:
+//! - a network is of at most eight nodes, and the peers of each are the others, in the order of their numbers;
 //! - an event that a node is offered is one step of that node, and of no other;
 //! - a settle is rounds, in each of which every node, in the order of their numbers, has each of its stages do one step, and
 //!   then drains its outbox for each other node whose link from it is open and has room, unless the caller drives that link;
@@ -9,6 +10,7 @@
 //! - the ledger theorem holds of each node, for all that it heard.
 #![tactic(auto)]
 
+mod linked;
 mod network;
 mod rounds;
 mod turn;

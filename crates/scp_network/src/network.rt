@@ -1,17 +1,16 @@
 //! The nodes, and the links on which the caller alone sends.
-ghost use Rattle.std.specs.Prelude.{◌≡◌, ◌<◌, ◌⊎◌, length, IfOk, IfErr, Err, replicate, false};
+ghost use Rattle.std.specs.Prelude.{◌≡◌, ◌⊎◌, ◌↔◌, IfOk, OnOk, IfErr, Err, replicate, false};
 ghost use Rattle.scp_types.specs.declared.fault.Fault.{Fault};
 ghost use Rattle.scp_network.specs.Inside.{Drives, Offered, Settled};
+ghost use Rattle.scp_network.specs.Linked.{IsNetwork};
 
+use crate::linked::{MOST_NODES, is_network};
 use crate::rounds;
 use crate::turn::hear;
 use scp_core::{Event, Node, Reply};
 use scp_types::Fault;
 use std::alloc::Global;
 use std::marker::Model;
-
-/// The most nodes: one, and its seven peers.
-const MOST_NODES: usize = 8;
 
 /// Nodes that send to each other. They are numbered from 1 on, and the peers of each are the others, in the order of their
 /// numbers.
@@ -38,15 +37,16 @@ impl Model for Network {
 }
 
 impl Network {
-    /// These nodes, of which no link is driven by the caller. Refused by `BadConfig` where they are more than eight, else by `NoMemory`.
+    /// These nodes, of which no link is driven by the caller. Refused by `BadConfig` where they are more than eight, or where the peers of
+    /// one aren't the others, in the order of their numbers; else by `NoMemory`.
     pub fn new(alloc: Global, nodes: Vec<Node>) -> Result<Network, Fault>
         ensures nodes { IfOk result (λ network. network.nodes ≡ nodes.items) }
         ensures driven { IfOk result (λ network. network.driven ≡ replicate 64 false) }
-        ensures refused { result ≡ Err Fault.BadConfig → 8 < length nodes.items }
-        ensures limit { 8 < length nodes.items → result ≡ Err Fault.BadConfig }
+        ensures linked { OnOk result (IsNetwork nodes.items) }
+        ensures refused { result ≡ Err Fault.BadConfig ↔ ¬ (IsNetwork nodes.items) }
         ensures only { IfErr result (λ f. (f ≡ Fault.BadConfig) ⊎ (f ≡ Fault.NoMemory)) }
     {
-        if nodes.len() > MOST_NODES {
+        if !is_network(nodes.as_slice()) {
             return Err(Fault::BadConfig);
         }
         let mut driven = Vec::with_capacity(alloc, MOST_NODES * MOST_NODES)?;
