@@ -173,18 +173,20 @@ impl<R: io::Write + Drop> ReportOut for Process<R> {
 }
 
 /// Reads all there is, at most 1,048,576 bytes: a byte more is `Fault::TooLong`. Else refused by `Fault::Device`, where the reader
-/// failed, or by `Fault::NoMemory`.
+/// failed, or by `Fault::NoMemory`, before anything is read: the memory for the longest script is taken first.
 pub fn read_script<R: ScriptIn>(alloc: Global, reader: &mut R) -> Result<Vec<u8>, Fault>
     ensures whole { IfOk result (λ text. IfSome (R.left reader.old) (λ all. text.items ≡ all)) }
     ensures limit { IfOk result (λ text. length text.items ≤ SCRIPT_LIMIT) }
     ensures too_long { IsErrOf result Fault.TooLong → IfSome (R.left reader.old) (λ all. SCRIPT_LIMIT < length all) }
     ensures device { IsErrOf result Fault.Device → Fails (R.failures reader.old) (R.failures reader.new) }
     ensures cause { IfErr result IsReadFault }
+    // Want of memory is told only where nothing was read.
+    ensures memory_first { IsErrOf result Fault.NoMemory → reader.new ≡ reader.old }
     ensures kept { OnOk result (R.failures reader.new ≡ R.failures reader.old) }
     // A read that failed is never told as anything else.
     ensures hidden { IfErr result (λ fault. fault ≢ Fault.Device → R.failures reader.new ≡ R.failures reader.old) }
 {
-    let mut text = Vec::new(alloc);
+    let mut text = Vec::with_capacity(alloc, SCRIPT_LIMIT)?;
     let mut buffer = [0u8; 4096];
     loop {
         let count = reader.read(&mut buffer)?;

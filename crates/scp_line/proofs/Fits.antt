@@ -39,7 +39,7 @@ not_true false e = refl
 not_true true e = sym e
 
 -- it passes each number from 1 to this one
-pub up_to : (ℕ → Bool) → ℕ → Bool
+unfoldable pub up_to : (ℕ → Bool) → ℕ → Bool
 up_to p zero = true
 up_to p (suc n) = p (suc n) && up_to p n
 

@@ -74,6 +74,8 @@ pub fn play<R: ScriptIn, W: ReportOut>(
         (Fails (R.failures reader.old) (R.failures reader.new) × (writer.new ≡ writer.old)) ⊎ Fails (W.failures writer.old) (W.failures writer.new)) }
     // TooLong is answered only of a script over the limit.
     ensures too_long { IfErr result (λ e. e.fault ≡ Fault.TooLong → IfSome (R.left reader.old) (λ all. SCRIPT_LIMIT < length all)) }
+    // Want of memory is told where nothing was read, or of a text within the limit.
+    ensures memory { IfErr result (λ e. e.fault ≡ Fault.NoMemory → (reader.new ≡ reader.old) ⊎ IfSome (R.left reader.old) (λ all. length all ≤ SCRIPT_LIMIT)) }
     // BadScript names the first bad line of a text within the limit.
     ensures line { IfErr result (λ e. (line : ℕ) → e.fault ≡ BadScript line → IfSome (R.left reader.old) (λ all. (length all ≤ SCRIPT_LIMIT) × IsBadLine all line)) }
     // No other refusal is answered.
@@ -112,6 +114,8 @@ pub fn check<R: ScriptIn, W: ReportOut>(
     ensures device { IfErr result (λ e. e.fault ≡ Fault.Device →
         (Fails (R.failures reader.old) (R.failures reader.new) × (writer.new ≡ writer.old)) ⊎ Fails (W.failures writer.old) (W.failures writer.new)) }
     ensures too_long { IfErr result (λ e. e.fault ≡ Fault.TooLong → IfSome (R.left reader.old) (λ all. SCRIPT_LIMIT < length all)) }
+    // Want of memory is told where nothing was read, or of a text within the limit.
+    ensures memory { IfErr result (λ e. e.fault ≡ Fault.NoMemory → (reader.new ≡ reader.old) ⊎ IfSome (R.left reader.old) (λ all. length all ≤ SCRIPT_LIMIT)) }
     // BadScript names the first bad line of a text within the limit.
     ensures line { IfErr result (λ e. (line : ℕ) → e.fault ≡ BadScript line → IfSome (R.left reader.old) (λ all. (length all ≤ SCRIPT_LIMIT) × IsBadLine all line)) }
     // No other refusal is answered.

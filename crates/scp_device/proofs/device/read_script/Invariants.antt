@@ -1,4 +1,5 @@
 use Rattle.std.proofs.Common.{◌≡◌, ◌≤◌, ◌-◌, length}
+use Rattle.std.specs.Prelude.{vec_capacity}
 use Rattle.scp_device.specs.Device.{Loses}
 use Rattle.scp_device.proofs.device.read_script.Given as goal
 
@@ -8,6 +9,7 @@ invariant-loop-text g l =
     record {
       read : Loses (left l.initial.reader) l.text.items (left l.reader);
       limit : length l.text.items ≤ 1048576;
+      room : 1048576 ≤ vec_capacity l.text;
       failures : g.R.ScriptIn.failures l.reader ≡ g.R.ScriptIn.failures l.initial.reader;
     }
 
