@@ -19,6 +19,8 @@ use Rattle.scp_wire.proofs.link.Cause.TheSendSync as causes
 use Rattle.scp_wire.proofs.link.Command.TheSendSync as commands
 use Rattle.scp_wire.specs.contracts.message.Message as message
 use Rattle.scp_wire.specs.contracts.side.SideMessage as side
+use Rattle.scp_wire.specs.contracts.fitting.FittingMessage as fitting
+use Rattle.scp_wire.specs.contracts.fitting.FittingMessage.TheInside as fitting_inside
 use Rattle.scp_wire.specs.contracts.carried.Carried as carried
 use Rattle.scp_wire.specs.contracts.link.Inbound as inbound
 use Rattle.scp_wire.specs.contracts.reader.LinkReader as link_reader
@@ -111,7 +113,10 @@ sane_sync s = search (sendable, crosses) depth 40
 message_send : IsSend set.the_row → IsSend message.the_row
 message_send s = search (sendable, crosses, boxes.the_send) depth 40
 
-carried_send : IsSend message.the_row → IsSend carried.the_row
+fitting_send : IsSend message.the_row → IsSend fitting.the_row
+fitting_send m = view_send _ _ _ _ _ (declared_send fitting_inside.the_type (m, tt))
+
+carried_send : IsSend fitting.the_row → IsSend carried.the_row
 carried_send m = declared_send carried.the_type (conns.the_send, (seqs.the_send, (m, tt)))
 
 side_send : IsSend set.the_row → IsSend side.the_row
@@ -123,7 +128,7 @@ inbound_send c s = variants_send inbound.enum ((conns.the_send, tt), ((c, tt), (
 link_reader_send : IsSend inbound.the_row → IsSend link_reader.the_row
 link_reader_send i = search (sendable, crosses) depth 40
 
-delivery_inside_send : IsSend message.the_row → IsSend sane.the_row → IsSync sane.the_row → IsSend delivery_inside.the_row
+delivery_inside_send : IsSend fitting.the_row → IsSend sane.the_row → IsSync sane.the_row → IsSend delivery_inside.the_row
 delivery_inside_send m s y = declared_send delivery_inside.the_type (conns.the_send, (seqs.the_send, (m, (search (sendable, crosses) depth 40, tt))))
 
 delivery_send : IsSend delivery_inside.the_row → IsSend delivery.the_row
@@ -201,11 +206,14 @@ its_sane_sync = sane_sync set_sync
 its_message_send : IsSend message.the_row
 its_message_send = message_send set_send
 
+its_fitting_send : IsSend fitting.the_row
+its_fitting_send = fitting_send its_message_send
+
 its_carried_send : IsSend carried.the_row
-its_carried_send = carried_send its_message_send
+its_carried_send = carried_send its_fitting_send
 
 its_delivery_send : IsSend delivery.the_row
-its_delivery_send = delivery_send (delivery_inside_send its_message_send its_sane_send its_sane_sync)
+its_delivery_send = delivery_send (delivery_inside_send its_fitting_send its_sane_send its_sane_sync)
 
 pub its_inbound_send : IsSend inbound.the_row
 its_inbound_send = inbound_send its_carried_send (side_send set_send)
