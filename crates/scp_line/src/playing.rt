@@ -6,7 +6,7 @@ ghost use Rattle.scp_wire.specs.Message.{message_kind, message_value, message_re
 ghost use Rattle.scp_xdr.specs.Kind.{Fits};
 ghost use Rattle.scp_xdr.specs.Words.{IsReadingFault};
 ghost use Rattle.scp_device.specs.Device.{Gains, GainsPart, Fails, IsAll};
-ghost use Rattle.scp_script.specs.Script.{IsScript, IsBadLine, commands_in};
+ghost use Rattle.scp_script.specs.Script.{IsScript, IsBadLine, HasNoBadLine, HasSetLine, commands_in};
 ghost use Rattle.scp_line.specs.Outcome.{IsCheckFault, IsPlayFault};
 ghost use Rattle.scp_line.specs.Play.{AreReports, Stops, Overflows, IsShown, IsUnread, IsNamed};
 
@@ -40,6 +40,7 @@ fn played(alloc: Global, text: &[u8]) -> Result<String, PlayFault>
     ensures reports { IfOk result (λ printed. AreReports text.now (string_bytes printed)) }
     ensures device { IfErr result (λ e. e.fault ≢ Fault.Device) }
     ensures short { IfErr result (λ e. e.fault ≢ Fault.TooLong) }
+    ensures memory { IfErr result (λ e. e.fault ≡ Fault.NoMemory → HasNoBadLine text.now ⊎ HasSetLine text.now) }
     ensures line { IfErr result (λ e. (line : ℕ) → e.fault ≡ BadScript line → IsBadLine text.now line) }
     ensures named { IfErr result (λ e. IsNamed e.node e.fault) }
     ensures stops { IfErr result (λ e. e.fault ≡ Fault.Failed → IsScript text.now × Stops (commands_in text.now) e.node) }
@@ -74,8 +75,8 @@ pub fn play<R: ScriptIn, W: ReportOut>(
         (Fails (R.failures reader.old) (R.failures reader.new) × (writer.new ≡ writer.old)) ⊎ Fails (W.failures writer.old) (W.failures writer.new)) }
     // TooLong is answered only of a script over the limit.
     ensures too_long { IfErr result (λ e. e.fault ≡ Fault.TooLong → IfSome (R.left reader.old) (λ all. SCRIPT_LIMIT < length all)) }
-    // Want of memory is told where nothing was read, or of a text within the limit.
-    ensures memory { IfErr result (λ e. e.fault ≡ Fault.NoMemory → (reader.new ≡ reader.old) ⊎ IfSome (R.left reader.old) (λ all. length all ≤ SCRIPT_LIMIT)) }
+    // Want of memory is told where nothing was read, or of a text within the limit, without a bad line or with a `set` line.
+    ensures memory { IfErr result (λ e. e.fault ≡ Fault.NoMemory → (reader.new ≡ reader.old) ⊎ IfSome (R.left reader.old) (λ all. (length all ≤ SCRIPT_LIMIT) × (HasNoBadLine all ⊎ HasSetLine all))) }
     // BadScript names the first bad line of a text within the limit.
     ensures line { IfErr result (λ e. (line : ℕ) → e.fault ≡ BadScript line → IfSome (R.left reader.old) (λ all. (length all ≤ SCRIPT_LIMIT) × IsBadLine all line)) }
     // No other refusal is answered.
@@ -114,8 +115,8 @@ pub fn check<R: ScriptIn, W: ReportOut>(
     ensures device { IfErr result (λ e. e.fault ≡ Fault.Device →
         (Fails (R.failures reader.old) (R.failures reader.new) × (writer.new ≡ writer.old)) ⊎ Fails (W.failures writer.old) (W.failures writer.new)) }
     ensures too_long { IfErr result (λ e. e.fault ≡ Fault.TooLong → IfSome (R.left reader.old) (λ all. SCRIPT_LIMIT < length all)) }
-    // Want of memory is told where nothing was read, or of a text within the limit.
-    ensures memory { IfErr result (λ e. e.fault ≡ Fault.NoMemory → (reader.new ≡ reader.old) ⊎ IfSome (R.left reader.old) (λ all. length all ≤ SCRIPT_LIMIT)) }
+    // Want of memory is told where nothing was read, or of a text within the limit, without a bad line or with a `set` line.
+    ensures memory { IfErr result (λ e. e.fault ≡ Fault.NoMemory → (reader.new ≡ reader.old) ⊎ IfSome (R.left reader.old) (λ all. (length all ≤ SCRIPT_LIMIT) × (HasNoBadLine all ⊎ HasSetLine all))) }
     // BadScript names the first bad line of a text within the limit.
     ensures line { IfErr result (λ e. (line : ℕ) → e.fault ≡ BadScript line → IfSome (R.left reader.old) (λ all. (length all ≤ SCRIPT_LIMIT) × IsBadLine all line)) }
     // No other refusal is answered.

@@ -3,7 +3,7 @@ ghost use Rattle.std.specs.Prelude.{◌≡◌, ◌≢◌, ◌⊎◌, ◌≤◌, 
 ghost use Rattle.scp_types.specs.declared.fault.Fault.TheVariants.{BadScript};
 ghost use Rattle.scp_types.specs.declared.fault.Stage.{Stage};
 ghost use Rattle.scp_device.specs.Device.{Gains, GainsPart, Fails, IsAll};
-ghost use Rattle.scp_script.specs.Script.{IsScript, IsBadLine};
+ghost use Rattle.scp_script.specs.Script.{IsScript, IsBadLine, HasNoBadLine, HasSetLine};
 ghost use Rattle.scp_line.specs.Play.{IsNamed};
 ghost use Rattle.scp_line.specs.Threads.{AreGatheredReports, IsThreadsFault};
 
@@ -41,6 +41,7 @@ fn played<T: Threads + Wait + Sync, G: Gate + Sync>(
     ensures reports { IfOk result (λ printed. AreGatheredReports text.now (string_bytes printed)) }
     ensures device { IfErr result (λ e. e.fault ≢ Fault.Device) }
     ensures short { IfErr result (λ e. e.fault ≢ Fault.TooLong) }
+    ensures memory { IfErr result (λ e. e.fault ≡ Fault.NoMemory → HasNoBadLine text.now ⊎ HasSetLine text.now) }
     ensures line { IfErr result (λ e. (line : ℕ) → e.fault ≡ BadScript line → IsBadLine text.now line) }
     ensures named { IfErr result (λ e. IsNamed e.node e.fault) }
     ensures stage { IfErr result (λ e. (stage : Stage) → e.fault ≡ Fault.Refused stage → IsScript text.now) }
@@ -74,8 +75,8 @@ pub fn play_gated<T: Threads + Wait + Sync, G: Gate + Sync, R: ScriptIn, W: Repo
         (Fails (R.failures reader.old) (R.failures reader.new) × (writer.new ≡ writer.old)) ⊎ Fails (W.failures writer.old) (W.failures writer.new)) }
     // TooLong is answered only of a script over the limit.
     ensures too_long { IfErr result (λ e. e.fault ≡ Fault.TooLong → IfSome (R.left reader.old) (λ all. SCRIPT_LIMIT < length all)) }
-    // Want of memory is told where nothing was read, or of a text within the limit.
-    ensures memory { IfErr result (λ e. e.fault ≡ Fault.NoMemory → (reader.new ≡ reader.old) ⊎ IfSome (R.left reader.old) (λ all. length all ≤ SCRIPT_LIMIT)) }
+    // Want of memory is told where nothing was read, or of a text within the limit, without a bad line or with a `set` line.
+    ensures memory { IfErr result (λ e. e.fault ≡ Fault.NoMemory → (reader.new ≡ reader.old) ⊎ IfSome (R.left reader.old) (λ all. (length all ≤ SCRIPT_LIMIT) × (HasNoBadLine all ⊎ HasSetLine all))) }
     // BadScript names the first bad line of a text within the limit.
     ensures line { IfErr result (λ e. (line : ℕ) → e.fault ≡ BadScript line → IfSome (R.left reader.old) (λ all. (length all ≤ SCRIPT_LIMIT) × IsBadLine all line)) }
     // No other refusal is answered.
@@ -117,8 +118,8 @@ pub fn play_in_threads<T: Threads + Wait + Sync, R: ScriptIn, W: ReportOut>(
         (Fails (R.failures reader.old) (R.failures reader.new) × (writer.new ≡ writer.old)) ⊎ Fails (W.failures writer.old) (W.failures writer.new)) }
     // TooLong is answered only of a script over the limit.
     ensures too_long { IfErr result (λ e. e.fault ≡ Fault.TooLong → IfSome (R.left reader.old) (λ all. SCRIPT_LIMIT < length all)) }
-    // Want of memory is told where nothing was read, or of a text within the limit.
-    ensures memory { IfErr result (λ e. e.fault ≡ Fault.NoMemory → (reader.new ≡ reader.old) ⊎ IfSome (R.left reader.old) (λ all. length all ≤ SCRIPT_LIMIT)) }
+    // Want of memory is told where nothing was read, or of a text within the limit, without a bad line or with a `set` line.
+    ensures memory { IfErr result (λ e. e.fault ≡ Fault.NoMemory → (reader.new ≡ reader.old) ⊎ IfSome (R.left reader.old) (λ all. (length all ≤ SCRIPT_LIMIT) × (HasNoBadLine all ⊎ HasSetLine all))) }
     // BadScript names the first bad line of a text within the limit.
     ensures line { IfErr result (λ e. (line : ℕ) → e.fault ≡ BadScript line → IfSome (R.left reader.old) (λ all. (length all ≤ SCRIPT_LIMIT) × IsBadLine all line)) }
     // No other refusal is answered.

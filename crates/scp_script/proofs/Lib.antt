@@ -3,3 +3,6 @@ pub mod QuorumSets
 pub mod Tables
 pub mod Peers
 pub mod Admitted
+pub mod Judged
+pub mod Taken
+pub mod Digits

@@ -1,5 +1,5 @@
 -- Words and lines.
-use Rattle.std.proofs.Common.{◌≡◌, ◌⊎◌, inl, inr, ℕ, ◌+◌, ◌<◌, Bool, true, false, ◌&&◌, List, [], ◌∷◌, ◌++◌, length, take, map, Option, Some, None, IfSome, option_to_list, refl, sym, ◌∙◌, ap, subst, arith, append_assoc, append-nil, suc, nat_lt, ◌^◌, Bor, get_or}
+use Rattle.std.proofs.Common.{◌≡◌, ◌⊎◌, inl, inr, ℕ, ◌+◌, ◌<◌, Bool, true, false, ◌&&◌, List, [], ◌∷◌, ◌++◌, length, take, map, Option, Some, None, IfSome, option_map, option_to_list, refl, sym, ◌∙◌, ap, subst, arith, append_assoc, append-nil, suc, nat_lt, ◌^◌, Bor, get_or}
 use Rattle.std.proofs.lemmas.Grind.{common_steps}
 use Rattle.std.proofs.lemmas.Bool.Decides.{nat_tests}
 use Rattle.std.specs.Str.{IsAscii}
@@ -8,12 +8,15 @@ use Rattle.std.specs.Fmt.{decimal}
 use Rattle.std.specs.Cmp.Lexicographic.{bytes_decides}
 use Rattle.std.proofs.lemmas.List.{take_more, get_or-map, length-map}
 use Rattle.std.proofs.lemmas.List.Folds.{list_all-append}
+use Rattle.std.proofs.lemmas.Fmt.{decimal_is_IsNumeral}
+use Rattle.std.specs.Prelude.{codes, if◌then◌else◌}
 use Rattle.std.specs.List.{list_all}
 use Rattle.scp_script.specs.declared.command.Command.{Command}
 use Rattle.scp_script.specs.declared.reading.Reading.{Reading}
 use Rattle.scp_script.specs.Reading.{HasRead, TakesWords, Stands}
-use Rattle.scp_script.specs.Words.{is_ascii, same, number_in, words_of}
-use Rattle.scp_script.specs.Script.{is_line, command_in, commands_of, Admits, AreAdmitted, AreLines}
+use Rattle.scp_script.specs.Bare.{bare}
+use Rattle.scp_script.specs.Words.{is_ascii, same, number_in, capacity_in, words_of}
+use Rattle.scp_script.specs.Script.{is_line, caps_by, command_in, commands_of, Admits, AreAdmitted, AreLines}
 
 -- no words, or more than five, are no command
 pub command_in_other : (words : List (List ℕ)) → (length words < 1) ⊎ (5 < length words) → command_in words ≡ None
@@ -30,7 +33,7 @@ command_in_other (a ∷ b ∷ c ∷ d ∷ e ∷ []) (inl h) = absurd (omega arit
 command_in_other (a ∷ b ∷ c ∷ d ∷ e ∷ []) (inr h) = absurd (omega arith)
 command_in_other (a ∷ b ∷ c ∷ d ∷ e ∷ f ∷ words) h = refl
 
-commands_of-append : (xs ys : List (List ℕ)) → commands_of (xs ++ ys) ≡ commands_of xs ++ commands_of ys
+pub commands_of-append : (xs ys : List (List ℕ)) → commands_of (xs ++ ys) ≡ commands_of xs ++ commands_of ys
 commands_of-append [] ys = refl
 commands_of-append (x ∷ xs) ys = ap (λ l. option_to_list (command_in (words_of x)) ++ l) (commands_of-append xs ys) ∙ grind (arith, common_steps)
 
@@ -94,6 +97,27 @@ no_number word none =
     by true true p q = absurd (none (digits_value 10 word) (grind (arith, nat_tests)) (sym ((bytes_decides (decimal (digits_value 10 word)) word).0 q)))
     by true false p q = rw (p, q) refl
     by false b p q = rw p refl
+
+-- a word that prints a number says it
+pub is_number : (word : List ℕ) (n : ℕ) → n < 2 ^ 64 → word ≡ decimal n → number_in word ≡ Some n
+is_number word n small e =
+    let value : digits_value 10 word ≡ n = ap (digits_value 10) e ∙ (decimal_is_IsNumeral n small).1 in
+    let within : digits_value 10 word < 2 ^ 64 = omega (arith, value, small) in
+    let short : nat_lt (digits_value 10 word) (2 ^ 64) ≡ true = grind (arith, nat_tests) in
+    let printed : same (decimal (digits_value 10 word)) word ≡ true = (bytes_decides (decimal (digits_value 10 word)) word).1 (ap decimal value ∙ sym e) in
+    rw (short, printed) (ap (λ (k : ℕ). Some k) value)
+
+-- five words have no bytes to leave out
+pub five_are_bare : (verb link inbox ready decided : List ℕ) → command_in (verb ∷ link ∷ inbox ∷ ready ∷ decided ∷ []) ≡ option_map bare (command_in (verb ∷ link ∷ inbox ∷ ready ∷ decided ∷ []))
+five_are_bare verb link inbox ready decided = by (same verb (codes "caps")) (capacity_in link) (capacity_in inbox) (capacity_in ready) (capacity_in decided)
+  where
+    by : (b : Bool) (i j k l : Option ℕ) → (if b then caps_by i j k l else None) ≡ option_map bare (if b then caps_by i j k l else None)
+    by false i j k l = refl
+    by true None j k l = refl
+    by true (Some a) None k l = refl
+    by true (Some a) (Some b) None l = refl
+    by true (Some a) (Some b) (Some c) None = refl
+    by true (Some a) (Some b) (Some c) (Some d) = refl
 
 -- a line more was read
 pub reads-more : (old new : Reading) (lines : List (List ℕ)) (x : List ℕ) → HasRead old lines → TakesWords old (words_of x) new → HasRead new (lines ++ x ∷ [])

@@ -1,4 +1,6 @@
 pub mod Words
 pub mod Script
 pub mod Nodes
+pub mod Bare
 pub mod Reading
+pub mod Judging

@@ -1,6 +1,7 @@
 -- A script that is being read.
 use Rattle.std.specs.Prelude.{◌≡◌, ℕ, ◌*◌, ◌+◌, ◌-◌, Bool, true, false, Result, Ok, Err, All, List, ◌++◌, IfSome, option_to_list, get_or}
 use Rattle.scp_script.specs.declared.reading.Reading.{Reading}
+use Rattle.scp_script.specs.declared.known.Known.{Known}
 use Rattle.scp_script.specs.declared.links.Links.{Links}
 use Rattle.scp_script.specs.declared.links.Link.{Link}
 use Rattle.scp_script.specs.declared.command.Command.{Command}
@@ -34,11 +35,15 @@ pub record KnowsLink (links : Links) (commands : List Command) (from to : ℕ) :
 abbrev pub KnowsLinks : Links → List Command → Type 0
 KnowsLinks links commands = (from to : ℕ) → IsSmall from → IsSmall to → KnowsLink links commands from to
 
+-- what is known is what the commands left
+pub record Knows (k : Known) (commands : List Command) : Type 0 where
+  pub count : k.count ≡ node_count commands
+  pub begun : k.has_begun ≡ has_begun commands
+  pub links : KnowsLinks k.links commands
+
 -- what may be read so far
 pub record IsReading (r : Reading) : Type 0 where
-  pub count : r.count ≡ node_count r.commands.items
-  pub begun : r.has_begun ≡ has_begun r.commands.items
-  pub links : KnowsLinks r.links r.commands.items
+  pub known : Knows r.known r.commands.items
   pub nodes : All NamesNodes r.commands.items
 
 -- the line may stand behind these commands

@@ -242,6 +242,19 @@ pub record IsBadLine (text : List ℕ) (line : ℕ) : Type 0 where
   pub good : AreLines (take (line - 1) (lines_of text))
   pub bad : ¬ (AreLines (take line (lines_of text)))
 
+-- the words are a `set` line's
+abbrev pub is_set : List (List ℕ) → Bool
+is_set [] = false
+is_set (verb ∷ words) = same verb (codes "set")
+
+-- a line's first word is `set`
+abbrev pub HasSetLine : List ℕ → Type 0
+HasSetLine text = list_any (λ line. is_set (words_of line)) (lines_of text) ≡ true
+
+-- no line of the text is bad
+abbrev pub HasNoBadLine : List ℕ → Type 0
+HasNoBadLine text = (line : ℕ) → ¬ (IsBadLine text line)
+
 -- what a script says to do, in its order
 abbrev pub commands_in : List ℕ → List Command
 commands_in text = commands_of (lines_of text)

@@ -1,5 +1,5 @@
 -- Lines, their words, and what single words say (this project's profile).
-use Rattle.std.specs.Prelude.{ℕ, true, ◌-◌, ◌^◌, ◌==◌, Bool, ◌&&◌, List, [], ◌∷◌, Option, Some, None, option_map, if◌then◌else◌, length, nat_eq, nat_lt, nat_le, codes}
+use Rattle.std.specs.Prelude.{ℕ, true, ◌-◌, ◌^◌, ◌==◌, Bool, ◌&&◌, List, [], ◌∷◌, Option, Some, None, option_map, if◌then◌else◌, nat_eq, nat_lt, nat_le, codes}
 use Rattle.std.specs.Result.{result_ok}
 use Rattle.std.specs.Cmp.Lexicographic.{pointwise}
 use Rattle.std.specs.Fmt.{decimal}

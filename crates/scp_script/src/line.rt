@@ -1,14 +1,16 @@
 //! The command that a line's words say.
-ghost use Rattle.std.specs.Prelude.{◌≡◌, ◌∷◌, [], IfOk, IfSome, IsOkUnless, map, option_map};
-ghost use Rattle.scp_script.specs.Words.{node_in, link_in, number_in, capacity_in, hex_bytes, set_in};
-ghost use Rattle.scp_script.specs.Script.{caps_by, nodes_by, set_by, open_by, close_by, send_by, ask_by, propose_by, round_by, timer_by, wait_by, command_in};
+ghost use Rattle.std.specs.Prelude.{◌≡◌, ◌∷◌, [], false, IfOk, IfSome, IsOkUnless, codes, map, option_map};
+ghost use Rattle.scp_script.specs.Words.{same, node_in, link_in, number_in, capacity_in, hex_bytes, set_in};
+ghost use Rattle.scp_script.specs.Script.{caps_by, nodes_by, set_by, open_by, close_by, send_by, ask_by, propose_by, round_by, timer_by, wait_by, command_in, is_set};
+ghost use Rattle.scp_script.specs.Bare.{bare};
 ghost use Rattle.scp_script.specs.Nodes.{NamesNodes};
 ghost use Rattle.scp_script.specs.declared.command.Command.TheVariants.{Tick, Report};
 
 use crate::command::{Capacities, Command};
-use crate::words::{bytes_of, capacity, link, node, number, set_of, value_of};
+use crate::words::{are_digits, bytes_of, capacity, link, node, number, set_of, value_of};
 use scp_types::{Fault, Value};
-use std::alloc::{AllocError, Global};
+use scp_wire::Bytes;
+use std::alloc::Global;
 
 /// A `tick` line.
 fn tick(word: &str) -> Option<Command>
@@ -47,34 +49,20 @@ fn nodes(count: &str, quorum: &str) -> Option<Command>
 }
 
 /// A `caps` line.
-fn caps(
-    alloc: Global,
-    link: &str,
-    inbox: &str,
-    ready: &str,
-    decided: &str,
-) -> Result<Option<Command>, AllocError>
-    ensures found { IfOk result (λ found. found ≡ caps_by (capacity_in link.now) (capacity_in inbox.now) (capacity_in ready.now) (capacity_in decided.now)) }
-    ensures nodes { IfOk result (λ found. IfSome found NamesNodes) }
+fn caps(link: &str, inbox: &str, ready: &str, decided: &str) -> Option<Command>
+    ensures found { result ≡ caps_by (capacity_in link.now) (capacity_in inbox.now) (capacity_in ready.now) (capacity_in decided.now) }
+    ensures nodes { IfSome result NamesNodes }
 {
-    let Some(link) = capacity(alloc, link)? else {
-        return Ok(None);
-    };
-    let Some(inbox) = capacity(alloc, inbox)? else {
-        return Ok(None);
-    };
-    let Some(ready) = capacity(alloc, ready)? else {
-        return Ok(None);
-    };
-    let Some(decided) = capacity(alloc, decided)? else {
-        return Ok(None);
-    };
-    Ok(Some(Command::Caps(Capacities {
+    let link = capacity(link)?;
+    let inbox = capacity(inbox)?;
+    let ready = capacity(ready)?;
+    let decided = capacity(decided)?;
+    Some(Command::Caps(Capacities {
         link,
         inbox,
         ready,
         decided,
-    })))
+    }))
 }
 
 /// A `set` line. Whether the set is sane is left open.
@@ -111,17 +99,13 @@ fn close(from: &str, to: &str) -> Option<Command>
 }
 
 /// An `ask` line.
-fn ask(alloc: Global, from: &str, to: &str, slot: &str) -> Result<Option<Command>, AllocError>
-    ensures found { IfOk result (λ found. found ≡ ask_by (link_in from.now to.now) (number_in slot.now)) }
-    ensures nodes { IfOk result (λ found. IfSome found NamesNodes) }
+fn ask(from: &str, to: &str, slot: &str) -> Option<Command>
+    ensures found { result ≡ ask_by (link_in from.now to.now) (number_in slot.now) }
+    ensures nodes { IfSome result NamesNodes }
 {
-    let Some((from, to)) = link(from, to) else {
-        return Ok(None);
-    };
-    let Some(slot) = number(alloc, slot)? else {
-        return Ok(None);
-    };
-    Ok(Some(Command::Ask { from, to, slot }))
+    let (from, to) = link(from, to)?;
+    let slot = number(slot)?;
+    Some(Command::Ask { from, to, slot })
 }
 
 /// A `send` line.
@@ -148,7 +132,7 @@ fn propose(alloc: Global, word: &str, slot: &str, digits: &str) -> Result<Option
     let Some(node) = node(word) else {
         return Ok(None);
     };
-    let Some(slot) = number(alloc, slot)? else {
+    let Some(slot) = number(slot) else {
         return Ok(None);
     };
     let Some(value) = value_of(alloc, digits)? else {
@@ -158,45 +142,33 @@ fn propose(alloc: Global, word: &str, slot: &str, digits: &str) -> Result<Option
 }
 
 /// A `round` line.
-fn round(alloc: Global, word: &str, slot: &str) -> Result<Option<Command>, AllocError>
-    ensures found { IfOk result (λ found. found ≡ round_by (node_in word.now) (number_in slot.now)) }
-    ensures nodes { IfOk result (λ found. IfSome found NamesNodes) }
+fn round(word: &str, slot: &str) -> Option<Command>
+    ensures found { result ≡ round_by (node_in word.now) (number_in slot.now) }
+    ensures nodes { IfSome result NamesNodes }
 {
-    let Some(node) = node(word) else {
-        return Ok(None);
-    };
-    let Some(slot) = number(alloc, slot)? else {
-        return Ok(None);
-    };
-    Ok(Some(Command::Round { node, slot }))
+    let node = node(word)?;
+    let slot = number(slot)?;
+    Some(Command::Round { node, slot })
 }
 
 /// A `timer` line.
-fn timer(alloc: Global, word: &str, slot: &str) -> Result<Option<Command>, AllocError>
-    ensures found { IfOk result (λ found. found ≡ timer_by (node_in word.now) (number_in slot.now)) }
-    ensures nodes { IfOk result (λ found. IfSome found NamesNodes) }
+fn timer(word: &str, slot: &str) -> Option<Command>
+    ensures found { result ≡ timer_by (node_in word.now) (number_in slot.now) }
+    ensures nodes { IfSome result NamesNodes }
 {
-    let Some(node) = node(word) else {
-        return Ok(None);
-    };
-    let Some(slot) = number(alloc, slot)? else {
-        return Ok(None);
-    };
-    Ok(Some(Command::Timer { node, slot }))
+    let node = node(word)?;
+    let slot = number(slot)?;
+    Some(Command::Timer { node, slot })
 }
 
 /// A `wait` line.
-fn wait(alloc: Global, word: &str, things: &str) -> Result<Option<Command>, AllocError>
-    ensures found { IfOk result (λ found. found ≡ wait_by (node_in word.now) (number_in things.now)) }
-    ensures nodes { IfOk result (λ found. IfSome found NamesNodes) }
+fn wait(word: &str, things: &str) -> Option<Command>
+    ensures found { result ≡ wait_by (node_in word.now) (number_in things.now) }
+    ensures nodes { IfSome result NamesNodes }
 {
-    let Some(node) = node(word) else {
-        return Ok(None);
-    };
-    let Some(things) = number(alloc, things)? else {
-        return Ok(None);
-    };
-    Ok(Some(Command::Wait { node, things }))
+    let node = node(word)?;
+    let things = number(things)?;
+    Some(Command::Wait { node, things })
 }
 
 /// The command of one word.
@@ -223,22 +195,37 @@ fn of_two(verb: &str, node: &str) -> Option<Command>
     }
 }
 
+/// The command of three words of which the first isn't `set`.
+fn of_three(verb: &str, first: &str, second: &str) -> Option<Command>
+    ensures found { same verb.now (codes "set") ≡ false → result ≡ command_in (verb.now ∷ first.now ∷ second.now ∷ []) }
+    ensures nodes { IfSome result NamesNodes }
+{
+    match verb {
+        "nodes" => nodes(first, second),
+        "open" => open(first, second),
+        "close" => close(first, second),
+        "round" => round(first, second),
+        "timer" => timer(first, second),
+        "wait" => wait(first, second),
+        _ => None,
+    }
+}
+
 /// The command of three words.
-fn of_three(alloc: Global, verb: &str, first: &str, second: &str) -> Result<Option<Command>, Fault>
+fn of_three_or_set(
+    alloc: Global,
+    verb: &str,
+    first: &str,
+    second: &str,
+) -> Result<Option<Command>, Fault>
     ensures found { IfOk result (λ found. found ≡ command_in (verb.now ∷ first.now ∷ second.now ∷ [])) }
     ensures nodes { IfOk result (λ found. IfSome found NamesNodes) }
     ensures only_memory { IsOkUnless result Fault.NoMemory }
 {
-    match verb {
-        "nodes" => Ok(nodes(first, second)),
-        "set" => set(alloc, first, second),
-        "open" => Ok(open(first, second)),
-        "close" => Ok(close(first, second)),
-        "round" => Ok(round(alloc, first, second)?),
-        "timer" => Ok(timer(alloc, first, second)?),
-        "wait" => Ok(wait(alloc, first, second)?),
-        _ => Ok(None),
+    if verb == "set" {
+        return set(alloc, first, second);
     }
+    Ok(of_three(verb, first, second))
 }
 
 /// The command of four words.
@@ -254,7 +241,7 @@ fn of_four(
     ensures only_memory { IsOkUnless result Fault.NoMemory }
 {
     if verb == "ask" {
-        return Ok(ask(alloc, first, second, third)?);
+        return Ok(ask(first, second, third));
     }
     if verb == "send" {
         return send(alloc, first, second, third);
@@ -266,22 +253,15 @@ fn of_four(
 }
 
 /// The command of five words.
-fn of_five(
-    alloc: Global,
-    verb: &str,
-    link: &str,
-    inbox: &str,
-    ready: &str,
-    decided: &str,
-) -> Result<Option<Command>, Fault>
-    ensures found { IfOk result (λ found. found ≡ command_in (verb.now ∷ link.now ∷ inbox.now ∷ ready.now ∷ decided.now ∷ [])) }
-    ensures nodes { IfOk result (λ found. IfSome found NamesNodes) }
-    ensures only_memory { IsOkUnless result Fault.NoMemory }
+fn of_five(verb: &str, link: &str, inbox: &str, ready: &str, decided: &str) -> Option<Command>
+    ensures found { result ≡ command_in (verb.now ∷ link.now ∷ inbox.now ∷ ready.now ∷ decided.now ∷ []) }
+    ensures nodes { IfSome result NamesNodes }
 {
     if verb == "caps" {
-        return Ok(caps(alloc, link, inbox, ready, decided)?);
+        caps(link, inbox, ready, decided)
+    } else {
+        None
     }
-    Ok(None)
 }
 
 /// The command of a line's words.
@@ -293,11 +273,96 @@ pub fn command_from(alloc: Global, words: &[&str]) -> Result<Option<Command>, Fa
     match words {
         [verb] => Ok(of_one(*verb)),
         [verb, node] => Ok(of_two(*verb, *node)),
-        [verb, first, second] => of_three(alloc, *verb, *first, *second),
+        [verb, first, second] => of_three_or_set(alloc, *verb, *first, *second),
         [verb, first, second, third] => of_four(alloc, *verb, *first, *second, *third),
         [verb, link, inbox, ready, decided] => {
-            of_five(alloc, *verb, *link, *inbox, *ready, *decided)
+            Ok(of_five(*verb, *link, *inbox, *ready, *decided))
         }
         _ => Ok(None),
+    }
+}
+
+/// Whether the words are a `set` line's.
+pub fn is_set(words: &[&str]) -> bool
+    ensures { result ≡ is_set (map (λ word. word.now) words.now) }
+{
+    match words {
+        [verb, ..] => *verb == "set",
+        [] => false,
+    }
+}
+
+/// A `send` line, without its bytes.
+fn bare_send(alloc: Global, from: &str, to: &str, bytes: &str) -> Option<Command>
+    ensures found { result ≡ option_map bare (send_by (link_in from.now to.now) (hex_bytes bytes.now)) }
+    ensures nodes { IfSome result NamesNodes }
+{
+    let (from, to) = link(from, to)?;
+    if !are_digits(bytes) {
+        return None;
+    }
+    let bytes = Bytes::new(Vec::new(alloc));
+    Some(Command::Send { from, to, bytes })
+}
+
+/// A `propose` line, without its value.
+fn bare_propose(alloc: Global, word: &str, slot: &str, digits: &str) -> Option<Command>
+    ensures found { result ≡ option_map bare (propose_by (node_in word.now) (number_in slot.now) (hex_bytes digits.now)) }
+    ensures nodes { IfSome result NamesNodes }
+{
+    let node = node(word)?;
+    let slot = number(slot)?;
+    if !are_digits(digits) {
+        return None;
+    }
+    let value = Value::new(Vec::new(alloc));
+    Some(Command::Propose { node, slot, value })
+}
+
+/// The command of four words, bare.
+fn bare_of_four(
+    alloc: Global,
+    verb: &str,
+    first: &str,
+    second: &str,
+    third: &str,
+) -> Option<Command>
+    ensures found { result ≡ option_map bare (command_in (verb.now ∷ first.now ∷ second.now ∷ third.now ∷ [])) }
+    ensures nodes { IfSome result NamesNodes }
+{
+    if verb == "ask" {
+        return ask(first, second, third);
+    }
+    if verb == "send" {
+        return bare_send(alloc, first, second, third);
+    }
+    if verb == "propose" {
+        return bare_propose(alloc, first, second, third);
+    }
+    None
+}
+
+/// The command of five words, which has no bytes to leave out.
+fn bare_of_five(verb: &str, link: &str, inbox: &str, ready: &str, decided: &str) -> Option<Command>
+    ensures found { result ≡ option_map bare (command_in (verb.now ∷ link.now ∷ inbox.now ∷ ready.now ∷ decided.now ∷ [])) }
+    ensures nodes { IfSome result NamesNodes }
+{
+    of_five(verb, link, inbox, ready, decided)
+}
+
+/// The command of a line's words, without the bytes that it sends or proposes, which takes no memory. The line is no `set` line.
+pub fn bare_command(alloc: Global, words: &[&str]) -> Option<Command>
+    ensures found { is_set (map (λ word. word.now) words.now) ≡ false → result ≡ option_map bare (command_in (map (λ word. word.now) words.now)) }
+    ensures nodes { IfSome result NamesNodes }
+{
+    match words {
+        [verb] => of_one(*verb),
+        [verb, node] => of_two(*verb, *node),
+        [verb, first, second] => of_three(*verb, *first, *second),
+        [verb, first, second, third] => bare_of_four(alloc, *verb, *first, *second, *third),
+        [verb, first, second, third, fourth] => {
+            bare_of_five(*verb, *first, *second, *third, *fourth)
+        }
+        _ => None,
     }
 }

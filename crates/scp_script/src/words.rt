@@ -1,10 +1,13 @@
 //! The lines of a text, their words, and what single words say.
-ghost use Rattle.std.specs.Prelude.{◌≡◌, ◌≢◌, ◌==◌, ℕ, IfOk, IfSome, IsOkUnless, is_some, map, option_map};
-ghost use Rattle.std.specs.List.{slice_split};
+ghost use Rattle.std.specs.Prelude.{◌≡◌, ◌≢◌, ◌==◌, ◌<◌, ℕ, IfOk, IfSome, IsNone, IsOkUnless, is_some, length, map, option_map};
+ghost use Rattle.std.specs.List.{slice_split, list_all};
+ghost use Rattle.hex.specs.Hex.{is_hex_digit};
 ghost use Rattle.scp_script.specs.Words.{lines_of, is_ascii, is_skipped, node_in, link_in, number_in, capacity_by, capacity_in, hex_bytes, set_in};
 ghost use Rattle.scp_script.specs.Nodes.{IsSmall};
 
+use arrayvec::ArrayVec;
 use hex::FromHexError;
+use itoa::Buffer;
 use scp_quorum::QuorumSet;
 use scp_types::{Fault, Value};
 use scp_wire::Bytes;
@@ -23,6 +26,18 @@ pub fn words<'a>(alloc: Global, line: &'a str) -> Result<Vec<&'a str>, AllocErro
     ensures { IfOk result (λ words. map (λ word. word.now) words.items ≡ slice_split (λ byte. byte == 32) line.entry.now) }
 {
     line.split(' ').collect(alloc)
+}
+
+/// The words of a line, where they are at most five.
+pub fn few_words<'a>(line: &'a str) -> Option<ArrayVec<&'a str, 5>>
+    ensures words { IfSome result (λ words. map (λ word. word.now) words.items ≡ slice_split (λ byte. byte == 32) line.entry.now) }
+    ensures many { IsNone result → 5 < length (slice_split (λ byte. byte == 32) line.entry.now) }
+{
+    let mut words = ArrayVec::new();
+    match words.extend(line.split(' ')) {
+        Ok(()) => Some(words),
+        Err(_) => None,
+    }
 }
 
 /// A line as text, where it is ASCII.
@@ -50,17 +65,17 @@ pub fn skipped(line: &[u8]) -> bool
 }
 
 /// A number without sign or leading zero.
-pub fn number(alloc: Global, word: &str) -> Result<Option<u64>, AllocError>
-    ensures { IfOk result (λ found. found ≡ number_in word.now) }
+pub fn number(word: &str) -> Option<u64>
+    ensures { result ≡ number_in word.now }
 {
     let Ok(value) = word.parse::<u64>() else {
-        return Ok(None);
+        return None;
     };
-    let text = value.to_string(alloc)?;
-    if text.as_str() == word {
-        Ok(Some(value))
+    let mut buffer = Buffer::new();
+    if buffer.format(value) == word {
+        Some(value)
     } else {
-        Ok(None)
+        None
     }
 }
 
@@ -81,10 +96,10 @@ fn capacity_from(number: Option<u64>) -> Option<u16>
 }
 
 /// A queue's capacity.
-pub fn capacity(alloc: Global, word: &str) -> Result<Option<u16>, AllocError>
-    ensures { IfOk result (λ found. found ≡ capacity_in word.now) }
+pub fn capacity(word: &str) -> Option<u16>
+    ensures { result ≡ capacity_in word.now }
 {
-    Ok(capacity_from(number(alloc, word)?))
+    capacity_from(number(word))
 }
 
 /// The number of a node.
@@ -112,6 +127,27 @@ pub fn link(from: &str, to: &str) -> Option<(u8, u8)>
     let from = node(from)?;
     let to = node(to)?;
     if from == to { None } else { Some((from, to)) }
+}
+
+/// Whether each byte is a hexadecimal digit.
+fn all_digits(bytes: &[u8]) -> bool
+    ensures { result ≡ list_all is_hex_digit bytes.now }
+{
+    bytes.iter().all(|byte| matches!(*byte, b'0'..=b'9' | b'A'..=b'F' | b'a'..=b'f'))
+}
+
+/// Whether a word is hexadecimal digits, an even number of them, or a dash.
+pub fn are_digits(word: &str) -> bool
+    ensures { result ≡ is_some (hex_bytes word.now) }
+{
+    if word == "-" {
+        return true;
+    }
+    let digits = word.as_bytes();
+    if digits.is_empty() || digits.len() % 2 != 0 {
+        return false;
+    }
+    all_digits(digits)
 }
 
 /// Bytes in hexadecimal digits, or a dash for none. `None` where the word is neither. The one refusal is `NoMemory`.
