@@ -6,6 +6,7 @@ use crate::machine::Machine;
 use scp_envelope::SharedEnvelope;
 use scp_quorum::SaneSet;
 use scp_types::{Fault, NodeId, Slot, Value};
+use scp_vote::Board;
 use std::alloc::Global;
 use std::marker::Model;
 use std::sync::Arc;
@@ -49,6 +50,13 @@ impl Balloter {
             machine: Machine::new(alloc, me, slot, local),
             failed: false,
         }
+    }
+
+    /// The newest ballot statements that it heard, and its own.
+    pub fn board(&self) -> &Board
+        ensures { result.now ≡ self.now.board }
+    {
+        &self.machine.board
     }
 
     /// A composite of the nomination: while the own statement is a PREPARE it is kept, and makes the first ballot where there

@@ -16,3 +16,4 @@ pub mod Accounting
 pub mod Failing
 pub mod grounds
 pub mod Keeping
+mod Cutting

@@ -241,6 +241,14 @@ room_of (Some k) = room_in k
 abbrev pub room_at : NodeView → ℕ → ℕ
 room_at v l = room_of (slice_get v.links l)
 
+-- how many items wait in a link's queue; 0 for a link that isn't there
+abbrev pub queued_in : Option LinkView → ℕ
+queued_in None = 0
+queued_in (Some k) = length k.queue
+
+abbrev pub queued_at : NodeView → ℕ → ℕ
+queued_at v l = queued_in (slice_get v.links l)
+
 -- The room of each link at the event that fails a node: what it was, and one more where the link's reader took an item.
 abbrev pub LeavesRoom : NodeView → Event → NodeView → Type 0
 LeavesRoom old (ReaderTake l) new = (room_at new l ≡ room_at old l + 1) × ((other : ℕ) → other ≢ l → room_at new other ≡ room_at old other)

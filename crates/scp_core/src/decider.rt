@@ -12,7 +12,9 @@ use circular_buffer::HeapCircularBuffer;
 use scp_apply::{Applier, the_next_decision_can_be_taken};
 use scp_driver::KvDriver;
 use scp_kv::KvState;
-use scp_ledger::{Fate, Onward, SharedDecision, what_holds_of_a_ledger_holds_with_one_thing_more};
+use scp_ledger::{
+    Fate, Ledger, Onward, SharedDecision, what_holds_of_a_ledger_holds_with_one_thing_more,
+};
 use scp_pending::Ready;
 use scp_quorum::SaneSet;
 use scp_sent::Outboxes;
@@ -86,6 +88,19 @@ impl Decider {
         ensures empty { result ≡ false → self.now.hand ≡ None }
     {
         self.hand.is_some()
+    }
+
+    pub fn ledger(&self) -> &Ledger<KvDriver>
+        ensures { self.now.failed ≡ false → result.now ≡ self.now.ledger }
+    {
+        self.stage.ledger()
+    }
+
+    /// How many things wait in the queue for the applier.
+    pub fn queued(&self) -> usize
+        ensures { result ≡ length self.now.queue }
+    {
+        self.queue.len()
     }
 
     pub fn journal(&self) -> &[Fate]

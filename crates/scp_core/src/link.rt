@@ -71,6 +71,13 @@ impl Link {
         self.queue.capacity() - self.queue.len()
     }
 
+    /// How many items wait in its queue.
+    pub fn queued(&self) -> usize
+        ensures { result ≡ length self.now.queue }
+    {
+        self.queue.len()
+    }
+
     /// Whether what is sent on it would be accepted: it is open, and its queue has room.
     pub fn accepts(&self) -> bool
         ensures { result ≡ link_accepts self.now }

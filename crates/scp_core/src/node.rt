@@ -4,7 +4,8 @@ ghost use Rattle.scp_ledger.specs.declared.journal.Fate.{Fate};
 ghost use Rattle.scp_pending.specs.Line.{count_held};
 ghost use Rattle.scp_core.specs.Config.{IsConfig, IsFit};
 ghost use Rattle.scp_core.specs.History.{peer_at, Exchange};
-ghost use Rattle.scp_core.specs.Node.{Step, Keeps, LeavesRoom, HasLink, lives_at, room_at, accepts_at};
+ghost use Rattle.scp_core.specs.Node.{Step, Keeps, LeavesRoom, HasLink, lives_at, room_at, queued_at, accepts_at};
+ghost use Rattle.scp_sent.specs.Handing.{waiting_at};
 ghost use Rattle.scp_core.specs.Theorem.{LedgerTheorem};
 ghost use Rattle.scp_core.specs.inside.Starting.{IsNew};
 
@@ -18,9 +19,9 @@ use crate::queue;
 use circular_buffer::HeapCircularBuffer;
 use scp_driver::KvDriver;
 use scp_kv::KvState;
-use scp_ledger::{Fate, SharedDecision, what_holds_of_a_ledger_holds_with_one_thing_more};
+use scp_ledger::{Fate, Ledger, SharedDecision, what_holds_of_a_ledger_holds_with_one_thing_more};
 use scp_pending::{PEER_LIMIT, Pending, Ready};
-use scp_quorum::SaneSet;
+use scp_quorum::{QuorumSet, SaneSet};
 use scp_sent::Outboxes;
 use scp_types::{ConnId, Fault, NodeId};
 use scp_wire::{Bytes, Command, Inbound};
@@ -193,6 +194,51 @@ impl Node {
         ensures { option_copied result ≡ (if self.now.failed then None else self.now.applier.state) }
     {
         self.decider.state()
+    }
+
+    /// The node's own quorum set.
+    pub fn set(&self) -> &QuorumSet
+        ensures { result.now ≡ self.now.config.set }
+    {
+        self.set.set()
+    }
+
+    /// What was taken, decided and asked, and the machines of slots. Of a failed node it says nothing.
+    pub fn ledger(&self) -> &Ledger<KvDriver>
+        ensures { self.now.failed ≡ false → result.now ≡ self.now.ledger }
+    {
+        self.decider.ledger()
+    }
+
+    /// What is parked, wanted and open.
+    pub fn pending(&self) -> &Pending
+        ensures { result.now ≡ self.now.pending }
+    {
+        &self.pending
+    }
+
+    /// How many messages wait to go out to the peer of this link; 0 for a link that isn't there.
+    pub fn waiting(&self, link: u8) -> usize
+        ensures { result ≡ waiting_at self.now.outboxes link }
+    {
+        self.outboxes.waiting(link)
+    }
+
+    /// How many items wait in the link's queue; 0 for a link that isn't there.
+    pub fn queued_on(&self, link: u8) -> usize
+        ensures { result ≡ queued_at self.now link }
+    {
+        match self.links.get(link as usize) {
+            Some(link) => link.queued(),
+            None => 0,
+        }
+    }
+
+    /// How many things wait in the inbox, in the ready queue and in the decided queue.
+    pub fn queued(&self) -> (usize, usize, usize)
+        ensures { result ≡ (length self.now.inbox, length self.now.ready, length self.now.decided) }
+    {
+        (self.inbox.len(), self.ready.len(), self.decider.queued())
     }
 
     /// How often the link was opened; 0 for a link that isn't there.

@@ -64,6 +64,14 @@ impl SlotStage {
         }
     }
 
+    /// The ledger; of a stage that failed its lists may be longer than those that are shown.
+    #[tactic(auto, using(crate::proofs::Cutting::shown_same))]
+    pub fn ledger(&self) -> &Ledger<KvDriver>
+        ensures { self.now.failed ≡ false → result.now ≡ self.now }
+    {
+        &self.ledger
+    }
+
     pub fn journal(&self) -> &[Fate]
         ensures { result.now ≡ self.now.journal }
     {

@@ -1,15 +1,15 @@
 //! The hashes that are wanted.
-ghost use Rattle.std.specs.Prelude.{◌≡◌, ◌<◌, [], not, IfOk, OnOk, OnErr, IsOkUnless};
+ghost use Rattle.std.specs.Prelude.{◌≡◌, ◌<◌, [], not, map, IfOk, OnOk, OnErr, IsOkUnless};
 ghost use Rattle.scp_fetch.specs.Wants.{is_wanted, is_asked, wanted_by, waiting_for, left_by, unasked, missed_by, without, gives_up, last_missed, miss_of, answer_of};
 
 use crate::answers::{Answer, Missed};
 use crate::want::{
-    Miss, Want, add_want, count_all, end_missed, end_want, has_asked, has_last, has_want,
-    last_hashes, note_asked, note_missed, note_unasked, part_all, waiters,
+    Miss, Want, add_want, all_wants, count_all, end_missed, end_want, has_asked, has_last,
+    has_want, last_hashes, note_asked, note_missed, note_unasked, part_all, waiters,
 };
 use indexmap::IndexMap;
 use scp_types::{ConnId, Fault, Hash};
-use std::alloc::Global;
+use std::alloc::{AllocError, Global};
 use std::marker::Model;
 
 /// At so many misses a hash is given up (this project's profile).
@@ -47,6 +47,13 @@ impl Fetcher {
         Fetcher {
             wants: IndexMap::new(alloc),
         }
+    }
+
+    /// What is wanted, in the order in which it became so.
+    pub fn wants(&self) -> Result<Vec<&Want>, AllocError>
+        ensures { IfOk result (λ wants. map (λ want. want.now) wants.items ≡ self.now) }
+    {
+        all_wants(&self.wants)
     }
 
     /// Whether the hash is wanted.

@@ -9,7 +9,7 @@ use crate::fetcher::{LINK_LIMIT, MISS_LIMIT};
 use crate::waiters::Waiters;
 use indexmap::IndexMap;
 use scp_types::{ConnId, Fault, Hash};
-use std::alloc::Global;
+use std::alloc::{AllocError, Global};
 
 /// A wanted hash, with its misses since it became so, of each link whether it was asked since both the hash became wanted and
 /// the link last opened, and the connections that wait for it.
@@ -78,6 +78,13 @@ pub fn has_asked(wants: &IndexMap<[u8; 32], Want>, hash: &Hash, link: usize) -> 
         Some(want) => want.asked[link],
         None => false,
     }
+}
+
+/// What is wanted, in its order.
+pub fn all_wants<'w>(wants: &'w IndexMap<[u8; 32], Want>) -> Result<Vec<&'w Want>, AllocError>
+    ensures { IfOk result (λ found. map (λ want. want.now) found.items ≡ wants_in wants.now.entries) }
+{
+    wants.values().collect(*wants.allocator())
 }
 
 /// The hashes for which a miss of each is the last.

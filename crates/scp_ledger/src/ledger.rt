@@ -1,10 +1,11 @@
 //! A ledger.
-ghost use Rattle.std.specs.Prelude.{◌≡◌, ◌↔◌, ◌≤◌, ◌⊎◌, ◌++◌, [], true, false, length, All, OnOk, OnErr, IfOk, IfErr, IsErrOf};
+ghost use Rattle.std.specs.Prelude.{◌≡◌, ◌↔◌, ◌≤◌, ◌⊎◌, ◌++◌, [], true, false, length, All, OnOk, OnErr, IfOk, IfErr, IsErrOf, option_copied};
 ghost use Rattle.scp_types.specs.declared.names.ConnId.{ConnId};
 ghost use Rattle.scp_pending.specs.Line.{ready_mark};
 ghost use Rattle.scp_ledger.specs.Fitting.{FitsOut};
 ghost use Rattle.scp_ledger.specs.Ledger.{IsLedger, IsRunning};
 ghost use Rattle.scp_ledger.specs.Marks.{marks_of};
+ghost use Rattle.scp_ledger.specs.Seen.{machine_at, is_asked};
 ghost use Rattle.scp_ledger.specs.Takes.{Takes, adds_entry};
 
 use crate::journal::Fate;
@@ -14,7 +15,8 @@ use crate::took::Took;
 use scp_driver::Driver;
 use scp_pending::Ready;
 use scp_quorum::SaneSet;
-use scp_types::{Fault, NodeId};
+use scp_slot::SlotMachine;
+use scp_types::{Fault, NodeId, Slot};
 use std::alloc::Global;
 use std::marker::Model;
 use std::sync::Arc;
@@ -91,6 +93,20 @@ impl<D: Driver + Drop + Copy> Ledger<D> {
         ensures running { self.now.failed ≡ false → IsRunning D.level D.place self.now }
     {
         self.state.window.lowest
+    }
+
+    /// The machine of an undecided slot that had an input.
+    pub fn machine(&self, slot: Slot) -> Option<&SlotMachine<D>>
+        ensures { option_copied result ≡ machine_at self.now.machines slot.0 }
+    {
+        self.state.machines.get(&slot.0)
+    }
+
+    /// Whether the link was asked for the record of a slot.
+    pub fn was_asked(&self, link: u8, slot: Slot) -> bool
+        ensures { result ≡ is_asked self.now.asked (record { link = link; slot = slot }) }
+    {
+        self.state.was_asked(link, slot)
     }
 
     /// The journal alone, once nothing more is taken. Takes no memory.

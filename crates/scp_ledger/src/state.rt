@@ -115,7 +115,7 @@ impl<D: Driver + Drop + Copy> State<D> {
         }
     }
 
-    fn was_asked(&self, link: u8, slot: Slot) -> bool
+    pub fn was_asked(&self, link: u8, slot: Slot) -> bool
         ensures { result ≡ is_asked self.now.asked.keys (record { link = link; slot = slot }) }
     {
         self.asked.contains(&Asking { link, slot })

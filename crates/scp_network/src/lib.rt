@@ -15,4 +15,5 @@ mod network;
 mod rounds;
 mod turn;
 
+pub use linked::link_from;
 pub use network::Network;

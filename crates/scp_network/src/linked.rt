@@ -1,5 +1,6 @@
 //! Whom the nodes of a network are linked to.
 ghost use Rattle.std.specs.Prelude.{◌≡◌, ◌<◌, ◌↔◌, ℕ, length, IsTrue};
+ghost use Rattle.scp_network.specs.Rounds.{link_of};
 ghost use Rattle.scp_network.specs.Linked.{ids_of, HasOthers, IsNetwork};
 
 use scp_core::Node;
@@ -7,6 +8,17 @@ use scp_types::NodeId;
 
 /// The most nodes: one, and its seven peers.
 pub const MOST_NODES: usize = 8;
+
+/// Which link of a node comes from another, by their numbers from 1 on: the place of that one among its peers.
+pub fn link_from(from: u8, to: u8) -> u8
+    ensures { result ≡ link_of from to }
+{
+    if from < to {
+        from.saturating_sub(1)
+    } else {
+        from.saturating_sub(2)
+    }
+}
 
 /// Whether these are the ids of the nodes.
 fn are_ids(nodes: &[Node], ids: &[NodeId]) -> bool

@@ -26,5 +26,6 @@ mod state;
 mod values;
 
 pub use laws::{an_input_is_a_function, the_steps_are_a_function};
+pub use nodes::nodes_with;
 pub use nominated::Nominated;
 pub use nominator::Nominator;

@@ -10,7 +10,7 @@ use scp_quorum::QuorumSet;
 use scp_types::{Fault, NodeId, Slot};
 
 /// This node and the nodes of its set, ascending, each once.
-pub(crate) fn nodes_with(me: NodeId, set: &QuorumSet) -> Result<Vec<NodeId>, Fault>
+pub fn nodes_with(me: NodeId, set: &QuorumSet) -> Result<Vec<NodeId>, Fault>
     ensures nodes { IfOk result (λ nodes. AreInTurn me set.now nodes.items) }
     ensures only_memory { IsOkUnless result Fault.NoMemory }
 {

@@ -1,5 +1,5 @@
 //! The nominator of one slot.
-ghost use Rattle.std.specs.Prelude.{◌≡◌, ◌≢◌, ◌⊎◌, ◌↔◌, ◌<◌, ◌≤◌, ◌+◌, None, true, false, length, IfOk, IfErr, OnOk, OnErr, IsSome, is_some, IsOkUnless, IsTrue, Contains};
+ghost use Rattle.std.specs.Prelude.{◌≡◌, ◌≢◌, ◌⊎◌, ◌↔◌, ◌<◌, ◌≤◌, ◌+◌, None, true, false, length, IfOk, IfErr, OnOk, OnErr, IsSome, is_some, IsOkUnless, IsTrue, Contains, option_copied};
 ghost use Rattle.std.specs.Option.{ForSome};
 ghost use Rattle.scp_driver.specs.Driver.{IsFull};
 ghost use Rattle.scp_nominate.specs.Heard.{heard};
@@ -16,6 +16,7 @@ use scp_driver::Driver;
 use scp_envelope::SharedEnvelope;
 use scp_quorum::SaneSet;
 use scp_types::{Fault, NodeId, Slot, Value};
+use scp_vote::Board;
 use std::alloc::Global;
 use std::sync::Arc;
 
@@ -31,6 +32,10 @@ pub struct Nominator<D: Driver + Drop> {
 }
 
 impl<D: Driver + Drop> Nominator<D> {
+    ghost use Rattle.std.specs.List.Sorted.{IsStrictlySortedBy};
+    ghost use Rattle.scp_quorum.specs.NodeSet.{node_cmp};
+    ghost use Rattle.scp_types.specs.declared.names.NodeId.{NodeId};
+    ghost use Rattle.scp_nominate.specs.Turns.{Leads};
     ghost use Rattle.scp_nominate.specs.State.{IsAtRest, IsSettling, IsOwnOf};
     ghost use Rattle.scp_nominate.specs.Nomination.{nomination, driver_of, own, Advances, HasOwnLists, SaysItsLists, VotesWell, KeepsMaking, KeepsOthers, Hears, IsSound, IsPaid, Begins, first_of, ComesFrom, ComesFromHearing};
 
@@ -70,6 +75,42 @@ impl<D: Driver + Drop> Nominator<D> {
         ensures same { result.now ≡ driver_of self.now }
     {
         &self.guide.driver
+    }
+
+    /// The newest nominations that it heard, and its own.
+    pub fn board(&self) -> &Board
+        ensures { heard result.now ≡ (nomination self.now).board }
+    {
+        &self.state.board
+    }
+
+    /// The leaders of the rounds so far, ascending. Of a nominator that failed no clause says them.
+    pub fn leaders(&self) -> &[NodeId]
+        ensures leaders { IsSound D.level D.place self.now → (nomination self.now).failed ≡ false → (node : NodeId) → Contains result.now node ↔ Leads (D.place (driver_of self.now) (nomination self.now).slot) (nomination self.now).nodes (nomination self.now).rounds node }
+        ensures ascending { IsSound D.level D.place self.now → (nomination self.now).failed ≡ false → IsStrictlySortedBy node_cmp result.now }
+    {
+        self.guide.leaders.as_slice()
+    }
+
+    /// How many rounds there were.
+    pub fn rounds(&self) -> u64
+        ensures { result ≡ (nomination self.now).rounds }
+    {
+        self.rounds
+    }
+
+    /// The proposal that was kept, if any.
+    pub fn proposal(&self) -> Option<&Value>
+        ensures { option_copied result ≡ (nomination self.now).proposal }
+    {
+        self.guide.proposal.as_ref()
+    }
+
+    /// The values that are found confirmed, ascending by bytes.
+    pub fn candidates(&self) -> &[Value]
+        ensures { result.now ≡ (nomination self.now).lists.candidates }
+    {
+        self.state.lists.candidates.as_slice()
     }
 
     /// Whether a proposal was kept.

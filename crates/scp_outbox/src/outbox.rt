@@ -1,5 +1,5 @@
 //! What waits to go to one peer.
-ghost use Rattle.std.specs.Prelude.{◌≡◌, ◌≢◌, ◌∷◌, ◌++◌, [], ◌<◌, ◌↔◌, ◌==◌, length, IfOk, OnOk, OnErr, IsOk, IsTrue, IsOkUnless, Ok, Err, position, Some, None, slice_get, slice_set, MatchOption, false};
+ghost use Rattle.std.specs.Prelude.{◌≡◌, ◌≢◌, ◌∷◌, ◌++◌, [], ◌<◌, ◌↔◌, ◌==◌, length, IfOk, OnOk, OnErr, IsOk, IsTrue, IsOkUnless, Ok, Err, position, Some, None, slice_get, slice_set, MatchOption, false, ◌+◌};
 ghost use Rattle.scp_envelope.specs.Newer.{IsNewer};
 ghost use Rattle.scp_wire.specs.Boxed.{Boxed};
 ghost use Rattle.scp_outbox.specs.Outbox.{are_alike, is_nomination as is_nominating, is_statement, live_after, Puts, Gives, IsOutbox, Takes, Replaces, StatementsTake, IfMessage};
@@ -62,6 +62,13 @@ impl Outbox {
             ring: HeapCircularBuffer::with_capacity(alloc, WAITING_LIMIT)?,
             statements: HeapCircularBuffer::with_capacity(alloc, WAITING_LIMIT)?,
         })
+    }
+
+    /// How many messages wait: requests and answers, and statements.
+    pub fn len(&self) -> usize
+        ensures { result ≡ length self.now.ring + length self.now.statements }
+    {
+        self.ring.len() + self.statements.len()
     }
 
     /// Lets a message wait. It is never refused, takes no memory and waits for nobody, whether the link is live or not.

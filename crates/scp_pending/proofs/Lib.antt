@@ -34,3 +34,4 @@ pub mod Strangers
 pub mod Placed
 pub mod Fetching
 pub mod Keeping
+pub mod Foremost

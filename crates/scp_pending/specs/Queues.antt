@@ -1,6 +1,7 @@
 -- What is parked: a queue for each open connection.
-use Rattle.std.specs.Prelude.{ℕ, ◌≡◌, Bool, true, false, not, ◌&&◌, ◌||◌, nat_eq, List, [], ◌∷◌, ◌++◌, Option, Some, None, nat_lt, length, map, filter, flat_map, if◌then◌else◌}
+use Rattle.std.specs.Prelude.{ℕ, ◌≡◌, Bool, true, false, not, ◌&&◌, ◌||◌, nat_eq, List, [], ◌∷◌, ◌++◌, Option, Some, None, nat_lt, length, map, filter, flat_map, option_map, if◌then◌else◌}
 use Rattle.std.specs.List.{list_any}
+use Rattle.std.specs.Option.{option_or}
 use Rattle.scp_types.specs.declared.names.ConnId.{ConnId}
 use Rattle.scp_types.specs.declared.names.Hash.{Hash}
 use Rattle.scp_types.specs.declared.names.NodeId.{NodeId}
@@ -192,6 +193,11 @@ abbrev pub seq_of : Parked → Seq
 seq_of (Waits x) = x.seq
 seq_of (Free delivery) = delivery.seq
 seq_of (Lost x cause) = x.seq
+
+-- the first of what is parked that waits for a hash: its number, and the hash
+abbrev pub first_waiting : List Parked → Option (Seq × Hash)
+first_waiting [] = None
+first_waiting (p ∷ ps) = option_or (option_map (λ hash. (seq_of p, hash)) (waited_by p)) (first_waiting ps)
 
 abbrev pub dropped : ConnId → DropCause → Parked → Ready
 dropped c cause p = Dropped c (seq_of p) cause

@@ -5,7 +5,7 @@ ghost use Rattle.scp_wire.specs.declared.link.Inbound.{Inbound};
 ghost use Rattle.scp_fetch.specs.Store.{lookup};
 ghost use Rattle.scp_fetch.specs.Wants.{waiting_for, gives_up, without};
 ghost use Rattle.scp_fetch.specs.declared.want.Miss.{Miss};
-ghost use Rattle.scp_pending.specs.Queues.{is_of, is_open, parked_of, others, changed, with_parked, parked_in, served, leaving_of, resolved, lost_by, dropped, is_hash, is_link_open, stays_in, leaves_in, is_held, fate, waits};
+ghost use Rattle.scp_pending.specs.Queues.{is_of, is_open, parked_of, others, changed, with_parked, parked_in, served, leaving_of, resolved, lost_by, dropped, is_hash, is_link_open, stays_in, leaves_in, is_held, fate, waits, first_waiting as first_that_waits};
 ghost use Rattle.scp_pending.specs.Rules.{PendingView, Settled, fresh, rules, releases, reply, taken_in, entering as entering_with, link_number, opens, opened, closed_off, asks, brings, brought, enters, goes_through, overflows, parks, hears, heard_out, replies, answer as answer_for, is_full, wanted_with, asks_named, wanted_named};
 ghost use Rattle.scp_pending.specs.Outcome.{outcome_of, HasHash};
 ghost use Rattle.scp_quorum.specs.Sane.{IsSane};
@@ -26,11 +26,11 @@ use crate::queue::{
     is_link_open as is_link_open_in, messages_of, place_of, push_to, resolve_all, take_queue,
 };
 use crate::ready::{Delivery, DropCause, Ready};
-use scp_fetch::{Fetcher, SetStore};
+use scp_fetch::{Fetcher, SetStore, Want};
 use scp_quorum::{QuorumSet, SaneSet};
-use scp_types::{ConnId, Fault, Hash, NodeId};
+use scp_types::{ConnId, Fault, Hash, NodeId, Seq};
 use scp_wire::{Carried, Cause, Command, Inbound, Message, SideMessage, what_fits_a_link};
-use std::alloc::Global;
+use std::alloc::{AllocError, Global};
 use std::collections::VecDeque;
 use std::marker::Model;
 use std::sync::Arc;
@@ -183,6 +183,32 @@ impl Pending {
             Some(count) => ready + count,
             None => ready,
         }
+    }
+
+    /// Whether the connection is open.
+    pub fn is_open(&self, conn: &ConnId) -> bool
+        ensures { result ≡ is_open conn.now self.now.settled.queues }
+    {
+        let Some(_) = place_of(&self.parking.queues, conn) else {
+            return false;
+        };
+        true
+    }
+
+    /// The hashes that are wanted, in the order in which they became so.
+    pub fn wants(&self) -> Result<Vec<&Want>, AllocError>
+        ensures { IfOk result (λ wants. map (λ want. want.now) wants.items ≡ self.now.settled.wanted) }
+    {
+        self.parking.fetcher.wants()
+    }
+
+    /// The first message of the connection that waits for a quorum set: its number, and the hash that it waits for.
+    #[tactic(auto, using(crate::proofs::Serving::parked_shut))]
+    pub fn first_waiting(&self, conn: &ConnId) -> Option<(Seq, Hash)>
+        ensures { result ≡ first_that_waits (parked_of conn.now self.now.settled.queues) }
+    {
+        let place = place_of(&self.parking.queues, conn)?;
+        self.parking.queues[place].first_waiting()
     }
 
     /// The connections with an envelope that waits for this hash, each once, in the order of their first wait among those; none

@@ -3,7 +3,7 @@ ghost use Rattle.std.specs.Prelude.{◌≡◌, ◌+◌, ◌<◌, ◌^◌, ◌++�
 ghost use Rattle.std.specs.List.{list_any, AllByRecursion};
 ghost use Rattle.scp_wire.specs.Connections.{same_conn};
 ghost use Rattle.scp_fetch.specs.Wants.{last_missed, has_conn, waiting_for};
-ghost use Rattle.scp_pending.specs.Queues.{is_of, is_open, is_link_open as link_open, parked_of, others, parked_in, resolved, served, leaving_of, is_hash, is_empty as none_parked, is_at, is_held, fate, leaves_of, stays_of, stays_in, leaves_in, is_head_waiting as has_waiting_head, with_first, in_order_of, resolved_one, resolved_in, dropped, lost_by, with_parked};
+ghost use Rattle.scp_pending.specs.Queues.{is_of, is_open, is_link_open as link_open, parked_of, others, parked_in, resolved, served, leaving_of, is_hash, is_empty as none_parked, is_at, is_held, fate, leaves_of, stays_of, stays_in, leaves_in, is_head_waiting as has_waiting_head, with_first, in_order_of, resolved_one, resolved_in, dropped, lost_by, with_parked, first_waiting as first_that_waits};
 ghost use Rattle.scp_pending.specs.Rules.{is_given_up};
 ghost use Rattle.std.specs.List.Sorted.{IsPermutation, IsSortedByKey};
 ghost use Rattle.scp_types.specs.Order.{conn_cmp};
@@ -14,7 +14,7 @@ ghost use Rattle.scp_pending.specs.declared.parked.Parked.{Parked};
 use crate::parked::{Outcome, Parked, named};
 use crate::ready::{DropCause, Ready};
 use scp_fetch::Fetcher;
-use scp_types::{ConnId, Fault, Hash, NodeId, Slot};
+use scp_types::{ConnId, Fault, Hash, NodeId, Seq, Slot};
 use scp_wire::Carried;
 use std::alloc::Global;
 use std::collections::VecDeque;
@@ -58,6 +58,19 @@ impl Queue {
             conn,
             parked: VecDeque::new(alloc),
         }
+    }
+
+    /// The first that waits for a quorum set: its number, and the hash.
+    #[tactic(auto, using(crate::proofs::Foremost::first_passes, crate::proofs::Foremost::first_stands, crate::proofs::Foremost::first_of_none))]
+    pub(crate) fn first_waiting(&self) -> Option<(Seq, Hash)>
+        ensures { result ≡ first_that_waits self.now.parked }
+    {
+        for parked in &self.parked {
+            if let Some(hash) = parked.waited() {
+                return Some((parked.seq(), hash));
+            }
+        }
+        None
     }
 
     pub(crate) fn is_of(&self, conn: &ConnId) -> bool

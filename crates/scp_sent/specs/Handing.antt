@@ -1,5 +1,5 @@
 -- What is handed out for links, and how it reaches their outboxes (this project's profile).
-use Rattle.std.specs.Prelude.{◌≡◌, ◌⊎◌, ℕ, true, List, [], ◌∷◌, length, Option, Some, None, nat_eq, if◌then◌else◌, slice_get, slice_set}
+use Rattle.std.specs.Prelude.{◌≡◌, ◌⊎◌, ℕ, ◌+◌, true, List, [], ◌∷◌, length, Option, Some, None, nat_eq, if◌then◌else◌, slice_get, slice_set}
 use Rattle.scp_wire.specs.declared.message.Message.{Message}
 use Rattle.scp_outbox.specs.declared.mark.Out.TheVariants as out
 use Rattle.scp_wire.specs.Fitting.{IsFitting}
@@ -8,6 +8,14 @@ use Rattle.scp_outbox.specs.Outbox.{OutboxView, Puts, Gives}
 -- an outbox of a live link in which nothing waits
 abbrev pub empty_outbox : OutboxView
 empty_outbox = record { live = true; marks = []; ring = []; statements = [] }
+
+-- how many messages wait for a link; none for a link that isn't there
+abbrev pub waiting_in : Option OutboxView → ℕ
+waiting_in None = 0
+waiting_in (Some o) = length o.ring + length o.statements
+
+abbrev pub waiting_at : List OutboxView → ℕ → ℕ
+waiting_at outboxes link = waiting_in (slice_get outboxes link)
 
 -- each of these fits a link, and is put, in order
 abbrev pub PutsAll : OutboxView → List Message → OutboxView → Type 0

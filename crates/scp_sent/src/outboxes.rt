@@ -2,7 +2,7 @@
 ghost use Rattle.std.specs.Prelude.{◌≡◌, ◌<◌, length, IfOk, OnOk, IsOkUnless, IfSome, replicate};
 ghost use Rattle.scp_wire.specs.Fitting.{IsFitting};
 ghost use Rattle.scp_outbox.specs.Outbox.{Puts};
-ghost use Rattle.scp_sent.specs.Handing.{empty_outbox, HandsOut, to_link, to_each, GivesNext, GivesAt};
+ghost use Rattle.scp_sent.specs.Handing.{empty_outbox, HandsOut, to_link, to_each, GivesNext, GivesAt, waiting_at};
 ghost use Rattle.scp_sent.specs.Inside.{PutsAt};
 
 use scp_outbox::{Out, Outbox};
@@ -100,6 +100,16 @@ impl Outboxes {
         ensures { result ≡ length self.now }
     {
         self.0.len()
+    }
+
+    /// How many messages wait for a link; 0 for a link that isn't there.
+    pub fn waiting(&self, link: u8) -> usize
+        ensures { result ≡ waiting_at self.now link }
+    {
+        match self.0.get(link as usize) {
+            Some(outbox) => outbox.outbox.len(),
+            None => 0,
+        }
     }
 
     /// Puts a message for one link into that link's outbox; where there is no such link it is given up. It is never refused,

@@ -3,7 +3,9 @@ ghost use Rattle.std.specs.Prelude.{◌≡◌, ◌⊎◌, true, false, IfOk, IfE
 
 use crate::output::{SlotInput, SlotOutput};
 use crate::state::State;
+use scp_ballot::Balloter;
 use scp_driver::Driver;
+use scp_nominate::Nominator;
 use scp_quorum::SaneSet;
 use scp_types::{Fault, NodeId, Slot};
 use std::alloc::Global;
@@ -18,6 +20,8 @@ pub struct SlotMachine<D: Driver + Drop> {
 }
 
 impl<D: Driver + Drop> SlotMachine<D> {
+    ghost use Rattle.scp_nominate.specs.Nomination.{nomination, driver_of as driver_of_nominator};
+    ghost use Rattle.scp_ballot.specs.Balloting.{ballots};
     ghost use Rattle.scp_slot.specs.Slot.{slot_view, driver_of, Begins, IsRunning, IsSound, OwesNoVote, VotesWell};
     ghost use Rattle.scp_slot.specs.Takes.{Takes, Decides, IsOfSlot, NominatesExactly};
     ghost use Rattle.scp_slot.specs.Limits.{KeepsLimits};
@@ -49,6 +53,21 @@ impl<D: Driver + Drop> SlotMachine<D> {
         ensures same { result.0 ≡ (slot_view self.now).slot }
     {
         self.state.slot
+    }
+
+    /// What is nominated.
+    pub fn nominator(&self) -> &Nominator<D>
+        ensures view { nomination result.now ≡ (slot_view self.now).nomination }
+        ensures driver { driver_of_nominator result.now ≡ driver_of self.now }
+    {
+        &self.state.nominator
+    }
+
+    /// What is balloted.
+    pub fn balloter(&self) -> &Balloter
+        ensures { ballots result.now ≡ (slot_view self.now).ballots }
+    {
+        &self.state.balloter
     }
 
     /// Whether the slot is decided by this machine.
