@@ -16,4 +16,4 @@ mod texting;
 
 pub use laws::{none_is_refused, scripts_come_back};
 pub use line::{Carried, Form};
-pub use script::{RewriteError, ScriptRefusal, rewrite};
+pub use script::{RewriteError, ScriptRefusal, line_in, rewrite};

@@ -62,8 +62,8 @@ fn lines<'a>(alloc: Global, script: &'a [u8]) -> Result<Vec<&'a [u8]>, AllocErro
     script.split(|byte| *byte == b'\n').collect(alloc)
 }
 
-/// A line in this form.
-fn line_in(alloc: Global, form: Form, line: &[u8]) -> Result<Bytes, TextError>
+/// A line in this form: what it carries, in digits or as text; a line that carries nothing stays. Refused at the first word that can't be in this form, or for want of memory.
+pub fn line_in(alloc: Global, form: Form, line: &[u8]) -> Result<Bytes, TextError>
     ensures written { IfOk result (IsLineOf form line.now) }
     ensures refused { IfErr result (IsNoLineOf form line.now) }
 {

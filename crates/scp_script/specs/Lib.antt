@@ -4,3 +4,4 @@ pub mod Nodes
 pub mod Bare
 pub mod Reading
 pub mod Judging
+pub mod Reasons

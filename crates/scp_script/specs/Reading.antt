@@ -15,6 +15,12 @@ OnTrueOk (Ok true) fact = fact
 OnTrueOk (Ok false) fact = Unit {0}
 OnTrueOk (Err e) fact = Unit {0}
 
+-- the fact where the result says no
+abbrev pub OnFalseOk : {E : Type 0} → Result Bool E → Type 0 → Type 0
+OnFalseOk (Ok false) fact = fact
+OnFalseOk (Ok true) fact = Unit {0}
+OnFalseOk (Err e) fact = Unit {0}
+
 -- where the link stands in the table
 abbrev pub place : ℕ → ℕ → ℕ
 place from to = (from - 1) * 8 + (to - 1)

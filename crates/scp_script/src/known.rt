@@ -1,5 +1,5 @@
 //! What is known of a script that is being read, behind some of its commands.
-ghost use Rattle.std.specs.Prelude.{◌≡◌, ◌++◌, ◌∷◌, ◌↔◌, ◌||◌, [], List, IsTrue};
+ghost use Rattle.std.specs.Prelude.{◌≡◌, ◌++◌, ◌∷◌, ◌↔◌, ◌||◌, [], List, IsTrue, false};
 ghost use Rattle.scp_script.specs.declared.command.Command.{Command};
 ghost use Rattle.scp_script.specs.declared.command.Command.TheVariants.{Open};
 ghost use Rattle.scp_script.specs.Script.{counted, begins, Admits};
@@ -10,16 +10,16 @@ use crate::command::Command;
 use crate::links::{Link, Links};
 
 /// How often a link can be opened.
-const MOST_LIVES: u32 = 65535;
+pub const MOST_LIVES: u32 = 65535;
 
 /// What is known of a script that is being read.
 #[derive(Drop)]
 pub struct Known {
     /// How many nodes there are: none before the `nodes` line.
-    count: u8,
+    pub count: u8,
     /// Whether a line came that is neither `caps` nor `nodes` nor `set`.
-    has_begun: bool,
-    links: Links,
+    pub has_begun: bool,
+    pub links: Links,
 }
 
 impl Known {
@@ -107,11 +107,12 @@ impl Known {
         }
     }
 
-    /// Takes in a command. Whether it may stand here.
+    /// Takes in a command, and answers whether it may stand here; where it may not, nothing changes.
     pub fn take(&mut self, command: &Command) -> bool
         requires names { NamesNodes command.now }
         ensures good { (before : List Command) → Knows self.old before → (IsTrue result ↔ Admits before command.now) }
         ensures known { (before : List Command) → Knows self.old before → IsTrue result → Knows self.new (before ++ command.now ∷ []) }
+        ensures same { result ≡ false → self.new ≡ self.old }
     {
         if !self.admits(command) {
             return false;

@@ -8,6 +8,7 @@
 //! - `bytes_of` gives the bytes that a word of digits says.
 #![tactic(auto)]
 
+mod bytes;
 mod command;
 mod judging;
 mod known;
@@ -16,9 +17,14 @@ mod links;
 mod nodes;
 mod parsing;
 mod reading;
+mod reason;
+mod refusal;
 mod words;
 
+pub use bytes::odd_bytes;
 pub use command::{Capacities, Command};
 pub use nodes::{capacities_of, count_of_nodes, id_from, peers_of_node, set_of_node};
 pub use parsing::parse;
-pub use words::bytes_of;
+pub use reading::Reading;
+pub use refusal::{Expected, Refusal};
+pub use words::{bytes_of, skipped};

@@ -1,14 +1,18 @@
 //! A script that is being read.
-ghost use Rattle.std.specs.Prelude.{◌≡◌, ◌++◌, ◌∷◌, ◌↔◌, [], ℕ, List, All, IfOk, IsOkUnless, IsSomeAnd, IsTrue, map};
-ghost use Rattle.scp_script.specs.Words.{words_of};
+ghost use Rattle.std.specs.Prelude.{◌≡◌, ◌++◌, ◌∷◌, ◌↔◌, [], ℕ, List, All, None, IfOk, IsOkUnless, IsSomeAnd, IsTrue, map};
+ghost use Rattle.scp_script.specs.Words.{words_of, link_in};
+ghost use Rattle.scp_script.specs.Reasons.{link_fault_by, IsPlacedFault, IsWordFault, IsLineFault};
 ghost use Rattle.scp_script.specs.Script.{command_in, Admits};
 ghost use Rattle.scp_script.specs.Nodes.{NamesNodes};
-ghost use Rattle.scp_script.specs.Reading.{IsReading, TakesWords, OnTrueOk, Stands};
+ghost use Rattle.scp_script.specs.Reading.{IsReading, TakesWords, OnTrueOk, OnFalseOk, Stands};
 
+use crate::bytes::{blank_bytes, foreign_bytes};
 use crate::command::Command;
-use crate::known::Known;
+use crate::known::{Known, MOST_LIVES};
 use crate::line::command_from;
-use crate::words::{ascii, skipped, words};
+use crate::reason::{Verb, kinds_of, misplaced, verb_of, word_at, wrong_word};
+use crate::refusal::{Expected, Refusal};
+use crate::words::{ascii, link, skipped, words};
 use scp_types::Fault;
 use std::alloc::{AllocError, Global};
 
@@ -46,6 +50,7 @@ impl Reading {
         ensures good { IfOk result (λ good. IsTrue good ↔ Admits self.old.commands.items command) }
         ensures added { OnTrueOk result (self.new.commands.items ≡ self.old.commands.items ++ command ∷ []) }
         ensures reading { OnTrueOk result (IsReading self.new) }
+        ensures same { OnFalseOk result (self.new ≡ self.old) }
     {
         if !self.known.take(&command) {
             return Ok(false);
@@ -59,6 +64,7 @@ impl Reading {
         requires reading { IsReading self.old }
         ensures good { IfOk result (λ good. IsTrue good ↔ IsSomeAnd (command_in (map (λ word. word.now) words.now)) (Admits self.old.commands.items)) }
         ensures taken { OnTrueOk result (TakesWords self.old (map (λ word. word.now) words.now) self.new) }
+        ensures same { OnFalseOk result (self.new ≡ self.old) }
         ensures only_memory { IsOkUnless result Fault.NoMemory }
     {
         match command_from(alloc, words)? {
@@ -67,11 +73,12 @@ impl Reading {
         }
     }
 
-    /// Takes in a line. Whether it may stand here.
+    /// Takes in a line, and answers whether it may stand here; where it may not, nothing changes. The one refusal is `NoMemory`.
     pub fn read_line(&mut self, alloc: Global, line: &[u8]) -> Result<bool, Fault>
         requires reading { IsReading self.old }
         ensures good { IfOk result (λ good. IsTrue good ↔ Stands self.old.commands.items line.now) }
         ensures taken { OnTrueOk result (TakesWords self.old (words_of line.now) self.new) }
+        ensures same { OnFalseOk result (self.new ≡ self.old) }
         ensures only_memory { IsOkUnless result Fault.NoMemory }
     {
         let Some(text) = ascii(line) else {
@@ -82,5 +89,71 @@ impl Reading {
         }
         let words = words(alloc, text)?;
         self.read_words(alloc, words.as_slice())
+    }
+
+    /// Why the link of two nodes isn't one that a line with this first word may name.
+    fn no_link(&self, verb: Verb, from: &str, to: &str) -> Option<Expected>
+        requires reading { IsReading self.now }
+        ensures { result ≡ link_fault_by verb (link_in from.now to.now) self.now.commands.items }
+    {
+        let (from, to) = link(from, to)?;
+        let link = self.known.links.get(from, to);
+        match verb {
+            Verb::Open if link.is_open => Some(Expected::AClosedLink),
+            Verb::Open if link.lives >= MOST_LIVES => Some(Expected::FewerLives),
+            Verb::Close | Verb::Send if !link.is_open => Some(Expected::AnOpenLink),
+            _ => None,
+        }
+    }
+
+    /// The first bad word of a line with this first word, which stands rightly, and then its link.
+    fn bad_word(&self, alloc: Global, verb: Verb, words: &[&str]) -> Result<Option<Refusal>, Fault>
+        requires reading { IsReading self.now }
+        ensures found { IfOk result (IsPlacedFault None verb self.now.commands.items (map (λ word. word.now) words.now)) }
+        ensures only_memory { IsOkUnless result Fault.NoMemory }
+    {
+        if let Some(refusal) = wrong_word(alloc, kinds_of(verb), self.known.count, words)? {
+            return Ok(Some(refusal));
+        }
+        match self.no_link(verb, word_at(words, 1), word_at(words, 2)) {
+            Some(expected) => Ok(Some(Refusal { word: 2, expected })),
+            None => Ok(None),
+        }
+    }
+
+    /// The first bad word of a line of these words.
+    fn why_words(&self, alloc: Global, words: &[&str]) -> Result<Option<Refusal>, Fault>
+        requires reading { IsReading self.now }
+        ensures found { IfOk result (IsWordFault self.now.commands.items (map (λ word. word.now) words.now)) }
+        ensures only_memory { IsOkUnless result Fault.NoMemory }
+    {
+        let Some(verb) = verb_of(word_at(words, 0)) else {
+            let expected = Expected::AVerb;
+            return Ok(Some(Refusal { word: 1, expected }));
+        };
+        if let Some(expected) = misplaced(verb, self.known.count, self.known.has_begun) {
+            return Ok(Some(Refusal { word: 1, expected }));
+        }
+        self.bad_word(alloc, verb, words)
+    }
+
+    /// The first bad word of a line that may not stand here: by its bytes, else by what its words say from left to right, else by
+    /// its link. The one refusal is `NoMemory`.
+    pub fn why(&self, alloc: Global, line: &[u8]) -> Result<Option<Refusal>, Fault>
+        requires reading { IsReading self.now }
+        ensures found { IfOk result (IsLineFault self.now.commands.items line.now) }
+        ensures only_memory { IsOkUnless result Fault.NoMemory }
+    {
+        let Some(text) = ascii(line) else {
+            return Ok(foreign_bytes(alloc, line)?);
+        };
+        if skipped(line) {
+            return Ok(None);
+        }
+        if let Some(refusal) = blank_bytes(alloc, line)? {
+            return Ok(Some(refusal));
+        }
+        let words = words(alloc, text)?;
+        self.why_words(alloc, words.as_slice())
     }
 }

@@ -1,0 +1,7 @@
+use Rattle.std.proofs.Common.{◌≡◌, ◌+◌, drop, map}
+use Rattle.scp_script.specs.Reasons.{first_wrong, blank_in}
+use Rattle.scp_script.proofs.bytes.blank_word.Given as goal
+
+-- the first of what is left is the first of all
+abbrev pub invariant-loop-index : goal.invariant-loop-index
+invariant-loop-index l = first_wrong blank_in (l.index + 1) (map (λ w. w.now) (drop l.index l.words)) ≡ first_wrong blank_in 1 (map (λ w. w.now) l.words)

@@ -1,0 +1,5 @@
+pub mod Counting
+pub mod Sending
+pub mod Taken
+pub mod Telling
+pub mod Turning

@@ -1,0 +1,166 @@
+//! A script, line by line, in digits or as text.
+ghost use Rattle.std.specs.Prelude.{◌≡◌, ◌∷◌, ◌++◌, [], map, All, IfOk, IfErr, OnOk, if◌then◌else◌};
+ghost use Rattle.scp_text.specs.declared.refusal.TextError.TheVariants.{Refused};
+ghost use Rattle.scp_rewrite.specs.declared.line.Form.TheVariants.{Hex};
+ghost use Rattle.scp_rewrite.specs.Scripts.{lines_of, IsLineOf, IsNoLineOf};
+ghost use Rattle.scp_script.specs.Script.{AreAdmitted};
+ghost use Rattle.scp_script.specs.Nodes.{NamesNodes};
+ghost use Rattle.scp_script.specs.Reading.{IsReading};
+ghost use Rattle.scp_trace_lint.specs.declared.fault.LintFault.TheVariants.{NoMemory};
+ghost use Rattle.scp_trace_lint.specs.Lines.{IsSaid, IsBad, IsReason, IsLintFault, IsPlaced, IsTaken};
+
+use crate::fault::{BadLine, LintFault, Reason};
+use scp_rewrite::{Form, line_in};
+use scp_script::{Command, Reading, odd_bytes, skipped};
+use scp_text::{Refusal, TextError};
+use scp_wire::Bytes;
+use std::alloc::{AllocError, Global};
+
+/// The commands of a script, and the number of each one's line, from 1 on.
+#[derive(Drop)]
+pub struct Script {
+    pub commands: Vec<Command>,
+    pub lines: Vec<usize>,
+}
+
+/// The lines of a text.
+fn lines<'a>(alloc: Global, text: &'a [u8]) -> Result<Vec<&'a [u8]>, AllocError>
+    ensures { IfOk result (λ lines. map (λ line. line.now) lines.items ≡ lines_of text.entry.now) }
+{
+    text.split(|byte| *byte == b'\n').collect(alloc)
+}
+
+/// Why a line has no digits: its bytes, else a word of its text.
+fn no_digits(
+    alloc: Global,
+    before: &Reading,
+    line: &[u8],
+    refusal: Refusal,
+) -> Result<Option<Reason>, LintFault>
+    requires refused { IsNoLineOf Hex line.now (Refused refusal) }
+    ensures reason { IfOk result (IsReason before.now.commands.items line.now) }
+    ensures only_memory { IfErr result (λ e. e ≡ NoMemory) }
+{
+    match odd_bytes(alloc, line)? {
+        Some(refusal) => Ok(Some(Reason::Line(refusal))),
+        None => Ok(Some(Reason::Text(refusal))),
+    }
+}
+
+/// Why a line with these digits may not stand behind what was read.
+fn no_place(
+    alloc: Global,
+    before: &Reading,
+    line: &[u8],
+    digits: &[u8],
+) -> Result<Option<Reason>, LintFault>
+    requires reading { IsReading before.now }
+    requires digits { IsLineOf Hex line.now digits.now }
+    ensures reason { IfOk result (IsReason before.now.commands.items line.now) }
+    ensures only_memory { IfErr result (λ e. e ≡ NoMemory) }
+{
+    if let Some(refusal) = odd_bytes(alloc, line)? {
+        return Ok(Some(Reason::Line(refusal)));
+    }
+    match before.why(alloc, digits)? {
+        Some(refusal) => Ok(Some(Reason::Line(refusal))),
+        None => Ok(None),
+    }
+}
+
+/// Takes in the digits of a line. Whether it holds a command, or why it is bad.
+fn take_digits(
+    alloc: Global,
+    reading: &mut Reading,
+    line: &[u8],
+    digits: &[u8],
+) -> Result<Result<bool, Option<Reason>>, LintFault>
+    requires reading { IsReading reading.old }
+    requires digits { IsLineOf Hex line.now digits.now }
+    ensures taken { IfOk result (λ r. IfOk r (λ holds. IsTaken reading.old line.now holds reading.new)) }
+    ensures bad { IfOk result (λ r. IfErr r (λ reason. IsBad reading.old.commands.items line.now)) }
+    ensures reason { IfOk result (λ r. IfErr r (λ reason. IsReason reading.old.commands.items line.now reason)) }
+    ensures only_memory { IfErr result (λ e. e ≡ NoMemory) }
+{
+    if reading.read_line(alloc, digits)? {
+        return Ok(Ok(!skipped(digits)));
+    }
+    Ok(Err(no_place(alloc, reading, line, digits)?))
+}
+
+/// Takes in a line. Whether it holds a command, or why it is bad.
+fn take_line(
+    alloc: Global,
+    reading: &mut Reading,
+    line: &[u8],
+) -> Result<Result<bool, Option<Reason>>, LintFault>
+    requires reading { IsReading reading.old }
+    ensures taken { IfOk result (λ r. IfOk r (λ holds. IsTaken reading.old line.now holds reading.new)) }
+    ensures bad { IfOk result (λ r. IfErr r (λ reason. IsBad reading.old.commands.items line.now)) }
+    ensures reason { IfOk result (λ r. IfErr r (λ reason. IsReason reading.old.commands.items line.now reason)) }
+    ensures only_memory { IfErr result (λ e. e ≡ NoMemory) }
+{
+    match line_in(alloc, Form::Hex, line) {
+        Ok(digits) => take_digits(alloc, reading, line, digits.as_slice()),
+        Err(TextError::NoMemory) => Err(LintFault::NoMemory),
+        Err(TextError::Refused(refusal)) => { Ok(Err(no_digits(alloc, reading, line, refusal)?)) }
+    }
+}
+
+/// Takes in the line of this number, from 1 on, and answers whether it holds a command; or tells why it is bad.
+fn take_placed(
+    alloc: Global,
+    reading: &mut Reading,
+    line: &[u8],
+    number: usize,
+) -> Result<bool, LintFault>
+    requires reading { IsReading reading.old }
+    ensures taken { IfOk result (λ holds. IsTaken reading.old line.now holds reading.new) }
+    ensures refused { IfErr result (IsPlaced reading.old.commands.items line.now number) }
+{
+    match take_line(alloc, reading, line)? {
+        Ok(holds) => Ok(holds),
+        Err(reason) => Err(LintFault::Bad(BadLine {
+            line: number,
+            reason,
+        })),
+    }
+}
+
+/// Adds a line's number, where the line holds a command.
+fn note(numbers: &mut Vec<usize>, holds: bool, number: usize) -> Result<(), AllocError>
+    ensures { OnOk result (numbers.new.items ≡ (if holds then numbers.old.items ++ number ∷ [] else numbers.old.items)) }
+{
+    if holds {
+        numbers.push(number)?;
+    }
+    Ok(())
+}
+
+/// Reads a script: its commands, in their order, or its first bad line. It takes time in proportion to the text.
+#[tactic(auto, using(crate::proofs::Taken::nothing_taken, crate::proofs::Taken::all_said, crate::proofs::Taken::all_named, crate::proofs::Taken::all_admitted))]
+pub fn read(alloc: Global, text: &[u8]) -> Result<Script, LintFault>
+    // No line is bad, and these are the commands and their lines.
+    ensures said { IfOk result (λ script. IsSaid text.now script.commands.items script.lines.items) }
+    // Each names nodes from 1 to 8, and may stand behind those before it.
+    ensures nodes { IfOk result (λ script. All NamesNodes script.commands.items) }
+    ensures admitted { IfOk result (λ script. AreAdmitted [] script.commands.items) }
+    // Memory ran out, or a line is the first bad one.
+    ensures cause { IfErr result (IsLintFault text.now) }
+{
+    let mut reading = Reading::new(alloc);
+    let mut numbers = Vec::new(alloc);
+    let lines = lines(alloc, text)?;
+    for (index, line) in lines.iter().enumerate() {
+        let holds = match take_placed(alloc, &mut reading, *line, index + 1) {
+            Ok(holds) => holds,
+            Err(fault) => return Err(fault),
+        };
+        note(&mut numbers, holds, index + 1)?;
+    }
+    let commands = reading.into_commands();
+    Ok(Script {
+        commands,
+        lines: numbers,
+    })
+}

@@ -1,0 +1,139 @@
+//! The lines that tell a warning or a bad line.
+ghost use Rattle.std.specs.Prelude.{◌≡◌, ◌++◌, IfOk, IsOkUnless, codes, string_bytes, Some};
+ghost use Rattle.std.specs.Fmt.{decimal};
+ghost use Rattle.scp_trace_lint.specs.Texts.{word_of as place_of, warning_text, warnings_text, IsReasonText, IsBadText};
+
+use crate::fault::{BadLine, Reason};
+use crate::warning::Warning;
+use scp_text::Term;
+use scp_types::{Fault, NodeId};
+use std::alloc::{AllocError, Global};
+
+/// What was expected at the word of a bad line, in words.
+fn expected(alloc: Global, reason: Reason) -> Result<String, AllocError> {
+    match reason {
+        Reason::Line(refusal) => refusal.expected.text(alloc),
+        Reason::Text(refusal) => refusal.expected.text().to_string(alloc),
+    }
+}
+
+/// The word of a bad line, from 1 on.
+fn word(reason: Reason) -> usize
+    ensures { result ≡ place_of reason }
+{
+    match reason {
+        Reason::Line(refusal) => refusal.word,
+        Reason::Text(refusal) => refusal.word,
+    }
+}
+
+/// The line that tells a bad word, and what was expected there.
+fn line_of_word(
+    alloc: Global,
+    line: usize,
+    word: usize,
+    expected: &str,
+) -> Result<String, AllocError>
+    ensures { IfOk result (λ text. string_bytes text ≡ codes "fault 12 line " ++ decimal line ++ codes " at " ++ decimal word ++ codes ": " ++ expected.now ++ codes "\n") }
+{
+    let mut text = format!(in alloc; "fault 12 line {line} at {word}: ")?;
+    text.push_str(expected)?;
+    text.push_str("\n")?;
+    Ok(text)
+}
+
+/// The line that tells a reason.
+fn line_of_reason(alloc: Global, line: usize, reason: Reason) -> Result<String, AllocError>
+    ensures { IfOk result (λ text. IsReasonText line (Some reason) (string_bytes text)) }
+{
+    let expected = expected(alloc, reason)?;
+    line_of_word(alloc, line, word(reason), expected.as_str())
+}
+
+/// The line that tells the first bad line of a script.
+pub fn line_of_fault(alloc: Global, bad: BadLine) -> Result<String, AllocError>
+    ensures { IfOk result (λ text. IsBadText bad (string_bytes text)) }
+{
+    let line = bad.line;
+    match bad.reason {
+        Some(reason) => line_of_reason(alloc, line, reason),
+        None => format!(in alloc; "fault 12 line {line}\n"),
+    }
+}
+
+/// The line that warns of a line in these words.
+fn of_line(alloc: Global, line: usize, words: &str) -> Result<String, AllocError>
+    ensures { IfOk result (λ text. string_bytes text ≡ codes "warn line " ++ decimal line ++ words.now) }
+{
+    let mut text = format!(in alloc; "warn line {line}")?;
+    text.push_str(words)?;
+    Ok(text)
+}
+
+/// The line that tells where bytes spell no message.
+fn malformed(alloc: Global, line: usize, place: usize) -> Result<String, AllocError>
+    ensures { IfOk result (λ text. string_bytes text ≡ codes "warn line " ++ decimal line ++ codes " malformed at " ++ decimal place ++ codes "\n") }
+{
+    let mut text = format!(in alloc; "warn line {line} malformed at {place}")?;
+    text.push_str("\n")?;
+    Ok(text)
+}
+
+/// The line that tells a link that the script drives.
+fn driven(alloc: Global, line: usize, from: u8, to: u8) -> Result<String, AllocError>
+    ensures { IfOk result (λ text. string_bytes text ≡ codes "warn line " ++ decimal line ++ codes " driven " ++ decimal from ++ codes " " ++ decimal to ++ codes "\n") }
+{
+    let mut text = format!(in alloc; "warn line {line} driven {from} {to}")?;
+    text.push_str("\n")?;
+    Ok(text)
+}
+
+/// The line that tells a link that is missing.
+fn unopened(alloc: Global, from: u8, to: u8) -> Result<String, AllocError>
+    ensures { IfOk result (λ text. string_bytes text ≡ codes "warn unopened " ++ decimal from ++ codes " " ++ decimal to ++ codes "\n") }
+{
+    let mut text = format!(in alloc; "warn unopened {from} {to}")?;
+    text.push_str("\n")?;
+    Ok(text)
+}
+
+/// The line that tells a slot that no proposer leads.
+fn unled(alloc: Global, line: usize, slot: u64, leader: &NodeId) -> Result<String, Fault>
+    ensures text { IfOk result (λ text. string_bytes text ≡ warning_text (Warning.Unled line slot leader.now)) }
+    ensures only_memory { IsOkUnless result Fault.NoMemory }
+{
+    let mut text = format!(in alloc; "warn line {line} unled {slot} leader ")?;
+    leader.write(&mut text)?;
+    text.push_str("\n")?;
+    Ok(text)
+}
+
+/// The line that tells a warning.
+fn text_of(alloc: Global, warning: &Warning) -> Result<String, Fault>
+    ensures text { IfOk result (λ text. string_bytes text ≡ warning_text warning.now) }
+    ensures only_memory { IsOkUnless result Fault.NoMemory }
+{
+    match warning {
+        Warning::Malformed { line, place } => Ok(malformed(alloc, *line, *place)?),
+        Warning::TooLong { line } => Ok(of_line(alloc, *line, " too-long\n")?),
+        Warning::Driven { line, from, to } => Ok(driven(alloc, *line, *from, *to)?),
+        Warning::BadValue { line } => Ok(of_line(alloc, *line, " bad-value\n")?),
+        Warning::Unled { line, slot, leader } => unled(alloc, *line, *slot, leader),
+        Warning::Unsettled { line } => Ok(of_line(alloc, *line, " unsettled\n")?),
+        Warning::Unopened { from, to } => Ok(unopened(alloc, *from, *to)?),
+        Warning::Unreported => Ok("warn unreported\n".to_string(alloc)?),
+    }
+}
+
+/// The lines that tell the warnings of a script.
+pub fn text_of_warnings(alloc: Global, warnings: &[Warning]) -> Result<String, Fault>
+    ensures text { IfOk result (λ text. string_bytes text ≡ warnings_text warnings.now) }
+    ensures only_memory { IsOkUnless result Fault.NoMemory }
+{
+    let mut out = String::new(alloc);
+    for warning in warnings {
+        let text = text_of(alloc, warning)?;
+        out.push_str(text.as_str())?;
+    }
+    Ok(out)
+}
