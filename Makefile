@@ -7,7 +7,7 @@ SCRIPT ?= examples/four_nodes.scp
 run:
 	@scripts/run
 
-# leaves the programs unproved as out/unproved/scp_line, scp_text and scp_slot, in a minute or two for each
+# leaves the programs unproved as out/unproved/scp_line, scp_text, scp_slot and scp_trace, in a minute or two for each
 quick:
 	@scripts/quick
 

@@ -15,7 +15,7 @@ use Rattle.scp_script.specs.declared.command.Command.TheVariants as script
 use Rattle.scp_script.specs.Script.{node_count, is_open, lives, IsNode, IsLink, Admits, AreAdmitted}
 use Rattle.scp_line.specs.Play.{HasNoRoom, event_by}
 use Rattle.scp_line.proofs.Places.{of_map}
-use Rattle.scp_line.proofs.Tails.{tail_at, tails, tail_said}
+use Rattle.scp_line.specs.Links.{AreLinked, tail_at, tail_said}
 use Rattle.scp_script.proofs.Admitted.{open_is_link}
 
 -- ---- one node
@@ -190,10 +190,6 @@ full_at v w e s = subst (λ (u : NodeView). IsFullAt u e) (sym s.2) (full_before
 abbrev pub IsReadyFor : Nodes → Option (ℕ × Event) → Type 0
 IsReadyFor nodes None = Unit {0}
 IsReadyFor nodes (Some offered) = (1 ≤ offered.0) × (offered.0 ≤ length nodes) × ((v : NodeView) → slice_get nodes (offered.0 - 1) ≡ Some v → IsReady v offered.1)
-
--- the links are open, and were opened as often, as the lines say
-abbrev pub AreLinked : List Command → Nodes → Type 0
-AreLinked done nodes = (from to : ℕ) → 1 ≤ from → from ≤ length nodes → 1 ≤ to → to ≤ length nodes → from ≢ to → (v : NodeView) → slice_get nodes (to - 1) ≡ Some v → slice_get (tails v) (link_of from to) ≡ Some (tail_said from to done)
 
 record LinkIs (v : NodeView) (from to : ℕ) (done : List Command) : Type 0 where
   pub k : LinkView

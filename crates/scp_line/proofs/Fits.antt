@@ -246,11 +246,17 @@ or_fits : (o : Option Capacities) → IfSome o RoomFits → RoomFits (unwrap_or 
 or_fits None fits = ((omega arith, omega arith), (omega arith, omega arith), (omega arith, omega arith), (omega arith, omega arith))
 or_fits (Some c) fits = fits
 
--- what a script says of its queues is in range
+-- what lines say of their queues is in range
+room_fits : (lines : List (List ℕ)) → RoomFits (capacities_in (commands_of lines))
+room_fits lines =
+    let given = flat_map capacities_given (commands_of lines) in
+    or_fits (last_or None given) (last_fits None given tt (all_given_fit (commands_of lines) (lines_fit lines)))
+
+pub lines_have_room : (lines : List (List ℕ)) → HaveRoom (commands_of lines)
+lines_have_room lines = room_fits lines
+
 pub script_fits : (script : List ℕ) (commands : List Command) → commands ≡ commands_in script → RoomFits (capacities_in commands)
-script_fits script commands same =
-    let given = flat_map capacities_given (commands_in script) in
-    rw same (or_fits (last_or None given) (last_fits None given tt (all_given_fit (commands_in script) (lines_fit (lines_of script)))))
+script_fits script commands same = rw same (room_fits (lines_of script))
 
 pub script_has_room : (script : List ℕ) (commands : List Command) → commands ≡ commands_in script → HaveRoom commands
 script_has_room script commands same = script_fits script commands same

@@ -18,13 +18,14 @@ use Rattle.scp_script.specs.declared.command.Command.TheVariants as script
 use Rattle.scp_script.specs.Script.{node_count}
 use Rattle.scp_script.specs.Nodes.{NamesNodes, IsSmall}
 use Rattle.scp_line.specs.declared.playing.PlayFault.{PlayFault}
-use Rattle.scp_line.specs.Play.{Answers, IsOffered, HearsBy, Hears, Played, ArePlayed, BreaksBy, LineBreaks, HasNoRoom, driven_in, event_by}
-use Rattle.scp_line.specs.Nodes.{brings_to_rest, IsMissed, Offers, Settles, Tries, GivesUp, ActsAgain, Acts, IsStopped}
+use Rattle.scp_line.specs.Play.{Answers, IsOffered, HearsBy, Hears, Played, ArePlayed, BreaksBy, LineBreaks, HasNoRoom, config_of, driven_in, event_by}
+use Rattle.scp_line.specs.Nodes.{AreWho, brings_to_rest, IsMissed, Offers, Settles, Tries, GivesUp, ActsAgain, Acts, IsStopped, IsStoppedAt}
 use Rattle.scp_line.proofs.Places.{set_here, get_set}
-use Rattle.scp_line.proofs.Tails.{tails, tail_by, tail_on, tail_said, said_more, accepted_tail}
-use Rattle.scp_line.proofs.Staying.{AllStay, heard_stays, rests_stay}
+use Rattle.scp_line.specs.Links.{AreLinked, tails, tail_said}
+use Rattle.scp_line.proofs.Tails.{tail_by, tail_on, said_more, accepted_tail}
+use Rattle.scp_line.proofs.Staying.{AllStay, accepted_config, heard_stays, rests_stay}
 use Rattle.scp_line.proofs.Standing.{StandsAt, stands_admitted, stands_named, stands_before, stands_count, few_nodes}
-use Rattle.scp_line.proofs.Answering.{IsTaken, IsReadyFor, AreLinked, ready_for, ready_says, neither, has_no_room}
+use Rattle.scp_line.proofs.Answering.{IsTaken, IsReadyFor, ready_for, ready_says, neither, has_no_room}
 
 -- ---- what was heard, one after the other
 
@@ -149,6 +150,7 @@ pub record Moment (commands done : List Command) (network : NetworkView) : Type 
   pub count : length network.nodes ≡ node_count commands
   pub driven : network.driven ≡ driven_in commands
   pub run : AllRun network.nodes
+  pub who : AreWho commands network.nodes
   pub linked : AreLinked done network.nodes
 
 linked_stay : (done : List Command) (old new : Nodes) → AllStay old new → AllRun new → AreLinked done old → AreLinked done new
@@ -156,11 +158,26 @@ linked_stay done old new stay run linked = λ from to f fn t tn apart w at.
     let was = stay.each (to - 1) w at (run (to - 1) w at) in
     ap (λ (ts : List Tail). slice_get ts (link_of from to)) was.2.1 ∙ linked from to f (omega (arith, fn, stay.count)) t (omega (arith, tn, stay.count)) apart was.0 was.1
 
+who_stay : (commands : List Command) (old new : Nodes) → AllStay old new → AllRun new → AreWho commands old → AreWho commands new
+who_stay commands old new stay run who = λ i w at.
+    let was = stay.each i w at (run i w at) in
+    was.2.2 ∙ who i was.0 was.1
+
+who_accepted : (commands : List Command) (old new : Nodes) (number : ℕ) (e : Event) → IsHeard old (record { node = number; event = e; reply = Accepted }) new → AreWho commands old → AreWho commands new
+who_accepted commands old new number e s who = λ i w at.
+    ⊎_elim
+    (λ here.
+    let there : slice_get old i ≡ Some s.before = subst (λ (k : ℕ). slice_get old k ≡ Some s.before) (sym here.0) s.was in
+    subst (λ (u : NodeView). u.config ≡ config_of commands (i + 1)) here.1 (accepted_config s.before s.after' e s.step.1 ∙ who i s.before there))
+    (λ there. who i w there.1)
+    (get_set old s.place s.after' i w (subst (λ (n : Nodes). slice_get n i ≡ Some w) s.is at))
+
 moment_settled : (commands done : List Command) (old new : NetworkView) → Moment commands done old → Settles old new (Ok tt) → Moment commands done new
 moment_settled commands done old new m s = record {
   count = s.0.count ∙ m.count;
   driven = s.2 ∙ m.driven;
   run = s.1;
+  who = who_stay commands old.nodes new.nodes (rests_stay old.driven (length old.nodes) old.nodes s.0.heard new.nodes s.0.is) s.1 m.who;
   linked = linked_stay done old.nodes new.nodes (rests_stay old.driven (length old.nodes) old.nodes s.0.heard new.nodes s.0.is) s.1 m.linked;
 }
 
@@ -209,6 +226,7 @@ moment_full commands done command number old new m o =
       count = o.2.count ∙ m.count;
       driven = o.3 ∙ m.driven;
       run = run;
+      who = who_stay commands old.nodes new.nodes (heard_stays old.nodes new.nodes h (λ e. absurd cc) o.2.is.1) run m.who;
       linked = linked_stay done old.nodes new.nodes (heard_stays old.nodes new.nodes h (λ e. absurd cc) o.2.is.1) run m.linked;
     }
 
@@ -258,6 +276,7 @@ done_rest commands done command old new s m rest settles =
         count = settled.count;
         driven = settled.driven;
         run = settled.run;
+        who = settled.who;
         linked = linked_on done command new.nodes (rest_is_no_event command rest) (stands_named commands done command s) settled.linked;
       };
       hear = hear_as old.nodes new.nodes (Rests old.driven (length old.nodes)) (Hears (driven_in commands) (node_count commands) command)
@@ -277,7 +296,7 @@ not_missed network (Some offered) ready missed = ⊎_elim (λ e. absurd (omega (
 none_offered : (commands done : List Command) (command : Command) (old new : NetworkView) → StandsAt commands done command → Moment commands done old → Offers old command None new → event_by command ≡ None
 none_offered commands done command old new s m o = not_missed old (event_by command) (stands_ready commands done command old s m) o.1
 
-done_nothing : (commands done : List Command) (command : Command) (old new : NetworkView) → StandsAt commands done command → Moment commands done old → brings_to_rest command ≡ false → Offers old command None new → IsDone commands done command old new
+pub done_nothing : (commands done : List Command) (command : Command) (old new : NetworkView) → StandsAt commands done command → Moment commands done old → brings_to_rest command ≡ false → Offers old command None new → IsDone commands done command old new
 done_nothing commands done command old new s m rest o =
     let none = none_offered commands done command old new s m o in
     let nodes : new.nodes ≡ old.nodes = ap (λ (n : NetworkView). n.nodes) o.0 in
@@ -286,6 +305,7 @@ done_nothing commands done command old new s m rest o =
         count = m.count;
         driven = m.driven;
         run = m.run;
+        who = m.who;
         linked = linked_on done command old.nodes none (stands_named commands done command s) m.linked;
       });
       hear = hear_nothing old.nodes new.nodes (Hears (driven_in commands) (node_count commands) command) nodes
@@ -298,6 +318,7 @@ moment_accepted commands done command number old new s m o = record {
   count = o.2.count ∙ m.count;
   driven = o.3 ∙ m.driven;
   run = heard_runs old.nodes new.nodes (record { node = number; event = o.0; reply = Accepted }) tt o.2.is.1 m.run;
+  who = who_accepted commands old.nodes new.nodes number o.0 o.2.is.1 m.who;
   linked = linked_more done command old.nodes new.nodes number o.0 o.1 (stands_named commands done command s) o.2.is.1 o.2.count m.linked;
 }
 
@@ -388,7 +409,7 @@ failed_is_small commands nodes number names count failed =
     let few = few_nodes commands names in
     (failed.1, omega (arith, within, few, count, failed.1))
 
-pub stops_at : (commands done : List Command) (command : Command) (heard : List Heard) (old new : NetworkView) (e : PlayFault) → StandsAt commands done command → ArePlayed commands done heard old.nodes → length old.nodes ≡ node_count commands → e.fault ≡ failing → Hear old.nodes new.nodes (LineBreaks (driven_in commands) (node_count commands) e.node command) → HasFailed new.nodes e.node → IsStopped commands e
+pub stops_at : (commands done : List Command) (command : Command) (heard : List Heard) (old new : NetworkView) (e : PlayFault) → StandsAt commands done command → ArePlayed commands done heard old.nodes → length old.nodes ≡ node_count commands → e.fault ≡ failing → Hear old.nodes new.nodes (LineBreaks (driven_in commands) (node_count commands) e.node command) → HasFailed new.nodes e.node → IsStoppedAt commands done e
 stops_at commands done command heard old new e s played count fault hear failed = inr (inl (
   fault,
   failed_is_small commands new.nodes e.node s.names (hear.count ∙ count) failed,
@@ -405,16 +426,17 @@ stops_at commands done command heard old new e s played count fault hear failed 
     breaks = hear.is;
     have = hear.have heard played.have;
   },
+  refl,
 ))
 
-stops_settling : (commands done : List Command) (command : Command) (heard : List Heard) (old new : NetworkView) (e : PlayFault) → StandsAt commands done command → ArePlayed commands done heard old.nodes → Moment commands done old → brings_to_rest command ≡ true → Settles old new (Err e) → IsStopped commands e
+stops_settling : (commands done : List Command) (command : Command) (heard : List Heard) (old new : NetworkView) (e : PlayFault) → StandsAt commands done command → ArePlayed commands done heard old.nodes → Moment commands done old → brings_to_rest command ≡ true → Settles old new (Err e) → IsStoppedAt commands done e
 stops_settling commands done command heard old new e s played m rest settles =
     stops_at commands done command heard old new e s played m.count settles.0
     (hear_as old.nodes new.nodes (Breaks old.driven (length old.nodes) e.node) (LineBreaks (driven_in commands) (node_count commands) e.node command)
     (λ x b. breaks_resting (driven_in commands) (node_count commands) e.node command rest old.nodes x new.nodes (breaks_as commands done old e.node m old.nodes x new.nodes b)) settles.1)
     settles.1.is.3
 
-stops_behind : (commands done : List Command) (command : Command) (heard : List Heard) (first : ℕ) (old mid new : NetworkView) (e : PlayFault) → StandsAt commands done command → ArePlayed commands done heard old.nodes → Moment commands done old → brings_to_rest command ≡ false → Offers old command (Some (first, Full)) mid → Settles mid new (Err e) → IsStopped commands e
+stops_behind : (commands done : List Command) (command : Command) (heard : List Heard) (first : ℕ) (old mid new : NetworkView) (e : PlayFault) → StandsAt commands done command → ArePlayed commands done heard old.nodes → Moment commands done old → brings_to_rest command ≡ false → Offers old command (Some (first, Full)) mid → Settles mid new (Err e) → IsStoppedAt commands done e
 stops_behind commands done command heard first old mid new e s played m rest o settles =
     let m2 = moment_full commands done command first old mid m o in
     let breaks = Breaks (driven_in commands) (node_count commands) e.node in
@@ -442,7 +464,7 @@ full_after command number old new o =
     let at : slice_get new.nodes step.place ≡ Some step.after' = subst (λ (n : Nodes). slice_get n step.place ≡ Some step.after') (sym step.is) (set_here old.nodes step.place step.before step.after' step.was) in
     has_no_room new.nodes command number o.0 step.before step.after' o.1 (subst (λ (k : ℕ). slice_get new.nodes k ≡ Some step.after') place at) step.step
 
-overflows : (commands done : List Command) (command : Command) (heard : List Heard) (first second : ℕ) (old mid rested new : NetworkView) (e : PlayFault) → StandsAt commands done command → ArePlayed commands done heard old.nodes → Moment commands done old → Offers old command (Some (first, Full)) mid → Settles mid rested (Ok tt) → Offers rested command (Some (second, Full)) new → e.fault ≡ full → e.node ≡ 0 → IsStopped commands e
+overflows : (commands done : List Command) (command : Command) (heard : List Heard) (first second : ℕ) (old mid rested new : NetworkView) (e : PlayFault) → StandsAt commands done command → ArePlayed commands done heard old.nodes → Moment commands done old → Offers old command (Some (first, Full)) mid → Settles mid rested (Ok tt) → Offers rested command (Some (second, Full)) new → e.fault ≡ full → e.node ≡ 0 → IsStoppedAt commands done e
 overflows commands done command heard first second old mid rested new e s played m o settles p fault none =
     let hear = hear_again commands done command Full first second old mid rested new (moment_full commands done command first old mid m o) o settles p in
     inr (inr (
@@ -464,13 +486,14 @@ overflows commands done command heard first second old mid rested new e s played
         have = hear.have heard played.have;
         full = full_after command second rested new p;
       },
+      refl,
     ))
 
-pub line_stops : (commands done : List Command) (command : Command) (heard : List Heard) (old new : NetworkView) (e : PlayFault) → StandsAt commands done command → ArePlayed commands done heard old.nodes → Moment commands done old → Acts old command new (Err e) → IsStopped commands e
+pub line_stops : (commands done : List Command) (command : Command) (heard : List Heard) (old new : NetworkView) (e : PlayFault) → StandsAt commands done command → ArePlayed commands done heard old.nodes → Moment commands done old → Acts old command new (Err e) → IsStoppedAt commands done e
 line_stops commands done command heard old new e s played m (inl r) = stops_settling commands done command heard old new e s played m r.0 r.1
 line_stops commands done command heard old new e s played m (inr t) = tried t.1
   where
-    again : (first : ℕ) (mid rested : NetworkView) → Offers old command (Some (first, Full)) mid → Settles mid rested (Ok tt) → Tries GivesUp rested command new (Err e) → IsStopped commands e
+    again : (first : ℕ) (mid rested : NetworkView) → Offers old command (Some (first, Full)) mid → Settles mid rested (Ok tt) → Tries GivesUp rested command new (Err e) → IsStoppedAt commands done e
     again first mid rested o settles (inl want) = inl want
     again first mid rested o settles (inr (inl p)) =
         let m2 = moment_full commands done command first old mid m o in
@@ -478,11 +501,17 @@ line_stops commands done command heard old new e s played m (inr t) = tried t.1
         absurd (neither p.0 (answer_is commands done command e.node p.0 rested new s m3 p.3) p.1 p.2)
     again first mid rested o settles (inr (inr p)) = overflows commands done command heard first p.0 old mid rested p.1 e s played m o settles p.2 p.3.1 p.3.2
 
-    acted : (first : ℕ) (mid : NetworkView) → Offers old command (Some (first, Full)) mid → ActsAgain mid command new (Err e) → IsStopped commands e
-    acted first mid o (inl f) = subst (λ (g : PlayFault). IsStopped commands g) (same_fault e f.0 f.1) (stops_behind commands done command heard first old mid new f.0 s played m t.0 o f.2)
+    acted : (first : ℕ) (mid : NetworkView) → Offers old command (Some (first, Full)) mid → ActsAgain mid command new (Err e) → IsStoppedAt commands done e
+    acted first mid o (inl f) = subst (λ (g : PlayFault). IsStoppedAt commands done g) (same_fault e f.0 f.1) (stops_behind commands done command heard first old mid new f.0 s played m t.0 o f.2)
     acted first mid o (inr a) = again first mid a.0 o a.1 a.2
 
-    tried : Tries (λ mid last result. ActsAgain mid command last result) old command new (Err e) → IsStopped commands e
+    tried : Tries (λ mid last result. ActsAgain mid command last result) old command new (Err e) → IsStoppedAt commands done e
     tried (inl want) = inl want
     tried (inr (inl p)) = absurd (neither p.0 (answer_is commands done command e.node p.0 old new s m p.3) p.1 p.2)
     tried (inr (inr p)) = acted p.0 p.1 p.2 p.3
+
+-- at whatever line it was
+pub stopped_somewhere : (commands done : List Command) (e : PlayFault) → IsStoppedAt commands done e → IsStopped commands e
+stopped_somewhere commands done e (inl want) = inl want
+stopped_somewhere commands done e (inr (inl s)) = inr (inl (s.0, s.1, s.2))
+stopped_somewhere commands done e (inr (inr s)) = inr (inr (s.0, s.1, s.2))

@@ -16,7 +16,7 @@ use Rattle.scp_script.specs.Script.{node_count}
 use Rattle.scp_line.specs.Play.{IsNew, AreNew, ArePlayed, config_of}
 use Rattle.scp_line.specs.Nodes.{AreMade}
 use Rattle.scp_line.proofs.Places.{map_at, of_all}
-use Rattle.scp_line.proofs.Tails.{tail_at, tails, tail_said}
+use Rattle.scp_line.specs.Links.{tail_at, tails, tail_said}
 use Rattle.scp_line.proofs.Standing.{link_within}
 use Rattle.scp_line.proofs.Peers.{peer_count}
 use Rattle.scp_line.proofs.Lines.{Moment}
@@ -58,6 +58,7 @@ first_moment commands network are = record {
   count = are.nodes.count;
   driven = are.driven;
   run = λ i v at. (made_now commands (i + 1) v (new_at commands network.nodes i v are.nodes at)).runs;
+  who = λ i v at. (new_at commands network.nodes i v are.nodes at).config;
   linked = λ from to f fn t tn apart v at.
       let number : to - 1 + 1 ≡ to = omega (arith, t) in
       new_linked commands from to v f (omega (arith, fn, are.nodes.count)) t (omega (arith, tn, are.nodes.count)) apart

@@ -1,8 +1,9 @@
 -- A script's lines, from the first on.
-use Rattle.std.proofs.Common.{◌≡◌, ◌<◌, ◌+◌, ℕ, suc, List, [], ◌∷◌, ◌++◌, take, drop, length, get_or, sym, ◌∙◌, ap, subst, drop-cons, arith}
+use Rattle.std.proofs.Common.{◌≡◌, ◌<◌, ◌+◌, ℕ, suc, List, [], ◌∷◌, ◌++◌, take, drop, length, get_or, Option, refl, sym, ◌∙◌, ap, subst, drop-cons, arith}
 use Rattle.std.specs.Prelude.{Ok, Err, All, flat_map}
 use Rattle.std.proofs.Math.Seq.{take-length}
 use Rattle.std.proofs.lemmas.List.{take_more, take-append-drop}
+use Rattle.scp_core.specs.declared.event.Event.{Event}
 use Rattle.scp_core.specs.Ledger.{TheoremGivesLedger}
 use Rattle.scp_network.specs.Heard.{Heard, past_at}
 use Rattle.scp_network.specs.Inside.{NetworkView}
@@ -10,10 +11,11 @@ use Rattle.scp_script.specs.declared.command.Command.{Command}
 use Rattle.scp_script.specs.Script.{AreAdmitted, commands_in}
 use Rattle.scp_script.specs.Nodes.{NamesNodes, reports_in}
 use Rattle.scp_line.specs.declared.playing.PlayFault.{PlayFault}
-use Rattle.scp_line.specs.Play.{ArePlayed, AreReports, driven_in, report_at}
-use Rattle.scp_line.specs.Nodes.{AreMade, Acts, IsPlayed, IsStopped}
+use Rattle.scp_line.specs.Play.{ArePlayed, AreReports, driven_in, event_by, report_at}
+use Rattle.scp_line.specs.Nodes.{AreMade, HasPlayed, IsMissed, Acts, IsPlayed, IsStopped}
+use Rattle.scp_line.specs.Laws.{NothingIsPlayed, LineIsPlayed, QuietLineIsPlayed, LineIsStopped}
 use Rattle.scp_line.proofs.Standing.{StandsAt, few_nodes}
-use Rattle.scp_line.proofs.Lines.{Moment, IsDone, line_done, line_stops, played_more}
+use Rattle.scp_line.proofs.Lines.{Moment, IsDone, done_nothing, line_done, line_stops, stopped_somewhere, played_more}
 use Rattle.scp_line.proofs.Making.{first_moment, nothing_played}
 
 -- so many of a script's lines were played
@@ -51,7 +53,7 @@ line_played commands i command old new lt is names admitted p a =
     (one_more commands (take i commands) command old new p (line_done commands (take i commands) command old new (stands commands i command lt is names admitted) p.moment a))
 
 pub line_stopped : (commands : List Command) (i : ℕ) (command : Command) (old new : NetworkView) (e : PlayFault) → i < length commands → command ≡ get_or commands i command → All NamesNodes commands → AreAdmitted [] commands → Plays commands (take i commands) old → Acts old command new (Err e) → IsStopped commands e
-line_stopped commands i command old new e lt is names admitted p a = line_stops commands (take i commands) command p.heard old new e (stands commands i command lt is names admitted) p.played p.moment a
+line_stopped commands i command old new e lt is names admitted p a = stopped_somewhere commands (take i commands) e (line_stops commands (take i commands) command p.heard old new e (stands commands i command lt is names admitted) p.played p.moment a)
 
 pub all_played : (commands : List Command) (i : ℕ) (network : NetworkView) → i ≡ length commands → All NamesNodes commands → Plays commands (take i commands) network → IsPlayed commands network
 all_played commands i network is names p =
@@ -61,6 +63,47 @@ all_played commands i network is names p =
       played = subst (λ (l : List Command). ArePlayed commands l p.heard network.nodes) all p.played;
       few = let count = p.moment.count in omega (arith, count, few_nodes commands names);
     }
+
+-- ---- the same, in the words of the definitions
+
+has_played : (commands done : List Command) (network : NetworkView) → Plays commands done network → HasPlayed commands done network
+has_played commands done network p = record {
+  heard = p.heard;
+  played = p.played;
+  count = p.moment.count;
+  driven = p.moment.driven;
+  who = p.moment.who;
+  linked = p.moment.linked;
+}
+
+as_plays : (commands done : List Command) (network : NetworkView) → HasPlayed commands done network → Plays commands done network
+as_plays commands done network p = record {
+  heard = p.heard;
+  played = p.played;
+  moment = record { count = p.count; driven = p.driven; run = p.played.run; who = p.who; linked = p.linked };
+}
+
+pub nothing_is_played : NothingIsPlayed
+nothing_is_played commands network are = has_played commands [] network (none_played commands network are)
+
+at_place : (commands before after' : List Command) (command : Command) → commands ≡ before ++ command ∷ after' → All NamesNodes commands → AreAdmitted [] commands → StandsAt commands before command
+at_place commands before after' command split names admitted = record { after' = after'; split = split; names = names; admitted = admitted }
+
+pub line_is_played : LineIsPlayed
+line_is_played commands before after' command old new split names admitted p a =
+    let before_it = as_plays commands before old p in
+    has_played commands (before ++ command ∷ []) new (one_more commands before command old new before_it (line_done commands before command old new (at_place commands before after' command split names admitted) before_it.moment a))
+
+pub quiet_line_is_played : QuietLineIsPlayed
+quiet_line_is_played commands before after' command network split names admitted rest none p =
+    let before_it = as_plays commands before network p in
+    let missed : IsMissed network (event_by command) = subst (λ (found : Option (ℕ × Event)). IsMissed network found) (sym none) tt in
+    has_played commands (before ++ command ∷ []) network (one_more commands before command network network before_it (done_nothing commands before command network network (at_place commands before after' command split names admitted) before_it.moment rest (refl, missed)))
+
+pub line_is_stopped : LineIsStopped
+line_is_stopped commands before after' command old new e split names admitted p a =
+    let before_it = as_plays commands before old p in
+    line_stops commands before command before_it.heard old new e (at_place commands before after' command split names admitted) before_it.played before_it.moment a
 
 -- ---- what is told of it
 

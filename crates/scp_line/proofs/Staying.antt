@@ -11,7 +11,8 @@ use Rattle.scp_core.specs.Node.{NodeView, LinkView, Step, Accepts, Moves, SendsO
 use Rattle.scp_network.specs.Heard.{Nodes, Heard, IsHeard, IsOne, InOrder}
 use Rattle.scp_network.specs.Rounds.{HearsAll, reader_events, stage_events, Carries, IsTurn, IsRound, AreRounds, Rests}
 use Rattle.scp_line.proofs.Places.{set_same, get_set, map_at}
-use Rattle.scp_line.proofs.Tails.{tail_at, tails, linked}
+use Rattle.scp_line.specs.Links.{tail_at, tails}
+use Rattle.scp_line.proofs.Tails.{linked}
 
 -- ---- one node
 
@@ -80,34 +81,76 @@ runs_not : (b : Bool) (P : Type 0) → b ≡ true → b ≡ false → P
 runs_not true P t f = absurd cc
 runs_not false P t f = absurd cc
 
--- the node ran, and its links were as they are
+pub accepted_config : (v w : NodeView) (e : Event) → Accepts v e w → w.config ≡ v.config
+accepted_config v w (event.Open m) a = ap (λ (u : NodeView). u.config) a.2.3
+accepted_config v w (event.Send m bytes) a = ap (λ (u : NodeView). u.config) a.2.2
+accepted_config v w (event.Close m) a = ap (λ (u : NodeView). u.config) a.2.2
+accepted_config v w (event.Local command) a = ap (λ (u : NodeView). u.config) a.2
+accepted_config v w (event.ReaderTake m) a = absurd a
+accepted_config v w (event.ReaderPut m) a = absurd a
+accepted_config v w event.PendTake a = absurd a
+accepted_config v w event.PendPut a = absurd a
+accepted_config v w event.SlotTake a = absurd a
+accepted_config v w event.SlotPut a = absurd a
+accepted_config v w event.ApplyTake a = absurd a
+accepted_config v w (event.Drain m) a = absurd a
+
+moved_config : (v w : NodeView) (e : Event) → Moves v e w → w.config ≡ v.config
+moved_config v w (event.Open m) a = absurd a
+moved_config v w (event.Send m bytes) a = absurd a
+moved_config v w (event.Close m) a = absurd a
+moved_config v w (event.Local command) a = absurd a
+moved_config v w (event.ReaderTake m) a = ap (λ (u : NodeView). u.config) a.2.4
+moved_config v w (event.ReaderPut m) a = ap (λ (u : NodeView). u.config) a.2.4
+moved_config v w event.PendTake a = ⊎_elim (λ b. ap (λ (u : NodeView). u.config) b.is) (λ t. ap (λ (u : NodeView). u.config) t.is) a.1
+moved_config v w event.PendPut a = ap (λ (u : NodeView). u.config) a.3
+moved_config v w event.SlotTake a = ap (λ (u : NodeView). u.config) a.1.is
+moved_config v w event.SlotPut a = ap (λ (u : NodeView). u.config) a.3
+moved_config v w event.ApplyTake a = ap (λ (u : NodeView). u.config) a.is
+moved_config v w (event.Drain m) a = absurd a
+
+sent_config : (v w : NodeView) (e : Event) (bytes : List ℕ) → SendsOut v e bytes w → w.config ≡ v.config
+sent_config v w (event.Open m) bytes a = absurd a
+sent_config v w (event.Send m sent) bytes a = absurd a
+sent_config v w (event.Close m) bytes a = absurd a
+sent_config v w (event.Local command) bytes a = absurd a
+sent_config v w (event.ReaderTake m) bytes a = absurd a
+sent_config v w (event.ReaderPut m) bytes a = absurd a
+sent_config v w event.PendTake bytes a = absurd a
+sent_config v w event.PendPut bytes a = absurd a
+sent_config v w event.SlotTake bytes a = absurd a
+sent_config v w event.SlotPut bytes a = absurd a
+sent_config v w event.ApplyTake bytes a = absurd a
+sent_config v w (event.Drain m) bytes a = ap (λ (u : NodeView). u.config) a.is
+
+-- the node ran, its links were as they are, and it was who it is
 abbrev pub Ran : NodeView → NodeView → Type 0
-Ran v w = (v.failed ≡ false) × (tails w ≡ tails v)
+Ran v w = (v.failed ≡ false) × (tails w ≡ tails v) × (w.config ≡ v.config)
 
 step_stays : (v w : NodeView) (e : Event) (r : Reply) → (r ≡ Accepted → IsInner e) → Step v e r w → w.failed ≡ false → Ran v w
 step_stays v w e Failed i s run = runs_not w.failed (Ran v w) (ap (λ (u : NodeView). u.failed) s.1 ∙ s.0) run
-step_stays v w e NoLink i s run = (s.0, ap (λ (u : NodeView). tails u) s.2)
-step_stays v w e AlreadyOpen i s run = (s.0, ap (λ (u : NodeView). tails u) s.2)
-step_stays v w e LivesSpent i s run = (s.0, ap (λ (u : NodeView). tails u) s.2)
-step_stays v w e NotOpen i s run = (s.0, ap (λ (u : NodeView). tails u) s.2)
-step_stays v w e Full i s run = (s.0, ap (λ (u : NodeView). tails u) s.2)
-step_stays v w e Accepted i s run = (s.0, inner_tails v w e (i refl) s.1)
-step_stays v w e Blocked i s run = (s.0, ap (λ (u : NodeView). tails u) s.2)
-step_stays v w e Idle i s run = (s.0, ap (λ (u : NodeView). tails u) s.2)
-step_stays v w e Moved i s run = (s.0, moved_tails v w e s.1)
-step_stays v w e (Sent bytes) i s run = (s.0, sent_tails v w e bytes s.1)
+step_stays v w e NoLink i s run = (s.0, ap (λ (u : NodeView). tails u) s.2, ap (λ (u : NodeView). u.config) s.2)
+step_stays v w e AlreadyOpen i s run = (s.0, ap (λ (u : NodeView). tails u) s.2, ap (λ (u : NodeView). u.config) s.2)
+step_stays v w e LivesSpent i s run = (s.0, ap (λ (u : NodeView). tails u) s.2, ap (λ (u : NodeView). u.config) s.2)
+step_stays v w e NotOpen i s run = (s.0, ap (λ (u : NodeView). tails u) s.2, ap (λ (u : NodeView). u.config) s.2)
+step_stays v w e Full i s run = (s.0, ap (λ (u : NodeView). tails u) s.2, ap (λ (u : NodeView). u.config) s.2)
+step_stays v w e Accepted i s run = (s.0, inner_tails v w e (i refl) s.1, accepted_config v w e s.1)
+step_stays v w e Blocked i s run = (s.0, ap (λ (u : NodeView). tails u) s.2, ap (λ (u : NodeView). u.config) s.2)
+step_stays v w e Idle i s run = (s.0, ap (λ (u : NodeView). tails u) s.2, ap (λ (u : NodeView). u.config) s.2)
+step_stays v w e Moved i s run = (s.0, moved_tails v w e s.1, moved_config v w e s.1)
+step_stays v w e (Sent bytes) i s run = (s.0, sent_tails v w e bytes s.1, sent_config v w e bytes s.1)
 step_stays v w e JournalFull i s run = runs_not w.failed (Ran v w) s.0.failed run
 step_stays v w e NoMemory i s run = runs_not w.failed (Ran v w) s.0.failed run
 
 -- ---- all nodes
 
--- each node that runs ran, and its links were as they are
+-- each node that runs ran, its links were as they are, and it was who it is
 pub record AllStay (old new : Nodes) : Type 0 where
   pub count : length new ≡ length old
   pub each : (i : ℕ) → (w : NodeView) → slice_get new i ≡ Some w → w.failed ≡ false → (v : NodeView) × (slice_get old i ≡ Some v) × Ran v w
 
 stay_none : (old new : Nodes) → new ≡ old → AllStay old new
-stay_none old new e = subst (λ (n : Nodes). AllStay old n) (sym e) (record { count = refl; each = λ i w at run. (w, at, (run, refl)) })
+stay_none old new e = subst (λ (n : Nodes). AllStay old n) (sym e) (record { count = refl; each = λ i w at run. (w, at, (run, refl, refl)) })
 
 stay_then : (a b c : Nodes) → AllStay a b → AllStay b c → AllStay a c
 stay_then a b c f s = record {
@@ -115,7 +158,7 @@ stay_then a b c f s = record {
   each = λ i w at run.
       let two = s.each i w at run in
       let one = f.each i two.0 two.1 two.2.0 in
-      (one.0, one.1, (one.2.0, two.2.1 ∙ one.2.1));
+      (one.0, one.1, (one.2.0, two.2.1 ∙ one.2.1, two.2.2 ∙ one.2.2));
 }
 
 pub heard_stays : (old new : Nodes) (h : Heard) → (h.reply ≡ Accepted → IsInner h.event) → IsHeard old h new → AllStay old new
@@ -126,7 +169,7 @@ heard_stays old new h i s = record {
       (λ e.
       let there : slice_get old j ≡ Some s.before = subst (λ (k : ℕ). slice_get old k ≡ Some s.before) (sym e.0) s.was in
       (s.before, there, step_stays s.before w h.event h.reply i (subst (λ (u : NodeView). Step s.before h.event h.reply u) e.1 s.step) run))
-      (λ e. (w, e.1, (run, refl)))
+      (λ e. (w, e.1, (run, refl, refl)))
       (get_set old s.place s.after' j w (subst (λ (n : Nodes). slice_get n j ≡ Some w) s.is at));
 }
 

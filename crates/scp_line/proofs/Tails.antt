@@ -17,16 +17,10 @@ use Rattle.scp_script.specs.declared.command.Command.TheVariants as script
 use Rattle.scp_script.specs.Script.{opens, closes, is_open, lives}
 use Rattle.scp_script.specs.Nodes.{NamesNodes}
 use Rattle.scp_line.specs.Play.{event_by}
+use Rattle.scp_line.specs.Links.{tail_at, tails, tail_said}
 use Rattle.scp_line.proofs.Places.{set_here, set_there, map_at}
 
 -- ---- what an accepted event makes of a link's tail
-
-abbrev pub tail_at : LinkView → Tail
-tail_at k = record { life = k.life; is_open = k.is_open }
-
--- how often each link of a node was opened, and whether it is open
-abbrev pub tails : NodeView → List Tail
-tails v = map tail_at v.links
 
 abbrev pub tail_on : ℕ → Tail → Event → Tail
 tail_on l t (event.Open m) = cond (nat_eq l m) (record { life = t.life + 1; is_open = true }) t
@@ -163,10 +157,6 @@ one_line from to f t apart n b (script.Ask from2 to2 slot) ok = local_line (link
 one_line from to f t apart n b script.Settle ok = ap (λ (k : ℕ). record { life = k; is_open = b }) (omega arith)
 one_line from to f t apart n b (script.Wait at things) ok = ap (λ (k : ℕ). record { life = k; is_open = b }) (omega arith)
 one_line from to f t apart n b (script.Report at) ok = ap (λ (k : ℕ). record { life = k; is_open = b }) (omega arith)
-
--- the tail that lines say
-abbrev pub tail_said : ℕ → ℕ → List Command → Tail
-tail_said from to done = record { life = lives from to done; is_open = is_open from to done }
 
 pub said_more : (from to : ℕ) → 1 ≤ from → 1 ≤ to → from ≢ to → (done : List Command) (command : Command) → NamesNodes command → tail_by to (link_of from to) (tail_said from to done) (event_by command) ≡ tail_said from to (done ++ command ∷ [])
 said_more from to f t apart done command ok =

@@ -1,17 +1,20 @@
 -- What the nodes of a script hear more, while it is played.
-use Rattle.std.specs.Prelude.{ℕ, ◌<◌, ◌≤◌, ◌≡◌, ◌≢◌, ◌⊎◌, Bool, true, false, List, Option, Some, None, Result, Ok, Err, length}
+use Rattle.std.specs.Prelude.{ℕ, ◌+◌, ◌<◌, ◌≤◌, ◌≡◌, ◌≢◌, ◌⊎◌, Bool, true, false, List, Option, Some, None, Result, Ok, Err, length, slice_get}
 use Rattle.scp_types.specs.declared.fault.Fault.TheVariants.{NoMemory, Failed as failing, Full as full}
 use Rattle.scp_core.specs.declared.event.Event.{Event}
 use Rattle.scp_core.specs.declared.event.Reply.{Reply}
 use Rattle.scp_core.specs.declared.event.Reply.TheVariants.{Accepted, Full}
 use Rattle.scp_core.specs.Config.{AreInRange}
-use Rattle.scp_network.specs.Heard.{Heard}
+use Rattle.scp_core.specs.Node.{NodeView}
+use Rattle.scp_network.specs.Heard.{Nodes, Heard}
 use Rattle.scp_network.specs.Rounds.{Rests, Breaks, AllRun}
 use Rattle.scp_network.specs.Inside.{Hear, NetworkView}
 use Rattle.scp_script.specs.declared.command.Command.{Command}
 use Rattle.scp_script.specs.declared.command.Command.TheVariants as script
+use Rattle.scp_script.specs.Script.{node_count}
 use Rattle.scp_script.specs.Nodes.{IsSmall}
 use Rattle.scp_line.specs.declared.playing.PlayFault.{PlayFault}
+use Rattle.scp_line.specs.Links.{AreLinked}
 use Rattle.scp_line.specs.Play.{AreNew, Answers, ArePlayed, Stops, Overflows, driven_in, event_by, config_of}
 
 -- the capacities that commands say are in range
@@ -22,6 +25,20 @@ HaveRoom commands = AreInRange (config_of commands 1).capacities
 pub record AreMade (commands : List Command) (network : NetworkView) : Type 0 where
   pub nodes : AreNew commands network.nodes
   pub driven : network.driven ≡ driven_in commands
+
+-- each node is who the script says
+abbrev pub AreWho : List Command → Nodes → Type 0
+AreWho commands nodes = (i : ℕ) → (v : NodeView) → slice_get nodes i ≡ Some v → v.config ≡ config_of commands (i + 1)
+
+-- Lines of a script were played by a network, from the first line on: by its nodes, of which none failed and each is who the script says,
+-- and whose links are as these lines say.
+pub record HasPlayed (commands done : List Command) (network : NetworkView) : Type 0 where
+  pub heard : List Heard
+  pub played : ArePlayed commands done heard network.nodes
+  pub count : length network.nodes ≡ node_count commands
+  pub driven : network.driven ≡ driven_in commands
+  pub who : AreWho commands network.nodes
+  pub linked : AreLinked done network.nodes
 
 -- the line brings the nodes to rest
 abbrev pub brings_to_rest : Command → Bool
@@ -94,6 +111,13 @@ pub record IsPlayed (commands : List Command) (network : NetworkView) : Type 0 w
   pub heard : List Heard
   pub played : ArePlayed commands commands heard network.nodes
   pub few : length network.nodes ≤ 8
+
+-- why the line behind these wasn't done
+abbrev pub IsStoppedAt : List Command → List Command → PlayFault → Type 0
+IsStoppedAt commands before e =
+    IsWant e
+    ⊎ (((e.fault ≡ failing) × IsSmall e.node × (s : Stops commands e.node) × (s.before ≡ before))
+    ⊎ ((e.fault ≡ full) × (e.node ≡ 0) × (o : Overflows commands) × (o.before ≡ before)))
 
 -- why lines weren't all done
 abbrev pub IsStopped : List Command → PlayFault → Type 0

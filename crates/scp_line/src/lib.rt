@@ -16,6 +16,7 @@
 #![tactic(auto)]
 
 mod gathered;
+mod laws;
 mod messages;
 mod nodes;
 mod outcome;
@@ -24,6 +25,8 @@ mod report;
 mod threads;
 mod waiting;
 
+pub use laws::{a_line_more_is_played, a_script_has_room};
+pub use nodes::{act, new_network};
 pub use outcome::{line_of_fault, status};
 pub use playing::{PlayFault, check, play, show};
 pub use report::{Parked, ReportParts, connections_are_those_with_entries, write_report};

@@ -8,9 +8,9 @@ ghost use Rattle.scp_line.specs.Nodes.{HaveRoom, AreMade, Offers, Settles, Acts,
 
 use crate::playing::PlayFault;
 use crate::report::{ReportParts, write_report};
-use crate::waiting::{link_from, parked_at};
+use crate::waiting::parked_at;
 use scp_core::{Capacities, Command as LocalCommand, Config, Event, Node, Peers, Reply};
-use scp_network::Network;
+use scp_network::{Network, link_from};
 use scp_script::{Command, capacities_of, count_of_nodes, id_from, peers_of_node, set_of_node};
 use scp_types::{Fault, Slot};
 use std::alloc::{AllocError, Global};
@@ -191,7 +191,7 @@ fn is_rest(command: &Command) -> bool
 }
 
 /// Does what a line says: where a queue is full, the nodes come to rest, and it is tried once again.
-fn act(network: &mut Network, command: &Command) -> Result<(), PlayFault>
+pub fn act(network: &mut Network, command: &Command) -> Result<(), PlayFault>
     requires names { NamesNodes command.now }
     ensures { Acts network.old command.now network.new result }
 {

@@ -3,24 +3,14 @@ ghost use Rattle.std.specs.Prelude.{◌≡◌, ◌≢◌, ◌≤◌, ◌++◌, I
 ghost use Rattle.scp_wire.specs.Connections.{conn_at};
 ghost use Rattle.scp_core.specs.Node.{lives_at};
 ghost use Rattle.scp_script.specs.Nodes.{IsSmall, id_of, numbers};
-ghost use Rattle.scp_network.specs.Rounds.{link_of};
 ghost use Rattle.scp_line.specs.Play.{parked_of, parked_from, parked_in};
 
 use crate::report::Parked;
 use scp_core::Node;
+use scp_network::link_from;
 use scp_script::id_from;
 use scp_types::ConnId;
 use std::alloc::{AllocError, Global};
-
-/// Which link of a node comes from another: the place of that one among its peers.
-pub fn link_from(from: u8, to: u8) -> u8
-    requires from { IsSmall from }
-    requires to { IsSmall to }
-    requires apart { from ≢ to }
-    ensures { result ≡ link_of from to }
-{
-    if from < to { from - 1 } else { from - 2 }
-}
 
 /// The connection of this life from one node to another.
 fn conn_from(from: u8, to: u8, life: u32) -> ConnId
@@ -59,8 +49,6 @@ fn add_life(
 
 /// Adds the connections of the link from one node to another.
 fn add_link(parked: &mut Vec<Parked>, node: &Node, from: u8, to: u8) -> Result<(), AllocError>
-    requires from { IsSmall from }
-    requires to { IsSmall to }
     requires apart { from ≢ to }
     ensures { OnOk result (parked.new.items ≡ parked.old.items ++ parked_from node.now to from) }
 {

@@ -1,0 +1,29 @@
+-- What the definitions give together: a script is played line by line.
+use Rattle.std.specs.Prelude.{ℕ, ◌≡◌, false, List, [], ◌∷◌, ◌++◌, All, None, Ok, Err}
+use Rattle.scp_network.specs.Inside.{NetworkView}
+use Rattle.scp_script.specs.declared.command.Command.{Command}
+use Rattle.scp_script.specs.Script.{AreAdmitted, commands_of}
+use Rattle.scp_script.specs.Nodes.{NamesNodes}
+use Rattle.scp_line.specs.declared.playing.PlayFault.{PlayFault}
+use Rattle.scp_line.specs.Play.{event_by}
+use Rattle.scp_line.specs.Nodes.{HaveRoom, AreMade, HasPlayed, Acts, IsStoppedAt, brings_to_rest}
+
+-- the queues of each script have capacities in range
+abbrev pub LinesHaveRoom : Type 0
+LinesHaveRoom = (lines : List (List ℕ)) → HaveRoom (commands_of lines)
+
+-- a new network has played nothing
+abbrev pub NothingIsPlayed : Type 0
+NothingIsPlayed = (commands : List Command) (network : NetworkView) → AreMade commands network → HasPlayed commands [] network
+
+-- a network that did a line behind those that it had played has played that one too
+abbrev pub LineIsPlayed : Type 0
+LineIsPlayed = (commands before after' : List Command) (command : Command) (old new : NetworkView) → commands ≡ before ++ command ∷ after' → All NamesNodes commands → AreAdmitted [] commands → HasPlayed commands before old → Acts old command new (Ok tt) → HasPlayed commands (before ++ command ∷ []) new
+
+-- so it has a line that is no event and brings nothing to rest
+abbrev pub QuietLineIsPlayed : Type 0
+QuietLineIsPlayed = (commands before after' : List Command) (command : Command) (network : NetworkView) → commands ≡ before ++ command ∷ after' → All NamesNodes commands → AreAdmitted [] commands → brings_to_rest command ≡ false → event_by command ≡ None → HasPlayed commands before network → HasPlayed commands (before ++ command ∷ []) network
+
+-- why a line behind those that were played wasn't done
+abbrev pub LineIsStopped : Type 0
+LineIsStopped = (commands before after' : List Command) (command : Command) (old new : NetworkView) (e : PlayFault) → commands ≡ before ++ command ∷ after' → All NamesNodes commands → AreAdmitted [] commands → HasPlayed commands before old → Acts old command new (Err e) → IsStoppedAt commands before e

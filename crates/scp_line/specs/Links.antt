@@ -1,0 +1,23 @@
+-- The links of a script's nodes, as its lines say.
+use Rattle.std.specs.Prelude.{ℕ, ◌-◌, ◌≤◌, ◌≡◌, ◌≢◌, List, Some, length, map, slice_get}
+use Rattle.scp_wire.specs.Shape.{Tail}
+use Rattle.scp_core.specs.Node.{NodeView, LinkView}
+use Rattle.scp_network.specs.Heard.{Nodes}
+use Rattle.scp_network.specs.Rounds.{link_of}
+use Rattle.scp_script.specs.declared.command.Command.{Command}
+use Rattle.scp_script.specs.Script.{is_open, lives}
+
+abbrev pub tail_at : LinkView → Tail
+tail_at k = record { life = k.life; is_open = k.is_open }
+
+-- how often each link of a node was opened, and whether it is open
+abbrev pub tails : NodeView → List Tail
+tails v = map tail_at v.links
+
+-- how often lines opened a link, and whether they left it open
+abbrev pub tail_said : ℕ → ℕ → List Command → Tail
+tail_said from to done = record { life = lives from to done; is_open = is_open from to done }
+
+-- each link of each node was opened as often, and is open, as the lines say
+abbrev pub AreLinked : List Command → Nodes → Type 0
+AreLinked done nodes = (from to : ℕ) → 1 ≤ from → from ≤ length nodes → 1 ≤ to → to ≤ length nodes → from ≢ to → (v : NodeView) → slice_get nodes (to - 1) ≡ Some v → slice_get (tails v) (link_of from to) ≡ Some (tail_said from to done)

@@ -1,0 +1,4 @@
+pub mod Links
+pub mod Slots
+pub mod Holding
+pub mod Stand

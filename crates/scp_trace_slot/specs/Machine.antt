@@ -1,0 +1,196 @@
+-- Where the machine of a slot stands, in lines.
+use Rattle.std.specs.Prelude.{◌≡◌, ◌↔◌, ℕ, Bool, true, false, not, ◌&&◌, ◌||◌, List, [], ◌∷◌, ◌++◌, filter, flat_map, Contains, Option, Some, None, is_some, if◌then◌else◌, codes}
+use Rattle.std.specs.Fmt.{decimal}
+use Rattle.std.specs.List.{list_any}
+use Rattle.std.specs.List.Sorted.{IsStrictlySortedBy}
+use Rattle.scp_types.specs.declared.names.NodeId.{NodeId}
+use Rattle.scp_quorum.specs.NodeSet.{node_cmp}
+use Rattle.scp_envelope.specs.declared.statement.Envelope.{Envelope}
+use Rattle.scp_envelope.specs.declared.statement.Pledges.{Pledges}
+use Rattle.scp_envelope.specs.declared.statement.Pledges.TheVariants.{Prepare, Confirm, Externalize, Nominate}
+use Rattle.scp_vote.specs.declared.board.Board.{Board}
+use Rattle.scp_vote.specs.declared.claim.StatementKind.TheVariants.{Nomination as Nominating, Balloting}
+use Rattle.scp_vote.specs.declared.claim.Claim.{Claim}
+use Rattle.scp_vote.specs.declared.claim.Claim.TheVariants.{Prepared, Committed, Nominated}
+use Rattle.scp_vote.specs.Board.{Seen}
+use Rattle.scp_vote.specs.Seen.{seen, envelope_at}
+use Rattle.scp_wire.specs.Connections.{same_node}
+use Rattle.scp_driver.specs.declared.kv_driver.KvDriver.{KvDriver}
+use Rattle.scp_driver.specs.Kv.{greatest, leader_place}
+use Rattle.scp_nominate.specs.Heard.{heard}
+use Rattle.scp_nominate.specs.Turns.{Leads}
+use Rattle.scp_nominate.specs.Nomination.{Nomination}
+use Rattle.scp_slot.specs.declared.machine.SlotMachine.{SlotMachine}
+use Rattle.scp_slot.specs.Slot.{slot_view}
+use Rattle.scp_text.specs.Values.{value_text}
+use Rattle.scp_text.specs.Messages.{ballot_text}
+use Rattle.scp_trace_needs.specs.Needs.{AreNominationNeeds, AreBallotNeeds}
+use Rattle.scp_trace_needs.specs.declared.steps.Step.{Step}
+use Rattle.scp_trace_needs.specs.declared.steps.Step.TheVariants.{AcceptNominated, ConfirmNominated, AcceptPrepared, ConfirmPrepared, AcceptCommit, ConfirmCommit}
+use Rattle.scp_trace_needs.specs.declared.steps.Need.{Need}
+use Rattle.scp_trace_slot.specs.declared.names.Names.{Names}
+use Rattle.scp_trace_slot.specs.Names.{nodes_text, statement_text}
+
+-- ---- the rounds
+
+-- just the nodes that lead a round so far, ascending, where the members lead in turn
+pub record AreLeaders (slot : ℕ) (members : List NodeId) (rounds : ℕ) (leaders : List NodeId) : Type 0 where
+  pub ascending : IsStrictlySortedBy node_cmp leaders
+  pub these : (v : NodeId) → Contains leaders v ↔ Leads (leader_place slot) members rounds v
+
+abbrev pub leads_word : Bool → List ℕ
+leads_word true = codes "leads "
+leads_word false = codes "waits "
+
+-- a proposal is voted for where this node leads
+abbrev pub proposal_text : NodeId → List NodeId → Option (List ℕ) → List ℕ
+proposal_text me leaders None = codes "none"
+proposal_text me leaders (Some value) = leads_word (list_any (λ v. same_node v me) leaders) ++ value_text value
+
+abbrev pub rounds_line : ℕ → ℕ → NodeId → List NodeId → ℕ → Option (List ℕ) → List ℕ
+rounds_line number slot me leaders rounds proposal =
+    decimal number ++ codes " slot " ++ decimal slot ++ codes " nominates round " ++ decimal rounds ++ codes " leaders " ++ nodes_text leaders
+    ++ codes " proposal " ++ proposal_text me leaders proposal ++ codes "\n"
+
+-- ---- the phase
+
+-- by the own ballot statement
+abbrev pub phase_word : Option Pledges → List ℕ
+phase_word None = codes "nominate"
+phase_word (Some (Prepare p)) = codes "prepare"
+phase_word (Some (Confirm p)) = codes "confirm"
+phase_word (Some (Externalize p)) = codes "externalize"
+phase_word (Some (Nominate p)) = codes "nominate"
+
+-- what the driver combines all candidates to
+abbrev pub candidate_text : List (List ℕ) → List ℕ
+candidate_text [] = codes "-"
+candidate_text (v ∷ vs) = value_text (greatest (v ∷ vs))
+
+abbrev pub phase_line : ℕ → ℕ → Option Pledges → List (List ℕ) → List ℕ
+phase_line number slot own candidates =
+    decimal number ++ codes " slot " ++ decimal slot ++ codes " phase " ++ phase_word own ++ codes " candidate " ++ candidate_text candidates ++ codes "\n"
+
+-- ---- what was said
+
+-- the line of a statement, if there is one
+abbrev pub statement_line : Names → ℕ → ℕ → List ℕ → Option Envelope → List ℕ
+statement_line names number slot word None = []
+statement_line names number slot word (Some e) =
+    decimal number ++ codes " slot " ++ decimal slot ++ codes " " ++ word ++ codes " " ++ statement_text names e ++ codes "\n"
+
+-- the newest of a node: nomination, then ballot
+abbrev pub lines_of : Names → ℕ → ℕ → List ℕ → Board → Board → NodeId → List ℕ
+lines_of names number slot word nominations ballots v =
+    statement_line names number slot word (envelope_at Nominating nominations v) ++ statement_line names number slot word (envelope_at Balloting ballots v)
+
+-- a statement of the node stands on one of the boards
+abbrev pub is_heard : Seen → Seen → NodeId → Bool
+is_heard nominations ballots v = is_some (nominations.statement v) || is_some (ballots.statement v)
+
+-- just the other nodes that are heard, ascending
+pub record AreHeard (me : NodeId) (nominations ballots : Seen) (nodes : List NodeId) : Type 0 where
+  pub ascending : IsStrictlySortedBy node_cmp nodes
+  pub these : (v : NodeId) → Contains nodes v ↔ ((not (same_node v me) && is_heard nominations ballots v) ≡ true)
+
+abbrev pub is_silent : NodeId → Seen → Seen → NodeId → Bool
+is_silent me nominations ballots v = not (same_node v me) && not (is_heard nominations ballots v)
+
+-- the line of these nodes, if there are any
+abbrev pub silent_line : ℕ → ℕ → List NodeId → List ℕ
+silent_line number slot [] = []
+silent_line number slot (v ∷ vs) = decimal number ++ codes " slot " ++ decimal slot ++ codes " silent " ++ nodes_text (v ∷ vs) ++ codes "\n"
+
+-- ---- what is needed
+
+-- no vote can come from the leader so far: of itself where it has no proposal, of another where nothing of its nomination is heard
+abbrev pub lacks_vote : NodeId → Bool → Seen → NodeId → Bool
+lacks_vote me proposes nominations v = if same_node v me then not proposes else not (is_some (nominations.statement v))
+
+-- where this node votes for nothing
+abbrev pub votes_line : ℕ → ℕ → Option Pledges → List NodeId → List ℕ
+votes_line number slot (Some own) nodes = []
+votes_line number slot None nodes = decimal number ++ codes " slot " ++ decimal slot ++ codes " needs vote from " ++ nodes_text nodes ++ codes "\n"
+
+abbrev pub step_word : Step → List ℕ
+step_word AcceptNominated = codes "accept-nominated"
+step_word ConfirmNominated = codes "confirm-nominated"
+step_word AcceptPrepared = codes "accept-prepared"
+step_word ConfirmPrepared = codes "confirm-prepared"
+step_word AcceptCommit = codes "accept-commit"
+step_word ConfirmCommit = codes "confirm-commit"
+
+-- a commit by its low end
+abbrev pub claim_text : Claim → List ℕ
+claim_text (Nominated value) = value_text value
+claim_text (Prepared ballot) = ballot_text (codes "ballot(") ballot
+claim_text (Committed low high value) = ballot_text (codes "commit(") (record { counter = low; value = value })
+
+abbrev pub who_text : Need → List ℕ
+who_text need = codes " votes " ++ nodes_text need.votes.items ++ codes " accepts " ++ nodes_text need.accepts.items
+
+abbrev pub missing_text : Need → List ℕ
+missing_text need = codes " lacks " ++ nodes_text need.lacks.items ++ codes " against " ++ nodes_text need.against.items ++ codes " short " ++ nodes_text need.short.items
+
+abbrev pub need_text : ℕ → ℕ → Need → List ℕ
+need_text number slot need =
+    decimal number ++ codes " slot " ++ decimal slot ++ codes " needs " ++ step_word need.step ++ codes " " ++ claim_text need.claim ++ who_text need ++ missing_text need ++ codes "\n"
+
+-- what values need to be nominated, where none is a candidate; else nothing
+abbrev pub AreToNominate : List (List ℕ) → Board → List NodeId → List Need → Type 0
+AreToNominate [] nominations members needs = AreNominationNeeds nominations members needs
+AreToNominate (v ∷ vs) nominations members needs = needs ≡ []
+
+-- ---- all lines
+
+-- the boards of nomination and of ballots, the leaders, the other nodes that are heard, and what is needed
+pub record Facts : Type 0 where
+  pub nominations : Board
+  pub ballots : Board
+  pub leaders : List NodeId
+  pub others : List NodeId
+  pub to_nominate : List Need
+  pub to_ballot : List Need
+
+-- what it does and what was said
+abbrev pub said_lines : Names → ℕ → NodeId → ℕ → Nomination → Facts → List ℕ
+said_lines names number me slot n f =
+    rounds_line number slot me f.leaders n.rounds n.proposal
+    ++ phase_line number slot ((seen Balloting f.ballots).statement (seen Balloting f.ballots).me) n.lists.candidates
+    ++ statement_line names number slot (codes "own") (envelope_at Nominating f.nominations (heard f.nominations).me)
+    ++ statement_line names number slot (codes "own") (envelope_at Balloting f.ballots (seen Balloting f.ballots).me)
+    ++ flat_map (lines_of names number slot (codes "heard") f.nominations f.ballots) f.others
+
+-- who said nothing, and what is needed
+abbrev pub needs_lines : ℕ → NodeId → List NodeId → ℕ → Bool → Facts → List ℕ
+needs_lines number me members slot proposes f =
+    silent_line number slot (filter (is_silent me (heard f.nominations) (seen Balloting f.ballots)) members)
+    ++ votes_line number slot ((heard f.nominations).statement (heard f.nominations).me) (filter (lacks_vote me proposes (heard f.nominations)) f.leaders)
+    ++ flat_map (need_text number slot) f.to_nominate
+    ++ flat_map (need_text number slot) f.to_ballot
+
+abbrev pub machine_lines : Names → ℕ → NodeId → List NodeId → ℕ → Nomination → Facts → List ℕ
+machine_lines names number me members slot n f = said_lines names number me slot n f ++ needs_lines number me members slot (is_some n.proposal) f
+
+-- The facts are those of the machine, in the eyes of a node with these members.
+pub record AreFacts (me : NodeId) (members : List NodeId) (slot : ℕ) (m : SlotMachine KvDriver) (f : Facts) : Type 0 where
+  pub nominations : heard f.nominations ≡ (slot_view m).nomination.board
+  pub ballots : seen Balloting f.ballots ≡ (slot_view m).ballots.board
+  pub leaders : AreLeaders slot members (slot_view m).nomination.rounds f.leaders
+  pub others : AreHeard me (heard f.nominations) (seen Balloting f.ballots) f.others
+  pub to_nominate : AreToNominate (slot_view m).nomination.lists.candidates f.nominations members f.to_nominate
+  pub to_ballot : AreBallotNeeds f.ballots members f.to_ballot
+
+-- the lines of the machine, by these names, at the node of this number and id, in this slot
+abbrev pub IsMachineText : Names → ℕ → NodeId → List NodeId → ℕ → SlotMachine KvDriver → List ℕ → Type 0
+IsMachineText names number me members slot m text =
+    (f : Facts) × AreFacts me members slot m f × (text ≡ machine_lines names number me members slot (slot_view m).nomination f)
+
+-- ---- a machine that nothing changed
+
+-- nothing was heard or said, nothing is proposed, and there was one round
+pub record IsBlankMachine (m : SlotMachine KvDriver) : Type 0 where
+  pub rounds : (slot_view m).nomination.rounds ≡ 1
+  pub proposal : (slot_view m).nomination.proposal ≡ None
+  pub nominations : (v : NodeId) → (slot_view m).nomination.board.statement v ≡ None
+  pub ballots : (v : NodeId) → (slot_view m).ballots.board.statement v ≡ None

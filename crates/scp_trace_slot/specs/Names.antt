@@ -1,0 +1,104 @@
+-- What nodes, quorum sets and statements are called.
+use Rattle.std.specs.Prelude.{◌≡◌, ℕ, true, List, [], ◌∷◌, ◌++◌, length, map, flat_map, take, drop, Contains, Option, Some, None, option_map, IsSome, if◌then◌else◌, nat_lt, codes, string_bytes}
+use Rattle.std.specs.Ordering.{nat_cmp}
+use Rattle.std.specs.declared.cmp.Ordering.{Ordering}
+use Rattle.std.specs.Cmp.Lexicographic.{slice_cmp}
+use Rattle.std.specs.BTreeMap as hash_map
+use Rattle.scp_types.specs.declared.names.Hash.{Hash}
+use Rattle.scp_types.specs.declared.names.NodeId.{NodeId}
+use Rattle.scp_quorum.specs.QuorumTree.{QuorumTree}
+use Rattle.scp_quorum.specs.QuorumKind.{set_hash}
+use Rattle.scp_envelope.specs.Kinds.{set_hash_of}
+use Rattle.scp_envelope.specs.declared.statement.Envelope.{Envelope}
+use Rattle.scp_wire.specs.declared.message.Message.{Message}
+use Rattle.scp_wire.specs.declared.message.Message.TheVariants.{Envelope as EnvelopeMessage, GetSet, Set as SetMessage, NoSet, GetRecord, Record, Records}
+use Rattle.scp_wire.specs.Reading.{reading_of}
+use Rattle.scp_text.specs.Pieces.{listed, bracketed}
+use Rattle.scp_text.specs.Sets.{node_text, hash_text, set_text}
+use Rattle.scp_text.specs.Messages.{message_words}
+use Rattle.scp_script.specs.declared.command.Command.{Command}
+use Rattle.scp_script.specs.declared.command.Command.TheVariants.{Caps, Nodes, Set, Open, Close, Send, Propose, Round, Timer, Tick, Ask, Settle, Wait, Report}
+use Rattle.scp_script.specs.Script.{node_count}
+use Rattle.scp_script.specs.Nodes.{numbers, set_at}
+use Rattle.scp_trace_slot.specs.declared.names.Names.{Names}
+
+-- hashes are ordered by their bytes
+abbrev pub hash_cmp : Hash → Hash → Ordering
+hash_cmp a b = slice_cmp nat_cmp a.0 b.0
+
+-- the text of the set that is known by the hash, if one is
+abbrev pub text_at : Names → Hash → Option (List ℕ)
+text_at names hash = option_map string_bytes (hash_map.get hash_cmp names.sets hash)
+
+-- a hash by its set's text
+abbrev pub named : List ℕ → List ℕ
+named text = bracketed (codes "hash(") text
+
+abbrev pub name_by : Option (List ℕ) → Hash → List ℕ
+name_by (Some text) hash = if nat_lt (length (named text)) 64 then named text else hash_text hash
+name_by None hash = hash_text hash
+
+-- `hash(SET)` where the set is known and this is shorter than 64 characters, else the 64 digits
+abbrev pub name_of : Names → Hash → List ℕ
+name_of names hash = name_by (text_at names hash) hash
+
+-- ---- the sets of a script
+
+abbrev pub set_in : Option Message → List QuorumTree
+set_in (Some (SetMessage set)) = set ∷ []
+set_in (Some (EnvelopeMessage e)) = []
+set_in (Some (GetSet hash)) = []
+set_in (Some (NoSet hash)) = []
+set_in (Some (GetRecord slot)) = []
+set_in (Some (Record slot value)) = []
+set_in (Some (Records first values)) = []
+set_in None = []
+
+-- the quorum set that bytes spell as a message, if they do
+abbrev pub set_in_bytes : List ℕ → List QuorumTree
+set_in_bytes bytes = set_in (reading_of bytes)
+
+-- the quorum set that a line sends, if it sends one
+abbrev pub set_sent : Command → List QuorumTree
+set_sent (Caps capacities) = []
+set_sent (Nodes count quorum) = []
+set_sent (Set node set) = []
+set_sent (Open from to) = []
+set_sent (Close from to) = []
+set_sent (Send from to bytes) = set_in_bytes bytes
+set_sent (Propose node slot value) = []
+set_sent (Round node slot) = []
+set_sent (Timer node slot) = []
+set_sent (Tick node) = []
+set_sent (Ask from to slot) = []
+set_sent Settle = []
+set_sent (Wait node things) = []
+set_sent (Report node) = []
+
+-- those of the nodes, and those that lines send
+abbrev pub sets_of : List Command → List QuorumTree
+sets_of commands = map (λ number. set_at number commands) (numbers (node_count commands)) ++ flat_map set_sent commands
+
+-- Each name is the text of one of these sets, by its hash, and the hash of each has one.
+pub record AreNamesOf (sets : List QuorumTree) (names : Names) : Type 0 where
+  pub each : (hash : Hash) (text : List ℕ) → text_at names hash ≡ Some text → (set : QuorumTree) × Contains sets set × (hash.0 ≡ set_hash set) × (text ≡ set_text set)
+  pub all : (set : QuorumTree) → Contains sets set → (hash : Hash) → hash.0 ≡ set_hash set → IsSome (text_at names hash)
+
+-- the names are those of the sets of the script
+abbrev pub AreNames : List Command → Names → Type 0
+AreNames commands names = AreNamesOf (sets_of commands) names
+
+-- ---- texts
+
+-- `1,2,3`, or a dash for none
+abbrev pub nodes_text : List NodeId → List ℕ
+nodes_text [] = codes "-"
+nodes_text (v ∷ vs) = listed 44 true (map node_text (v ∷ vs))
+
+-- the words with this one for their fourth
+abbrev pub with_fourth : List ℕ → List (List ℕ) → List (List ℕ)
+with_fourth word words = take 3 words ++ word ∷ drop 4 words
+
+-- the text of the envelope as a message, with the hash in it, its fourth word, by its name
+abbrev pub statement_text : Names → Envelope → List ℕ
+statement_text names e = listed 32 true (with_fourth (name_of names (set_hash_of e.statement.pledges)) (message_words (EnvelopeMessage (record { value = e }))))
