@@ -1,7 +1,7 @@
 # What the README names. `rt` is the toolchain's command.
 SCRIPT ?= examples/four_nodes.scp
 
-.PHONY: run quick build test check try bench wrong-bodies
+.PHONY: run quick build test check try bench wrong-bodies pages
 
 # prints the report of the first script, on an unproved build, within two minutes
 run:
@@ -34,3 +34,7 @@ wrong-bodies:
 # counts, growth and memory of each workload
 bench:
 	@scripts/bench
+
+# writes the definitions and the promises from the source, into out/pages, in some seconds: believe.html first (docs/BELIEVE.md)
+pages:
+	@scripts/told

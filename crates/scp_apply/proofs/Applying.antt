@@ -19,7 +19,7 @@ use Rattle.scp_ledger.specs.Decisions.{is_at, is_decided, OnePerSlot}
 use Rattle.scp_apply.specs.declared.slots.Slots.{Slots}
 use Rattle.scp_apply.specs.Applied.{AreInOrder, values_of}
 use Rattle.scp_apply.specs.Applier.{IsInWindow}
-use Rattle.scp_apply.specs.Inside.{slots_view, IsApplied, IsSound, AppliesOne, Advances}
+use Rattle.scp_apply.specs.inside.Slots.{slots_view, IsApplied, IsSound, AppliesOne, Advances}
 
 fold-push : {A B : Type 0} (f : B → A → B) (a : B) (xs : List A) (x : A) → fold f a (xs ++ x ∷ []) ≡ f (fold f a xs) x
 fold-push f a [] x = refl
@@ -108,7 +108,7 @@ ends start now none h = record {
 
 -- ---- a decision is buffered
 
-not_there : (slot : ℕ) (ds : List Decision) (k : ℕ) (d : Decision) → is_decided slot ds ≡ false → k < length ds → (get_or ds k d).slot.0 ≢ slot
+pub not_there : (slot : ℕ) (ds : List Decision) (k : ℕ) (d : Decision) → is_decided slot ds ≡ false → k < length ds → (get_or ds k d).slot.0 ≢ slot
 not_there slot ds k d none lt e = two (list_any_at (is_at slot) ds k d lt (eq-eqb _ _ e)) none
   where
     two : is_decided slot ds ≡ true → is_decided slot ds ≡ false → ⊥

@@ -12,7 +12,7 @@ use Rattle.scp_ledger.specs.Decisions.{OnePerSlot}
 use Rattle.scp_apply.specs.declared.slots.Slots.{Slots}
 use Rattle.scp_apply.specs.Applied.{AreInOrder, value_of}
 use Rattle.scp_apply.specs.Applier.{IsLater, IsRunning}
-use Rattle.scp_apply.specs.Inside.{slots_view, IsSound}
+use Rattle.scp_apply.specs.inside.Slots.{slots_view, IsSound}
 
 pub value_before : (from slot : ℕ) (ds : List Decision) → AreInOrder from ds → slot < from → value_of slot ds ≡ None
 value_before from slot [] h lt = refl

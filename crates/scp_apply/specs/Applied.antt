@@ -8,6 +8,7 @@ abbrev pub AreInOrder : ℕ → List Decision → Type 0
 AreInOrder slot [] = Unit {0}
 AreInOrder slot (d ∷ ds) = (d.slot.0 ≡ slot) × AreInOrder (slot + 1) ds
 
+-- the values of decisions, in order
 abbrev pub values_of : List Decision → List (List ℕ)
 values_of decisions = map (λ d. d.value) decisions
 

@@ -11,6 +11,7 @@ use Rattle.scp_ledger.specs.declared.took.Onward.TheVariants.{Decided, Asked}
 use Rattle.scp_ledger.specs.Decisions.{is_decided, OnePerSlot}
 use Rattle.scp_apply.specs.Applied.{AreInOrder, values_of, value_of}
 
+-- what contracts see of an applier
 pub record ApplierView : Type 0 where
   pub failed : Bool
   pub applied : List Decision
@@ -40,6 +41,7 @@ pub record IsInWindow (v : ApplierView) (slot : ℕ) : Type 0 where
   pub near : slot ≤ length v.applied + 16
   pub fresh : is_decided slot v.buffer ≡ false
 
+-- what the caller gives: a decision of one of the 16 slots from n + 1 on that isn't buffered, or any request for a record
 abbrev pub CanTake : ApplierView → Onward → Type 0
 CanTake v (Decided d) = IsInWindow v d.slot.0
 CanTake v (Asked link slot) = Unit {0}

@@ -1,5 +1,5 @@
 pub mod Applied
 pub mod Applier
-pub mod Inside
 pub mod Laws
 pub mod Applies
+pub mod inside

@@ -32,7 +32,7 @@ impl Model for Applier {
 
     ghost coded = { Prim.hlevel (codes, map.code {R = slice_cmp nat_cmp} (coded_list coded_ℕ) (coded_list coded_ℕ)) };
 
-    ghost use Rattle.scp_apply.specs.Inside.{applier_view, IsWell};
+    ghost use Rattle.scp_apply.specs.inside.Slots.{applier_view, IsWell};
 
     ghost view = { applier_view };
 

@@ -1,6 +1,6 @@
 //! Laws of the definitions, each the contract of a function that does nothing.
 ghost use Rattle.scp_apply.specs.Applies.{ApplierKeepsUp, AppliesPass};
-ghost use Rattle.scp_apply.specs.Laws.{NextCanBeTaken};
+ghost use Rattle.scp_apply.specs.Laws.{ApplyingIsAFunction, NextCanBeTaken};
 
 use scp_ledger::a_beginning_keeps_the_window;
 
@@ -18,3 +18,9 @@ pub fn what_holds_of_an_applier_holds_with_one_thing_more()
 {
     a_beginning_keeps_the_window();
 }
+
+/// What an applier answers, and what it shows then, is a function of what it showed and of what it takes: so two that take the
+/// same things answer the same.
+pub fn what_is_applied_is_a_function()
+    ensures { ApplyingIsAFunction }
+{}

@@ -6,6 +6,7 @@
 //!   n + 16;
 //! - a slot that is asked for is answered by its record exactly where it is applied;
 //! - who takes the decisions of a ledger in their order never asks for a slot that can't be taken;
+//! - two appliers that show the same and take the same answer and apply the same;
 //! - an applier that failed keeps its applied list, and its state can't be read.
 #![tactic(auto)]
 
@@ -16,4 +17,5 @@ mod slots;
 pub use applier::Applier;
 pub use laws::{
     the_next_decision_can_be_taken, what_holds_of_an_applier_holds_with_one_thing_more,
+    what_is_applied_is_a_function,
 };

@@ -5,7 +5,7 @@ ghost use Rattle.scp_ledger.specs.declared.journal.Decision.{Decision};
 ghost use Rattle.scp_ledger.specs.Decisions.{is_at, is_decided};
 ghost use Rattle.scp_apply.specs.Applied.{AreInOrder, value_of};
 ghost use Rattle.scp_apply.specs.Applier.{IsInWindow, CanTake, Takes};
-ghost use Rattle.scp_apply.specs.Inside.{slots_view, IsApplied, IsSound, AppliesOne, Advances, Enters};
+ghost use Rattle.scp_apply.specs.inside.Slots.{slots_view, IsApplied, IsSound, AppliesOne, Advances, Enters};
 
 use scp_kv::{KvState, apply_value};
 use scp_ledger::{DECIDED_LIMIT, Onward, SharedDecision, WINDOW};

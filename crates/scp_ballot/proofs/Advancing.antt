@@ -18,16 +18,16 @@ use Rattle.scp_ballot_rules.specs.declared.state.Phase.{Phase}
 use Rattle.scp_ballot_rules.specs.declared.state.Phase.TheVariants.{Prepare, Confirm, Externalize}
 use Rattle.scp_ballot_rules.specs.Own.{own_of, own_in, or_zero, counter_of, StandsFor, IsBlank}
 use Rattle.scp_ballot_rules.specs.Owed.{OwesNothing}
-use Rattle.scp_ballot_rules.specs.Rises.{place, Rises, or_state}
+use Rattle.scp_ballot_rules.specs.inside.Rises.{place, Rises, or_state}
 use Rattle.scp_ballot_rules.proofs.Rising.{rises_trans}
 use Rattle.scp_ballot_rules.proofs.Options.{some_of, some_and, at_some, some_same, none_some}
 use Rattle.scp_ballot.specs.declared.machine.Machine.{Machine}
 use Rattle.scp_ballot.specs.declared.balloted.Balloted.{Balloted}
 use Rattle.scp_ballot.specs.declared.balloted.Certified.{Certified}
 use Rattle.scp_ballot_steps.specs.Told.{ballots_on}
-use Rattle.scp_ballot.specs.Machine.{own_at, IsOwnStatement, IsAtRest, IsSettled}
-use Rattle.scp_ballot.specs.Gives.{IsWorth, Emits, IsCertifiedAt, Decides, Gives}
-use Rattle.scp_ballot.specs.Inside.{ballots_of}
+use Rattle.scp_ballot.specs.inside.Machine.{own_at, IsOwnStatement, IsAtRest, IsSettled}
+use Rattle.scp_ballot.specs.inside.Gives.{IsWorth, Emits, IsCertifiedAt, Decides, Gives}
+use Rattle.scp_ballot.specs.inside.Balloter.{ballots_of}
 use Rattle.scp_ballot.specs.Balloting.{IsOwnEnvelope, IsWorthTelling, last_emitted, Externalizes, IsCertified, GoesOn, Advances}
 use Rattle.scp_ballot.proofs.Others.{licensed_now}
 use Rattle.scp_ballot.proofs.Valuing.{Enters, values_kept}

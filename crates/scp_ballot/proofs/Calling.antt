@@ -11,17 +11,17 @@ use Rattle.scp_ballot_rules.specs.declared.state.Phase.{Phase}
 use Rattle.scp_ballot_rules.specs.declared.state.Phase.TheVariants.{Prepare, Confirm, Externalize}
 use Rattle.scp_ballot_rules.specs.Own.{own_of, own_in, or_zero, counter_of, StandsFor}
 use Rattle.scp_ballot_rules.specs.Ready.{IsPreparing, IsConfirming, IsReadyIn, IsReady}
-use Rattle.scp_ballot_rules.specs.Rises.{place, Rises, or_state}
-use Rattle.scp_ballot_rules.specs.Rules.{Composes}
+use Rattle.scp_ballot_rules.specs.inside.Rises.{place, Rises, or_state}
+use Rattle.scp_ballot_rules.specs.inside.Rules.{Composes}
 use Rattle.scp_ballot_rules.proofs.Rising.{rises_itself}
 use Rattle.scp_ballot_rules.proofs.Options.{some_of, some_and, at_some, some_same, none_some, some_or_none}
 use Rattle.scp_ballot.specs.declared.machine.Machine.{Machine}
 use Rattle.scp_ballot.specs.declared.balloted.Balloted.{Balloted}
 use Rattle.scp_ballot_steps.specs.Told.{ballots_on}
-use Rattle.scp_ballot.specs.Machine.{own_at, IsAtRest}
-use Rattle.scp_ballot.specs.Gives.{Gives}
-use Rattle.scp_ballot.specs.Inputs.{Times, CannotRaise, TakesComposite, TakesTimer, TakesStatement}
-use Rattle.scp_ballot.specs.Inside.{ballots_of}
+use Rattle.scp_ballot.specs.inside.Machine.{own_at, IsAtRest}
+use Rattle.scp_ballot.specs.inside.Gives.{Gives}
+use Rattle.scp_ballot.specs.inside.Inputs.{Times, CannotRaise, TakesComposite, TakesTimer, TakesStatement}
+use Rattle.scp_ballot.specs.inside.Balloter.{ballots_of}
 use Rattle.scp_ballot.specs.Balloting.{HasCounter, HasBallot, KeepsOthers, IsRaised}
 use Rattle.scp_ballot.proofs.Others.{keeps_others}
 use Rattle.scp_ballot.proofs.Heard.{heard_rests, own_heard}

@@ -13,8 +13,8 @@ use Rattle.scp_ballot_rules.specs.Own.{own_of}
 use Rattle.scp_ballot_rules.specs.Steps.{Step, Answers, renewed, Settles}
 use Rattle.scp_ballot.specs.declared.machine.Machine.{Machine}
 use Rattle.scp_ballot_steps.specs.Told.{ballots_on}
-use Rattle.scp_ballot.specs.Machine.{Renews}
-use Rattle.scp_ballot.specs.Exactly.{ComesTo, GoesTo}
+use Rattle.scp_ballot.specs.inside.Machine.{Renews}
+use Rattle.scp_ballot.specs.inside.Exactly.{ComesTo, GoesTo}
 
 -- the board on which the own statement is put is that with it
 pub puts_renewed : (b c : Seen) (hash : Hash) (s : State) → Puts b c b.me (own_of hash s) b.local → c ≡ renewed hash b s

@@ -13,17 +13,17 @@ use Rattle.scp_ballot_rules.specs.declared.state.Phase.TheVariants.{Prepare, Con
 use Rattle.scp_ballot_rules.specs.Own.{own_of, own_in, or_zero, counter_of, StandsFor}
 use Rattle.scp_ballot_rules.specs.Owed.{AreAheadOf}
 use Rattle.scp_ballot_rules.specs.Ready.{IsPreparing, IsReadyIn, IsReady}
-use Rattle.scp_ballot_rules.specs.Rises.{Moves, or_state}
-use Rattle.scp_ballot_rules.specs.Rules.{Composes}
+use Rattle.scp_ballot_rules.specs.inside.Rises.{Moves, or_state}
+use Rattle.scp_ballot_rules.specs.inside.Rules.{Composes}
 use Rattle.scp_ballot_rules.proofs.Options.{some_and, some_same, none_some, some_or_none}
 use Rattle.scp_ballot_rules.proofs.Moving.{raised_moves}
 use Rattle.scp_ballot.specs.declared.machine.Machine.{Machine}
 use Rattle.scp_ballot.specs.declared.balloted.Balloted.{Balloted}
 use Rattle.scp_ballot_steps.specs.Told.{ballots_on}
-use Rattle.scp_ballot.specs.Machine.{own_at, IsAtRest}
-use Rattle.scp_ballot.specs.Gives.{Gives}
-use Rattle.scp_ballot.specs.Inputs.{Times, TakesComposite, TakesTimer, TakesStatement}
-use Rattle.scp_ballot.specs.Inside.{ballots_of}
+use Rattle.scp_ballot.specs.inside.Machine.{own_at, IsAtRest}
+use Rattle.scp_ballot.specs.inside.Gives.{Gives}
+use Rattle.scp_ballot.specs.inside.Inputs.{Times, TakesComposite, TakesTimer, TakesStatement}
+use Rattle.scp_ballot.specs.inside.Balloter.{ballots_of}
 use Rattle.scp_ballot.specs.Balloting.{HasCounter, IsPrepare, TakesValue, IsFirst, MakesFirst}
 use Rattle.scp_ballot.proofs.Valuing.{Enters, composite_value}
 use Rattle.scp_ballot.proofs.Calling.{has_counter, at_if, at_none}

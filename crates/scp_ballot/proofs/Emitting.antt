@@ -6,8 +6,8 @@ use Rattle.scp_envelope.specs.declared.statement.Pledges.{Pledges}
 use Rattle.scp_envelope.specs.declared.statement.Statement.{Statement}
 use Rattle.scp_envelope.specs.declared.statement.Envelope.{Envelope}
 use Rattle.scp_ballot.specs.declared.machine.Machine.{Machine}
-use Rattle.scp_ballot.specs.Machine.{IsOwnStatement}
-use Rattle.scp_ballot.specs.Gives.{IsWorth, Emits}
+use Rattle.scp_ballot.specs.inside.Machine.{IsOwnStatement}
+use Rattle.scp_ballot.specs.inside.Gives.{IsWorth, Emits}
 
 abbrev statement : NodeId → Slot → Pledges → Statement
 statement v s p = record { node = v; slot = s; pledges = p }

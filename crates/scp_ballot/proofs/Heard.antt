@@ -13,11 +13,11 @@ use Rattle.scp_vote.proofs.Chain.{same_at}
 use Rattle.scp_ballot_rules.specs.declared.state.State.{State}
 use Rattle.scp_ballot_rules.specs.Own.{StandsFor}
 use Rattle.scp_ballot_rules.specs.Ready.{IsReady}
-use Rattle.scp_ballot_rules.specs.Rules.{IsChange}
+use Rattle.scp_ballot_rules.specs.inside.Rules.{IsChange}
 use Rattle.scp_ballot.specs.declared.machine.Machine.{Machine}
 use Rattle.scp_ballot_steps.specs.Told.{ballots_on}
-use Rattle.scp_ballot.specs.Machine.{own_at, KeepsRest, IsAtRest}
-use Rattle.scp_ballot.specs.Inputs.{HearsOne, Times}
+use Rattle.scp_ballot.specs.inside.Machine.{own_at, KeepsRest, IsAtRest}
+use Rattle.scp_ballot.specs.inside.Inputs.{HearsOne, Times}
 
 decided : (b : Bool) → (b ≡ true) ⊎ (b ≡ false)
 decided true = inl refl

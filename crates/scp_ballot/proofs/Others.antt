@@ -7,8 +7,8 @@ use Rattle.scp_quorum.specs.QuorumTree.{QuorumTree}
 use Rattle.scp_envelope.specs.declared.statement.Pledges.{Pledges}
 use Rattle.scp_vote.specs.Board.{Seen}
 use Rattle.scp_vote.specs.Licence.{with_own, Leads, Licensed}
-use Rattle.scp_vote.proofs.Same.{IsSame, follows_same}
-use Rattle.scp_vote.proofs.Chain.{IsChain}
+use Rattle.scp_vote.proofs.Same.{follows_same}
+use Rattle.scp_vote.specs.inside.Chain.{IsSame, IsChain}
 use Rattle.scp_ballot.specs.Balloting.{KeepsOthers}
 use Rattle.scp_ballot.proofs.Heard.{apart}
 

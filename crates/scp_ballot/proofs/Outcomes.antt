@@ -22,8 +22,8 @@ use Rattle.scp_ballot_rules.specs.declared.state.Phase.TheVariants.{Prepare, Con
 use Rattle.scp_ballot_rules.specs.Order.{AtMost, FitsUnder}
 use Rattle.scp_ballot_rules.specs.Own.{own_of, own_in, or_zero, counter_of, StandsFor}
 use Rattle.scp_ballot_rules.specs.Ready.{IsLowUnder, NoneOver, IsPreparing, IsConfirming, IsExternalized, IsReadyIn, IsReady}
-use Rattle.scp_ballot_rules.specs.Rises.{or_state}
-use Rattle.scp_ballot_rules.specs.Rules.{Composes}
+use Rattle.scp_ballot_rules.specs.inside.Rises.{or_state}
+use Rattle.scp_ballot_rules.specs.inside.Rules.{Composes}
 use Rattle.scp_ballot_rules.specs.RaiseCounter.{RaiseTo}
 use Rattle.scp_ballot_rules.specs.Steps.{Answers, renewed, Settles}
 use Rattle.scp_ballot_rules.specs.Inputs.{Composed, Compose, Time, AfterInput}
@@ -32,11 +32,11 @@ use Rattle.scp_ballot_rules.proofs.Order.{values_decided, at_most_counter}
 use Rattle.scp_ballot.specs.declared.machine.Machine.{Machine}
 use Rattle.scp_ballot.specs.declared.balloted.Balloted.{Balloted}
 use Rattle.scp_ballot_steps.specs.Told.{ballots_on}
-use Rattle.scp_ballot.specs.Machine.{own_at, IsAtRest}
-use Rattle.scp_ballot.specs.Exactly.{ComesTo}
-use Rattle.scp_ballot.specs.Gives.{Gives}
-use Rattle.scp_ballot.specs.Inputs.{TakesComposite, TakesTimer, TakesStatement}
-use Rattle.scp_ballot.specs.Inside.{ballots_of}
+use Rattle.scp_ballot.specs.inside.Machine.{own_at, IsAtRest}
+use Rattle.scp_ballot.specs.inside.Exactly.{ComesTo}
+use Rattle.scp_ballot.specs.inside.Gives.{Gives}
+use Rattle.scp_ballot.specs.inside.Inputs.{TakesComposite, TakesTimer, TakesStatement}
+use Rattle.scp_ballot.specs.inside.Balloter.{ballots_of}
 use Rattle.scp_ballot.specs.Balloting.{Ballots, IsWorthTelling, Advances}
 use Rattle.scp_ballot.specs.Outcome.{IsToEmit, ComesOut, ComposesExactly, TimesExactly, HearsExactly}
 use Rattle.scp_ballot.proofs.Calling.{at_if, at_none}

@@ -6,16 +6,18 @@ use Rattle.scp_vote.specs.declared.claim.Support.TheVariants.{Accepts}
 use Rattle.scp_vote.specs.Claims.{Stands}
 use Rattle.scp_vote.specs.Board.{Seen, Puts, Confirmed, KeepsOwn}
 use Rattle.scp_vote.specs.Licence.{Follows}
-use Rattle.scp_vote.proofs.Chain.{IsChain, chain_start, chain_more, own_new}
+use Rattle.scp_vote.proofs.Chain.{chain_start, chain_more, own_new}
+use Rattle.scp_vote.specs.inside.Chain.{IsChain}
 use Rattle.scp_envelope.specs.declared.statement.Pledges.{Pledges}
 use Rattle.scp_ballot_rules.specs.declared.state.State.{State}
 use Rattle.scp_ballot_rules.specs.declared.state.Phase.{Phase}
 use Rattle.scp_ballot_rules.specs.declared.state.Phase.TheVariants.{Prepare, Confirm, Externalize}
 use Rattle.scp_ballot_rules.specs.Own.{own_of, own_in, or_zero, counter_of, StandsFor}
 use Rattle.scp_ballot_rules.specs.Ready.{IsPreparing, IsReadyIn, IsReady}
-use Rattle.scp_ballot_rules.specs.Rises.{Rises, Moves, or_state}
+use Rattle.scp_ballot_rules.specs.inside.Rises.{Rises, Moves, or_state}
 use Rattle.scp_ballot_rules.specs.Owed.{AreAheadOf}
-use Rattle.scp_ballot_rules.specs.Rules.{ConfirmsCommit, IsStep, IsChange}
+use Rattle.scp_ballot_rules.specs.Rules.{ConfirmsCommit}
+use Rattle.scp_ballot_rules.specs.inside.Rules.{IsStep, IsChange}
 use Rattle.scp_ballot_rules.proofs.Options.{some_of}
 use Rattle.scp_ballot_rules.proofs.Rising.{rises_trans, rises_itself, step_rises}
 use Rattle.scp_ballot_rules.proofs.Raising.{composing_keeps}
@@ -26,7 +28,7 @@ use Rattle.scp_ballot_rules.proofs.Certifying.{confirmed_stays}
 use Rattle.scp_ballot.specs.declared.machine.Machine.{Machine}
 use Rattle.scp_ballot_steps.specs.Told.{ballots_on}
 use Rattle.scp_ballot.proofs.Others.{keeps_others}
-use Rattle.scp_ballot.specs.Machine.{own_at, Renews, IsConfirmedAt, IsAtRest, IsSettled}
+use Rattle.scp_ballot.specs.inside.Machine.{own_at, Renews, IsConfirmedAt, IsAtRest, IsSettled}
 
 -- a rule or a composite keeps the state ready, and gives one link
 change_keeps : (b : Seen) (hash : Hash) (old next : State) → StandsFor (b.statement b.me) hash old → IsReady old → IsChange b old next → IsReady next × Follows b (b.statement b.me) (own_of hash next)

@@ -13,9 +13,9 @@ use Rattle.scp_ballot_rules.proofs.Rising.{rises_itself}
 use Rattle.scp_ballot.specs.declared.machine.Machine.{Machine}
 use Rattle.scp_ballot.specs.declared.balloted.Balloted.{Balloted}
 use Rattle.scp_ballot_steps.specs.Told.{ballots_on}
-use Rattle.scp_ballot.specs.Machine.{own_at, IsAtRest}
-use Rattle.scp_ballot.specs.Inputs.{IsHeardBy, HearsOne, TakesStatement}
-use Rattle.scp_ballot.specs.Inside.{ballots_of}
+use Rattle.scp_ballot.specs.inside.Machine.{own_at, IsAtRest}
+use Rattle.scp_ballot.specs.inside.Inputs.{IsHeardBy, HearsOne, TakesStatement}
+use Rattle.scp_ballot.specs.inside.Balloter.{ballots_of}
 use Rattle.scp_ballot.specs.Balloting.{Ballots, own, Advances, KeepsValue, GoesOn, IsDecided, IsWorthTelling, last_emitted, KeepsOthers, IsHeard, HearsOnly}
 use Rattle.scp_ballot.specs.Outcome.{HearsOn}
 use Rattle.scp_ballot.proofs.Heard.{heard_rests, own_heard}

@@ -9,7 +9,7 @@ use Rattle.scp_ballot_rules.specs.declared.state.State.{State}
 use Rattle.scp_ballot_rules.specs.declared.state.Phase.{Phase}
 use Rattle.scp_ballot_rules.specs.declared.state.Phase.TheVariants.{Prepare, Confirm, Externalize}
 use Rattle.scp_ballot_rules.specs.Own.{own_of, own_in, or_zero, counter_of, StandsFor}
-use Rattle.scp_ballot_rules.specs.Rises.{place, Rises, HasComposite, Moves}
+use Rattle.scp_ballot_rules.specs.inside.Rises.{place, Rises, HasComposite, Moves}
 use Rattle.scp_ballot_rules.proofs.Options.{some_of, some_same, none_some}
 use Rattle.scp_ballot.specs.Balloting.{HasPresent, KeepsValue}
 

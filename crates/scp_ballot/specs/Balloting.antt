@@ -37,6 +37,7 @@ pub record Ballots : Type 0 where
   pub emitted : Option Pledges
   pub failed : Bool
 
+-- what contracts see of the ballots
 abbrev pub ballots : BalloterView → Ballots
 ballots v = record { slot = v.slot; hash = v.hash; board = ballots_on v.board; state = v.state; composite = v.composite; emitted = v.emitted; failed = v.failed }
 
@@ -55,6 +56,7 @@ HasCounter (Confirming p) = Unit {0}
 HasCounter (Externalizing p) = Unit {0}
 HasCounter (Nominating p) = ⊥
 
+-- an own statement has a ballot
 abbrev pub HasBallot : Ballots → Type 0
 HasBallot b = IsSomeAnd (own b) HasCounter
 
@@ -142,6 +144,7 @@ pub record Advances (old new : Ballots) (given : Balloted) : Type 0 where
   pub making : KeepsMaking old new
   pub counted : KeepsOwn new.board
 
+-- it is a PREPARE
 abbrev pub IsPrepare : Pledges → Type 0
 IsPrepare (Preparing p) = Unit {0}
 IsPrepare (Confirming p) = ⊥
@@ -190,6 +193,7 @@ IsRaised (Preparing p) (Preparing q) = p.ballot.counter ≢ 0 → p.ballot.count
 IsRaised (Confirming p) (Confirming q) = p.ballot.counter ≢ 0 → p.ballot.counter ≢ 4294967295 → p.ballot.counter < q.ballot.counter
 IsRaised p q = Unit {0}
 
+-- the own ballot's counter grew
 abbrev pub RaisesCounter : Ballots → Ballots → Type 0
 RaisesCounter old new = ForSome (own old) (λ p. ForSome (own new) (λ q. IsRaised p q))
 

@@ -1,9 +1,4 @@
-pub mod Ahead
-pub mod Machine
-pub mod Exactly
-pub mod Gives
-pub mod Inputs
 pub mod View
 pub mod Balloting
 pub mod Outcome
-pub mod Inside
+pub mod inside

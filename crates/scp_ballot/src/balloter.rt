@@ -30,7 +30,7 @@ impl Model for Balloter {
 
     ghost coded = { Prim.hlevel (codes, board.the_row.coded, state.the_row.coded) };
 
-    ghost use Rattle.scp_ballot.specs.Inside.{balloter_view, IsWell};
+    ghost use Rattle.scp_ballot.specs.inside.Balloter.{balloter_view, IsWell};
 
     ghost view = { balloter_view };
 

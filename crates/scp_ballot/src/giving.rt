@@ -7,13 +7,13 @@ ghost use Rattle.scp_envelope.specs.declared.statement.Statement.{Statement};
 ghost use Rattle.scp_ballot_rules.specs.Ready.{IsReady};
 ghost use Rattle.scp_ballot_rules.specs.Own.{counter_of};
 ghost use Rattle.scp_ballot_rules.specs.declared.state.Phase.TheVariants.{Externalize};
-ghost use Rattle.scp_ballot_rules.specs.Rules.{IsChange};
+ghost use Rattle.scp_ballot_rules.specs.inside.Rules.{IsChange};
 ghost use Rattle.scp_ballot_rules.specs.Owed.{OwesNothing};
 ghost use Rattle.scp_quorum.specs.NodeSet.{is_in};
 ghost use Rattle.scp_vote.specs.Board.{Certificate, Confirmed};
 ghost use Rattle.scp_vote.specs.declared.claim.Claim.TheVariants.{Committed};
 ghost use Rattle.scp_ballot_steps.specs.Told.{ballots_on};
-ghost use Rattle.scp_ballot.specs.Machine.{IsAtRest, IsSettled, IsOwnStatement, IsConfirmedAt};
+ghost use Rattle.scp_ballot.specs.inside.Machine.{IsAtRest, IsSettled, IsOwnStatement, IsConfirmedAt};
 
 use crate::balloted::{Balloted, Certified};
 use crate::machine::{Machine, unsigned};
@@ -57,7 +57,7 @@ fn certificate(
 }
 
 impl Machine {
-    ghost use Rattle.scp_ballot.specs.Gives.{Emits, IsCertifiedAt, Decides, Gives};
+    ghost use Rattle.scp_ballot.specs.inside.Gives.{Emits, IsCertifiedAt, Decides, Gives};
 
     /// The own statement, if it is to be emitted, which is then the last one that was.
     fn emit(&mut self) -> Result<Option<SharedEnvelope>, Fault>

@@ -2,15 +2,15 @@
 ghost use Rattle.std.specs.Prelude.{◌≡◌, ◌≢◌, ◌+◌, ◌⊎◌, ◌↔◌, None, Some, IsSome, IsSomeAnd, IsTrue, IfOk, IfSome, IfNone, OnOk, IsOkUnless};
 ghost use Rattle.scp_ballot_rules.specs.Own.{counter_of};
 ghost use Rattle.scp_ballot_rules.specs.Ready.{IsReady};
-ghost use Rattle.scp_ballot_rules.specs.Rules.{Composes, IsChange};
+ghost use Rattle.scp_ballot_rules.specs.inside.Rules.{Composes, IsChange};
 ghost use Rattle.scp_ballot_rules.specs.Steps.{Answers};
 ghost use Rattle.scp_ballot_rules.specs.Inputs.{Time};
 ghost use Rattle.scp_ballot_steps.specs.Told.{ballots_on};
 ghost use Rattle.scp_ballot_rules.specs.declared.state.Phase.TheVariants.{Prepare};
 ghost use Rattle.scp_vote.specs.Board.{kind_of_pledges};
 ghost use Rattle.scp_vote.specs.declared.claim.StatementKind.TheVariants.{Balloting};
-ghost use Rattle.scp_ballot.specs.Machine.{IsAtRest};
-ghost use Rattle.scp_ballot.specs.Inputs.{Times, CannotRaise};
+ghost use Rattle.scp_ballot.specs.inside.Machine.{IsAtRest};
+ghost use Rattle.scp_ballot.specs.inside.Inputs.{Times, CannotRaise};
 
 use crate::balloted::Balloted;
 use crate::machine::Machine;
@@ -101,8 +101,8 @@ fn is_ballot(envelope: &Envelope) -> bool
 }
 
 impl Machine {
-    ghost use Rattle.scp_ballot.specs.Inputs.{TakesComposite, TakesTimer, IsHeardBy, HearsOne, TakesStatement};
-    ghost use Rattle.scp_ballot.specs.Gives.{Gives};
+    ghost use Rattle.scp_ballot.specs.inside.Inputs.{TakesComposite, TakesTimer, IsHeardBy, HearsOne, TakesStatement};
+    ghost use Rattle.scp_ballot.specs.inside.Gives.{Gives};
 
     /// A composite of the nomination.
     pub(crate) fn candidate(&mut self, value: Value) -> Result<Balloted, Fault>

@@ -9,6 +9,8 @@
 //!   own statement stays as it is from then on.
 //! - After a composite there is a ballot, and a timer raises its counter.
 //! - A refusal leaves it failed, and changes nothing from then on.
+//!
+//! Not claimed: what a failed balloter shows beside `failed`.
 #![tactic(auto)]
 
 mod balloted;

@@ -3,11 +3,11 @@ ghost use Rattle.std.specs.Prelude.{◌≡◌, ◌≢◌, ◌⊎◌, ◌↔◌, 
 ghost use Rattle.std.specs.Option.{ForSome, option_map};
 ghost use Rattle.scp_vote.specs.Licence.{Licensed};
 ghost use Rattle.scp_vote.specs.Board.{IsNewBoard};
-ghost use Rattle.scp_ballot_rules.specs.Rules.{IsChange};
+ghost use Rattle.scp_ballot_rules.specs.inside.Rules.{IsChange};
 ghost use Rattle.scp_ballot_rules.specs.Ready.{IsReady};
 ghost use Rattle.scp_ballot_rules.specs.Owed.{OwesNothing};
 ghost use Rattle.scp_ballot_steps.specs.Told.{ballots_on};
-ghost use Rattle.scp_ballot.specs.Exactly.{ComesTo};
+ghost use Rattle.scp_ballot.specs.inside.Exactly.{ComesTo};
 
 use crate::next::next;
 use scp_ballot_rules::{State, pledges_of};
@@ -31,7 +31,7 @@ pub(crate) struct Machine {
 }
 
 impl Machine {
-    ghost use Rattle.scp_ballot.specs.Machine.{own_at, IsAtRest, IsSettled, Renews, IsOwnStatement, MachineBegins};
+    ghost use Rattle.scp_ballot.specs.inside.Machine.{own_at, IsAtRest, IsSettled, Renews, IsOwnStatement, MachineBegins};
 
     /// An empty board of this node and its set, and nothing said.
     pub(crate) fn new(alloc: Global, me: NodeId, slot: Slot, local: Arc<SaneSet>) -> Machine

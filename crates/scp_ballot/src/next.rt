@@ -2,8 +2,10 @@
 ghost use Rattle.std.specs.Prelude.{◌≡◌, ◌⊎◌, IfOk, IfSome, IfNone, IsOkUnless};
 ghost use Rattle.scp_ballot_rules.specs.declared.state.Phase.TheVariants.{Prepare, Confirm, Externalize};
 ghost use Rattle.scp_ballot_rules.specs.Ready.{IsReady, IsConfirming};
-ghost use Rattle.scp_ballot_rules.specs.Rules.{IsStep, AcceptsPrepared, ConfirmsPrepared, AcceptsCommit, CatchesUp, AcceptsMore, Grows, ConfirmsCommit, RaisesMore};
-ghost use Rattle.scp_ballot_rules.specs.Rests.{Rests, RestsInPrepare, RestsInConfirm, CommitsNone, RaisesNone, CommitsNoHigher, ConfirmsNone, AcceptsNoMore, ConfirmsNoMore};
+ghost use Rattle.scp_ballot_rules.specs.inside.Rules.{IsStep, CatchesUp, RaisesMore};
+ghost use Rattle.scp_ballot_rules.specs.Rules.{AcceptsPrepared, ConfirmsPrepared, AcceptsCommit, AcceptsMore, Grows, ConfirmsCommit};
+ghost use Rattle.scp_ballot_rules.specs.inside.Rests.{Rests, RestsInPrepare, RestsInConfirm, RaisesNone};
+ghost use Rattle.scp_ballot_rules.specs.Rests.{CommitsNone, CommitsNoHigher, ConfirmsNone, AcceptsNoMore, ConfirmsNoMore};
 ghost use Rattle.scp_ballot_steps.specs.Told.{ballots_on};
 ghost use Rattle.scp_ballot_rules.specs.AcceptPrepared.{AcceptPrepared};
 ghost use Rattle.scp_ballot_rules.specs.ConfirmPrepared.{ConfirmPrepared};

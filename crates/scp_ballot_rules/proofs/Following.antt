@@ -17,7 +17,8 @@ use Rattle.scp_ballot_rules.specs.declared.state.Phase.TheVariants.{Prepare, Con
 use Rattle.scp_ballot_rules.specs.Order.{AtMost, FitsUnder, IsOver, IsAbove}
 use Rattle.scp_ballot_rules.specs.Own.{counter_of, or_zero, prepare_of, confirm_of, externalize_of, own_in, own_of, IsBlank, StandsFor}
 use Rattle.scp_ballot_rules.specs.Ready.{HasValue, IsLowUnder, NoneOver, IsPreparing, IsConfirming, IsReadyIn, IsReady}
-use Rattle.scp_ballot_rules.specs.Rules.{IsHeld, AcceptsPrepared, AcceptsMore, Joins, LowAfter, ConfirmsPrepared, AcceptsCommit, ConfirmsCommit, Raises, RaisesMore, Composes, Grows, IsStep}
+use Rattle.scp_ballot_rules.specs.Rules.{IsHeld, AcceptsPrepared, AcceptsMore, Joins, LowAfter, ConfirmsPrepared, AcceptsCommit, ConfirmsCommit, Grows}
+use Rattle.scp_ballot_rules.specs.inside.Rules.{Raises, RaisesMore, Composes, IsStep}
 use Rattle.scp_ballot_rules.proofs.Options.{some_of, some_and, at_some, none_some, some_same, some_or_none, same_some_and}
 use Rattle.scp_ballot_rules.proofs.Order.{at_most_trans, at_most_counter, at_most_apart, values_decided, covered}
 use Rattle.scp_ballot_rules.proofs.Accepting.{accepting_keeps}

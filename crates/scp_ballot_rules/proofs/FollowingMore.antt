@@ -16,7 +16,8 @@ use Rattle.scp_ballot_rules.specs.declared.state.Phase.TheVariants.{Prepare, Con
 use Rattle.scp_ballot_rules.specs.Order.{IsAbove}
 use Rattle.scp_ballot_rules.specs.Own.{counter_of, or_zero, confirm_of, own_in, own_of, StandsFor}
 use Rattle.scp_ballot_rules.specs.Ready.{IsLowUnder, IsPreparing, IsConfirming, IsReadyIn, IsReady}
-use Rattle.scp_ballot_rules.specs.Rules.{IsHeld, AcceptsPrepared, ConfirmsPrepared, Raises, CatchesUp, ConfirmsCommit, AcceptsMore, AcceptsCommit, RaisesMore, Grows, IsStep}
+use Rattle.scp_ballot_rules.specs.Rules.{IsHeld, AcceptsPrepared, ConfirmsPrepared, ConfirmsCommit, AcceptsMore, AcceptsCommit, Grows}
+use Rattle.scp_ballot_rules.specs.inside.Rules.{Raises, CatchesUp, RaisesMore, IsStep}
 use Rattle.scp_ballot_rules.proofs.Options.{some_of, some_and, at_some, none_some, some_same, some_or_none}
 use Rattle.scp_ballot_rules.proofs.Accepting.{accepting_keeps}
 use Rattle.scp_ballot_rules.proofs.Confirming.{confirming_keeps}

@@ -12,7 +12,8 @@ use Rattle.scp_ballot_rules.specs.Order.{AtMost, IsOver, IsAbove}
 use Rattle.scp_ballot_rules.specs.Own.{counter_of}
 use Rattle.scp_ballot_rules.specs.Ready.{IsLowUnder, NoneOver, IsConfirming, IsReadyIn, IsReady}
 use Rattle.scp_ballot_rules.specs.Owed.{AreAheadOf}
-use Rattle.scp_ballot_rules.specs.Rules.{IsHeld, AcceptsPrepared, AcceptsMore, Joins, LowAfter, ConfirmsPrepared, AcceptsCommit, ConfirmsCommit, Raises, CatchesUp, RaisesMore, Grows, IsStep}
+use Rattle.scp_ballot_rules.specs.Rules.{IsHeld, AcceptsPrepared, AcceptsMore, Joins, LowAfter, ConfirmsPrepared, AcceptsCommit, ConfirmsCommit, Grows}
+use Rattle.scp_ballot_rules.specs.inside.Rules.{Raises, CatchesUp, RaisesMore, IsStep}
 use Rattle.scp_ballot_rules.specs.Greatest.{Where, IsOf, ballot_at}
 use Rattle.scp_ballot_rules.specs.AcceptPrepared.{IsInA, AcceptsInPrepare, AcceptsInConfirm, AcceptPrepared}
 use Rattle.scp_ballot_rules.specs.ConfirmPrepared.{IsConfirmedCandidate, Enters, ConfirmsInPrepare, ConfirmPrepared}

@@ -15,8 +15,9 @@ use Rattle.scp_ballot_rules.specs.Order.{IsAbove}
 use Rattle.scp_ballot_rules.specs.Own.{counter_of}
 use Rattle.scp_ballot_rules.specs.Owed.{AreAheadOf, counter_in}
 use Rattle.scp_ballot_rules.specs.Ready.{IsPreparing, IsReadyIn, IsReady}
-use Rattle.scp_ballot_rules.specs.Rules.{raised_value, Joins, ConfirmsPrepared, Raises, CatchesUp, Composes, IsStep}
-use Rattle.scp_ballot_rules.specs.Rises.{place, HasComposite, Moves}
+use Rattle.scp_ballot_rules.specs.Rules.{raised_value, Joins, ConfirmsPrepared}
+use Rattle.scp_ballot_rules.specs.inside.Rules.{Raises, CatchesUp, Composes, IsStep}
+use Rattle.scp_ballot_rules.specs.inside.Rises.{place, HasComposite, Moves}
 use Rattle.scp_ballot_rules.proofs.Options.{some_of, some_and, at_some, some_same, none_some, some_or_none}
 use Rattle.scp_ballot_rules.proofs.Rising.{step_rises}
 

@@ -15,7 +15,7 @@ use Rattle.scp_ballot_rules.specs.Order.{AtMost, IsOver, IsAbove}
 use Rattle.scp_ballot_rules.specs.Own.{counter_of, or_zero, prepare_of, confirm_of, own_in, own_of, IsBlank, StandsFor}
 use Rattle.scp_ballot_rules.specs.Ready.{HasValue, IsLowUnder, NoneOver, IsPreparing, IsConfirming, IsReadyIn, IsReady}
 use Rattle.scp_ballot_rules.specs.Owed.{Names, IsCandidate, IsBoundary, AreAheadOf, IsPrepareSettled, IsConfirmSettled, IsSettled, nothing_said, own_or_nothing, OwesNothing}
-use Rattle.scp_ballot_rules.specs.Rests.{RestsInPrepare, RestsInConfirm, RestsIn, Rests}
+use Rattle.scp_ballot_rules.specs.inside.Rests.{RestsInPrepare, RestsInConfirm, RestsIn, Rests}
 use Rattle.scp_ballot_rules.proofs.Options.{some_of, some_and, at_some, none_some, some_or_none, has_some}
 use Rattle.scp_ballot_rules.proofs.Order.{less_turn, less_irrefl}
 use Rattle.scp_ballot_rules.proofs.FollowingMore.{present_value}

@@ -5,7 +5,8 @@ use Rattle.scp_types.specs.declared.ballot.Ballot.{Ballot}
 use Rattle.scp_ballot_rules.specs.declared.state.State.{State}
 use Rattle.scp_ballot_rules.specs.Own.{counter_of}
 use Rattle.scp_ballot_rules.specs.Ready.{HasValue}
-use Rattle.scp_ballot_rules.specs.Rules.{Raises, raised_value}
+use Rattle.scp_ballot_rules.specs.inside.Rules.{Raises}
+use Rattle.scp_ballot_rules.specs.Rules.{raised_value}
 
 value_there : (w : Option Ballot) (z : Option (List ℕ)) (p : Option Ballot) (v : List ℕ) → raised_value w z p ≡ Some v → IsSome w ⊎ IsSome z ⊎ IsSome p
 value_there (Some w) z p v e = inl refl

@@ -7,7 +7,7 @@ use Rattle.scp_ballot_rules.specs.declared.state.State.{State}
 use Rattle.scp_ballot_rules.specs.Order.{AtMost, FitsUnder, IsOver}
 use Rattle.scp_ballot_rules.specs.Own.{counter_of}
 use Rattle.scp_ballot_rules.specs.Ready.{HasValue, IsLowUnder, NoneOver, IsPreparing, IsConfirming}
-use Rattle.scp_ballot_rules.specs.Rules.{Raises, RaisesMore, Composes}
+use Rattle.scp_ballot_rules.specs.inside.Rules.{Raises, RaisesMore, Composes}
 use Rattle.scp_ballot_rules.proofs.Options.{some_of, some_and, at_some, for_some, none_some, some_same, some_or_none, same_some_and, has_some}
 use Rattle.scp_ballot_rules.proofs.Order.{either_way, less_counter, at_most_counter}
 

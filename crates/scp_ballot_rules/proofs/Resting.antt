@@ -11,7 +11,8 @@ use Rattle.scp_ballot_rules.specs.Order.{AtMost}
 use Rattle.scp_ballot_rules.specs.Own.{counter_of}
 use Rattle.scp_ballot_rules.specs.Ready.{IsLowUnder, IsConfirming, IsReadyIn, IsReady}
 use Rattle.scp_ballot_rules.specs.Owed.{counter_in, AreAheadOf}
-use Rattle.scp_ballot_rules.specs.Rests.{AcceptsNoMore, ConfirmsNoMore, CommitsNone, CommitsNoHigher, ConfirmsNone, RestsInPrepare, RestsInConfirm, RestsIn, Rests}
+use Rattle.scp_ballot_rules.specs.Rests.{AcceptsNoMore, ConfirmsNoMore, CommitsNone, CommitsNoHigher, ConfirmsNone}
+use Rattle.scp_ballot_rules.specs.inside.Rests.{RestsInPrepare, RestsInConfirm, RestsIn, Rests}
 use Rattle.scp_ballot_rules.specs.AcceptPrepared.{AcceptsInPrepare, AcceptPrepared}
 use Rattle.scp_ballot_rules.specs.ConfirmPrepared.{ConfirmsInPrepare, ConfirmPrepared}
 use Rattle.scp_ballot_rules.specs.AcceptCommit.{AcceptCommit}

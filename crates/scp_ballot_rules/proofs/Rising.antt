@@ -9,8 +9,9 @@ use Rattle.scp_ballot_rules.specs.declared.state.State.{State}
 use Rattle.scp_ballot_rules.specs.declared.state.Phase.TheVariants.{Prepare, Confirm, Externalize}
 use Rattle.scp_ballot_rules.specs.Order.{AtMost, IsAbove}
 use Rattle.scp_ballot_rules.specs.Own.{counter_of}
-use Rattle.scp_ballot_rules.specs.Rules.{Joins, ConfirmsPrepared, Grows, IsStep, IsChange}
-use Rattle.scp_ballot_rules.specs.Rises.{place, Rises}
+use Rattle.scp_ballot_rules.specs.Rules.{Joins, ConfirmsPrepared, Grows}
+use Rattle.scp_ballot_rules.specs.inside.Rules.{IsStep, IsChange}
+use Rattle.scp_ballot_rules.specs.inside.Rises.{place, Rises}
 use Rattle.scp_ballot_rules.proofs.Options.{some_of, some_or_none}
 use Rattle.scp_ballot_rules.proofs.Order.{less_counter, at_most_counter}
 

@@ -37,6 +37,7 @@ pub record TakesHigher (b : Seen) (v : List ℕ) (lo hi : ℕ) (s t : State) : T
   pub takes : TakesRange v lo hi s t
   pub prepared : t.prepared ≡ s.prepared
 
+-- which commits it accepts, by the phase
 abbrev pub AcceptCommit : Phase → Seen → State → State → Type 0
 AcceptCommit Prepare b s t = ((v : List ℕ) × (lo : ℕ) × (hi : ℕ) × TakesFirst b v lo hi s t) ⊎ (((v : List ℕ) → HasNone (λ c. Accepted b c) b v 0) × (t ≡ s))
 AcceptCommit Confirm b s t = ((v : List ℕ) × (lo : ℕ) × (hi : ℕ) × TakesHigher b v lo hi s t) ⊎ (((v : List ℕ) → IsOf v s.low → HasNone (λ c. Accepted b c) b v (counter_of s.high)) × (t ≡ s))

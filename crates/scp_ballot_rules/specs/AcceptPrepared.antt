@@ -29,10 +29,12 @@ pub record AcceptsInPrepare (b : Seen) (s t : State) : Type 0 where
   pub prime : IsGreatestOf (λ x. (IsInA Prepare b s x ⊎ IsHeld s x) × IsSomeAnd t.prepared (λ p. FitsUnder x p)) t.prime
   pub low : Where (IsOvertaken s.high t.prepared t.prime) None s.low t.low
 
+-- in the phase Confirm the greatest of its value that is accepted
 pub record AcceptsInConfirm (b : Seen) (s t : State) : Type 0 where
   pub frame : t ≡ record s { prepared = t.prepared }
   pub prepared : IsGreatestOf (λ x. IsInA Confirm b s x ⊎ (s.prepared ≡ Some x)) t.prepared
 
+-- which ballots it accepts as prepared, by the phase
 abbrev pub AcceptPrepared : Phase → Seen → State → State → Type 0
 AcceptPrepared Prepare b s t = AcceptsInPrepare b s t
 AcceptPrepared Confirm b s t = AcceptsInConfirm b s t

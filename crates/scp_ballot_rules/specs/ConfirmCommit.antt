@@ -13,6 +13,7 @@ pub record Commits (b : Seen) (v : List ℕ) (lo hi : ℕ) (s t : State) : Type 
   pub range : IsRangeOf (λ c. Confirmed b c) b v lo hi
   pub takes : t ≡ record s { phase = Externalize; high = Some (ballot_at hi v); low = Some (ballot_at lo v) }
 
+-- which commits it confirms, by the phase
 abbrev pub ConfirmCommit : Phase → Seen → State → State → Type 0
 ConfirmCommit Prepare b s t = t ≡ s
 ConfirmCommit Confirm b s t = ((v : List ℕ) × (lo : ℕ) × (hi : ℕ) × Commits b v lo hi s t) ⊎ (((v : List ℕ) → IsOf v s.low → HasNone (λ c. Confirmed b c) b v 0) × (t ≡ s))

@@ -33,6 +33,7 @@ pub record ConfirmsInPrepare (b : Seen) (s t : State) : Type 0 where
   pub clears : Where (IsSomeAnd s.low (λ c. IsOf c.value t.present → ⊥)) None s.low cleared
   pub votes : Where ((cleared ≡ None) × IsSomeAnd t.high (λ h. (t.present ≡ Some h) × NoneOver s h)) t.present cleared t.low
 
+-- which ballots it confirms as prepared, by the phase
 abbrev pub ConfirmPrepared : Phase → Seen → State → State → Type 0
 ConfirmPrepared Prepare b s t = ConfirmsInPrepare b s t
 ConfirmPrepared Confirm b s t = t ≡ s

@@ -17,5 +17,6 @@ Where P becomes was new = (P × (new ≡ becomes)) ⊎ ((P → ⊥) × (new ≡ 
 abbrev pub IsOf : List ℕ → Option Ballot → Type 0
 IsOf v o = IsSomeAnd o (λ x. x.value ≡ v)
 
+-- the ballot of this counter and value
 abbrev pub ballot_at : ℕ → List ℕ → Ballot
 ballot_at n v = record { counter = n; value = v }

@@ -16,6 +16,7 @@ pub record Composed (z : List ℕ) (s t : State) : Type 0 where
   pub frame : t ≡ record s { present = t.present; composite = Some z }
   pub present : Where (s.present ≡ None) (Some (ballot_at 1 z)) s.present t.present
 
+-- what a composite makes of the ballots, by the phase
 abbrev pub Compose : Phase → List ℕ → State → State → Type 0
 Compose Prepare z s t = Composed z s t
 Compose Confirm z s t = t ≡ s

@@ -24,6 +24,7 @@ SettlingIsAFunction =
 abbrev pub ComposingIsAFunction : Type 0
 ComposingIsAFunction = (p : Phase) (z : List ℕ) (s t u : State) → Compose p z s t → Compose p z s u → t ≡ u
 
+-- from one state a timer leads to one state
 abbrev pub TimingIsAFunction : Type 0
 TimingIsAFunction = (s t u : State) → Time s t → Time s u → t ≡ u
 

@@ -4,7 +4,6 @@ pub mod Ready
 pub mod Rules
 pub mod Owed
 pub mod Rests
-pub mod Rises
 pub mod Greatest
 pub mod AcceptPrepared
 pub mod ConfirmPrepared
@@ -16,3 +15,4 @@ pub mod Steps
 pub mod Inputs
 pub mod Laws
 pub mod Values
+pub mod inside

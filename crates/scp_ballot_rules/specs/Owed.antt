@@ -1,6 +1,5 @@
 -- What a node owes: what it may vote for, accept or confirm, it has (this project's profile).
-use Rattle.std.specs.Prelude.{◌≡◌, ◌≢◌, ◌<◌, ◌⊎◌, Bool, true, ℕ, List, [], ◌∷◌, ◌++◌, Option, Some, None, IsSome, IsSomeAnd, Contains}
-use Rattle.std.specs.Option.{option_to_list}
+use Rattle.std.specs.Prelude.{◌≡◌, ◌≢◌, ◌<◌, ◌⊎◌, Bool, true, ℕ, List, [], Option, Some, None, IsSome, IsSomeAnd}
 use Rattle.scp_types.specs.declared.ballot.Ballot.{Ballot}
 use Rattle.scp_types.specs.declared.names.NodeId.{NodeId}
 use Rattle.scp_types.specs.declared.names.Hash.{Hash}
@@ -33,6 +32,7 @@ Bounds (Confirming p) v n = (p.ballot.value ≡ v) × ((p.n_commit ≡ n) ⊎ (p
 Bounds (Externalizing p) v n = (p.commit.value ≡ v) × ((p.commit.counter ≡ n) ⊎ (p.n_high ≡ n))
 Bounds (Nominating p) v n = ⊥
 
+-- a statement on the board has this end of a range of commit of the value
 pub record IsBoundary (b : Seen) (v : List ℕ) (n : ℕ) : Type 0 where
   pub node : NodeId
   pub bounds : IsSomeAnd (b.statement node) (λ p. Bounds p v n)
@@ -64,6 +64,7 @@ pub record IsConfirmSettled (b : Seen) (q : Confirm) : Type 0 where
   pub accepted : (n : ℕ) → IsBoundary b q.ballot.value n → q.n_high < n → ¬ (Accepted b (Committed n n q.ballot.value))
   pub counter : ¬ (AreAheadOf b q.ballot.counter)
 
+-- the own statement owes nothing more, by its kind
 abbrev pub IsSettled : Seen → Pledges → Type 0
 IsSettled b (Preparing q) = IsPrepareSettled b q
 IsSettled b (Confirming q) = IsConfirmSettled b q
@@ -74,6 +75,7 @@ IsSettled b (Nominating q) = Unit {0}
 abbrev pub nothing_said : Hash → Pledges
 nothing_said hash = Preparing (record { set_hash = hash; ballot = record { counter = 0; value = [] }; prepared = None; prepared_prime = None; n_commit = 0; n_high = 0 })
 
+-- the own statement; where there is none, one that says nothing
 abbrev pub own_or_nothing : Hash → Option Pledges → Pledges
 own_or_nothing hash None = nothing_said hash
 own_or_nothing hash (Some p) = p

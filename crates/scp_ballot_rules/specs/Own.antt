@@ -11,6 +11,7 @@ use Rattle.scp_ballot_rules.specs.declared.state.State.{State}
 use Rattle.scp_ballot_rules.specs.declared.state.Phase.{Phase}
 use Rattle.scp_ballot_rules.specs.declared.state.Phase.TheVariants.{Prepare as InPrepare, Confirm as InConfirm, Externalize as InExternalize}
 
+-- a ballot's counter; 0 where there is none
 abbrev pub counter_of : Option Ballot → ℕ
 counter_of None = 0
 counter_of (Some x) = x.counter
@@ -20,15 +21,20 @@ abbrev pub or_zero : Option Ballot → Ballot
 or_zero None = record { counter = 0; value = [] }
 or_zero (Some x) = x
 
+-- A PREPARE as the state is. By the protocol an nH that isn't 0 tells that a ballot of that value is confirmed prepared; what is licensed
+-- holds a PREPARE to that only where its nC isn't 0 too.
 abbrev pub prepare_of : Hash → State → Prepare
 prepare_of hash s = record { set_hash = hash; ballot = or_zero s.present; prepared = s.prepared; prepared_prime = s.prime; n_commit = counter_of s.low; n_high = counter_of s.high }
 
+-- what it says in the phase Confirm
 abbrev pub confirm_of : Hash → State → Confirm
 confirm_of hash s = record { ballot = or_zero s.present; n_prepared = counter_of s.prepared; n_commit = counter_of s.low; n_high = counter_of s.high; set_hash = hash }
 
+-- what it says in the phase Externalize
 abbrev pub externalize_of : Hash → State → Externalize
 externalize_of hash s = record { commit = or_zero s.low; n_high = counter_of s.high; set_hash = hash }
 
+-- what the node says, by its phase
 abbrev pub own_in : Phase → Hash → State → Pledges
 own_in InPrepare hash s = Preparing (prepare_of hash s)
 own_in InConfirm hash s = Confirming (confirm_of hash s)
@@ -38,7 +44,7 @@ own_in InExternalize hash s = Externalizing (externalize_of hash s)
 abbrev pub own_of : Hash → State → Pledges
 own_of hash s = own_in s.phase hash s
 
--- nothing was said yet
+-- nothing was said yet: the state before any input (this project's profile)
 pub record IsBlank (s : State) : Type 0 where
   pub phase : s.phase ≡ InPrepare
   pub present : s.present ≡ None

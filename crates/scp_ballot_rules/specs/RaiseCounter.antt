@@ -35,6 +35,7 @@ pub record IsLeastFree (b : Seen) (n : ℕ) : Type 0 where
   pub free : ¬ (AreAheadOf b n)
   pub least : (m : ℕ) → ¬ (AreAheadOf b m) → n ≤ m
 
+-- where nodes that block its set are ahead, its counter rises to the least at which they are not (the SCP draft)
 abbrev pub RaiseCounter : Seen → State → State → Type 0
 RaiseCounter b s t =
     (AreAheadOf b (counter_of s.present) × ((n : ℕ) × IsLeastFree b n × RaiseTo n s t))

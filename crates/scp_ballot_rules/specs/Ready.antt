@@ -1,5 +1,5 @@
 -- What holds of the state of a ballot machine each time its own statement is renewed.
-use Rattle.std.specs.Prelude.{◌≡◌, ◌≢◌, ◌≤◌, ◌⊎◌, Option, Some, None, IsSome, IsSomeAnd}
+use Rattle.std.specs.Prelude.{◌≡◌, ◌≢◌, ◌≤◌, ◌⊎◌, Some, None, IsSome, IsSomeAnd}
 use Rattle.std.specs.Option.{ForSome}
 use Rattle.scp_types.specs.declared.ballot.Ballot.{Ballot}
 use Rattle.scp_ballot_rules.specs.declared.state.State.{State}
@@ -19,6 +19,8 @@ IsLowUnder c h = (c.counter ≢ 0) × (c.value ≡ h.value) × (c.counter ≤ h.
 abbrev pub NoneOver : State → Ballot → Type 0
 NoneOver s h = (IsOver s.prepared h → ⊥) × (IsOver s.prime h → ⊥)
 
+-- What holds of a state of the phase Prepare each time that its own statement is renewed, of how its ballots lie to one another: prime below
+-- prepared, confirmed at most prepared and at most the own one, high at most confirmed, low at most high.
 pub record IsPreparing (s : State) : Type 0 where
   pub prime : ForSome s.prime (λ x. IsSomeAnd s.prepared (λ p. FitsUnder x p))
   pub present : ForSome s.present (λ b. (b.counter ≢ 0) × HasValue s)
@@ -29,18 +31,22 @@ pub record IsPreparing (s : State) : Type 0 where
   pub low : ForSome s.low (λ c. IsSomeAnd s.high (λ h. IsLowUnder c h × NoneOver s h))
   pub vote : ForSome s.high (λ h. s.present ≡ Some h → s.low ≡ None → IsOver s.prepared h ⊎ IsOver s.prime h)
 
+-- a state of the phase Confirm: a range of commit under the own ballot, of one value, and a `prepared` of that value or none
 pub record IsConfirming (s : State) : Type 0 where
   pub range : IsSomeAnd s.low (λ c. IsSomeAnd s.high (λ h. IsLowUnder c h × IsSomeAnd s.present (λ b. (h.value ≡ b.value) × (h.counter ≤ b.counter))))
   pub prepared : ForSome s.prepared (λ p. IsSomeAnd s.low (λ c. p.value ≡ c.value))
   pub prime : s.prime ≡ None
 
+-- a state of the phase Externalize: a range of commit, of one value
 pub record IsExternalized (s : State) : Type 0 where
   pub range : IsSomeAnd s.low (λ c. IsSomeAnd s.high (λ h. IsLowUnder c h))
 
+-- what holds of a state of this phase each time that its own statement is renewed
 abbrev pub IsReadyIn : Phase → State → Type 0
 IsReadyIn Prepare s = IsPreparing s
 IsReadyIn Confirm s = IsConfirming s
 IsReadyIn Externalize s = IsExternalized s
 
+-- the same, by the state's own phase
 abbrev pub IsReady : State → Type 0
 IsReady s = IsReadyIn s.phase s

@@ -1,16 +1,13 @@
 -- What it says that no rule of the ballot machine changes its state.
-use Rattle.std.specs.Prelude.{◌≡◌, ◌≢◌, ◌<◌, ◌⊎◌, ℕ, List, Option, Some, None, IsSome, IsSomeAnd}
+use Rattle.std.specs.Prelude.{◌<◌, ℕ, List, IsSomeAnd}
 use Rattle.std.specs.Option.{ForSome}
 use Rattle.scp_types.specs.declared.ballot.Ballot.{Ballot}
 use Rattle.scp_vote.specs.declared.claim.Claim.TheVariants.{Prepared, Committed}
 use Rattle.scp_vote.specs.Board.{Seen, Accepted, Confirmed}
 use Rattle.scp_ballot_rules.specs.declared.state.State.{State}
-use Rattle.scp_ballot_rules.specs.declared.state.Phase.{Phase}
-use Rattle.scp_ballot_rules.specs.declared.state.Phase.TheVariants.{Prepare, Confirm, Externalize}
 use Rattle.scp_ballot_rules.specs.Order.{AtMost, IsAbove}
 use Rattle.scp_ballot_rules.specs.Own.{counter_of}
-use Rattle.scp_ballot_rules.specs.Ready.{HasValue}
-use Rattle.scp_ballot_rules.specs.Owed.{IsCandidate, IsBoundary, AreAheadOf}
+use Rattle.scp_ballot_rules.specs.Owed.{IsCandidate, IsBoundary}
 
 -- Nothing more is accepted prepared, in the phase Prepare.
 abbrev pub AcceptsNoMore : Seen → State → Type 0
@@ -31,27 +28,3 @@ CommitsNoHigher b s = ForSome s.low (λ c. (n : ℕ) → IsBoundary b c.value n 
 -- No commit of the value is confirmed, in the phase Confirm.
 abbrev pub ConfirmsNone : Seen → State → Type 0
 ConfirmsNone b s = ForSome s.low (λ c. (n : ℕ) → IsBoundary b c.value n → ¬ (Confirmed b (Committed n n c.value)))
-
--- The others aren't ahead, or there is no value for a raised ballot.
-abbrev pub RaisesNone : Seen → State → Type 0
-RaisesNone b s = AreAheadOf b (counter_of s.present) → ¬ (HasValue s)
-
-pub record RestsInPrepare (b : Seen) (s : State) : Type 0 where
-  pub accepts : AcceptsNoMore b s
-  pub confirms : ConfirmsNoMore b s
-  pub commits : CommitsNone b
-  pub raises : RaisesNone b s
-
-pub record RestsInConfirm (b : Seen) (s : State) : Type 0 where
-  pub commits : CommitsNoHigher b s
-  pub confirms : ConfirmsNone b s
-  pub raises : ¬ (AreAheadOf b (counter_of s.present))
-
-abbrev pub RestsIn : Phase → Seen → State → Type 0
-RestsIn Prepare b s = RestsInPrepare b s
-RestsIn Confirm b s = RestsInConfirm b s
-RestsIn Externalize b s = Unit {0}
-
--- No rule changes the state.
-abbrev pub Rests : Seen → State → Type 0
-Rests b s = RestsIn s.phase b s

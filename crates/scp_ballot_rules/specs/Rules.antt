@@ -1,16 +1,15 @@
 -- What each rule of the ballot machine does to its state, over what a node sees.
-use Rattle.std.specs.Prelude.{◌≡◌, ◌≢◌, ◌<◌, ◌≤◌, ◌⊎◌, ℕ, List, Option, Some, None, IsSome, IsSomeAnd}
+use Rattle.std.specs.Prelude.{◌≡◌, ◌≢◌, ◌<◌, ◌≤◌, ◌⊎◌, ℕ, List, Option, Some, None, IsSomeAnd}
 use Rattle.std.specs.Option.{ForSome}
 use Rattle.scp_types.specs.declared.ballot.Ballot.{Ballot}
 use Rattle.scp_vote.specs.declared.claim.Claim.TheVariants.{Prepared, Committed}
 use Rattle.scp_vote.specs.Board.{Seen, Accepted, Confirmed}
 use Rattle.scp_ballot_rules.specs.declared.state.State.{State}
-use Rattle.scp_ballot_rules.specs.declared.state.Phase.TheVariants.{Prepare, Confirm, Externalize}
+use Rattle.scp_ballot_rules.specs.declared.state.Phase.TheVariants.{Confirm, Externalize}
 use Rattle.scp_envelope.specs.Ballots.{IsLess}
 use Rattle.scp_ballot_rules.specs.Order.{AtMost, FitsUnder, IsOver, IsAbove}
 use Rattle.scp_ballot_rules.specs.Own.{counter_of}
-use Rattle.scp_ballot_rules.specs.Ready.{HasValue, NoneOver}
-use Rattle.scp_ballot_rules.specs.Owed.{AreAheadOf}
+use Rattle.scp_ballot_rules.specs.Ready.{NoneOver}
 
 -- the ballot was accepted prepared by the old state, or is Accepted so on the board
 abbrev pub IsHeld : State → Ballot → Type 0
@@ -74,43 +73,8 @@ raised_value None (Some z) p = Some z
 raised_value None None (Some p) = Some p.value
 raised_value None None None = None
 
--- A higher counter, in the phase Prepare.
-pub record Raises (old next : State) : Type 0 where
-  pub frame : next ≡ record old { present = next.present; high = next.high; low = next.low }
-  pub value : HasValue old
-  pub present : IsSomeAnd next.present (λ b. (counter_of old.present < b.counter) × ForSome old.confirmed (λ w. b.value ≡ w.value))
-  pub raised : IsSomeAnd next.present (λ b. raised_value old.confirmed old.composite old.prepared ≡ Some b.value)
-  pub high : ForSome old.confirmed (λ w. next.high ≡ Some w)
-  pub no_high : old.confirmed ≡ None → next.high ≡ old.high
-  pub low : (next.low ≡ None) ⊎ ((next.low ≡ old.low) × ForSome old.low (λ c. IsSomeAnd next.present (λ b. c.value ≡ b.value)))
-
--- A higher counter where the others are ahead, in the phase Prepare.
-pub record CatchesUp (b : Seen) (old next : State) : Type 0 where
-  pub raises : Raises old next
-  pub ahead : AreAheadOf b (counter_of old.present)
-
--- A higher counter, in the phase Confirm.
-pub record RaisesMore (old next : State) : Type 0 where
-  pub frame : next ≡ record old { present = next.present }
-  pub present : IsSomeAnd next.present (λ b. (counter_of old.present < b.counter) × IsSomeAnd old.low (λ c. b.value ≡ c.value))
-
--- A composite comes: it is kept, and a first ballot is made of it.
-pub record Composes (z : List ℕ) (old next : State) : Type 0 where
-  pub frame : next ≡ record old { present = next.present; composite = Some z }
-  pub present : ((next.present ≡ old.present) × IsSome old.present) ⊎ ((old.present ≡ None) × (next.present ≡ Some (record { counter = 1; value = z })))
-
 -- What a further accepted commit does besides, in the phase Confirm.
 pub record Grows (old next : State) : Type 0 where
   pub prepared : next.prepared ≡ old.prepared
   pub high : counter_of old.high < counter_of next.high
   pub present : ForSome old.present (λ b. IsSomeAnd next.present (λ p. AtMost b p))
-
--- One rule was applied.
-abbrev pub IsStep : Seen → State → State → Type 0
-IsStep b old next =
-    ((old.phase ≡ Prepare) × (AcceptsPrepared b old next ⊎ ConfirmsPrepared b old next ⊎ AcceptsCommit b old next ⊎ CatchesUp b old next))
-    ⊎ ((old.phase ≡ Confirm) × (AcceptsMore b old next ⊎ (AcceptsCommit b old next × Grows old next) ⊎ ConfirmsCommit b old next ⊎ RaisesMore old next))
-
--- An input or a rule changed the state: one rule, or a composite or a timer in the phase Prepare.
-abbrev pub IsChange : Seen → State → State → Type 0
-IsChange b old next = IsStep b old next ⊎ ((old.phase ≡ Prepare) × (z : List ℕ) × Composes z old next) ⊎ ((old.phase ≡ Prepare) × Raises old next)

@@ -36,6 +36,7 @@ StepSaysNoMore = (test : List ℕ → Bool) (b : Seen) (s t : State) → BoardSa
 abbrev pub ComposingSaysNoMore : Type 0
 ComposingSaysNoMore = (test : List ℕ → Bool) (p : Phase) (z : List ℕ) (s t : State) → Passes test z → StateSaysOnly (Passes test) s → Compose p z s t → StateSaysOnly (Passes test) t
 
+-- where each value in a state passes a test, so does each that a timer leaves in it
 abbrev pub TimingSaysNoMore : Type 0
 TimingSaysNoMore = (test : List ℕ → Bool) (s t : State) → StateSaysOnly (Passes test) s → Time s t → StateSaysOnly (Passes test) t
 

@@ -1,7 +1,7 @@
 -- Ballots are added to a list.
 use Rattle.std.proofs.Common.{◌≡◌, ◌≢◌, ℕ, List, Option, Some, None, sym, ◌∙◌, ap, ◌⊎◌, inl, inr}
 use Rattle.scp_types.specs.declared.ballot.Ballot.{Ballot}
-use Rattle.scp_ballot_steps.specs.Finding.{Adds}
+use Rattle.scp_ballot_steps.specs.inside.Finding.{Adds}
 
 module _ (P Q : Ballot → Type 0) where
   -- what is added under one name is added under another

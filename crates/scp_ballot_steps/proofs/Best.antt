@@ -8,7 +8,7 @@ use Rattle.scp_envelope.specs.Ballots.{IsLess}
 use Rattle.scp_ballot_rules.specs.Order.{IsAbove}
 use Rattle.scp_ballot_rules.proofs.Options.{some_of, some_and, none_some, some_same}
 use Rattle.scp_ballot_rules.proofs.Order.{less_trans, less_irrefl}
-use Rattle.scp_ballot_steps.specs.Finding.{IsGreatest, Betters, IsFound, Finds}
+use Rattle.scp_ballot_steps.specs.inside.Finding.{IsGreatest, Betters, IsFound, Finds}
 
 -- the ballot stands in the list before the index
 abbrev pub IsBefore : List Ballot → ℕ → Ballot → Type 0

@@ -15,7 +15,8 @@ use Rattle.scp_ballot_rules.specs.ConfirmPrepared.{IsConfirmedCandidate, Enters,
 use Rattle.scp_ballot_rules.specs.Steps.{Answers}
 use Rattle.scp_ballot_rules.proofs.Options.{some_of, some_and, at_some, none_some}
 use Rattle.scp_ballot_rules.proofs.Order.{at_most_less, less_irrefl}
-use Rattle.scp_ballot_steps.specs.Finding.{AreCandidates, IsGreatest, JoinsState, MayVote, Revises, RevisesLow}
+use Rattle.scp_ballot_steps.specs.Finding.{AreCandidates}
+use Rattle.scp_ballot_steps.specs.inside.Finding.{IsGreatest, JoinsState, MayVote, Revises, RevisesLow}
 use Rattle.scp_ballot_steps.proofs.Primes.{not_above}
 
 pub confirmed_greatest : (b : Seen) (floor : Option Ballot) (list : List Ballot) (best : Option Ballot) → AreCandidates b list → IsGreatest (λ x. Unit {0} × Confirmed b (Prepared x)) list floor best → (best ≡ floor → ⊥)

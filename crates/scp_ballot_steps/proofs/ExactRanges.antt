@@ -26,8 +26,9 @@ use Rattle.scp_ballot_steps.specs.declared.finding.Bound.TheVariants.{Any, Of}
 use Rattle.scp_ballot_steps.specs.declared.range.Range.{Range}
 use Rattle.scp_ballot_steps.specs.declared.told.Stage.{Stage}
 use Rattle.scp_ballot_steps.specs.declared.told.Stage.TheVariants.{Acceptance, Confirmation}
-use Rattle.scp_ballot_steps.specs.Told.{Reached}
-use Rattle.scp_ballot_steps.specs.Finding.{IsWithin, AreBoundaries, Precedes, IsExactRange, Reaches}
+use Rattle.scp_ballot_steps.specs.inside.Told.{Reached}
+use Rattle.scp_ballot_steps.specs.inside.Finding.{IsWithin, Precedes, IsExactRange, Reaches}
+use Rattle.scp_ballot_steps.specs.Finding.{AreBoundaries}
 
 at_most_or : (n hi : ℕ) → (n ≤ hi) ⊎ (hi < n)
 at_most_or n hi = elim (cases_order n hi) [ inl e ↦ inl (omega (arith, e)) | inr apart ↦ elim apart [ inl lt ↦ inl (omega (arith, lt)) | inr gt ↦ inr gt ] ]

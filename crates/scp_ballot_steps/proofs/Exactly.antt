@@ -10,7 +10,8 @@ use Rattle.scp_ballot_rules.specs.Greatest.{IsGreatestOf, Where}
 use Rattle.scp_ballot_rules.specs.AcceptPrepared.{IsInA, IsOvertaken, AcceptsInPrepare, AcceptsInConfirm}
 use Rattle.scp_ballot_rules.specs.Steps.{Answers}
 use Rattle.scp_ballot_rules.proofs.Options.{some_of, some_and, at_some, none_some}
-use Rattle.scp_ballot_steps.specs.Finding.{AreCandidates, IsGreatest, IsPrimeOf, Clears}
+use Rattle.scp_ballot_steps.specs.Finding.{AreCandidates}
+use Rattle.scp_ballot_steps.specs.inside.Finding.{IsGreatest, IsPrimeOf, Clears}
 use Rattle.scp_ballot_steps.proofs.Primes.{not_above, greatest_rises}
 
 pub greatest_of : (P A : Ballot → Type 0) (list : List Ballot) (floor best : Option Ballot) → ((x : Ballot) → Contains list x → P x → A x) → ((x : Ballot) → A x → Contains list x × P x)

@@ -8,7 +8,7 @@ use Rattle.scp_types.specs.declared.ballot.Ballot.{Ballot}
 use Rattle.scp_envelope.specs.Ballots.{value_cmp}
 use Rattle.scp_ballot_rules.specs.Greatest.{ballot_at}
 use Rattle.scp_ballot_rules.proofs.Options.{none_some, some_same}
-use Rattle.scp_ballot_steps.specs.Finding.{Precedes, GoesBefore, Leads, IsFirst, Lowers, IsLeastOf}
+use Rattle.scp_ballot_steps.specs.inside.Finding.{Precedes, GoesBefore, Leads, IsFirst, Lowers, IsLeastOf}
 use Rattle.scp_ballot_steps.proofs.Best.{IsBefore, earlier, contained}
 
 values_irrefl : (v : List ℕ) → value_cmp v v ≡ Less → ⊥

@@ -9,7 +9,7 @@ use Rattle.scp_envelope.specs.declared.statement.Pledges.{Pledges}
 use Rattle.scp_vote.specs.declared.statements.Entry.{Entry}
 use Rattle.scp_vote.specs.Board.{Seen}
 use Rattle.scp_vote.proofs.Chain.{same_at}
-use Rattle.scp_ballot_steps.specs.Finding.{Adds}
+use Rattle.scp_ballot_steps.specs.inside.Finding.{Adds}
 
 abbrev pub Entries : Type 0
 Entries = List (NodeId × Entry)

@@ -11,7 +11,7 @@ use Rattle.scp_ballot_rules.proofs.Options.{some_of, some_and, at_some, none_som
 use Rattle.scp_ballot_rules.proofs.Order.{either_way, at_most_trans}
 use Rattle.scp_ballot_steps.specs.declared.finding.Bound.{Bound}
 use Rattle.scp_ballot_steps.specs.declared.finding.Bound.TheVariants.{Under}
-use Rattle.scp_ballot_steps.specs.Finding.{IsWithin, IsGreatest, Keeps, IsPrimeUnder, IsPrimeOf}
+use Rattle.scp_ballot_steps.specs.inside.Finding.{IsWithin, IsGreatest, Keeps, IsPrimeUnder, IsPrimeOf}
 
 -- what isn't above is at most
 pub not_above : (x : Ballot) (o : Option Ballot) → ¬ (IsAbove x o) → IsSomeAnd o (λ y. AtMost x y)

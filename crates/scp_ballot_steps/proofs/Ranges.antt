@@ -17,7 +17,8 @@ use Rattle.scp_ballot_rules.proofs.Order.{at_most_counter}
 use Rattle.scp_ballot_rules.proofs.FollowingMore.{present_value}
 use Rattle.scp_ballot_steps.specs.declared.range.Range.{Range}
 use Rattle.scp_ballot_steps.specs.declared.told.Stage.TheVariants.{Acceptance, Confirmation}
-use Rattle.scp_ballot_steps.specs.Finding.{AreBoundaries, IsReachedRange, KeepsHeld, Reaches}
+use Rattle.scp_ballot_steps.specs.Finding.{AreBoundaries}
+use Rattle.scp_ballot_steps.specs.inside.Finding.{IsReachedRange, KeepsHeld, Reaches}
 
 reaches_up : (o : Option Ballot) (h p : Ballot) → Reaches o h p → (h.value ≡ p.value) × (h.counter ≤ p.counter)
 reaches_up o h p (inl stays) =

@@ -12,7 +12,8 @@ use Rattle.scp_ballot_rules.specs.Rules.{AcceptsPrepared, AcceptsMore, Joins, Lo
 use Rattle.scp_ballot_rules.specs.Rests.{AcceptsNoMore, ConfirmsNoMore}
 use Rattle.scp_ballot_rules.proofs.Options.{some_of, some_and, at_some}
 use Rattle.scp_ballot_rules.proofs.Order.{either_way, values_decided, less_turn, less_irrefl}
-use Rattle.scp_ballot_steps.specs.Finding.{AreCandidates, IsGreatest, IsPrimeUnder, Clears, JoinsState, KeepsLow, MayVote, Revises}
+use Rattle.scp_ballot_steps.specs.Finding.{AreCandidates}
+use Rattle.scp_ballot_steps.specs.inside.Finding.{IsGreatest, IsPrimeUnder, Clears, JoinsState, KeepsLow, MayVote, Revises}
 use Rattle.scp_ballot_steps.proofs.Primes.{not_above}
 
 -- accept prepared

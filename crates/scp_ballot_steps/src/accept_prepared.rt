@@ -8,7 +8,8 @@ ghost use Rattle.scp_ballot_rules.specs.Order.{IsAbove, IsOver, FitsUnder};
 ghost use Rattle.scp_ballot_rules.specs.Rules.{AcceptsPrepared, AcceptsMore};
 ghost use Rattle.scp_ballot_rules.specs.Rests.{AcceptsNoMore};
 ghost use Rattle.scp_ballot_steps.specs.Told.{ballots_on};
-ghost use Rattle.scp_ballot_steps.specs.Finding.{AreCandidates, Keeps, Clears, IsPrimeUnder, IsPrimeOf};
+ghost use Rattle.scp_ballot_steps.specs.Finding.{AreCandidates};
+ghost use Rattle.scp_ballot_steps.specs.inside.Finding.{Keeps, Clears, IsPrimeUnder, IsPrimeOf};
 ghost use Rattle.scp_ballot_rules.specs.AcceptPrepared.{AcceptsInPrepare, AcceptsInConfirm};
 ghost use Rattle.scp_ballot_rules.specs.Steps.{Answers};
 

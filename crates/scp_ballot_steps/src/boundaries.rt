@@ -3,7 +3,8 @@ ghost use Rattle.std.specs.Prelude.{◌≡◌, ◌≢◌, ◌⊎◌, ◌↔◌, 
 ghost use Rattle.scp_types.specs.declared.ballot.Ballot.{Ballot};
 ghost use Rattle.scp_ballot_rules.specs.Owed.{Bounds};
 ghost use Rattle.scp_ballot_steps.specs.Told.{ballots_on};
-ghost use Rattle.scp_ballot_steps.specs.Finding.{AreBoundaries, Adds};
+ghost use Rattle.scp_ballot_steps.specs.Finding.{AreBoundaries};
+ghost use Rattle.scp_ballot_steps.specs.inside.Finding.{Adds};
 
 use crate::candidates::add;
 use scp_envelope::{Pledges, Prepare};

@@ -3,7 +3,8 @@ ghost use Rattle.std.specs.Prelude.{◌≡◌, ◌≢◌, ◌⊎◌, ◌↔◌, 
 ghost use Rattle.scp_types.specs.declared.ballot.Ballot.{Ballot};
 ghost use Rattle.scp_ballot_rules.specs.Owed.{Names};
 ghost use Rattle.scp_ballot_steps.specs.Told.{ballots_on};
-ghost use Rattle.scp_ballot_steps.specs.Finding.{AreCandidates, Adds};
+ghost use Rattle.scp_ballot_steps.specs.Finding.{AreCandidates};
+ghost use Rattle.scp_ballot_steps.specs.inside.Finding.{Adds};
 
 use scp_envelope::{Confirm, Externalize, Pledges, Prepare};
 use scp_types::{Ballot, Fault, SharedValue};

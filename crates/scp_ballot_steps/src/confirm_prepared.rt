@@ -9,11 +9,12 @@ ghost use Rattle.scp_ballot_rules.specs.Ready.{NoneOver};
 ghost use Rattle.scp_ballot_rules.specs.Rules.{ConfirmsPrepared};
 ghost use Rattle.scp_ballot_rules.specs.Rests.{ConfirmsNoMore};
 ghost use Rattle.scp_ballot_steps.specs.Told.{ballots_on};
-ghost use Rattle.scp_ballot_steps.specs.Finding.{AreCandidates, Revises, JoinsState, KeepsLow, MayVote};
+ghost use Rattle.scp_ballot_steps.specs.Finding.{AreCandidates};
+ghost use Rattle.scp_ballot_steps.specs.inside.Finding.{Revises, JoinsState, KeepsLow, MayVote};
 ghost use Rattle.scp_ballot_rules.specs.Greatest.{IsGreatestOf};
 ghost use Rattle.scp_ballot_rules.specs.ConfirmPrepared.{IsConfirmedCandidate, ConfirmsInPrepare};
 ghost use Rattle.scp_ballot_rules.specs.Steps.{Answers};
-ghost use Rattle.scp_ballot_steps.specs.Finding.{RevisesLow};
+ghost use Rattle.scp_ballot_steps.specs.inside.Finding.{RevisesLow};
 
 use crate::finding::{Bound, greatest, is_less, is_over, is_same};
 use crate::told::Stage;

@@ -5,8 +5,9 @@ ghost use Rattle.scp_types.specs.declared.ballot.Ballot.{Ballot};
 ghost use Rattle.scp_vote.specs.declared.claim.Claim.TheVariants.{Prepared};
 ghost use Rattle.scp_envelope.specs.Ballots.{IsLess};
 ghost use Rattle.scp_ballot_rules.specs.Order.{IsAbove, IsOver, FitsUnder};
-ghost use Rattle.scp_ballot_steps.specs.Told.{ballots_on, Reached};
-ghost use Rattle.scp_ballot_steps.specs.Finding.{IsWithin, IsGreatest, Betters};
+ghost use Rattle.scp_ballot_steps.specs.Told.{ballots_on};
+ghost use Rattle.scp_ballot_steps.specs.inside.Told.{Reached};
+ghost use Rattle.scp_ballot_steps.specs.inside.Finding.{IsWithin, IsGreatest, Betters};
 
 use crate::told::{Stage, reached_prepared};
 use scp_ballot_rules::copy_some;

@@ -3,8 +3,9 @@ ghost use Rattle.std.specs.Prelude.{◌≡◌, ◌≢◌, ◌<◌, ◌≤◌, �
 ghost use Rattle.std.specs.Option.{ForSome};
 ghost use Rattle.scp_types.specs.declared.ballot.Ballot.{Ballot};
 ghost use Rattle.scp_vote.specs.declared.claim.Claim.TheVariants.{Committed};
-ghost use Rattle.scp_ballot_steps.specs.Told.{ballots_on, Reached};
-ghost use Rattle.scp_ballot_steps.specs.Finding.{IsWithin, IsReachedRange, GoesBefore, Leads, IsFirst, Lowers, IsLeastOf, IsExactRange};
+ghost use Rattle.scp_ballot_steps.specs.Told.{ballots_on};
+ghost use Rattle.scp_ballot_steps.specs.inside.Told.{Reached};
+ghost use Rattle.scp_ballot_steps.specs.inside.Finding.{IsWithin, IsReachedRange, GoesBefore, Leads, IsFirst, Lowers, IsLeastOf, IsExactRange};
 
 use crate::finding::{Bound, is_within};
 use crate::told::{Stage, reached_commit};

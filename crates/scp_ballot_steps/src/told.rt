@@ -5,7 +5,8 @@ ghost use Rattle.scp_quorum.specs.Sane.{IsSane};
 ghost use Rattle.scp_vote.specs.Seen.{seen};
 ghost use Rattle.scp_vote.specs.declared.claim.StatementKind.TheVariants.{Balloting};
 ghost use Rattle.scp_vote.specs.declared.claim.Claim.TheVariants.{Prepared, Committed};
-ghost use Rattle.scp_ballot_steps.specs.Told.{ballots_on, Reached};
+ghost use Rattle.scp_ballot_steps.specs.Told.{ballots_on};
+ghost use Rattle.scp_ballot_steps.specs.inside.Told.{Reached};
 
 use scp_envelope::SharedEnvelope;
 use scp_quorum::{QuorumSet, SaneSet};

@@ -7,13 +7,13 @@ use Rattle.scp_driver.specs.declared.kv_driver.KvDriver.{KvDriver}
 use Rattle.scp_wire.specs.declared.link.Inbound.{Inbound}
 use Rattle.scp_wire.specs.LinkReading.{readings}
 use Rattle.scp_wire.specs.Shape.{of_peer}
-use Rattle.scp_account.specs.Account.{Account, Ran}
-use Rattle.scp_account.specs.Kept.{KeepsLedger}
+use Rattle.scp_theorem.specs.Account.{Account, Ran}
+use Rattle.scp_theorem.specs.Kept.{KeepsLedger}
 use Rattle.scp_core.specs.Flow.{Flows}
 use Rattle.scp_core.specs.History.{Past, readings_of, read_so_far}
 use Rattle.scp_core.specs.Ledger.{upcoming_of}
 use Rattle.scp_core.specs.Node.{LinkView, NodeView}
-use Rattle.scp_core.proofs.Deciding.{level_by, combined_by, place_by}
+use Rattle.scp_core.proofs.Deciding.{level_by, extracted_by, combined_by, place_by}
 use Rattle.scp_core.proofs.Below.{ReadLaws, Laws}
 use Rattle.scp_core.proofs.Links.{whole, front}
 use Rattle.scp_core.proofs.Queues.{within, there_is}
@@ -53,7 +53,7 @@ read_at read p v f l peer at =
     ∙ append_assoc came k.hand (readings k.reader k.queue)
     ∙ ap (λ (xs : List Inbound). came ++ xs) (sym (ap upcoming_of link.1))
 
-ran : ReadLaws → (p : Past) (v : NodeView) (f : Flows p v) → Ran level_by combined_by place_by (account_at p v f.arrived)
+ran : ReadLaws → (p : Past) (v : NodeView) (f : Flows p v) → Ran level_by extracted_by combined_by place_by (account_at p v f.arrived)
 ran laws p v f = record {
   links = λ l peer at. let link = link_at p v f l peer at in (f.links l link.0 link.1 peer at).shape;
   read = λ l peer at. read_at laws p v f l peer at;
@@ -70,5 +70,5 @@ ran laws p v f = record {
 }
 
 -- so it keeps the ledger
-pub kept_at : Laws → (p : Past) (v : NodeView) (f : Flows p v) → KeepsLedger level_by combined_by (account_at p v f.arrived)
+pub kept_at : Laws → (p : Past) (v : NodeView) (f : Flows p v) → KeepsLedger level_by extracted_by combined_by place_by (account_at p v f.arrived)
 kept_at law p v f = law.ran (account_at p v f.arrived) (ran law.read p v f)

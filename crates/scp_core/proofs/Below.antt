@@ -3,11 +3,11 @@ use Rattle.scp_wire.specs.Parts.{OneMoreIsOfLink}
 use Rattle.scp_wire.specs.ReaderLaws.{ReadingsAreInOrder, ReadingsGrow, ReadingsGrowByOne}
 use Rattle.scp_pending.specs.Fetching.{RepliesAreAskedFor}
 use Rattle.scp_pending.specs.Linked.{NothingIsOfAStranger, WhoItIsStays}
-use Rattle.scp_sent.specs.Laws.{EmptySends, PutsKeepSends, GivesKeepSends}
+use Rattle.scp_outboxes.specs.Laws.{EmptySends, PutsKeepSends, GivesKeepSends}
 use Rattle.scp_ledger.specs.Journals.{JournalsPass}
 use Rattle.scp_apply.specs.Applies.{AppliesPass}
-use Rattle.scp_account.specs.Kept.{RanKeepsLedger}
-use Rattle.scp_core.proofs.Deciding.{level_by, combined_by, place_by}
+use Rattle.scp_theorem.specs.Kept.{RanKeepsLedger}
+use Rattle.scp_core.proofs.Deciding.{level_by, extracted_by, combined_by, place_by}
 
 -- of what is read of a link
 pub record ReadLaws : Type 0 where
@@ -20,13 +20,13 @@ pub record ReadLaws : Type 0 where
 pub record StepLaws : Type 0 where
   pub read : ReadLaws
   pub stays : WhoItIsStays
-  pub journals : JournalsPass level_by combined_by place_by
+  pub journals : JournalsPass level_by extracted_by combined_by place_by
   pub applies : AppliesPass
 
 -- of what is kept and what was sent
 pub record Laws : Type 0 where
   pub read : ReadLaws
-  pub ran : RanKeepsLedger level_by combined_by place_by
+  pub ran : RanKeepsLedger level_by extracted_by combined_by place_by
   pub stays : WhoItIsStays
   pub links : NothingIsOfAStranger
   pub replies : RepliesAreAskedFor

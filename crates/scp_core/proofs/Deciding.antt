@@ -25,7 +25,7 @@ use Rattle.scp_apply.specs.Applier.{ApplierView, IsApplier, IsRunning, CanTake}
 use Rattle.scp_apply.specs.Applier.{Takes as ApplierTakes}
 use Rattle.scp_apply.specs.Applies.{Applies, AppliesPass}
 use Rattle.scp_apply.specs.Laws.{NextCanBeTaken}
-use Rattle.scp_core.specs.Stages.{KvLedger, KvTakes, KvRuns, KvJournals}
+use Rattle.scp_ledger.specs.Kv.{KvLedger, KvTakes, KvRuns, KvJournals}
 use Rattle.scp_core.specs.inside.Decider.{DeciderView, IsSound}
 use Rattle.scp_core.specs.inside.Stage.{shown, Shows}
 
@@ -33,6 +33,9 @@ use Rattle.scp_core.specs.inside.Stage.{shown, Shows}
 
 abbrev pub level_by : KvDriver → ℕ → List ℕ → Level
 level_by driver slot value = kv_level value
+
+abbrev pub extracted_by : KvDriver → ℕ → List ℕ → Option (List ℕ)
+extracted_by driver slot value = None
 
 abbrev pub combined_by : KvDriver → ℕ → List (List ℕ) → List ℕ
 combined_by driver slot values = greatest values
@@ -42,11 +45,11 @@ place_by driver slot round n = leader_place slot round n
 
 -- a ledger grows by what it takes
 abbrev pub KvGrow : Type 0
-KvGrow = TakesGrow level_by combined_by
+KvGrow = TakesGrow level_by extracted_by combined_by place_by
 
 -- and what holds of it holds with one thing more
 abbrev pub KvPass : Type 0
-KvPass = JournalsPass level_by combined_by place_by
+KvPass = JournalsPass level_by extracted_by combined_by place_by
 
 -- a ledger that runs and takes a thing runs on
 pub runs_on : KvGrow → (old : KvLedger) (x : Ready) (t : Took) (new : KvLedger) → old.failed ≡ false → KvTakes old x t new → new.failed ≡ false
@@ -81,7 +84,7 @@ applies_step law took old x answer new takes known running a = law.passes took o
 
 -- ---- what the code keeps
 
-pub sound_take : KvGrow → (v : DeciderView) (x : Ready) (t : Took) (new : KvLedger) → v.hand ≡ None → KvTakes v.ledger x t new → IsLedger new → KvRuns new → IsSound v → IsSound (record v { ledger = new; hand = t.onward })
+pub sound_take : KvGrow → (v : DeciderView) (x : Ready) (t : Took) (new : KvLedger) → v.hand ≡ None → KvTakes v.ledger x t new → IsLedger new → KvRuns new → IsSound v → IsSound (record v { ledger = new; hand = t.onward; last_command = t.command })
 sound_take grown v x t new empty takes known running s =
     let g = grown v.ledger x t new takes in
     let queue : List Decision = decisions_on v.queue in

@@ -10,7 +10,7 @@ use Rattle.scp_core.specs.Flow.{Flows}
 use Rattle.scp_core.specs.History.{Exchange, Past, hears, past_of, nothing_heard}
 use Rattle.scp_core.specs.Ledger.{IsFailure}
 use Rattle.scp_core.specs.Node.{NodeView, Step, Fails}
-use Rattle.scp_core.specs.Theorem.{WasStep, IsReply, AreSteps, LedgerTheorem}
+use Rattle.scp_core.specs.Theorem.{made, WasStep, IsReply, AreSteps, LedgerTheorem}
 use Rattle.scp_core.proofs.Holding.{past-runs, past-goes, keeps-refl}
 
 true_isnt : true ≡ false → ⊥
@@ -138,14 +138,12 @@ pub record Failure (past : List Exchange) (v : NodeView) : Type 0 where
 
 pub failure_of : (past : List Exchange) (v : NodeView) → LedgerTheorem past v → v.failed ≡ true → Failure past v
 failure_of past v h failed =
-    let x = fails_at v.config past nothing_heard h.first v refl (sym h.failed ∙ failed) h.replies in
+    let x = fails_at v.config past nothing_heard (made v.config) v refl (sym h.failed ∙ failed) h.replies in
     record {
       earlier = x.before;
       moment = x.moment;
       theorem = record {
-        first = h.first;
-        made = h.made;
-        replies = subst (λ (d : Config). AreSteps d nothing_heard h.first x.before x.moment) (sym x.config) x.steps;
+        replies = subst (λ (d : Config). AreSteps d nothing_heard (made d) x.before x.moment) (sym x.config) x.steps;
         failed = x.fails.was ∙ sym (subst (λ (d : Config). (past_of d x.before).failed ≡ false) (sym x.config) x.past);
         moment = x.moment;
         flows = subst (λ (d : Config). Flows (past_of d x.before) x.moment) (sym x.config) x.flows;

@@ -9,7 +9,7 @@ use Rattle.scp_core.specs.declared.event.Reply.TheVariants.{Failed, NoLink, Alre
 use Rattle.scp_core.specs.History.{Exchange, Past, hears, accepts, moves, past_of, nothing_heard}
 use Rattle.scp_core.specs.Node.{NodeView, Accepts, Moves, SendsOut, Step, Keeps, Fails}
 use Rattle.scp_core.specs.Flow.{Flows}
-use Rattle.scp_core.specs.Theorem.{IsReply, AreSteps, LedgerTheorem, StepsKeep}
+use Rattle.scp_core.specs.Theorem.{made, IsReply, AreSteps, LedgerTheorem, StepsKeep}
 use Rattle.scp_core.proofs.Below.{StepLaws}
 use Rattle.scp_core.proofs.Steps.{Flows-failed, Flows-accepts, Flows-moves, Flows-sends}
 
@@ -64,7 +64,7 @@ past-goes p ApplyTake = refl
 past-goes p event = refl
 
 pub keeps-refl : (v : NodeView) → Keeps v v
-keeps-refl v = record { config = refl; journal = refl; decisions = refl; asked = refl; applied = refl; lives = refl }
+keeps-refl v = record { config = refl; journal = refl; decisions = refl; asked = refl; command = refl; applied = refl; lives = refl }
 
 fold-push : {A B : Type 0} (f : B → A → B) (a : B) (xs : List A) (x : A) → fold f a (xs ++ x ∷ []) ≡ f (fold f a xs) x
 fold-push f a [] x = refl
@@ -82,9 +82,7 @@ build : (past : List Exchange) (old new : NodeView) (event : Event) (reply : Rep
 build past old new event reply same h r failed moment flows now keeps =
     let more : past_of old.config (past ++ (event, reply) ∷ []) ≡ hears old.config (past_of old.config past) event reply = fold-push (λ q y. hears old.config q y.0 y.1) nothing_heard past (event, reply) in
     record {
-      first = h.first;
-      made = h.made;
-      replies = subst (λ (c : Config). AreSteps c nothing_heard h.first (past ++ (event, reply) ∷ []) new) (sym same) (steps-push old.config nothing_heard h.first past (event, reply) old new h.replies r);
+      replies = subst (λ (c : Config). AreSteps c nothing_heard (made c) (past ++ (event, reply) ∷ []) new) (sym same) (steps-push old.config nothing_heard (made old.config) past (event, reply) old new h.replies r);
       failed = rw same (failed ∙ sym (ap (λ (q : Past). q.failed) more));
       moment = moment;
       flows = rw same (subst (λ (q : Past). Flows q moment) (sym more) flows);

@@ -1,15 +1,15 @@
 -- The ledger theorem in one record, of a node that runs and of one that failed.
-use Rattle.std.proofs.Common.{◌≡◌, ℕ, Bool, true, false, List, ◌∷◌, ◌++◌, refl, sym, ◌∙◌, ap, subst, inl, inr, ◌⊎◌}
-use Rattle.scp_driver.specs.Kv.{kv_level, greatest}
+use Rattle.std.proofs.Common.{◌≡◌, ℕ, true, false, List, ◌++◌, refl, sym, ◌∙◌, ap, subst, inl, inr, None}
+use Rattle.scp_driver.specs.Kv.{kv_level, greatest, leader_place}
 use Rattle.scp_wire.specs.declared.link.Inbound.{Inbound}
-use Rattle.scp_account.specs.Kept.{KeepsLedger}
+use Rattle.scp_theorem.specs.Kept.{KeepsLedger}
 use Rattle.scp_core.specs.declared.config.Config.{Config}
 use Rattle.scp_core.specs.Flow.{Flows}
 use Rattle.scp_core.specs.History.{Exchange, past_of, nothing_heard}
 use Rattle.scp_core.specs.Ledger.{account_of, HoldsLedger, TheoremGivesLedger}
 use Rattle.scp_core.specs.Node.{NodeView}
 use Rattle.scp_core.specs.Sent.{IsSentOut, grounds_of, sent_to}
-use Rattle.scp_core.specs.Theorem.{AreSteps, LedgerTheorem}
+use Rattle.scp_core.specs.Theorem.{made, AreSteps, LedgerTheorem}
 use Rattle.scp_core.proofs.Accounting.{kept_at}
 use Rattle.scp_core.proofs.Below.{Laws}
 use Rattle.scp_core.proofs.Failing.{Failure, failure_of, which}
@@ -19,7 +19,7 @@ use Rattle.scp_core.proofs.grounds.All.{sent_at, sent_before}
 record Kept (past : List Exchange) (v : NodeView) : Type 0 where
   came : List Inbound
   came_is : (past_of v.config past).came ≡ came ++ v.inbox
-  keeps : KeepsLedger (λ driver slot value. kv_level value) (λ driver slot values. greatest values) (account_of past v came)
+  keeps : KeepsLedger (λ driver slot value. kv_level value) (λ driver slot value. None) (λ driver slot values. greatest values) (λ driver slot round n. leader_place slot round n) (account_of past v came)
   sent : (link : ℕ) → IsSentOut (grounds_of v came) link (sent_to link past)
 
 kept : Laws → (past : List Exchange) (v : NodeView) → LedgerTheorem past v → v.failed ≡ false → Kept past v
@@ -40,8 +40,6 @@ of_running law past v h runs =
       moment = v;
       runs = runs;
       is = inl (runs, refl, refl);
-      first = h.first;
-      made = h.made;
       steps = h.replies;
       came = k.came;
       came_is = k.came_is;
@@ -58,9 +56,7 @@ of_failed law past v failed x =
       moment = x.moment;
       runs = x.fails.was;
       is = inr (record { failed = failed; event = x.event; reply = x.reply; fails = x.reply_fails; step = x.step; later = x.later; past_is = x.is; silent = x.silent_then; keeps = left });
-      first = x.theorem.first;
-      made = x.theorem.made;
-      steps = subst (λ (c : Config). AreSteps c nothing_heard x.theorem.first x.earlier x.moment) (sym left.config) x.theorem.replies;
+      steps = subst (λ (c : Config). AreSteps c nothing_heard (made c) x.earlier x.moment) (sym left.config) x.theorem.replies;
       came = k.came;
       came_is = ap (λ (c : Config). (past_of c x.earlier).came) left.config ∙ k.came_is;
       keeps = k.keeps;

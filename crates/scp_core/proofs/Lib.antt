@@ -15,5 +15,7 @@ pub mod Putting
 pub mod Accounting
 pub mod Failing
 pub mod grounds
+pub mod same
 pub mod Keeping
+pub mod Headlines
 mod Cutting

@@ -10,13 +10,13 @@ use Rattle.scp_types.specs.declared.fault.Fault.TheVariants.{NoMemory, JournalFu
 use Rattle.scp_outbox.specs.Outbox.{OutboxView}
 use Rattle.scp_pending.specs.declared.ready.Ready.{Ready}
 use Rattle.scp_ledger.specs.declared.took.Outgoing.{Outgoing}
-use Rattle.scp_ledger.specs.declared.took.Onward.{Onward}
 use Rattle.scp_ledger.specs.declared.took.Took.{Took}
 use Rattle.scp_ledger.specs.Journals.{IsToAll}
 use Rattle.scp_ledger.specs.Ledger.{IsLedger}
 use Rattle.scp_ledger.specs.Takes.{adds_entry}
+use Rattle.scp_core.specs.declared.stage.Given.{Given}
 use Rattle.scp_core.specs.declared.stage.Shown.{Shown}
-use Rattle.scp_core.specs.Stages.{KvLedger, KvTakes, KvRuns}
+use Rattle.scp_ledger.specs.Kv.{KvLedger, KvTakes, KvTells, KvRuns}
 use Rattle.scp_core.specs.Node.{HandsOne, HandsEach}
 use Rattle.scp_core.specs.inside.Stage.{shown, Shows, TakesOut}
 use Rattle.scp_core.proofs.Deciding.{KvGrow, shown_before, runs_on}
@@ -41,23 +41,27 @@ cut_shows grown cut before x t now journal decisions runs j d takes out =
     (subst (λ n. Shows before (shown (Some (record { journal = n; decisions = decisions })) now)) (sym j)
     (subst (λ n. Shows before (shown (Some (record { journal = length before.journal; decisions = n })) now)) (sym d) (shown_before grown before x t now takes out)))
 
+-- what goes on of what was taken
+abbrev given_by : Took → Given
+given_by t = record { onward = t.onward; command = t.command }
+
 -- what is taken is taken of all that is shown
-pub takes_out : KvGrow → (cut : Option Shown) (before : KvLedger) (boxes : List OutboxView) (x : Ready) (t : Took) (now : KvLedger) (boxes2 : List OutboxView) → (shown cut before).failed ≡ false → KvTakes before x t now → IsLedger now → (now.failed ≡ false → KvRuns now) → HandsEach boxes t.outgoing boxes2 → TakesOut (shown cut before) boxes x t.onward (shown cut now) boxes2
-takes_out grown cut before boxes x t now boxes2 runs takes known running hands =
+pub takes_out : KvGrow → (cut : Option Shown) (before : KvLedger) (boxes : List OutboxView) (x : Ready) (t : Took) (now : KvLedger) (boxes2 : List OutboxView) → (shown cut before).failed ≡ false → KvTakes before x t now → KvTells before x t → IsLedger now → (now.failed ≡ false → KvRuns now) → HandsEach boxes t.outgoing boxes2 → TakesOut (shown cut before) boxes x (given_by t) (shown cut now) boxes2
+takes_out grown cut before boxes x t now boxes2 runs takes tells known running hands =
     let was : shown cut before ≡ before = all_is_shown cut before before runs in
     let is : shown cut now ≡ now = all_is_shown cut before now runs in
     let failed : before.failed ≡ false = ap (λ (v : KvLedger). v.failed) (sym was) ∙ runs in
-    subst (λ (v : KvLedger). TakesOut v boxes x t.onward (shown cut now) boxes2) (sym was)
-    (subst (λ (v : KvLedger). TakesOut before boxes x t.onward v boxes2) (sym is)
-    (record { took = t; takes = takes; onward_is = refl; known = known; running = running (runs_on grown before x t now failed takes); hands = hands }))
+    subst (λ (v : KvLedger). TakesOut v boxes x (given_by t) (shown cut now) boxes2) (sym was)
+    (subst (λ (v : KvLedger). TakesOut before boxes x (given_by t) v boxes2) (sym is)
+    (record { took = t; takes = takes; tells = tells; onward_is = refl; command_is = refl; known = known; running = running (runs_on grown before x t now failed takes); hands = hands }))
 
 abbrev taken_as : Took → Result Took Fault
 taken_as t = Ok t
 
-abbrev given_as : Option Onward → Result (Option Onward) Fault
+abbrev given_as : Given → Result Given Fault
 given_as o = Ok o
 
-abbrev no_memory : Result (Option Onward) Fault
+abbrev no_memory : Result Given Fault
 no_memory = Err NoMemory
 
 -- the same of when a journal is full
@@ -86,7 +90,7 @@ isnt_full A B cut before x runs not_a not_b f = let g = full_where A cut before 
 pub taken_isnt : (t : Took) → IsErrOf (taken_as t) JournalFull → ⊥
 taken_isnt t e = cc
 
-pub given_isnt : (o : Option Onward) → IsErrOf (given_as o) JournalFull → ⊥
+pub given_isnt : (o : Given) → IsErrOf (given_as o) JournalFull → ⊥
 given_isnt o e = cc
 
 pub no_memory_isnt : IsErrOf no_memory JournalFull → ⊥

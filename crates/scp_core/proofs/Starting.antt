@@ -3,12 +3,14 @@ use Rattle.std.proofs.Common.{◌≡◌, ℕ, Bool, true, false, List, [], ◌�
 use Rattle.std.specs.Prelude.{Result, Ok, Err, IfOk, Some, slice_get, replicate, not, ◌&&◌, ◌||◌}
 use Rattle.scp_types.specs.declared.names.NodeId.{NodeId}
 use Rattle.scp_wire.specs.Connections.{same_node}
-use Rattle.scp_account.specs.Fates.{is_among}
+use Rattle.scp_theorem.specs.Fates.{is_among}
 use Rattle.scp_core.specs.Config.{are_apart}
 use Rattle.scp_core.specs.History.{nothing_heard, unused}
 use Rattle.scp_core.specs.Node.{LinkView, NodeView, new_link}
-use Rattle.scp_core.specs.Flow.{LinkFlows, Flows, AreApart}
-use Rattle.scp_core.specs.Theorem.{LedgerTheorem}
+use Rattle.scp_core.specs.Flow.{LinkFlows, Flows}
+use Rattle.scp_pending.specs.Peers.{AreApart}
+use Rattle.scp_pending.specs.Rules.{Settled}
+use Rattle.scp_core.specs.Theorem.{made, LedgerTheorem}
 use Rattle.scp_core.specs.inside.Starting.{IsNew}
 use Rattle.scp_core.proofs.Deciding.{KvPass, journals_begin}
 use Rattle.scp_core.proofs.Steps.{same_node-refl}
@@ -74,7 +76,7 @@ starts law v n = record {
   apart = apart v.config.peers n.fit.apart;
   links = λ l k there peer at. subst (λ (w : LinkView). LinkFlows v.config.me peer v.config.capacities.link unused w) (sym (in_replicate (length v.config.peers) (new_link v.config.capacities.link) l k (rw (← n.links) there))) (new-flows v.config.me peer v.config.capacities.link);
   came = λ l peer at. refl;
-  local = n.local;
+  local = ap (λ (s : Settled). s.store.local) n.settled;
   arrived = [];
   inbox = sym n.inbox.0;
   given = [];
@@ -90,8 +92,29 @@ starts law v n = record {
   decided_count = omega (arith, ap length n.decided.0);
 }
 
+-- such a node is the one that is made
+made_is : (v : NodeView) → IsNew v → v ≡ made v.config
+made_is v n = λ i. record {
+  config = v.config;
+  failed = n.runs i;
+  links = n.links i;
+  inbox = n.inbox.0 i;
+  inbox_room = n.inbox.1 i;
+  pending = record { failed = n.pending.runs i; settled = n.settled i; leaving = n.leaving i };
+  pend_hand = n.hands.0 i;
+  ready = n.ready.0 i;
+  ready_room = n.ready.1 i;
+  ledger = n.ledger i;
+  slot_hand = n.hands.1 i;
+  last_command = n.told i;
+  decided = n.decided.0 i;
+  decided_room = n.decided.1 i;
+  applier = n.applier_is i;
+  outboxes = n.outboxes i;
+}
+
 pub new_holds : KvPass → (v : NodeView) → IsNew v → LedgerTheorem [] v
-new_holds law v n = record { first = v; made = n.made; replies = refl; failed = n.runs; moment = v; flows = starts law v n; now = λ _. refl; keeps = record { config = refl; journal = refl; decisions = refl; asked = refl; applied = refl; lives = refl } }
+new_holds law v n = record { replies = made_is v n; failed = n.runs; moment = v; flows = starts law v n; now = λ _. refl; keeps = record { config = refl; journal = refl; decisions = refl; asked = refl; command = refl; applied = refl; lives = refl } }
 
 pub if_ok : {X Y : Type 0} (P Q : X → Type 0) (r : Result X Y) → ((x : X) → P x → Q x) → IfOk r P → IfOk r Q
 if_ok P Q (Ok x) f h = f x h

@@ -1,19 +1,18 @@
 -- Which configurations a node can have.
-use Rattle.std.specs.Prelude.{ℕ, ◌≤◌, ◌≡◌, Bool, true, false, not, ◌&&◌, List, [], ◌∷◌, length}
+use Rattle.std.specs.Prelude.{◌≤◌, ◌≡◌, Bool, true, false, not, ◌&&◌, List, [], ◌∷◌, length}
 use Rattle.scp_types.specs.declared.names.NodeId.{NodeId}
 use Rattle.scp_quorum.specs.Sane.{IsSane}
-use Rattle.scp_account.specs.Fates.{is_among}
+use Rattle.scp_theorem.specs.Fates.{is_among}
 use Rattle.scp_core.specs.declared.config.Capacities.{Capacities}
 use Rattle.scp_core.specs.declared.config.Config.{Config}
+use Rattle.scp_types.specs.Range.{IsInRange}
 
 -- none stands there twice
 abbrev pub are_apart : List NodeId → Bool
 are_apart [] = true
 are_apart (peer ∷ peers) = not (is_among peer peers) && are_apart peers
 
-abbrev pub IsInRange : ℕ → Type 0
-IsInRange capacity = (1 ≤ capacity) × (capacity ≤ 1024)
-
+-- each of the four capacities is
 abbrev pub AreInRange : Capacities → Type 0
 AreInRange c = IsInRange c.link × IsInRange c.inbox × IsInRange c.ready × IsInRange c.decided
 

@@ -8,9 +8,10 @@ use Rattle.scp_pending.specs.declared.ready.Ready.{Ready}
 use Rattle.scp_pending.specs.Pends.{Pends}
 use Rattle.scp_ledger.specs.declared.took.Onward.{Onward}
 use Rattle.scp_apply.specs.Applies.{Applies}
-use Rattle.scp_core.specs.Stages.{KvJournals}
+use Rattle.scp_ledger.specs.Kv.{KvJournals}
 use Rattle.scp_core.specs.History.{OnLink, Past, tail_of, readings_of, read_so_far}
 use Rattle.scp_core.specs.Node.{LinkView, NodeView}
+use Rattle.scp_pending.specs.Peers.{AreApart}
 
 -- one link: its tail, its queue, its reader and the reader's hand
 pub record LinkFlows (me peer : NodeId) (room : ℕ) (o : OnLink) (k : LinkView) : Type 0 where
@@ -27,10 +28,8 @@ pub record LinkFlows (me peer : NodeId) (room : ℕ) (o : OnLink) (k : LinkView)
 abbrev pub IsOnWay : {X : Type 0} → List X → List X → List X → Option X → Type 0
 IsOnWay gone taken queue hand = gone ≡ taken ++ (queue ++ option_to_list hand)
 
--- no peer twice
-abbrev pub AreApart : List NodeId → Type 0
-AreApart peers = (l m : ℕ) → (peer : NodeId) → slice_get peers l ≡ Some peer → slice_get peers m ≡ Some peer → l ≡ m
-
+-- Of a node that runs: each queue and hand has what was put there and not taken, and each stage stands to what it took as its own contract
+-- says.
 pub record Flows (p : Past) (v : NodeView) : Type 0 where
   pub runs : v.failed ≡ false
   pub rooms : (v.inbox_room ≡ v.config.capacities.inbox) × (v.ready_room ≡ v.config.capacities.ready) × (v.decided_room ≡ v.config.capacities.decided)

@@ -24,6 +24,7 @@ pub record OnLink : Type 0 where
   pub taken : ℕ  -- Moved replies of ReaderTake
   pub given : ℕ  -- Moved replies of ReaderPut
 
+-- a link on which nothing was accepted, and of which nothing was read
 abbrev pub unused : OnLink
 unused = record { items = []; taken = 0; given = 0 }
 
@@ -35,9 +36,12 @@ tail_of o = fold goes never_open o.items
 abbrev pub readings_of : OnLink → List Inbound
 readings_of o = readings unread o.items
 
+-- what the items that its reader took are read as, in order
 abbrev pub read_so_far : OnLink → List Inbound
 read_so_far o = readings unread (take o.taken o.items)
 
+-- What exchanges say together: whether a step failed the node, what each link got, what came to the inbox, and how many things were put into
+-- the other queues and taken from them.
 pub record Past : Type 0 where
   pub failed : Bool  -- a step answered NoMemory or JournalFull
   pub links : ℕ → OnLink
@@ -47,6 +51,7 @@ pub record Past : Type 0 where
   pub decided_put : ℕ
   pub decided_taken : ℕ
 
+-- the past of a node as it is made
 abbrev pub nothing_heard : Past
 nothing_heard = record { failed = false; links = λ l. unused; came = []; ready_put = 0; ready_taken = 0; decided_put = 0; decided_taken = 0 }
 
@@ -54,6 +59,7 @@ nothing_heard = record { failed = false; links = λ l. unused; came = []; ready_
 abbrev pub changed : (ℕ → OnLink) → ℕ → OnLink → ℕ → OnLink
 changed links l o m = if nat_eq m l then o else links m
 
+-- an item stands behind those of its link
 abbrev pub goes_in : Past → ℕ → LinkItem → Past
 goes_in p l x = record p { links = changed p.links l (record (p.links l) { items = (p.links l).items ++ x ∷ [] }) }
 
@@ -61,6 +67,7 @@ goes_in p l x = record p { links = changed p.links l (record (p.links l) { items
 abbrev pub peer_at : Config → ℕ → NodeId
 peer_at c l = slice_index_or c.peers l c.me
 
+-- what an accepted event adds: its item to its link, stamped with the link's life, or its command to what came
 abbrev pub accepts : Config → Past → Event → Past
 accepts c p (Open l) = goes_in p l (item.Opened (conn_at (peer_at c l) c.me ((tail_of (p.links l)).life + 1)))
 accepts c p (Send l bytes) = goes_in p l (item.Bytes (conn_at (peer_at c l) c.me (tail_of (p.links l)).life) bytes)
@@ -78,6 +85,7 @@ moves p SlotPut = record p { decided_put = p.decided_put + 1 }
 moves p ApplyTake = record p { decided_taken = p.decided_taken + 1 }
 moves p event = p
 
+-- what one event with its reply adds to the past; a reply that refuses adds nothing
 abbrev pub hears : Config → Past → Event → Reply → Past
 hears c p event Accepted = accepts c p event
 hears c p event Moved = moves p event

@@ -1,19 +1,19 @@
 -- The ledger theorem of a node in one record: of a node that runs, and of one that failed.
 use Rattle.std.specs.Prelude.{ℕ, ◌≡◌, true, false, List, [], ◌∷◌, ◌++◌, ◌⊎◌, Option, Some, None, slice_get, option_to_list}
 use Rattle.std.specs.List.{AllByRecursion}
-use Rattle.scp_driver.specs.Kv.{kv_level, greatest}
+use Rattle.scp_driver.specs.Kv.{kv_level, greatest, leader_place}
 use Rattle.scp_driver.specs.declared.kv_driver.KvDriver.{KvDriver}
 use Rattle.scp_wire.specs.declared.link.Inbound.{Inbound}
 use Rattle.scp_wire.specs.LinkReading.{readings}
-use Rattle.scp_account.specs.Account.{Account}
-use Rattle.scp_account.specs.Kept.{KeepsLedger}
+use Rattle.scp_theorem.specs.Account.{Account}
+use Rattle.scp_theorem.specs.Kept.{KeepsLedger}
 use Rattle.scp_core.specs.declared.event.Event.{Event}
 use Rattle.scp_core.specs.declared.event.Reply.{Reply}
 use Rattle.scp_core.specs.declared.event.Reply.TheVariants.{Failed, JournalFull, NoMemory}
 use Rattle.scp_core.specs.History.{Exchange, past_of, nothing_heard}
 use Rattle.scp_core.specs.Node.{LinkView, NodeView, Step, Keeps}
 use Rattle.scp_core.specs.Sent.{IsSentOut, grounds_of, sent_to}
-use Rattle.scp_core.specs.Theorem.{IsMade, AreSteps, LedgerTheorem}
+use Rattle.scp_core.specs.Theorem.{made, AreSteps, LedgerTheorem}
 
 -- ---- where everything is
 
@@ -61,23 +61,24 @@ pub record FailedAfter (past earlier : List Exchange) (v moment : NodeView) : Ty
 
 -- ---- the ledger theorem
 
+-- The ledger theorem of a node: these exchanges led to a moment, step by step from the node as it is made, and of what was sent to the node by
+-- then `KeepsLedger` holds. That moment is the node, or of one that failed what it was before the step that failed it.
 pub record HoldsLedger (past : List Exchange) (v : NodeView) : Type 0 where
   -- the exchanges and the node, as they are; of a node that failed, as they were before the step that failed it
   pub earlier : List Exchange
   pub moment : NodeView
   pub runs : moment.failed ≡ false
   pub is : ((v.failed ≡ false) × (earlier ≡ past) × (moment ≡ v)) ⊎ FailedAfter past earlier v moment
-  -- these exchanges led to that, step by step, from a node as it is made
-  pub first : NodeView
-  pub made : IsMade first
-  pub steps : AreSteps v.config nothing_heard first earlier moment
+  -- these exchanges led to that, step by step, from the node as it is made
+  pub steps : AreSteps v.config nothing_heard (made v.config) earlier moment
   -- what came to the pending stage: all that was put into the inbox, but for what waits there
   pub came : List Inbound
   pub came_is : (past_of v.config earlier).came ≡ came ++ moment.inbox
   -- each message has its fate, each fate and each verdict its cause, each decision its ground, and the state is their fold
-  pub keeps : KeepsLedger (λ driver slot value. kv_level value) (λ driver slot values. greatest values) (account_of earlier moment came)
+  pub keeps : KeepsLedger (λ driver slot value. kv_level value) (λ driver slot value. None) (λ driver slot values. greatest values) (λ driver slot round n. leader_place slot round n) (account_of earlier moment came)
   -- all that was sent to each peer has its ground
   pub sent : (link : ℕ) → IsSentOut (grounds_of moment came) link (sent_to link past)
 
+-- what `LedgerTheorem` holds of, `HoldsLedger` holds of
 abbrev pub TheoremGivesLedger : Type 0
 TheoremGivesLedger = (past : List Exchange) (v : NodeView) → LedgerTheorem past v → HoldsLedger past v

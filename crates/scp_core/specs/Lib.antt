@@ -1,12 +1,13 @@
 pub mod Config
-pub mod Stages
 pub mod History
 pub mod Node
 pub mod Flow
 pub mod Theorem
 pub mod Settled
+pub mod Same
 pub mod Sent
 pub mod Ledger
+pub mod Headline
 pub mod Room
 pub mod Handed
 pub mod inside

@@ -13,11 +13,12 @@ use Rattle.scp_wire.specs.Message.{message_value, SpellsMessage}
 use Rattle.scp_wire.specs.LinkReading.{ReaderView, unread, reading, after}
 use Rattle.scp_wire.specs.Connections.{conn_at}
 use Rattle.scp_outbox.specs.Outbox.{OutboxView}
-use Rattle.scp_sent.specs.Handing.{HandsOut, to_link, GivesNext, GivesThere}
+use Rattle.scp_outboxes.specs.Handing.{HandsOut, to_link, GivesNext, GivesThere}
 use Rattle.scp_pending.specs.declared.ready.Ready.{Ready}
 use Rattle.scp_pending.specs.Passes.{Passes}
 use Rattle.scp_pending.specs.Rules.{PendingView, taken_in, reply as reply_to}
 use Rattle.scp_pending.specs.Pends.{Pends, IsIdle}
+use Rattle.scp_ledger.specs.declared.took.CommandFate.{CommandFate}
 use Rattle.scp_ledger.specs.declared.took.Onward.{Onward}
 use Rattle.scp_ledger.specs.declared.took.Outgoing.{Outgoing}
 use Rattle.scp_ledger.specs.declared.took.Outgoing.TheVariants.{ToAll, To}
@@ -32,8 +33,10 @@ use Rattle.scp_core.specs.declared.event.Event.TheVariants.{Open, Send, Close, L
 use Rattle.scp_core.specs.declared.event.Reply.{Reply}
 use Rattle.scp_core.specs.declared.event.Reply.TheVariants.{Failed, NoLink, AlreadyOpen, LivesSpent, NotOpen, Full, Accepted, Blocked, Idle, Moved, Sent, JournalFull, NoMemory}
 use Rattle.scp_core.specs.History.{peer_at}
-use Rattle.scp_core.specs.Stages.{KvLedger, KvTakes, KvRuns}
+use Rattle.scp_ledger.specs.Kv.{KvLedger, KvTakes, KvTells, KvRuns}
 
+-- what contracts see of one link of a node: how often it was opened and whether it is open, what waits in its queue, and what its reader has
+-- read
 pub record LinkView : Type 0 where
   pub life : ℕ
   pub is_open : Bool
@@ -46,6 +49,8 @@ pub record LinkView : Type 0 where
 abbrev pub new_link : ℕ → LinkView
 new_link room = record { life = 0; is_open = false; queue = []; room = room; reader = unread; hand = [] }
 
+-- what contracts see of a node: its configuration, whether it failed, its links, its stages, and the queue and the hand between any two of
+-- them
 pub record NodeView : Type 0 where
   pub config : Config
   pub failed : Bool
@@ -58,6 +63,7 @@ pub record NodeView : Type 0 where
   pub ready_room : ℕ
   pub ledger : KvLedger
   pub slot_hand : Option Onward
+  pub last_command : Option CommandFate  -- what became of the command that the slot stage took last; None where what it took last is no command
   pub decided : List Onward
   pub decided_room : ℕ
   pub applier : ApplierView
@@ -67,6 +73,7 @@ pub record NodeView : Type 0 where
 abbrev pub AtLink : NodeView → ℕ → (LinkView → Type 0) → Type 0
 AtLink v l P = (k : LinkView) × (slice_get v.links l ≡ Some k) × P k
 
+-- its queue has no room left
 abbrev pub is_full : LinkView → Type 0
 is_full k = length k.queue ≡ k.room
 
@@ -118,6 +125,8 @@ pub record PendBrings (old new : NodeView) : Type 0 where
   pub same : after' ≡ record old.pending { leaving = after'.leaving }
   pub is : new ≡ record old { pending = after'; pend_hand = Some thing }
 
+-- the pending stage, with nothing ready, takes the first item of the inbox by its rules: what is then ready goes into its hand, and the
+-- reply into an outbox
 pub record PendTakes (old new : NodeView) : Type 0 where
   pub x : Inbound
   pub rest : List Inbound
@@ -134,6 +143,7 @@ pub record PendTakes (old new : NodeView) : Type 0 where
   pub hands : Hands old.outboxes (reply_to old.pending.settled x) new.outboxes
   pub is : new ≡ record old { inbox = rest; pending = after'; pend_hand = thing; outboxes = new.outboxes }
 
+-- the slot stage takes the first ready thing: what it gives on goes into its hand, and what goes out into the outboxes
 pub record SlotTakes (old new : NodeView) : Type 0 where
   pub x : Ready
   pub rest : List Ready
@@ -141,11 +151,13 @@ pub record SlotTakes (old new : NodeView) : Type 0 where
   pub after' : KvLedger
   pub took : Took
   pub takes : KvTakes old.ledger x took after'
+  pub tells : KvTells old.ledger x took
   pub known : IsLedger after'
   pub running : KvRuns after'
   pub hands : HandsEach old.outboxes took.outgoing new.outboxes
-  pub is : new ≡ record old { ready = rest; ledger = after'; slot_hand = took.onward; outboxes = new.outboxes }
+  pub is : new ≡ record old { ready = rest; ledger = after'; slot_hand = took.onward; last_command = took.command; outboxes = new.outboxes }
 
+-- the applier takes the first thing of the decided queue, and its answer goes into an outbox
 pub record ApplyTakes (old new : NodeView) : Type 0 where
   pub x : Onward
   pub rest : List Onward
@@ -165,6 +177,7 @@ pub record Drains (old : NodeView) (l : ℕ) (bytes : List ℕ) (new : NodeView)
   pub spells : SpellsMessage bytes (message_value message)
   pub is : new ≡ record old { outboxes = new.outboxes }
 
+-- a drain sends what its link's outbox gives next; no other event sends
 abbrev pub SendsOut : NodeView → Event → List ℕ → NodeView → Type 0
 SendsOut old (Drain l) bytes new = Drains old l bytes new
 SendsOut old event bytes new = ⊥
@@ -218,6 +231,7 @@ Refuses v ApplyTake Idle = v.decided ≡ []
 Refuses v (Drain l) Idle = (o : OutboxView) × (slice_get v.outboxes l ≡ Some o) × GivesNext o None o
 Refuses v event reply = ⊥
 
+-- how often the link was opened
 abbrev pub life_of : LinkView → ℕ
 life_of k = k.life
 
@@ -227,6 +241,7 @@ pub record Keeps (old new : NodeView) : Type 0 where
   pub journal : new.ledger.journal ≡ old.ledger.journal
   pub decisions : new.ledger.decisions ≡ old.ledger.decisions
   pub asked : new.ledger.asked ≡ old.ledger.asked
+  pub command : new.last_command ≡ old.last_command
   pub applied : new.applier.applied ≡ old.applier.applied
   pub lives : map life_of new.links ≡ map life_of old.links
 
@@ -234,10 +249,12 @@ pub record Keeps (old new : NodeView) : Type 0 where
 abbrev pub room_in : LinkView → ℕ
 room_in k = k.room - length k.queue
 
+-- how many items a link's queue can still take; 0 for a link that isn't there
 abbrev pub room_of : Option LinkView → ℕ
 room_of None = 0
 room_of (Some k) = room_in k
 
+-- how many items the queue of the link of this number can still take; 0 where it isn't there
 abbrev pub room_at : NodeView → ℕ → ℕ
 room_at v l = room_of (slice_get v.links l)
 
@@ -246,6 +263,7 @@ abbrev pub queued_in : Option LinkView → ℕ
 queued_in None = 0
 queued_in (Some k) = length k.queue
 
+-- how many items wait in the queue of the link of this number; 0 where it isn't there
 abbrev pub queued_at : NodeView → ℕ → ℕ
 queued_at v l = queued_in (slice_get v.links l)
 
@@ -254,6 +272,7 @@ abbrev pub LeavesRoom : NodeView → Event → NodeView → Type 0
 LeavesRoom old (ReaderTake l) new = (room_at new l ≡ room_at old l + 1) × ((other : ℕ) → other ≢ l → room_at new other ≡ room_at old other)
 LeavesRoom old event new = (l : ℕ) → room_at new l ≡ room_at old l
 
+-- an event fails a node that ran: what `Keeps` names stays, and the room of each link is as `LeavesRoom` says
 pub record Fails (old : NodeView) (event : Event) (new : NodeView) : Type 0 where
   pub was : old.failed ≡ false
   pub failed : new.failed ≡ true
@@ -289,6 +308,7 @@ abbrev pub lives_of : Option LinkView → ℕ
 lives_of None = 0
 lives_of (Some k) = k.life
 
+-- how often the link of this number was opened; 0 where it isn't there
 abbrev pub lives_at : NodeView → ℕ → ℕ
 lives_at v l = lives_of (slice_get v.links l)
 
@@ -296,9 +316,11 @@ lives_at v l = lives_of (slice_get v.links l)
 abbrev pub link_accepts : LinkView → Bool
 link_accepts k = k.is_open && nat_lt (length k.queue) k.room
 
+-- whether what is sent on a link would be accepted; on one that isn't there it isn't
 abbrev pub accepts_of : Option LinkView → Bool
 accepts_of None = false
 accepts_of (Some k) = link_accepts k
 
+-- the node runs, and the link of this number is there, is open and has room
 abbrev pub accepts_at : NodeView → ℕ → Bool
 accepts_at v l = if v.failed then false else accepts_of (slice_get v.links l)

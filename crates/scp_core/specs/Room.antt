@@ -9,6 +9,7 @@ use Rattle.scp_core.specs.Node.{NodeView, LinkView, lives_at, room_at, LeavesRoo
 use Rattle.scp_core.specs.Ledger.{IsFailure}
 use Rattle.scp_core.specs.Theorem.{LedgerTheorem}
 
+-- 1 for the opening of a link, 0 for any other item
 abbrev pub opened_by : LinkItem → ℕ
 opened_by (Opened conn) = 1
 opened_by (Bytes conn bytes) = 0
@@ -51,5 +52,6 @@ pub record HasRoom (past : List Exchange) (v : NodeView) : Type 0 where
   pub running : v.failed ≡ false → RunningHasRoom v (past_of v.config past)
   pub failed : v.failed ≡ true → FailedHasRoom past v
 
+-- what `LedgerTheorem` holds of, `HasRoom` holds of
 abbrev pub TheoremGivesRoom : Type 0
 TheoremGivesRoom = (past : List Exchange) (v : NodeView) → LedgerTheorem past v → HasRoom past v

@@ -21,7 +21,7 @@ use Rattle.scp_wire.specs.declared.link.Inbound.TheVariants as inbound
 use Rattle.scp_wire.specs.declared.message.Message.{Message}
 use Rattle.scp_wire.specs.declared.message.Message.TheVariants as message
 use Rattle.scp_wire.specs.declared.side.SideMessage.TheVariants as side
-use Rattle.scp_sent.specs.Sent.{AreNewer}
+use Rattle.scp_outboxes.specs.Sent.{AreNewer}
 use Rattle.scp_pending.specs.Queues.{is_open, named, hash_of}
 use Rattle.scp_pending.specs.Rules.{settled_by}
 use Rattle.scp_ledger.specs.declared.journal.Decision.{Decision}
@@ -41,6 +41,7 @@ use Rattle.scp_core.specs.Settled.{start_at}
 
 -- ---- what was sent
 
+-- what an event with its reply sent over the link: the bytes of a drain that was answered by Sent
 abbrev pub sent_by : ℕ → Event → Reply → List (List ℕ)
 sent_by link (Drain l) (reply.Sent bytes) = if nat_eq l link then bytes ∷ [] else []
 sent_by link event reply = []
@@ -110,6 +111,7 @@ Tells link slot (Timer at) = ⊥
 Tells link slot Tick = ⊥
 Tells link slot (Ask l at) = (l ≡ link) × (at ≡ slot)
 
+-- it is the command to ask this link for this slot
 abbrev pub TellsToAsk : ℕ → Slot → Inbound → Type 0
 TellsToAsk link slot (inbound.Opened conn) = ⊥
 TellsToAsk link slot (inbound.Carried x) = ⊥
@@ -149,5 +151,6 @@ pub record IsSentOut (g : Grounds) (link : ℕ) (sent : List (List ℕ)) : Type 
   pub allowed : All (MaySend g link) messages
   pub newer : AreNewer messages
 
+-- who the node is, what its pending stage took, and what its slot stage and its applier made of that
 abbrev pub grounds_of : NodeView → List Inbound → Grounds
 grounds_of v taken = record { config = v.config; taken = taken; journal = v.ledger.journal; decisions = v.ledger.decisions; applied = v.applier.applied }

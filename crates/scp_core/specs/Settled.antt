@@ -19,5 +19,6 @@ pub record IsSettledAt (c : Config) (p : Past) (pending : PendingView) : Type 0 
   pub by_rules : pending.settled ≡ settled_by (start_at c) p.came
   pub settled : IsSettledBy (start_at c) p.came pending
 
+-- where PendTake answers Idle nothing is ready, and what heads each lane of the pending stage is an envelope that waits
 abbrev pub IdleIsSettled : Type 0
 IdleIsSettled = (c : Config) (p : Past) (before after' : NodeView) → WasStep c p before PendTake Idle after' → IsSettledAt c p before.pending

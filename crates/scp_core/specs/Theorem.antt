@@ -1,8 +1,9 @@
 -- The ledger theorem: what holds of every list of events, their replies, and the node that they left.
 use Rattle.std.specs.Prelude.{◌≡◌, true, false, List, [], ◌∷◌, ◌++◌, ◌⊎◌, None, Some, length, replicate}
 use Rattle.std.specs.FinMap as map
-use Rattle.scp_sent.specs.Handing.{empty_outbox}
+use Rattle.scp_outboxes.specs.Handing.{empty_outbox}
 use Rattle.scp_pending.specs.Rules.{fresh}
+use Rattle.scp_ledger.specs.Runs.{nothing_taken}
 use Rattle.scp_core.specs.declared.config.Config.{Config}
 use Rattle.scp_core.specs.declared.event.Event.{Event}
 use Rattle.scp_core.specs.declared.event.Reply.{Reply}
@@ -11,16 +12,26 @@ use Rattle.scp_core.specs.History.{Exchange, Past, hears, past_of, nothing_heard
 use Rattle.scp_core.specs.Node.{NodeView, Step, Keeps, new_link}
 use Rattle.scp_core.specs.Flow.{Flows}
 
--- a node as it is made: it runs, no link was open, and its stages, queues, hands and outboxes hold nothing
-pub record IsMade (v : NodeView) : Type 0 where
-  pub runs : v.failed ≡ false
-  pub links : v.links ≡ replicate (length v.config.peers) (new_link v.config.capacities.link)
-  pub queues : (v.inbox ≡ []) × (v.ready ≡ []) × (v.decided ≡ [])
-  pub hands : (v.pend_hand ≡ None) × (v.slot_hand ≡ None)
-  pub pending : v.pending.settled ≡ fresh v.config.me v.config.peers v.config.set
-  pub ledger : (v.ledger.journal ≡ []) × (v.ledger.decisions ≡ []) × (v.ledger.asked ≡ []) × (v.ledger.machines ≡ [])
-  pub applier : (v.applier.applied ≡ []) × (v.applier.buffer ≡ []) × (v.applier.state ≡ Some map.empty)
-  pub outboxes : v.outboxes ≡ replicate (length v.config.peers) empty_outbox
+-- The node of a configuration as it is made: it runs, no link was open, and its stages, queues, hands and outboxes hold nothing.
+abbrev pub made : Config → NodeView
+made c = record {
+  config = c;
+  failed = false;
+  links = replicate (length c.peers) (new_link c.capacities.link);
+  inbox = [];
+  inbox_room = c.capacities.inbox;
+  pending = record { failed = false; settled = fresh c.me c.peers c.set; leaving = [] };
+  pend_hand = None;
+  ready = [];
+  ready_room = c.capacities.ready;
+  ledger = nothing_taken c.me c.set (record {}) c.peers;
+  slot_hand = None;
+  last_command = None;
+  decided = [];
+  decided_room = c.capacities.decided;
+  applier = record { failed = false; applied = []; buffer = []; state = Some map.empty };
+  outboxes = replicate (length c.peers) empty_outbox;
+}
 
 -- the exchange was a step from a node of this configuration, which stood so to its past
 pub record WasStep (c : Config) (p : Past) (before : NodeView) (event : Event) (reply : Reply) (after' : NodeView) : Type 0 where
@@ -37,11 +48,11 @@ abbrev pub AreSteps : Config → Past → NodeView → List Exchange → NodeVie
 AreSteps c p v [] last = last ≡ v
 AreSteps c p v (x ∷ xs) last = (next : NodeView) × IsReply c p v x.0 x.1 next × AreSteps c (hears c p x.0 x.1) next xs last
 
+-- Each exchange was a step by the table of replies, from the node as it is made. The node is as `Flows` says, or keeps what is left of one
+-- that was when it failed.
 pub record LedgerTheorem (past : List Exchange) (v : NodeView) : Type 0 where
-  -- the node as it was made, and every step from it on
-  pub first : NodeView
-  pub made : IsMade first
-  pub replies : AreSteps v.config nothing_heard first past v
+  -- every step from the node as it is made
+  pub replies : AreSteps v.config nothing_heard (made v.config) past v
   pub failed : v.failed ≡ (past_of v.config past).failed
   -- the node, or what it was when it failed
   pub moment : NodeView

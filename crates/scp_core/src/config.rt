@@ -1,14 +1,11 @@
 //! What a node is made of.
 ghost use Rattle.std.specs.Prelude.{◌≡◌, ◌≤◌, ◌↔◌, IsTrue};
-ghost use Rattle.scp_account.specs.Fates.{is_among};
+ghost use Rattle.scp_theorem.specs.Fates.{is_among};
 ghost use Rattle.scp_core.specs.Config.{are_apart, AreInRange};
 
 use scp_quorum::QuorumSet;
-use scp_types::NodeId;
+use scp_types::{CAPACITY_LIMIT, NodeId};
 use std::marker::Model;
-
-/// The most items that a queue may hold (this project's profile).
-pub const CAPACITY_LIMIT: u16 = 1_024;
 
 /// The nodes at the other ends of a node's links, in the order of the links.
 #[derive(Debug, Drop)]

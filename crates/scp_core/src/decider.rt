@@ -13,11 +13,12 @@ use scp_apply::{Applier, the_next_decision_can_be_taken};
 use scp_driver::KvDriver;
 use scp_kv::KvState;
 use scp_ledger::{
-    Fate, Ledger, Onward, SharedDecision, what_holds_of_a_ledger_holds_with_one_thing_more,
+    CommandFate, Fate, Ledger, Onward, SharedDecision,
+    what_holds_of_a_ledger_holds_with_one_thing_more,
 };
+use scp_outboxes::Outboxes;
 use scp_pending::Ready;
 use scp_quorum::SaneSet;
-use scp_sent::Outboxes;
 use scp_types::{Fault, NodeId};
 use scp_wire::Message;
 use std::alloc::Global;
@@ -31,6 +32,7 @@ pub struct Decider {
     failed: bool,
     stage: SlotStage,
     hand: Option<Onward>,
+    last_command: Option<CommandFate>,
     queue: HeapCircularBuffer<Onward>,
     applier: Applier,
 }
@@ -40,19 +42,19 @@ impl Model for Decider {
     ghost use Rattle.std.specs.Ordering.{nat_cmp};
     ghost use Rattle.std.specs.Cmp.Lexicographic.{slice_cmp};
     ghost use Rattle.std.specs.Coded.{codes, coded_ℕ, coded_list};
-    ghost use Rattle.scp_xdr.specs.TreeModel.{coded_row};
-    ghost use Rattle.scp_quorum.specs.QuorumTree.{coded_level};
+    ghost use Rattle.scp_xdr.specs.inside.TreeModel.{coded_row};
+    ghost use Rattle.scp_quorum.specs.inside.QuorumTree.{coded_level};
     ghost use Rattle.scp_driver.specs.contracts.kv_driver.KvDriver as driver;
-    ghost use Rattle.scp_ledger.specs.Coding.{machine_code};
+    ghost use Rattle.scp_ledger.specs.inside.Coding.{machine_code};
     ghost use Rattle.scp_core.specs.inside.Decider.{DeciderView, IsWell};
 
     ghost Value = { DeciderView };
 
     ghost coded = { Prim.hlevel (codes, machine_code driver.the_row.coded, coded_row coded_level, map.code {R = slice_cmp nat_cmp} (coded_list coded_ℕ) (coded_list coded_ℕ)) };
 
-    ghost view = { λ a. record { failed = a.failed; ledger = a.stage; hand = a.hand; queue = a.queue.items; room = a.queue.capacity; applier = a.applier } };
+    ghost view = { λ a. record { failed = a.failed; ledger = a.stage; hand = a.hand; last_command = a.last_command; queue = a.queue.items; room = a.queue.capacity; applier = a.applier } };
 
-    ghost invariant = { λ a. IsWell (record { failed = a.failed; ledger = a.stage; hand = a.hand; queue = a.queue.items; room = a.queue.capacity; applier = a.applier }) };
+    ghost invariant = { λ a. IsWell (record { failed = a.failed; ledger = a.stage; hand = a.hand; last_command = a.last_command; queue = a.queue.items; room = a.queue.capacity; applier = a.applier }) };
 }
 
 impl Decider {
@@ -72,6 +74,7 @@ impl Decider {
             failed: false,
             stage: SlotStage::new(alloc, me, set, peers),
             hand: None,
+            last_command: None,
             queue: HeapCircularBuffer::with_capacity(alloc, room)?,
             applier: Applier::new(alloc),
         })
@@ -94,6 +97,13 @@ impl Decider {
         ensures { self.now.failed ≡ false → result.now ≡ self.now.ledger }
     {
         self.stage.ledger()
+    }
+
+    /// What became of the command that the slot stage took last.
+    pub fn last_command(&self) -> Option<CommandFate>
+        ensures { result ≡ self.now.last_command }
+    {
+        self.last_command
     }
 
     /// How many things wait in the queue for the applier.
@@ -146,8 +156,9 @@ impl Decider {
     {
         what_holds_of_a_ledger_holds_with_one_thing_more::<KvDriver>();
         match self.stage.take(ready, outboxes) {
-            Ok(onward) => {
-                self.hand = onward;
+            Ok(given) => {
+                self.hand = given.onward;
+                self.last_command = given.command;
                 Reply::Moved
             }
             Err(Fault::JournalFull) => {

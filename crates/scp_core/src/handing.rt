@@ -9,7 +9,7 @@ ghost use Rattle.scp_core.specs.inside.Draining.{Draws, IsSpelt, empty_reply};
 use crate::event::Reply;
 use scp_envelope::SharedEnvelope;
 use scp_ledger::{Outgoing, OutgoingList};
-use scp_sent::Outboxes;
+use scp_outboxes::Outboxes;
 use scp_types::Fault;
 use scp_wire::{BoxedEnvelope, Bytes, FittingMessage, Message, encode};
 use std::alloc::Global;

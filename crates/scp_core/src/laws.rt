@@ -1,19 +1,27 @@
 //! Laws of the definitions, each the contract of a function that does nothing: what the ledger theorem gives.
 ghost use Rattle.scp_core.specs.Theorem.{StepsKeep};
 ghost use Rattle.scp_core.specs.Ledger.{TheoremGivesLedger};
+ghost use Rattle.scp_core.specs.Headline.{LedgerGivesHeadline};
 ghost use Rattle.scp_core.specs.Room.{TheoremGivesRoom};
 ghost use Rattle.scp_core.specs.Settled.{IdleIsSettled};
+ghost use Rattle.scp_core.specs.Same.{SameEventsSameReplies};
 ghost use Rattle.scp_core.specs.Handed.{StepsPutAll, DrainsGiveNext, RepliesFit};
 
-use scp_account::what_ran_keeps_the_ledger;
-use scp_apply::what_holds_of_an_applier_holds_with_one_thing_more;
+use scp_apply::{
+    what_holds_of_an_applier_holds_with_one_thing_more, what_is_applied_is_a_function,
+};
+use scp_ballot_rules::the_rules_are_a_function;
 use scp_driver::KvDriver;
-use scp_ledger::what_holds_of_a_ledger_holds_with_one_thing_more;
+use scp_envelope::newer_is_an_order;
+use scp_headline::what_keeps_the_ledger_keeps_the_headline;
+use scp_ledger::{a_beginning_keeps_the_window, what_holds_of_a_ledger_holds_with_one_thing_more};
+use scp_nominate::an_input_is_a_function;
+use scp_outboxes::what_is_sent_was_handed_out;
 use scp_pending::{
     nothing_is_of_a_stranger, the_last_sets_are_stored, what_is_replied_was_asked_for,
     who_it_is_stays,
 };
-use scp_sent::what_is_sent_was_handed_out;
+use scp_theorem::what_ran_keeps_the_ledger;
 use scp_wire::{
     a_beginning_keeps_the_shape, what_fits_a_link, what_is_read_grows_with_the_items,
     what_is_read_keeps_the_shape,
@@ -46,6 +54,13 @@ pub fn each_node_holds_its_ledger()
     what_is_sent_was_handed_out();
 }
 
+/// A node that holds its ledger holds its headline: of what was sent, what it holds and what it shows.
+pub fn each_node_holds_its_headline()
+    ensures headline { LedgerGivesHeadline }
+{
+    what_keeps_the_ledger_keeps_the_headline::<KvDriver>();
+}
+
 /// Where the pending stage answers Idle nothing is ready, and the head of each lane that it holds is an envelope that waits for
 /// its quorum set.
 pub fn what_is_idle_is_settled()
@@ -74,3 +89,18 @@ pub fn what_is_handed_out_is_put()
     ensures puts { StepsPutAll }
     ensures drains { DrainsGiveNext }
 {}
+
+/// The same events give the same replies: two runs of one configuration and the same events, where no step lacked memory, have the
+/// same replies, and leave nodes that show the same. What isn't said: the places at which values lie, and the order of the applier's
+/// buffer.
+pub fn what_two_runs_reply_is_the_same()
+    ensures same { SameEventsSameReplies }
+{
+    newer_is_an_order();
+    an_input_is_a_function::<KvDriver>();
+    the_rules_are_a_function();
+    what_holds_of_a_ledger_holds_with_one_thing_more::<KvDriver>();
+    a_beginning_keeps_the_window();
+    what_holds_of_an_applier_holds_with_one_thing_more();
+    what_is_applied_is_a_function();
+}

@@ -8,13 +8,10 @@ use crate::event::Reply;
 use crate::queue;
 use crate::stop::Stop;
 use circular_buffer::HeapCircularBuffer;
-use scp_types::{ConnId, Fault, NodeId};
+use scp_types::{ConnId, Fault, LIFE_LIMIT, NodeId};
 use scp_wire::{Bytes, Inbound, LinkItem, LinkReader};
 use std::alloc::Global;
 use std::marker::Model;
-
-/// The most times that a link is opened (this project's profile).
-pub const LIVES: u32 = 65_535;
 
 /// A link. Its hand is what its reader read of the last item and isn't put yet: the first of that, and of a batch the rest,
 /// which the reader has.
@@ -30,8 +27,8 @@ pub struct Link {
 impl Model for Link {
     ghost use Rattle.std.specs.Prelude.{◌≤◌, ◌≡◌, [], ◌++◌, None, option_to_list};
     ghost use Rattle.std.specs.Coded.{codes};
-    ghost use Rattle.scp_xdr.specs.TreeModel.{coded_row};
-    ghost use Rattle.scp_quorum.specs.QuorumTree.{coded_level};
+    ghost use Rattle.scp_xdr.specs.inside.TreeModel.{coded_row};
+    ghost use Rattle.scp_quorum.specs.inside.QuorumTree.{coded_level};
     ghost use Rattle.scp_core.specs.Node.{LinkView};
 
     ghost Value = { LinkView };
@@ -91,7 +88,7 @@ impl Link {
         if self.is_open {
             return Reply::AlreadyOpen;
         }
-        if self.life == LIVES {
+        if self.life == LIFE_LIMIT {
             return Reply::LivesSpent;
         }
         if queue::is_full(&self.queue) {

@@ -5,7 +5,7 @@ ghost use Rattle.scp_pending.specs.Line.{count_held};
 ghost use Rattle.scp_core.specs.Config.{IsConfig, IsFit};
 ghost use Rattle.scp_core.specs.History.{peer_at, Exchange};
 ghost use Rattle.scp_core.specs.Node.{Step, Keeps, LeavesRoom, HasLink, lives_at, room_at, queued_at, accepts_at};
-ghost use Rattle.scp_sent.specs.Handing.{waiting_at};
+ghost use Rattle.scp_outboxes.specs.Handing.{waiting_at, overwritten_at};
 ghost use Rattle.scp_core.specs.Theorem.{LedgerTheorem};
 ghost use Rattle.scp_core.specs.inside.Starting.{IsNew};
 
@@ -19,11 +19,13 @@ use crate::queue;
 use circular_buffer::HeapCircularBuffer;
 use scp_driver::KvDriver;
 use scp_kv::KvState;
-use scp_ledger::{Fate, Ledger, SharedDecision, what_holds_of_a_ledger_holds_with_one_thing_more};
-use scp_pending::{PEER_LIMIT, Pending, Ready};
+use scp_ledger::{
+    CommandFate, Fate, Ledger, SharedDecision, what_holds_of_a_ledger_holds_with_one_thing_more,
+};
+use scp_outboxes::Outboxes;
+use scp_pending::{Pending, Ready};
 use scp_quorum::{QuorumSet, SaneSet};
-use scp_sent::Outboxes;
-use scp_types::{ConnId, Fault, NodeId};
+use scp_types::{ConnId, Fault, NodeId, PEER_LIMIT};
 use scp_wire::{Bytes, Command, Inbound};
 use std::alloc::Global;
 use std::marker::Model;
@@ -51,10 +53,10 @@ impl Model for Node {
     ghost use Rattle.std.specs.Ordering.{nat_cmp};
     ghost use Rattle.std.specs.Cmp.Lexicographic.{slice_cmp};
     ghost use Rattle.std.specs.Coded.{codes, coded_ℕ, coded_list};
-    ghost use Rattle.scp_xdr.specs.TreeModel.{coded_row};
-    ghost use Rattle.scp_quorum.specs.QuorumTree.{coded_level};
+    ghost use Rattle.scp_xdr.specs.inside.TreeModel.{coded_row};
+    ghost use Rattle.scp_quorum.specs.inside.QuorumTree.{coded_level};
     ghost use Rattle.scp_driver.specs.contracts.kv_driver.KvDriver as driver;
-    ghost use Rattle.scp_ledger.specs.Coding.{machine_code};
+    ghost use Rattle.scp_ledger.specs.inside.Coding.{machine_code};
     ghost use Rattle.scp_core.specs.Node.{NodeView};
 
     ghost Value = { NodeView };
@@ -73,6 +75,7 @@ impl Model for Node {
       ready_room = a.ready.capacity;
       ledger = a.decider.ledger;
       slot_hand = a.decider.hand;
+      last_command = a.decider.last_command;
       decided = a.decider.queue;
       decided_room = a.decider.room;
       applier = a.decider.applier;
@@ -222,6 +225,22 @@ impl Node {
         ensures { result ≡ waiting_at self.now.outboxes link }
     {
         self.outboxes.waiting(link)
+    }
+
+    /// How many own statements for the peer of this link were lost before they were sent: those that a newer one of their slot
+    /// and kind replaced, and those that were dropped where 64 others waited; 0 for a link that isn't there.
+    pub fn overwritten(&self, link: u8) -> u64
+        ensures { result ≡ overwritten_at self.now.outboxes link }
+    {
+        self.outboxes.overwritten(link)
+    }
+
+    /// What became of the command that the slot stage took last, at the last SlotTake that moved; `None` where that took
+    /// something else, or where there was none yet. Of a failed node, what it was before the step that failed it.
+    pub fn last_command(&self) -> Option<CommandFate>
+        ensures { result ≡ self.now.last_command }
+    {
+        self.decider.last_command()
     }
 
     /// How many items wait in the link's queue; 0 for a link that isn't there.

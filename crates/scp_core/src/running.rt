@@ -1,13 +1,14 @@
 //! A list of events on a new node.
 ghost use Rattle.std.specs.Prelude.{◌≡◌, ◌↔◌, ◌⊎◌, [], IfOk, IfErr, OnOk, IsOkUnless, zip, length, Err};
 ghost use Rattle.scp_core.specs.Ledger.{HoldsLedger};
+ghost use Rattle.scp_core.specs.Headline.{HoldsHeadline};
 ghost use Rattle.scp_core.specs.Theorem.{LedgerTheorem};
 ghost use Rattle.scp_core.specs.Config.{IsConfig};
 ghost use Rattle.scp_core.specs.inside.Starting.{Answers};
 
 use crate::config::Config;
 use crate::event::{Event, Reply};
-use crate::laws::each_node_holds_its_ledger;
+use crate::laws::{each_node_holds_its_headline, each_node_holds_its_ledger};
 use crate::node::Node;
 use crate::outcome::Run;
 use scp_types::Fault;
@@ -20,6 +21,8 @@ pub fn run(alloc: Global, config: Config, events: &[Event]) -> Result<Run, Fault
     ensures theorem { IfOk result (λ run. LedgerTheorem (zip events.now run.replies.items) run.node) }
     // So the node holds its ledger, by the events and the replies.
     ensures ledger { IfOk result (λ run. HoldsLedger (zip events.now run.replies.items) run.node) }
+    // And its headline, which says what matters most of that.
+    ensures headline { IfOk result (λ run. HoldsHeadline (zip events.now run.replies.items) run.node) }
     ensures count { IfOk result (λ run. length run.replies.items ≡ length events.now) }
     ensures config { IfOk result (λ run. run.node.config ≡ config) }
     ensures refused { result ≡ Err Fault.BadConfig ↔ ¬ (IsConfig config) }
@@ -34,6 +37,7 @@ pub fn run(alloc: Global, config: Config, events: &[Event]) -> Result<Run, Fault
         return Err(Fault::NoMemory);
     }
     each_node_holds_its_ledger();
+    each_node_holds_its_headline();
     Ok(run)
 }
 

@@ -2,22 +2,29 @@
 ghost use Rattle.std.specs.Prelude.{◌≡◌, ◌↔◌, ◌≤◌, [], true, false, length, take, IfOk, OnErr, IsErrOf};
 ghost use Rattle.scp_ledger.specs.Ledger.{IsLedger};
 ghost use Rattle.scp_ledger.specs.Takes.{adds_entry};
-ghost use Rattle.scp_core.specs.Stages.{KvRuns};
+ghost use Rattle.scp_ledger.specs.Kv.{KvRuns};
 ghost use Rattle.scp_core.specs.inside.Stage.{TakesOut, new_ledger};
 
 use crate::handing::hand_out_all;
 use scp_driver::KvDriver;
 use scp_ledger::{
-    Fate, JOURNAL_LIMIT, Ledger, Onward, SharedDecision,
+    CommandFate, Fate, JOURNAL_LIMIT, Ledger, Onward, SharedDecision,
     what_holds_of_a_ledger_holds_with_one_thing_more,
 };
+use scp_outboxes::Outboxes;
 use scp_pending::Ready;
 use scp_quorum::SaneSet;
-use scp_sent::Outboxes;
 use scp_types::{Fault, NodeId};
 use std::alloc::Global;
 use std::marker::Model;
 use std::sync::Arc;
+
+/// What a taken thing gives: what goes on to the applier, and what became of a command.
+#[derive(Drop)]
+pub struct Given {
+    pub onward: Option<Onward>,
+    pub command: Option<CommandFate>,
+}
 
 /// How much of a ledger's lists is shown.
 #[derive(Clone, Copy)]
@@ -36,11 +43,11 @@ pub struct SlotStage {
 
 impl Model for SlotStage {
     ghost use Rattle.std.specs.Coded.{codes};
-    ghost use Rattle.scp_xdr.specs.TreeModel.{coded_row};
-    ghost use Rattle.scp_quorum.specs.QuorumTree.{coded_level};
+    ghost use Rattle.scp_xdr.specs.inside.TreeModel.{coded_row};
+    ghost use Rattle.scp_quorum.specs.inside.QuorumTree.{coded_level};
     ghost use Rattle.scp_driver.specs.contracts.kv_driver.KvDriver as driver;
-    ghost use Rattle.scp_ledger.specs.Coding.{machine_code};
-    ghost use Rattle.scp_core.specs.Stages.{KvLedger};
+    ghost use Rattle.scp_ledger.specs.inside.Coding.{machine_code};
+    ghost use Rattle.scp_ledger.specs.Kv.{KvLedger};
     ghost use Rattle.scp_core.specs.inside.Stage.{shown};
 
     ghost Value = { KvLedger };
@@ -90,10 +97,10 @@ impl SlotStage {
         }
     }
 
-    /// Takes a ready thing, puts what goes out to peers into the outboxes, and gives what goes on to the applier.
-    pub fn take(&mut self, ready: Ready, outboxes: &mut Outboxes) -> Result<Option<Onward>, Fault>
+    /// Takes a ready thing, puts what goes out to peers into the outboxes, and gives the rest of what comes of it.
+    pub fn take(&mut self, ready: Ready, outboxes: &mut Outboxes) -> Result<Given, Fault>
         requires runs { self.old.failed ≡ false }
-        ensures takes { IfOk result (λ onward. TakesOut self.old outboxes.old ready onward self.new outboxes.new) }
+        ensures takes { IfOk result (λ given. TakesOut self.old outboxes.old ready given self.new outboxes.new) }
         ensures full { IsErrOf result Fault.JournalFull ↔ ((adds_entry ready ≡ true) × (length self.old.journal ≡ JOURNAL_LIMIT)) }
         ensures read { OnErr result ((self.new.journal ≡ self.old.journal) × (self.new.decisions ≡ self.old.decisions) × (self.new.asked ≡ self.old.asked)) }
     {
@@ -108,7 +115,10 @@ impl SlotStage {
             self.cut = Some(Shown { journal, decisions });
             return Err(Fault::NoMemory);
         }
-        Ok(took.onward)
+        Ok(Given {
+            onward: took.onward,
+            command: took.command,
+        })
     }
 }
 

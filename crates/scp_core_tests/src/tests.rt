@@ -15,6 +15,7 @@ use std::test::*;
 mod between;
 mod refused;
 mod sending;
+mod telling;
 
 /// What happens at node 1, whose link 0 is from node 2. A quorum set goes by its number: 1 is the node's own, 2 of both nodes;
 /// 2 is 1 of node 2; 3 is the node alone; 4 is 3 of the nodes 1 to 3; and 0 isn't sane, 0 of node 2.

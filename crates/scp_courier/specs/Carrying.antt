@@ -5,11 +5,7 @@ use Rattle.scp_wire.specs.declared.link.LinkItem.{LinkItem}
 use Rattle.scp_wire.specs.declared.link.LinkItem.TheVariants as item
 use Rattle.scp_wire.specs.declared.message.Message.{Message}
 use Rattle.scp_wire.specs.Message.{message_value, SpellsMessage}
-use Rattle.scp_outbox.specs.declared.mark.Mark.{Mark}
-use Rattle.scp_outbox.specs.declared.mark.Mark.TheVariants.{Opened, Closed, Stop}
-use Rattle.scp_outbox.specs.declared.mark.Out.{Out}
-use Rattle.scp_outbox.specs.declared.mark.Out.TheVariants as out
-use Rattle.scp_ends.specs.Links.{LinkEnd, stands, conn_now, conn_next, with_item}
+use Rattle.scp_ends.specs.Links.{LinkEnd, stands}
 
 -- bytes that were sent spell a message
 abbrev pub IsSpelt : LinkItem → Type 0
@@ -17,9 +13,11 @@ IsSpelt (item.Opened conn) = Unit {0}
 IsSpelt (item.Bytes conn bytes) = (message : Message) × SpellsMessage bytes (message_value message)
 IsSpelt (item.Closed conn) = Unit {0}
 
+-- all bytes among the items spell messages
 abbrev pub AreSpelt : List LinkItem → Type 0
 AreSpelt items = AllByRecursion IsSpelt items
 
+-- what contracts see of a courier that works: the sending end of its link, and whether it failed
 pub record CourierWorking : Type 0 where
   pub link : LinkEnd
   pub failed : Bool
@@ -36,9 +34,6 @@ pub record IsCarried (lives : ℕ) (is_open : Bool) (k : LinkEnd) : Type 0 where
   pub left_open : (stands k).is_open ≡ is_open
   pub spelt : AreSpelt k.tail.sent
 
-abbrev pub EndsWell : CourierEnd → Type 0
-EndsWell e = IfSome e.link (IsCarried e.lives e.is_open)
-
 -- it is the same link
 pub record IsSameLink (k now : LinkEnd) : Type 0 where
   pub from : now.from ≡ k.from
@@ -49,15 +44,3 @@ pub record IsSameLink (k now : LinkEnd) : Type 0 where
 -- it has the link that the courier was given
 abbrev pub HoldsLink : LinkEnd → CourierEnd → Type 0
 HoldsLink k e = IfSome e.link (IsSameLink k)
-
--- a mark opens or closes the link; Stop is for the end
-abbrev pub Tells : Mark → LinkEnd → LinkEnd → Type 0
-Tells Opened old new = new ≡ with_item old (item.Opened (conn_next old))
-Tells Closed old new = new ≡ with_item old (item.Closed (conn_now old))
-Tells Stop old new = new ≡ old
-
--- what was given is what was sent: a mark, or the spelling of a message
-abbrev pub Carries : Out → LinkEnd → LinkEnd → Type 0
-Carries (out.Mark mark) old new = Tells mark old new
-Carries (out.Message message) old new = (bytes : List ℕ) × SpellsMessage bytes (message_value message) × (new ≡ with_item old (item.Bytes (conn_now old) bytes))
-Carries out.Nothing old new = new ≡ old

@@ -2,7 +2,8 @@
 ghost use Rattle.std.specs.Prelude.{◌≡◌, ◌↔◌, [], true, false, IsTrue, IsSome, IfSome, MatchBool};
 ghost use Rattle.scp_outbox.specs.declared.mark.Mark.TheVariants as mark;
 ghost use Rattle.scp_outbox.specs.declared.mark.Out.TheVariants as out;
-ghost use Rattle.scp_courier.specs.Carrying.{Carries, IsCarried, HoldsLink, IsSameLink};
+ghost use Rattle.scp_courier.specs.inside.Carrying.{Carries};
+ghost use Rattle.scp_courier.specs.Carrying.{IsCarried, HoldsLink, IsSameLink};
 
 use scp_ends::{LinkDone, LinkTx};
 use scp_gate::{Counter, Gate, Stage};
@@ -42,7 +43,8 @@ pub struct CourierEnded {
 }
 
 impl Model for CourierEnded {
-    ghost use Rattle.scp_courier.specs.Carrying.{CourierEnd, EndsWell};
+    ghost use Rattle.scp_courier.specs.Carrying.{CourierEnd};
+    ghost use Rattle.scp_courier.specs.inside.Carrying.{EndsWell};
 
     ghost Value = { CourierEnd };
 

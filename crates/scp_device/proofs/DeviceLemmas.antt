@@ -1,6 +1,7 @@
 -- Reads and writes one after another.
-use Rattle.std.proofs.Common.{◌≡◌, ℕ, List, [], ◌++◌, Option, Some, None, append_assoc, append-nil, refl, subst, sym, ◌∙◌, ap, arith, IfSome, take, drop, length, ◌-◌}
+use Rattle.std.proofs.Common.{◌≡◌, ℕ, List, [], ◌++◌, Option, Some, None, append_assoc, append-nil, refl, subst, sym, ◌∙◌, ap, arith, IfSome, take, drop, length, ◌-◌, ◌+◌, ◌<◌, ◌≤◌, suc, Bor, get_or, flat_map, drop-cons}
 use Rattle.std.proofs.lemmas.Grind.{common_steps}
+use Rattle.std.proofs.lemmas.List.{drop_all}
 use Rattle.std.specs.Io.KnownBytes.{Consumes, Appends, Keeps, IsAtEnd}
 use Rattle.scp_device.specs.Device.{Gains, GainsPart, Loses, HasEnded, Stays}
 
@@ -73,3 +74,29 @@ gains_part-more a b c x y p q = record {
 
 pub front_and_rest : (n : ℕ) (text : List ℕ) → take n text ++ take (length text - n) (drop n text) ≡ text
 front_and_rest n text = grind (arith, common_steps)
+
+-- ---- a text in parts
+
+abbrev pub joined : List (Bor (List ℕ)) → List ℕ
+joined parts = flat_map (λ part. part.now) parts
+
+-- one part more
+parts_step : (parts : List (Bor (List ℕ))) (i : ℕ) (d : Bor (List ℕ)) → i < length parts → (get_or parts i d).now ++ joined (drop (i + 1) parts) ≡ joined (drop i parts)
+parts_step parts i d lt =
+    let s : i + 1 ≡ suc i = omega arith in
+    ap (λ (k : ℕ). (get_or parts i d).now ++ joined (drop k parts)) s ∙ sym (ap (λ (l : List (Bor (List ℕ))). joined l) (drop-cons parts i d lt))
+
+pub parts_more : (a b c : Option (List ℕ)) (parts : List (Bor (List ℕ))) (i : ℕ) (d : Bor (List ℕ)) → i < length parts → Gains a (get_or parts i d).now b → Gains b (joined (drop (i + 1) parts)) c → Gains a (joined (drop i parts)) c
+parts_more a b c parts i d lt p q = subst (λ (l : List ℕ). Gains a l c) (parts_step parts i d lt) (gains-more a b c (get_or parts i d).now (joined (drop (i + 1) parts)) p q)
+
+-- no part is left
+pub parts_end : (w : Option (List ℕ)) (parts : List (Bor (List ℕ))) (i : ℕ) → length parts ≤ i → Gains w (joined (drop i parts)) w
+parts_end w parts i long = subst (λ (l : List (Bor (List ℕ))). Gains w (joined l) w) (sym (drop_all i parts long)) (gains-nothing w)
+
+-- three parts, of which the second is these digits, and the parts of a line that tells a bad word
+pub three_parts : (a x b d : List ℕ) → x ≡ d → a ++ (x ++ (b ++ [])) ≡ a ++ d ++ b
+three_parts a x b d e = ap (λ (l : List ℕ). a ++ (l ++ (b ++ []))) e ∙ simp (append_assoc, append-nil)
+
+pub bad_word_parts : (f l a w c e n z dl dw : List ℕ) → l ≡ dl → w ≡ dw → f ++ (l ++ (a ++ (w ++ (c ++ (e ++ (n ++ (z ++ []))))))) ≡ f ++ dl ++ a ++ dw ++ c ++ (e ++ n) ++ z
+bad_word_parts f l a w c e n z dl dw p q =
+    ap (λ (k : List ℕ). f ++ (k ++ (a ++ (w ++ (c ++ (e ++ (n ++ (z ++ [])))))))) p ∙ ap (λ (k : List ℕ). f ++ (dl ++ (a ++ (k ++ (c ++ (e ++ (n ++ (z ++ [])))))))) q ∙ simp (append_assoc, append-nil)

@@ -268,6 +268,7 @@ impl ScriptIn for FailsAt<MemoryIn<'_>> {
 
     ghost failures = { λ s. s.failures };
 
+    /// Reads as the memory below does, and fails from the call on that it was told: by `Device`, with nothing read.
     fn read(&mut self, buffer: &mut [u8]) -> Result<usize, Fault>
         requires { 0 < length buffer.old }
         ensures count { IfOk result (λ n. n ≤ length buffer.old) }
@@ -290,6 +291,7 @@ impl ReportOut for FailsAt<MemoryOut> {
 
     ghost failures = { λ s. s.failures + s.device.failures };
 
+    /// Writes as the memory below does, and fails from the call on that it was told: by `Device`, with nothing written.
     fn write(&mut self, bytes: &[u8]) -> Result<usize, Fault>
         requires { 0 < length bytes.now }
         ensures some { IfOk result (λ n. 0 < n) }

@@ -12,6 +12,7 @@ abbrev pub level_if : Bool → Level
 level_if true = FullyValidated
 level_if false = Invalid
 
+-- an operation list is fully validated, anything else is invalid (this project's profile)
 abbrev pub kv_level : List ℕ → Level
 kv_level v = level_if (is_some (ops_in v))
 

@@ -10,7 +10,8 @@ use Rattle.crossbeam_channel.specs.Fifo.{Pushes, Pops, Forks, Merges, Learns}
 use Rattle.scp_ends.specs.declared.item.Item.{Item}
 use Rattle.scp_ends.specs.declared.item.Item.TheVariants.{One, Stop}
 use Rattle.scp_ends.specs.declared.item.View.{View}
-use Rattle.scp_ends.specs.Order.{number_of, of, values, sender, receiver, spent, FitsSender, FitsReceiver, Ordered}
+use Rattle.scp_ends.specs.Order.{number_of, of, values, receiver, FitsSender, FitsReceiver, Ordered}
+use Rattle.scp_ends.specs.inside.Passes.{sender, spent}
 use native.Mathlib.Decide.{ℕ_discrete}
 use Rattle.scp_ends.proofs.Steps.{values_append, values_stop}
 use Rattle.scp_ends.proofs.Alone.{of_one, none_heard, heard_all}

@@ -6,7 +6,8 @@ use Rattle.scp_ends.specs.declared.item.Item.TheVariants.{One, Stop}
 use Rattle.scp_ends.specs.Order.{of, number_of, values}
 use Rattle.crossbeam_channel.specs.Claims.{Pass, view}
 use Rattle.scp_ends.specs.declared.item.View.{View}
-use Rattle.scp_ends.specs.Ends.{Sender, Receiver, ones, ended, stopped, heard, sender_of, receiver_of, IsEnded, IsQueued, HeardAll}
+use Rattle.scp_ends.specs.Ends.{Sender, Receiver, ones, ended, stopped, heard, IsQueued, HeardAll}
+use Rattle.scp_ends.specs.inside.Passes.{sender_of, receiver_of, IsEnded}
 use Rattle.scp_ends.proofs.Steps.{values_stop}
 use Rattle.scp_ends.proofs.Alone.{none_heard, heard_all}
 

@@ -3,10 +3,8 @@ use Rattle.std.specs.Prelude.{◌≡◌, ℕ, ◌<◌, ◌≤◌, ◌==◌, ◌|
 use Rattle.atomic_table.specs.Seated.{TableId}
 use Rattle.atomic_table.specs.declared.badge.Badge.{Badge}
 use Rattle.crossbeam_channel.specs.declared.flavors.array.Key.{Key}
-use Rattle.crossbeam_channel.specs.Claims.{Pass, view}
 use Rattle.scp_ends.specs.declared.item.Item.{Item}
 use Rattle.scp_ends.specs.declared.item.Item.TheVariants.{One, Stop}
-use Rattle.scp_ends.specs.declared.item.View.{View}
 use Rattle.scp_ends.specs.Order.{of, values}
 
 -- which channel it is
@@ -35,9 +33,6 @@ pub record IsOfSize (producers capacity : ℕ) : Type 0 where
   pub little_room : capacity ≤ 1024
 
 module _ {T : Type 0} where
-  abbrev pub line_of : Pass (Item T) (View T) → Line T
-  line_of p = record { table = p.table_id; key = p.me.0.of }
-
   -- the items by which producer n sends these
   abbrev pub ones : ℕ → List T → List (Item T)
   ones n [] = []
@@ -52,27 +47,6 @@ module _ {T : Type 0} where
   stopped p [] = false
   stopped p (One n x ∷ xs) = stopped p xs
   stopped p (Stop n ∷ xs) = (n == p) || stopped p xs
-
-  -- the pass of producer n, which sent just things
-  abbrev pub IsSending : ℕ → Pass (Item T) (View T) → Type 0
-  IsSending n p = let v = view p in (v.sends ≡ true) × (v.number ≡ n) × (v.put ≡ ones n (values v.put))
-
-  -- it knows the capacity
-  abbrev pub HasRoom : ℕ → Pass (Item T) (View T) → Type 0
-  HasRoom room p = (view p).room ≡ room
-
-  -- the pass of producer n, which sent things and then its end
-  abbrev pub IsEnded : ℕ → Pass (Item T) (View T) → Type 0
-  IsEnded n p = let v = view p in (v.sends ≡ true) × (v.number ≡ n) × (v.put ≡ ended n (values v.put))
-
-  abbrev pub sender_of : ℕ → Pass (Item T) (View T) → Sender T
-  sender_of n p = record { line = line_of p; number = n; sent = values (view p).put }
-
-  abbrev pub receiver_of : Pass (Item T) (View T) → Receiver T
-  receiver_of p = record { line = line_of p; producers = (view p).made; room = (view p).room; got = (view p).got }
-
-  abbrev pub IsReceiving : Pass (Item T) (View T) → Type 0
-  IsReceiving p = (view p).gets ≡ true
 
   -- a producer that has sent nothing yet
   abbrev pub fresh : Line T → ℕ → Sender T

@@ -3,3 +3,4 @@ pub mod Order
 pub mod Links
 pub mod Commands
 pub mod Window
+pub mod inside

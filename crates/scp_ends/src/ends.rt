@@ -6,6 +6,7 @@ ghost use Rattle.scp_ends.specs.declared.item.Item.{Item};
 ghost use Rattle.crossbeam_channel.specs.Ends.{sends_on, receives_on, ruled_capacity};
 ghost use Rattle.scp_ends.specs.Order as order;
 ghost use Rattle.scp_ends.specs.Ends as ends;
+ghost use Rattle.scp_ends.specs.inside.Passes as passes;
 
 use crate::item::{Item, View};
 use crate::rule::{InOrder, Law, Receives, Sends, Takes, Told};
@@ -32,9 +33,9 @@ pub struct Tx<T: Drop, L: Law<T>> {
 impl<T: Drop, L: Law<T>> Model for Tx<T, L> {
     ghost Value = { ends.Sender T };
 
-    ghost view = { λ s. ends.sender_of s.number s.pass };
+    ghost view = { λ s. passes.sender_of s.number s.pass };
 
-    ghost invariant = { λ s. IsSeatAt (sends_on s.sender) s.pass × ends.IsSending s.number s.pass × ends.HasRoom (ruled_capacity (sends_on s.sender)) s.pass };
+    ghost invariant = { λ s. IsSeatAt (sends_on s.sender) s.pass × passes.IsSending s.number s.pass × passes.HasRoom (ruled_capacity (sends_on s.sender)) s.pass };
 }
 
 /// What a producer that has ended leaves.
@@ -48,9 +49,9 @@ pub struct Done<T: Drop, L: Law<T>> {
 impl<T: Drop, L: Law<T>> Model for Done<T, L> {
     ghost Value = { ends.Sender T };
 
-    ghost view = { λ s. ends.sender_of s.number s.pass };
+    ghost view = { λ s. passes.sender_of s.number s.pass };
 
-    ghost invariant = { λ s. IsSeatAt (sends_on s.sender) s.pass × ends.IsEnded s.number s.pass };
+    ghost invariant = { λ s. IsSeatAt (sends_on s.sender) s.pass × passes.IsEnded s.number s.pass };
 }
 
 /// The end of the one consumer.
@@ -63,9 +64,9 @@ pub struct Rx<T: Drop, L: Law<T>> {
 impl<T: Drop, L: Law<T>> Model for Rx<T, L> {
     ghost Value = { ends.Receiver T };
 
-    ghost view = { λ s. ends.receiver_of s.pass };
+    ghost view = { λ s. passes.receiver_of s.pass };
 
-    ghost invariant = { λ s. IsSeatAt (receives_on s.receiver) s.pass × ends.IsReceiving s.pass };
+    ghost invariant = { λ s. IsSeatAt (receives_on s.receiver) s.pass × passes.IsReceiving s.pass };
 }
 
 impl<T: Drop, L: Law<T>> Tx<T, L> {
@@ -75,8 +76,8 @@ impl<T: Drop, L: Law<T>> Tx<T, L> {
         number: u8,
     ) -> Tx<T, L>
         requires seat { IsSeatAt (sends_on sender) pass }
-        requires fresh { claims.view pass ≡ order.sender (ruled_capacity (sends_on sender)) number [] }
-        ensures { result ≡ ends.fresh (ends.line_of pass) number }
+        requires fresh { claims.view pass ≡ passes.sender (ruled_capacity (sends_on sender)) number [] }
+        ensures { result ≡ ends.fresh (passes.line_of pass) number }
     {
         Tx {
             sender,
@@ -127,7 +128,7 @@ impl<T: Drop, L: Law<T>> Rx<T, L> {
     ) -> Rx<T, L>
         requires seat { IsSeatAt (receives_on receiver) pass }
         requires gets { (claims.view pass).gets ≡ true }
-        ensures { result ≡ ends.receiver_of pass }
+        ensures { result ≡ passes.receiver_of pass }
     {
         Rx { receiver, pass }
     }

@@ -6,6 +6,8 @@
 //! - a send that is handed back changes nothing;
 //! - over a link goes what a link's tail may send: lives 1, 2, .., each opened once and closed at most once;
 //! - the decisions that go on to the applier are each of one of the 16 slots from the lowest undecided one on.
+//!
+//! Not claimed: that a call returns, or when it is found that the other end is gone.
 #![tactic(auto)]
 
 mod channels;
@@ -26,7 +28,6 @@ pub use channels::{
 pub use commands::{LocalDone, LocalTx};
 pub use ends::{Done, Gone, Nobody, Rx, Tx};
 pub use item::{Item, View};
-pub use make::{MOST_ITEMS, MOST_PRODUCERS};
 pub use rule::{Any, InOrder, Law};
-pub use tail::{LIVES_LIMIT, LinkDone, LinkTx, NotSent};
+pub use tail::{LinkDone, LinkTx, NotSent};
 pub use window::InWindow;

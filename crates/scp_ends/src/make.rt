@@ -3,21 +3,19 @@ ghost use Rattle.std.specs.Prelude.{◌≡◌, ℕ, ◌+◌, ◌<◌, ◌≤◌,
 ghost use Rattle.crossbeam_channel.specs.Claims.{view, IsSeatAt};
 ghost use Rattle.crossbeam_channel.specs.Ends.{sends_on, receives_on, ruled_capacity};
 ghost use Rattle.scp_ends.specs.Order.{receiver};
-ghost use Rattle.scp_ends.specs.Ends.{line_of, fresh, AreFresh, IsOfSize};
+ghost use Rattle.scp_ends.specs.inside.Passes.{line_of};
+ghost use Rattle.scp_ends.specs.Ends.{fresh, AreFresh, IsOfSize};
 
 use crate::ends::{Rx, Tx};
 use crate::item::{Item, View};
 use crate::rule::{InOrder, Law, Makes, Room, Sizes};
 use crossbeam_channel::{Pass, RuledSender, bounded_with};
-use scp_types::Fault;
+use scp_types::{CAPACITY_LIMIT, Fault, PEER_LIMIT};
 use std::alloc::{AllocError, Global};
 use std::marker::Brand;
 
 /// The most producers of a channel: a node's links and its own commands.
-pub const MOST_PRODUCERS: u8 = 8;
-
-/// The most items that a channel may hold.
-pub const MOST_ITEMS: usize = 1024;
+const PRODUCER_LIMIT: u8 = PEER_LIMIT as u8 + 1;
 
 /// The consumer's pass learns the capacity.
 fn size<T: Drop, L: Law<T>, J: Room>(
@@ -49,7 +47,7 @@ fn hand_out<T: Drop, L: Law<T>>(
 fn is_room(capacity: usize) -> bool
     ensures { IsTrue result ↔ ((0 < capacity) × (capacity ≤ 1024)) }
 {
-    capacity > 0 && capacity <= MOST_ITEMS
+    capacity > 0 && capacity <= usize::from(CAPACITY_LIMIT)
 }
 
 /// The ends of a channel: one for each producer, and one for the consumer.
@@ -62,7 +60,7 @@ pub(crate) fn channel<T: Drop, L: Law<T>>(
     ensures bad_config { IsErrOf result Fault.BadConfig ↔ (IsOfSize producers capacity → ⊥) }
     ensures only { IfErr result (λ f. (f ≡ Fault.NoMemory) ⊎ (f ≡ Fault.BadConfig)) }
 {
-    if producers == 0 || producers > MOST_PRODUCERS || !is_room(capacity) {
+    if producers == 0 || producers > PRODUCER_LIMIT || !is_room(capacity) {
         return Err(Fault::BadConfig);
     }
     let made = ends_of(alloc, producers, capacity)?;

@@ -52,7 +52,7 @@ impl Room for Brand {
 pub struct Sizes<J>(PhantomData<J>);
 
 impl<T, J: Room> Split<View<T>> for Sizes<J> {
-    ghost use Rattle.scp_ends.specs.Order.{spent};
+    ghost use Rattle.scp_ends.specs.inside.Passes.{spent};
 
     ghost left = { λ v. record v { room = J.room } };
 
@@ -64,7 +64,7 @@ pub struct Makes;
 
 impl<T> Split<View<T>> for Makes {
     ghost use Rattle.std.specs.Prelude.{[], ◌+◌, false};
-    ghost use Rattle.scp_ends.specs.Order.{sender};
+    ghost use Rattle.scp_ends.specs.inside.Passes.{sender};
 
     ghost left = { λ v. record v { made = v.made + 1; knows = false } };
 
@@ -76,7 +76,7 @@ pub struct Takes;
 
 impl<T> Join<View<T>> for Takes {
     ghost use Rattle.std.specs.Prelude.{true};
-    ghost use Rattle.scp_ends.specs.Order.{spent};
+    ghost use Rattle.scp_ends.specs.inside.Passes.{spent};
 
     ghost both = { λ v w. record v { knows = true; number = w.number; put = w.put } };
 

@@ -7,13 +7,10 @@ ghost use Rattle.scp_ends.specs.Links.{LinkEnd, stands, conn_now, conn_next, wit
 
 use crate::ends::{Done, Gone, Rx, Tx};
 use crate::rule::Any;
-use scp_types::{ConnId, Fault, NodeId};
+use scp_types::{ConnId, Fault, LIFE_LIMIT, NodeId};
 use scp_wire::{Bytes, LinkItem};
 use std::marker::Model;
 use std::sync::Wait;
-
-/// How often a link can be opened (this project's profile).
-pub const LIVES_LIMIT: u32 = 65_535;
 
 /// Why nothing was sent over a link.
 #[derive(Debug, Drop)]
@@ -102,7 +99,7 @@ impl LinkTx {
         if self.is_open {
             return Err(NotSent::Refused(Fault::AlreadyOpen));
         }
-        if self.life >= LIVES_LIMIT {
+        if self.life >= LIFE_LIMIT {
             return Err(NotSent::Refused(Fault::LivesSpent));
         }
         let conn = ConnId {

@@ -18,6 +18,7 @@ ballot_cmp a b = ordering_then (nat_cmp a.counter b.counter) (value_cmp a.value 
 abbrev pub IsLess : Ballot → Ballot → Type 0
 IsLess a b = ballot_cmp a b ≡ Less
 
+-- less than the other, or equal
 abbrev pub IsAtMost : Ballot → Ballot → Type 0
 IsAtMost a b = ballot_cmp a b ≢ Greater
 

@@ -18,6 +18,7 @@ use Rattle.scp_envelope.specs.declared.statement.Pledges.TheVariants.{Prepare as
 abbrev pub prepare_kind : Kind
 prepare_kind = both hash_kind (both ballot_kind (both (optional ballot_kind) (both (optional ballot_kind) (both uint32 uint32))))
 
+-- what stands for a PREPARE as a value of its kind
 abbrev pub prepare_value : Prepare → Values prepare_kind
 prepare_value p = (p.set_hash.0, (ballot_value p.ballot, (option_map ballot_value p.prepared, (option_map ballot_value p.prepared_prime, (p.n_commit, p.n_high)))))
 
@@ -25,6 +26,7 @@ prepare_value p = (p.set_hash.0, (ballot_value p.ballot, (option_map ballot_valu
 abbrev pub confirm_kind : Kind
 confirm_kind = both ballot_kind (both uint32 (both uint32 (both uint32 hash_kind)))
 
+-- what stands for a CONFIRM
 abbrev pub confirm_value : Confirm → Values confirm_kind
 confirm_value p = (ballot_value p.ballot, (p.n_prepared, (p.n_commit, (p.n_high, p.set_hash.0))))
 
@@ -32,10 +34,11 @@ confirm_value p = (ballot_value p.ballot, (p.n_prepared, (p.n_commit, (p.n_high,
 abbrev pub externalize_kind : Kind
 externalize_kind = both ballot_kind (both uint32 hash_kind)
 
+-- what stands for an EXTERNALIZE
 abbrev pub externalize_value : Externalize → Values externalize_kind
 externalize_value p = (ballot_value p.commit, (p.n_high, p.set_hash.0))
 
--- at most 64 values
+-- at most 64 values: an array (RFC 4506, section 4.13; the limit is this project's profile)
 abbrev pub list_kind : Kind
 list_kind = array 64 value_kind
 
@@ -43,6 +46,7 @@ list_kind = array 64 value_kind
 abbrev pub nominate_kind : Kind
 nominate_kind = both hash_kind (both list_kind list_kind)
 
+-- what stands for a NOMINATE
 abbrev pub nominate_value : Nominate → Values nominate_kind
 nominate_value p = (p.set_hash.0, (p.votes, p.accepted))
 
@@ -50,6 +54,7 @@ nominate_value p = (p.set_hash.0, (p.votes, p.accepted))
 abbrev pub pledges_kind : Kind
 pledges_kind = union (arm 0 prepare_kind (arm 1 confirm_kind (arm 2 externalize_kind (arm 3 nominate_kind no_arm))))
 
+-- what stands for pledges: the arm of their kind
 abbrev pub pledges_value : Pledges → Values pledges_kind
 pledges_value (Preparing p) = inl (prepare_value p)
 pledges_value (Confirming p) = inr (inl (confirm_value p))
@@ -60,6 +65,7 @@ pledges_value (Nominating p) = inr (inr (inr (inl (nominate_value p))))
 abbrev pub statement_kind : Kind
 statement_kind = both node_kind (both uint64 pledges_kind)
 
+-- what stands for a statement: its node, its slot and its pledges
 abbrev pub statement_value : Statement → Values statement_kind
 statement_value s = (inl s.node.0, (s.slot.0, pledges_value s.pledges))
 
@@ -71,6 +77,7 @@ signature_kind = opaque 64
 abbrev pub envelope_kind : Kind
 envelope_kind = both statement_kind signature_kind
 
+-- what stands for an envelope: its statement and its signature
 abbrev pub envelope_value : Envelope → Values envelope_kind
 envelope_value e = (statement_value e.statement, e.signature)
 

@@ -40,5 +40,6 @@ pub record Externalizes (e : Externalize) (c : Confirm) : Type 0 where
 abbrev pub ExternalizeAcceptsPrepared : Type 0
 ExternalizeAcceptsPrepared = (e : Externalize) (c : Confirm) (b : Ballot) → Externalizes e c → AcceptsPrepare (Confirming c) b → AcceptsPrepare (Externalizing e) b
 
+-- what such a CONFIRM accepts as committed, the EXTERNALIZE accepts
 abbrev pub ExternalizeAcceptsCommitted : Type 0
 ExternalizeAcceptsCommitted = (e : Externalize) (c : Confirm) (n : ℕ) (v : List ℕ) → Externalizes e c → AcceptsCommit (Confirming c) n v → AcceptsCommit (Externalizing e) n v

@@ -58,6 +58,7 @@ impl Deref for SharedEnvelope {
 
     ghost deref_gives = { λ s e. e ≡ s };
 
+    /// The envelope.
     fn deref(&self) -> &Envelope
         ensures { result.now ≡ self.now }
     {

@@ -11,7 +11,7 @@ use Rattle.scp_quorum.specs.SharedSet.{SharedSet}
 use Rattle.scp_quorum.specs.QuorumKind.{set_hash}
 use Rattle.scp_quorum.specs.QuorumTree.{QuorumTree}
 use Rattle.scp_fetch.specs.Store.{has_hash}
-use Rattle.scp_fetch.specs.Ring.{Entry, set_at, IsUnderItsHash, turned, placed, next_first, IsRing}
+use Rattle.scp_fetch.specs.inside.Ring.{Entry, set_at, IsUnderItsHash, turned, placed, next_first, IsRing}
 
 -- ---- finding
 

@@ -9,7 +9,7 @@ use Rattle.scp_quorum.specs.SharedSet.{SharedSet}
 use Rattle.scp_quorum.specs.QuorumKind.{set_hash}
 use Rattle.scp_quorum.specs.QuorumTree.{QuorumTree}
 use Rattle.scp_fetch.specs.Store.{StoreView, has_hash, lookup, pushed, stored}
-use Rattle.scp_fetch.specs.Ring.{Entry, set_at, IsUnderItsHash, turned, placed, next_first, IsRing}
+use Rattle.scp_fetch.specs.inside.Ring.{Entry, set_at, IsUnderItsHash, turned, placed, next_first, IsRing}
 use Rattle.scp_fetch.proofs.Ring.{find_turned, turned_placed}
 
 abbrev view_of : QuorumTree → ℕ → List Entry → StoreView

@@ -15,7 +15,7 @@ use Rattle.scp_fetch.specs.declared.want.Miss.TheVariants.{One, All}
 use Rattle.scp_fetch.specs.declared.answers.Missed.TheVariants.{Unwanted, Waiting, GaveUp}
 use Rattle.scp_fetch.specs.Hashes.{same_hash}
 use Rattle.scp_fetch.specs.Wants.{is_for, is_wanted, is_missed, is_last, count_miss, missed_by, without, gives_up, miss_of, waiting_for}
-use Rattle.scp_fetch.specs.Table.{WantEntry, want_in, wants_in, IsUnderHash}
+use Rattle.scp_fetch.specs.inside.Table.{WantEntry, want_in, wants_in, IsUnderHash}
 
 abbrev pub at : Hash → List ℕ → Bool
 at hash = pointwise nat_eq hash.0

@@ -15,6 +15,7 @@ pub data Call : Type 0 where
   misses : Miss → Call  -- a hash was missed, or each
   answers : Hash → Call  -- a set of the hash came
 
+-- what is wanted after one call
 abbrev pub made : List Want → Call → List Want
 made ws (wants hash link c) = wanted_by hash link c ws
 made ws (opens link) = unasked link ws

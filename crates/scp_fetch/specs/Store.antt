@@ -1,15 +1,16 @@
 -- The quorum sets that are there: the local one, and others in the order in which they were stored (this project's profile).
-use Rattle.std.specs.Prelude.{ℕ, ◌≡◌, ◌++◌, [], ◌∷◌, List, Bool, Option, Some, None, nat_lt, length, drop, if◌then◌else◌, is_some, find}
+use Rattle.std.specs.Prelude.{◌++◌, [], ◌∷◌, List, Bool, Option, Some, nat_lt, length, drop, if◌then◌else◌, is_some, find}
 use Rattle.scp_types.specs.declared.names.Hash.{Hash}
 use Rattle.scp_quorum.specs.QuorumTree.{QuorumTree}
 use Rattle.scp_quorum.specs.QuorumKind.{set_hash}
 use Rattle.scp_fetch.specs.Hashes.{same_hash}
 
+-- the node's own quorum set, and others in the order in which they came
 pub record StoreView : Type 0 where
   pub local : QuorumTree
   pub others : List QuorumTree
 
--- the set has this hash
+-- the set has this hash: the SHA-256 (FIPS 180-4) of its spelling
 abbrev pub has_hash : Hash → QuorumTree → Bool
 has_hash hash set = same_hash hash (record { 0 = set_hash set })
 

@@ -1,6 +1,6 @@
 -- The hashes that are wanted, in the order in which they became so: of each its misses since then, the links that were
 -- asked, and the connections that wait for it, in the order of their first wait (this project's profile).
-use Rattle.std.specs.Prelude.{ℕ, ◌+◌, ◌<◌, ◌≡◌, ◌++◌, [], ◌∷◌, List, Bool, true, false, not, ◌&&◌, nat_eq, nat_lt, slice_set, filter, map, if◌then◌else◌, replicate, slice_index_or}
+use Rattle.std.specs.Prelude.{ℕ, ◌+◌, ◌++◌, [], ◌∷◌, List, Bool, true, false, not, ◌&&◌, nat_lt, slice_set, filter, map, if◌then◌else◌, replicate, slice_index_or}
 use Rattle.std.specs.List.{list_any}
 use Rattle.scp_types.specs.declared.names.ConnId.{ConnId}
 use Rattle.scp_types.specs.declared.names.Hash.{Hash}
@@ -17,6 +17,7 @@ use Rattle.scp_fetch.specs.declared.answers.Answer.TheVariants as answer
 abbrev pub is_for : Hash → Want → Bool
 is_for hash want = same_hash hash want.hash
 
+-- the hash is wanted
 abbrev pub is_wanted : Hash → List Want → Bool
 is_wanted hash wants = list_any (is_for hash) wants
 
@@ -30,12 +31,15 @@ is_asked hash link wants = list_any (λ want. is_for hash want && slice_index_or
 abbrev pub has_conn : ConnId → List ConnId → Bool
 has_conn c conns = list_any (same_conn c) conns
 
+-- the connection waits once
 abbrev pub joined : ConnId → List ConnId → List ConnId
 joined c conns = if has_conn c conns then conns else conns ++ c ∷ []
 
+-- the link is asked, and the connection waits
 abbrev pub ask : Hash → ℕ → ConnId → Want → Want
 ask hash link c want = if is_for hash want then record want { asked = slice_set want.asked link true; waiting = joined c want.waiting } else want
 
+-- a new want of a hash: the link was asked for it, and the connection waits
 abbrev pub new_want : Hash → ℕ → ConnId → Want
 new_want hash link c = record { hash = hash; misses = 0; asked = slice_set (replicate 8 false) link true; waiting = c ∷ [] }
 
@@ -47,6 +51,7 @@ wanted_by hash link c wants = if is_wanted hash wants then map (ask hash link c)
 abbrev pub unask : ℕ → Want → Want
 unask link want = record want { asked = slice_set want.asked link false }
 
+-- the link counts as asked for none of them
 abbrev pub unasked : ℕ → List Want → List Want
 unasked link wants = map (unask link) wants
 
@@ -61,6 +66,7 @@ waiting_for hash (want ∷ wants) = if is_for hash want then want.waiting else w
 abbrev pub waits_besides : ConnId → Want → Bool
 waits_besides c want = list_any (λ d. not (same_conn c d)) want.waiting
 
+-- the connection waits for it no more
 abbrev pub leave : ConnId → Want → Want
 leave c want = record want { waiting = filter (λ d. not (same_conn c d)) want.waiting }
 
@@ -83,6 +89,7 @@ is_missed All hash = true
 abbrev pub is_last : Miss → Want → Bool
 is_last miss want = is_missed miss want.hash && nat_lt 10 want.misses
 
+-- one miss more, where it is of this hash
 abbrev pub count_miss : Miss → Want → Want
 count_miss miss want = if is_missed miss want.hash then record want { misses = want.misses + 1 } else want
 
@@ -100,8 +107,11 @@ last_missed wants = map (λ want. want.hash) (filter (is_last All) wants)
 
 -- ---- answers
 
+-- what a miss of a hash means: the twelfth ends the want, an earlier one is counted, and of one that isn't wanted it means nothing (this
+-- project's profile)
 abbrev pub miss_of : Hash → List Want → Missed
 miss_of hash wants = if gives_up (One hash) wants hash then missed.GaveUp else (if is_wanted hash wants then missed.Waiting else missed.Unwanted)
 
+-- what the coming of a set with this hash means: it isn't wanted, or it is and is sane, or insane
 abbrev pub answer_of : Hash → Bool → List Want → Answer
 answer_of hash sane wants = if is_wanted hash wants then (if sane then answer.Sane else answer.Insane) else answer.Unwanted

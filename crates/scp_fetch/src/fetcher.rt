@@ -30,7 +30,7 @@ impl Model for Fetcher {
     ghost use Rattle.std.specs.Prelude.{List};
     ghost use Rattle.std.specs.List.{AllByRecursion};
     ghost use Rattle.scp_fetch.specs.declared.want.Want.{Want};
-    ghost use Rattle.scp_fetch.specs.Table.{wants_in, IsUnderHash};
+    ghost use Rattle.scp_fetch.specs.inside.Table.{wants_in, IsUnderHash};
 
     ghost Value = { List Want };
 

@@ -5,7 +5,7 @@ ghost use Rattle.std.specs.Cmp.Lexicographic.{pointwise};
 ghost use Rattle.indexmap.specs.IndexMap.{get};
 ghost use Rattle.scp_quorum.specs.QuorumKind.{set_hash};
 ghost use Rattle.scp_fetch.specs.Store.{has_hash, lookup, stored};
-ghost use Rattle.scp_fetch.specs.Ring.{IsRing, IsUnderItsHash, set_at, turned, placed, next_first};
+ghost use Rattle.scp_fetch.specs.inside.Ring.{IsRing, IsUnderItsHash, set_at, turned, placed, next_first};
 
 use indexmap::IndexMap;
 use scp_quorum::SaneSet;
@@ -30,10 +30,10 @@ impl Model for SetStore {
     ghost use Rattle.std.specs.Prelude.{map, nat_eq};
     ghost use Rattle.std.specs.List.{AllByRecursion};
     ghost use Rattle.std.specs.Coded.{codes};
-    ghost use Rattle.scp_xdr.specs.TreeModel.{coded_tree};
-    ghost use Rattle.scp_quorum.specs.QuorumTree.{coded_level};
+    ghost use Rattle.scp_xdr.specs.inside.TreeModel.{coded_tree};
+    ghost use Rattle.scp_quorum.specs.inside.QuorumTree.{coded_level};
     ghost use Rattle.scp_fetch.specs.Store.{StoreView};
-    ghost use Rattle.scp_fetch.specs.Ring.{turned, set_at, IsUnderItsHash, IsRing};
+    ghost use Rattle.scp_fetch.specs.inside.Ring.{turned, set_at, IsUnderItsHash, IsRing};
 
     ghost Value = { StoreView };
 

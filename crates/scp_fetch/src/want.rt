@@ -3,7 +3,7 @@ ghost use Rattle.std.specs.Prelude.{◌≡◌, ◌<◌, ◌++◌, ◌∷◌, [],
 ghost use Rattle.scp_types.specs.declared.names.ConnId.{ConnId};
 ghost use Rattle.std.specs.List.{AllByRecursion};
 ghost use Rattle.scp_fetch.specs.Wants.{joined, is_wanted, is_asked, unasked, without, waiting_for, waits_besides, leave, left_by, gives_up, ask, unask, new_want, missed_by, count_miss, is_last, is_missed, last_missed};
-ghost use Rattle.scp_fetch.specs.Table.{wants_in, IsUnderHash};
+ghost use Rattle.scp_fetch.specs.inside.Table.{wants_in, IsUnderHash};
 
 use crate::fetcher::{LINK_LIMIT, MISS_LIMIT};
 use crate::waiters::Waiters;

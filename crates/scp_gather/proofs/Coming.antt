@@ -11,7 +11,7 @@ use Rattle.scp_wire.specs.declared.link.Inbound.{Inbound}
 use Rattle.scp_wire.specs.declared.link.Inbound.TheVariants as inbound
 use Rattle.scp_wire.specs.Connections.{conn_at, same_node}
 use Rattle.scp_wire.specs.Shape.{Come, comes, MayCome, AreInOrder, is_from}
-use Rattle.scp_account.specs.Fates.{is_among, IsOfLink}
+use Rattle.scp_theorem.specs.Fates.{is_among, IsOfLink}
 use Rattle.scp_ends.specs.Commands.{IsCommand}
 use Rattle.scp_gather.specs.Gathered.{is_command}
 

@@ -1,6 +1,6 @@
 -- What follows where every worker of a node ended well.
 use Rattle.std.proofs.Common.{◌≡◌, ℕ, ◌+◌, ◌<◌, inl, inr, List, [], ◌++◌, refl, sym, ◌∙◌, ap, subst, arith, length, eq-eqb}
-use Rattle.std.specs.Prelude.{Option, Some, IfSome, slice_get, filter}
+use Rattle.std.specs.Prelude.{Option, None, Some, IfSome, slice_get, filter}
 use Rattle.std.specs.List.{AllByRecursion}
 use Rattle.std.proofs.lemmas.List.{append-nil}
 use Rattle.std.proofs.lemmas.Bool.{ne_eqb}
@@ -29,15 +29,16 @@ use Rattle.scp_pending.specs.Pends.{Pends, RestIsSettled, start_of}
 use Rattle.scp_pending.specs.Rules.{Settled, fresh}
 use Rattle.scp_ledger.specs.declared.took.Onward.{Onward}
 use Rattle.scp_ledger.specs.Marks.{marks_of as marks_on}
-use Rattle.scp_account.specs.Account.{Account, Ran}
-use Rattle.scp_account.specs.Kept.{KeepsLedger, RanKeepsLedger, slots_sent, line_sent, line_held}
+use Rattle.scp_theorem.specs.Account.{Account, Ran}
+use Rattle.scp_theorem.specs.Kept.{KeepsLedger, RanKeepsLedger, slots_sent, line_sent, line_held}
 use Rattle.scp_ends.specs.Commands.{IsCommand}
 use Rattle.scp_ends.specs.Ends.{Sender, heard}
 use Rattle.scp_ends.specs.Links.{LinkEnd}
 use Rattle.scp_ends.specs.Order.{of, values}
 use Rattle.scp_workers.specs.Reading.{ReaderEnd}
 use Rattle.scp_workers.specs.Pending.{IsFor as PendsFor}
-use Rattle.scp_workers.specs.Slot.{KvJournals, IsFor as JournalsFor}
+use Rattle.scp_ledger.specs.Kv.{KvJournals}
+use Rattle.scp_workers.specs.Slot.{IsFor as JournalsFor}
 use Rattle.scp_gather.specs.Left.{Left, items_of, sent_over}
 use Rattle.scp_gather.specs.Node.{IsLinkAt, IsReadOut, IsNode, EndWell}
 use Rattle.scp_gather.specs.Gathered.{account_gathered, is_command, IsEmptied, AreEmptied, HasItsLine, AreLeftParked, Gathered, WhatEndsWellIsGathered}
@@ -49,7 +50,7 @@ use Rattle.scp_gather.proofs.Parking.{parked_right, parked_of_links}
 
 -- what is public of the crates below
 pub record Laws : Type 0 where
-  pub ran : RanKeepsLedger {D = KvDriver} (λ driver slot value. kv_level value) (λ driver slot values. greatest values) (λ driver slot round n. leader_place slot round n)
+  pub ran : RanKeepsLedger {D = KvDriver} (λ driver slot value. kv_level value) (λ driver slot value. None) (λ driver slot values. greatest values) (λ driver slot round n. leader_place slot round n)
   pub in_order : ReadingsAreInOrder
   pub sent_is : ReadingsAreSent
   pub peers_say : PeersSayAllOfTheirs
@@ -190,7 +191,7 @@ module _ (laws : Laws) (me : NodeId) (set : QuorumTree) (peers : List NodeId) (e
   settled_is : IsSettledBy (fresh me peers set) came e.pend.view
   settled_is = subst (λ (s : Settled). IsSettledBy s came e.pend.view) start_is (laws.settled me peers came took e.pend.view w.pends.nothing_ready pends_is)
 
-  ran : Ran (λ driver slot value. kv_level value) (λ driver slot values. greatest values) (λ driver slot round n. leader_place slot round n) account
+  ran : Ran (λ driver slot value. kv_level value) (λ driver slot value. None) (λ driver slot values. greatest values) (λ driver slot round n. leader_place slot round n) account
   ran = record {
     links = links_are;
     read = λ l peer at. sym (read_is l peer at) ∙ ap (of_peer peer) (sym (append-nil came)) ∙ sym (append-nil (of_peer peer (came ++ [])));
@@ -206,7 +207,7 @@ module _ (laws : Laws) (me : NodeId) (set : QuorumTree) (peers : List NodeId) (e
     applies = w.applies.applies;
   }
 
-  keeps_is : KeepsLedger (λ driver slot value. kv_level value) (λ driver slot values. greatest values) account
+  keeps_is : KeepsLedger (λ driver slot value. kv_level value) (λ driver slot value. None) (λ driver slot values. greatest values) (λ driver slot round n. leader_place slot round n) account
   keeps_is = laws.ran account ran
 
   -- ---- channels

@@ -4,5 +4,9 @@ pub mod Entries
 pub mod Coming
 pub mod Parking
 pub mod Joining
+pub mod Headlines
 pub mod Settling
 mod Counting
+mod Hand
+mod Taking
+mod Small

@@ -10,7 +10,7 @@ use Rattle.scp_wire.specs.declared.link.Inbound.TheVariants as inbound
 use Rattle.scp_wire.specs.Parts.{IsNumbered}
 use Rattle.scp_pending.specs.Causes.{Place}
 use Rattle.scp_pending.specs.Rules.{Settled}
-use Rattle.scp_account.specs.Fates.{IsOfLink}
+use Rattle.scp_theorem.specs.Fates.{IsOfLink}
 use Rattle.scp_gather.specs.Gathered.{IsOfItsNumber}
 use Rattle.scp_gather.proofs.Coming.{IsCarriedByLink}
 use Rattle.scp_gather.proofs.Lists.{all_mid}

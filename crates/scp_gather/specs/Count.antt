@@ -1,47 +1,131 @@
 -- How much a node holds, while its stages run in threads.
-use Rattle.std.specs.Prelude.{ℕ, ◌+◌, ◌*◌, ◌≤◌, List, All, length, sum_by}
-use Rattle.scp_types.specs.declared.names.ConnId.{ConnId}
+use Rattle.std.specs.Prelude.{◌≡◌, ℕ, ◌+◌, ◌*◌, ◌≤◌, ◌⊎◌, Bool, true, false, List, ◌++◌, Option, All, length, sum_by, count_by, option_to_list}
 use Rattle.scp_types.specs.declared.names.NodeId.{NodeId}
 use Rattle.scp_wire.specs.declared.link.Inbound.{Inbound}
+use Rattle.scp_wire.specs.declared.link.LinkItem.{LinkItem}
+use Rattle.scp_wire.specs.declared.link.LinkItem.TheVariants as item
+use Rattle.scp_wire.specs.LinkReading.{ReaderView, reading}
+use Rattle.scp_wire.specs.Reading.{AreBytes}
 use Rattle.scp_pending.specs.declared.ready.Ready.{Ready}
+use Rattle.scp_pending.specs.declared.ready.Ready.TheVariants.{Deliver, Dropped, Closed, Local}
 use Rattle.scp_pending.specs.Pends.{Pends}
-use Rattle.scp_pending.specs.Queues.{parked_of}
-use Rattle.scp_pending.specs.Rules.{PendingView}
+use Rattle.scp_pending.specs.Queues.{QueueView}
+use Rattle.scp_pending.specs.Rules.{PendingView, rules, releases}
+use Rattle.scp_ledger.specs.declared.took.Onward.{Onward}
 use Rattle.scp_apply.specs.Applier.{ApplierView, IsRunning}
+use Rattle.scp_ends.specs.declared.item.Item.{Item}
 
--- a channel: how many things it may hold, and how many it holds
-pub record Filled : Type 0 where
+-- ---- what the parts hold
+
+-- a channel: how many items it may hold, and those that it holds
+pub record Filled (T : Type 0) : Type 0 where
   pub room : ℕ
-  pub holds : ℕ
+  pub queue : List (Item T)
 
--- what a node holds at some moment: in each channel, and in each worker's hand; of the connection that is open of each link what is
--- parked; and what the applier buffers
+-- a link: its channel; and its reader, which has in hand what it read and hasn't sent yet
+pub record FilledLink : Type 0 where
+  pub channel : Filled LinkItem
+  pub hand : List Inbound
+
+-- What a node holds at some moment: in its links and its other channels; in its pending stage, as it was when it last had nothing ready,
+-- and as it is, and what its worker is about to send; what the slot stage's worker took, or what that gave and it is about to send; what the applier's
+-- worker took; and what the applier buffers.
 pub record Holding : Type 0 where
-  pub channels : List Filled
-  pub hands : List ℕ
-  pub open_conns : List ConnId
+  pub links : List FilledLink
+  pub inbox : Filled Inbound
+  pub settled : PendingView
   pub pending : PendingView
+  pub given : Option Ready
+  pub ready : Filled Ready
+  pub slot : Option (Ready ⊎ Onward)
+  pub decided : Filled Onward
+  pub deciding : Option Onward
   pub applier : ApplierView
 
--- each part keeps its own bound: a channel that of its rule, a worker has one thing at most in hand, the pending stage and the applier are
--- what their calls make of them
-pub record KeepsBounds (h : Holding) : Type 0 where
-  pub channels : All (λ c. c.holds ≤ c.room) h.channels
-  pub hands : All (λ n. n ≤ 1) h.hands
+-- ---- what holds of each part by itself
+
+-- a channel holds no more than its rule allows
+abbrev pub IsWithin : {T : Type 0} → Filled T → Type 0
+IsWithin c = length c.queue ≤ c.room
+
+-- the bytes of an item are bytes
+abbrev pub HasBytes : LinkItem → Type 0
+HasBytes (item.Opened conn) = Unit {0}
+HasBytes (item.Bytes conn bytes) = AreBytes bytes
+HasBytes (item.Closed conn) = Unit {0}
+
+-- a reader has in hand what is left of what one item is read as: of a batch up to 32 records
+pub record IsInHand (hand : List Inbound) : Type 0 where
+  pub at : ReaderView
+  pub item : LinkItem
+  pub bytes : HasBytes item
+  pub sent : List Inbound
+  pub rest : sent ++ hand ≡ reading at item
+
+-- a link's channel and its reader's hand
+pub record IsLinkWithin (k : FilledLink) : Type 0 where
+  pub channel : IsWithin k.channel
+  pub hand : IsInHand k.hand
+
+-- from a stage that takes and gives by its rules, one item was taken, and some of what that released was given
+pub record TookOne (old now : PendingView) : Type 0 where
   pub me : NodeId
   pub peers : List NodeId
-  pub taken : List Inbound
-  pub given : List Ready
-  pub pends : Pends me peers taken given h.pending
+  pub took : List Inbound
+  pub gave : List Ready
+  pub pends : Pends me peers took gave old
+  pub item : Inbound
+  pub settled : now.settled ≡ rules old.settled item
+  pub out : List Ready
+  pub left : out ++ now.leaving ≡ releases old.settled item
+
+-- each part keeps its own bound, by its rule or by its calls
+pub record KeepsBounds (h : Holding) : Type 0 where
+  pub links : All IsLinkWithin h.links
+  pub inbox : IsWithin h.inbox
+  pub pending : TookOne h.settled h.pending
+  pub ready : IsWithin h.ready
+  pub decided : IsWithin h.decided
   pub applier : IsRunning h.applier
 
--- how many things these are
-abbrev pub held : Holding → ℕ
-held h =
-    sum_by (λ c. c.holds) h.channels + sum_by (λ n. n) h.hands
-    + sum_by (λ c. length (parked_of c h.pending.settled.queues)) h.open_conns
-    + length h.applier.buffer
+-- ---- how much that is
 
--- at most what the channels have room for, one in each hand, 64 for each link, and 16 that are buffered
+-- it is a message, delivered or dropped; neither the end of a connection nor a command
+abbrev pub is_message : Ready → Bool
+is_message (Deliver delivery) = true
+is_message (Dropped conn seq cause) = true
+is_message (Closed conn cause) = false
+is_message (Local command) = false
+
+-- how many messages are parked in the queues
+abbrev pub parked_in_all : List QueueView → ℕ
+parked_in_all queues = sum_by (λ q. length q.parked) queues
+
+-- how many messages the pending stage holds: those that leave, and those that are parked
+abbrev pub messages_held : PendingView → ℕ
+messages_held v = count_by is_message v.leaving + parked_in_all v.settled.queues
+
+-- how many things a link holds: in its channel, and in its reader's hand
+abbrev pub link_held : FilledLink → ℕ
+link_held k = length k.channel.queue + length k.hand
+
+-- how many at most: what its channel has room for, and 32 in hand
+abbrev pub link_room : FilledLink → ℕ
+link_room k = k.channel.room + 32
+
+-- what the channels and the workers' hands hold
+abbrev pub underway : Holding → ℕ
+underway h =
+    sum_by link_held h.links + length h.inbox.queue + length h.ready.queue + length h.decided.queue
+    + length (option_to_list h.given) + length (option_to_list h.slot) + length (option_to_list h.deciding)
+
+-- and all of it: of the pending stage the messages
+abbrev pub held : Holding → ℕ
+held h = underway h + messages_held h.pending + length h.applier.buffer
+
+-- At most what the channels have room for, up to 32 in each reader's hand and one in each other worker's, 64 messages for each connection
+-- that was open when the pending stage last had nothing ready and the one that it took since, and 16 that are buffered.
 abbrev pub HoldsAtMost : Type 0
-HoldsAtMost = (h : Holding) → KeepsBounds h → held h ≤ sum_by (λ c. c.room) h.channels + length h.hands + 64 * length h.open_conns + 16
+HoldsAtMost = (h : Holding) → KeepsBounds h →
+    held h ≤ sum_by link_room h.links + h.inbox.room + h.ready.room + h.decided.room + 3
+    + (64 * length h.settled.settled.queues + 1) + 16

@@ -1,10 +1,10 @@
 -- What follows where every worker of a node ended well.
-use Rattle.std.specs.Prelude.{◌≡◌, ℕ, Bool, true, false, List, [], ◌++◌, Some, IfSome, slice_get, filter}
+use Rattle.std.specs.Prelude.{◌≡◌, ℕ, Bool, true, false, List, [], ◌++◌, None, Some, IfSome, slice_get, filter}
 use Rattle.std.specs.List.{AllByRecursion}
 use Rattle.scp_types.specs.declared.names.ConnId.{ConnId}
 use Rattle.scp_types.specs.declared.names.NodeId.{NodeId}
 use Rattle.scp_quorum.specs.QuorumTree.{QuorumTree}
-use Rattle.scp_driver.specs.Kv.{kv_level, greatest}
+use Rattle.scp_driver.specs.Kv.{kv_level, greatest, leader_place}
 use Rattle.scp_driver.specs.declared.kv_driver.KvDriver.{KvDriver}
 use Rattle.scp_wire.specs.declared.carried.Carried.{Carried}
 use Rattle.scp_wire.specs.declared.message.Message.{Message}
@@ -20,9 +20,9 @@ use Rattle.scp_pending.specs.Causes.{IsSettledBy}
 use Rattle.scp_pending.specs.Messages.{AreParked, marks_of_messages}
 use Rattle.scp_pending.specs.Rules.{fresh}
 use Rattle.scp_ledger.specs.Marks.{marks_of as marks_on}
-use Rattle.scp_account.specs.Account.{Account}
-use Rattle.scp_account.specs.Fates.{IsOfLink}
-use Rattle.scp_account.specs.Kept.{KeepsLedger, slots_sent, line_sent}
+use Rattle.scp_theorem.specs.Account.{Account}
+use Rattle.scp_theorem.specs.Fates.{IsOfLink}
+use Rattle.scp_theorem.specs.Kept.{KeepsLedger, slots_sent, line_sent}
 use Rattle.scp_ends.specs.Ends.{Sender, Receiver, IsQueued, heard}
 use Rattle.scp_ends.specs.Links.{LinkEnd}
 use Rattle.scp_ends.specs.Order.{of, values}
@@ -32,6 +32,8 @@ use Rattle.scp_gather.specs.Node.{IsNode, EndWell}
 
 -- ---- the node, with nothing in a queue or a hand
 
+-- the node as the ledger theorem sees it: what the sending ends of its links sent, what its pending stage received, its stages, and nothing
+-- in a queue or a hand
 abbrev pub account_gathered : NodeId → QuorumTree → List NodeId → Left → Account KvDriver
 account_gathered me set peers e = record {
   me = me;
@@ -82,6 +84,7 @@ pub record AreLeftParked (a : Account KvDriver) (parked : List Carried) : Type 0
 
 -- ---- all of it
 
+-- the thing is a local command
 abbrev pub is_command : Inbound → Bool
 is_command (inbound.Opened conn) = false
 is_command (inbound.Carried x) = false
@@ -89,9 +92,11 @@ is_command (inbound.Side conn message) = false
 is_command (inbound.Closed conn cause) = false
 is_command (inbound.Local command) = true
 
+-- What holds of a node in threads of which each worker ended well: the ledger theorem, of what was sent and received; nothing is left in a
+-- channel; and what is parked waits for its quorum set.
 pub record Gathered (me : NodeId) (set : QuorumTree) (peers : List NodeId) (e : Left) : Type 0 where
   -- the ledger theorem, of what was sent over the links and what came to the pending stage
-  pub keeps : KeepsLedger (λ driver slot value. kv_level value) (λ driver slot values. greatest values) (account_gathered me set peers e)
+  pub keeps : KeepsLedger (λ driver slot value. kv_level value) (λ driver slot value. None) (λ driver slot values. greatest values) (λ driver slot round n. leader_place slot round n) (account_gathered me set peers e)
   -- what came is what each link's items are read as, and the commands, each in its order
   pub read : (l : ℕ) → (peer : NodeId) → slice_get peers l ≡ Some peer → of_peer peer (values e.pend.input.got) ≡ readings unread (sent_over e.links l)
   pub told : filter is_command (values e.pend.input.got) ≡ e.local.sent
@@ -102,5 +107,6 @@ pub record Gathered (me : NodeId) (set : QuorumTree) (peers : List NodeId) (e : 
   pub settled : IsSettledBy (fresh me peers set) (values e.pend.input.got) e.pend.view
   pub parked : (parked : List Carried) → AreParked e.pend.view parked → AreLeftParked (account_gathered me set peers e) parked
 
+-- where the ends are those of one node, and each worker ended well, `Gathered` holds
 abbrev pub WhatEndsWellIsGathered : Type 0
 WhatEndsWellIsGathered = (me : NodeId) (set : QuorumTree) (peers : List NodeId) (e : Left) → IsNode me set peers e → EndWell e → Gathered me set peers e

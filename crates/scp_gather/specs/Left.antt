@@ -24,5 +24,6 @@ abbrev pub items_of : Option LinkEnd → List LinkItem
 items_of None = []
 items_of (Some k) = k.tail.sent
 
+-- what was sent over the link of a number
 abbrev pub sent_over : List LinkEnd → ℕ → List LinkItem
 sent_over links l = items_of (slice_get links l)

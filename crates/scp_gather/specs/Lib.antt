@@ -2,4 +2,5 @@ pub mod Left
 pub mod Node
 pub mod Gathered
 pub mod Report
+pub mod Headline
 pub mod Count

@@ -13,12 +13,9 @@ use Rattle.scp_workers.specs.Pending.{HasPendedAll, IsFor as PendsFor}
 use Rattle.scp_workers.specs.Slot.{HasJournaledAll, IsFor as JournalsFor}
 use Rattle.scp_workers.specs.Apply.{HasAppliedAll}
 use Rattle.scp_gather.specs.Left.{Left}
+use Rattle.scp_pending.specs.Peers.{AreApart}
 
 -- ---- names, places and numbers
-
--- no peer twice
-abbrev pub AreApart : List NodeId → Type 0
-AreApart peers = (l m : ℕ) → (peer : NodeId) → slice_get peers l ≡ Some peer → slice_get peers m ≡ Some peer → l ≡ m
 
 -- the link that stands at this place, from this peer, and its reader
 pub record IsLinkAt (me peer : NodeId) (place : ℕ) (k : LinkEnd) (e : ReaderEnd) : Type 0 where

@@ -37,6 +37,7 @@ pub record AreJoined (e : Left) : Type 0 where
 
 -- ---- who failed
 
+-- the reader's worker failed: it gave no sending end back
 abbrev pub has_failed : ReaderEnd → Bool
 has_failed r = is_none r.output
 
@@ -44,6 +45,7 @@ has_failed r = is_none r.output
 abbrev pub first_so : Bool → Bool → Bool → Bool → Option Stage
 first_so reader pend slot apply = if reader then Some Reader else (if pend then Some Pend else (if slot then Some Slot else (if apply then Some Apply else None)))
 
+-- the first stage of which a worker failed, in the order reader, pend, slot, apply
 abbrev pub first_failed : Left → Option Stage
 first_failed e = first_so (list_any has_failed e.readers) (is_none e.pend.output) (is_none e.slot.output) (not e.apply.well)
 

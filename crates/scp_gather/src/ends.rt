@@ -1,7 +1,7 @@
 //! What the threads of a node left.
-ghost use Rattle.std.specs.Prelude.{◌≡◌, is_none};
+ghost use Rattle.std.specs.Prelude.{◌≡◌, is_none, not};
 ghost use Rattle.std.specs.List.{list_any};
-ghost use Rattle.scp_gather.specs.Report.{first_failed, first_so, has_failed as failed};
+ghost use Rattle.scp_gather.specs.Report.{first_failed as first_failed_of, first_so, has_failed as failed};
 
 use scp_ends::{LinkDone, LocalDone};
 use scp_types::Stage;
@@ -25,10 +25,10 @@ impl Model for Ends {
     ghost use Rattle.std.specs.Ordering.{nat_cmp};
     ghost use Rattle.std.specs.Cmp.Lexicographic.{slice_cmp};
     ghost use Rattle.std.specs.Coded.{codes, coded_ℕ, coded_list};
-    ghost use Rattle.scp_xdr.specs.TreeModel.{coded_row};
-    ghost use Rattle.scp_quorum.specs.QuorumTree.{coded_level};
+    ghost use Rattle.scp_xdr.specs.inside.TreeModel.{coded_row};
+    ghost use Rattle.scp_quorum.specs.inside.QuorumTree.{coded_level};
     ghost use Rattle.scp_driver.specs.contracts.kv_driver.KvDriver as driver;
-    ghost use Rattle.scp_ledger.specs.Coding.{machine_code};
+    ghost use Rattle.scp_ledger.specs.inside.Coding.{machine_code};
     ghost use Rattle.scp_gather.specs.Left.{Left};
 
     ghost Value = { Left };
@@ -41,31 +41,36 @@ impl Model for Ends {
 impl Ends {
     /// The first stage, in the order of the pipeline, of which a worker failed.
     pub fn first_failed(&self) -> Option<Stage>
-        ensures exact { result ≡ first_failed self.now }
+        ensures exact { result ≡ first_failed_of self.now }
     {
-        first_of(
+        first_failed(
             any_failed(self.readers.as_slice()),
-            pend_failed(&self.pend),
-            slot_failed(&self.slot),
-            !self.apply.well(),
+            &self.pend,
+            &self.slot,
+            &self.apply,
         )
     }
 }
 
-/// The first of the stages that failed.
-fn first_of(reader: bool, pend: bool, slot: bool, apply: bool) -> Option<Stage>
-    ensures { result ≡ first_so reader pend slot apply }
+/// The first stage, in the order of the pipeline, of which a worker failed: whether one of the readers did is passed.
+pub fn first_failed(
+    reader: bool,
+    pend: &PendEnded,
+    slot: &SlotEnded,
+    apply: &ApplyEnded,
+) -> Option<Stage>
+    ensures exact { result ≡ first_so reader (is_none pend.now.output) (is_none slot.now.output) (not apply.now.well) }
 {
     if reader {
         return Some(Stage::Reader);
     }
-    if pend {
+    if pend_failed(pend) {
         return Some(Stage::Pend);
     }
-    if slot {
+    if slot_failed(slot) {
         return Some(Stage::Slot);
     }
-    if apply {
+    if !apply.well() {
         return Some(Stage::Apply);
     }
     None
@@ -79,7 +84,7 @@ fn any_failed(readers: &[ReaderEnded]) -> bool
 }
 
 /// Whether the reader's worker failed.
-fn has_failed(reader: &ReaderEnded) -> bool
+pub fn has_failed(reader: &ReaderEnded) -> bool
     ensures { result ≡ failed reader.now }
 {
     !reader.well()

@@ -11,12 +11,14 @@ ghost use Rattle.scp_pending.specs.declared.ready.Ready.{Ready};
 ghost use Rattle.scp_pending.specs.Messages.{AreParked, message_cmp};
 ghost use Rattle.scp_pending.specs.Pends.{Pends};
 ghost use Rattle.scp_ends.specs.Links.{LinkEnd};
+ghost use Rattle.scp_headline.specs.Headline.{Headline};
 ghost use Rattle.scp_workers.specs.Reading.{ReaderEnd};
 ghost use Rattle.scp_gather.specs.Node.{IsNode, IsReadOut, EndWell};
+ghost use Rattle.scp_gather.specs.Headline.{books_reported};
 ghost use Rattle.scp_gather.specs.Report.{IsJoined, AreJoinedTo, AreJoined, first_failed, IsReportOf};
 
 use crate::ends::Ends;
-use crate::laws::what_ends_well_is_gathered;
+use crate::laws::{what_ends_well_is_gathered, what_is_reported_keeps_the_headline};
 use scp_apply::Applier;
 use scp_driver::KvDriver;
 use scp_ends::{InboxRx, LinkDone};
@@ -121,6 +123,8 @@ fn told(pending: Pending, ledger: Ledger<KvDriver>, applier: Applier) -> Result<
 pub fn gather(ends: Ends) -> Result<NodeReport, Fault>
     requires joined { AreJoined ends }
     ensures theorem { (me : NodeId) → (set : QuorumTree) → (peers : List NodeId) → IsNode me set peers ends → IfOk result (λ r. IsReportOf me set peers ends r.journal.items r.parked.items r.applied.items r.state) }
+    // And the headline, which says what matters most of that.
+    ensures headline { (me : NodeId) → (set : QuorumTree) → (peers : List NodeId) → IsNode me set peers ends → IfOk result (λ r. Headline (books_reported me set peers ends r.journal.items r.applied.items r.state)) }
     ensures refused { (s : Stage) → IsErrOf result (Fault.Refused s) ↔ (first_failed ends ≡ Some s) }
     ensures only { IfErr result (λ f. (f ≡ Fault.NoMemory) ⊎ ((s : Stage) × (f ≡ Fault.Refused s))) }
 {
@@ -128,6 +132,7 @@ pub fn gather(ends: Ends) -> Result<NodeReport, Fault>
         return Err(Fault::Refused(stage));
     }
     what_ends_well_is_gathered();
+    what_is_reported_keeps_the_headline();
     let (pending, ledger, applier) = settle(ends);
     told(pending, ledger, applier)
 }

@@ -5,13 +5,18 @@
 //! - what came are the items of each link, as they are read, and the node's own commands, each in its order;
 //! - what is parked waits for its quorum set; and the fates of a connection and then its parked messages are what was sent on it.
 //!
-//! Where a worker failed, `gather` tells the first such stage. How much a node holds while it runs is a law of its own.
+//! Where a worker failed, `gather` tells the first such stage. How much a node holds while it runs is a law of its own, of each channel, each
+//! hand, what leaves and what is parked.
+//!
+//! Not claimed: that a worker ends.
 #![tactic(auto)]
 
 mod ends;
 mod gathering;
 mod laws;
 
-pub use ends::Ends;
+pub use ends::{Ends, first_failed, has_failed};
 pub use gathering::{NodeReport, gather};
-pub use laws::{a_node_holds_so_much, what_ends_well_is_gathered};
+pub use laws::{
+    a_node_holds_so_much, what_ends_well_is_gathered, what_is_reported_keeps_the_headline,
+};

@@ -15,9 +15,11 @@ op_kind = union (arm 0 (both (opaque 64) (opaque 256)) (arm 1 (opaque 64) no_arm
 abbrev pub ops_kind : Kind
 ops_kind = array 64 op_kind
 
+-- a value is put under a key
 abbrev pub put : List ℕ → List ℕ → Values op_kind
 put key value = inl (key, value)
 
+-- a key is taken out
 abbrev pub del : List ℕ → Values op_kind
 del key = inr (inl key)
 
@@ -26,6 +28,7 @@ abbrev pub op_value : Op → Values op_kind
 op_value (Put key value) = put key value
 op_value (Del key) = del key
 
+-- what stands for a list of operations
 abbrev pub ops_value : List Op → Values ops_kind
 ops_value ops = map op_value ops
 

@@ -24,6 +24,7 @@ pub record IsAfterPart (old : KvMap) (ops : Values ops_kind) (new : KvMap) : Typ
   pub splits : ops ≡ done ++ rest
   pub applied : new ≡ after_ops old done
 
+-- the operations that were found; where none were, no change
 abbrev pub after_found : KvMap → Option (Values ops_kind) → KvMap
 after_found state (Some ops) = after_ops state ops
 after_found state None = state

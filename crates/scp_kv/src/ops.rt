@@ -4,7 +4,7 @@ ghost use Rattle.scp_xdr.specs.Reading.{reading};
 ghost use Rattle.scp_xdr.specs.Words.{Decodes};
 ghost use Rattle.scp_kv.specs.Op.{op_kind, ops_kind, op_value, ops_value, ops_in, IsOps};
 
-use scp_types::{Fault, Value};
+use scp_types::{Fault, VALUE_LIMIT, Value};
 use scp_xdr::{
     Reader, Writer, Xdr, array_fits, decode, is_spelling, pass_array, read_array, spend_array,
     spend_opaque, spend_u32, write_array,
@@ -12,7 +12,7 @@ use scp_xdr::{
 use std::alloc::Global;
 
 /// The most bytes of an operation list (this project's profile).
-const LIST_LIMIT: usize = 4_096;
+const LIST_LIMIT: usize = VALUE_LIMIT;
 
 /// The most operations of an operation list (this project's profile).
 const COUNT_LIMIT: u32 = 64;

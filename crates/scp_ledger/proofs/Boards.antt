@@ -19,6 +19,7 @@ use Rattle.scp_slot.specs.declared.output.SlotOutput.{SlotOutput}
 use Rattle.scp_slot.specs.Slot.{SlotView}
 use Rattle.scp_slot.specs.Newest.{Puts}
 use Rattle.scp_slot.specs.Judged.{IsBehind}
+use Rattle.scp_quorum.specs.SharedSet.{SharedSet}
 use Rattle.scp_slot.specs.Takes as slot
 use Rattle.scp_ledger.specs.declared.journal.Verdict.{Verdict}
 use Rattle.scp_ledger.specs.declared.journal.Verdict.TheVariants.{Fresh}
@@ -60,10 +61,10 @@ put_kind old new h Balloting Balloting v is puts =
 put_kind old new h Nomination Balloting v is puts = ap (option_map heard_of) (puts.other_kind Balloting (λ e. (let t : Balloting ≡ Nomination = e ∙ is in cc)) v)
 put_kind old new h Balloting Nomination v is puts = ap (option_map heard_of) (puts.other_kind Nomination (λ e. (let t : Nomination ≡ Balloting = e ∙ is in cc)) v)
 
-heard_is : (h : Kept) (e : Enveloped) (set : slot.Shared) → h.statement ≡ e.statement → h.set.value ≡ set.value → heard_of h ≡ record { statement = e.statement; set = set.value }
+heard_is : (h : Kept) (e : Enveloped) (set : SharedSet) → h.statement ≡ e.statement → h.set.value ≡ set.value → heard_of h ≡ record { statement = e.statement; set = set.value }
 heard_is h e set a b = rw (a, b) refl
 
-entered : (old new : SlotView) (e : Enveloped) (set : slot.Shared) → slot.Enters e set old new → Boards old (Some (record { statement = e.statement; set = set.value })) new
+entered : (old new : SlotView) (e : Enveloped) (set : SharedSet) → slot.Enters e set old new → Boards old (Some (record { statement = e.statement; set = set.value })) new
 entered old new e set it = λ kind v.
     subst (λ (x : Heard). heard_at kind new v ≡ cond (is_its kind v x) (Some x) (heard_at kind old v)) (heard_is it.heard e set it.statement it.with_set)
     (put_kind old new it.heard (kind_of_pledges it.heard.statement.pledges) kind v refl it.puts)
@@ -107,18 +108,18 @@ rested given found' old out new r none =
       board = subst (λ (h : Option Heard). Boards old h new) (sym brought) (same_board old new (ap (λ (v : SlotView). v.newest) r.same));
     }
 
-heard_fresh : (e : Enveloped) (set : slot.Shared) (old : SlotView) (out : SlotOutput) (new : SlotView) → out.verdict ≡ found.Fresh → slot.Enters e set old new → Boards old (brings (Envelope e set) (verdict_from out.verdict)) new
+heard_fresh : (e : Enveloped) (set : SharedSet) (old : SlotView) (out : SlotOutput) (new : SlotView) → out.verdict ≡ found.Fresh → slot.Enters e set old new → Boards old (brings (Envelope e set) (verdict_from out.verdict)) new
 heard_fresh e set old out new fresh enters =
     subst (λ (x : Found). Boards old (brings (Envelope e set) (verdict_from x)) new) (sym fresh) (entered old new e set enters)
 
-heard_kind : (kind : StatementKind) (combined : List (List ℕ) → List ℕ) (e : Enveloped) (set : slot.Shared) (old : SlotView) (out : SlotOutput) (new : SlotView) → slot.HearsKind kind combined e set old out new → Stepped (Envelope e set) old out new
+heard_kind : (kind : StatementKind) (combined : List (List ℕ) → List ℕ) (e : Enveloped) (set : SharedSet) (old : SlotView) (out : SlotOutput) (new : SlotView) → slot.HearsKind kind combined e set old out new → Stepped (Envelope e set) old out new
 heard_kind Nomination combined e set old out new h =
     let kept = passed_on h.nominates.composite old out new h.nominates.passed in
     record { machine = h.machine; making = kept.0; counts = kept.1; board = heard_fresh e set old out new h.nominates.verdict h.enters }
 heard_kind Balloting combined e set old out new h =
     record { machine = h.machine; making = h.ballots.advances.making; counts = λ some. h.ballots.advances.counted; board = heard_fresh e set old out new h.verdict h.enters }
 
-stepped_envelope : (level : List ℕ → Level) (combined : List (List ℕ) → List ℕ) (e : Enveloped) (set : slot.Shared) (old : SlotView) (out : SlotOutput) (new : SlotView) → slot.TakesEnvelope level combined e set old out new → Stepped (Envelope e set) old out new
+stepped_envelope : (level : List ℕ → Level) (combined : List (List ℕ) → List ℕ) (e : Enveloped) (set : SharedSet) (old : SlotView) (out : SlotOutput) (new : SlotView) → slot.TakesEnvelope level combined e set old out new → Stepped (Envelope e set) old out new
 stepped_envelope level combined e set old out new takes = elim takes [
   | inl own ↦ rested (Envelope e set) found.Own old out new own.1 refl
   | inr a ↦ elim a.1 [
@@ -177,11 +178,11 @@ not_stale_mapped (Some x) s h = h
 rests_verdict : (found' : Found) (old : SlotView) (out : SlotOutput) (new : SlotView) → slot.Rests found' old out new → verdict_from out.verdict ≡ verdict_from found'
 rests_verdict found' old out new r = ap (λ (o : SlotOutput). verdict_from o.verdict) r.quiet
 
-kind_verdict : (kind : StatementKind) (combined : List (List ℕ) → List ℕ) (e : Enveloped) (set : slot.Shared) (old : SlotView) (out : SlotOutput) (new : SlotView) → slot.HearsKind kind combined e set old out new → verdict_from out.verdict ≡ Fresh
+kind_verdict : (kind : StatementKind) (combined : List (List ℕ) → List ℕ) (e : Enveloped) (set : SharedSet) (old : SlotView) (out : SlotOutput) (new : SlotView) → slot.HearsKind kind combined e set old out new → verdict_from out.verdict ≡ Fresh
 kind_verdict Nomination combined e set old out new h = ap verdict_from h.nominates.verdict
 kind_verdict Balloting combined e set old out new h = ap verdict_from h.verdict
 
-pub judged : (level : List ℕ → Level) (combined : List (List ℕ) → List ℕ) (e : Enveloped) (set : slot.Shared) (old : SlotView) (out : SlotOutput) (new : SlotView) → slot.TakesEnvelope level combined e set old out new
+pub judged : (level : List ℕ → Level) (combined : List (List ℕ) → List ℕ) (e : Enveloped) (set : SharedSet) (old : SlotView) (out : SlotOutput) (new : SlotView) → slot.TakesEnvelope level combined e set old out new
     → IsHeardAs level old.me (heard_at (kind_of_pledges e.statement.pledges) old e.statement.node) e.statement (verdict_from out.verdict)
 judged level combined e set old out new takes = elim takes [
   | inl own ↦ inl (own.0, rests_verdict found.Own old out new own.1)

@@ -139,7 +139,7 @@ of_record_says peers conn seq at value set beside verdict t is said = record {
   asks = λ a. and_false (was_fresh t.verdict);
 }
 
-module _ {D : Type 0} (level : D → ℕ → List ℕ → Level) (combined : D → ℕ → List (List ℕ) → List ℕ) (place : D → ℕ → ℕ → ℕ → ℕ) where
+module _ {D : Type 0} (level : D → ℕ → List ℕ → Level) (extracted : D → ℕ → List ℕ → Option (List ℕ)) (combined : D → ℕ → List (List ℕ) → List ℕ) (place : D → ℕ → ℕ → ℕ → ℕ) where
   its_decision : (d : Option Decision) → decisions_on (option_to_list (option_map decided_onward d)) ≡ option_to_list d
   its_decision None = refl
   its_decision (Some d) = refl
@@ -149,7 +149,7 @@ module _ {D : Type 0} (level : D → ℕ → List ℕ → Level) (combined : D �
   no_request (Some d) = refl
 
   -- a machine ran, and this was the entry, if there was one
-  ran : {at given : _} (old : LedgerView D) (x : Ready) (t : Took) (new : LedgerView D) (fates : List Fate) → RunsAt level combined old at given fates t new → Says old.peers x t fates → Goes old x t new
+  ran : {at given : _} (old : LedgerView D) (x : Ready) (t : Took) (new : LedgerView D) (fates : List Fate) → RunsAt level extracted combined place old at given fates t new → Says old.peers x t fates → Goes old x t new
   ran {at} old x t new fates r says = record {
     runs = ap (λ (v : LedgerView D). v.failed) r.same;
     me_is = ap (λ (v : LedgerView D). v.me) r.same;
@@ -249,7 +249,7 @@ module _ {D : Type 0} (level : D → ℕ → List ℕ → Level) (combined : D �
   not_fresh Deciding other = refl
 
   -- a command of a machine
-  commanded : (old : LedgerView D) (at : Slot) (given : SlotInput) (c : Command) (t : Took) (new : LedgerView D) → ((a : Asking) → is_asking a c ≡ false) → Commands level combined old at given t new → Goes old (ready.Local c) t new
+  commanded : (old : LedgerView D) (at : Slot) (given : SlotInput) (c : Command) (t : Took) (new : LedgerView D) → ((a : Asking) → is_asking a c ≡ false) → Commands level extracted combined place old at given t new → Goes old (ready.Local c) t new
   commanded old at given c t new none h =
       let says : Says old.peers (ready.Local c) t [] = of_command_says old.peers c t (λ a. ap (λ (b : Bool). was_fresh t.verdict && b) (none a) ∙ and_false (was_fresh t.verdict)) in
       elim h [
@@ -257,7 +257,7 @@ module _ {D : Type 0} (level : D → ℕ → List ℕ → Level) (combined : D �
         | inr r ↦ ran old (ready.Local c) t new [] r says
       ]
 
-  of_command : (old : LedgerView D) (c : Command) (t : Took) (new : LedgerView D) → TakesCommand level combined old c t new → Goes old (ready.Local c) t new
+  of_command : (old : LedgerView D) (c : Command) (t : Took) (new : LedgerView D) → TakesCommand level extracted combined place old c t new → Goes old (ready.Local c) t new
   of_command old (Propose at value) t new h = commanded old at (input.Propose value) (Propose at value) t new (λ a. refl) h
   of_command old (Round at) t new h = commanded old at input.Round (Round at) t new (λ a. refl) h
   of_command old (Timer at) t new h = commanded old at input.Timer (Timer at) t new (λ a. refl) h
@@ -308,7 +308,7 @@ module _ {D : Type 0} (level : D → ℕ → List ℕ → Level) (combined : D �
     asks = λ a. ap (λ (v : LedgerView D). is_asked v.asked a) h.same ∙ or_false (is_asked old.asked a) _ (and_false (was_fresh t.verdict));
   }
 
-  of_message : (old : LedgerView D) (conn : ConnId) (seq : Seq) (message : Message) (beside : Option QuorumTree) (t : Took) (new : LedgerView D) → TakesMessage level combined old conn seq message beside t new → Goes old (delivered conn seq message beside) t new
+  of_message : (old : LedgerView D) (conn : ConnId) (seq : Seq) (message : Message) (beside : Option QuorumTree) (t : Took) (new : LedgerView D) → TakesMessage level extracted combined place old conn seq message beside t new → Goes old (delivered conn seq message beside) t new
   of_message old conn seq (Envelope e) beside t new h =
       let says : Says old.peers (delivered conn seq (Envelope e) beside) t (Taken conn seq (Envelope e) (Some h.0) h.2 ∷ []) = of_envelope_says old.peers conn seq e h.0 beside h.2 t h.1 h.4 in
       elim h.5 [
@@ -325,30 +325,30 @@ module _ {D : Type 0} (level : D → ℕ → List ℕ → Level) (combined : D �
     | inr d ↦ decided_now old conn seq at value h.0 beside t new h.1 (h.2.2 ∙ ap (λ (x : Verdict). Some x) d.0) d.1
   ]
 
-  goes : (old : LedgerView D) (x : Ready) (t : Took) (new : LedgerView D) → Takes level combined old x t new → Goes old x t new
+  goes : (old : LedgerView D) (x : Ready) (t : Took) (new : LedgerView D) → Takes level extracted combined place old x t new → Goes old x t new
   goes old (ready.Deliver d) t new takes = of_message old d.conn d.seq d.message d.set t new takes
   goes old (ready.Dropped conn seq cause) t new takes = passed_on old (ready.Dropped conn seq cause) t new (Dropped conn seq cause ∷ []) takes (of_drop_says old.peers conn seq cause t)
   goes old (ready.Closed conn cause) t new takes = passed_on old (ready.Closed conn cause) t new (Closed conn cause ∷ []) takes (of_close_says old.peers conn cause t)
   goes old (ready.Local command) t new takes = of_command old command t new takes
 
   -- a ledger that runs and takes a thing runs on
-  pub runs_on : (old : LedgerView D) (x : Ready) (t : Took) (new : LedgerView D) → old.failed ≡ false → Takes level combined old x t new → new.failed ≡ false
+  pub runs_on : (old : LedgerView D) (x : Ready) (t : Took) (new : LedgerView D) → old.failed ≡ false → Takes level extracted combined place old x t new → new.failed ≡ false
   runs_on old x t new runs takes = (goes old x t new takes).runs ∙ runs
 
   -- what is taken, and what stands there
-  pub takes_grow : TakesGrow level combined
+  pub takes_grow : TakesGrow level extracted combined place
   takes_grow = λ old x t new takes. (let g = goes old x t new takes in record { runs = g.runs; fates = g.fates; journal = g.journal; decisions = g.decisions; asked = g.asked_stay })
 
-  run_step : (me : NodeId) (local : QuorumTree) (peers : List NodeId) (takes : List Taking) (old : LedgerView D) (x : Ready) (t : Took) (new : LedgerView D) → Takes level combined old x t new → IsLowest old.decisions old.lowest → old.me ≡ me → old.peers ≡ peers → IsRun level combined me local peers takes old → IsRun level combined me local peers (takes ++ record { thing = x; gave = t } ∷ []) new
+  run_step : (me : NodeId) (local : QuorumTree) (peers : List NodeId) (takes : List Taking) (old : LedgerView D) (x : Ready) (t : Took) (new : LedgerView D) → Takes level extracted combined place old x t new → IsLowest old.decisions old.lowest → old.me ≡ me → old.peers ≡ peers → IsRun level extracted combined place me local peers takes old → IsRun level extracted combined place me local peers (takes ++ record { thing = x; gave = t } ∷ []) new
   run_step me local peers takes old x t new h lowest me_is peers_are r =
       let g = goes old x t new h in
       let one : Taking = record { thing = x; gave = t } in
       let here : IsJudged (level old.driver) me peers (stood_by takes) one =
       subst (λ (ps : List NodeId). IsJudged (level old.driver) me ps (stood_by takes) one) peers_are
       (subst (λ (n : NodeId). IsJudged (level old.driver) n old.peers (stood_by takes) one) me_is
-      (judged_here level combined takes old x t new h lowest r.decided r.heard r.asked)) in
+      (judged_here level extracted combined place takes old x t new h lowest r.decided r.heard r.asked)) in
       record {
-        leads = subst (λ (d : D). Leads level combined (nothing_taken me local d peers) (takes ++ one ∷ []) new) (sym g.driver) (leads_push level combined (nothing_taken me local old.driver peers) old takes x t new r.leads h);
+        leads = subst (λ (d : D). Leads level extracted combined place (nothing_taken me local d peers) (takes ++ one ∷ []) new) (sym g.driver) (leads_push level extracted combined place (nothing_taken me local old.driver peers) old takes x t new r.leads h);
         judged = subst (λ (d : D). AreJudged (level d) me peers [] (takes ++ one ∷ [])) (sym g.driver) (judged_push (level old.driver) me peers [] takes one r.judged here);
         verdicts = ap (flat_map verdict_in) g.journal ∙ flat_map-append verdict_in old.journal g.fates ∙ ap (λ vs. vs ++ flat_map verdict_in g.fates) r.verdicts ∙ ap (λ vs. flat_map verdict_by takes ++ vs) (g.verdicts ∙ sym (append-nil (verdict_by one))) ∙ sym (flat_map-append verdict_by takes (one ∷ []));
         decided = g.decisions ∙ ap (λ ds. ds ++ decisions_on (option_to_list t.onward)) r.decided ∙ sym (decisions_pushed takes one);
@@ -356,7 +356,7 @@ module _ {D : Type 0} (level : D → ℕ → List ℕ → Level) (combined : D �
         asked = λ a. g.asks a ∙ ap (λ (b : Bool). b || freshly_asks a one) (r.asked a) ∙ sym (asked_pushed takes one a);
       }
 
-  journals_step : (me : NodeId) (local : QuorumTree) (peers : List NodeId) (took : List Ready) (onwards : List Onward) (old : LedgerView D) (x : Ready) (t : Took) (new : LedgerView D) → Takes level combined old x t new → IsLedger new → LedgerRuns level place new → Journals level combined place me local peers took onwards old → Journals level combined place me local peers (took ++ x ∷ []) (onwards ++ option_to_list t.onward) new
+  journals_step : (me : NodeId) (local : QuorumTree) (peers : List NodeId) (took : List Ready) (onwards : List Onward) (old : LedgerView D) (x : Ready) (t : Took) (new : LedgerView D) → Takes level extracted combined place old x t new → IsLedger new → LedgerRuns level place new → Journals level extracted combined place me local peers took onwards old → Journals level extracted combined place me local peers (took ++ x ∷ []) (onwards ++ option_to_list t.onward) new
   journals_step me local peers took onwards old x t new takes known running j =
       let g = goes old x t new takes in
       record {
@@ -384,7 +384,7 @@ module _ {D : Type 0} (level : D → ℕ → List ℕ → Level) (combined : D �
         running = running;
       }
 
-  begins : (me : NodeId) (local : QuorumTree) (peers : List NodeId) (v : LedgerView D) → v ≡ nothing_taken me local v.driver peers → IsLedger v → LedgerRuns level place v → Journals level combined place me local peers [] [] v
+  begins : (me : NodeId) (local : QuorumTree) (peers : List NodeId) (v : LedgerView D) → v ≡ nothing_taken me local v.driver peers → IsLedger v → LedgerRuns level place v → Journals level extracted combined place me local peers [] [] v
   begins me local peers v is known running =
       let journal : v.journal ≡ [] = ap (λ (w : LedgerView D). w.journal) is in
       let decisions : v.decisions ≡ [] = ap (λ (w : LedgerView D). w.decisions) is in
@@ -409,7 +409,7 @@ module _ {D : Type 0} (level : D → ℕ → List ℕ → Level) (combined : D �
       none_asked : (a : Asking) → is_asked [] a ≡ true → ⊥
       none_asked a e = absurd cc
 
-  pub journals_pass : JournalsPass level combined place
+  pub journals_pass : JournalsPass level extracted combined place
   journals_pass = record {
     begins = begins;
     passes = λ me local peers old x t new takes known running took onwards j. journals_step me local peers took onwards old x t new takes known (running (runs_on old x t new j.runs takes)) j;
@@ -443,14 +443,14 @@ kept_last xs (Asked link slot) k = tt
 pub window_is_kept : WindowIsKept
 window_is_kept = record { begins = kept_front; more = kept_push; last = kept_last }
 
-module _ {D : Type 0} (level : D → ℕ → List ℕ → Level) (combined : D → ℕ → List (List ℕ) → List ℕ) (place : D → ℕ → ℕ → ℕ → ℕ) where
+module _ {D : Type 0} (level : D → ℕ → List ℕ → Level) (extracted : D → ℕ → List ℕ → Option (List ℕ)) (combined : D → ℕ → List (List ℕ) → List ℕ) (place : D → ℕ → ℕ → ℕ → ℕ) where
   sent_next : (onwards : List Onward) (o : Option Onward) → KeepsWindow (onwards ++ option_to_list o) → IfSome o (MaySend onwards)
   sent_next onwards None k = tt
   sent_next onwards (Some x) k = kept_last onwards x k
 
-  pub ledger_keeps_window : LedgerKeepsWindow level combined place
+  pub ledger_keeps_window : LedgerKeepsWindow level extracted combined place
   ledger_keeps_window = λ me local peers took onwards old x t new takes known j.
-      let g = goes level combined place old x t new takes in
+      let g = goes level extracted combined place old x t new takes in
       let after : decisions_on (onwards ++ option_to_list t.onward) ≡ new.decisions = flat_map-append decision_on onwards (option_to_list t.onward) ∙ ap (λ ds. ds ++ decisions_on (option_to_list t.onward)) j.decided ∙ sym g.decisions in
       let kept : KeepsWindow (onwards ++ option_to_list t.onward) = subst (λ (ds : List Decision). AreInWindow [] ds) (sym after) known.placed in
       (kept, sent_next onwards t.onward kept)

@@ -31,7 +31,7 @@ use Rattle.scp_ledger.specs.Onwards.{decision_on, decisions_on}
 use Rattle.scp_ledger.specs.Runs.{Taking, onward_of, onwards_of, Leads, freshly_heard, freshly_asks, Stood, stood_by, IsMessageVerdict, IsFound, IsCommandVerdict, IsVerdict, IsJudged, AreJudged}
 use Rattle.scp_ledger.specs.Seen.{LedgerView, is_asked}
 use Rattle.scp_ledger.specs.Takes.{Takes, TakesMessage, TakesCommand, Commands}
-use Rattle.scp_ledger.specs.Verdicts.{FirstOf, BehindGate, BehindAlready, IsOpen, link_of}
+use Rattle.scp_ledger.specs.Verdicts.{FirstOf, BehindWindow, BehindAlready, IsOpen, link_of}
 
 -- ---- lists
 
@@ -90,7 +90,7 @@ apart : (b : Bool) → b ≡ false → b ≡ true → ⊥
 apart true e f = absurd cc
 apart false e f = absurd cc
 
-weaker : (lowest slot : ℕ) (decisions : List Decision) (verdict : Verdict) → BehindGate lowest decisions slot (λ later. ⊥) verdict → BehindGate lowest decisions slot IsFound verdict
+weaker : (lowest slot : ℕ) (decisions : List Decision) (verdict : Verdict) → BehindWindow lowest decisions slot (λ later. ⊥) verdict → BehindWindow lowest decisions slot IsFound verdict
 weaker lowest slot decisions verdict h = elim h [
   | inl old ↦ inl old
   | inr a ↦ inr (
@@ -108,15 +108,15 @@ weaker lowest slot decisions verdict h = elim h [
   )
 ]
 
-behind : (lowest slot : ℕ) (decisions : List Decision) (verdict : Verdict) → IsOpen lowest decisions slot → IsFound verdict → BehindGate lowest decisions slot IsFound verdict
+behind : (lowest slot : ℕ) (decisions : List Decision) (verdict : Verdict) → IsOpen lowest decisions slot → IsFound verdict → BehindWindow lowest decisions slot IsFound verdict
 behind lowest slot decisions verdict open' found =
     inr ((λ (low : slot < lowest). absurd (omega (arith, low, open'.not_old))), inr (open'.not_far, inr ((λ (is : is_decided slot decisions ≡ true). apart (is_decided slot decisions) open'.undecided is), found)))
 
-module _ {D : Type 0} (level : D → ℕ → List ℕ → Level) (combined : D → ℕ → List (List ℕ) → List ℕ) where
+module _ {D : Type 0} (level : D → ℕ → List ℕ → Level) (extracted : D → ℕ → List ℕ → Option (List ℕ)) (combined : D → ℕ → List (List ℕ) → List ℕ) (place : D → ℕ → ℕ → ℕ → ℕ) where
   abbrev stood_at : LedgerView D → Stood
   stood_at v = record { decisions = v.decisions; heard = fresh_in v.journal; asked = is_asked v.asked }
 
-  message_judged : (old : LedgerView D) (conn : ConnId) (seq : Seq) (message : Message) (beside : Option QuorumTree) (t : Took) (new : LedgerView D) → TakesMessage level combined old conn seq message beside t new → IsSomeAnd t.verdict (IsMessageVerdict (level old.driver) old.me old.peers old.lowest (stood_at old) conn message)
+  message_judged : (old : LedgerView D) (conn : ConnId) (seq : Seq) (message : Message) (beside : Option QuorumTree) (t : Took) (new : LedgerView D) → TakesMessage level extracted combined place old conn seq message beside t new → IsSomeAnd t.verdict (IsMessageVerdict (level old.driver) old.me old.peers old.lowest (stood_at old) conn message)
   message_judged old conn seq (Envelope e) beside t new h = subst (λ (o : Option Verdict). IsSomeAnd o (IsMessageVerdict (level old.driver) old.me old.peers old.lowest (stood_at old) conn (Envelope e))) (sym h.4) h.3
   message_judged old conn seq (GetSet hash) beside t new h = absurd h
   message_judged old conn seq (Set inside) beside t new h = absurd h
@@ -125,27 +125,27 @@ module _ {D : Type 0} (level : D → ℕ → List ℕ → Level) (combined : D �
   message_judged old conn seq (GetRecord at) beside t new h = subst (λ (o : Option Verdict). IsSomeAnd o (λ verdict. verdict ≡ Forwarded)) (sym h.2.verdict) refl
   message_judged old conn seq (Record at value) beside t new h = subst (λ (o : Option Verdict). IsSomeAnd o (IsMessageVerdict (level old.driver) old.me old.peers old.lowest (stood_at old) conn (Record at value))) (sym h.2.2) h.2.1
 
-  commanded : (old : LedgerView D) (at : Slot) (given : SlotInput) (t : Took) (new : LedgerView D) → Commands level combined old at given t new → IsSomeAnd t.verdict (BehindGate old.lowest old.decisions at.0 IsFound)
+  commanded : (old : LedgerView D) (at : Slot) (given : SlotInput) (t : Took) (new : LedgerView D) → Commands level extracted combined place old at given t new → IsSomeAnd t.verdict (BehindWindow old.lowest old.decisions at.0 IsFound)
   commanded old at given t new h = elim h [
-    | inl p ↦ subst (λ (o : Option Verdict). IsSomeAnd o (BehindGate old.lowest old.decisions at.0 IsFound)) (sym p.2.verdict) (weaker old.lowest at.0 old.decisions p.0 p.1)
-    | inr r ↦ subst (λ (o : Option Verdict). IsSomeAnd o (BehindGate old.lowest old.decisions at.0 IsFound)) (sym r.verdict) (behind old.lowest at.0 old.decisions _ r.is_open (r.out.verdict, refl))
+    | inl p ↦ subst (λ (o : Option Verdict). IsSomeAnd o (BehindWindow old.lowest old.decisions at.0 IsFound)) (sym p.2.verdict) (weaker old.lowest at.0 old.decisions p.0 p.1)
+    | inr r ↦ subst (λ (o : Option Verdict). IsSomeAnd o (BehindWindow old.lowest old.decisions at.0 IsFound)) (sym r.verdict) (behind old.lowest at.0 old.decisions _ r.is_open (r.out.verdict, refl))
   ]
 
-  command_judged : (old : LedgerView D) (c : Command) (t : Took) (new : LedgerView D) → TakesCommand level combined old c t new → IsCommandVerdict old.lowest (stood_at old) c t.verdict
+  command_judged : (old : LedgerView D) (c : Command) (t : Took) (new : LedgerView D) → TakesCommand level extracted combined place old c t new → IsCommandVerdict old.lowest (stood_at old) c t.verdict
   command_judged old (Propose at value) t new h = commanded old at (input.Propose value) t new h
   command_judged old (Round at) t new h = commanded old at input.Round t new h
   command_judged old (Timer at) t new h = commanded old at input.Timer t new h
   command_judged old Tick t new h = h.verdict
   command_judged old (Ask link at) t new h = subst (λ (o : Option Verdict). IsCommandVerdict old.lowest (stood_at old) (Ask link at) o) (sym h.2) h.1
 
-  judged_at : (old : LedgerView D) (x : Ready) (t : Took) (new : LedgerView D) → Takes level combined old x t new → IsVerdict (level old.driver) old.me old.peers old.lowest (stood_at old) x t.verdict
+  judged_at : (old : LedgerView D) (x : Ready) (t : Took) (new : LedgerView D) → Takes level extracted combined place old x t new → IsVerdict (level old.driver) old.me old.peers old.lowest (stood_at old) x t.verdict
   judged_at old (ready.Deliver d) t new h = message_judged old d.conn d.seq d.message d.set t new h
   judged_at old (ready.Dropped conn seq cause) t new h = h.verdict
   judged_at old (ready.Closed conn cause) t new h = h.verdict
   judged_at old (ready.Local c) t new h = command_judged old c t new h
 
   -- so over what was taken before, where that is what the ledger has
-  pub judged_here : (takes : List Taking) (old : LedgerView D) (x : Ready) (t : Took) (new : LedgerView D) → Takes level combined old x t new → IsLowest old.decisions old.lowest → old.decisions ≡ (stood_by takes).decisions → fresh_in old.journal ≡ (stood_by takes).heard → ((a : Asking) → is_asked old.asked a ≡ (stood_by takes).asked a) → IsJudged (level old.driver) old.me old.peers (stood_by takes) (record { thing = x; gave = t })
+  pub judged_here : (takes : List Taking) (old : LedgerView D) (x : Ready) (t : Took) (new : LedgerView D) → Takes level extracted combined place old x t new → IsLowest old.decisions old.lowest → old.decisions ≡ (stood_by takes).decisions → fresh_in old.journal ≡ (stood_by takes).heard → ((a : Asking) → is_asked old.asked a ≡ (stood_by takes).asked a) → IsJudged (level old.driver) old.me old.peers (stood_by takes) (record { thing = x; gave = t })
   judged_here takes old x t new h lowest decisions heard asked =
       let here : IsVerdict (level old.driver) old.me old.peers old.lowest (record { decisions = old.decisions; heard = fresh_in old.journal; asked = (stood_by takes).asked }) x t.verdict =
       same_verdict (level old.driver) old.me old.peers old.lowest (stood_at old) (stood_by takes).asked asked x t.verdict (judged_at old x t new h) in (
@@ -157,8 +157,8 @@ module _ {D : Type 0} (level : D → ℕ → List ℕ → Level) (combined : D �
 
   -- ---- one more
 
-  pub leads_push : (old mid : LedgerView D) (takes : List Taking) (x : Ready) (t : Took) (new : LedgerView D) → Leads level combined old takes mid → Takes level combined mid x t new → Leads level combined old (takes ++ record { thing = x; gave = t } ∷ []) new
-  leads_push old mid [] x t new is h = (new, subst (λ (v : LedgerView D). Takes level combined v x t new) is h, refl)
+  pub leads_push : (old mid : LedgerView D) (takes : List Taking) (x : Ready) (t : Took) (new : LedgerView D) → Leads level extracted combined place old takes mid → Takes level extracted combined place mid x t new → Leads level extracted combined place old (takes ++ record { thing = x; gave = t } ∷ []) new
+  leads_push old mid [] x t new is h = (new, subst (λ (v : LedgerView D). Takes level extracted combined place v x t new) is h, refl)
   leads_push old mid (y ∷ ys) x t new l h = (l.0, l.1, leads_push l.0 mid ys x t new l.2 h)
 
 pub judged_push : (level : ℕ → List ℕ → Level) (me : NodeId) (peers : List NodeId) (earlier takes : List Taking) (t : Taking) → AreJudged level me peers earlier takes → IsJudged level me peers (stood_by (earlier ++ takes)) t → AreJudged level me peers earlier (takes ++ t ∷ [])

@@ -7,5 +7,6 @@ pub mod Ran
 pub mod Standing
 pub mod Stated
 pub mod Outcomes
+pub mod Telling
 pub mod Judging
 pub mod Journaling

@@ -25,8 +25,8 @@ use Rattle.scp_ledger.specs.declared.journal.Verdict.TheVariants.{Decided}
 use Rattle.scp_ledger.specs.Seen.{LedgerView, machine_at, is_asked}
 use Rattle.scp_ledger.specs.Verdicts.{IsOpen, IsRecordVerdict, IsStatementVerdict}
 use Rattle.scp_ledger.specs.Ledger.{HasMachines}
-use Rattle.scp_ledger.specs.Entering.{entries_of}
-use Rattle.scp_ledger.specs.Inside.{state_view, IsTakenOut, Ran, KeepsRest}
+use Rattle.scp_ledger.specs.inside.Entering.{entries_of}
+use Rattle.scp_ledger.specs.inside.State.{state_view, IsTakenOut, Ran, KeepsRest}
 use Rattle.scp_ledger.specs.Takes.{RunsAt, TakesMessage, TakesEnvelope, TakesRecord, IsMachineFor, decision_of, decided_onward, to_peers, verdict_from}
 use Rattle.scp_ledger.proofs.Ran.{knows, statement_verdict}
 
@@ -73,16 +73,16 @@ some_is a b e = cc
 same_else : {D : Type 0} (v w : LedgerView D) → w.me ≡ v.me → w.local ≡ v.local → w.driver ≡ v.driver → w.peers ≡ v.peers → w.failed ≡ v.failed → w.asked ≡ v.asked → w ≡ record v { journal = w.journal; decisions = w.decisions; machines = w.machines; lowest = w.lowest }
 same_else v w a b c d e f = rw (← a, ← b, ← c, ← d, ← e, ← f) refl
 
-module _ {D : Type 0} (level : D → ℕ → List ℕ → Level) (combined : D → ℕ → List (List ℕ) → List ℕ) (place : D → ℕ → ℕ → ℕ → ℕ) where
+module _ {D : Type 0} (level : D → ℕ → List ℕ → Level) (extracted : D → ℕ → List ℕ → Option (List ℕ)) (combined : D → ℕ → List (List ℕ) → List ℕ) (place : D → ℕ → ℕ → ℕ → ℕ) where
   made_for : (s : State D) (at : Slot) (o : Option (SlotMachine D)) (m : SlotMachine D) → IsTakenOut level place s at o m → IsMachineFor (state_view false s) at o m
   made_for s at None m made = (made.begins, made.its_driver)
   made_for s at (Some there) m same = same
 
   -- what came of an input, with the entries of its verdict
   abbrev pub RanAs : State D → State D → Slot → SlotInput → Option Entering → Took → Type 0
-  RanAs s t at given entering took = (verdict : Verdict) × RunsAt level combined (state_view false s) at given (entries_of entering verdict) took (state_view false t) × (took.verdict ≡ Some verdict)
+  RanAs s t at given entering took = (verdict : Verdict) × RunsAt level extracted combined place (state_view false s) at given (entries_of entering verdict) took (state_view false t) × (took.verdict ≡ Some verdict)
 
-  pub ran_as : (old mid new : State D) (at : Slot) (given : SlotInput) (out : SlotOutput) (entering : Option Entering) (took : Took) → IsOpen old.window.lowest old.decisions.items at.0 → Ran level combined place old at given out mid → mid ≡ record old { machines = mid.machines }
+  pub ran_as : (old mid new : State D) (at : Slot) (given : SlotInput) (out : SlotOutput) (entering : Option Entering) (took : Took) → IsOpen old.window.lowest old.decisions.items at.0 → Ran level extracted combined place old at given out mid → mid ≡ record old { machines = mid.machines }
       → took.verdict ≡ Some (verdict_from out.verdict) → took.onward ≡ option_map decided_onward (decision_of at out.decided) → took.outgoing ≡ to_peers out.emitted
       → new.journal.items ≡ mid.journal.items ++ entries_of entering (verdict_from out.verdict) → new.decisions.items ≡ mid.decisions.items ++ option_to_list (decision_of at out.decided) → KeepsRest mid new → RanAs old new at given entering took
   ran_as old mid new at given out entering took is r same verdict onward outgoing journal decisions rest = (
@@ -95,6 +95,10 @@ module _ {D : Type 0} (level : D → ℕ → List ℕ → Level) (combined : D �
       after = r.after;
       takes = r.takes;
       decides = r.decides;
+      ascending = r.ascending;
+      driver = r.its_driver;
+      nominates = r.nominates;
+      votes = r.votes;
       machines = λ s. ap (λ x. machine_at x.entries s) rest.machines ∙ r.machines s;
       verdict = verdict;
       onward = onward;
@@ -113,7 +117,7 @@ module _ {D : Type 0} (level : D → ℕ → List ℕ → Level) (combined : D �
   )
 
   pub envelope_took : (s t : State D) (conn : ConnId) (seq : Seq) (e : Boxed) (set shared : SharedSet) (took : Took) (at : Slot) (x : Enveloped) → HasMachines level place (state_view false s) → at ≡ e.value.statement.slot → x ≡ e.value → shared.value ≡ set.value
-      → RanAs s t at (input.Envelope x shared) (Some (record { conn = conn; seq = seq; envelope = e; set = set })) took → TakesEnvelope level combined (state_view false s) conn seq e (Some set.value) took (state_view false t)
+      → RanAs s t at (input.Envelope x shared) (Some (record { conn = conn; seq = seq; envelope = e; set = set })) took → TakesEnvelope level extracted combined place (state_view false s) conn seq e (Some set.value) took (state_view false t)
   envelope_took s t conn seq e set shared took at x fits at_is x_is set_is ran =
       let entering : Option Entering = Some (record { conn = conn; seq = seq; envelope = e; set = set }) in
       let here : RanAs s t e.value.statement.slot (input.Envelope x shared) entering took = subst (λ (k : Slot). RanAs s t k (input.Envelope x shared) entering took) at_is ran in
@@ -127,18 +131,18 @@ module _ {D : Type 0} (level : D → ℕ → List ℕ → Level) (combined : D �
 
 -- ---- what was delivered, by its parts
 
-module _ {D : Type 0} (level : D → ℕ → List ℕ → Level) (combined : D → ℕ → List (List ℕ) → List ℕ) (old new : LedgerView D) (took : Took) where
-  named_so : (conn conn' : ConnId) (seq seq' : Seq) (m m' : Message) (beside : Option QuorumTree) → conn' ≡ conn → seq' ≡ seq → m' ≡ m → TakesMessage level combined old conn' seq' m' beside took new → TakesMessage level combined old conn seq m beside took new
+module _ {D : Type 0} (level : D → ℕ → List ℕ → Level) (extracted : D → ℕ → List ℕ → Option (List ℕ)) (combined : D → ℕ → List (List ℕ) → List ℕ) (place : D → ℕ → ℕ → ℕ → ℕ) (old new : LedgerView D) (took : Took) where
+  named_so : (conn conn' : ConnId) (seq seq' : Seq) (m m' : Message) (beside : Option QuorumTree) → conn' ≡ conn → seq' ≡ seq → m' ≡ m → TakesMessage level extracted combined place old conn' seq' m' beside took new → TakesMessage level extracted combined place old conn seq m beside took new
   named_so conn conn' seq seq' m m' beside a b c t =
-      subst (λ (x : ConnId). TakesMessage level combined old x seq m beside took new) a
-      (subst (λ (x : Seq). TakesMessage level combined old conn' x m beside took new) b (subst (λ (x : Message). TakesMessage level combined old conn' seq' x beside took new) c t))
+      subst (λ (x : ConnId). TakesMessage level extracted combined place old x seq m beside took new) a
+      (subst (λ (x : Seq). TakesMessage level extracted combined place old conn' x m beside took new) b (subst (λ (x : Message). TakesMessage level extracted combined place old conn' seq' x beside took new) c t))
 
   pub delivered_envelope : (conn conn' : ConnId) (seq seq' : Seq) (m m' : Message) (beside : Option QuorumTree) (found : Option SharedSet) (e : Boxed) (set : SharedSet) → conn' ≡ conn → seq' ≡ seq → m' ≡ m → m' ≡ Envelope e → option_map (λ s. s.value) found ≡ beside → found ≡ Some set
-      → TakesEnvelope level combined old conn' seq' e (Some set.value) took new → TakesMessage level combined old conn seq m beside took new
+      → TakesEnvelope level extracted combined place old conn' seq' e (Some set.value) took new → TakesMessage level extracted combined place old conn seq m beside took new
   delivered_envelope conn conn' seq seq' m m' beside found e set a b c is its set_is t =
       let there : Some set.value ≡ beside = ap (option_map (λ (s : SharedSet). s.value)) (sym set_is) ∙ its in
-      named_so conn conn' seq seq' m (Envelope e) beside a b (sym is ∙ c) (subst (λ (x : Option QuorumTree). TakesEnvelope level combined old conn' seq' e x took new) there t)
+      named_so conn conn' seq seq' m (Envelope e) beside a b (sym is ∙ c) (subst (λ (x : Option QuorumTree). TakesEnvelope level extracted combined place old conn' seq' e x took new) there t)
 
   pub delivered_record : (conn conn' : ConnId) (seq seq' : Seq) (m m' : Message) (beside : Option QuorumTree) (found : Option SharedSet) (at : Slot) (value : List ℕ) → conn' ≡ conn → seq' ≡ seq → m' ≡ m → m' ≡ Record at value → option_map (λ s. s.value) found ≡ beside
-      → TakesRecord old conn' seq' at value found took new → TakesMessage level combined old conn seq m beside took new
+      → TakesRecord old conn' seq' at value found took new → TakesMessage level extracted combined place old conn seq m beside took new
   delivered_record conn conn' seq seq' m m' beside found at value a b c is its t = named_so conn conn' seq seq' m (Record at value) beside a b (sym is ∙ c) (found, its, t)

@@ -37,7 +37,7 @@ use Rattle.scp_ledger.specs.Decisions.{is_decided, IsLowest, IsNext, IsFounded, 
 use Rattle.scp_ledger.specs.Verdicts.{IsOpen, IsStatementVerdict, IsHeardAs, HasItsSet, link_of}
 use Rattle.scp_ledger.specs.Seen.{LedgerView, machine_at}
 use Rattle.scp_ledger.specs.Ledger.{IsLedger, IsMachineOf, FitsMachine, HasMachines, heard_of, heard_at}
-use Rattle.scp_ledger.specs.Entering.{Enters, entries_of}
+use Rattle.scp_ledger.specs.inside.Entering.{Enters, entries_of}
 use Rattle.scp_ledger.specs.Takes.{decision_of, verdict_from, IsMachineFor}
 use Rattle.scp_ledger.proofs.Newest.{newest-passed, newest-pushed}
 use Rattle.scp_ledger.proofs.Boards.{Stepped, brings, taken_in, judged}

@@ -34,7 +34,7 @@ grown c old new fate is = ap (marks_of c) is ∙ flat_map-append (entry_mark c) 
 stayed : (c : ConnId) (old new : List Fate) → new ≡ old → marks_of c new ≡ marks_of c old ++ []
 stayed c old new is = ap (marks_of c) is ∙ sym (append-nil (marks_of c old))
 
-module _ {D : Type 0} (level : D → ℕ → List ℕ → Level) (combined : D → ℕ → List (List ℕ) → List ℕ) (c : ConnId) (old : LedgerView D) (took : Took) (new : LedgerView D) where
+module _ {D : Type 0} (level : D → ℕ → List ℕ → Level) (extracted : D → ℕ → List ℕ → Option (List ℕ)) (combined : D → ℕ → List (List ℕ) → List ℕ) (place : D → ℕ → ℕ → ℕ → ℕ) (c : ConnId) (old : LedgerView D) (took : Took) (new : LedgerView D) where
   passed : (said : Option Verdict) (fates : List Fate) → Passes old said fates took new → new.journal ≡ old.journal ++ fates
   passed said fates p = ap (λ (v : LedgerView D). v.journal) p.same
 
@@ -44,7 +44,7 @@ module _ {D : Type 0} (level : D → ℕ → List ℕ → Level) (combined : D �
     | inr d ↦ (_, d.1.journal)
   ]
 
-  stands_message : (conn : ConnId) (seq : Seq) (m : Message) (beside : Option QuorumTree) → TakesMessage level combined old conn seq m beside took new → (fate : Fate) × (new.journal ≡ old.journal ++ fate ∷ []) × (entry_mark c fate ≡ entry_mark c (Taken conn seq m None Idle))
+  stands_message : (conn : ConnId) (seq : Seq) (m : Message) (beside : Option QuorumTree) → TakesMessage level extracted combined place old conn seq m beside took new → (fate : Fate) × (new.journal ≡ old.journal ++ fate ∷ []) × (entry_mark c fate ≡ entry_mark c (Taken conn seq m None Idle))
   stands_message conn seq (Envelope e) beside t = elim t.5 [
     | inl p ↦ (Taken conn seq (Envelope e) (Some t.0) t.2, passed (Some t.2) (Taken conn seq (Envelope e) (Some t.0) t.2 ∷ []) p.1, refl)
     | inr r ↦ (Taken conn seq (Envelope e) (Some t.0) t.2, r.2.journal, refl)
@@ -56,13 +56,13 @@ module _ {D : Type 0} (level : D → ℕ → List ℕ → Level) (combined : D �
   stands_message conn seq (Records first values) beside t = absurd t
   stands_message conn seq (Record at value) beside t = (let r = recorded conn seq at value t.0 t.2 in (Taken conn seq (Record at value) t.0 r.0, r.1, refl))
 
-  ran_or_passed : (at : Slot) (given : SlotInput) → Commands level combined old at given took new → new.journal ≡ old.journal
+  ran_or_passed : (at : Slot) (given : SlotInput) → Commands level extracted combined place old at given took new → new.journal ≡ old.journal
   ran_or_passed at given t = elim t [
     | inl p ↦ passed (Some p.0) [] p.2 ∙ append-nil old.journal
     | inr r ↦ r.journal ∙ append-nil old.journal
   ]
 
-  stands_command : (command : Command) → TakesCommand level combined old command took new → new.journal ≡ old.journal
+  stands_command : (command : Command) → TakesCommand level extracted combined place old command took new → new.journal ≡ old.journal
   stands_command (Propose at value) t = ran_or_passed at _ t
   stands_command (Round at) t = ran_or_passed at _ t
   stands_command (Timer at) t = ran_or_passed at _ t
@@ -72,7 +72,7 @@ module _ {D : Type 0} (level : D → ℕ → List ℕ → Level) (combined : D �
     | inr a ↦ ap (λ (v : LedgerView D). v.journal) a.1.same
   ]
 
-  pub stands : (r : Ready) → Takes level combined old r took new → marks_of c new.journal ≡ marks_of c old.journal ++ ready_mark c r
+  pub stands : (r : Ready) → Takes level extracted combined place old r took new → marks_of c new.journal ≡ marks_of c old.journal ++ ready_mark c r
   stands (ready.Deliver d) t =
       let m = stands_message d.conn d.seq d.message d.set t in
       grown c old.journal new.journal m.0 m.1 ∙ ap (λ (ms : List Mark). marks_of c old.journal ++ ms) m.2

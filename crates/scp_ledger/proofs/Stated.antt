@@ -32,9 +32,9 @@ use Rattle.scp_ledger.specs.Decisions.{HasItsDecision, named_by}
 use Rattle.scp_ledger.specs.Verdicts.{IsOpen, HasItsSet, link_of}
 use Rattle.scp_ledger.specs.Seen.{machine_at, is_asked, asking_cmp}
 use Rattle.scp_ledger.specs.Ledger.{HasMachines, FitsMachine, IsMachineOf}
-use Rattle.scp_ledger.specs.Entering.{Enters, entries_of, IsQuiet}
-use Rattle.scp_ledger.specs.Window.{IsWindow}
-use Rattle.scp_ledger.specs.Inside.{state_view, IsSound, IsTakenOut, Ran, KeepsRest}
+use Rattle.scp_ledger.specs.inside.Entering.{Enters, entries_of, IsQuiet}
+use Rattle.scp_ledger.specs.inside.Window.{IsWindow}
+use Rattle.scp_ledger.specs.inside.State.{state_view, IsSound, IsTakenOut, Ran, KeepsRest}
 use Rattle.scp_ledger.specs.Takes.{decision_of, verdict_from}
 use Rattle.scp_ledger.proofs.Newest.{newest-passed}
 use Rattle.scp_ledger.proofs.Boards.{stepped}
@@ -53,7 +53,7 @@ entries_length : (entering : Option Entering) (verdict : Verdict) → length (en
 entries_length None verdict = refl
 entries_length (Some e) verdict = refl
 
-module _ {D : Type 0} (level : D → ℕ → List ℕ → Level) (combined : D → ℕ → List (List ℕ) → List ℕ) (place : D → ℕ → ℕ → ℕ → ℕ) where
+module _ {D : Type 0} (level : D → ℕ → List ℕ → Level) (extracted : D → ℕ → List ℕ → Option (List ℕ)) (combined : D → ℕ → List (List ℕ) → List ℕ) (place : D → ℕ → ℕ → ℕ → ℕ) where
   -- ---- the machine that is taken out is that of its slot
 
   taken_fits : (s : State D) (at : Slot) (o : Option (SlotMachine D)) (m : SlotMachine D) → IsOpen s.window.lowest s.decisions.items at.0 → FitsMachine level place s.me s.local.value s.driver s.journal.items s.decisions.items at.0 o → IsTakenOut level place s at o m
@@ -64,7 +64,7 @@ module _ {D : Type 0} (level : D → ℕ → List ℕ → Level) (combined : D �
   pub taken_machine : (s : State D) (at : Slot) (m : SlotMachine D) → IsSound level place s → IsOpen s.window.lowest s.decisions.items at.0 → IsTakenOut level place s at (machine_at s.machines.entries at.0) m → IsMachineOf level place s.me s.local.value s.driver s.journal.items s.decisions.items at.0 m
   taken_machine s at m h is taken = taken_fits s at (machine_at s.machines.entries at.0) m is (h.machines at.0) taken
 
-  pub runs_by : (old mid : State D) (at : Slot) (given : SlotInput) (out : SlotOutput) → IsSound level place old → IsOpen old.window.lowest old.decisions.items at.0 → (r : Ran level combined place old at given out mid) → Runs level place (state_view false old) at given out r.before r.after
+  pub runs_by : (old mid : State D) (at : Slot) (given : SlotInput) (out : SlotOutput) → IsSound level place old → IsOpen old.window.lowest old.decisions.items at.0 → (r : Ran level extracted combined place old at given out mid) → Runs level place (state_view false old) at given out r.before r.after
   runs_by old mid at given out h is r =
       let m = taken_machine old at r.before h is r.taken in
       record {
@@ -78,7 +78,7 @@ module _ {D : Type 0} (level : D → ℕ → List ℕ → Level) (combined : D �
         same_driver = r.its_driver;
       }
 
-  pub sound_ran : (old mid new : State D) (at : Slot) (given : SlotInput) (out : SlotOutput) (entering : Option Entering) → IsSound level place old → IsOpen old.window.lowest old.decisions.items at.0 → Ran level combined place old at given out mid
+  pub sound_ran : (old mid new : State D) (at : Slot) (given : SlotInput) (out : SlotOutput) (entering : Option Entering) → IsSound level place old → IsOpen old.window.lowest old.decisions.items at.0 → Ran level extracted combined place old at given out mid
       → mid ≡ record old { machines = mid.machines } → Enters given entering → slot.IsOfSlot at.0 given → length old.journal.items + length (option_to_list entering) ≤ 1000000
       → new.journal.items ≡ mid.journal.items ++ entries_of entering (verdict_from out.verdict) → new.decisions.items ≡ mid.decisions.items ++ option_to_list (decision_of at out.decided) → IsWindow new.decisions.items new.window → KeepsRest mid new → IsSound level place new
   sound_ran old mid new at given out entering h is r same enters of_slot room journal decisions window rest =

@@ -1,7 +1,7 @@
 -- Where the loop over decided slots stands.
 use Rattle.std.proofs.Common.{◌≡◌, ℕ, ◌<◌, ◌≤◌, true}
 use Rattle.scp_ledger.specs.declared.window.Window.{Window}
-use Rattle.scp_ledger.specs.Window.{is_ahead, IsBounded}
+use Rattle.scp_ledger.specs.inside.Window.{is_ahead, IsBounded}
 
 -- what the window began with, and what it is now
 pub record IsAdvancing (start now : Window) : Type 0 where

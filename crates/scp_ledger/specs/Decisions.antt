@@ -20,6 +20,7 @@ use Rattle.scp_ledger.specs.Seen.{is_asked}
 use Rattle.scp_ledger.specs.Journal.{newest}
 use Rattle.scp_ledger.specs.Certificate.{IsCertificate, IsOwnExternalize}
 
+-- the decision is of the slot
 abbrev pub is_at : ℕ → Decision → Bool
 is_at slot decision = nat_eq decision.slot.0 slot
 
@@ -56,6 +57,7 @@ RestsOn me local link_of asked journal d (Machine n quorum own) =
     IsCertificate me local (λ v. newest d.slot.0 Balloting v journal) d.value n quorum × IsOwnExternalize me local d.slot.0 d.value n own
 RestsOn me local link_of asked journal d (Named conn seq) = IsNamed link_of asked journal d conn seq
 
+-- the decision has what it rests on
 abbrev pub IsFounded : NodeId → QuorumTree → (ConnId → ℕ) → List Asking → List Fate → Decision → Type 0
 IsFounded me local link_of asked journal d = RestsOn me local link_of asked journal d d.origin
 
@@ -65,7 +67,7 @@ pub record IsLowest (decisions : List Decision) (lowest : ℕ) : Type 0 where
   pub decided : (slot : ℕ) → 1 ≤ slot → slot < lowest → is_decided slot decisions ≡ true
   pub undecided : is_decided lowest decisions ≡ false
 
--- a decision after these is of a slot that has none yet, one of the 16 from the lowest such slot on
+-- a decision after these is of a slot that has none yet, one of the 16 from the lowest such slot on (this project's profile)
 pub record IsNext (earlier : List Decision) (d : Decision) : Type 0 where
   pub undecided : is_decided d.slot.0 earlier ≡ false
   pub lowest : ℕ

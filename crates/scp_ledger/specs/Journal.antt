@@ -21,6 +21,7 @@ pub record Heard : Type 0 where
   pub statement : Statement
   pub set : QuorumTree
 
+-- the verdict Fresh
 abbrev pub is_fresh : Verdict → Bool
 is_fresh OldSlot = false
 is_fresh FarSlot = false
@@ -52,13 +53,16 @@ fresh_heard (Taken conn seq message set verdict) = if is_fresh verdict then hear
 fresh_heard (Dropped conn seq cause) = None
 fresh_heard (Closed conn cause) = None
 
+-- the statements of all entries that were taken as fresh, in order
 abbrev pub fresh_in : List Fate → List Heard
 fresh_in [] = []
 fresh_in (fate ∷ fates) = option_to_list (fresh_heard fate) ++ fresh_in fates
 
+-- the last of some statements that were heard
 abbrev pub last_of : List Heard → Option Heard
 last_of hs = fold (λ earlier h. Some h) None hs
 
+-- both nominations, or both ballot statements
 abbrev pub same_kind : StatementKind → StatementKind → Bool
 same_kind Nomination Nomination = true
 same_kind Nomination Balloting = false

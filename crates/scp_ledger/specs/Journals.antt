@@ -35,6 +35,7 @@ pub data Entry : Type 0 where
   dropped : ConnId → Seq → DropCause → Entry
   closed : ConnId → Cause → Entry
 
+-- an entry without its verdict
 abbrev pub entry_in : Fate → Entry
 entry_in (Taken conn seq message set verdict) = taken conn seq message (option_map (λ s. s.value) set)
 entry_in (Dropped conn seq cause) = dropped conn seq cause
@@ -55,7 +56,7 @@ request_by peers fate = []
 -- The slot stage has one entry for each thing that it took but the commands. It gave each decision and each request for a
 -- record once, in their orders, and whom it asked for a slot a command told it to. What each thing gave, and which verdict
 -- stands on it, is that of a run.
-pub record Journals {D : Type 0} (level : D → ℕ → List ℕ → Level) (combined : D → ℕ → List (List ℕ) → List ℕ) (place : D → ℕ → ℕ → ℕ → ℕ) (me : NodeId) (local : QuorumTree) (peers : List NodeId) (took : List Ready) (onwards : List Onward) (v : LedgerView D) : Type 0 where
+pub record Journals {D : Type 0} (level : D → ℕ → List ℕ → Level) (extracted : D → ℕ → List ℕ → Option (List ℕ)) (combined : D → ℕ → List (List ℕ) → List ℕ) (place : D → ℕ → ℕ → ℕ → ℕ) (me : NodeId) (local : QuorumTree) (peers : List NodeId) (took : List Ready) (onwards : List Onward) (v : LedgerView D) : Type 0 where
   pub runs : v.failed ≡ false
   pub me_is : v.me ≡ me
   pub local_is : v.local ≡ local
@@ -67,10 +68,11 @@ pub record Journals {D : Type 0} (level : D → ℕ → List ℕ → Level) (com
   pub takes : List Taking
   pub took_are : things takes ≡ took
   pub onwards_are : onwards_of takes ≡ onwards
-  pub run : IsRun level combined me local peers takes v
+  pub run : IsRun level extracted combined place me local peers takes v
   pub known : IsLedger v
   pub running : LedgerRuns level place v
 
+-- what goes out is an envelope to every peer
 abbrev pub IsToAll : Outgoing → Type 0
 IsToAll (ToAll envelope) = Unit {0}
 IsToAll (To link message) = ⊥
@@ -84,14 +86,15 @@ pub record Grows {D : Type 0} (old : LedgerView D) (t : Took) (new : LedgerView 
   pub decisions : new.decisions ≡ old.decisions ++ decisions_on (option_to_list t.onward)
   pub asked : Any IsToAll t.outgoing → new.asked ≡ old.asked
 
-abbrev pub TakesGrow : {D : Type 0} → (D → ℕ → List ℕ → Level) → (D → ℕ → List (List ℕ) → List ℕ) → Type 0
-TakesGrow {D} level combined = (old : LedgerView D) (x : Ready) (t : Took) (new : LedgerView D) → Takes level combined old x t new → Grows old t new
+-- a take adds to the journal and to the decisions, as `Grows` says
+abbrev pub TakesGrow : {D : Type 0} → (D → ℕ → List ℕ → Level) → (D → ℕ → List ℕ → Option (List ℕ)) → (D → ℕ → List (List ℕ) → List ℕ) → (D → ℕ → ℕ → ℕ → ℕ) → Type 0
+TakesGrow {D} level extracted combined place = (old : LedgerView D) (x : Ready) (t : Took) (new : LedgerView D) → Takes level extracted combined place old x t new → Grows old t new
 
 -- it holds of a ledger that took nothing, and with one thing more
-pub record JournalsPass {D : Type 0} (level : D → ℕ → List ℕ → Level) (combined : D → ℕ → List (List ℕ) → List ℕ) (place : D → ℕ → ℕ → ℕ → ℕ) : Type 0 where
-  pub begins : (me : NodeId) (local : QuorumTree) (peers : List NodeId) (v : LedgerView D) → v ≡ nothing_taken me local v.driver peers → IsLedger v → LedgerRuns level place v → Journals level combined place me local peers [] [] v
-  pub passes : (me : NodeId) (local : QuorumTree) (peers : List NodeId) (old : LedgerView D) (x : Ready) (t : Took) (new : LedgerView D) → Takes level combined old x t new → IsLedger new → (new.failed ≡ false → LedgerRuns level place new) → Passes (Journals level combined place me local peers) (x ∷ []) (option_to_list t.onward) old new
+pub record JournalsPass {D : Type 0} (level : D → ℕ → List ℕ → Level) (extracted : D → ℕ → List ℕ → Option (List ℕ)) (combined : D → ℕ → List (List ℕ) → List ℕ) (place : D → ℕ → ℕ → ℕ → ℕ) : Type 0 where
+  pub begins : (me : NodeId) (local : QuorumTree) (peers : List NodeId) (v : LedgerView D) → v ≡ nothing_taken me local v.driver peers → IsLedger v → LedgerRuns level place v → Journals level extracted combined place me local peers [] [] v
+  pub passes : (me : NodeId) (local : QuorumTree) (peers : List NodeId) (old : LedgerView D) (x : Ready) (t : Took) (new : LedgerView D) → Takes level extracted combined place old x t new → IsLedger new → (new.failed ≡ false → LedgerRuns level place new) → Passes (Journals level extracted combined place me local peers) (x ∷ []) (option_to_list t.onward) old new
 
 -- what it gives next may be sent after all that it gave before
-abbrev pub LedgerKeepsWindow : {D : Type 0} → (D → ℕ → List ℕ → Level) → (D → ℕ → List (List ℕ) → List ℕ) → (D → ℕ → ℕ → ℕ → ℕ) → Type 0
-LedgerKeepsWindow {D} level combined place = (me : NodeId) (local : QuorumTree) (peers : List NodeId) (took : List Ready) (onwards : List Onward) (old : LedgerView D) (x : Ready) (t : Took) (new : LedgerView D) → Takes level combined old x t new → IsLedger new → Journals level combined place me local peers took onwards old → KeepsWindow (onwards ++ option_to_list t.onward) × IfSome t.onward (MaySend onwards)
+abbrev pub LedgerKeepsWindow : {D : Type 0} → (D → ℕ → List ℕ → Level) → (D → ℕ → List ℕ → Option (List ℕ)) → (D → ℕ → List (List ℕ) → List ℕ) → (D → ℕ → ℕ → ℕ → ℕ) → Type 0
+LedgerKeepsWindow {D} level extracted combined place = (me : NodeId) (local : QuorumTree) (peers : List NodeId) (took : List Ready) (onwards : List Onward) (old : LedgerView D) (x : Ready) (t : Took) (new : LedgerView D) → Takes level extracted combined place old x t new → IsLedger new → Journals level extracted combined place me local peers took onwards old → KeepsWindow (onwards ++ option_to_list t.onward) × IfSome t.onward (MaySend onwards)

@@ -1,5 +1,5 @@
 -- What the definitions give together.
-use Rattle.std.specs.Prelude.{◌≡◌, ◌++◌, ℕ, List}
+use Rattle.std.specs.Prelude.{◌≡◌, ◌++◌, ℕ, List, Option}
 use Rattle.scp_types.specs.declared.names.ConnId.{ConnId}
 use Rattle.scp_driver.specs.declared.driver.Level.{Level}
 use Rattle.scp_pending.specs.declared.ready.Ready.{Ready}
@@ -10,5 +10,5 @@ use Rattle.scp_ledger.specs.Takes.{Takes}
 use Rattle.scp_ledger.specs.Marks.{marks_of}
 
 -- of each connection the journal says what the things said that were taken
-abbrev pub JournalStands : {D : Type 0} → (D → ℕ → List ℕ → Level) → (D → ℕ → List (List ℕ) → List ℕ) → Type 0
-JournalStands {D} level combined = (c : ConnId) (old : LedgerView D) (ready : Ready) (took : Took) (new : LedgerView D) → Takes level combined old ready took new → marks_of c new.journal ≡ marks_of c old.journal ++ ready_mark c ready
+abbrev pub JournalStands : {D : Type 0} → (D → ℕ → List ℕ → Level) → (D → ℕ → List ℕ → Option (List ℕ)) → (D → ℕ → List (List ℕ) → List ℕ) → (D → ℕ → ℕ → ℕ → ℕ) → Type 0
+JournalStands {D} level extracted combined place = (c : ConnId) (old : LedgerView D) (ready : Ready) (took : Took) (new : LedgerView D) → Takes level extracted combined place old ready took new → marks_of c new.journal ≡ marks_of c old.journal ++ ready_mark c ready

@@ -9,6 +9,7 @@ use Rattle.scp_vote.specs.declared.claim.StatementKind.{StatementKind}
 use Rattle.scp_slot.specs.declared.machine.SlotMachine.{SlotMachine}
 use Rattle.scp_slot.specs.declared.newest.Heard.{Heard as Kept}
 use Rattle.scp_slot.specs.Slot.{SlotView, slot_view, driver_of, IsSound, IsRunning as IsSlotRunning}
+use Rattle.scp_ledger.specs.declared.journal.TheConstants.{JOURNAL_LIMIT}
 use Rattle.scp_ledger.specs.declared.journal.Fate.{Fate}
 use Rattle.scp_ledger.specs.declared.journal.Decision.{Decision}
 use Rattle.scp_ledger.specs.Seen.{LedgerView, machine_at}
@@ -27,7 +28,7 @@ pub record IsLedger {D : Type 0} (v : LedgerView D) : Type 0 where
   pub named : All (HasItsDecision v.decisions) v.journal
   -- each envelope has its set
   pub sets : All HasItsSet v.journal
-  pub few : length v.journal ≤ 1000000
+  pub few : length v.journal ≤ JOURNAL_LIMIT
 
 -- what a machine keeps of a statement, without the place where the set lies
 abbrev pub heard_of : Kept → Heard
@@ -56,6 +57,7 @@ abbrev pub FitsMachine : {D : Type 0} → (D → ℕ → List ℕ → Level) →
 FitsMachine level place me local driver journal decisions at None = is_decided at decisions ≡ false → (kind : StatementKind) (v : NodeId) → newest at kind v journal ≡ None
 FitsMachine level place me local driver journal decisions at (Some m) = IsMachineOf level place me local driver journal decisions at m
 
+-- of each slot the machine, or that there is none, fits the journal and the decisions
 abbrev pub HasMachines : {D : Type 0} → (D → ℕ → List ℕ → Level) → (D → ℕ → ℕ → ℕ → ℕ) → LedgerView D → Type 0
 HasMachines level place v = (at : ℕ) → FitsMachine level place v.me v.local v.driver v.journal v.decisions at (machine_at v.machines at)
 

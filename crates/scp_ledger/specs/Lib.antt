@@ -7,11 +7,10 @@ pub mod Marks
 pub mod Ledger
 pub mod Fitting
 pub mod Takes
+pub mod CommandFates
 pub mod Laws
-pub mod Window
-pub mod Entering
-pub mod Inside
-pub mod Coding
 pub mod Onwards
 pub mod Runs
 pub mod Journals
+pub mod Kv
+pub mod inside

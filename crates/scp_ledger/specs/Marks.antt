@@ -6,6 +6,7 @@ use Rattle.scp_wire.specs.Marks.{Mark, number, ended, one_if}
 use Rattle.scp_ledger.specs.declared.journal.Fate.{Fate}
 use Rattle.scp_ledger.specs.declared.journal.Fate.TheVariants.{Taken, Dropped, Closed}
 
+-- what one entry says of the connection
 abbrev pub entry_mark : ConnId → Fate → List Mark
 entry_mark c (Taken conn seq message set verdict) = one_if (same_conn conn c) (number seq.0)
 entry_mark c (Dropped conn seq cause) = one_if (same_conn conn c) (number seq.0)

@@ -5,6 +5,7 @@ use Rattle.scp_ledger.specs.declared.took.Onward.{Onward}
 use Rattle.scp_ledger.specs.declared.took.Onward.TheVariants.{Decided, Asked}
 use Rattle.scp_ledger.specs.Decisions.{IsNext, AreInWindow}
 
+-- the decision, where one goes on
 abbrev pub decision_on : Onward → List Decision
 decision_on (Decided d) = d ∷ []
 decision_on (Asked link slot) = []
@@ -13,6 +14,7 @@ decision_on (Asked link slot) = []
 abbrev pub decisions_on : List Onward → List Decision
 decisions_on onwards = flat_map decision_on onwards
 
+-- the request for a record, where one goes on
 abbrev pub request_on : Onward → List Onward
 request_on (Decided d) = []
 request_on (Asked link slot) = Asked link slot ∷ []

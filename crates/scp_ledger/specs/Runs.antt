@@ -1,5 +1,5 @@
 -- A run of the slot stage: what it took, one thing after another, what each gave, and which verdict stands on each.
-use Rattle.std.specs.Prelude.{ℕ, ◌≡◌, Bool, true, false, ◌&&◌, if◌then◌else◌, List, [], ◌∷◌, ◌++◌, Option, Some, None, IsSomeAnd, option_to_list, map, filter, flat_map}
+use Rattle.std.specs.Prelude.{ℕ, ◌≡◌, Bool, false, ◌&&◌, if◌then◌else◌, List, [], ◌∷◌, ◌++◌, Option, Some, None, IsSomeAnd, option_to_list, map, filter, flat_map}
 use Rattle.std.specs.List.{list_any}
 use Rattle.std.specs.BTreeMap as tree
 use Rattle.scp_types.specs.declared.names.ConnId.{ConnId}
@@ -19,7 +19,7 @@ use Rattle.scp_ledger.specs.declared.journal.Decision.{Decision}
 use Rattle.scp_ledger.specs.declared.journal.Fate.{Fate}
 use Rattle.scp_ledger.specs.declared.journal.Fate.TheVariants.{Taken, Dropped, Closed}
 use Rattle.scp_ledger.specs.declared.journal.Verdict.{Verdict}
-use Rattle.scp_ledger.specs.declared.journal.Verdict.TheVariants.{Unasked, Idle, Fresh, Forwarded, Decided}
+use Rattle.scp_ledger.specs.declared.journal.Verdict.TheVariants.{Forwarded}
 use Rattle.scp_ledger.specs.declared.took.Onward.{Onward}
 use Rattle.scp_ledger.specs.declared.took.Took.{Took}
 use Rattle.scp_ledger.specs.Decisions.{IsLowest}
@@ -27,19 +27,22 @@ use Rattle.scp_ledger.specs.Journal.{Heard, is_fresh, is_of, last_of, fresh_in}
 use Rattle.scp_ledger.specs.Onwards.{decisions_on}
 use Rattle.scp_ledger.specs.Seen.{LedgerView, is_asked, asking_cmp}
 use Rattle.scp_ledger.specs.Takes.{Takes, verdict_from}
-use Rattle.scp_ledger.specs.Verdicts.{FirstOf, BehindGate, BehindAlready, IsHeardAs, link_of}
+use Rattle.scp_ledger.specs.Verdicts.{BehindWindow, IsHeardAs, IsVerdictOnRecord, IsVerdictOnAsk, link_of}
 
 -- a thing that was taken, and what came of it
 pub record Taking : Type 0 where
   pub thing : Ready
   pub gave : Took
 
+-- the thing that was taken
 abbrev pub thing_of : Taking → Ready
 thing_of t = t.thing
 
+-- what was taken, in order
 abbrev pub things : List Taking → List Ready
 things takes = map thing_of takes
 
+-- what the take of one thing gave on
 abbrev pub onward_of : Taking → List Onward
 onward_of t = option_to_list t.gave.onward
 
@@ -54,12 +57,13 @@ abbrev pub nothing_taken : {D : Type 0} → NodeId → QuorumTree → D → List
 nothing_taken me local driver peers = record { me = me; local = local; driver = driver; peers = peers; failed = false; journal = []; decisions = []; lowest = 1; asked = []; machines = [] }
 
 -- each was taken by the ledger that the one before it left
-abbrev pub Leads : {D : Type 0} → (D → ℕ → List ℕ → Level) → (D → ℕ → List (List ℕ) → List ℕ) → LedgerView D → List Taking → LedgerView D → Type 0
-Leads {D} level combined old [] new = new ≡ old
-Leads {D} level combined old (t ∷ takes) new = (between : LedgerView D) × Takes level combined old t.thing t.gave between × Leads level combined between takes new
+abbrev pub Leads : {D : Type 0} → (D → ℕ → List ℕ → Level) → (D → ℕ → List ℕ → Option (List ℕ)) → (D → ℕ → List (List ℕ) → List ℕ) → (D → ℕ → ℕ → ℕ → ℕ) → LedgerView D → List Taking → LedgerView D → Type 0
+Leads {D} level extracted combined place old [] new = new ≡ old
+Leads {D} level extracted combined place old (t ∷ takes) new = (between : LedgerView D) × Takes level extracted combined place old t.thing t.gave between × Leads level extracted combined place between takes new
 
 -- ---- what stood before a thing was taken
 
+-- the verdict was Fresh
 abbrev pub was_fresh : Option Verdict → Bool
 was_fresh None = false
 was_fresh (Some verdict) = is_fresh verdict
@@ -75,12 +79,14 @@ heard_beside (GetRecord slot) set = []
 heard_beside (Record slot value) set = []
 heard_beside (Records first values) set = []
 
+-- the statement that a thing brings
 abbrev pub heard_on : Ready → List Heard
 heard_on (ready.Deliver d) = heard_beside d.message d.set
 heard_on (ready.Dropped conn seq cause) = []
 heard_on (ready.Closed conn cause) = []
 heard_on (ready.Local command) = []
 
+-- the statement of an envelope that was taken as fresh
 abbrev pub freshly_heard : Taking → List Heard
 freshly_heard t = if was_fresh t.gave.verdict then heard_on t.thing else []
 
@@ -92,12 +98,14 @@ is_asking a (Timer slot) = false
 is_asking a Tick = false
 is_asking a (Ask link slot) = tree.is_at (asking_cmp (record { link = link; slot = slot })) a
 
+-- the thing is that command
 abbrev pub is_ask : Asking → Ready → Bool
 is_ask a (ready.Deliver d) = false
 is_ask a (ready.Dropped conn seq cause) = false
 is_ask a (ready.Closed conn cause) = false
 is_ask a (ready.Local command) = is_asking a command
 
+-- the thing is that command, and was fresh
 abbrev pub freshly_asks : Asking → Taking → Bool
 freshly_asks a t = was_fresh t.gave.verdict && is_ask a t.thing
 
@@ -116,7 +124,7 @@ stood_by takes = record { decisions = decisions_on (onwards_of takes); heard = f
 -- on a message that came over a connection
 abbrev pub IsMessageVerdict : (ℕ → List ℕ → Level) → NodeId → List NodeId → ℕ → Stood → ConnId → Message → Verdict → Type 0
 IsMessageVerdict level me peers lowest stood conn (Envelope e) verdict =
-    BehindGate lowest stood.decisions e.value.statement.slot.0
+    BehindWindow lowest stood.decisions e.value.statement.slot.0
     (IsHeardAs (level e.value.statement.slot.0) me (last_of (filter (is_of e.value.statement.slot.0 (kind_of_pledges e.value.statement.pledges) e.value.statement.node) stood.heard)) e.value.statement)
     verdict
 IsMessageVerdict level me peers lowest stood conn (GetSet hash) verdict = ⊥
@@ -125,7 +133,7 @@ IsMessageVerdict level me peers lowest stood conn (NoSet hash) verdict = ⊥
 IsMessageVerdict level me peers lowest stood conn (Records first values) verdict = ⊥
 IsMessageVerdict level me peers lowest stood conn (GetRecord at) verdict = verdict ≡ Forwarded
 IsMessageVerdict level me peers lowest stood conn (Record at value) verdict =
-    BehindAlready lowest stood.decisions at.0 (FirstOf (stood.asked (record { link = link_of peers conn; slot = at }) ≡ false) Unasked (λ later. later ≡ Decided)) verdict
+    IsVerdictOnRecord lowest stood.decisions at.0 (stood.asked (record { link = link_of peers conn; slot = at })) verdict
 
 -- what a slot's machine finds
 abbrev pub IsFound : Verdict → Type 0
@@ -133,12 +141,12 @@ IsFound verdict = (found : Found) × (verdict ≡ verdict_from found)
 
 -- on a command; a Tick has none
 abbrev pub IsCommandVerdict : ℕ → Stood → Command → Option Verdict → Type 0
-IsCommandVerdict lowest stood (Propose at value) said = IsSomeAnd said (BehindGate lowest stood.decisions at.0 IsFound)
-IsCommandVerdict lowest stood (Round at) said = IsSomeAnd said (BehindGate lowest stood.decisions at.0 IsFound)
-IsCommandVerdict lowest stood (Timer at) said = IsSomeAnd said (BehindGate lowest stood.decisions at.0 IsFound)
+IsCommandVerdict lowest stood (Propose at value) said = IsSomeAnd said (BehindWindow lowest stood.decisions at.0 IsFound)
+IsCommandVerdict lowest stood (Round at) said = IsSomeAnd said (BehindWindow lowest stood.decisions at.0 IsFound)
+IsCommandVerdict lowest stood (Timer at) said = IsSomeAnd said (BehindWindow lowest stood.decisions at.0 IsFound)
 IsCommandVerdict lowest stood Tick said = said ≡ None
 IsCommandVerdict lowest stood (Ask link at) said =
-    IsSomeAnd said (BehindAlready lowest stood.decisions at.0 (FirstOf (stood.asked (record { link = link; slot = at }) ≡ true) Idle (λ later. later ≡ Fresh)))
+    IsSomeAnd said (IsVerdictOnAsk lowest stood.decisions at.0 (stood.asked (record { link = link; slot = at })))
 
 -- on each thing; what is dropped, and the end of a connection, has none
 abbrev pub IsVerdict : (ℕ → List ℕ → Level) → NodeId → List NodeId → ℕ → Stood → Ready → Option Verdict → Type 0
@@ -158,11 +166,13 @@ AreJudged level me peers earlier (t ∷ takes) = IsJudged level me peers (stood_
 
 -- ---- the journal's verdicts
 
+-- the verdict of an entry
 abbrev pub verdict_in : Fate → List Verdict
 verdict_in (Taken conn seq message set verdict) = verdict ∷ []
 verdict_in (Dropped conn seq cause) = []
 verdict_in (Closed conn cause) = []
 
+-- the verdict, where the thing is a message
 abbrev pub verdict_on : Ready → Option Verdict → List Verdict
 verdict_on (ready.Deliver d) said = option_to_list said
 verdict_on (ready.Dropped conn seq cause) said = []
@@ -174,9 +184,9 @@ abbrev pub verdict_by : Taking → List Verdict
 verdict_by t = verdict_on t.thing t.gave.verdict
 
 -- A ledger of this node, set and peers took these, one after another, and each gave what stands beside it.
-pub record IsRun {D : Type 0} (level : D → ℕ → List ℕ → Level) (combined : D → ℕ → List (List ℕ) → List ℕ) (me : NodeId) (local : QuorumTree) (peers : List NodeId) (takes : List Taking) (v : LedgerView D) : Type 0 where
+pub record IsRun {D : Type 0} (level : D → ℕ → List ℕ → Level) (extracted : D → ℕ → List ℕ → Option (List ℕ)) (combined : D → ℕ → List (List ℕ) → List ℕ) (place : D → ℕ → ℕ → ℕ → ℕ) (me : NodeId) (local : QuorumTree) (peers : List NodeId) (takes : List Taking) (v : LedgerView D) : Type 0 where
   -- the first was taken by a ledger that took nothing, each other one by that which the one before it left
-  pub leads : Leads level combined (nothing_taken me local v.driver peers) takes v
+  pub leads : Leads level extracted combined place (nothing_taken me local v.driver peers) takes v
   -- each verdict is the first that fits over what stood before it
   pub judged : AreJudged (level v.driver) me peers [] takes
   -- and those on messages stand in the journal's entries, in order

@@ -25,9 +25,11 @@ pub record LedgerView (D : Type 0) : Type 0 where
   pub asked : List Asking  -- the links that were asked for a slot, with the slot, the newest slots first
   pub machines : List (ℕ × SlotMachine D)  -- the machines of undecided slots, ascending by slot
 
+-- the machine of the slot, if it has one
 abbrev pub machine_at : {D : Type 0} → List (ℕ × SlotMachine D) → ℕ → Option (SlotMachine D)
 machine_at machines slot = lookup (tree.is_at (nat_cmp slot)) machines
 
+-- by the slots, the newest first, and then by the links
 abbrev pub asking_cmp : Asking → Asking → Ordering
 asking_cmp a b = ordering_then (nat_cmp b.slot.0 a.slot.0) (nat_cmp a.link b.link)
 

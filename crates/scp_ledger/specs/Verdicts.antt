@@ -1,5 +1,5 @@
 -- The verdicts: the first that fits, over the journal, the decisions and the asked slots as they were before.
-use Rattle.std.specs.Prelude.{ℕ, ◌+◌, ◌<◌, ◌≤◌, ◌≡◌, ◌⊎◌, true, false, List, Option, IsSomeAnd, option_map, unwrap_or, position, length}
+use Rattle.std.specs.Prelude.{ℕ, ◌+◌, ◌<◌, ◌≤◌, ◌≡◌, ◌⊎◌, Bool, true, false, List, Option, IsSomeAnd, option_map, unwrap_or, position, length}
 use Rattle.scp_types.specs.declared.names.ConnId.{ConnId}
 use Rattle.scp_types.specs.declared.names.NodeId.{NodeId}
 use Rattle.scp_types.specs.declared.names.Slot.{Slot}
@@ -20,17 +20,17 @@ use Rattle.scp_ledger.specs.Seen.{LedgerView, is_asked}
 use Rattle.scp_ledger.specs.Journal.{Heard, newest}
 use Rattle.scp_ledger.specs.Decisions.{is_decided}
 
--- this verdict where it fits, else what the later ones say
-abbrev pub FirstOf : Type 0 → Verdict → (Verdict → Type 0) → Verdict → Type 0
-FirstOf fits first later verdict = (fits × (verdict ≡ first)) ⊎ ((¬ fits) × later verdict)
+-- this answer where it fits, else what the later ones say
+abbrev pub FirstOf : {A : Type 0} → Type 0 → A → (A → Type 0) → A → Type 0
+FirstOf fits first later answer = (fits × (answer ≡ first)) ⊎ ((¬ fits) × later answer)
 
 -- beyond the 16 slots from the lowest undecided one on, or above the last slot
 abbrev pub IsFar : ℕ → ℕ → Type 0
 IsFar lowest slot = (4294967295 < slot) ⊎ (lowest + 16 ≤ slot)
 
 -- what comes before a slot's machine is asked, for envelopes and the commands of a machine
-abbrev pub BehindGate : ℕ → List Decision → ℕ → (Verdict → Type 0) → Verdict → Type 0
-BehindGate lowest decisions slot later =
+abbrev pub BehindWindow : ℕ → List Decision → ℕ → (Verdict → Type 0) → Verdict → Type 0
+BehindWindow lowest decisions slot later =
     FirstOf (slot < lowest) OldSlot
     (FirstOf (IsFar lowest slot) FarSlot
     (FirstOf (is_decided slot decisions ≡ true) Already
@@ -51,7 +51,7 @@ IsHeardAs level me last s =
 
 -- on a statement
 abbrev pub IsStatementVerdict : {D : Type 0} → (D → ℕ → List ℕ → Level) → LedgerView D → Statement → Verdict → Type 0
-IsStatementVerdict level v s = BehindGate v.lowest v.decisions s.slot.0 (IsHeardAs (level v.driver s.slot.0) v.me (newest s.slot.0 (kind_of_pledges s.pledges) s.node v.journal) s)
+IsStatementVerdict level v s = BehindWindow v.lowest v.decisions s.slot.0 (IsHeardAs (level v.driver s.slot.0) v.me (newest s.slot.0 (kind_of_pledges s.pledges) s.node v.journal) s)
 
 -- what comes before asks are looked up, for records and asks
 abbrev pub BehindAlready : ℕ → List Decision → ℕ → (Verdict → Type 0) → Verdict → Type 0
@@ -60,15 +60,21 @@ BehindAlready lowest decisions slot later =
     (FirstOf (IsFar lowest slot) FarSlot
     later)
 
+-- on a record of a slot, by whether the link that it came over was asked for it
+abbrev pub IsVerdictOnRecord : ℕ → List Decision → ℕ → Bool → Verdict → Type 0
+IsVerdictOnRecord lowest decisions slot asked = BehindAlready lowest decisions slot (FirstOf (asked ≡ false) Unasked (λ verdict. verdict ≡ Decided))
+
+-- on the command to ask a link for a slot, by whether it was asked for it before
+abbrev pub IsVerdictOnAsk : ℕ → List Decision → ℕ → Bool → Verdict → Type 0
+IsVerdictOnAsk lowest decisions slot asked = BehindAlready lowest decisions slot (FirstOf (asked ≡ true) Idle (λ verdict. verdict ≡ Fresh))
+
 -- on a record of a slot that came over a link
 abbrev pub IsRecordVerdict : {D : Type 0} → LedgerView D → ℕ → Slot → Verdict → Type 0
-IsRecordVerdict v link slot =
-    BehindAlready v.lowest v.decisions slot.0 (FirstOf (is_asked v.asked (record { link = link; slot = slot }) ≡ false) Unasked (λ verdict. verdict ≡ Decided))
+IsRecordVerdict v link slot = IsVerdictOnRecord v.lowest v.decisions slot.0 (is_asked v.asked (record { link = link; slot = slot }))
 
 -- on the command to ask a link for a slot
 abbrev pub IsAskVerdict : {D : Type 0} → LedgerView D → ℕ → Slot → Verdict → Type 0
-IsAskVerdict v link slot =
-    BehindAlready v.lowest v.decisions slot.0 (FirstOf (is_asked v.asked (record { link = link; slot = slot }) ≡ true) Idle (λ verdict. verdict ≡ Fresh))
+IsAskVerdict v link slot = IsVerdictOnAsk v.lowest v.decisions slot.0 (is_asked v.asked (record { link = link; slot = slot }))
 
 -- a slot from the lowest undecided one on, in the window, without a decision
 pub record IsOpen (lowest : ℕ) (decisions : List Decision) (slot : ℕ) : Type 0 where

@@ -9,6 +9,9 @@ use scp_wire::{Cause, Message};
 use std::cmp::Ordering;
 use std::sync::Arc;
 
+/// The most entries that a journal may have (this project's profile).
+pub const JOURNAL_LIMIT: usize = 1_000_000;
+
 /// What was found of a message or a command that was taken.
 #[derive(Clone, Copy, Debug, PartialEq, Eq)]
 pub enum Verdict {

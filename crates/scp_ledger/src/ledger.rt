@@ -7,8 +7,9 @@ ghost use Rattle.scp_ledger.specs.Ledger.{IsLedger, IsRunning};
 ghost use Rattle.scp_ledger.specs.Marks.{marks_of};
 ghost use Rattle.scp_ledger.specs.Seen.{machine_at, is_asked};
 ghost use Rattle.scp_ledger.specs.Takes.{Takes, adds_entry};
+ghost use Rattle.scp_ledger.specs.CommandFates.{TellsFate};
 
-use crate::journal::Fate;
+use crate::journal::{Fate, JOURNAL_LIMIT};
 use crate::shared::SharedDecision;
 use crate::state::State;
 use crate::took::Took;
@@ -21,9 +22,6 @@ use std::alloc::Global;
 use std::marker::Model;
 use std::sync::Arc;
 
-/// The most entries that a journal may have (this project's profile).
-pub const JOURNAL_LIMIT: usize = 1_000_000;
-
 /// The slot stage of a node: the journal and the decisions, which grow at their ends alone, and a machine for each undecided
 /// slot that had an input, at most 16. Machines check and combine values by the driver.
 #[derive(Drop)]
@@ -34,16 +32,16 @@ pub struct Ledger<D: Driver + Drop + Copy> {
 
 impl<D: Driver + Drop + Copy> Model for Ledger<D> {
     ghost use Rattle.std.specs.Coded.{codes};
-    ghost use Rattle.scp_xdr.specs.TreeModel.{coded_row};
-    ghost use Rattle.scp_quorum.specs.QuorumTree.{coded_level};
+    ghost use Rattle.scp_xdr.specs.inside.TreeModel.{coded_row};
+    ghost use Rattle.scp_quorum.specs.inside.QuorumTree.{coded_level};
     ghost use Rattle.scp_ledger.specs.Seen.{LedgerView};
-    ghost use Rattle.scp_ledger.specs.Coding.{machine_code};
+    ghost use Rattle.scp_ledger.specs.inside.Coding.{machine_code};
 
     ghost Value = { LedgerView D };
 
     ghost coded = { Prim.hlevel (codes, D.code, machine_code D.code, coded_row coded_level) };
 
-    ghost use Rattle.scp_ledger.specs.Inside.{ledger_view, IsWell};
+    ghost use Rattle.scp_ledger.specs.inside.State.{ledger_view, IsWell};
 
     ghost view = { ledger_view };
 
@@ -124,7 +122,9 @@ impl<D: Driver + Drop + Copy> Ledger<D> {
     /// time grows with the message's length, the work of the slot's machine, and the logarithm of what was asked for.
     pub fn take(&mut self, ready: Ready) -> Result<Took, Fault>
         // The entry, the verdict, the machine, the decision and the answer are these.
-        ensures takes { IfOk result (λ took. Takes D.level D.combined self.old ready took self.new) }
+        ensures takes { IfOk result (λ took. Takes D.level D.extracted D.combined D.place self.old ready took self.new) }
+        // What became of a command.
+        ensures tells { IfOk result (λ took. TellsFate D.level self.old ready took) }
         // What goes out fits a link.
         ensures fits { IfOk result (λ took. All FitsOut took.outgoing) }
         // Of each connection the journal says what the things said that were taken.

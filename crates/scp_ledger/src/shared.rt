@@ -2,14 +2,14 @@
 ghost use Rattle.std.specs.Prelude.{◌≡◌, ◌<◌, ◌≤◌, ◌↔◌, ◌⊎◌, length, IfOk, IfErr, IsOkUnless, IsErrOf};
 
 use crate::journal::Decision;
-use scp_types::Fault;
+use scp_types::{Fault, VALUE_LIMIT};
 use std::alloc::Global;
 use std::marker::Model;
 use std::ops::Deref;
 use std::sync::Arc;
 
 /// The most bytes of a decision's value (this project's profile).
-pub const DECIDED_LIMIT: usize = 4096;
+pub const DECIDED_LIMIT: usize = VALUE_LIMIT;
 
 /// A decision that several lists hold, kept once: its value has at most 4,096 bytes, so that a record of it fits a link.
 /// Contracts see the decision.
@@ -62,6 +62,7 @@ impl Deref for SharedDecision {
 
     ghost deref_gives = { λ s d. d ≡ s };
 
+    /// The decision.
     fn deref(&self) -> &Decision
         ensures { result.now ≡ self.now }
     {

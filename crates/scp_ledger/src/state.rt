@@ -1,5 +1,5 @@
 //! What a ledger keeps, and what it does while it runs.
-ghost use Rattle.std.specs.Prelude.{◌≡◌, ◌↔◌, ◌<◌, ◌≤◌, ◌+◌, ◌++◌, ◌∷◌, [], ℕ, true, false, cond, IsTrue, OnOk, OnErr, IfOk, IfSome, IfNone, IsOkUnless, Some, None, option_to_list, option_map, length};
+ghost use Rattle.std.specs.Prelude.{◌≡◌, ◌↔◌, ◌<◌, ◌≤◌, ◌+◌, ◌++◌, ◌∷◌, [], ℕ, true, false, cond, IsTrue, OnOk, OnErr, IfOk, IfSome, IfNone, IsSomeAnd, IsOkUnless, Some, None, option_to_list, option_map, length};
 ghost use Rattle.std.specs.BTreeMap as tree;
 ghost use Rattle.std.specs.Ordering.{nat_cmp};
 ghost use Rattle.std.specs.Option.{ForSome};
@@ -7,27 +7,33 @@ ghost use Rattle.scp_envelope.specs.Short.{IsShortValue};
 ghost use Rattle.scp_wire.specs.Carried.{is_carried};
 ghost use Rattle.scp_wire.specs.Fitting.{IsFitting};
 ghost use Rattle.scp_wire.specs.Sets.{IsSetOf};
-ghost use Rattle.scp_slot.specs.Slot.{slot_view, driver_of, IsSound as IsSlotSound, IsRunning as IsSlotRunning};
+ghost use Rattle.scp_slot.specs.Slot.{slot_view, driver_of, IsSound as IsSlotSound, IsRunning as IsSlotRunning, VotesWell};
 ghost use Rattle.scp_slot.specs.Limits.{KeepsLimits};
-ghost use Rattle.scp_slot.specs.Takes.{IsOfSlot, Takes as SlotTakes, Decides as SlotDecides};
+ghost use Rattle.scp_slot.specs.Takes.{IsOfSlot, Takes as SlotTakes, Decides as SlotDecides, NominatesExactly};
 ghost use Rattle.scp_ledger.specs.Seen.{machine_at, is_asked};
 ghost use Rattle.scp_ledger.specs.Decisions.{is_decided, named_by};
-ghost use Rattle.scp_ledger.specs.Verdicts.{IsOpen, BehindGate, BehindAlready, IsRecordVerdict, IsAskVerdict, link_of as place_of_link};
-ghost use Rattle.scp_ledger.specs.Window.{IsWindow};
-ghost use Rattle.scp_ledger.specs.Entering.{entries_of as entries_with};
-ghost use Rattle.scp_ledger.specs.Takes.{verdict_from as verdict_as, decision_of as decided_by};
+ghost use Rattle.scp_ledger.specs.Verdicts.{IsOpen, BehindWindow, BehindAlready, IsRecordVerdict, IsAskVerdict, link_of as place_of_link};
+ghost use Rattle.scp_ledger.specs.inside.Window.{IsWindow};
+ghost use Rattle.scp_ledger.specs.inside.Entering.{entries_of as entries_with};
+ghost use Rattle.scp_ledger.specs.Takes.{verdict_from as verdict_as, decision_of as decided_by, HasAscendingNodes};
+ghost use Rattle.scp_ledger.specs.inside.FateBy.{fate_by as fate_as};
+ghost use Rattle.scp_ballot.specs.Balloting.{HasCounter};
+ghost use Rattle.scp_vote.specs.Seen.{seen};
+ghost use Rattle.scp_vote.specs.declared.claim.StatementKind.TheVariants.{Balloting};
 
-use crate::journal::{Asking, Decision, Fate, Origin, Verdict};
+use crate::journal::{Asking, Decision, Fate, JOURNAL_LIMIT, Origin, Verdict};
 use crate::lists::{add, link_of, to_all_peers};
 use crate::quorum::Quorum;
 use crate::shared::SharedDecision;
-use crate::took::{Onward, Outgoing, OutgoingList, Took};
+use crate::took::{CommandFate, Onward, Outgoing, OutgoingList, Took};
 use crate::window::Window;
 use scp_driver::Driver;
+use scp_envelope::Pledges;
 use scp_pending::{Delivery, Ready};
 use scp_quorum::SaneSet;
 use scp_slot::{Certified, SlotInput, SlotMachine, SlotOutput, Verdict as Found};
 use scp_types::{ConnId, Fault, NodeId, Seq, Slot, Value};
+use scp_vote::{Board, StatementKind};
 use scp_wire::{BoxedEnvelope, Command, Message};
 use std::alloc::Global;
 use std::collections::{BTreeMap, BTreeSet};
@@ -50,8 +56,11 @@ pub struct State<D: Driver + Drop + Copy> {
 
 impl<D: Driver + Drop + Copy> State<D> {
     ghost use Rattle.scp_ledger.specs.Takes.{Takes, TakesMessage, TakesCommand, adds_entry, RunsAt, Passes, TakesEnvelope, TakesRecord, TakesAsk, Asks, Forwards, Decides, Commands, decided_onward, to_peers};
-    ghost use Rattle.scp_ledger.specs.Entering.{Enters, IsQuiet};
-    ghost use Rattle.scp_ledger.specs.Inside.{state_view, IsSound, IsTakenOut, Ran, KeepsRest, Leaves, IsMade};
+    ghost use Rattle.scp_ledger.specs.inside.Entering.{Enters, IsQuiet};
+    ghost use Rattle.scp_ledger.specs.inside.FateBy.{IsIdleTimer};
+    ghost use Rattle.scp_ledger.specs.CommandFates.{IsProposalFate, IsRoundFate, IsTimerFate, IsAskFate, TellsCommand, TellsFate};
+    ghost use Rattle.scp_slot.specs.declared.output.SlotInput.TheVariants.{Propose, Round, Timer};
+    ghost use Rattle.scp_ledger.specs.inside.State.{state_view, IsSound, IsTakenOut, Ran, KeepsRest, Leaves, IsMade};
     ghost use Rattle.scp_ledger.specs.Ledger.{HasMachines};
 
     /// Of nothing.
@@ -83,9 +92,9 @@ impl<D: Driver + Drop + Copy> State<D> {
     // ---- which slots are open
 
     /// Why a slot isn't open to envelopes and commands, if it isn't.
-    fn gate(&self, slot: Slot) -> Option<Verdict>
+    fn shut(&self, slot: Slot) -> Option<Verdict>
         requires window { IsWindow self.now.decisions.items self.now.window }
-        ensures shut { IfSome result (BehindGate self.now.window.lowest self.now.decisions.items slot.0 (λ _. ⊥)) }
+        ensures shut { IfSome result (BehindWindow self.now.window.lowest self.now.decisions.items slot.0 (λ _. ⊥)) }
         ensures not_open { IfSome result (λ _. ¬ (IsOpen self.now.window.lowest self.now.decisions.items slot.0)) }
         ensures is_open { IfNone result (IsOpen self.now.window.lowest self.now.decisions.items slot.0) }
     {
@@ -101,7 +110,7 @@ impl<D: Driver + Drop + Copy> State<D> {
     }
 
     /// Why a slot isn't open to records and asks, if it isn't.
-    fn gate_of_records(&self, slot: Slot) -> Option<Verdict>
+    fn shut_to_records(&self, slot: Slot) -> Option<Verdict>
         requires window { IsWindow self.now.decisions.items self.now.window }
         ensures shut { IfSome result (BehindAlready self.now.window.lowest self.now.decisions.items slot.0 (λ _. ⊥)) }
         ensures is_open { IfNone result (IsOpen self.now.window.lowest self.now.decisions.items slot.0) }
@@ -128,7 +137,7 @@ impl<D: Driver + Drop + Copy> State<D> {
         ensures is_open { result ≡ Verdict.Decided → IsOpen self.now.window.lowest self.now.decisions.items slot.0 }
         ensures not_fresh { ¬ (result ≡ Verdict.Fresh) }
     {
-        if let Some(verdict) = self.gate_of_records(slot) {
+        if let Some(verdict) = self.shut_to_records(slot) {
             verdict
         } else if self.was_asked(link, slot) {
             Verdict::Decided
@@ -142,7 +151,7 @@ impl<D: Driver + Drop + Copy> State<D> {
         requires window { IsWindow self.now.decisions.items self.now.window }
         ensures right { IsAskVerdict (state_view false self.now) link slot result }
     {
-        if let Some(verdict) = self.gate_of_records(slot) {
+        if let Some(verdict) = self.shut_to_records(slot) {
             verdict
         } else if self.was_asked(link, slot) {
             Verdict::Idle
@@ -168,7 +177,7 @@ impl<D: Driver + Drop + Copy> State<D> {
         requires sound { IsSound D.level D.place self.old }
         requires is_open { IsOpen self.old.window.lowest self.old.decisions.items slot.0 }
         requires of_slot { IsOfSlot slot.0 input }
-        ensures ran { IfOk result (λ out. Ran D.level D.combined D.place self.old slot input out self.new) }
+        ensures ran { IfOk result (λ out. Ran D.level D.extracted D.combined D.place self.old slot input out self.new) }
         ensures fits { IfOk result KeepsLimits }
         ensures same { self.new ≡ record self.old { machines = self.new.machines } }
         ensures only_memory { IsOkUnless result Fault.NoMemory }
@@ -189,7 +198,7 @@ impl<D: Driver + Drop + Copy> State<D> {
         requires is_open { IsOpen self.old.window.lowest self.old.decisions.items slot.0 }
         requires of_slot { IsOfSlot slot.0 input }
         requires none { machine_at self.old.machines.entries slot.0 ≡ None }
-        ensures ran { IfOk result (λ out. Ran D.level D.combined D.place self.old slot input out self.new) }
+        ensures ran { IfOk result (λ out. Ran D.level D.extracted D.combined D.place self.old slot input out self.new) }
         ensures fits { IfOk result KeepsLimits }
         ensures same { self.new ≡ record self.old { machines = self.new.machines } }
         ensures only_memory { IsOkUnless result Fault.NoMemory }
@@ -235,6 +244,7 @@ impl<D: Driver + Drop + Copy> State<D> {
     /// Adds nothing but an entry.
     fn pass(&mut self, verdict: Option<Verdict>, fate: Fate) -> Result<Took, Fault>
         ensures verdict { IfOk result (λ took. took.verdict ≡ verdict) }
+        ensures untold { IfOk result (λ took. took.command ≡ None) }
         ensures onward { IfOk result (λ took. took.onward ≡ None) }
         ensures outgoing { IfOk result (λ took. took.outgoing ≡ []) }
         ensures journal { OnOk result (self.new.journal.items ≡ self.old.journal.items ++ fate ∷ []) }
@@ -248,6 +258,7 @@ impl<D: Driver + Drop + Copy> State<D> {
         add(&mut self.journal, &mut self.decisions, Some(fate), None)?;
         Ok(Took {
             verdict,
+            command: None,
             onward: None,
             outgoing,
         })
@@ -256,9 +267,10 @@ impl<D: Driver + Drop + Copy> State<D> {
     /// Adds an entry that is of nothing fresh and decides nothing.
     fn pass_entry(&mut self, verdict: Option<Verdict>, fate: Fate) -> Result<Took, Fault>
         requires sound { IsSound D.level D.place self.old }
-        requires room { length self.old.journal.items < 1000000 }
+        requires room { length self.old.journal.items < JOURNAL_LIMIT }
         requires quiet { IsQuiet fate }
         ensures passes { IfOk result (λ took. Passes (state_view false self.old) verdict (fate ∷ []) took (state_view false self.new)) }
+        ensures untold { IfOk result (λ took. took.command ≡ None) }
         ensures sound { OnOk result (IsSound D.level D.place self.new) }
         ensures err { OnErr result (Leaves self.old self.new) }
         ensures only_memory { IsOkUnless result Fault.NoMemory }
@@ -268,10 +280,13 @@ impl<D: Driver + Drop + Copy> State<D> {
 
     /// Answers a command that does nothing.
     fn pass_command(&self, verdict: Option<Verdict>) -> Took
-        ensures { Passes (state_view false self.now) verdict [] result (state_view false self.now) }
+        ensures passes { Passes (state_view false self.now) verdict [] result (state_view false self.now) }
+        ensures verdict { result.verdict ≡ verdict }
+        ensures untold { result.command ≡ None }
     {
         Took {
             verdict,
+            command: None,
             onward: None,
             outgoing: OutgoingList::new(Vec::new(self.alloc)),
         }
@@ -283,6 +298,7 @@ impl<D: Driver + Drop + Copy> State<D> {
         requires window { IsWindow self.old.decisions.items self.old.window }
         requires is_open { IsOpen self.old.window.lowest self.old.decisions.items slot.0 }
         ensures verdict { IfOk result (λ took. took.verdict ≡ Some (verdict_as out.verdict)) }
+        ensures untold { IfOk result (λ took. took.command ≡ None) }
         ensures onward { IfOk result (λ took. took.onward ≡ option_map decided_onward (decided_by slot out.decided)) }
         ensures outgoing { IfOk result (λ took. took.outgoing ≡ to_peers out.emitted) }
         ensures journal { OnOk result (self.new.journal.items ≡ self.old.journal.items ++ option_to_list fate) }
@@ -302,6 +318,7 @@ impl<D: Driver + Drop + Copy> State<D> {
         let onward = self.conclude_some(slot, decided, fate)?;
         Ok(Took {
             verdict: Some(verdict_from(verdict)),
+            command: None,
             onward,
             outgoing,
         })
@@ -375,11 +392,12 @@ impl<D: Driver + Drop + Copy> State<D> {
         entering: Option<Entering>,
     ) -> Result<Took, Fault>
         requires sound { IsSound D.level D.place self.old }
-        requires room { length self.old.journal.items + length (option_to_list entering) ≤ 1000000 }
+        requires room { length self.old.journal.items + length (option_to_list entering) ≤ JOURNAL_LIMIT }
         requires is_open { IsOpen self.old.window.lowest self.old.decisions.items slot.0 }
         requires of_slot { IsOfSlot slot.0 input }
         requires entry { Enters input entering }
-        ensures ran { IfOk result (λ took. (verdict : Verdict) × RunsAt D.level D.combined (state_view false self.old) slot input (entries_with entering verdict) took (state_view false self.new) × (took.verdict ≡ Some verdict)) }
+        ensures ran { IfOk result (λ took. (verdict : Verdict) × RunsAt D.level D.extracted D.combined D.place (state_view false self.old) slot input (entries_with entering verdict) took (state_view false self.new) × (took.verdict ≡ Some verdict)) }
+        ensures untold { IfOk result (λ took. took.command ≡ None) }
         ensures sound { OnOk result (IsSound D.level D.place self.new) }
         ensures err { OnErr result (Leaves self.old self.new) }
         ensures only_memory { IsOkUnless result Fault.NoMemory }
@@ -398,15 +416,16 @@ impl<D: Driver + Drop + Copy> State<D> {
         set: Arc<SaneSet>,
     ) -> Result<Took, Fault>
         requires sound { IsSound D.level D.place self.old }
-        requires room { length self.old.journal.items < 1000000 }
+        requires room { length self.old.journal.items < JOURNAL_LIMIT }
         requires its_set { IsSetOf (Message.Envelope envelope) (Some set.value) }
-        ensures takes { IfOk result (λ took. TakesEnvelope D.level D.combined (state_view false self.old) conn seq envelope (Some set.value) took (state_view false self.new)) }
+        ensures takes { IfOk result (λ took. TakesEnvelope D.level D.extracted D.combined D.place (state_view false self.old) conn seq envelope (Some set.value) took (state_view false self.new)) }
+        ensures untold { IfOk result (λ took. took.command ≡ None) }
         ensures sound { OnOk result (IsSound D.level D.place self.new) }
         ensures err { OnErr result (Leaves self.old self.new) }
         ensures only_memory { IsOkUnless result Fault.NoMemory }
     {
         let slot = slot_of(&envelope);
-        if let Some(verdict) = self.gate(slot) {
+        if let Some(verdict) = self.shut(slot) {
             return self.pass_entry(
                 Some(verdict),
                 Fate::Taken {
@@ -436,9 +455,10 @@ impl<D: Driver + Drop + Copy> State<D> {
         set: Option<Arc<SaneSet>>,
     ) -> Result<Took, Fault>
         requires sound { IsSound D.level D.place self.old }
-        requires room { length self.old.journal.items < 1000000 }
+        requires room { length self.old.journal.items < JOURNAL_LIMIT }
         requires its_set { IsSetOf (Message.GetRecord slot) (option_map (λ s. s.value) set) }
         ensures takes { IfOk result (λ took. Forwards (state_view false self.old) conn seq slot set took (state_view false self.new)) }
+        ensures untold { IfOk result (λ took. took.command ≡ None) }
         ensures sound { OnOk result (IsSound D.level D.place self.new) }
         ensures err { OnErr result (Leaves self.old self.new) }
         ensures only_memory { IsOkUnless result Fault.NoMemory }
@@ -456,6 +476,7 @@ impl<D: Driver + Drop + Copy> State<D> {
         )?;
         Ok(Took {
             verdict: took.verdict,
+            command: None,
             onward: Some(Onward::Asked { link, slot }),
             outgoing: took.outgoing,
         })
@@ -470,10 +491,11 @@ impl<D: Driver + Drop + Copy> State<D> {
         set: Option<Arc<SaneSet>>,
     ) -> Result<Took, Fault>
         requires sound { IsSound D.level D.place self.old }
-        requires room { length self.old.journal.items < 1000000 }
+        requires room { length self.old.journal.items < JOURNAL_LIMIT }
         requires its_set { IsSetOf (Message.Record slot value) (option_map (λ s. s.value) set) }
         requires fits { IsFitting (Message.Record slot value) }
         ensures takes { IfOk result (λ took. TakesRecord (state_view false self.old) conn seq slot value set took (state_view false self.new)) }
+        ensures untold { IfOk result (λ took. took.command ≡ None) }
         ensures sound { OnOk result (IsSound D.level D.place self.new) }
         ensures err { OnErr result (Leaves self.old self.new) }
         ensures only_memory { IsOkUnless result Fault.NoMemory }
@@ -504,13 +526,14 @@ impl<D: Driver + Drop + Copy> State<D> {
         set: Option<Arc<SaneSet>>,
     ) -> Result<Took, Fault>
         requires sound { IsSound D.level D.place self.old }
-        requires room { length self.old.journal.items < 1000000 }
+        requires room { length self.old.journal.items < JOURNAL_LIMIT }
         requires its_set { IsSetOf (Message.Record slot value) (option_map (λ s. s.value) set) }
         requires fits { IsFitting (Message.Record slot value) }
         requires is_open { IsOpen self.old.window.lowest self.old.decisions.items slot.0 }
         requires asked { is_asked self.old.asked.keys (record { link = place_of_link self.old.peers.items conn; slot = slot }) ≡ true }
         ensures verdict { IfOk result (λ took. took.verdict ≡ Some Verdict.Decided) }
         ensures decides { IfOk result (λ took. Decides (state_view false self.old) conn seq slot value set took (state_view false self.new)) }
+        ensures untold { IfOk result (λ took. took.command ≡ None) }
         ensures sound { OnOk result (IsSound D.level D.place self.new) }
         ensures err { OnErr result (Leaves self.old self.new) }
         ensures only_memory { IsOkUnless result Fault.NoMemory }
@@ -527,6 +550,7 @@ impl<D: Driver + Drop + Copy> State<D> {
         let onward = self.conclude(decision, Some(fate))?;
         Ok(Took {
             verdict: Some(Verdict::Decided),
+            command: None,
             onward: Some(onward),
             outgoing: OutgoingList::new(Vec::new(self.alloc)),
         })
@@ -536,18 +560,77 @@ impl<D: Driver + Drop + Copy> State<D> {
         requires sound { IsSound D.level D.place self.old }
         requires entry { Enters input None }
         requires of_slot { IsOfSlot slot.0 input }
-        ensures takes { IfOk result (λ took. Commands D.level D.combined (state_view false self.old) slot input took (state_view false self.new)) }
+        ensures takes { IfOk result (λ took. Commands D.level D.extracted D.combined D.place (state_view false self.old) slot input took (state_view false self.new)) }
         ensures sound { OnOk result (IsSound D.level D.place self.new) }
         ensures err { OnErr result (Leaves self.old self.new) }
         ensures only_memory { IsOkUnless result Fault.NoMemory }
     {
-        if let Some(verdict) = self.gate(slot) {
+        if let Some(verdict) = self.shut(slot) {
             return Ok(self.pass_command(Some(verdict)));
         }
         self.take_input(slot, input, None)
     }
 
+    fn take_proposal(&mut self, slot: Slot, value: Value) -> Result<Took, Fault>
+        requires sound { IsSound D.level D.place self.old }
+        ensures takes { IfOk result (λ took. Commands D.level D.extracted D.combined D.place (state_view false self.old) slot (Propose value) took (state_view false self.new)) }
+        ensures tells { IfOk result (λ took. IsSomeAnd took.command (IsProposalFate D.level (state_view false self.old) slot value)) }
+        ensures sound { OnOk result (IsSound D.level D.place self.new) }
+        ensures err { OnErr result (Leaves self.old self.new) }
+        ensures only_memory { IsOkUnless result Fault.NoMemory }
+    {
+        let took = self.take_command(slot, SlotInput::Propose(value))?;
+        Ok(told(took, CommandFate::ProposedBefore, CommandFate::Proposed))
+    }
+
+    fn take_round(&mut self, slot: Slot) -> Result<Took, Fault>
+        requires sound { IsSound D.level D.place self.old }
+        ensures takes { IfOk result (λ took. Commands D.level D.extracted D.combined D.place (state_view false self.old) slot (Round) took (state_view false self.new)) }
+        ensures tells { IfOk result (λ took. IsSomeAnd took.command (IsRoundFate (state_view false self.old) slot)) }
+        ensures sound { OnOk result (IsSound D.level D.place self.new) }
+        ensures err { OnErr result (Leaves self.old self.new) }
+        ensures only_memory { IsOkUnless result Fault.NoMemory }
+    {
+        let took = self.take_command(slot, SlotInput::Round)?;
+        Ok(told(took, CommandFate::NoRoundLeft, CommandFate::RoundAdded))
+    }
+
+    fn take_timer(&mut self, slot: Slot) -> Result<Took, Fault>
+        requires sound { IsSound D.level D.place self.old }
+        ensures takes { IfOk result (λ took. Commands D.level D.extracted D.combined D.place (state_view false self.old) slot (Timer) took (state_view false self.new)) }
+        ensures tells { IfOk result (λ took. IsSomeAnd took.command (IsTimerFate (state_view false self.old) slot took.outgoing)) }
+        ensures sound { OnOk result (IsSound D.level D.place self.new) }
+        ensures err { OnErr result (Leaves self.old self.new) }
+        ensures only_memory { IsOkUnless result Fault.NoMemory }
+    {
+        let idle = self.idle_timer(slot);
+        let took = self.take_command(slot, SlotInput::Timer)?;
+        Ok(told(took, idle, CommandFate::BallotMoved))
+    }
+
+    /// What became of a timer that gives no statement.
+    fn idle_timer(&self, slot: Slot) -> CommandFate
+        ensures { IsIdleTimer (machine_at self.now.machines.entries slot.0) result }
+    {
+        match self.machines.get(&slot.0) {
+            Some(machine) => idle_timer_of(has_ballot(machine.balloter().board())),
+            None => CommandFate::NoBallot,
+        }
+    }
+
     fn take_ask(&mut self, link: u8, slot: Slot) -> Result<Took, Fault>
+        requires sound { IsSound D.level D.place self.old }
+        ensures takes { IfOk result (λ took. TakesAsk (state_view false self.old) link slot took (state_view false self.new)) }
+        ensures tells { IfOk result (λ took. IsSomeAnd took.command (IsAskFate (state_view false self.old) link slot)) }
+        ensures sound { OnOk result (IsSound D.level D.place self.new) }
+        ensures err { OnErr result (Leaves self.old self.new) }
+        ensures only_memory { IsOkUnless result Fault.NoMemory }
+    {
+        let took = self.ask_or_pass(link, slot)?;
+        Ok(told(took, CommandFate::AskedBefore, CommandFate::Asked))
+    }
+
+    fn ask_or_pass(&mut self, link: u8, slot: Slot) -> Result<Took, Fault>
         requires sound { IsSound D.level D.place self.old }
         ensures takes { IfOk result (λ took. TakesAsk (state_view false self.old) link slot took (state_view false self.new)) }
         ensures sound { OnOk result (IsSound D.level D.place self.new) }
@@ -574,6 +657,7 @@ impl<D: Driver + Drop + Copy> State<D> {
         self.asked.insert(Asking { link, slot })?;
         Ok(Took {
             verdict: Some(Verdict::Fresh),
+            command: None,
             onward: None,
             outgoing: OutgoingList::new(outgoing),
         })
@@ -583,8 +667,9 @@ impl<D: Driver + Drop + Copy> State<D> {
     /// nothing else may be used after it.
     pub fn take(&mut self, ready: Ready) -> Result<Took, Fault>
         requires sound { IsSound D.level D.place self.old }
-        requires room { adds_entry ready ≡ true → length self.old.journal.items < 1000000 }
-        ensures takes { IfOk result (λ took. Takes D.level D.combined (state_view false self.old) ready took (state_view false self.new)) }
+        requires room { adds_entry ready ≡ true → length self.old.journal.items < JOURNAL_LIMIT }
+        ensures takes { IfOk result (λ took. Takes D.level D.extracted D.combined D.place (state_view false self.old) ready took (state_view false self.new)) }
+        ensures tells { IfOk result (λ took. TellsFate D.level (state_view false self.old) ready took) }
         ensures sound { OnOk result (IsSound D.level D.place self.new) }
         ensures err { OnErr result (Leaves self.old self.new) }
         ensures only_memory { IsOkUnless result Fault.NoMemory }
@@ -601,8 +686,9 @@ impl<D: Driver + Drop + Copy> State<D> {
 
     fn deliver(&mut self, delivery: Delivery) -> Result<Took, Fault>
         requires sound { IsSound D.level D.place self.old }
-        requires room { length self.old.journal.items < 1000000 }
-        ensures takes { IfOk result (λ took. TakesMessage D.level D.combined (state_view false self.old) delivery.conn delivery.seq delivery.message delivery.set took (state_view false self.new)) }
+        requires room { length self.old.journal.items < JOURNAL_LIMIT }
+        ensures takes { IfOk result (λ took. TakesMessage D.level D.extracted D.combined D.place (state_view false self.old) delivery.conn delivery.seq delivery.message delivery.set took (state_view false self.new)) }
+        ensures untold { IfOk result (λ took. took.command ≡ None) }
         ensures sound { OnOk result (IsSound D.level D.place self.new) }
         ensures err { OnErr result (Leaves self.old self.new) }
         ensures only_memory { IsOkUnless result Fault.NoMemory }
@@ -625,15 +711,16 @@ impl<D: Driver + Drop + Copy> State<D> {
 
     fn command(&mut self, command: Command) -> Result<Took, Fault>
         requires sound { IsSound D.level D.place self.old }
-        ensures takes { IfOk result (λ took. TakesCommand D.level D.combined (state_view false self.old) command took (state_view false self.new)) }
+        ensures takes { IfOk result (λ took. TakesCommand D.level D.extracted D.combined D.place (state_view false self.old) command took (state_view false self.new)) }
+        ensures tells { IfOk result (λ took. TellsCommand D.level (state_view false self.old) command took) }
         ensures sound { OnOk result (IsSound D.level D.place self.new) }
         ensures err { OnErr result (Leaves self.old self.new) }
         ensures only_memory { IsOkUnless result Fault.NoMemory }
     {
         match command {
-            Command::Propose(slot, value) => self.take_command(slot, SlotInput::Propose(value)),
-            Command::Round(slot) => self.take_command(slot, SlotInput::Round),
-            Command::Timer(slot) => self.take_command(slot, SlotInput::Timer),
+            Command::Propose(slot, value) => self.take_proposal(slot, value),
+            Command::Round(slot) => self.take_round(slot),
+            Command::Timer(slot) => self.take_timer(slot),
             Command::Tick => Ok(self.pass_command(None)),
             Command::Ask(link, slot) => self.take_ask(link, slot),
         }
@@ -658,6 +745,63 @@ fn is_deciding(verdict: Verdict) -> bool
     verdict == Verdict::Decided
 }
 
+/// What came of a command, with its fate by its verdict: `idle` where nothing changed, `fresh` where something did.
+fn told(took: Took, idle: CommandFate, fresh: CommandFate) -> Took
+    ensures { result ≡ record took { command = Some (fate_as took.verdict idle fresh) } }
+{
+    let command = Some(fate_by(took.verdict, idle, fresh));
+    Took {
+        verdict: took.verdict,
+        command,
+        onward: took.onward,
+        outgoing: took.outgoing,
+    }
+}
+
+fn fate_by(verdict: Option<Verdict>, idle: CommandFate, fresh: CommandFate) -> CommandFate
+    ensures { result ≡ fate_as verdict idle fresh }
+{
+    match verdict {
+        Some(Verdict::OldSlot) => CommandFate::OldSlot,
+        Some(Verdict::FarSlot) => CommandFate::FarSlot,
+        Some(Verdict::Already) => CommandFate::Decided,
+        Some(Verdict::BadValue) => CommandFate::BadValue,
+        Some(Verdict::Idle) => idle,
+        _ => fresh,
+    }
+}
+
+fn idle_timer_of(has_ballot: bool) -> CommandFate
+    ensures with { IsTrue has_ballot → result ≡ CommandFate.BallotStays }
+    ensures without { ¬ (IsTrue has_ballot) → result ≡ CommandFate.NoBallot }
+{
+    if has_ballot {
+        CommandFate::BallotStays
+    } else {
+        CommandFate::NoBallot
+    }
+}
+
+/// Whether the own ballot statement is there, and is no PREPARE of counter 0.
+fn has_ballot(board: &Board) -> bool
+    ensures { IsTrue result ↔ IsSomeAnd ((seen Balloting board.now).statement (seen Balloting board.now).me) HasCounter }
+{
+    match board.own(StatementKind::Balloting) {
+        Some(envelope) => has_counter(&envelope.get().statement.pledges),
+        None => false,
+    }
+}
+
+fn has_counter(pledges: &Pledges) -> bool
+    ensures { IsTrue result ↔ HasCounter pledges.now }
+{
+    match pledges {
+        Pledges::Prepare(prepare) => prepare.ballot.counter != 0,
+        Pledges::Confirm(_) | Pledges::Externalize(_) => true,
+        Pledges::Nominate(_) => false,
+    }
+}
+
 /// Gives an input to a machine. Want of memory is the one refusal that it tells.
 fn enter<D: Driver + Drop + Copy>(
     machine: &mut SlotMachine<D>,
@@ -667,6 +811,9 @@ fn enter<D: Driver + Drop + Copy>(
     requires of_slot { IsOfSlot (slot_view machine.old).slot input }
     ensures takes { IfOk result (λ out. SlotTakes (D.level (driver_of machine.old) (slot_view machine.old).slot) (D.combined (driver_of machine.old) (slot_view machine.old).nomination.slot) input (slot_view machine.old) out (slot_view machine.new)) }
     ensures decides { IfOk result (λ out. SlotDecides (slot_view machine.old) out (slot_view machine.new)) }
+    ensures ascending { IfOk result (λ out. ForSome out.decided HasAscendingNodes) }
+    ensures nominates { OnOk result (NominatesExactly D.level D.extracted D.place (slot_view machine.old) input machine.new) }
+    ensures votes { OnOk result (VotesWell D.level D.extracted D.place (slot_view machine.old) machine.new) }
     ensures fits { IfOk result KeepsLimits }
     ensures running { OnOk result (IsSlotRunning (slot_view machine.new)) }
     ensures driver { OnOk result (driver_of machine.new ≡ driver_of machine.old) }
@@ -674,8 +821,20 @@ fn enter<D: Driver + Drop + Copy>(
     ensures only_memory { IsOkUnless result Fault.NoMemory }
 {
     match machine.input(input) {
-        Ok(out) => Ok(out),
+        Ok(out) => {
+            see_that_it_ascends(&out.decided);
+            Ok(out)
+        }
         Err(_) => Err(Fault::NoMemory),
+    }
+}
+
+/// Does nothing: a set's nodes ascend, and the list of a certificate's nodes is that of its set.
+fn see_that_it_ascends(decided: &Option<Certified>)
+    ensures { ForSome decided.now HasAscendingNodes }
+{
+    if let Some(certified) = decided {
+        let _ = certified.quorum.len();
     }
 }
 

@@ -31,8 +31,8 @@ pub struct OutgoingList(Vec<Outgoing>);
 
 impl Model for OutgoingList {
     ghost use Rattle.std.specs.Coded.{codes};
-    ghost use Rattle.scp_xdr.specs.TreeModel.{coded_row};
-    ghost use Rattle.scp_quorum.specs.QuorumTree.{coded_level};
+    ghost use Rattle.scp_xdr.specs.inside.TreeModel.{coded_row};
+    ghost use Rattle.scp_quorum.specs.inside.QuorumTree.{coded_level};
     ghost use Rattle.std.specs.Prelude.{List};
     ghost use Rattle.scp_ledger.specs.declared.took.Outgoing.{Outgoing};
     ghost use Rattle.std.specs.Prelude.{All};
@@ -77,11 +77,44 @@ impl OutgoingList {
     }
 }
 
+/// What became of a command.
+#[derive(Clone, Copy, Debug, PartialEq, Eq)]
+pub enum CommandFate {
+    /// Its slot is below the lowest undecided one.
+    OldSlot,
+    /// Its slot is above 4,294,967,295, or 16 or more above the lowest undecided one.
+    FarSlot,
+    /// Its slot has a decision; of an ask also: it is below the lowest undecided one.
+    Decided,
+    /// The proposal isn't fully validated.
+    BadValue,
+    /// A proposal for the slot was kept before.
+    ProposedBefore,
+    /// The proposal is kept.
+    Proposed,
+    /// All rounds of nomination are used.
+    NoRoundLeft,
+    /// A round of nomination was added.
+    RoundAdded,
+    /// The timer ran out, and there is no ballot yet.
+    NoBallot,
+    /// The timer ran out, and no own ballot statement goes out though there is a ballot, as with its counter at its greatest.
+    BallotStays,
+    /// The timer ran out, and an own ballot statement goes out.
+    BallotMoved,
+    /// The link was asked for the slot before.
+    AskedBefore,
+    /// The link is asked for the slot.
+    Asked,
+}
+
 /// What came of a thing that was taken.
 #[derive(Debug, Drop)]
 pub struct Took {
     /// What was found of a message or a command; none of what is neither, and of a Tick.
     pub verdict: Option<Verdict>,
+    /// What became of a command; none of what is no command, and of a Tick.
+    pub command: Option<CommandFate>,
     /// What goes on to the applier, if anything does.
     pub onward: Option<Onward>,
     /// What goes out to peers: own statements, for all of them, and the request of a fresh ask.

@@ -2,7 +2,7 @@
 ghost use Rattle.std.specs.Prelude.{◌≡◌, ◌<◌, ◌≤◌, ◌+◌, ◌++◌, ◌∷◌, [], ◌↔◌, IsTrue, List, OnOk, IsOkUnless, false};
 ghost use Rattle.scp_ledger.specs.declared.journal.Decision.{Decision};
 ghost use Rattle.scp_ledger.specs.Verdicts.{IsFar};
-ghost use Rattle.scp_ledger.specs.Window.{is_ahead, IsBounded, IsWindow, Passes};
+ghost use Rattle.scp_ledger.specs.inside.Window.{is_ahead, IsBounded, IsWindow, Passes};
 
 use scp_types::{Fault, Slot};
 use std::alloc::Global;

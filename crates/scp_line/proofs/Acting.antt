@@ -4,7 +4,7 @@ use Rattle.std.specs.Prelude.{Ok, Err}
 use Rattle.scp_types.specs.declared.fault.Fault.TheVariants.{Full as full}
 use Rattle.scp_core.specs.declared.event.Reply.{Reply}
 use Rattle.scp_core.specs.declared.event.Reply.TheVariants.{Full}
-use Rattle.scp_network.specs.Inside.{NetworkView}
+use Rattle.scp_network.specs.Network.{NetworkView}
 use Rattle.scp_script.specs.declared.command.Command.{Command}
 use Rattle.scp_line.specs.declared.playing.PlayFault.{PlayFault}
 use Rattle.scp_line.specs.Nodes.{Offers, Settles, ActsAgain}

@@ -11,7 +11,9 @@ use Rattle.scp_types.specs.declared.names.ConnId.{ConnId}
 use Rattle.scp_ledger.specs.declared.journal.Fate.{Fate}
 use Rattle.scp_wire.specs.Connections.{same_conn}
 use Rattle.scp_line.specs.declared.report.Parked.{Parked}
-use Rattle.scp_line.specs.Report.{conn_cmp, conn_of, conn_parked, conns_of, AreConnections}
+use Rattle.scp_types.specs.Order.{conn_cmp}
+use Rattle.scp_theorem.specs.Fates.{conn_of}
+use Rattle.scp_line.specs.Report.{conn_parked, conns_of, AreConnections}
 use Rattle.scp_line.proofs.Sections.{ties, same_is_equal}
 
 conn_cmp_total : IsTotalOrder conn_cmp

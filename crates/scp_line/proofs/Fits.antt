@@ -11,8 +11,9 @@ use Rattle.scp_types.specs.declared.fault.Fault.TheVariants.{NoMemory, BadConfig
 use Rattle.scp_quorum.specs.QuorumTree.{QuorumTree}
 use Rattle.scp_quorum.specs.Sane.{IsSane}
 use Rattle.scp_core.specs.declared.config.Config.{Config}
-use Rattle.scp_account.specs.Fates.{is_among}
-use Rattle.scp_core.specs.Config.{IsInRange, AreInRange, IsFit, IsConfig, are_apart}
+use Rattle.scp_theorem.specs.Fates.{is_among}
+use Rattle.scp_types.specs.Range.{IsInRange}
+use Rattle.scp_core.specs.Config.{AreInRange, IsFit, IsConfig, are_apart}
 use Rattle.scp_core.specs.Node.{NodeView}
 use Rattle.scp_script.specs.declared.command.Command.{Command}
 use Rattle.scp_script.specs.declared.command.Command.TheVariants.{Caps, Nodes, Set, Open, Close, Send, Propose, Round, Timer, Tick, Ask, Settle, Wait, Report}

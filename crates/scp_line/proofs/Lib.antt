@@ -14,4 +14,5 @@ pub mod Making
 pub mod Reports
 pub mod Scripts
 pub mod Threaded
+pub mod Headlines
 pub mod Others

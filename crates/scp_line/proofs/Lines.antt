@@ -12,14 +12,15 @@ use Rattle.scp_core.specs.declared.event.Reply.TheVariants.{Failed, NoLink, Alre
 use Rattle.scp_core.specs.Node.{NodeView, Step, Accepts}
 use Rattle.scp_network.specs.Heard.{Nodes, Heard, IsHeard, HaveHeard, Then}
 use Rattle.scp_network.specs.Rounds.{Rests, Breaks, AllRun, HasFailed, link_of}
-use Rattle.scp_network.specs.Inside.{Hear, NetworkView}
+use Rattle.scp_network.specs.Network.{Hear, NetworkView}
 use Rattle.scp_script.specs.declared.command.Command.{Command}
 use Rattle.scp_script.specs.declared.command.Command.TheVariants as script
 use Rattle.scp_script.specs.Script.{node_count}
 use Rattle.scp_script.specs.Nodes.{NamesNodes, IsSmall}
 use Rattle.scp_line.specs.declared.playing.PlayFault.{PlayFault}
 use Rattle.scp_line.specs.Play.{Answers, IsOffered, HearsBy, Hears, Played, ArePlayed, BreaksBy, LineBreaks, HasNoRoom, config_of, driven_in, event_by}
-use Rattle.scp_line.specs.Nodes.{AreWho, brings_to_rest, IsMissed, Offers, Settles, Tries, GivesUp, ActsAgain, Acts, IsStopped, IsStoppedAt}
+use Rattle.scp_line.specs.Nodes.{AreWho, brings_to_rest, IsMissed, Offers, Settles, Tries, GivesUp, ActsAgain, Acts, IsStoppedAt}
+use Rattle.scp_line.specs.inside.Nodes.{IsStopped}
 use Rattle.scp_line.proofs.Places.{set_here, get_set}
 use Rattle.scp_line.specs.Links.{AreLinked, tails, tail_said}
 use Rattle.scp_line.proofs.Tails.{tail_by, tail_on, said_more, accepted_tail}

@@ -7,10 +7,10 @@ use Rattle.std.proofs.lemmas.List.{length-append, get_or_push, get_or_append_lef
 use Rattle.scp_types.specs.declared.fault.Fault.{Fault}
 use Rattle.scp_core.specs.declared.config.Config.{Config}
 use Rattle.scp_core.specs.Node.{NodeView, LinkView, new_link}
-use Rattle.scp_core.specs.Theorem.{LedgerTheorem, IsMade}
+use Rattle.scp_core.specs.Theorem.{LedgerTheorem, made}
 use Rattle.scp_network.specs.Heard.{Nodes}
 use Rattle.scp_network.specs.Rounds.{link_of}
-use Rattle.scp_network.specs.Inside.{NetworkView}
+use Rattle.scp_network.specs.Network.{NetworkView}
 use Rattle.scp_script.specs.declared.command.Command.{Command}
 use Rattle.scp_script.specs.Script.{node_count}
 use Rattle.scp_line.specs.Play.{IsNew, AreNew, ArePlayed, config_of}
@@ -39,25 +39,24 @@ new_is (Err fault) commands number config theorem is same = tt
 -- ---- before the first line
 
 -- a node that heard nothing is as it was made
-made_now : (commands : List Command) (number : ℕ) (v : NodeView) → IsNew commands number v → IsMade v
-made_now commands number v new = subst (λ (u : NodeView). IsMade u) (sym new.theorem.replies) new.theorem.made
+made_now : (commands : List Command) (number : ℕ) (v : NodeView) → IsNew commands number v → v ≡ made v.config
+made_now commands number v new = new.theorem.replies
 
 pub new_at : (commands : List Command) (nodes : Nodes) (i : ℕ) (v : NodeView) → AreNew commands nodes → slice_get nodes i ≡ Some v → IsNew commands (i + 1) v
 new_at commands nodes i v are at = subst (λ (u : NodeView). IsNew commands (i + 1) u) (get_or_from_slice_get nodes i v v at) (are.each i v (slice_get_within nodes i v at))
 
 new_linked : (commands : List Command) (from to : ℕ) (v : NodeView) → 1 ≤ from → from ≤ node_count commands → 1 ≤ to → to ≤ node_count commands → from ≢ to → IsNew commands to v → slice_get (tails v) (link_of from to) ≡ Some (tail_said from to [])
 new_linked commands from to v f fn t tn apart new =
-    let made = made_now commands to v new in
     let peers : length v.config.peers + 1 ≡ node_count commands = ap (λ (c : Config). length c.peers + 1) new.config ∙ peer_count (node_count commands) to t tn in
     let within : link_of from to < length v.config.peers = link_within from to (node_count commands) (length v.config.peers) f fn t tn apart peers in
     map_at tail_at v.links (link_of from to) (new_link v.config.capacities.link)
-    (ap (λ (links : List LinkView). slice_get links (link_of from to)) made.links ∙ of_all (length v.config.peers) (link_of from to) (new_link v.config.capacities.link) within)
+    (ap (λ (links : List LinkView). slice_get links (link_of from to)) (ap (λ (u : NodeView). u.links) (made_now commands to v new)) ∙ of_all (length v.config.peers) (link_of from to) (new_link v.config.capacities.link) within)
 
 pub first_moment : (commands : List Command) (network : NetworkView) → AreMade commands network → Moment commands [] network
 first_moment commands network are = record {
   count = are.nodes.count;
   driven = are.driven;
-  run = λ i v at. (made_now commands (i + 1) v (new_at commands network.nodes i v are.nodes at)).runs;
+  run = λ i v at. ap (λ (u : NodeView). u.failed) (made_now commands (i + 1) v (new_at commands network.nodes i v are.nodes at));
   who = λ i v at. (new_at commands network.nodes i v are.nodes at).config;
   linked = λ from to f fn t tn apart v at.
       let number : to - 1 + 1 ≡ to = omega (arith, t) in

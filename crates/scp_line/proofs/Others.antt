@@ -12,7 +12,7 @@ use Rattle.scp_types.specs.declared.fault.Fault.TheVariants.{NoMemory, BadConfig
 use Rattle.scp_core.specs.declared.config.Config.{Config}
 use Rattle.scp_core.specs.Node.{NodeView}
 use Rattle.scp_network.specs.Heard.{Nodes}
-use Rattle.scp_network.specs.Inside.{NetworkView}
+use Rattle.scp_network.specs.Network.{NetworkView}
 use Rattle.scp_network.specs.Linked.{ids_of, IsNetwork}
 use Rattle.scp_script.specs.declared.command.Command.{Command}
 use Rattle.scp_script.specs.Script.{node_count}

@@ -6,14 +6,15 @@ use Rattle.std.proofs.lemmas.List.{take_more, take-append-drop}
 use Rattle.scp_core.specs.declared.event.Event.{Event}
 use Rattle.scp_core.specs.Ledger.{TheoremGivesLedger}
 use Rattle.scp_network.specs.Heard.{Heard, past_at}
-use Rattle.scp_network.specs.Inside.{NetworkView}
+use Rattle.scp_network.specs.Network.{NetworkView}
 use Rattle.scp_script.specs.declared.command.Command.{Command}
 use Rattle.scp_script.specs.Script.{AreAdmitted, commands_in}
 use Rattle.scp_script.specs.Nodes.{NamesNodes, reports_in}
 use Rattle.scp_line.specs.declared.playing.PlayFault.{PlayFault}
 use Rattle.scp_line.specs.Play.{ArePlayed, AreReports, driven_in, event_by, report_at}
-use Rattle.scp_line.specs.Nodes.{AreMade, HasPlayed, IsMissed, Acts, IsPlayed, IsStopped}
-use Rattle.scp_line.specs.Laws.{NothingIsPlayed, LineIsPlayed, QuietLineIsPlayed, LineIsStopped}
+use Rattle.scp_line.specs.Nodes.{AreMade, HasPlayed, IsMissed, Acts}
+use Rattle.scp_line.specs.inside.Nodes.{IsPlayed, IsStopped}
+use Rattle.scp_line.specs.Laws.{NothingIsPlayed, GoesOn, LineIsPlayed, QuietLineIsPlayed, LineIsStopped}
 use Rattle.scp_line.proofs.Standing.{StandsAt, few_nodes}
 use Rattle.scp_line.proofs.Lines.{Moment, IsDone, done_nothing, line_done, line_stops, stopped_somewhere, played_more}
 use Rattle.scp_line.proofs.Making.{first_moment, nothing_played}
@@ -33,7 +34,7 @@ stands commands i command lt is names admitted = record { after' = drop (suc i) 
 pub none_played : (commands : List Command) (network : NetworkView) → AreMade commands network → Plays commands [] network
 none_played commands network are = record { heard = []; played = nothing_played commands network are; moment = first_moment commands network are }
 
-one_more : (commands done : List Command) (command : Command) (old new : NetworkView) → Plays commands done old → IsDone commands done command old new → Plays commands (done ++ command ∷ []) new
+abbrev one_more : (commands done : List Command) (command : Command) (old new : NetworkView) → Plays commands done old → IsDone commands done command old new → Plays commands (done ++ command ∷ []) new
 one_more commands done command old new p d = record {
   heard = p.heard ++ d.hear.heard;
   played = record {
@@ -66,7 +67,7 @@ all_played commands i network is names p =
 
 -- ---- the same, in the words of the definitions
 
-has_played : (commands done : List Command) (network : NetworkView) → Plays commands done network → HasPlayed commands done network
+abbrev has_played : (commands done : List Command) (network : NetworkView) → Plays commands done network → HasPlayed commands done network
 has_played commands done network p = record {
   heard = p.heard;
   played = p.played;
@@ -76,7 +77,7 @@ has_played commands done network p = record {
   linked = p.moment.linked;
 }
 
-as_plays : (commands done : List Command) (network : NetworkView) → HasPlayed commands done network → Plays commands done network
+abbrev as_plays : (commands done : List Command) (network : NetworkView) → HasPlayed commands done network → Plays commands done network
 as_plays commands done network p = record {
   heard = p.heard;
   played = p.played;
@@ -89,16 +90,22 @@ nothing_is_played commands network are = has_played commands [] network (none_pl
 at_place : (commands before after' : List Command) (command : Command) → commands ≡ before ++ command ∷ after' → All NamesNodes commands → AreAdmitted [] commands → StandsAt commands before command
 at_place commands before after' command split names admitted = record { after' = after'; split = split; names = names; admitted = admitted }
 
+goes_on : (commands before : List Command) (command : Command) (old new : NetworkView) (p : HasPlayed commands before old) → IsDone commands before command old new → GoesOn commands before command old new p
+goes_on commands before command old new p d = record {
+  played = has_played commands (before ++ command ∷ []) new (one_more commands before command old new (as_plays commands before old p) d);
+  more = d.hear.heard;
+  heard = refl;
+  hears = d.hear.is;
+}
+
 pub line_is_played : LineIsPlayed
 line_is_played commands before after' command old new split names admitted p a =
-    let before_it = as_plays commands before old p in
-    has_played commands (before ++ command ∷ []) new (one_more commands before command old new before_it (line_done commands before command old new (at_place commands before after' command split names admitted) before_it.moment a))
+    goes_on commands before command old new p (line_done commands before command old new (at_place commands before after' command split names admitted) (as_plays commands before old p).moment a)
 
 pub quiet_line_is_played : QuietLineIsPlayed
 quiet_line_is_played commands before after' command network split names admitted rest none p =
-    let before_it = as_plays commands before network p in
     let missed : IsMissed network (event_by command) = subst (λ (found : Option (ℕ × Event)). IsMissed network found) (sym none) tt in
-    has_played commands (before ++ command ∷ []) network (one_more commands before command network network before_it (done_nothing commands before command network network (at_place commands before after' command split names admitted) before_it.moment rest (refl, missed)))
+    goes_on commands before command network network p (done_nothing commands before command network network (at_place commands before after' command split names admitted) (as_plays commands before network p).moment rest (refl, missed))
 
 pub line_is_stopped : LineIsStopped
 line_is_stopped commands before after' command old new e split names admitted p a =

@@ -10,8 +10,9 @@ use Rattle.std.specs.Cmp.{unsigned_ties}
 use Rattle.std.proofs.lemmas.Bool.Decides.{nat_tests}
 use Rattle.scp_types.specs.declared.names.ConnId.{ConnId}
 use Rattle.scp_wire.specs.Connections.{same_conn, same_node}
-use Rattle.scp_line.specs.Report.{conn_cmp, lines_in}
-use Rattle.scp_line.specs.Parts.{text_of}
+use Rattle.scp_types.specs.Order.{conn_cmp}
+use Rattle.scp_line.specs.Report.{lines_in}
+use Rattle.scp_line.specs.inside.Parts.{text_of}
 
 -- in place of what was taken out stands what was put in, with a line more
 pub sorted_in : (at : Bool) (new old between lines before line own : List ℕ) → new ≡ (if at then lines else between) → between ≡ (if at then [] else old) → lines ≡ before ++ line → before ≡ own → new ≡ (if at then own ++ line else old)

@@ -1,11 +1,12 @@
 -- What the definitions give together: a script is played line by line.
 use Rattle.std.specs.Prelude.{ℕ, ◌≡◌, false, List, [], ◌∷◌, ◌++◌, All, None, Ok, Err}
-use Rattle.scp_network.specs.Inside.{NetworkView}
+use Rattle.scp_network.specs.Heard.{Heard}
+use Rattle.scp_network.specs.Network.{NetworkView}
 use Rattle.scp_script.specs.declared.command.Command.{Command}
-use Rattle.scp_script.specs.Script.{AreAdmitted, commands_of}
+use Rattle.scp_script.specs.Script.{AreAdmitted, commands_of, node_count}
 use Rattle.scp_script.specs.Nodes.{NamesNodes}
 use Rattle.scp_line.specs.declared.playing.PlayFault.{PlayFault}
-use Rattle.scp_line.specs.Play.{event_by}
+use Rattle.scp_line.specs.Play.{Hears, driven_in, event_by}
 use Rattle.scp_line.specs.Nodes.{HaveRoom, AreMade, HasPlayed, Acts, IsStoppedAt, brings_to_rest}
 
 -- the queues of each script have capacities in range
@@ -16,13 +17,20 @@ LinesHaveRoom = (lines : List (List ℕ)) → HaveRoom (commands_of lines)
 abbrev pub NothingIsPlayed : Type 0
 NothingIsPlayed = (commands : List Command) (network : NetworkView) → AreMade commands network → HasPlayed commands [] network
 
--- a network that did a line behind those that it had played has played that one too
+-- A line more was played in one run: what was heard before, and then what is heard of this line, from the nodes that were there.
+pub record GoesOn (commands before : List Command) (command : Command) (old new : NetworkView) (so_far : HasPlayed commands before old) : Type 0 where
+  pub played : HasPlayed commands (before ++ command ∷ []) new
+  pub more : List Heard
+  pub heard : played.heard ≡ so_far.heard ++ more
+  pub hears : Hears (driven_in commands) (node_count commands) command old.nodes more new.nodes
+
+-- a network that did a line behind those that it had played has played that one too, in the same run
 abbrev pub LineIsPlayed : Type 0
-LineIsPlayed = (commands before after' : List Command) (command : Command) (old new : NetworkView) → commands ≡ before ++ command ∷ after' → All NamesNodes commands → AreAdmitted [] commands → HasPlayed commands before old → Acts old command new (Ok tt) → HasPlayed commands (before ++ command ∷ []) new
+LineIsPlayed = (commands before after' : List Command) (command : Command) (old new : NetworkView) → commands ≡ before ++ command ∷ after' → All NamesNodes commands → AreAdmitted [] commands → (so_far : HasPlayed commands before old) → Acts old command new (Ok tt) → GoesOn commands before command old new so_far
 
 -- so it has a line that is no event and brings nothing to rest
 abbrev pub QuietLineIsPlayed : Type 0
-QuietLineIsPlayed = (commands before after' : List Command) (command : Command) (network : NetworkView) → commands ≡ before ++ command ∷ after' → All NamesNodes commands → AreAdmitted [] commands → brings_to_rest command ≡ false → event_by command ≡ None → HasPlayed commands before network → HasPlayed commands (before ++ command ∷ []) network
+QuietLineIsPlayed = (commands before after' : List Command) (command : Command) (network : NetworkView) → commands ≡ before ++ command ∷ after' → All NamesNodes commands → AreAdmitted [] commands → brings_to_rest command ≡ false → event_by command ≡ None → (so_far : HasPlayed commands before network) → GoesOn commands before command network network so_far
 
 -- why a line behind those that were played wasn't done
 abbrev pub LineIsStopped : Type 0

@@ -6,3 +6,5 @@ pub mod Links
 pub mod Nodes
 pub mod Laws
 pub mod Threads
+pub mod Headlines
+pub mod inside

@@ -7,6 +7,7 @@ use Rattle.scp_network.specs.Rounds.{link_of}
 use Rattle.scp_script.specs.declared.command.Command.{Command}
 use Rattle.scp_script.specs.Script.{is_open, lives}
 
+-- how often a node's link was opened, and whether it is open
 abbrev pub tail_at : LinkView → Tail
 tail_at k = record { life = k.life; is_open = k.is_open }
 

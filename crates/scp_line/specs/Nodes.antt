@@ -1,5 +1,5 @@
 -- What the nodes of a script hear more, while it is played.
-use Rattle.std.specs.Prelude.{ℕ, ◌+◌, ◌<◌, ◌≤◌, ◌≡◌, ◌≢◌, ◌⊎◌, Bool, true, false, List, Option, Some, None, Result, Ok, Err, length, slice_get}
+use Rattle.std.specs.Prelude.{ℕ, ◌+◌, ◌<◌, ◌≡◌, ◌≢◌, ◌⊎◌, Bool, true, false, List, Option, Some, None, Result, Ok, Err, length, slice_get}
 use Rattle.scp_types.specs.declared.fault.Fault.TheVariants.{NoMemory, Failed as failing, Full as full}
 use Rattle.scp_core.specs.declared.event.Event.{Event}
 use Rattle.scp_core.specs.declared.event.Reply.{Reply}
@@ -8,7 +8,7 @@ use Rattle.scp_core.specs.Config.{AreInRange}
 use Rattle.scp_core.specs.Node.{NodeView}
 use Rattle.scp_network.specs.Heard.{Nodes, Heard}
 use Rattle.scp_network.specs.Rounds.{Rests, Breaks, AllRun}
-use Rattle.scp_network.specs.Inside.{Hear, NetworkView}
+use Rattle.scp_network.specs.Network.{Hear, NetworkView}
 use Rattle.scp_script.specs.declared.command.Command.{Command}
 use Rattle.scp_script.specs.declared.command.Command.TheVariants as script
 use Rattle.scp_script.specs.Script.{node_count}
@@ -106,19 +106,9 @@ Acts old command new result =
     ((brings_to_rest command ≡ true) × Settles old new result)
     ⊎ ((brings_to_rest command ≡ false) × Tries (λ mid last done. ActsAgain mid command last done) old command new result)
 
--- all lines were played
-pub record IsPlayed (commands : List Command) (network : NetworkView) : Type 0 where
-  pub heard : List Heard
-  pub played : ArePlayed commands commands heard network.nodes
-  pub few : length network.nodes ≤ 8
-
 -- why the line behind these wasn't done
 abbrev pub IsStoppedAt : List Command → List Command → PlayFault → Type 0
 IsStoppedAt commands before e =
     IsWant e
     ⊎ (((e.fault ≡ failing) × IsSmall e.node × (s : Stops commands e.node) × (s.before ≡ before))
     ⊎ ((e.fault ≡ full) × (e.node ≡ 0) × (o : Overflows commands) × (o.before ≡ before)))
-
--- why lines weren't all done
-abbrev pub IsStopped : List Command → PlayFault → Type 0
-IsStopped commands e = IsWant e ⊎ (((e.fault ≡ failing) × IsSmall e.node × Stops commands e.node) ⊎ ((e.fault ≡ full) × (e.node ≡ 0) × Overflows commands))

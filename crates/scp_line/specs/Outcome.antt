@@ -7,6 +7,7 @@ use Rattle.scp_types.specs.declared.fault.Stage.{Stage}
 use Rattle.scp_types.specs.declared.fault.Stage.TheVariants.{Reader, Pend, Slot, Apply}
 use Rattle.scp_types.specs.Fault.{number_of}
 
+-- the word of a stage
 abbrev pub stage_word : Stage → List ℕ
 stage_word Reader = codes "reader"
 stage_word Pend = codes "pend"

@@ -34,7 +34,7 @@ use Rattle.scp_line.specs.Report.{report_of, hex_word}
 use Rattle.scp_line.specs.Parts.{entries_of}
 use Rattle.scp_network.specs.Heard.{Nodes, Heard, HaveHeard, past_at, Then, IsNothing, IsOne}
 use Rattle.scp_network.specs.Rounds.{link_of, Rests, Breaks, AllRun}
-use Rattle.scp_network.specs.Inside.{driven_more}
+use Rattle.scp_network.specs.Network.{driven_more}
 
 -- the event that a command is, and the number of the node that hears it
 abbrev pub event_by : Command → Option (ℕ × Event)
@@ -58,6 +58,7 @@ abbrev pub driven_by : List Bool → Command → List Bool
 driven_by driven (script.Send from to bytes) = driven_more driven from to
 driven_by driven command = driven
 
+-- the links on which the script alone sends: those that a `send` line names
 abbrev pub driven_in : List Command → List Bool
 driven_in commands = fold driven_by (replicate 64 false) commands
 
@@ -70,6 +71,7 @@ abbrev pub IsOffered : List Bool → ℕ → ℕ × Event → Nodes → List Hea
 IsOffered driven count offered old heard new =
     Answers offered Accepted old heard new ⊎ Then (Answers offered Full) (Then (Rests driven count) (Answers offered Accepted)) old heard new
 
+-- what the nodes hear of a line's event: nothing where it has none, else what its offer says
 abbrev pub HearsBy : List Bool → ℕ → Option (ℕ × Event) → Nodes → List Heard → Nodes → Type 0
 HearsBy driven count None = IsNothing
 HearsBy driven count (Some offered) = IsOffered driven count offered
@@ -104,6 +106,7 @@ pub record IsNew (commands : List Command) (number : ℕ) (node : NodeView) : Ty
   pub config : node.config ≡ config_of commands number
   pub theorem : LedgerTheorem [] node
 
+-- as many nodes as the script has, each as it is made and as the script says
 pub record AreNew (commands : List Command) (nodes : Nodes) : Type 0 where
   pub count : length nodes ≡ node_count commands
   pub each : (i : ℕ) → (d : NodeView) → i < length nodes → IsNew commands (i + 1) (get_or nodes i d)
@@ -117,6 +120,7 @@ pub record ArePlayed (commands done : List Command) (heard : List Heard) (nodes 
   pub have : HaveHeard heard nodes
   pub run : AllRun nodes
 
+-- the connection with how many of its messages are held, where any is
 abbrev pub parked_of : NodeView → ConnId → List Parked
 parked_of v conn = if nat_lt 0 (count_held conn v.pending) then record { conn = conn; count = count_held conn v.pending } ∷ [] else []
 
@@ -128,9 +132,11 @@ parked_from v to from = if nat_eq from to then [] else flat_map (λ life. parked
 abbrev pub parked_in : ℕ → ℕ → NodeView → List Parked
 parked_in count number v = flat_map (parked_from v number) (numbers count)
 
+-- the state of a node that runs; none of one that failed
 abbrev pub running_state : NodeView → Option KvMap
 running_state node = if node.failed then None else node.applier.state
 
+-- the text of a node's report, of so many nodes
 abbrev pub report_of_node : ℕ → ℕ → NodeView → List ℕ
 report_of_node count number node = report_of (record {
   node = number;
@@ -225,6 +231,7 @@ pub record AreReports (script text : List ℕ) : Type 0 where
   pub ledgers : HoldLedgers heard nodes
   pub reports : text ≡ flat_map (report_at nodes) (reports_in (commands_in script))
 
+-- the word of a statement's kind
 abbrev pub pledges_word : Pledges → List ℕ
 pledges_word (Prepare p) = codes "prepare"
 pledges_word (Confirm p) = codes "confirm"

@@ -1,9 +1,6 @@
 -- The text of a report (this project's profile).
 use Rattle.std.specs.Prelude.{ℕ, ◌≡◌, List, [], ◌∷◌, ◌++◌, codes, flat_map, filter, fold, slice_index, ◌||◌}
 use Rattle.std.specs.Fmt.{decimal}
-use Rattle.std.specs.Ordering.{nat_cmp, ordering_then}
-use Rattle.std.specs.Cmp.Lexicographic.{slice_cmp}
-use Rattle.std.specs.declared.cmp.Ordering.{Ordering}
 use Rattle.std.specs.List.{list_any}
 use Rattle.std.specs.List.Sorted.{IsStrictlySortedBy}
 use Rattle.std.specs.BTreeSet.{insert_key}
@@ -23,7 +20,10 @@ use Rattle.scp_wire.specs.Connections.{same_conn}
 use Rattle.scp_pending.specs.declared.ready.DropCause.{DropCause}
 use Rattle.scp_pending.specs.declared.ready.DropCause.TheVariants as drop
 use Rattle.scp_line.specs.declared.report.Parked.{Parked}
+use Rattle.scp_theorem.specs.Fates.{conn_of}
+use Rattle.scp_types.specs.Order.{conn_cmp}
 
+-- the word of a verdict
 abbrev pub verdict_word : Verdict → List ℕ
 verdict_word OldSlot = codes "old-slot"
 verdict_word FarSlot = codes "far-slot"
@@ -38,23 +38,19 @@ verdict_word Fresh = codes "fresh"
 verdict_word Forwarded = codes "forwarded"
 verdict_word Decided = codes "decided"
 
+-- the word for why a connection ended
 abbrev pub cause_word : Cause → List ℕ
 cause_word Malformed = codes "malformed"
 cause_word Link = codes "link"
 cause_word Spent = codes "spent"
 cause_word ParkedFull = codes "parked-full"
 
+-- the word for why a message was dropped
 abbrev pub drop_word : DropCause → List ℕ
 drop_word drop.BadSet = codes "bad-set"
 drop_word drop.GaveUp = codes "gave-up"
 drop_word drop.Closed = codes "closed"
 drop_word drop.ParkedFull = codes "parked-full"
-
--- the connection of an entry
-abbrev pub conn_of : Fate → ConnId
-conn_of (Taken conn seq message set verdict) = conn
-conn_of (Dropped conn seq cause) = conn
-conn_of (Closed conn cause) = conn
 
 -- an entry's line
 abbrev pub fate_line : Fate → List ℕ
@@ -71,6 +67,7 @@ hex_word (byte ∷ bytes) = encode_lower (byte ∷ bytes)
 abbrev pub node_number : NodeId → ℕ
 node_number id = slice_index id.0 0
 
+-- the words for what a decision rests on: a machine, or a record by its connection and number
 abbrev pub origin_words : Origin → List ℕ
 origin_words (Machine n quorum own) = codes "machine"
 origin_words (Named conn seq) = codes "record " ++ decimal (node_number conn.from) ++ codes " " ++ decimal conn.life ++ codes " " ++ decimal seq.0
@@ -82,10 +79,6 @@ applied_line d = codes "applied " ++ decimal d.slot.0 ++ codes " " ++ hex_word d
 -- a key's line
 abbrev pub state_line : List ℕ × List ℕ → List ℕ
 state_line entry = codes "state " ++ hex_word entry.0 ++ codes "=" ++ hex_word entry.1 ++ codes "\n"
-
--- connections in the order of the sender's id, the receiver's, and the life
-abbrev pub conn_cmp : ConnId → ConnId → Ordering
-conn_cmp a b = ordering_then (slice_cmp nat_cmp a.from.0 b.from.0) (ordering_then (slice_cmp nat_cmp a.to.0 b.to.0) (nat_cmp a.life b.life))
 
 -- the connection of which messages are parked
 abbrev pub conn_parked : Parked → ConnId
@@ -101,6 +94,7 @@ pub record AreConnections (journal : List Fate) (parked : List Parked) (conns : 
   pub ascending : IsStrictlySortedBy conn_cmp conns
   pub those : (conn : ConnId) → list_any (λ c. same_conn c conn) conns ≡ (list_any (λ fate. same_conn (conn_of fate) conn) journal || list_any (λ waiting. same_conn (conn_parked waiting) conn) parked)
 
+-- the line of a connection: who sends on it, and its life
 abbrev pub conn_line : ConnId → List ℕ
 conn_line conn = codes "conn " ++ decimal (node_number conn.from) ++ codes " " ++ decimal conn.life ++ codes "\n"
 
@@ -116,9 +110,11 @@ fate_lines journal conn = lines_in conn_of fate_line journal conn
 abbrev pub parked_line : ℕ → List ℕ
 parked_line count = codes "parked " ++ decimal count ++ codes "\n"
 
+-- the line of what is parked of a connection
 abbrev pub waiting_line : Parked → List ℕ
 waiting_line parked = parked_line parked.count
 
+-- the lines of what is parked of this connection
 abbrev pub parked_lines : List Parked → ConnId → List ℕ
 parked_lines parked conn = lines_in conn_parked waiting_line parked conn
 
@@ -134,6 +130,7 @@ pub record ReportView : Type 0 where
   pub applied : List Decision
   pub state : List (List ℕ × List ℕ)
 
+-- the text of a report: the node, a section for each connection, the applied slots, the state
 abbrev pub report_of : ReportView → List ℕ
 report_of v =
     codes "node " ++ decimal v.node ++ codes "\n"

@@ -4,15 +4,16 @@ use Rattle.std.specs.FinMap as fin
 use Rattle.std.specs.BTreeSet.{insert_key}
 use Rattle.scp_types.specs.declared.names.ConnId.{ConnId}
 use Rattle.scp_types.specs.declared.fault.Fault.{Fault}
-use Rattle.scp_types.specs.declared.fault.Fault.TheVariants.{NoMemory, TooLong, Device, Full, BadScript, Refused}
+use Rattle.scp_types.specs.declared.fault.Fault.TheVariants.{NoMemory, TooLong, Device, Full, NotOpen, BadScript, Refused}
 use Rattle.scp_wire.specs.declared.carried.Carried.{Carried}
 use Rattle.scp_pending.specs.Messages.{messages_on}
 use Rattle.scp_gather.specs.declared.gathering.NodeReport.{NodeReport}
-use Rattle.scp_threads.specs.Reported.{AreNodesReported}
-use Rattle.scp_script.specs.Script.{commands_in}
+use Rattle.scp_threaded_script.specs.Reported.{AreNodesReported, IsGivenUp}
+use Rattle.scp_script.specs.Script.{IsScript, commands_in}
 use Rattle.scp_script.specs.Nodes.{reports_in}
 use Rattle.scp_line.specs.declared.report.Parked.{Parked}
-use Rattle.scp_line.specs.Report.{ReportView, report_of, conn_cmp}
+use Rattle.scp_line.specs.Report.{ReportView, report_of}
+use Rattle.scp_types.specs.Order.{conn_cmp}
 
 -- ---- what waits, by connections
 
@@ -24,6 +25,7 @@ conns_waiting messages = fold (λ conns message. insert_key conn_cmp conns messa
 abbrev pub count_on : List Carried → ConnId → Parked
 count_on messages conn = record { conn = conn; count = length (messages_on conn messages) }
 
+-- the connections of these messages, ascending, each with how many are of it
 abbrev pub parked_counts : List Carried → List Parked
 parked_counts messages = map (count_on messages) (conns_waiting messages)
 
@@ -39,6 +41,7 @@ view_gathered number r = record {
   state = fin.entries r.state;
 }
 
+-- the text of the report of a node that ran in threads
 abbrev pub report_gathered : ℕ → NodeReport → List ℕ
 report_gathered number r = report_of (view_gathered number r)
 
@@ -55,8 +58,8 @@ pub record AreGatheredReports (script text : List ℕ) : Type 0 where
 
 -- ---- refusals
 
--- why a script isn't played in threads: it can't be read, a line is bad, a stage of a node failed, a mark found no room, or memory or the
--- taker of the reports was wanting
+-- why a script isn't played in threads: it can't be read, a line is bad, a stage of a node failed, a mark found no room, a link stood otherwise
+-- than the lines say, or memory or the taker of the reports was wanting
 abbrev pub IsThreadsFault : Fault → Type 0
 IsThreadsFault NoMemory = Unit {0}
 IsThreadsFault TooLong = Unit {0}
@@ -64,4 +67,16 @@ IsThreadsFault Device = Unit {0}
 IsThreadsFault (BadScript line) = Unit {0}
 IsThreadsFault (Refused stage) = Unit {0}
 IsThreadsFault Full = Unit {0}
+IsThreadsFault NotOpen = Unit {0}
 IsThreadsFault fault = ⊥
+
+-- it is the nodes' own: a stage failed, a mark found no room, or a link stood otherwise than the lines say
+abbrev pub IsOfTheNodes : Fault → Type 0
+IsOfTheNodes (Refused stage) = Unit {0}
+IsOfTheNodes Full = Unit {0}
+IsOfTheNodes NotOpen = Unit {0}
+IsOfTheNodes fault = ⊥
+
+-- the text is a script, and its nodes gave up with this fault, naming this node
+abbrev pub AreGivenUp : List ℕ → ℕ → Fault → Type 0
+AreGivenUp script node fault = IsScript script × IsGivenUp (commands_in script) (record { fault = fault; node = node })

@@ -4,7 +4,8 @@ ghost use Rattle.std.specs.BTreeSet.{insert_key};
 ghost use Rattle.scp_pending.specs.Messages.{is_on, messages_on};
 ghost use Rattle.scp_script.specs.Nodes.{NamesNodes, IsSmall, reports_in};
 ghost use Rattle.std.specs.Prelude.{All};
-ghost use Rattle.scp_line.specs.Report.{conn_cmp, report_of};
+ghost use Rattle.scp_types.specs.Order.{conn_cmp};
+ghost use Rattle.scp_line.specs.Report.{report_of};
 ghost use Rattle.scp_line.specs.Threads.{conns_waiting, parked_counts, count_on, view_gathered, report_gathered, report_gathered_at};
 
 use crate::report::{Parked, ReportParts, write_report};

@@ -13,6 +13,8 @@
 //!   the digits spell;
 //! - a failure of the reader or the writer is told as one, and nothing else is;
 //! - the connections of a report ascend, and are just those with entries.
+//!
+//! Not claimed: what a process's own reader and writer read and write. Their bytes are known of memory alone.
 #![tactic(auto)]
 
 mod gathered;

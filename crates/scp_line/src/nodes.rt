@@ -4,7 +4,8 @@ ghost use Rattle.scp_script.specs.Script.{AreAdmitted, node_count};
 ghost use Rattle.scp_script.specs.Nodes.{NamesNodes, IsSmall, reports_in};
 ghost use Rattle.scp_core.specs.Config.{IsConfig};
 ghost use Rattle.scp_line.specs.Play.{config_of, driven_in, event_by, IsNew, AreNew, Played, report_of_node, report_at};
-ghost use Rattle.scp_line.specs.Nodes.{HaveRoom, AreMade, Offers, Settles, Acts, ActsAgain, IsPlayed, IsStopped, brings_to_rest};
+ghost use Rattle.scp_line.specs.Nodes.{HaveRoom, AreMade, Offers, Settles, Acts, ActsAgain, brings_to_rest};
+ghost use Rattle.scp_line.specs.inside.Nodes.{IsPlayed, IsStopped};
 
 use crate::playing::PlayFault;
 use crate::report::{ReportParts, write_report};

@@ -7,12 +7,13 @@ ghost use Rattle.scp_xdr.specs.Kind.{Fits};
 ghost use Rattle.scp_xdr.specs.Words.{IsReadingFault};
 ghost use Rattle.scp_device.specs.Device.{Gains, GainsPart, Fails, IsAll};
 ghost use Rattle.scp_script.specs.Script.{IsScript, IsBadLine, HasNoBadLine, HasSetLine, commands_in};
+ghost use Rattle.scp_line.specs.Headlines.{AreHeadlined};
 ghost use Rattle.scp_line.specs.Outcome.{IsCheckFault, IsPlayFault};
 ghost use Rattle.scp_line.specs.Play.{AreReports, Stops, Overflows, IsShown, IsUnread, IsNamed};
 
 use crate::messages::line_of;
 use crate::nodes::{act_all, new_network, write_reports};
-use scp_core::each_node_holds_its_ledger;
+use scp_core::{each_node_holds_its_headline, each_node_holds_its_ledger};
 use scp_device::{ReportOut, SCRIPT_LIMIT, ScriptIn, read_script, write_text};
 use scp_script::{bytes_of, parse};
 use scp_types::Fault;
@@ -38,6 +39,7 @@ impl From<Fault> for PlayFault {
 fn played(alloc: Global, text: &[u8]) -> Result<String, PlayFault>
     ensures script { OnOk result (IsScript text.now) }
     ensures reports { IfOk result (λ printed. AreReports text.now (string_bytes printed)) }
+    ensures headline { IfOk result (λ printed. AreHeadlined text.now (string_bytes printed)) }
     ensures device { IfErr result (λ e. e.fault ≢ Fault.Device) }
     ensures short { IfErr result (λ e. e.fault ≢ Fault.TooLong) }
     ensures memory { IfErr result (λ e. e.fault ≡ Fault.NoMemory → HasNoBadLine text.now ⊎ HasSetLine text.now) }
@@ -52,6 +54,7 @@ fn played(alloc: Global, text: &[u8]) -> Result<String, PlayFault>
     let mut network = new_network(alloc, commands)?;
     act_all(&mut network, commands)?;
     each_node_holds_its_ledger();
+    each_node_holds_its_headline();
     let mut printed = String::new(alloc);
     match write_reports(network.nodes(), &mut printed, commands) {
         Ok(()) => Ok(printed),
@@ -70,6 +73,8 @@ pub fn play<R: ScriptIn, W: ReportOut>(
 ) -> Result<(), PlayFault>
     // What was read is a script of at most 1,048,576 bytes, and what was written are its reports.
     ensures reports { OnOk result ((script text : List ℕ) × IsAll (R.left reader.old) script × (length script ≤ SCRIPT_LIMIT) × IsScript script × AreReports script text × Gains (W.written writer.old) text (W.written writer.new)) }
+    // Of nodes that hold their headlines, which say what matters most.
+    ensures headline { OnOk result ((script text : List ℕ) × IsAll (R.left reader.old) script × AreHeadlined script text × Gains (W.written writer.old) text (W.written writer.new)) }
     // Device is answered only where the reader failed, and then nothing was written, or where the writer failed.
     ensures device { IfErr result (λ e. e.fault ≡ Fault.Device →
         (Fails (R.failures reader.old) (R.failures reader.new) × (writer.new ≡ writer.old)) ⊎ Fails (W.failures writer.old) (W.failures writer.new)) }

@@ -6,8 +6,11 @@ ghost use Rattle.scp_types.specs.declared.names.ConnId.{ConnId};
 ghost use Rattle.std.specs.BTreeSet.{insert_key};
 ghost use Rattle.scp_ledger.specs.declared.journal.Fate.{Fate};
 ghost use Rattle.scp_line.specs.declared.report.Parked.{Parked};
-ghost use Rattle.scp_line.specs.Report.{verdict_word, cause_word, drop_word, conn_of, fate_line, parked_line, parked_lines, hex_word, node_number, origin_words, applied_line, state_line, conn_cmp, conns_of, conn_line, fate_lines, section_of, report_of, AreConnections};
-ghost use Rattle.scp_line.specs.Parts.{view_of, lines_at};
+ghost use Rattle.scp_line.specs.Report.{verdict_word, cause_word, drop_word, fate_line, parked_line, parked_lines, hex_word, node_number, origin_words, applied_line, state_line, conns_of, conn_line, fate_lines, section_of, report_of, AreConnections};
+ghost use Rattle.scp_theorem.specs.Fates.{conn_of};
+ghost use Rattle.scp_types.specs.Order.{conn_cmp};
+ghost use Rattle.scp_line.specs.Parts.{view_of};
+ghost use Rattle.scp_line.specs.inside.Parts.{lines_at};
 
 use scp_core::{Cause, Decision, Fate, Origin, SharedDecision, Verdict};
 use scp_kv::KvState;

@@ -4,15 +4,17 @@ ghost use Rattle.scp_types.specs.declared.fault.Fault.TheVariants.{BadScript};
 ghost use Rattle.scp_types.specs.declared.fault.Stage.{Stage};
 ghost use Rattle.scp_device.specs.Device.{Gains, GainsPart, Fails, IsAll};
 ghost use Rattle.scp_script.specs.Script.{IsScript, IsBadLine, HasNoBadLine, HasSetLine};
+ghost use Rattle.scp_line.specs.Headlines.{AreGatheredHeadlined};
 ghost use Rattle.scp_line.specs.Play.{IsNamed};
-ghost use Rattle.scp_line.specs.Threads.{AreGatheredReports, IsThreadsFault};
+ghost use Rattle.scp_line.specs.Threads.{AreGatheredReports, AreGivenUp, IsOfTheNodes, IsThreadsFault};
 
 use crate::gathered::write_all_gathered;
 use crate::playing::PlayFault;
 use scp_device::{ReportOut, SCRIPT_LIMIT, ScriptIn, read_script, write_text};
 use scp_gate::{Gate, Open};
+use scp_gather::what_is_reported_keeps_the_headline;
 use scp_script::parse;
-use scp_threads::{NodeFault, run_lines};
+use scp_threaded_script::{NodeFault, run_lines};
 use scp_types::Fault;
 use std::alloc::Global;
 use std::sync::Wait;
@@ -30,7 +32,7 @@ impl From<NodeFault> for PlayFault {
 }
 
 /// All that a script prints.
-#[tactic(auto, using(crate::proofs::Threaded::given_up_cause, crate::proofs::Threaded::given_up_named, crate::proofs::Threaded::given_up_not_device, crate::proofs::Threaded::given_up_not_long, crate::proofs::Threaded::given_up_not_bad))]
+#[tactic(auto, using(crate::proofs::Threaded::given_up_script, crate::proofs::Threaded::given_up_cause, crate::proofs::Threaded::given_up_named, crate::proofs::Threaded::given_up_not_device, crate::proofs::Threaded::given_up_not_long, crate::proofs::Threaded::given_up_not_bad))]
 fn played<T: Threads + Wait + Sync, G: Gate + Sync>(
     rt: &T,
     gate: &G,
@@ -39,6 +41,7 @@ fn played<T: Threads + Wait + Sync, G: Gate + Sync>(
 ) -> Result<String, PlayFault>
     ensures script { OnOk result (IsScript text.now) }
     ensures reports { IfOk result (λ printed. AreGatheredReports text.now (string_bytes printed)) }
+    ensures headline { IfOk result (λ printed. AreGatheredHeadlined text.now (string_bytes printed)) }
     ensures device { IfErr result (λ e. e.fault ≢ Fault.Device) }
     ensures short { IfErr result (λ e. e.fault ≢ Fault.TooLong) }
     ensures memory { IfErr result (λ e. e.fault ≡ Fault.NoMemory → HasNoBadLine text.now ⊎ HasSetLine text.now) }
@@ -46,12 +49,14 @@ fn played<T: Threads + Wait + Sync, G: Gate + Sync>(
     ensures named { IfErr result (λ e. IsNamed e.node e.fault) }
     ensures stage { IfErr result (λ e. (stage : Stage) → e.fault ≡ Fault.Refused stage → IsScript text.now) }
     ensures full { IfErr result (λ e. e.fault ≡ Fault.Full → IsScript text.now) }
+    ensures given_up { IfErr result (λ e. IsOfTheNodes e.fault → AreGivenUp text.now e.node e.fault) }
     ensures cause { IfErr result (λ e. IsThreadsFault e.fault) }
 {
     let script = parse(alloc, text)?;
     let commands = script.as_slice();
     let nodes = run_lines(rt, gate, alloc, commands)?;
     let reports = nodes.as_slice();
+    what_is_reported_keeps_the_headline();
     let mut printed = String::new(alloc);
     match write_all_gathered(reports, &mut printed, commands) {
         Ok(()) => Ok(printed),
@@ -70,6 +75,8 @@ pub fn play_gated<T: Threads + Wait + Sync, G: Gate + Sync, R: ScriptIn, W: Repo
 ) -> Result<(), PlayFault>
     // What was read is a script of at most 1,048,576 bytes, and what was written are the reports of what its nodes' threads left.
     ensures reports { OnOk result ((script text : List ℕ) × IsAll (R.left reader.old) script × (length script ≤ SCRIPT_LIMIT) × IsScript script × AreGatheredReports script text × Gains (W.written writer.old) text (W.written writer.new)) }
+    // Of nodes that hold their headlines, which say what matters most.
+    ensures headline { OnOk result ((script text : List ℕ) × IsAll (R.left reader.old) script × AreGatheredHeadlined script text × Gains (W.written writer.old) text (W.written writer.new)) }
     // Device is answered only where the reader failed, and then nothing was written, or where the writer failed.
     ensures device { IfErr result (λ e. e.fault ≡ Fault.Device →
         (Fails (R.failures reader.old) (R.failures reader.new) × (writer.new ≡ writer.old)) ⊎ Fails (W.failures writer.old) (W.failures writer.new)) }
@@ -86,6 +93,8 @@ pub fn play_gated<T: Threads + Wait + Sync, G: Gate + Sync, R: ScriptIn, W: Repo
     // That a stage failed, or that there was no room for a mark, is answered only of a script.
     ensures stage { IfErr result (λ e. (stage : Stage) → e.fault ≡ Fault.Refused stage → IfSome (R.left reader.old) (λ all. (length all ≤ SCRIPT_LIMIT) × IsScript all)) }
     ensures full { IfErr result (λ e. e.fault ≡ Fault.Full → IfSome (R.left reader.old) (λ all. (length all ≤ SCRIPT_LIMIT) × IsScript all)) }
+    // Which of them it is, and of which node: the first stage that failed of the first node of which one did, whatever else was wrong.
+    ensures given_up { IfErr result (λ e. IsOfTheNodes e.fault → IfSome (R.left reader.old) (λ all. AreGivenUp all e.node e.fault)) }
     // After any other refusal than Device nothing was written.
     ensures untouched { IfErr result (λ e. e.fault ≢ Fault.Device → writer.new ≡ writer.old) }
     // After a refusal nothing was written, or a part of the reports, from the first byte on.
@@ -102,9 +111,10 @@ pub fn play_gated<T: Threads + Wait + Sync, G: Gate + Sync, R: ScriptIn, W: Repo
 
 /// Plays a script by nodes whose stages run in threads of their own: reads it whole, does what its lines say, one after the other,
 /// ends every thread, and then writes the reports that the lines ask for. A `wait` yields until its node's applier received so many
-/// things, at most 1,000,000 times, and `settle` does nothing. Refused as `check` refuses; by `Refused` with a stage of a node, which
-/// is named, where a worker of that stage failed; by `Full` where there was no room for a mark of a link after 1,000,000 yields; and
-/// by `NoMemory`, also where only what carries an outbox to its link failed.
+/// things, at most 1,000,000 times, and `settle` does nothing. Refused as `check` refuses; by `Refused` with the first stage that
+/// failed of the first node of which one did, which is named; else by `Full` where there was no room for a mark of a link after
+/// 1,000,000 yields, by `NotOpen` where a link stood otherwise than the lines say, and by `NoMemory`, also where only what carries an
+/// outbox to its link failed.
 pub fn play_in_threads<T: Threads + Wait + Sync, R: ScriptIn, W: ReportOut>(
     rt: &T,
     alloc: Global,
@@ -113,6 +123,8 @@ pub fn play_in_threads<T: Threads + Wait + Sync, R: ScriptIn, W: ReportOut>(
 ) -> Result<(), PlayFault>
     // What was read is a script of at most 1,048,576 bytes, and what was written are the reports of what its nodes' threads left.
     ensures reports { OnOk result ((script text : List ℕ) × IsAll (R.left reader.old) script × (length script ≤ SCRIPT_LIMIT) × IsScript script × AreGatheredReports script text × Gains (W.written writer.old) text (W.written writer.new)) }
+    // Of nodes that hold their headlines, which say what matters most.
+    ensures headline { OnOk result ((script text : List ℕ) × IsAll (R.left reader.old) script × AreGatheredHeadlined script text × Gains (W.written writer.old) text (W.written writer.new)) }
     // Device is answered only where the reader failed, and then nothing was written, or where the writer failed.
     ensures device { IfErr result (λ e. e.fault ≡ Fault.Device →
         (Fails (R.failures reader.old) (R.failures reader.new) × (writer.new ≡ writer.old)) ⊎ Fails (W.failures writer.old) (W.failures writer.new)) }
@@ -129,6 +141,8 @@ pub fn play_in_threads<T: Threads + Wait + Sync, R: ScriptIn, W: ReportOut>(
     // That a stage failed, or that there was no room for a mark, is answered only of a script.
     ensures stage { IfErr result (λ e. (stage : Stage) → e.fault ≡ Fault.Refused stage → IfSome (R.left reader.old) (λ all. (length all ≤ SCRIPT_LIMIT) × IsScript all)) }
     ensures full { IfErr result (λ e. e.fault ≡ Fault.Full → IfSome (R.left reader.old) (λ all. (length all ≤ SCRIPT_LIMIT) × IsScript all)) }
+    // Which of them it is, and of which node: the first stage that failed of the first node of which one did, whatever else was wrong.
+    ensures given_up { IfErr result (λ e. IsOfTheNodes e.fault → IfSome (R.left reader.old) (λ all. AreGivenUp all e.node e.fault)) }
     // After any other refusal than Device nothing was written.
     ensures untouched { IfErr result (λ e. e.fault ≢ Fault.Device → writer.new ≡ writer.old) }
     // After a refusal nothing was written, or a part of the reports, from the first byte on.

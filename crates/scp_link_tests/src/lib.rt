@@ -1,4 +1,4 @@
-//! The tests of `scp_wire`, `scp_outbox` and `scp_sent`, by their public calls.
+//! The tests of `scp_wire`, `scp_outbox` and `scp_outboxes`, by their public calls.
 #![tactic(auto)]
 
 #[cfg(test)]

@@ -167,6 +167,7 @@ fn a_link_that_is_not_live_is_given_no_message(rt: HostRuntime) -> Result<(), Fa
 fn of_65_requests_the_oldest_is_overwritten(rt: HostRuntime) -> Result<(), Fail> {
     let mut outbox = Outbox::new(rt.alloc(), true)?;
     assert!(rt; ask(&mut outbox, 1, 66));
+    assert_eq!(rt; outbox.overwritten(), 0);
     for byte in 2..66u8 {
         assert_eq!(rt; next(&mut outbox), Given::Asks(byte));
     }
@@ -185,6 +186,7 @@ fn a_slot_and_kind_that_is_there_keeps_its_place(rt: HostRuntime) -> Result<(), 
     // Older ones change nothing.
     assert!(rt; put(&mut outbox, nomination(alloc, 1, 2)?));
     assert!(rt; put(&mut outbox, prepare(alloc, 1, 3)?));
+    assert_eq!(rt; outbox.overwritten(), 1);
     assert_eq!(rt; next(&mut outbox), Given::Nominates(1, 3));
     assert_eq!(rt; next(&mut outbox), Given::Prepares(1, 4));
     assert_eq!(rt; next(&mut outbox), Given::Nominates(2, 1));
@@ -208,6 +210,7 @@ fn of_65_slots_the_first_is_dropped(rt: HostRuntime) -> Result<(), Fail> {
     let alloc = rt.alloc();
     let mut outbox = Outbox::new(alloc, true)?;
     assert!(rt; fill(alloc, &mut outbox, 65)?);
+    assert_eq!(rt; outbox.overwritten(), 1);
     for slot in 2..66u64 {
         assert_eq!(rt; next(&mut outbox), Given::Prepares(slot, 1));
     }

@@ -1,4 +1,4 @@
-use scp_sent::Outboxes;
+use scp_outboxes::Outboxes;
 use scp_types::Hash;
 use scp_wire::{FittingMessage, Message};
 use std::test::*;
@@ -35,5 +35,7 @@ fn each_link_has_its_own_messages(rt: HostRuntime) -> Result<(), Fail> {
     assert_eq!(rt; next(&mut outboxes, 1), Some(7));
     assert_eq!(rt; next(&mut outboxes, 1), None);
     assert_eq!(rt; next(&mut outboxes, 2), None);
+    assert_eq!(rt; outboxes.overwritten(1), 0);
+    assert_eq!(rt; outboxes.overwritten(2), 0);
     Ok(())
 }

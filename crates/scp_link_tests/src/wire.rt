@@ -1,5 +1,5 @@
 use scp_quorum::QuorumSet;
-use scp_types::{ConnId, Fault, Hash, NodeId, Seq, Slot, Value};
+use scp_types::{CARRIED_LIMIT, ConnId, Fault, Hash, NodeId, Seq, Slot, Value};
 use scp_wire::*;
 use std::alloc::Global;
 use std::process::Abort;

@@ -9,7 +9,8 @@ use Rattle.scp_core.specs.declared.event.Reply.TheVariants as reply
 use Rattle.scp_core.specs.Node.{NodeView, accepts_at}
 use Rattle.scp_network.specs.Heard.{Nodes, Heard, IsHeard, IsOne}
 use Rattle.scp_network.specs.Rounds.{HearsAll, IsStill, IsStillReply, link_of, is_driven, AcceptsNothing, IsShut, drain_of, send_of, Carries}
-use Rattle.scp_network.specs.Inside.{Acts, IsAnswered, IsStage, AcceptsAt, Transmits}
+use Rattle.scp_network.specs.inside.Acting.{Acts, IsStage, AcceptsAt, Transmits}
+use Rattle.scp_network.specs.Network.{IsAnswered}
 use Rattle.scp_network.proofs.Hearing.{hear_as, hear_then, acts_nothing, acts_as}
 use Rattle.scp_network.proofs.Sending.{stage_still, drain_still, send_accepted}
 

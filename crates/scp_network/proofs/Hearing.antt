@@ -14,7 +14,8 @@ use Rattle.scp_core.specs.Node.{NodeView, Step}
 use Rattle.scp_core.specs.Theorem.{LedgerTheorem}
 use Rattle.scp_network.specs.Heard.{Nodes, Heard, exchange_at, past_at, HaveHeard, Then, InOrder}
 use Rattle.scp_network.specs.Rounds.{HearsAll, IsStill, IsStillReply}
-use Rattle.scp_network.specs.Inside.{Hear, Acts, IsAnswered}
+use Rattle.scp_network.specs.Network.{Hear, IsAnswered}
+use Rattle.scp_network.specs.inside.Acting.{Acts}
 
 -- ---- nothing, and one after the other
 

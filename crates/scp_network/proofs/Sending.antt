@@ -9,7 +9,7 @@ use Rattle.scp_core.specs.declared.event.Reply.{Reply}
 use Rattle.scp_core.specs.declared.event.Reply.TheVariants as reply
 use Rattle.scp_core.specs.Node.{NodeView, LinkView, Step, SendsOut, accepts_at, accepts_of}
 use Rattle.scp_network.specs.Rounds.{IsStillReply}
-use Rattle.scp_network.specs.Inside.{IsStage}
+use Rattle.scp_network.specs.inside.Acting.{IsStage}
 
 -- a stage sends nothing out
 sends_nothing : (v new : NodeView) (e : Event) (bytes : Bytes) → IsStage e → SendsOut v e bytes new → ⊥

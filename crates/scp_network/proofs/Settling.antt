@@ -2,7 +2,8 @@
 use Rattle.std.proofs.Common.{inl, inr, ◌≡◌, ◌⊎◌, ◌<◌, ◌+◌, ℕ, Bool, false, List, length, refl, subst}
 use Rattle.scp_network.specs.Heard.{Nodes}
 use Rattle.scp_network.specs.Rounds.{IsStill, IsRound, AreRounds, AllRun, Rests, Breaks, HasFailed}
-use Rattle.scp_network.specs.Inside.{Hear, Acts}
+use Rattle.scp_network.specs.Network.{Hear}
+use Rattle.scp_network.specs.inside.Acting.{Acts}
 use Rattle.scp_network.proofs.Hearing.{hear_as, hear_then, hear_next}
 
 pub round_more : (old mid new : Nodes) (driven : List Bool) (k : ℕ) (moved : Bool) → Hear old mid (AreRounds driven (length old) k) → Acts mid new (IsRound driven (length mid)) moved → Hear old new (AreRounds driven (length old) (k + 1))

@@ -26,6 +26,7 @@ pub record IsHeard (old : Nodes) (h : Heard) (new : Nodes) : Type 0 where
   pub step : Step before h.event h.reply after'
   pub is : new ≡ slice_set old place after'
 
+-- the exchange, where it is of the node of this number
 abbrev pub exchange_at : ℕ → Heard → List Exchange
 exchange_at number h = if nat_eq h.node number then (h.event, h.reply) ∷ [] else []
 

@@ -1,4 +1,5 @@
 pub mod Heard
 pub mod Rounds
-pub mod Inside
+pub mod Network
 pub mod Linked
+pub mod inside

@@ -49,6 +49,7 @@ place_of from to = (from - 1) * 8 + (to - 1)
 abbrev pub is_driven : List Bool → ℕ → ℕ → Bool
 is_driven driven from to = get_or driven (place_of from to) false
 
+-- the node isn't there, or accepts nothing on its link
 abbrev pub AcceptsNothing : Option NodeView → ℕ → Type 0
 AcceptsNothing None link = Unit {0}
 AcceptsNothing (Some node) link = accepts_at node link ≡ false
@@ -58,9 +59,11 @@ AcceptsNothing (Some node) link = accepts_at node link ≡ false
 abbrev pub IsShut : List Bool → ℕ → ℕ → Nodes → Type 0
 IsShut driven from to nodes = (from ≡ to) ⊎ ((is_driven driven from to ≡ true) ⊎ AcceptsNothing (slice_get nodes (to - 1)) (link_of from to))
 
+-- the sender's link to the receiver was drained
 abbrev pub drain_of : ℕ → ℕ → Reply → Heard
 drain_of from to reply = record { node = from; event = event.Drain (link_of to from); reply = reply }
 
+-- these bytes were sent to the receiver over the sender's link, and accepted
 abbrev pub send_of : ℕ → ℕ → Bytes → Heard
 send_of from to bytes = record { node = to; event = event.Send (link_of from to) bytes; reply = reply.Accepted }
 
@@ -84,6 +87,7 @@ IsTurn driven count number = Then (HearsAll number (stage_events (count - 1))) (
 abbrev pub IsRound : List Bool → ℕ → Nodes → List Heard → Nodes → Type 0
 IsRound driven count = InOrder (IsTurn driven count) count
 
+-- so many rounds, one after another
 abbrev pub AreRounds : List Bool → ℕ → ℕ → Nodes → List Heard → Nodes → Type 0
 AreRounds driven count rounds = InOrder (λ round. IsRound driven count) rounds
 

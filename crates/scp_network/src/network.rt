@@ -1,7 +1,7 @@
 //! The nodes, and the links on which the caller alone sends.
 ghost use Rattle.std.specs.Prelude.{◌≡◌, ◌⊎◌, ◌↔◌, IfOk, OnOk, IfErr, Err, replicate, false};
 ghost use Rattle.scp_types.specs.declared.fault.Fault.{Fault};
-ghost use Rattle.scp_network.specs.Inside.{Drives, Offered, Settled};
+ghost use Rattle.scp_network.specs.Network.{Drives, Offered, Settled};
 ghost use Rattle.scp_network.specs.Linked.{IsNetwork};
 
 use crate::linked::{MOST_NODES, is_network};
@@ -21,7 +21,7 @@ pub struct Network {
 }
 
 impl Model for Network {
-    ghost use Rattle.scp_network.specs.Inside.{NetworkView};
+    ghost use Rattle.scp_network.specs.Network.{NetworkView};
 
     ghost Value = { NetworkView };
 

@@ -2,7 +2,8 @@
 ghost use Rattle.std.specs.Prelude.{◌≡◌, ◌≢◌, ◌<◌, ◌≤◌, ◌+◌, length, IfSome, None};
 ghost use Rattle.scp_network.specs.Rounds.{link_of, is_driven, Carries, IsTurn, IsRound, HasFailed, AllRun};
 ghost use Rattle.scp_network.specs.Heard.{InOrder};
-ghost use Rattle.scp_network.specs.Inside.{AcceptsAt, Acts, Settled, Transmits};
+ghost use Rattle.scp_network.specs.inside.Acting.{AcceptsAt, Acts, Transmits};
+ghost use Rattle.scp_network.specs.Network.{Settled};
 
 use crate::turn::{either, hear, work};
 use scp_core::{Event, Node, Reply};

@@ -1,7 +1,8 @@
 //! What the stages of one node do in its turn.
 ghost use Rattle.std.specs.Prelude.{◌≡◌, ◌<◌, ◌+◌, ◌||◌, ◌∷◌, [], length};
 ghost use Rattle.scp_network.specs.Rounds.{HearsAll, reader_events, stage_events};
-ghost use Rattle.scp_network.specs.Inside.{Acts, IsAnswered, IsStage};
+ghost use Rattle.scp_network.specs.inside.Acting.{Acts, IsStage};
+ghost use Rattle.scp_network.specs.Network.{IsAnswered};
 
 use scp_core::{Event, Node, Reply};
 

@@ -17,8 +17,8 @@ use Rattle.scp_vote.specs.declared.claim.Support.TheVariants.{VotesOrAccepts}
 use Rattle.scp_vote.specs.Claims.{Stands}
 use Rattle.scp_vote.specs.Board.{Seen, counted_of_other}
 use Rattle.scp_vote.specs.Licence.{with_own, Leads as LeadsTo, Licensed}
-use Rattle.scp_vote.proofs.Same.{IsSame, follows_same}
-use Rattle.scp_vote.proofs.Chain.{IsChain}
+use Rattle.scp_vote.proofs.Same.{follows_same}
+use Rattle.scp_vote.specs.inside.Chain.{IsSame, IsChain}
 use Rattle.scp_nominate.specs.Heard.{heard}
 use Rattle.scp_nominate.specs.declared.values.ValueSet.{ValueSet}
 use Rattle.scp_nominate.specs.declared.lists.Lists.{Lists}
@@ -28,7 +28,8 @@ use Rattle.scp_nominate.specs.Values.{Has}
 use Rattle.scp_nominate.specs.Own.{own_of, StandsFor, IsReady}
 use Rattle.scp_nominate.specs.Owed.{OwnLists, OwesNothing, Names}
 use Rattle.scp_nominate.specs.Steps.{own_lists}
-use Rattle.scp_nominate.specs.State.{own_at, IsAtRest, IsSettling, IsOwnOf, HearsOne, StateBegins}
+use Rattle.scp_nominate.specs.State.{own_at, IsAtRest}
+use Rattle.scp_nominate.specs.inside.State.{IsSettling, IsOwnOf, HearsOne, StateBegins}
 use Rattle.scp_nominate.specs.Given.{IsWorth}
 use Rattle.scp_driver.specs.declared.driver.Level.{Level}
 use Rattle.scp_driver.specs.Driver.{IsFull}

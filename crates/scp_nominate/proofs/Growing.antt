@@ -6,8 +6,9 @@ use Rattle.scp_vote.specs.declared.claim.Claim.TheVariants.{Nominated}
 use Rattle.scp_vote.specs.Board.{Seen, Accepted, Confirmed}
 use Rattle.scp_nominate.specs.declared.values.ValueSet.{ValueSet}
 use Rattle.scp_nominate.specs.declared.lists.Lists.{Lists}
-use Rattle.scp_nominate.specs.Values.{Has, Adds, AddsNew}
-use Rattle.scp_nominate.specs.Steps.{Grew, More, Voted, MoreVotes, IsFilledWithout, IsTried, HasRoom, IsTaken, Accepts, Confirms}
+use Rattle.scp_nominate.specs.Values.{Has}
+use Rattle.scp_nominate.specs.inside.Values.{Adds, AddsNew}
+use Rattle.scp_nominate.specs.inside.Steps.{Grew, More, Voted, MoreVotes, IsFilledWithout, IsTried, HasRoom, IsTaken, Accepts, Confirms}
 
 grew_new : (x y : ValueSet) (v : List ℕ) → AddsNew x y v → Grew x y
 grew_new x y v a = record { longer = omega (arith, a.longer); keeps = a.keeps }

@@ -12,7 +12,7 @@ use Rattle.std.proofs.lemmas.List.Sorted.{IsNonDecreasingBy-from_default}
 use Rattle.std.proofs.lemmas.List.Elements.{recursion_from_All}
 use Rattle.scp_types.specs.declared.names.NodeId.{NodeId}
 use Rattle.scp_quorum.specs.NodeSet.{node_cmp}
-use Rattle.scp_nominate.specs.Turns.{IsNodeGap}
+use Rattle.scp_nominate.specs.inside.Turns.{IsNodeGap}
 use Rattle.scp_nominate.proofs.Turning.{node_cmp_total}
 
 bounded : (o : Ordering) → ordering_index o ≤ 2

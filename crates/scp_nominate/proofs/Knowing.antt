@@ -4,7 +4,7 @@ use Rattle.std.proofs.lemmas.Bool.{cases_lt}
 use Rattle.std.proofs.lemmas.List.{get_or_default}
 use Rattle.scp_nominate.specs.declared.values.ValueSet.{ValueSet}
 use Rattle.scp_nominate.specs.Values.{Has}
-use Rattle.scp_nominate.specs.Steps.{More, Learns}
+use Rattle.scp_nominate.specs.inside.Steps.{More, Learns}
 use Rattle.scp_nominate.proofs.Growing.{more_has}
 
 pub learns_none : (full : List ℕ → Type 0) (v : List ℕ) (x : ValueSet) → ¬ (full v) → Learns full (λ w. v ≡ w) x x

@@ -8,7 +8,7 @@ use Rattle.std.proofs.lemmas.List.{get_or_default}
 use Rattle.scp_types.specs.declared.names.NodeId.{NodeId}
 use Rattle.scp_vote.specs.Board.{Seen}
 use Rattle.scp_nominate.specs.declared.values.ValueSet.{ValueSet}
-use Rattle.scp_nominate.specs.Steps.{MoreVotes, IsTried}
+use Rattle.scp_nominate.specs.inside.Steps.{MoreVotes, IsTried}
 use Rattle.scp_nominate.specs.Owed.{Names}
 use Rattle.scp_nominate.proofs.Growing.{votes_trans, tried_stays}
 

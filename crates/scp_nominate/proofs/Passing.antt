@@ -10,9 +10,11 @@ use Rattle.scp_vote.specs.Licence.{Follows}
 use Rattle.scp_nominate.specs.declared.values.ValueSet.{ValueSet}
 use Rattle.scp_nominate.specs.declared.lists.Lists.{Lists}
 use Rattle.scp_nominate.specs.Values.{Has}
-use Rattle.scp_nominate.specs.Steps.{own_lists, More, MoreVotes, IsTried, IsTaken, AreVoted, Accepts, Confirms}
+use Rattle.scp_nominate.specs.Steps.{own_lists, AreVoted}
+use Rattle.scp_nominate.specs.inside.Steps.{More, MoreVotes, IsTried, IsTaken, Accepts, Confirms}
 use Rattle.scp_nominate.specs.Owed.{OwesNothing, Names}
-use Rattle.scp_nominate.specs.Own.{own_of, StandsFor, IsReady, Passes, own_same, size, IsVoting, IsVoted}
+use Rattle.scp_nominate.specs.Own.{own_of, StandsFor, IsReady}
+use Rattle.scp_nominate.specs.inside.Own.{Passes, own_same, size, IsVoting, IsVoted}
 use Rattle.scp_nominate.proofs.Growing.{more_has, votes_more, votes_trans, few_stays, tried_stays}
 use Rattle.scp_envelope.proofs.Longer.{larger_is_longer}
 use Rattle.std.proofs.lemmas.Bool.{cases_lt}

@@ -12,9 +12,11 @@ use Rattle.scp_vote.specs.Board.{Seen, Puts, Confirmed}
 use Rattle.scp_nominate.specs.declared.values.ValueSet.{ValueSet}
 use Rattle.scp_nominate.specs.declared.lists.Lists.{Lists}
 use Rattle.scp_nominate.specs.Values.{Has}
-use Rattle.scp_nominate.specs.Own.{own_of, size, own_same, IsKnown}
+use Rattle.scp_nominate.specs.Own.{own_of, IsKnown}
+use Rattle.scp_nominate.specs.inside.Own.{size, own_same}
 use Rattle.scp_nominate.specs.Owed.{OwnLists}
-use Rattle.scp_nominate.specs.Steps.{Confirms, own_lists}
+use Rattle.scp_nominate.specs.inside.Steps.{Confirms}
+use Rattle.scp_nominate.specs.Steps.{own_lists}
 use Rattle.scp_nominate.specs.InTurn.{InTurn}
 use Rattle.scp_nominate.specs.Voting.{VotesOwn, VotesInTurn, VotesFirst}
 use Rattle.scp_nominate.specs.Taking.{TakesOne, TakesInTurn, FindsAll}

@@ -14,9 +14,11 @@ use Rattle.scp_nominate.specs.declared.values.ValueSet.{ValueSet}
 use Rattle.scp_nominate.specs.declared.lists.Lists.{Lists}
 use Rattle.scp_nominate.specs.declared.state.State.{State}
 use Rattle.scp_nominate.specs.Values.{Has}
-use Rattle.scp_nominate.specs.Own.{own_of, StandsFor, IsReady, IsKnown, Passes, own_same, size}
+use Rattle.scp_nominate.specs.Own.{own_of, StandsFor, IsReady, IsKnown}
+use Rattle.scp_nominate.specs.inside.Own.{Passes, own_same, size}
 use Rattle.scp_nominate.specs.Owed.{Names}
-use Rattle.scp_nominate.specs.State.{own_at, Renews, NewAreConfirmed, Tells, IsTold, IsAtRest, IsSettling}
+use Rattle.scp_nominate.specs.State.{own_at, IsAtRest}
+use Rattle.scp_nominate.specs.inside.State.{Renews, NewAreConfirmed, Tells, IsTold, IsSettling}
 use Rattle.scp_nominate.proofs.Passing.{pass_follows, pass_keeps, unchanged, own_of_same, grows, size_bounded, own_sane, own_newer, within}
 use Rattle.scp_envelope.specs.declared.statement.Nominate.{Nominate}
 use Rattle.scp_envelope.specs.declared.statement.Pledges.TheVariants.{Prepare as Preparing, Confirm as Confirming, Externalize as Externalizing, Nominate as Nominating}
@@ -24,7 +26,8 @@ use Rattle.scp_envelope.specs.Newer.{ArePledgesNewer, IsNewerNominate}
 use Rattle.scp_envelope.proofs.Growing.{newer_nominate-trans}
 use Rattle.scp_nominate.proofs.Options.{some_same, none_some, at_some, same_some_and}
 use Rattle.scp_nominate.proofs.Growing.{more_trans, votes_more}
-use Rattle.scp_nominate.specs.Steps.{AreVoted, Learns}
+use Rattle.scp_nominate.specs.Steps.{AreVoted}
+use Rattle.scp_nominate.specs.inside.Steps.{Learns}
 use Rattle.scp_nominate.proofs.Staying.{confirmed_stays}
 use Rattle.scp_nominate.proofs.Suggesting.{decided}
 

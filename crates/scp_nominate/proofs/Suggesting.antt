@@ -13,7 +13,8 @@ use Rattle.scp_vote.proofs.Chain.{same_at}
 use Rattle.scp_nominate.specs.declared.values.ValueSet.{ValueSet}
 use Rattle.scp_nominate.specs.declared.lists.Lists.{Lists}
 use Rattle.scp_nominate.specs.Values.{Has}
-use Rattle.scp_nominate.specs.Steps.{More, Accepts, own_lists}
+use Rattle.scp_nominate.specs.inside.Steps.{More, Accepts}
+use Rattle.scp_nominate.specs.Steps.{own_lists}
 use Rattle.scp_nominate.specs.Owed.{AreOwn, MayVote, VotesFor}
 use Rattle.scp_nominate.specs.Own.{IsReady}
 use Rattle.scp_nominate.proofs.Options.{same_some_and}

@@ -10,8 +10,10 @@ use Rattle.std.proofs.lemmas.Cmp.{nat_list_cmp_total, tied_itself}
 use Rattle.std.proofs.lemmas.Map.Lookups.{exact_bytes}
 use Rattle.scp_nominate.specs.declared.values.ValueSet.{ValueSet}
 use Rattle.scp_nominate.specs.declared.lists.Lists.{Lists}
-use Rattle.scp_nominate.specs.Values.{Has, Adds}
-use Rattle.scp_nominate.specs.Steps.{HasRoom, own_lists}
+use Rattle.scp_nominate.specs.Values.{Has}
+use Rattle.scp_nominate.specs.inside.Values.{Adds}
+use Rattle.scp_nominate.specs.inside.Steps.{HasRoom}
+use Rattle.scp_nominate.specs.Steps.{own_lists}
 use Rattle.scp_nominate.specs.InTurn.{InTurn}
 use Rattle.scp_nominate.specs.Places.{Joins, HasPlace, VotesOne, VotesSome}
 use Rattle.scp_nominate.specs.Taking.{TakesOne}

@@ -13,3 +13,4 @@ pub mod Turns
 pub mod Given
 pub mod Nomination
 pub mod Laws
+pub mod inside

@@ -40,13 +40,16 @@ pub record Nomination : Type 0 where
   pub rounds : ℕ
   pub failed : Bool
 
+-- what contracts see of nomination, of its state and what it is guided by
 abbrev pub nomination_of : State → ℕ → Option (List ℕ) → List NodeId → ℕ → Bool → Nomination
 nomination_of m slot proposal nodes rounds failed =
     record { slot = slot; hash = m.hash; board = heard m.board; lists = own_lists m.lists; proposal = proposal; nodes = nodes; rounds = rounds; failed = failed }
 
+-- what contracts see of nomination
 abbrev pub nomination : {D : Type 0} → Nominator D → Nomination
 nomination m = nomination_of m.state m.guide.slot.0 m.guide.proposal m.nodes.items m.rounds m.failed
 
+-- its driver
 abbrev pub driver_of : {D : Type 0} → Nominator D → D
 driver_of m = m.guide.driver
 

@@ -30,6 +30,7 @@ pub record AreOnBoard (full : List ℕ → Type 0) (b : Seen) (values : List (Li
   pub all : (node : NodeId) (v : List ℕ) → full v → Names b node v → Contains values v
   pub valid : (v : List ℕ) → Contains values v → full v
 
+-- the values on the board that are fully validated are taken in turn, ascending, each as `TakesOne` says
 pub record TakesInTurn (full : List ℕ → Type 0) (b : Seen) (s t : OwnLists) : Type 0 where
   pub values : List (List ℕ)
   pub on_board : AreOnBoard full b values

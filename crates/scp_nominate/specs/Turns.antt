@@ -1,8 +1,6 @@
 -- Who leads (this project's profile).
 use Rattle.std.specs.Prelude.{◌≡◌, ◌≤◌, ◌↔◌, ◌⊎◌, ℕ, List, length, slice_get, Some, Contains}
-use Rattle.std.specs.List.{AllWithin}
 use Rattle.std.specs.List.Sorted.{IsStrictlySortedBy}
-use Rattle.std.specs.declared.cmp.Ordering.TheVariants.{Less, Greater}
 use Rattle.scp_types.specs.declared.names.NodeId.{NodeId}
 use Rattle.scp_quorum.specs.NodeSet.{node_cmp}
 use Rattle.scp_quorum.specs.QuorumTree.{QuorumTree}
@@ -16,8 +14,3 @@ Leads place nodes rounds node = (r : ℕ) × (1 ≤ r) × (r ≤ rounds) × (sli
 pub record AreInTurn (me : NodeId) (set : QuorumTree) (nodes : List NodeId) : Type 0 where
   pub ascending : IsStrictlySortedBy node_cmp nodes
   pub all : (v : NodeId) → Contains nodes v ↔ ((v ≡ me) ⊎ Contains (all_nodes set) v)
-
--- the nodes before the place are less than the node, and the others are greater
-pub record IsNodeGap (nodes : List NodeId) (node : NodeId) (at : ℕ) : Type 0 where
-  pub below : AllWithin (λ w. node_cmp w node ≡ Less) nodes 0 at
-  pub above : AllWithin (λ w. node_cmp w node ≡ Greater) nodes at (length nodes)

@@ -2,7 +2,7 @@
 ghost use Rattle.std.specs.Prelude.{◌≡◌, ◌⊎◌, ℕ, List, Contains, OnOk, IsOkUnless};
 ghost use Rattle.scp_driver.specs.Driver.{IsFull};
 ghost use Rattle.scp_nominate.specs.Values.{Has};
-ghost use Rattle.scp_nominate.specs.Steps.{Learns};
+ghost use Rattle.scp_nominate.specs.inside.Steps.{Learns};
 
 use crate::leaders::add;
 use crate::values::ValueSet;

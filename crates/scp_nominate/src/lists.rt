@@ -3,8 +3,10 @@ ghost use Rattle.std.specs.Prelude.{◌≡◌, ◌⊎◌, ◌↔◌, ℕ, List, 
 ghost use Rattle.scp_vote.specs.Board.{Accepted, Confirmed};
 ghost use Rattle.scp_nominate.specs.Heard.{heard};
 ghost use Rattle.scp_vote.specs.declared.claim.Claim.TheVariants.{Nominated};
-ghost use Rattle.scp_nominate.specs.Values.{Has, items};
-ghost use Rattle.scp_nominate.specs.Steps.{MoreVotes, IsTried, HasRoom, IsTaken, Accepts, Confirms, own_lists};
+ghost use Rattle.scp_nominate.specs.Values.{Has};
+ghost use Rattle.scp_nominate.specs.inside.Values.{items};
+ghost use Rattle.scp_nominate.specs.inside.Steps.{MoreVotes, IsTried, HasRoom, IsTaken, Accepts, Confirms};
+ghost use Rattle.scp_nominate.specs.Steps.{own_lists};
 ghost use Rattle.scp_nominate.specs.InTurn.{InTurn};
 ghost use Rattle.scp_nominate.specs.Places.{VotesOne};
 ghost use Rattle.scp_nominate.specs.Taking.{TakesOne};

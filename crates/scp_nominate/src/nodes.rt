@@ -3,7 +3,8 @@ ghost use Rattle.std.specs.Prelude.{◌≡◌, ◌≤◌, IfOk, IfErr, OnOk, IsO
 ghost use Rattle.scp_types.specs.declared.names.NodeId.{NodeId};
 ghost use Rattle.std.specs.List.Sorted.{IsStrictlySortedBy};
 ghost use Rattle.scp_quorum.specs.NodeSet.{node_cmp};
-ghost use Rattle.scp_nominate.specs.Turns.{AreInTurn, IsNodeGap};
+ghost use Rattle.scp_nominate.specs.Turns.{AreInTurn};
+ghost use Rattle.scp_nominate.specs.inside.Turns.{IsNodeGap};
 
 use scp_driver::Driver;
 use scp_quorum::QuorumSet;

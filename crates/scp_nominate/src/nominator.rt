@@ -36,7 +36,8 @@ impl<D: Driver + Drop> Nominator<D> {
     ghost use Rattle.scp_quorum.specs.NodeSet.{node_cmp};
     ghost use Rattle.scp_types.specs.declared.names.NodeId.{NodeId};
     ghost use Rattle.scp_nominate.specs.Turns.{Leads};
-    ghost use Rattle.scp_nominate.specs.State.{IsAtRest, IsSettling, IsOwnOf};
+    ghost use Rattle.scp_nominate.specs.State.{IsAtRest};
+    ghost use Rattle.scp_nominate.specs.inside.State.{IsSettling, IsOwnOf};
     ghost use Rattle.scp_nominate.specs.Nomination.{nomination, driver_of, own, Advances, HasOwnLists, SaysItsLists, VotesWell, KeepsMaking, KeepsOthers, Hears, IsSound, IsPaid, Begins, first_of, ComesFrom, ComesFromHearing};
 
     /// A nominator that has heard nothing, in round 1. The one refusal is `Fault::NoMemory`.

@@ -38,7 +38,8 @@ pub(crate) struct State {
 }
 
 impl State {
-    ghost use Rattle.scp_nominate.specs.State.{IsAtRest, IsSettling, IsOwnOf, Renews, HearsOne, StateBegins};
+    ghost use Rattle.scp_nominate.specs.State.{IsAtRest};
+    ghost use Rattle.scp_nominate.specs.inside.State.{IsSettling, IsOwnOf, Renews, HearsOne, StateBegins};
 
     /// An empty board of this node and its set, and empty lists.
     pub(crate) fn new(alloc: Global, me: NodeId, local: Arc<SaneSet>) -> Result<State, Fault>

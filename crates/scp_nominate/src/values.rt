@@ -16,7 +16,8 @@ pub(crate) struct ValueSet {
 }
 
 impl ValueSet {
-    ghost use Rattle.scp_nominate.specs.Values.{items, Has, Adds, IsGap};
+    ghost use Rattle.scp_nominate.specs.inside.Values.{items, Adds, IsGap};
+    ghost use Rattle.scp_nominate.specs.Values.{Has};
 
     /// No values.
     pub(crate) fn new(alloc: Global) -> ValueSet

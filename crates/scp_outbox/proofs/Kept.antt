@@ -18,7 +18,7 @@ use Rattle.scp_wire.specs.declared.message.Message.TheVariants.{Envelope, GetSet
 use Rattle.scp_wire.specs.Fitting.{IsFitting}
 use Rattle.scp_outbox.specs.declared.mark.Mark.{Mark}
 use Rattle.scp_outbox.specs.declared.mark.Out.{Out}
-use Rattle.scp_outbox.specs.Outbox.{OutboxView, is_nomination, same_bool, are_alike, AreOneEach, Takes, Replaces, Puts, Gives, live_after, given_statements, given_messages, given_live, given_from, IfMessage, IsOutbox}
+use Rattle.scp_outbox.specs.Outbox.{OutboxView, is_nomination, same_bool, are_alike, AreOneEach, Takes, Replaces, GoesLast, counted, Puts, Gives, live_after, given_statements, given_messages, given_live, given_from, IfMessage, IsOutbox}
 
 and_parts : (a b : Bool) → (a && b) ≡ true → (a ≡ true) × (b ≡ true)
 and_parts true b h = (refl, h)
@@ -95,14 +95,14 @@ one_each-set xs i held e at within same h j k d lt below =
 abbrev Kept : List Boxed → Type 0
 Kept xs = (length xs ≤ 64) × (AreOneEach xs × All Fitting xs)
 
-kept_by : (xs : List Boxed) (e : Boxed) (new : List Boxed) (o : Option ℕ) → position (λ (held : Boxed). alike held e) xs ≡ o → Kept xs → Fitting e → MatchOption o (new ≡ keep_last 64 (xs ++ e ∷ [])) (λ place. Replaces xs place e new) → Kept new
-kept_by xs e new None at h fits k =
+kept_by : (xs : List Boxed) (e : Boxed) (new : List Boxed) (lost : ℕ) (o : Option ℕ) → position (λ (held : Boxed). alike held e) xs ≡ o → Kept xs → Fitting e → MatchOption o (GoesLast xs e new lost) (λ place. Replaces xs place e new lost) → Kept new
+kept_by xs e new lost None at h fits k =
     let grown = all_pairs_push Apart xs e h.1.0 (λ i d below. none_passes (λ (held : Boxed). alike held e) xs at i d below) in
     let all = xs ++ e ∷ [] in
     let few : length (keep_last 64 all) ≤ 64 = omega (arith, length-drop (length all - 64) all) in
     let one = one_each-drop (length all - 64) all grown in
-    subst Kept (sym k) (few, (one, All-drop Fitting (length all - 64) all (All-push Fitting xs e h.1.1 fits)))
-kept_by xs e new (Some i) at h fits k =
+    subst Kept (sym k.0) (few, (one, All-drop Fitting (length all - 64) all (All-push Fitting xs e h.1.1 fits)))
+kept_by xs e new lost (Some i) at h fits k =
     let there = position-Some (λ (held : Boxed). alike held e) xs i k.0 at in
     let same : alike k.0 e ≡ true = subst (λ y. alike y e ≡ true) (get_or_from_slice_get xs i k.0 k.0 k.1) there.1 in
     elim k.2 [
@@ -111,9 +111,9 @@ kept_by xs e new (Some i) at h fits k =
     ]
 
 -- a statement comes
-pub takes_known : (v : OutboxView) (e : Boxed) (new : List Boxed) → IsOutbox v → Fitting e → Takes v.statements e new → IsOutbox (record v { statements = new })
-takes_known v e new h fits k =
-    let r = kept_by v.statements e new (position (λ (held : Boxed). alike held e) v.statements) refl (h.statements, (h.one_each, h.statements_fit)) fits k in
+pub takes_known : (v : OutboxView) (e : Boxed) (new : List Boxed) (lost count : ℕ) → IsOutbox v → Fitting e → Takes v.statements e new lost → IsOutbox (record v { statements = new; overwritten = count })
+takes_known v e new lost count h fits k =
+    let r = kept_by v.statements e new lost (position (λ (held : Boxed). alike held e) v.statements) refl (h.statements, (h.one_each, h.statements_fit)) fits k in
     record { marks = h.marks; ring = h.ring; statements = r.0; one_each = r.1.0; ring_fits = h.ring_fits; statements_fit = r.1.1 }
 
 -- another message comes
@@ -146,7 +146,7 @@ mark_leaves_known v x rest live is h =
 
 -- the whole, by the definitions
 pub puts_known : (v : OutboxView) (m : Message) (new : OutboxView) → IsOutbox v → IsFitting m → Puts v m new → IsOutbox new
-puts_known v (Envelope e) new h fits k = subst IsOutbox (sym k.2) (takes_known v e k.0 h fits k.1)
+puts_known v (Envelope e) new h fits k = subst IsOutbox (sym k.3) (takes_known v e k.0 k.1 (counted v.overwritten k.1) h fits k.2)
 puts_known v (GetSet hash) new h fits k = subst IsOutbox (sym k) (ring_takes_known v (GetSet hash) h fits)
 puts_known v (Set set) new h fits k = subst IsOutbox (sym k) (ring_takes_known v (Set set) h fits)
 puts_known v (NoSet hash) new h fits k = subst IsOutbox (sym k) (ring_takes_known v (NoSet hash) h fits)

@@ -8,7 +8,7 @@ use Rattle.scp_wire.specs.declared.message.Message.{Message}
 use Rattle.scp_wire.specs.declared.message.Message.TheVariants.{Envelope, GetSet, Set, NoSet, GetRecord, Record, Records}
 use Rattle.scp_outbox.specs.declared.mark.Mark.{Mark}
 use Rattle.scp_outbox.specs.declared.mark.Out.{Out}
-use Rattle.scp_outbox.specs.Outbox.{OutboxView, are_alike, Replaces, Puts, Gives, given_statements, given_messages, given_live, given_from, IfMessage}
+use Rattle.scp_outbox.specs.Outbox.{OutboxView, are_alike, GoesLast, Replaces, Puts, Gives, given_statements, given_messages, given_live, given_from, IfMessage}
 use Rattle.scp_outbox.specs.Laws.{Waits}
 
 -- each message that waits has the property
@@ -20,15 +20,15 @@ module _ (P : Message → Type 0) where
   abbrev Holds : Boxed → Type 0
   Holds e = P (Envelope e)
 
-  held_by : (xs : List Boxed) (e : Boxed) (new : List Boxed) (o : Option ℕ) → All Holds xs → P (Envelope e) → MatchOption o (new ≡ keep_last 64 (xs ++ e ∷ [])) (λ place. Replaces xs place e new) → All Holds new
-  held_by xs e new None h p k = subst (All Holds) (sym k) (All-drop Holds (length (xs ++ e ∷ []) - 64) (xs ++ e ∷ []) (All-push Holds xs e h p))
-  held_by xs e new (Some i) h p k = elim k.2 [ inl w ↦ subst (All Holds) (sym w.1) (All-set Holds xs i e p h) | inr w ↦ subst (All Holds) (sym w.1) h ]
+  held_by : (xs : List Boxed) (e : Boxed) (new : List Boxed) (lost : ℕ) (o : Option ℕ) → All Holds xs → P (Envelope e) → MatchOption o (GoesLast xs e new lost) (λ place. Replaces xs place e new lost) → All Holds new
+  held_by xs e new lost None h p k = subst (All Holds) (sym k.0) (All-drop Holds (length (xs ++ e ∷ []) - 64) (xs ++ e ∷ []) (All-push Holds xs e h p))
+  held_by xs e new lost (Some i) h p k = elim k.2 [ inl w ↦ subst (All Holds) (sym w.1) (All-set Holds xs i e p h) | inr w ↦ subst (All Holds) (sym w.1) h ]
 
   ring_put : (v : OutboxView) (m : Message) (new : OutboxView) → new ≡ record v { ring = keep_last 64 (v.ring ++ m ∷ []) } → P m → AllWait P v → AllWait P new
   ring_put v m new is p h = subst (AllWait P) (sym is) (record { ring = All-drop P (length (v.ring ++ m ∷ []) - 64) (v.ring ++ m ∷ []) (All-push P v.ring m h.ring p); statements = h.statements })
 
   put_keeps : (v : OutboxView) (m : Message) (new : OutboxView) → Puts v m new → P m → AllWait P v → AllWait P new
-  put_keeps v (Envelope e) new k p h = subst (AllWait P) (sym k.2) (record { ring = h.ring; statements = held_by v.statements e k.0 (position (λ (held : Boxed). are_alike held.value.statement e.value.statement) v.statements) h.statements p k.1 })
+  put_keeps v (Envelope e) new k p h = subst (AllWait P) (sym k.3) (record { ring = h.ring; statements = held_by v.statements e k.0 k.1 (position (λ (held : Boxed). are_alike held.value.statement e.value.statement) v.statements) h.statements p k.2 })
   put_keeps v (GetSet hash) new k p h = ring_put v (GetSet hash) new k p h
   put_keeps v (Set set) new k p h = ring_put v (Set set) new k p h
   put_keeps v (NoSet hash) new k p h = ring_put v (NoSet hash) new k p h

@@ -1,4 +1,4 @@
 pub mod Outbox
-pub mod Inside
 pub mod Laws
 pub mod Crossing
+pub mod inside

@@ -1,5 +1,5 @@
 -- What waits for one peer, and how it changes (this project's profile).
-use Rattle.std.specs.Prelude.{◌≡◌, ◌≤◌, ℕ, Bool, true, false, ◌&&◌, List, [], ◌∷◌, ◌++◌, length, Some, MatchOption, nat_eq, if◌then◌else◌, not, position, slice_get, slice_set, All, AllPairs, ◌⊎◌}
+use Rattle.std.specs.Prelude.{◌≡◌, ◌≤◌, ℕ, Bool, true, false, ◌&&◌, List, [], ◌∷◌, ◌++◌, length, Some, MatchOption, nat_eq, if◌then◌else◌, not, position, slice_get, slice_set, All, AllPairs, ◌⊎◌, ◌+◌, ◌-◌, ◌^◌, min}
 pub use Rattle.circular_buffer.specs.Buffer.{keep_last}
 use Rattle.scp_envelope.specs.declared.statement.Pledges.{Pledges}
 use Rattle.scp_envelope.specs.declared.statement.Pledges.TheVariants.{Prepare, Confirm, Externalize, Nominate}
@@ -20,6 +20,7 @@ pub record OutboxView : Type 0 where
   pub marks : List Mark
   pub ring : List Message  -- requests and answers
   pub statements : List Boxed
+  pub overwritten : ℕ  -- how many statements were lost before they were given
 
 -- a nomination, and not a ballot statement
 abbrev pub is_nomination : Pledges → Bool
@@ -36,35 +37,35 @@ same_bool a b = if a then b else not b
 abbrev pub are_alike : Statement → Statement → Bool
 are_alike s t = nat_eq s.slot.0 t.slot.0 && same_bool (is_nomination s.pledges) (is_nomination t.pledges)
 
--- the statement of that place is replaced where the one that comes is newer
-abbrev pub Replaces : List Boxed → ℕ → Boxed → List Boxed → Type 0
-Replaces old place came new = (held : Boxed) × (slice_get old place ≡ Some held)
-    × ((IsNewer held.value.statement came.value.statement × (new ≡ slice_set old place came))
-    ⊎ ((¬ (IsNewer held.value.statement came.value.statement)) × (new ≡ old)))
+-- the statement of that place is replaced, and so lost, where the one that comes is newer; else nothing is lost
+abbrev pub Replaces : List Boxed → ℕ → Boxed → List Boxed → ℕ → Type 0
+Replaces old place came new lost = (held : Boxed) × (slice_get old place ≡ Some held)
+    × ((IsNewer held.value.statement came.value.statement × (new ≡ slice_set old place came) × (lost ≡ 1))
+    ⊎ ((¬ (IsNewer held.value.statement came.value.statement)) × (new ≡ old) × (lost ≡ 0)))
 
--- a statement comes: one of a slot and kind that is there keeps its place, another goes last, and over 64 the first goes
-abbrev pub Takes : List Boxed → Boxed → List Boxed → Type 0
-Takes old came new = MatchOption (position (λ held. are_alike held.value.statement came.value.statement) old)
-    (new ≡ keep_last 64 (old ++ came ∷ []))
-    (λ place. Replaces old place came new)
+-- it goes last, and what is over 64 is lost: the first
+abbrev pub GoesLast : List Boxed → Boxed → List Boxed → ℕ → Type 0
+GoesLast old came new lost = (new ≡ keep_last 64 (old ++ came ∷ [])) × (lost ≡ length (old ++ came ∷ []) - 64)
 
--- all but envelopes are requests and answers
-abbrev pub is_statement : Message → Bool
-is_statement (Envelope envelope) = true
-is_statement (GetSet hash) = false
-is_statement (Set set) = false
-is_statement (NoSet hash) = false
-is_statement (GetRecord slot) = false
-is_statement (Record slot value) = false
-is_statement (Records first values) = false
+-- a statement comes: one of a slot and kind that is there keeps its place, another goes last, and over 64 the first goes; and
+-- how many of those that waited are lost, one or none
+abbrev pub Takes : List Boxed → Boxed → List Boxed → ℕ → Type 0
+Takes old came new lost = MatchOption (position (λ held. are_alike held.value.statement came.value.statement) old)
+    (GoesLast old came new lost)
+    (λ place. Replaces old place came new lost)
+
+-- so many more are lost; the count stays at the greatest 64-bit number
+abbrev pub counted : ℕ → ℕ → ℕ
+counted overwritten lost = min (overwritten + lost) (2 ^ 64 - 1)
 
 -- another message goes last in the ring, and over 64 the first goes
 abbrev pub RingTakes : OutboxView → Message → OutboxView → Type 0
 RingTakes old message new = new ≡ record old { ring = keep_last 64 (old.ring ++ message ∷ []) }
 
--- a statement goes among the statements
+-- a statement goes among the statements, and what is lost by that is counted
 abbrev pub StatementsTake : OutboxView → Boxed → OutboxView → Type 0
-StatementsTake old envelope new = (statements : List Boxed) × Takes old.statements envelope statements × (new ≡ record old { statements = statements })
+StatementsTake old envelope new = (statements : List Boxed) × (lost : ℕ) × Takes old.statements envelope statements lost
+    × (new ≡ record old { statements = statements; overwritten = counted old.overwritten lost })
 
 -- a message comes
 abbrev pub Puts : OutboxView → Message → OutboxView → Type 0
@@ -102,9 +103,11 @@ abbrev pub given_from : OutboxView → List Mark → Out × OutboxView
 given_from v [] = given_live v v.live
 given_from v (mark ∷ rest) = (out.Mark mark, record v { marks = rest; live = live_after mark v.live })
 
+-- what is given next, and what is left
 abbrev pub given : OutboxView → Out × OutboxView
 given v = given_from v v.marks
 
+-- this is given, and this is left
 abbrev pub Gives : OutboxView → Out → OutboxView → Type 0
 Gives old result new = (result, new) ≡ given old
 

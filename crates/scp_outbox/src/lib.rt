@@ -9,6 +9,9 @@
 //! - To put a message takes no memory, waits for nobody and is never refused.
 //! - A `SharedOutbox` is the same behind a lock, for threads: what stands behind the lock at each turn keeps these limits, and
 //!   `next` waits where there is nothing. It may be moved to another thread, and threads may share it.
+//!
+//! Not claimed: that what waits is ever sent. Of a `SharedOutbox`: that a call returns, and what it found behind the lock or left there,
+//! but for what holds of every outbox. That nothing is dropped there, tests show.
 #![tactic(auto)]
 
 mod laws;

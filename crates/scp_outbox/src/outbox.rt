@@ -1,8 +1,9 @@
 //! What waits to go to one peer.
-ghost use Rattle.std.specs.Prelude.{◌≡◌, ◌≢◌, ◌∷◌, ◌++◌, [], ◌<◌, ◌↔◌, ◌==◌, length, IfOk, OnOk, OnErr, IsOk, IsTrue, IsOkUnless, Ok, Err, position, Some, None, slice_get, slice_set, MatchOption, false, ◌+◌};
+ghost use Rattle.std.specs.Prelude.{◌≡◌, ◌≢◌, ◌∷◌, ◌++◌, [], ◌<◌, ◌↔◌, ◌==◌, ◌≤◌, length, IfOk, OnOk, OnErr, IsOk, IsTrue, IsOkUnless, Ok, Err, position, Some, None, slice_get, slice_set, MatchOption, false, ◌+◌};
 ghost use Rattle.scp_envelope.specs.Newer.{IsNewer};
 ghost use Rattle.scp_wire.specs.Boxed.{Boxed};
-ghost use Rattle.scp_outbox.specs.Outbox.{are_alike, is_nomination as is_nominating, is_statement, live_after, Puts, Gives, IsOutbox, Takes, Replaces, StatementsTake, IfMessage};
+ghost use Rattle.scp_outbox.specs.Outbox.{are_alike, is_nomination as is_nominating, live_after, Puts, Gives, IsOutbox, GoesLast, Takes, Replaces, StatementsTake, IfMessage};
+ghost use Rattle.scp_outbox.specs.inside.Statements.{is_statement};
 ghost use Rattle.scp_wire.specs.Fitting.{IsFitting};
 
 use crate::mark::{Mark, Out};
@@ -19,14 +20,15 @@ pub const MARK_LIMIT: usize = 16;
 /// The most requests and answers that wait, and the most statements (this project's profile).
 pub const WAITING_LIMIT: usize = 64;
 
-/// What waits to go to one peer. Contracts see whether the link is live, and three lists: the marks, the requests and
-/// answers, and the statements.
+/// What waits to go to one peer. Contracts see whether the link is live, three lists, the marks, the requests and answers,
+/// and the statements, and how many statements were lost.
 #[derive(Drop)]
 pub struct Outbox {
     live: bool,
     marks: HeapCircularBuffer<Mark>,
     ring: HeapCircularBuffer<Message>,
     statements: HeapCircularBuffer<BoxedEnvelope>,
+    overwritten: u64,
 }
 
 impl Model for Outbox {
@@ -35,12 +37,12 @@ impl Model for Outbox {
     ghost Value = { OutboxView };
 
     ghost use Rattle.std.specs.Coded.{codes};
-    ghost use Rattle.scp_xdr.specs.TreeModel.{coded_row};
-    ghost use Rattle.scp_quorum.specs.QuorumTree.{coded_level};
+    ghost use Rattle.scp_xdr.specs.inside.TreeModel.{coded_row};
+    ghost use Rattle.scp_quorum.specs.inside.QuorumTree.{coded_level};
 
     ghost coded = { Prim.hlevel (codes, coded_row coded_level) };
 
-    ghost use Rattle.scp_outbox.specs.Inside.{outbox_view, IsSound};
+    ghost use Rattle.scp_outbox.specs.inside.Outbox.{outbox_view, IsSound};
 
     ghost view = { outbox_view };
 
@@ -51,8 +53,8 @@ impl Outbox {
     /// An outbox in which nothing waits, of a link that is live or isn't: only of a live link messages are given. It takes
     /// all the memory that it ever needs, and the one refusal is `Fault::NoMemory`.
     pub fn new(alloc: Global, live: bool) -> Result<Outbox, Fault>
-        // Nothing waits.
-        ensures made { IfOk result (λ o. o ≡ record { live = live; marks = []; ring = []; statements = [] }) }
+        // Nothing waits, and nothing was lost.
+        ensures made { IfOk result (λ o. o ≡ record { live = live; marks = []; ring = []; statements = []; overwritten = 0 }) }
         // Only want of memory is a reason to refuse.
         ensures only_memory { IsOkUnless result Fault.NoMemory }
     {
@@ -61,6 +63,7 @@ impl Outbox {
             marks: HeapCircularBuffer::with_capacity(alloc, MARK_LIMIT)?,
             ring: HeapCircularBuffer::with_capacity(alloc, WAITING_LIMIT)?,
             statements: HeapCircularBuffer::with_capacity(alloc, WAITING_LIMIT)?,
+            overwritten: 0,
         })
     }
 
@@ -71,14 +74,24 @@ impl Outbox {
         self.ring.len() + self.statements.len()
     }
 
+    /// How many own statements were lost since the outbox was made, before they were given: those that a newer one of their
+    /// slot and kind replaced, and those that were dropped where 64 others waited. A statement that comes and isn't newer
+    /// than the one that waits counts as none, and so do requests and answers.
+    pub fn overwritten(&self) -> u64
+        ensures { result ≡ self.now.overwritten }
+    {
+        self.overwritten
+    }
+
     /// Lets a message wait. It is never refused, takes no memory and waits for nobody, whether the link is live or not.
     ///
     /// A request or an answer goes last among these; where 64 wait, the oldest is overwritten. A statement replaces the one
     /// of its slot and kind (nomination or ballot) that waits, in its place, where it is newer, and is dropped where it isn't;
-    /// where none of its slot and kind waits it goes last, and over 64 the first is dropped. A statement is compared
-    /// with at most 64 others by slot and kind, and with one by content.
+    /// where none of its slot and kind waits it goes last, and over 64 the first is dropped. A statement that is replaced and
+    /// one that is dropped as the first of over 64 count as overwritten. A statement is compared with at most 64 others by
+    /// slot and kind, and with one by content.
     pub fn put(&mut self, message: FittingMessage)
-        // How the lists change.
+        // How the lists change, and what is lost.
         ensures puts { Puts self.old message self.new }
         // The limits, and one statement of each slot and kind.
         ensures known { IsOutbox self.new }
@@ -161,7 +174,8 @@ impl Outbox {
         ensures puts { StatementsTake self.old envelope self.new }
         ensures known { IsOutbox self.new }
     {
-        take_statement(&mut self.statements, envelope);
+        let lost = take_statement(&mut self.statements, envelope);
+        self.overwritten = self.overwritten.saturating_add(lost);
     }
 }
 
@@ -208,18 +222,36 @@ fn place_of(
     statements.iter().position(|held| is_alike(&held.get().statement, &envelope.get().statement))
 }
 
-/// Lets a statement wait among these.
-fn take_statement(statements: &mut HeapCircularBuffer<BoxedEnvelope>, envelope: BoxedEnvelope)
-    requires { statements.old.capacity ≡ WAITING_LIMIT }
-    ensures takes { Takes statements.old.items envelope statements.new.items }
+/// Lets a statement wait among these. Gives how many were lost.
+fn take_statement(
+    statements: &mut HeapCircularBuffer<BoxedEnvelope>,
+    envelope: BoxedEnvelope,
+) -> u64
+    requires room { statements.old.capacity ≡ WAITING_LIMIT }
+    requires few { length statements.old.items ≤ WAITING_LIMIT }
+    ensures takes { Takes statements.old.items envelope statements.new.items result }
     ensures capacity { statements.new.capacity ≡ WAITING_LIMIT }
 {
     match place_of(statements, &envelope) {
-        None => {
-            statements.push_back(envelope);
-        }
+        None => push_last(statements, envelope),
         Some(place) => replace(statements, place, envelope),
     }
+}
+
+/// Puts a statement last. Gives how many were lost.
+fn push_last(statements: &mut HeapCircularBuffer<BoxedEnvelope>, envelope: BoxedEnvelope) -> u64
+    requires room { statements.old.capacity ≡ WAITING_LIMIT }
+    requires few { length statements.old.items ≤ WAITING_LIMIT }
+    ensures last { GoesLast statements.old.items envelope statements.new.items result }
+    ensures capacity { statements.new.capacity ≡ WAITING_LIMIT }
+{
+    let lost = if statements.len() < WAITING_LIMIT {
+        0
+    } else {
+        1
+    };
+    statements.push_back(envelope);
+    lost
 }
 
 /// Whether the statement is newer than the one at that place.
@@ -252,17 +284,20 @@ fn write_there(
     }
 }
 
-/// Puts the envelope in that place where its statement is newer.
+/// Puts the envelope in that place where its statement is newer. Gives how many were lost.
 fn replace(
     statements: &mut HeapCircularBuffer<BoxedEnvelope>,
     place: usize,
     envelope: BoxedEnvelope,
-)
+) -> u64
     requires { place < length statements.old.items }
-    ensures replaces { Replaces statements.old.items place envelope statements.new.items }
+    ensures replaces { Replaces statements.old.items place envelope statements.new.items result }
     ensures capacity { statements.new.capacity ≡ statements.old.capacity }
 {
     if is_newer_there(statements, place, &envelope) {
         write_there(statements, place, envelope);
+        1
+    } else {
+        0
     }
 }

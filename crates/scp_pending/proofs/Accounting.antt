@@ -1,7 +1,7 @@
 -- The accounts of each connection, along a list of takes.
 use Rattle.std.proofs.Common.{◌≡◌, ℕ, ◌+◌, Bool, true, false, cond, List, [], ◌∷◌, ◌++◌, refl, sym, ◌∙◌, ap, subst, append_assoc, inl, inr, ◌⊎◌, zero, suc, arith, length, ◌<◌, nat_eq}
-use Rattle.std.specs.Prelude.{◌&&◌, Option, Some, None, fold, slice_get, is_some, position, nat_lt, not}
-use Rattle.std.specs.List.{AllByRecursion, position_or_len, prefix_len}
+use Rattle.std.specs.Prelude.{◌&&◌, Some, slice_get, is_some, position, not}
+use Rattle.std.specs.List.{AllByRecursion, position_or_len}
 use Rattle.std.proofs.lemmas.Bool.{lt-ltb, eqb-true}
 use Rattle.scp_types.specs.declared.names.ConnId.{ConnId}
 use Rattle.scp_types.specs.declared.names.NodeId.{NodeId}
@@ -10,18 +10,18 @@ use Rattle.scp_wire.specs.declared.carried.Carried.{Carried}
 use Rattle.scp_wire.specs.declared.link.Inbound.{Inbound}
 use Rattle.scp_wire.specs.declared.link.Inbound.TheVariants as inbound
 use Rattle.scp_wire.specs.Connections.{conn_at, same_node, same_conn}
-use Rattle.scp_wire.specs.Shape.{Come, nothing_came, comes, AreInOrder, is_from, of_peer, HasShape}
-use Rattle.scp_wire.specs.Marks.{Mark, marks_in, messages_in, IsCut, IsWhole}
+use Rattle.scp_wire.specs.Shape.{Come, nothing_came, comes, AreInOrder, is_from, of_peer}
+use Rattle.scp_wire.specs.Marks.{Mark, marks_in, messages_in, IsWhole}
 use Rattle.scp_wire.specs.Lanes.{slots_of, in_lane, HasSlot, HaveSlots}
 use Rattle.scp_pending.specs.declared.ready.Ready.{Ready}
 use Rattle.scp_pending.specs.declared.ready.Ready.TheVariants.{Deliver, Dropped, Closed, Local}
 use Rattle.scp_pending.specs.Queues.{QueueView, is_open, is_link_open}
-use Rattle.scp_pending.specs.Rules.{Settled, PendingView, fresh, rules, releases, opens, link_of, settled_by, released_by}
-use Rattle.scp_pending.specs.Line.{marks_of, marks_parked, held, HasItsMessage, HaveMessages, Accounts}
+use Rattle.scp_pending.specs.Rules.{Settled, rules, releases, link_of, settled_by, released_by}
+use Rattle.scp_pending.specs.Line.{marks_of, marks_parked, held, HasItsMessage}
 use Rattle.scp_pending.specs.Causes.{HasCause}
-use Rattle.scp_pending.specs.Pends.{Pends, start_of}
+use Rattle.scp_pending.specs.Pends.{start_of}
 use Rattle.scp_pending.specs.Laws.{AllAccounts}
-use Rattle.scp_pending.proofs.Basics.{append_nil, all_weaker, all_left, same_node-refl, same_number, fold-append}
+use Rattle.scp_pending.proofs.Basics.{append_nil, all_weaker, all_left, same_node-refl, same_number}
 use Rattle.scp_pending.proofs.Serving.{AreMine, marks_of-append}
 use Rattle.scp_pending.proofs.Standing.{Fits, AllStand, lanes_of_queues, mine_of}
 use Rattle.scp_pending.proofs.Sound.{Sound, sound_step, sound_start}

@@ -27,7 +27,7 @@ use Rattle.scp_pending.specs.Queues.{QueueView, is_of, parked_of, seq_of}
 use Rattle.scp_pending.specs.Rules.{PendingView}
 use Rattle.scp_pending.specs.Causes.{plus}
 use Rattle.scp_pending.specs.Endings.{Ascend}
-use Rattle.scp_pending.specs.Outcome.{parked_in_all}
+use Rattle.scp_pending.specs.inside.Outcome.{parked_in_all}
 use Rattle.scp_pending.specs.Pends.{Pends}
 use Rattle.scp_pending.specs.Messages.{IsParkedAs, message_cmp}
 use Rattle.scp_pending.proofs.Basics.{all_weaker, all_append, same_conn-refl}

@@ -1,7 +1,7 @@
 -- How connections end, along a list of takes; and what passes.
-use Rattle.std.proofs.Common.{◌≡◌, ◌≢◌, ℕ, ◌+◌, ◌<◌, Bool, true, false, cond, List, [], ◌∷◌, ◌++◌, ◌≤◌, ◌⊎◌, length, refl, sym, ◌∙◌, ap, subst, arith, append_assoc, nat_eq, map, inl, inr}
-use Rattle.std.specs.Prelude.{◌&&◌, Some, slice_get, is_some, position, fold}
-use Rattle.std.specs.List.{AllByRecursion}
+use Rattle.std.proofs.Common.{◌≡◌, ℕ, ◌+◌, ◌<◌, Bool, true, false, cond, List, [], ◌∷◌, ◌++◌, ◌⊎◌, refl, sym, ◌∙◌, ap, subst, arith, append_assoc, nat_eq, map, inl, inr}
+use Rattle.std.specs.Prelude.{Some, slice_get, is_some, position, fold}
+use Rattle.std.specs.List.{range_with_len}
 use Rattle.std.proofs.lemmas.Bool.{eqb-true}
 use Rattle.scp_types.specs.declared.names.ConnId.{ConnId}
 use Rattle.scp_types.specs.declared.names.Hash.{Hash}
@@ -12,36 +12,36 @@ use Rattle.scp_wire.specs.declared.carried.Carried.{Carried}
 use Rattle.scp_wire.specs.declared.side.SideMessage.{SideMessage}
 use Rattle.scp_wire.specs.declared.side.SideMessage.TheVariants.{GetSet, Set, NoSet}
 use Rattle.scp_wire.specs.declared.link.Cause.TheVariants.{ParkedFull}
-use Rattle.scp_wire.specs.declared.link.Command.{Command}
 use Rattle.scp_wire.specs.declared.link.Command.TheVariants.{Tick, Propose, Round, Timer, Ask}
 use Rattle.scp_wire.specs.declared.link.Inbound.{Inbound}
 use Rattle.scp_wire.specs.declared.link.Inbound.TheVariants as inbound
 use Rattle.scp_wire.specs.Connections.{conn_at, same_node, same_conn}
 use Rattle.scp_wire.specs.Shape.{Come, nothing_came, comes, MayCome, AreInOrder, is_from, of_peer, HasShape}
-use Rattle.scp_wire.specs.Marks.{Mark, number, ended, one_if}
-use Rattle.scp_wire.specs.Lanes.{HasSlot, HaveSlots}
+use Rattle.scp_wire.specs.Marks.{number}
+use Rattle.scp_wire.specs.Lanes.{in_lane, HasSlot, HaveSlots}
 use Rattle.scp_fetch.specs.declared.want.Miss.TheVariants.{One}
 use Rattle.scp_fetch.specs.Wants.{gives_up, last_missed}
 use Rattle.scp_pending.specs.declared.parked.Parked.{Parked}
 use Rattle.scp_pending.specs.declared.parked.Parked.TheVariants.{Waits, Free, Lost}
 use Rattle.scp_pending.specs.declared.ready.DropCause.{DropCause}
-use Rattle.scp_pending.specs.declared.ready.DropCause.TheVariants.{BadSet, GaveUp, Closed as ByClose, ParkedFull as ByFull}
+use Rattle.scp_pending.specs.declared.ready.DropCause.TheVariants.{GaveUp, Closed as ByClose, ParkedFull as ByFull}
 use Rattle.scp_pending.specs.declared.ready.Ready.{Ready}
-use Rattle.scp_pending.specs.declared.ready.Ready.TheVariants.{Deliver, Dropped, Closed, Local}
+use Rattle.scp_pending.specs.declared.ready.Ready.TheVariants.{Dropped, Closed}
 use Rattle.scp_pending.specs.Queues.{QueueView, is_open, parked_of, seq_of, is_held, fate, leaves_behind, leaves_of, leaves_in, leaving_of, in_order_of, is_hash, hash_of, resolved, lost_by, dropped}
 use Rattle.scp_pending.specs.Rules.{Settled, PendingView, settled_by, released_by, rules, releases, entering, overflows, goes_through, by_answer, is_answer, is_given_up, heard_out}
-use Rattle.scp_pending.specs.Line.{ready_mark, marks_of, parked_mark, marks_parked, held}
-use Rattle.scp_pending.specs.Endings.{Way, went, by_close, by_full, over, way_by, way, ways, AllWent, Ascend, Exits, passing, commands_in, passed, commands_of}
+use Rattle.scp_pending.specs.Line.{marks_of, marks_parked}
+use Rattle.scp_pending.specs.Endings.{Way, ways, numbers_of, Ascend, Exits, passing, commands_in, passed, commands_of}
 use Rattle.scp_pending.specs.Pends.{Pends, start_of}
 use Rattle.scp_pending.specs.Laws.{AllExits, CommandsPass}
-use Rattle.scp_pending.proofs.Basics.{append_nil, clash, map-append, flat-append, same_conn-true, same_node-refl, all_left, fold-append}
-use Rattle.scp_pending.proofs.Serving.{marks_of-append, parked_shut}
+use Rattle.scp_pending.proofs.Basics.{append_nil, clash, flat-append, same_node-refl, all_left, fold-append}
+use Rattle.scp_pending.proofs.Serving.{parked_shut}
 use Rattle.scp_pending.proofs.Sound.{sound_start}
-use Rattle.scp_pending.proofs.Telling.{Told, told_start}
+use Rattle.scp_pending.proofs.Telling.{told_start}
 use Rattle.scp_pending.proofs.Following.{HasLanes, come_of, apart, same_at, of_peer-push, order_split}
 use Rattle.scp_pending.proofs.Accounting.{OnLine, on_step, lanes_on, is_there, shape_front, mine_all, family, family_has, family_own}
 use Rattle.scp_pending.proofs.Rising.{Rises, IsPart, IsAdded, seqs_of, rises_to, rises_push, rises_ascend, seqs_step}
-use Rattle.scp_pending.proofs.Exiting.{Ascending, ways-append, none_front, no_lane, Begins, EndsOutside, Before, exits_item}
+use Rattle.scp_pending.proofs.Permuting.{parked_numbers, numbers_permute, held_numbers, came_numbers}
+use Rattle.scp_pending.proofs.Exiting.{IsAll, Ascending, ways-append, none_front, no_lane, Begins, EndsOutside, Before, exits_item}
 
 -- ---- what the shape says of an item
 
@@ -159,11 +159,20 @@ left_step start slots me peer peers taken s out item have shape k rise known lif
     lanes : HasLanes (slots life) c s item
     lanes = lanes_on start slots me peer peers taken s out item have k life
 
+    whole : IsAll c s item (ways c out)
+    whole x is mine live =
+        let from : is_from peer item ≡ true = ap (is_from peer) is ∙ ap (λ (d : ConnId). same_node d.from peer) mine ∙ same_node-refl peer in
+        let may : MayCome peer me (come_of peer taken) (inbound.Carried x) = subst (MayCome peer me (come_of peer taken)) is (may_come peer me taken item from shape) in
+        let before : AreInOrder peer me nothing_came (of_peer peer taken) = shape_front peer me taken (item ∷ []) shape in
+        numbers_permute (slots life) (range_with_len 0 x.seq.0) (numbers_of (ways c out) ++ parked_numbers c s.queues) (λ n. (
+        let told = (k.told n life).open_here live in
+        ap (in_lane (slots life) n) (ap (λ m. map number (range_with_len 0 m)) may.2 ∙ sym (came_numbers peer me life taken before told.0 told.1)) ∙ sym told.2 ∙ ap (in_lane (slots life) n) (held_numbers c out s.queues ((known life).running live))))
+
     by_test : (b : Bool) → is_from peer item ≡ b → Exits start (slots life) (taken ++ item ∷ []) c (is_open c (rules s item).queues) (ways c out ++ ways c (releases s item))
     by_test true e =
         let may : MayCome peer me (come_of peer taken) item = may_come peer me taken item e shape in
-        exits_item start (slots life) taken c s item (ways c out) here lanes.parked lanes.item_is up (begins_now peer me (come_of peer taken) item life (ways c out) may (λ lt. none_front c out (marks_parked c s.queues) (no_lane (slots life) (marks_of c out ++ marks_parked c s.queues) (λ n. ((k.told n life).later lt).1)))) (ends_outside peer me (come_of peer taken) item life may) (known life)
-    by_test false e = exits_item start (slots life) taken c s item (ways c out) here lanes.parked lanes.item_is up (begins_else peer me item life (ways c out) e) (outside_else peer me item life e) (known life)
+        exits_item start (slots life) taken c s item (ways c out) here lanes.parked lanes.item_is up whole (begins_now peer me (come_of peer taken) item life (ways c out) may (λ lt. none_front c out (marks_parked c s.queues) (no_lane (slots life) (marks_of c out ++ marks_parked c s.queues) (λ n. ((k.told n life).later lt).1)))) (ends_outside peer me (come_of peer taken) item life may) (known life)
+    by_test false e = exits_item start (slots life) taken c s item (ways c out) here lanes.parked lanes.item_is up whole (begins_else peer me item life (ways c out) e) (outside_else peer me item life e) (known life)
 
 pub record OnWay (start : Settled) (slots : ℕ → ℕ → ℕ) (me peer : NodeId) (peers : List NodeId) (taken : List Inbound) (s : Settled) (out : List Ready) : Type 0 where
   pub line : OnLine start slots me peer peers taken s out

@@ -1,9 +1,12 @@
 -- How each message of a connection left, one item after another.
 use Rattle.std.proofs.Common.{◌≡◌, ◌≢◌, ℕ, ◌+◌, ◌<◌, ◌≤◌, Bool, true, false, cond, not, List, [], ◌∷◌, ◌++◌, length, refl, sym, ◌∙◌, ap, subst, arith, append_assoc, nat_eq, map, inl, inr, ◌⊎◌}
-use Rattle.std.specs.Prelude.{◌&&◌, ◌||◌, nat_lt, filter, Option, Some, None, flat_map}
+use Rattle.std.specs.Prelude.{◌&&◌, ◌||◌, Option, Some, None}
 use Rattle.std.specs.List.{list_any, AllByRecursion}
-use Rattle.std.proofs.lemmas.Bool.{ltb-true, ltb-false, eqb-true}
+use Rattle.std.proofs.lemmas.Bool.{leb-true, eqb-true}
+use Rattle.std.specs.List.{range_with_len}
+use Rattle.std.specs.List.Sorted.{IsPermutation}
 use Rattle.std.proofs.lemmas.List.{length-append, length-map}
+use Rattle.std.proofs.lemmas.List.Sorted.{IsPermutation-append_left}
 use Rattle.scp_types.specs.declared.names.ConnId.{ConnId}
 use Rattle.scp_types.specs.declared.names.Hash.{Hash}
 use Rattle.scp_types.specs.declared.names.Seq.{Seq}
@@ -25,6 +28,7 @@ use Rattle.scp_fetch.specs.Wants.{gives_up, last_missed}
 use Rattle.scp_fetch.specs.Store.{lookup}
 use Rattle.scp_pending.specs.declared.parked.Parked.{Parked}
 use Rattle.scp_pending.specs.declared.parked.Parked.TheVariants.{Waits, Free, Lost}
+use Rattle.scp_pending.specs.declared.pending.TheConstants.{PARKED_LIMIT}
 use Rattle.scp_pending.specs.declared.ready.DropCause.{DropCause}
 use Rattle.scp_pending.specs.declared.ready.DropCause.TheVariants.{BadSet, GaveUp, Closed as ByClose, ParkedFull as ByFull}
 use Rattle.scp_pending.specs.declared.ready.Ready.{Ready}
@@ -34,12 +38,13 @@ use Rattle.scp_pending.specs.Queues.{QueueView, is_of, is_open, parked_of, lane_
 use Rattle.scp_pending.specs.Rules.{Settled, settled_by, rules, releases, entering_by, entering, found, is_full, overflows, goes_through, by_answer, is_answer, is_given_up, heard_out}
 use Rattle.scp_pending.specs.Line.{ready_mark, marks_of, parked_mark, marks_parked}
 use Rattle.scp_pending.specs.Causes.{is_miss, IsWaiting, HeadWaits}
-use Rattle.scp_pending.specs.Endings.{Way, went, by_close, by_full, over, way_by, way, ways, HasWent, AllWent, seqs_at, Ascend, FirstWaits, IsClosedOff, IsCutOff, Exits}
+use Rattle.scp_pending.specs.Endings.{Way, went, by_close, by_full, over, way_by, way, ways, number_of, numbers_of, HasWent, AllWent, seqs_at, Ascend, FirstWaits, IsClosedOff, IsCutOff, Exits}
 use Rattle.scp_pending.proofs.Basics.{append_nil, clash, and_both, if_any, same_number, map-append, flat-append, same_conn-true, same_conn-refl, all_step, all_weaker, all_append}
 use Rattle.scp_pending.proofs.Later.{settled-push, times-later, Waiting-later}
 use Rattle.scp_pending.proofs.Laning.{HasLane, filter-append, leaves_all}
 use Rattle.scp_pending.proofs.Serving.{AreSingle, AreMine, parked_shut, all_in_order}
 use Rattle.scp_pending.proofs.Standing.{Stands, StandsLost, Fits, IsWant, head_waits}
+use Rattle.scp_pending.proofs.Permuting.{parked_numbers, range_more}
 use Rattle.scp_pending.proofs.Lines.{added, line_step, open_after, open_step, entering_seq, entering_lane}
 
 pub ways-append : (c : ConnId) (xs ys : List Ready) → ways c (xs ++ ys) ≡ ways c xs ++ ways c ys
@@ -222,11 +227,11 @@ waits_now start taken s y e live w = by_named (named y.message) refl w
     by_named None names w = absurd cc
     by_named (Some hash) names w = by_lookup hash (lookup hash s.store) names refl w
 
-pub few_of_conn : (start : Settled) (taken : List Inbound) (wanted : List Want) (c : ConnId) (qs : List QueueView) → AllByRecursion (Fits start taken wanted) qs → length (parked_of c qs) ≤ 64
+pub few_of_conn : (start : Settled) (taken : List Inbound) (wanted : List Want) (c : ConnId) (qs : List QueueView) → AllByRecursion (Fits start taken wanted) qs → length (parked_of c qs) ≤ PARKED_LIMIT
 few_of_conn start taken wanted c [] a = omega arith
 few_of_conn start taken wanted c (q ∷ qs) a = by_test (is_of c q) (few_of_conn start taken wanted c qs a.1)
   where
-    by_test : (b : Bool) → length (parked_of c qs) ≤ 64 → length (cond b q.parked (parked_of c qs)) ≤ 64
+    by_test : (b : Bool) → length (parked_of c qs) ≤ PARKED_LIMIT → length (cond b q.parked (parked_of c qs)) ≤ PARKED_LIMIT
     by_test true h = a.0.few
     by_test false h = h
 
@@ -308,6 +313,7 @@ ended_later start slots taken c item ws (inr (inr k)) = inr (inr (record {
   count = k.count;
   ascend = k.ascend;
   shuts = k.shuts;
+  all = k.all;
   first = k.first;
 }))
 
@@ -421,15 +427,23 @@ and_false : (b : Bool) → (b && false) ≡ false
 and_false true = refl
 and_false false = refl
 
+-- what left and what is parked are, by their numbers, all that came before a message that comes while it is open
+abbrev pub IsAll : ConnId → Settled → Inbound → List Way → Type 0
+IsAll c s item ws = (x : Carried) → item ≡ inbound.Carried x → x.conn ≡ c → is_open c s.queues ≡ true → IsPermutation (range_with_len 0 x.seq.0) (numbers_of ws ++ parked_numbers c s.queues)
+
+full_numbers : (cause : Cause) (seqs : List Seq) → numbers_of (map by_full seqs ++ over cause ∷ []) ≡ map (λ (seq : Seq). seq.0) seqs
+full_numbers cause [] = refl
+full_numbers cause (seq ∷ seqs) = ap (λ ks. seq.0 ∷ ks) (full_numbers cause seqs)
+
 -- the numbers of what is parked ascend, and so do they with that of a message that comes
 pub record Ascending (c : ConnId) (s : Settled) (item : Inbound) : Type 0 where
   pub parked : Ascend 0 (numbers c s.queues)
   pub with_one : (x : Carried) → item ≡ inbound.Carried x → x.conn ≡ c → Ascend 0 (numbers c s.queues ++ x.seq ∷ [])
 
-cut_off : (start : Settled) (slots : ℕ → ℕ) (taken : List Inbound) (c : ConnId) (s : Settled) (x : Carried) (ws : List Way) → Before start taken s → AllByRecursion (HasLane slots) (parked_of c s.queues) → HasSlot c slots (inbound.Carried x) → Ascending c s (inbound.Carried x) → x.conn ≡ c → is_open c s.queues ≡ true → overflows c (entering s.store x) s.queues ≡ true → Exits start slots taken c (is_open c s.queues) ws → Exits start slots (taken ++ inbound.Carried x ∷ []) c (is_open c (rules s (inbound.Carried x)).queues) (ws ++ ways c (releases s (inbound.Carried x)))
-cut_off start slots taken c s x ws k lanes slot up mine live over' known =
-    let more : 63 < length (parked_of c s.queues) = ltb-true 63 (length (parked_of c s.queues)) both.0 in
-    let within : length (parked_of c s.queues) ≤ 64 = few_of_conn start taken s.wanted c s.queues k.fits in
+cut_off : (start : Settled) (slots : ℕ → ℕ) (taken : List Inbound) (c : ConnId) (s : Settled) (x : Carried) (ws : List Way) → Before start taken s → AllByRecursion (HasLane slots) (parked_of c s.queues) → HasSlot c slots (inbound.Carried x) → Ascending c s (inbound.Carried x) → IsAll c s (inbound.Carried x) ws → x.conn ≡ c → is_open c s.queues ≡ true → overflows c (entering s.store x) s.queues ≡ true → Exits start slots taken c (is_open c s.queues) ws → Exits start slots (taken ++ inbound.Carried x ∷ []) c (is_open c (rules s (inbound.Carried x)).queues) (ws ++ ways c (releases s (inbound.Carried x)))
+cut_off start slots taken c s x ws k lanes slot up whole mine live over' known =
+    let more : PARKED_LIMIT ≤ length (parked_of c s.queues) = leb-true PARKED_LIMIT (length (parked_of c s.queues)) both.0 in
+    let within : length (parked_of c s.queues) ≤ PARKED_LIMIT = few_of_conn start taken s.wanted c s.queues k.fits in
     let same_count : length (numbers c s.queues) ≡ length (parked_of c s.queues) = length-map (parked_of c s.queues) seq_of in
     record {
       running = λ t. clash (is_open c (rules s item).queues) t shut;
@@ -441,11 +455,12 @@ cut_off start slots taken c s x ws k lanes slot up mine live over' known =
         rest = [];
         at = sym (append_nil (taken ++ item ∷ []));
         mine = mine;
-        ways_are = ap (λ rs. ws ++ ways c rs) given ∙ ap (λ zs. ws ++ zs) (full_ways c x.seq (parked_of c s.queues));
+        ways_are = dropped_now;
         fates = known.running live;
         count = length-append (numbers c s.queues) (x.seq ∷ []) ∙ omega (arith, same_count, more, within);
         ascend = up.with_one x refl mine;
         shuts = ap (λ (t : Settled). is_open c t.queues) (settled-push start taken item ∙ ap (λ (t : Settled). rules t item) (sym k.now)) ∙ shut;
+        all = subst (IsPermutation (range_with_len 0 (x.seq.0 + 1))) (sym numbers_now) (subst (λ (ks : List ℕ). IsPermutation ks ((numbers_of ws ++ parked_numbers c s.queues) ++ x.seq.0 ∷ [])) (sym (range_more x.seq.0)) (IsPermutation-append_left (x.seq.0 ∷ []) (range_with_len 0 x.seq.0) (numbers_of ws ++ parked_numbers c s.queues) (whole x refl mine live)));
         first = λ n. subst (FirstWaits start (taken ++ item ∷ []) c) (sym (filter-append (λ (seq : Seq). nat_eq (slots seq.0) n) (numbers c s.queues) (x.seq ∷ []))) (first_push start taken c x (seqs_at slots n (numbers c s.queues)) (seqs_at slots n (x.seq ∷ [])) (one n) (own n) (firsts start slots taken c s.queues lanes (heads start taken s k) n));
       }));
     }
@@ -502,6 +517,16 @@ cut_off start slots taken c s x ws k lanes slot up mine live over' known =
     given : releases s item ≡ map (dropped c ByFull) (parked_of c s.queues) ++ Dropped c x.seq ByFull ∷ Closed c ParkedFull ∷ []
     given = ap (λ (d : ConnId). cond (is_open d s.queues) (cond (overflows d p s.queues) (map (dropped d ByFull) (parked_of d s.queues) ++ Dropped d x.seq ByFull ∷ Closed d ParkedFull ∷ []) (cond (goes_through d p s.queues) (fate d p) [])) []) mine ∙ rw (live, over') refl
 
+    dropped_now : ws ++ ways c (releases s item) ≡ ws ++ (map by_full (numbers c s.queues ++ x.seq ∷ []) ++ over ParkedFull ∷ [])
+    dropped_now = ap (λ rs. ws ++ ways c rs) given ∙ ap (λ zs. ws ++ zs) (full_ways c x.seq (parked_of c s.queues))
+
+    numbers_now : numbers_of (ws ++ ways c (releases s item)) ≡ (numbers_of ws ++ parked_numbers c s.queues) ++ x.seq.0 ∷ []
+    numbers_now =
+        ap numbers_of dropped_now
+        ∙ flat-append number_of ws (map by_full (numbers c s.queues ++ x.seq ∷ []) ++ over ParkedFull ∷ [])
+        ∙ ap (λ ks. numbers_of ws ++ ks) (full_numbers ParkedFull (numbers c s.queues ++ x.seq ∷ []) ∙ map-append (λ (seq : Seq). seq.0) (numbers c s.queues) (x.seq ∷ []))
+        ∙ sym (append_assoc (numbers_of ws) (parked_numbers c s.queues) (x.seq.0 ∷ []))
+
 closed_off : (start : Settled) (slots : ℕ → ℕ) (taken : List Inbound) (c : ConnId) (s : Settled) (d : ConnId) (cause : Cause) (ws : List Way) → Before start taken s → AllByRecursion (HasLane slots) (parked_of c s.queues) → Ascending c s (inbound.Closed d cause) → d ≡ c → cause ≢ ParkedFull → is_open c s.queues ≡ true → Exits start slots taken c (is_open c s.queues) ws → Exits start slots (taken ++ inbound.Closed d cause ∷ []) c (is_open c (rules s (inbound.Closed d cause)).queues) (ws ++ ways c (releases s (inbound.Closed d cause)))
 closed_off start slots taken c s d cause ws k lanes up mine outside live known = record {
   running = λ t. clash (is_open c (rules s item).queues) t shut;
@@ -529,15 +554,15 @@ closed_off start slots taken c s d cause ws k lanes up mine outside live known =
     given : releases s item ≡ map (dropped c ByClose) (parked_of c s.queues) ++ Closed c cause ∷ []
     given = ap (λ (b : ConnId). cond (is_open b s.queues) (map (dropped b ByClose) (parked_of b s.queues) ++ Closed b cause ∷ []) []) mine ∙ rw live refl
 
-pub exits_item : (start : Settled) (slots : ℕ → ℕ) (taken : List Inbound) (c : ConnId) (s : Settled) (item : Inbound) (ws : List Way) → Before start taken s → AllByRecursion (HasLane slots) (parked_of c s.queues) → HasSlot c slots item → Ascending c s item → Begins c item ws → EndsOutside c item → Exits start slots taken c (is_open c s.queues) ws → Exits start slots (taken ++ item ∷ []) c (is_open c (rules s item).queues) (ws ++ ways c (releases s item))
-exits_item start slots taken c s (inbound.Opened d) ws k lanes fits up begins outside known = exits_on start slots taken c (inbound.Opened d) _ _ ws [] tt (λ e. refl) (λ e. opened_by c s (inbound.Opened d) ws begins (sym (open_step c s (inbound.Opened d) k.single) ∙ e)) known
-exits_item start slots taken c s (inbound.Side d m) ws k lanes fits up begins outside known = exits_on start slots taken c (inbound.Side d m) _ _ ws _ (heard_went c s d m (own_queues start taken s.wanted s.queues k.fits)) (λ e. shut_nothing c s (inbound.Side d m) k.single k.mine (sym (open_step c s (inbound.Side d m) k.single) ∙ e)) (λ e. inl (sym (open_step c s (inbound.Side d m) k.single) ∙ e)) known
-exits_item start slots taken c s (inbound.Local Tick) ws k lanes fits up begins outside known = exits_on start slots taken c (inbound.Local Tick) _ _ ws _ (leaving_went c (resolved (is_given_up s.wanted) (lost_by GaveUp) (in_order_of (last_missed s.wanted) s.queues)) (resolved_own (is_given_up s.wanted) (lost_by GaveUp) (λ x. tt) (in_order_of (last_missed s.wanted) s.queues) (all_in_order HaveOwnFates (last_missed s.wanted) s.queues (own_queues start taken s.wanted s.queues k.fits)))) (λ e. shut_nothing c s (inbound.Local Tick) k.single k.mine (sym (open_step c s (inbound.Local Tick) k.single) ∙ e)) (λ e. inl (sym (open_step c s (inbound.Local Tick) k.single) ∙ e)) known
-exits_item start slots taken c s (inbound.Local (Propose slot value)) ws k lanes fits up begins outside known = exits_on start slots taken c (inbound.Local (Propose slot value)) _ _ ws [] tt (λ e. refl) (λ e. inl (sym (open_step c s (inbound.Local (Propose slot value)) k.single) ∙ e)) known
-exits_item start slots taken c s (inbound.Local (Round slot)) ws k lanes fits up begins outside known = exits_on start slots taken c (inbound.Local (Round slot)) _ _ ws [] tt (λ e. refl) (λ e. inl (sym (open_step c s (inbound.Local (Round slot)) k.single) ∙ e)) known
-exits_item start slots taken c s (inbound.Local (Timer slot)) ws k lanes fits up begins outside known = exits_on start slots taken c (inbound.Local (Timer slot)) _ _ ws [] tt (λ e. refl) (λ e. inl (sym (open_step c s (inbound.Local (Timer slot)) k.single) ∙ e)) known
-exits_item start slots taken c s (inbound.Local (Ask link slot)) ws k lanes fits up begins outside known = exits_on start slots taken c (inbound.Local (Ask link slot)) _ _ ws [] tt (λ e. refl) (λ e. inl (sym (open_step c s (inbound.Local (Ask link slot)) k.single) ∙ e)) known
-exits_item start slots taken c s (inbound.Carried x) ws k lanes fits up begins outside known = by_cut (is_open x.conn s.queues && (overflows x.conn (entering s.store x) s.queues && same_conn x.conn c)) refl
+pub exits_item : (start : Settled) (slots : ℕ → ℕ) (taken : List Inbound) (c : ConnId) (s : Settled) (item : Inbound) (ws : List Way) → Before start taken s → AllByRecursion (HasLane slots) (parked_of c s.queues) → HasSlot c slots item → Ascending c s item → IsAll c s item ws → Begins c item ws → EndsOutside c item → Exits start slots taken c (is_open c s.queues) ws → Exits start slots (taken ++ item ∷ []) c (is_open c (rules s item).queues) (ws ++ ways c (releases s item))
+exits_item start slots taken c s (inbound.Opened d) ws k lanes fits up whole begins outside known = exits_on start slots taken c (inbound.Opened d) _ _ ws [] tt (λ e. refl) (λ e. opened_by c s (inbound.Opened d) ws begins (sym (open_step c s (inbound.Opened d) k.single) ∙ e)) known
+exits_item start slots taken c s (inbound.Side d m) ws k lanes fits up whole begins outside known = exits_on start slots taken c (inbound.Side d m) _ _ ws _ (heard_went c s d m (own_queues start taken s.wanted s.queues k.fits)) (λ e. shut_nothing c s (inbound.Side d m) k.single k.mine (sym (open_step c s (inbound.Side d m) k.single) ∙ e)) (λ e. inl (sym (open_step c s (inbound.Side d m) k.single) ∙ e)) known
+exits_item start slots taken c s (inbound.Local Tick) ws k lanes fits up whole begins outside known = exits_on start slots taken c (inbound.Local Tick) _ _ ws _ (leaving_went c (resolved (is_given_up s.wanted) (lost_by GaveUp) (in_order_of (last_missed s.wanted) s.queues)) (resolved_own (is_given_up s.wanted) (lost_by GaveUp) (λ x. tt) (in_order_of (last_missed s.wanted) s.queues) (all_in_order HaveOwnFates (last_missed s.wanted) s.queues (own_queues start taken s.wanted s.queues k.fits)))) (λ e. shut_nothing c s (inbound.Local Tick) k.single k.mine (sym (open_step c s (inbound.Local Tick) k.single) ∙ e)) (λ e. inl (sym (open_step c s (inbound.Local Tick) k.single) ∙ e)) known
+exits_item start slots taken c s (inbound.Local (Propose slot value)) ws k lanes fits up whole begins outside known = exits_on start slots taken c (inbound.Local (Propose slot value)) _ _ ws [] tt (λ e. refl) (λ e. inl (sym (open_step c s (inbound.Local (Propose slot value)) k.single) ∙ e)) known
+exits_item start slots taken c s (inbound.Local (Round slot)) ws k lanes fits up whole begins outside known = exits_on start slots taken c (inbound.Local (Round slot)) _ _ ws [] tt (λ e. refl) (λ e. inl (sym (open_step c s (inbound.Local (Round slot)) k.single) ∙ e)) known
+exits_item start slots taken c s (inbound.Local (Timer slot)) ws k lanes fits up whole begins outside known = exits_on start slots taken c (inbound.Local (Timer slot)) _ _ ws [] tt (λ e. refl) (λ e. inl (sym (open_step c s (inbound.Local (Timer slot)) k.single) ∙ e)) known
+exits_item start slots taken c s (inbound.Local (Ask link slot)) ws k lanes fits up whole begins outside known = exits_on start slots taken c (inbound.Local (Ask link slot)) _ _ ws [] tt (λ e. refl) (λ e. inl (sym (open_step c s (inbound.Local (Ask link slot)) k.single) ∙ e)) known
+exits_item start slots taken c s (inbound.Carried x) ws k lanes fits up whole begins outside known = by_cut (is_open x.conn s.queues && (overflows x.conn (entering s.store x) s.queues && same_conn x.conn c)) refl
   where
     kept : (o f k oc : Bool) → (o && (f && k)) ≡ false → cond (o && f) (oc && not k) oc ≡ false → oc ≡ false
     kept true true true oc n e = absurd cc
@@ -551,9 +576,9 @@ exits_item start slots taken c s (inbound.Carried x) ws k lanes fits up begins o
         let one = and_both (is_open x.conn s.queues) (overflows x.conn (entering s.store x) s.queues && same_conn x.conn c) e in
         let two = and_both (overflows x.conn (entering s.store x) s.queues) (same_conn x.conn c) one.1 in
         let mine : x.conn ≡ c = same_conn-true x.conn c two.1 in
-        cut_off start slots taken c s x ws k lanes fits up mine (subst (λ (d : ConnId). is_open d s.queues ≡ true) mine one.0) (subst (λ (d : ConnId). overflows d (entering s.store x) s.queues ≡ true) mine two.0) known
+        cut_off start slots taken c s x ws k lanes fits up whole mine (subst (λ (d : ConnId). is_open d s.queues ≡ true) mine one.0) (subst (λ (d : ConnId). overflows d (entering s.store x) s.queues ≡ true) mine two.0) known
     by_cut false e = exits_on start slots taken c (inbound.Carried x) _ _ ws _ (brought_went c s x e) (λ n. shut_nothing c s (inbound.Carried x) k.single k.mine (kept (is_open x.conn s.queues) (overflows x.conn (entering s.store x) s.queues) (same_conn x.conn c) (is_open c s.queues) e (sym (open_step c s (inbound.Carried x) k.single) ∙ n))) (λ n. opened_by c s (inbound.Carried x) ws tt (sym (open_step c s (inbound.Carried x) k.single) ∙ n)) known
-exits_item start slots taken c s (inbound.Closed d cause) ws k lanes fits up begins outside known = by_close' (is_open d s.queues && same_conn d c) refl
+exits_item start slots taken c s (inbound.Closed d cause) ws k lanes fits up whole begins outside known = by_close' (is_open d s.queues && same_conn d c) refl
   where
     kept : (o k oc : Bool) → (o && k) ≡ false → cond o (oc && not k) oc ≡ false → oc ≡ false
     kept true true oc n e = absurd cc

@@ -9,9 +9,9 @@ use Rattle.scp_wire.specs.Connections.{same_conn}
 use Rattle.scp_fetch.specs.declared.want.Want.{Want}
 use Rattle.scp_fetch.specs.declared.want.Miss.{Miss}
 use Rattle.scp_fetch.specs.Hashes.{same_hash}
-use Rattle.scp_fetch.specs.Wants.{is_for, is_wanted, has_conn, joined, waiting_for, waits_besides, leave, left_by, ask, new_want, wanted_by, unask, unasked, is_last, count_miss, missed_by, without, gives_up}
+use Rattle.scp_fetch.specs.Wants.{is_for, is_wanted, has_conn, joined, waiting_for, waits_besides, leave, left_by, ask, new_want, wanted_by, unasked, is_last, count_miss, missed_by, without, gives_up}
 use Rattle.scp_pending.specs.Waiters.{once}
-use Rattle.scp_pending.proofs.Basics.{clash, or_none, append_nil, same_hash-refl, same_hash-true, same_conn-true}
+use Rattle.scp_pending.proofs.Basics.{clash, or_none, append_nil, same_hash-refl, same_conn-true}
 use Rattle.scp_pending.proofs.Wanting.{wanted-map, ask-hash, count-hash, is_for-true}
 use Rattle.scp_pending.proofs.Listing.{and_all, conn_sym, has-left, AreApart, unwanted-filter, count-waiting}
 

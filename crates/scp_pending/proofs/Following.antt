@@ -1,8 +1,8 @@
 -- What came of a link in its shape makes a line.
-use Rattle.std.proofs.Common.{◌≡◌, ◌≢◌, ℕ, ◌+◌, ◌<◌, ◌≤◌, Bool, true, false, cond, not, List, [], ◌∷◌, ◌++◌, length, refl, sym, ◌∙◌, ap, subst, arith, append_assoc, nat_eq, map, inl, inr, ◌⊎◌, zero, suc}
-use Rattle.std.specs.Prelude.{◌&&◌, ◌||◌, nat_lt, Option, Some, None, fold, filter, flat_map, slice_get, is_some, position}
-use Rattle.std.specs.List.{list_any, AllByRecursion, position_or_len}
-use Rattle.std.proofs.lemmas.Bool.{eqb-true, eqb-false, lt-ltb}
+use Rattle.std.proofs.Common.{◌≡◌, ℕ, ◌+◌, Bool, true, false, cond, not, List, [], ◌∷◌, ◌++◌, refl, sym, ◌∙◌, ap, subst, append_assoc, nat_eq, inl, inr}
+use Rattle.std.specs.Prelude.{◌&&◌, ◌||◌, fold, is_some}
+use Rattle.std.specs.List.{AllByRecursion}
+use Rattle.std.proofs.lemmas.Bool.{eqb-true, eqb-false}
 use Rattle.scp_types.specs.declared.names.ConnId.{ConnId}
 use Rattle.scp_types.specs.declared.names.Hash.{Hash}
 use Rattle.scp_types.specs.declared.names.NodeId.{NodeId}
@@ -16,22 +16,22 @@ use Rattle.scp_wire.specs.declared.link.Command.TheVariants.{Tick, Propose, Roun
 use Rattle.scp_wire.specs.declared.link.Inbound.{Inbound}
 use Rattle.scp_wire.specs.declared.link.Inbound.TheVariants as inbound
 use Rattle.scp_wire.specs.Connections.{conn_at, same_node, same_conn}
-use Rattle.scp_wire.specs.Shape.{Come, nothing_came, comes, MayCome, AreInOrder, is_from, of_peer, HasShape}
+use Rattle.scp_wire.specs.Shape.{Come, nothing_came, comes, MayCome, AreInOrder, is_from, of_peer}
 use Rattle.scp_wire.specs.Marks.{Mark, number, ended, one_if, came_mark, marks_in}
 use Rattle.scp_wire.specs.Lanes.{in_lane, HasSlot}
-use Rattle.scp_fetch.specs.declared.want.Miss.TheVariants.{One, All}
+use Rattle.scp_fetch.specs.declared.want.Miss.TheVariants.{One}
 use Rattle.scp_pending.specs.declared.parked.Parked.{Parked}
 use Rattle.scp_pending.specs.declared.ready.DropCause.TheVariants.{GaveUp}
 use Rattle.scp_pending.specs.declared.ready.Ready.{Ready}
 use Rattle.scp_fetch.specs.Wants.{missed_by, last_missed, gives_up}
 use Rattle.scp_pending.specs.Queues.{QueueView, is_of, is_open, is_link_open, parked_of, others, changed, with_parked, parked_in, is_empty, stays_in, served, in_order_of, is_hash, hash_of, resolved, resolved_in, lost_by}
-use Rattle.scp_pending.specs.Rules.{Settled, PendingView, fresh, rules, releases, opens, opened, closed_off, link_of, entering, overflows, goes_through, parks, by_answer, answered, is_answer, is_given_up, gives_up_one, hears, settled_by, released_by}
-use Rattle.scp_pending.specs.Line.{marks_of, marks_parked, held}
-use Rattle.scp_pending.proofs.Basics.{append_nil, clash, or_none, if_any, or_left, fold-append, flat-append, all_append, all_step, all_filter, same_node-true, same_node-refl, same_conn-refl, same_conn-true, same_number}
+use Rattle.scp_pending.specs.Rules.{Settled, rules, releases, opens, opened, closed_off, link_of, entering, overflows, goes_through, parks, by_answer, answered, is_answer, is_given_up, gives_up_one, hears}
+use Rattle.scp_pending.specs.Line.{marks_of, marks_parked}
+use Rattle.scp_pending.proofs.Basics.{append_nil, clash, or_none, if_any, fold-append, flat-append, all_append, all_step, same_node-refl, same_conn-true, same_number}
 use Rattle.scp_pending.proofs.Laning.{HasLane, in_lane-append}
 use Rattle.scp_pending.proofs.Serving.{AreSingle, AreMine, marks_of-append, all_in_order}
 use Rattle.scp_pending.proofs.Lines.{added, line_step, open_after, open_step}
-use Rattle.scp_pending.proofs.Telling.{Told, IsCutHere, NoEnd, told_same, told_other, told_opens, told_number, told_cut, told_discard, told_close, told_close_cut, told_start}
+use Rattle.scp_pending.proofs.Telling.{Told, NoEnd, told_same, told_other, told_opens, told_number, told_cut, told_discard, told_close, told_close_cut}
 
 -- ---- what all items keep
 

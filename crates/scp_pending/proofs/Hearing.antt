@@ -1,8 +1,8 @@
 -- What a Set does, by whether it is wanted and whether it is sane.
-use Rattle.std.proofs.Common.{◌≡◌, ℕ, Bool, true, false, cond, List, [], ◌∷◌, ◌++◌, refl, sym, ◌∙◌, ap, subst}
+use Rattle.std.proofs.Common.{◌≡◌, ℕ, Bool, true, false, List, ◌++◌, refl, ap, subst}
 use Rattle.std.specs.List.{list_any}
 use Rattle.scp_wire.specs.Lanes.{slot_of}
-use Rattle.std.specs.Prelude.{◌&&◌, ◌||◌, Option, Some, None, Result, Ok, Err, OnOk}
+use Rattle.std.specs.Prelude.{◌&&◌, ◌||◌, Option, Some, None}
 use Rattle.scp_types.specs.declared.names.Hash.{Hash}
 use Rattle.scp_quorum.specs.QuorumTree.{QuorumTree}
 use Rattle.scp_quorum.specs.QuorumKind.{set_hash, set_kind, set_value}
@@ -20,9 +20,10 @@ use Rattle.scp_fetch.specs.Wants.{is_wanted, last_missed, missed_by, gives_up, w
 use Rattle.scp_pending.specs.declared.parked.Parked.{Parked}
 use Rattle.scp_pending.specs.declared.ready.DropCause.TheVariants.{BadSet, GaveUp}
 use Rattle.scp_pending.specs.declared.ready.Ready.{Ready}
-use Rattle.scp_pending.specs.Sanity.{is_sane, has_spelling, test_of_sane, sane_of_test, test_of_fits, fits_of_test}
+use Rattle.scp_pending.specs.Sanity.{is_sane, has_spelling}
+use Rattle.scp_pending.proofs.Sanity.{test_of_sane, sane_of_test, test_of_fits, fits_of_test}
 use Rattle.scp_pending.specs.Queues.{QueueView, lane_of, is_at, waits, is_held, named, in_order_of, is_hash, hash_of, served, leaving_of, resolved, with_set, lost_by}
-use Rattle.scp_pending.specs.Rules.{PendingView, Settled, entering_by, entering, found, rules, releases, hears, heard_out, is_answer, answered, is_given_up, taken_in}
+use Rattle.scp_pending.specs.Rules.{PendingView, entering_by, entering, found, rules, releases, hears, heard_out, is_answer, is_given_up, taken_in}
 use Rattle.scp_pending.proofs.Basics.{append_nil, clash}
 
 pub hash_is : (h : Hash) (set : QuorumTree) → h.0 ≡ set_hash set → h ≡ hash_of set

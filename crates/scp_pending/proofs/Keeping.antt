@@ -1,5 +1,5 @@
 -- What stands in the stage between two takes stands after one more; and where nothing waits, nothing is to be looked at.
-use Rattle.std.proofs.Common.{◌≡◌, ℕ, ◌+◌, ◌<◌, ◌≤◌, Bool, true, false, cond, not, List, [], ◌∷◌, ◌++◌, length, refl, sym, ◌∙◌, ap, subst, arith, append_assoc, map, take, drop, get_or, set, zero, suc, add-one, inl, inr, ◌⊎◌}
+use Rattle.std.proofs.Common.{◌≡◌, ℕ, ◌+◌, ◌<◌, ◌≤◌, Bool, true, false, cond, List, [], ◌∷◌, ◌++◌, length, refl, sym, ◌∙◌, ap, subst, arith, append_assoc, map, take, get_or, set, zero, suc}
 use Rattle.std.specs.Prelude.{◌&&◌, ◌||◌, nat_lt, filter, flat_map, Option, Some, None}
 use Rattle.std.specs.List.{list_any, AllByRecursion}
 use Rattle.scp_types.specs.declared.names.ConnId.{ConnId}
@@ -23,8 +23,8 @@ use Rattle.scp_pending.specs.declared.ready.DropCause.TheVariants.{GaveUp}
 use Rattle.scp_pending.specs.declared.ready.Ready.{Ready}
 use Rattle.scp_pending.specs.Queues.{QueueView, is_of, is_open, parked_of, others, changed, with_parked, parked_in, is_empty, is_held, fate, leaves_behind, stays_behind, stays_in, served, leaves_in, leaving_of, in_order_of, named, is_hash, hash_of, waits_for, waited_by, is_waiting, resolved_one, resolved_in, resolved, lost_by}
 use Rattle.scp_pending.specs.Rules.{Settled, rules, opens, opened, closed_off, link_number, entering, overflows, goes_through, wanted_named, parks, by_answer, answered, is_answer, is_given_up, gives_up_one, hears}
-use Rattle.scp_pending.specs.Kept.{AreSingle, AreHeld, AreListed, IsKept, IsQuiet}
-use Rattle.scp_pending.proofs.Basics.{append_nil, clash, or_none, or_left, or_right, flat-append, all_step, all_weaker, all_append, all_both, same_hash-true, same_hash-refl, same_conn-true}
+use Rattle.scp_pending.specs.inside.Kept.{AreSingle, AreHeld, AreListed, IsKept, IsQuiet}
+use Rattle.scp_pending.proofs.Basics.{append_nil, clash, or_none, or_left, or_right, flat-append, all_weaker, all_append, all_both, same_hash-true, same_hash-refl, same_conn-true}
 use Rattle.scp_pending.proofs.Wanting.{wanted-map, wanted_by-own, wanted-without, wanted-missed, is_for-true}
 use Rattle.scp_pending.proofs.Laning.{stays_held, held-push}
 use Rattle.scp_pending.proofs.Serving.{parked-opened, parked-others_mine, parked-others_other, parked-resolved, parked-served, parked-in_order, single-in_order, all_in_order}

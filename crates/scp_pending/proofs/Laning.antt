@@ -1,21 +1,19 @@
 -- What leaves a queue and what stays, lane by lane.
-use Rattle.std.proofs.Common.{◌≡◌, ℕ, ◌+◌, ◌<◌, ◌≤◌, Bool, true, false, cond, not, List, [], ◌∷◌, ◌++◌, length, refl, sym, ◌∙◌, ap, subst, arith, append_assoc, nat_eq, map, inl, inr, ◌⊎◌}
-use Rattle.std.specs.Prelude.{◌&&◌, ◌||◌, filter, flat_map}
+use Rattle.std.proofs.Common.{◌≡◌, ℕ, ◌≤◌, Bool, true, false, cond, List, [], ◌∷◌, ◌++◌, length, refl, sym, ◌∙◌, ap, subst, arith, append_assoc, nat_eq, map}
+use Rattle.std.specs.Prelude.{◌||◌, filter}
 use Rattle.std.specs.List.{list_any, AllByRecursion}
 use Rattle.std.proofs.lemmas.Bool.{eqb-true}
 use Rattle.scp_types.specs.declared.names.ConnId.{ConnId}
-use Rattle.scp_types.specs.declared.names.Hash.{Hash}
 use Rattle.scp_wire.specs.Connections.{same_conn}
-use Rattle.scp_wire.specs.Marks.{Mark, number, ended, one_if}
+use Rattle.scp_wire.specs.Marks.{Mark, one_if}
 use Rattle.scp_wire.specs.Lanes.{is_in_lane, in_lane}
 use Rattle.scp_pending.specs.declared.parked.Parked.{Parked}
 use Rattle.scp_pending.specs.declared.parked.Parked.TheVariants.{Waits, Free, Lost}
 use Rattle.scp_pending.specs.declared.ready.Ready.{Ready}
-use Rattle.scp_pending.specs.declared.ready.Ready.TheVariants.{Deliver, Dropped}
-use Rattle.scp_pending.specs.Queues.{lane_of, is_at, at_slot, waits, is_held, fate, leaves_behind, stays_behind, leaves_of, stays_of, seq_of}
+use Rattle.scp_pending.specs.Queues.{lane_of, is_at, at_slot, waits, is_held, fate, leaves_behind, stays_behind, seq_of}
 pub use Rattle.scp_pending.specs.Linked.{IsParkedOf}
 use Rattle.scp_pending.specs.Line.{ready_mark, marks_of, parked_mark}
-pub use Rattle.scp_pending.specs.Kept.{AreHeld}
+pub use Rattle.scp_pending.specs.inside.Kept.{AreHeld}
 use Rattle.scp_pending.proofs.Basics.{append_nil, clash, or_none, or_right, or_left, flat-append, same_conn-refl, all_append}
 
 -- ---- lists

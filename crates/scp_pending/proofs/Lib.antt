@@ -1,4 +1,5 @@
 pub mod Basics
+pub mod Sanity
 pub mod Laning
 pub mod Serving
 pub mod Later
@@ -18,6 +19,7 @@ pub mod Numbered
 pub mod Accounting
 pub mod Hearing
 pub mod Rising
+pub mod Permuting
 pub mod Exiting
 pub mod Ending
 pub mod Living
@@ -35,3 +37,4 @@ pub mod Placed
 pub mod Fetching
 pub mod Keeping
 pub mod Foremost
+pub mod Independence

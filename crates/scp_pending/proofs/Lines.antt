@@ -1,6 +1,6 @@
 -- What an item adds to a connection's line, and whether the connection is open after it.
-use Rattle.std.proofs.Common.{◌≡◌, ℕ, ◌+◌, ◌<◌, ◌≤◌, Bool, true, false, cond, not, List, [], ◌∷◌, ◌++◌, length, refl, sym, ◌∙◌, ap, subst, arith, append_assoc, nat_eq, map, inl, inr, ◌⊎◌}
-use Rattle.std.specs.Prelude.{◌&&◌, ◌||◌, nat_lt, Option, Some, None, flat_map}
+use Rattle.std.proofs.Common.{◌≡◌, ℕ, ◌≤◌, Bool, true, false, cond, not, List, [], ◌∷◌, ◌++◌, refl, sym, ◌∙◌, ap, subst, arith, map}
+use Rattle.std.specs.Prelude.{◌&&◌, ◌||◌, Option, Some, None}
 use Rattle.std.specs.List.{list_any, AllByRecursion}
 use Rattle.scp_types.specs.declared.names.ConnId.{ConnId}
 use Rattle.scp_types.specs.declared.names.Hash.{Hash}
@@ -8,7 +8,6 @@ use Rattle.scp_quorum.specs.QuorumTree.{QuorumTree}
 use Rattle.scp_wire.specs.declared.carried.Carried.{Carried}
 use Rattle.scp_wire.specs.declared.side.SideMessage.{SideMessage}
 use Rattle.scp_wire.specs.declared.side.SideMessage.TheVariants.{GetSet, Set, NoSet}
-use Rattle.scp_wire.specs.declared.link.Cause.{Cause}
 use Rattle.scp_wire.specs.declared.link.Cause.TheVariants.{ParkedFull}
 use Rattle.scp_wire.specs.declared.link.Command.TheVariants.{Tick, Propose, Round, Timer, Ask}
 use Rattle.scp_wire.specs.declared.link.Inbound.{Inbound}
@@ -16,24 +15,23 @@ use Rattle.scp_wire.specs.declared.link.Inbound.TheVariants as inbound
 use Rattle.scp_wire.specs.Connections.{same_conn}
 use Rattle.scp_wire.specs.Marks.{Mark, number, ended, one_if}
 use Rattle.scp_wire.specs.Lanes.{slot_of, in_lane, HasSlot}
-use Rattle.scp_fetch.specs.declared.want.Miss.TheVariants.{One, All}
+use Rattle.scp_fetch.specs.declared.want.Miss.TheVariants.{One}
 use Rattle.scp_pending.specs.declared.parked.Parked.{Parked}
 use Rattle.scp_pending.specs.declared.parked.Parked.TheVariants.{Waits, Free, Lost}
 use Rattle.scp_pending.specs.declared.ready.DropCause.{DropCause}
 use Rattle.scp_pending.specs.declared.ready.DropCause.TheVariants.{BadSet, GaveUp, Closed as ByClose, ParkedFull as ByFull}
 use Rattle.scp_pending.specs.declared.ready.Ready.{Ready}
-use Rattle.scp_pending.specs.declared.ready.Ready.TheVariants.{Deliver, Dropped, Closed, Local}
+use Rattle.scp_pending.specs.declared.ready.Ready.TheVariants.{Dropped, Closed}
 use Rattle.scp_pending.specs.Sanity.{is_sane}
 use Rattle.scp_fetch.specs.Wants.{missed_by, last_missed, gives_up}
 use Rattle.scp_fetch.specs.Store.{lookup}
-use Rattle.scp_pending.specs.Queues.{QueueView, is_of, is_open, parked_of, others, parked_in, lane_of, is_at, waits, is_held, fate, leaves_of, stays_of, served, leaving_of, in_order_of, seq_of, named, is_hash, hash_of, resolved_one, resolved_in, resolved, with_set, lost_by, dropped}
-use Rattle.scp_pending.specs.Rules.{Settled, rules, releases, opens, opened, closed_off, entering_by, entering, found, overflows, goes_through, parks, enters, brings, by_answer, answered, is_answer, is_given_up, gives_up_one, missed_one, missed_all, hears, heard_out}
-use Rattle.scp_pending.specs.Line.{ready_mark, marks_of, parked_mark, marks_parked}
-use Rattle.scp_pending.specs.Causes.{plus}
+use Rattle.scp_pending.specs.Queues.{QueueView, is_of, is_open, parked_of, others, parked_in, lane_of, is_at, waits, is_held, fate, served, leaving_of, in_order_of, seq_of, named, is_hash, hash_of, resolved_one, resolved_in, resolved, with_set, lost_by, dropped}
+use Rattle.scp_pending.specs.Rules.{Settled, rules, releases, opens, opened, closed_off, entering_by, entering, found, overflows, goes_through, parks, by_answer, answered, is_answer, is_given_up, gives_up_one, hears, heard_out}
+use Rattle.scp_pending.specs.Line.{marks_of, parked_mark, marks_parked}
 use Rattle.std.proofs.lemmas.Bool.{eqb-true}
-use Rattle.scp_pending.proofs.Basics.{append_nil, clash, or_none, map-append, same_conn-true, same_conn-refl, same_conn-other, all_step, all_weaker}
+use Rattle.scp_pending.proofs.Basics.{append_nil, or_none, map-append, same_conn-true, same_conn-refl, all_step}
 use Rattle.scp_pending.proofs.Laning.{HasLane, in_lane-append, mark_in, marks-one, marks-fate, marks-fate_other}
-use Rattle.scp_pending.proofs.Serving.{how_many, AreSingle, how_many-append, how_many-map, how_many-served, how_many-parked_in, how_many-others_mine, how_many-others_other, shut_none, none_shut, open_as, parked_shut, parked-opened, parked-others_mine, parked-others_other, parked_in-mine, parked_in-other, parked-resolved, parked-served, IsParkedOf, AreMine, marks-leaving, marks_of-append, all_in_order, how_many-in_order, parked-in_order, single-in_order}
+use Rattle.scp_pending.proofs.Serving.{how_many, AreSingle, how_many-map, how_many-served, how_many-parked_in, how_many-others_mine, how_many-others_other, shut_none, open_as, parked-opened, parked-others_mine, parked-others_other, parked_in-mine, parked_in-other, parked-resolved, parked-served, IsParkedOf, AreMine, marks-leaving, marks_of-append, all_in_order, how_many-in_order, parked-in_order, single-in_order}
 
 -- ---- a close
 

@@ -1,6 +1,6 @@
 -- The connections that stand in a want's list are those of which something that is parked waits for its hash.
-use Rattle.std.proofs.Common.{◌≡◌, ℕ, ◌+◌, ◌<◌, ◌≤◌, Bool, true, false, cond, not, List, [], ◌∷◌, ◌++◌, length, refl, sym, ◌∙◌, ap, subst, arith, append_assoc, map, inl, inr, ◌⊎◌}
-use Rattle.std.specs.Prelude.{◌&&◌, ◌||◌, nat_lt, filter, slice_set, Option, Some, None}
+use Rattle.std.proofs.Common.{◌≡◌, ℕ, ◌+◌, Bool, true, false, cond, not, List, [], ◌∷◌, ◌++◌, refl, sym, ◌∙◌, ap, subst, arith, append_assoc, map}
+use Rattle.std.specs.Prelude.{◌&&◌, ◌||◌, filter, slice_set, Option, Some, None}
 use Rattle.std.specs.List.{list_any, AllByRecursion}
 use Rattle.scp_types.specs.declared.names.ConnId.{ConnId}
 use Rattle.scp_types.specs.declared.names.Hash.{Hash}
@@ -16,20 +16,18 @@ use Rattle.scp_fetch.specs.declared.want.Want.{Want}
 use Rattle.scp_fetch.specs.declared.want.Miss.{Miss}
 use Rattle.scp_fetch.specs.declared.want.Miss.TheVariants.{One, All}
 use Rattle.scp_fetch.specs.Hashes.{same_hash}
-use Rattle.scp_fetch.specs.Wants.{is_for, is_wanted, has_conn, joined, waiting_for, waits_besides, leave, left_by, ask, new_want, wanted_by, unask, unasked, is_missed, is_last, count_miss, missed_by, last_missed, without, gives_up}
+use Rattle.scp_fetch.specs.Wants.{is_for, is_wanted, has_conn, joined, waiting_for, waits_besides, leave, left_by, ask, new_want, unask, is_missed, is_last, count_miss, missed_by, last_missed, without, gives_up}
 use Rattle.scp_pending.specs.declared.parked.Parked.{Parked}
 use Rattle.scp_pending.specs.declared.parked.Parked.TheVariants.{Waits, Free, Lost}
-use Rattle.scp_pending.specs.declared.ready.DropCause.{DropCause}
 use Rattle.scp_pending.specs.declared.ready.DropCause.TheVariants.{BadSet, GaveUp}
-use Rattle.scp_pending.specs.Sanity.{is_sane, has_spelling}
+use Rattle.scp_pending.specs.Sanity.{is_sane}
 use Rattle.scp_pending.specs.Queues.{QueueView, is_of, is_open, parked_of, others, parked_in, lane_of, is_at, waits, is_held, stays_behind, served, in_order_of, named, is_hash, hash_of, waits_for, waited_by, is_waiting, resolved_one, resolved, with_set, lost_by}
 use Rattle.scp_pending.specs.Causes.{plus}
-pub use Rattle.scp_pending.specs.Kept.{IsListed, AreApart, AreListed}
-use Rattle.scp_pending.specs.Rules.{Settled, rules, opens, opened, closed_off, entering, overflows, goes_through, wanted_named, wanted_with, parks, by_answer, answered, is_answer, is_given_up, gives_up_one, hears, link_number}
-use Rattle.scp_pending.proofs.Basics.{append_nil, clash, or_none, if_any, and_both, not_false, same_hash-refl, same_hash-true, same_hash-sym, same_node-true, same_node-refl, same_conn-refl, same_conn-true, all_step, all_weaker, all_append, all_both, all_kept, all_filter}
+pub use Rattle.scp_pending.specs.inside.Kept.{IsListed, AreApart, AreListed}
+use Rattle.scp_pending.specs.Rules.{Settled, rules, opens, opened, closed_off, entering, overflows, goes_through, wanted_named, parks, by_answer, answered, is_answer, is_given_up, gives_up_one, hears, link_number}
+use Rattle.scp_pending.proofs.Basics.{clash, or_none, not_false, same_hash-refl, same_hash-true, same_hash-sym, same_conn-refl, same_conn-true, all_step, all_weaker, all_append, all_both, all_kept, all_filter}
 use Rattle.scp_pending.proofs.Wanting.{wanted-map, wanted-filter_of, ask-hash, count-hash, is_for-true, none_wanted}
-use Rattle.scp_pending.proofs.Serving.{how_many, AreSingle, how_many-append, how_many-others_mine, none_shut, shut_none, others_few, parked-append, parked-opened, parked-others_mine, parked-others_other, parked_in-mine, parked_in-other, parked-resolved, parked-served, how_many-map, parked-in_order, single-in_order}
-use Rattle.scp_pending.proofs.Standing.{gives_up_other}
+use Rattle.scp_pending.proofs.Serving.{how_many, AreSingle, how_many-append, how_many-others_mine, none_shut, shut_none, others_few, parked-append, parked-opened, parked-others_mine, parked-others_other, parked_in-mine, parked_in-other, parked-resolved, parked-served, parked-in_order, single-in_order}
 
 -- ---- tests
 

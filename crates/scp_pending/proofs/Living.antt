@@ -1,23 +1,18 @@
 -- A connection is open in what is parked exactly where it stands by what was taken and wasn't cut off.
-use Rattle.std.proofs.Common.{◌≡◌, ℕ, ◌+◌, Bool, true, false, cond, not, List, [], ◌∷◌, ◌++◌, refl, sym, ◌∙◌, ap, subst, append_assoc, nat_eq}
-use Rattle.std.specs.Prelude.{◌&&◌, ◌||◌, Some, map}
+use Rattle.std.proofs.Common.{◌≡◌, ℕ, Bool, true, false, cond, not, List, [], ◌∷◌, ◌++◌, refl, sym, ◌∙◌, ap, subst, nat_eq}
+use Rattle.std.specs.Prelude.{◌&&◌, ◌||◌, map}
 use Rattle.std.specs.List.{list_any}
 use Rattle.std.proofs.lemmas.Bool.{eqb-true}
 use Rattle.scp_types.specs.declared.names.ConnId.{ConnId}
-use Rattle.scp_types.specs.declared.names.NodeId.{NodeId}
-use Rattle.scp_wire.specs.declared.link.Cause.{Cause}
 use Rattle.scp_wire.specs.declared.link.Cause.TheVariants.{ParkedFull}
-use Rattle.scp_wire.specs.declared.link.Inbound.{Inbound}
 use Rattle.scp_wire.specs.Connections.{conn_at, same_conn}
-use Rattle.scp_wire.specs.Shape.{Come, HasShape}
-use Rattle.scp_wire.specs.Marks.{Mark, number, ended, one_if, marks_in, messages_in}
+use Rattle.scp_wire.specs.Shape.{Come}
+use Rattle.scp_wire.specs.Marks.{Mark, number, ended, one_if, messages_in}
 use Rattle.scp_pending.specs.declared.parked.Parked.{Parked}
 use Rattle.scp_pending.specs.declared.ready.Ready.{Ready}
 use Rattle.scp_pending.specs.declared.ready.Ready.TheVariants.{Deliver, Dropped, Closed, Local}
 use Rattle.scp_pending.specs.Queues.{QueueView, is_open, parked_of}
-use Rattle.scp_pending.specs.Rules.{PendingView}
 use Rattle.scp_pending.specs.Line.{ready_mark, marks_of, parked_mark, marks_parked}
-use Rattle.scp_pending.specs.Pends.{Pends, start_of}
 use Rattle.scp_pending.specs.Living.{stands, is_too_many, cuts_off, is_cut_off, OpenByPlace}
 use Rattle.scp_pending.proofs.Basics.{same_number}
 use Rattle.scp_pending.proofs.Telling.{Told, IsCutHere, NoEnd}

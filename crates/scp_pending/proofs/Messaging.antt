@@ -9,7 +9,7 @@ use Rattle.std.proofs.lemmas.List.Sorted.{All-permutation, list_any-IsPermutatio
 use Rattle.scp_types.specs.declared.names.ConnId.{ConnId}
 use Rattle.scp_types.specs.declared.names.NodeId.{NodeId}
 use Rattle.scp_types.specs.declared.names.Seq.{Seq}
-use Rattle.scp_wire.specs.Carried.{IsCarried, IsCarried-prop}
+use Rattle.scp_wire.specs.inside.Carried.{IsCarried, IsCarried-prop}
 use Rattle.scp_wire.specs.declared.carried.Carried.{Carried}
 use Rattle.scp_wire.specs.declared.message.Message.{Message}
 use Rattle.scp_wire.specs.declared.link.Inbound.{Inbound}
@@ -23,7 +23,7 @@ use Rattle.scp_pending.specs.Queues.{QueueView, is_of, is_open, parked_of, seq_o
 use Rattle.scp_pending.specs.Rules.{Settled, PendingView}
 use Rattle.scp_pending.specs.Causes.{Place, plus}
 use Rattle.scp_pending.specs.Line.{parked_mark}
-use Rattle.scp_pending.specs.Outcome.{Adds, parked_in_all}
+use Rattle.scp_pending.specs.inside.Outcome.{Adds, parked_in_all}
 use Rattle.scp_pending.specs.Pends.{Pends, start_of}
 use Rattle.scp_pending.specs.Messages.{IsParkedAs, is_on, messages_on, AreParked, message_mark, StandFor, ParkedStandFor}
 use Rattle.scp_pending.proofs.Basics.{append_nil, clash, flat-append, same_conn-refl, same_conn-true, all_weaker}

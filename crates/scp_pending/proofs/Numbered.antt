@@ -1,6 +1,6 @@
 -- What came of a link in its shape has each message under its number.
-use Rattle.std.proofs.Common.{◌≡◌, ◌≢◌, ℕ, ◌+◌, ◌<◌, ◌≤◌, Bool, true, false, cond, List, [], ◌∷◌, ◌++◌, refl, sym, ◌∙◌, ap, subst, nat_eq, arith, append_assoc, length, zero, suc, length-append}
-use Rattle.std.specs.Prelude.{Option, Some, None, fold, if◌then◌else◌, filter, flat_map, slice_get, ◌&&◌}
+use Rattle.std.proofs.Common.{◌≡◌, ℕ, ◌+◌, ◌<◌, Bool, true, false, cond, List, [], ◌∷◌, ◌++◌, refl, sym, ◌∙◌, ap, subst, nat_eq, arith, append_assoc, length, length-append}
+use Rattle.std.specs.Prelude.{Some, filter, flat_map, slice_get, ◌&&◌}
 use Rattle.std.specs.List.{AllByRecursion}
 use Rattle.std.proofs.lemmas.Grind.{flat_map-append}
 use Rattle.std.proofs.lemmas.List.{append-nil}
@@ -12,7 +12,7 @@ use Rattle.scp_wire.specs.declared.message.Message.{Message}
 use Rattle.scp_wire.specs.declared.link.Inbound.{Inbound}
 use Rattle.scp_wire.specs.declared.link.Inbound.TheVariants.{Opened, Carried, Side, Closed, Local}
 use Rattle.scp_wire.specs.Connections.{conn_at, same_conn, same_node}
-use Rattle.scp_wire.specs.Shape.{Come, nothing_came, comes, MayCome, AreInOrder, is_from, of_peer}
+use Rattle.scp_wire.specs.Shape.{Come, nothing_came, AreInOrder, is_from, of_peer}
 use Rattle.scp_wire.specs.Marks.{one_if, came_message, messages_in}
 pub use Rattle.scp_wire.specs.Parts.{IsNumbered}
 use Rattle.scp_wire.specs.Lanes.{slot_in, slots_of, HasSlot, HaveSlots}
@@ -22,7 +22,7 @@ use Rattle.scp_wire.specs.Lanes.{slot_in, slots_of, HasSlot, HaveSlots}
 pub same_conn-at : (peer me : NodeId) (a b : ℕ) → same_conn (conn_at peer me a) (conn_at peer me b) ≡ nat_eq a b
 same_conn-at peer me a b = rw (nat_list_eq_equiv.refl peer.0, nat_list_eq_equiv.refl me.0) refl
 
-same_is : (peer me : NodeId) (d : ConnId) (a life : ℕ) → d ≡ conn_at peer me a → same_conn d (conn_at peer me life) ≡ nat_eq a life
+pub same_is : (peer me : NodeId) (d : ConnId) (a life : ℕ) → d ≡ conn_at peer me a → same_conn d (conn_at peer me life) ≡ nat_eq a life
 same_is peer me d a life e = ap (λ (k : ConnId). same_conn k (conn_at peer me life)) e ∙ same_conn-at peer me a life
 
 pub messages_in-append : (c : ConnId) (xs ys : List Inbound) → messages_in c (xs ++ ys) ≡ messages_in c xs ++ messages_in c ys
@@ -38,7 +38,7 @@ other_message c (Side conn message) e = refl
 other_message c (Closed conn cause) e = refl
 other_message c (Local command) e = refl
 
-kept : {X : Type 0} (f : Inbound → List X) (p : Inbound → Bool) (other : (x : Inbound) → p x ≡ false → f x ≡ []) (xs : List Inbound) → flat_map f (filter p xs) ≡ flat_map f xs
+pub kept : {X : Type 0} (f : Inbound → List X) (p : Inbound → Bool) (other : (x : Inbound) → p x ≡ false → f x ≡ []) (xs : List Inbound) → flat_map f (filter p xs) ≡ flat_map f xs
 kept f p other [] = refl
 kept f p other (x ∷ xs) = by_test (p x) refl (kept f p other xs)
   where

@@ -1,14 +1,14 @@
 -- What came of a connection has each number once.
-use Rattle.std.proofs.Common.{◌≡◌, ℕ, ◌+◌, ◌<◌, ◌≤◌, Bool, true, false, cond, not, List, [], ◌∷◌, ◌++◌, length, refl, sym, ◌∙◌, ap, subst, arith, nat_eq, inl, inr, ◌⊎◌, zero, suc}
-use Rattle.std.specs.Prelude.{◌&&◌, nat_lt, fold, filter, Option, Some, None, slice_get, is_some, position}
+use Rattle.std.proofs.Common.{◌≡◌, ℕ, ◌+◌, ◌<◌, Bool, true, false, cond, not, List, [], ◌∷◌, ◌++◌, length, refl, ◌∙◌, ap, subst, arith, nat_eq, inl, inr, ◌⊎◌, suc}
+use Rattle.std.specs.Prelude.{nat_lt, fold, Some, None, slice_get, is_some, position}
 use Rattle.std.specs.List.{AllByRecursion, position_or_len}
-use Rattle.std.proofs.lemmas.Bool.{ltb-true, ltb-false, eqb-true}
+use Rattle.std.proofs.lemmas.Bool.{ltb-true, eqb-true}
 use Rattle.scp_types.specs.declared.names.ConnId.{ConnId}
 use Rattle.scp_types.specs.declared.names.NodeId.{NodeId}
 use Rattle.scp_wire.specs.declared.carried.Carried.{Carried}
 use Rattle.scp_wire.specs.declared.link.Inbound.{Inbound}
 use Rattle.scp_wire.specs.declared.link.Inbound.TheVariants as inbound
-use Rattle.scp_wire.specs.Connections.{conn_at, same_node, same_conn}
+use Rattle.scp_wire.specs.Connections.{same_node, same_conn}
 use Rattle.scp_wire.specs.Shape.{Come, nothing_came, comes, MayCome, AreInOrder, is_from, of_peer, HasShape}
 use Rattle.scp_pending.proofs.Basics.{clash, all_weaker, same_node-true, same_node-refl, same_conn-true}
 use Rattle.scp_pending.proofs.Following.{of_peer-push, order_split}

@@ -1,6 +1,6 @@
 -- Who waits for a hash, in which order, by what was taken; and that a hash is wanted just while something waits for it.
-use Rattle.std.proofs.Common.{◌≡◌, ℕ, ◌+◌, ◌<◌, ◌≤◌, Bool, true, false, cond, not, List, [], ◌∷◌, ◌++◌, refl, sym, ◌∙◌, ap, subst, append_assoc, nat_eq, map, inl, inr, ◌⊎◌}
-use Rattle.std.specs.Prelude.{◌&&◌, ◌||◌, slice_set, filter, flat_map, Option, Some, None, is_some, position}
+use Rattle.std.proofs.Common.{◌≡◌, ℕ, Bool, true, false, cond, not, List, [], ◌∷◌, ◌++◌, refl, sym, ◌∙◌, ap, subst, append_assoc, nat_eq, map}
+use Rattle.std.specs.Prelude.{◌&&◌, ◌||◌, slice_set, filter, Option, Some, None, is_some, position}
 use Rattle.std.specs.List.{list_any, AllByRecursion}
 use Rattle.std.proofs.lemmas.Bool.{eqb-true}
 use Rattle.scp_types.specs.declared.names.ConnId.{ConnId}
@@ -15,26 +15,26 @@ use Rattle.scp_wire.specs.declared.link.Command.TheVariants.{Tick, Propose, Roun
 use Rattle.scp_wire.specs.declared.link.Inbound.{Inbound}
 use Rattle.scp_wire.specs.declared.link.Inbound.TheVariants as inbound
 use Rattle.scp_wire.specs.Connections.{same_node, same_conn}
-use Rattle.scp_wire.specs.Shape.{AreInOrder, nothing_came, of_peer, HasShape}
+use Rattle.scp_wire.specs.Shape.{HasShape}
 use Rattle.scp_fetch.specs.declared.want.Want.{Want}
 use Rattle.scp_fetch.specs.declared.want.Miss.{Miss}
 use Rattle.scp_fetch.specs.declared.want.Miss.TheVariants.{One, All}
 use Rattle.scp_fetch.specs.Hashes.{same_hash}
-use Rattle.scp_fetch.specs.Wants.{is_for, is_wanted, has_conn, joined, waiting_for, waits_besides, leave, left_by, ask, new_want, unask, is_last, count_miss, missed_by, last_missed, without, gives_up}
+use Rattle.scp_fetch.specs.Wants.{is_for, is_wanted, has_conn, joined, waiting_for, waits_besides, leave, left_by, ask, new_want, unask, is_last, count_miss, missed_by, last_missed, gives_up}
 use Rattle.scp_pending.specs.declared.parked.Parked.{Parked}
 use Rattle.scp_pending.specs.declared.parked.Parked.TheVariants.{Waits, Free, Lost}
 use Rattle.scp_pending.specs.declared.ready.DropCause.TheVariants.{GaveUp}
 use Rattle.scp_pending.specs.declared.ready.Ready.{Ready}
 use Rattle.scp_pending.specs.Queues.{QueueView, is_of, is_open, is_link_open, parked_of, others, parked_in, waits, is_held, stays_behind, served, in_order_of, seq_of, named, is_hash, hash_of, waits_for, waited_by, is_waiting, resolved_one, resolved, lost_by}
-use Rattle.scp_pending.specs.Rules.{PendingView, Settled, fresh, settled_by, released_by, rules, releases, opens, opened, closed_off, link_of, link_number, entering, overflows, goes_through, wanted_named, parks, by_answer, answered, is_answer, is_given_up, gives_up_one, hears}
-use Rattle.scp_pending.specs.Pends.{Pends, start_of}
+use Rattle.scp_pending.specs.Rules.{Settled, settled_by, released_by, rules, releases, opens, opened, closed_off, link_of, link_number, entering, overflows, goes_through, wanted_named, parks, by_answer, answered, is_answer, is_given_up, gives_up_one, hears}
+use Rattle.scp_pending.specs.Pends.{start_of}
 use Rattle.scp_pending.specs.Waiters.{carried_one, carried_in, waits_under, waits_here, once, is_waited}
 use Rattle.scp_pending.specs.Laws.{WaitersInOrder, WantedWhileWaited}
-use Rattle.scp_pending.proofs.Basics.{append_nil, clash, or_none, if_any, or_left, or_right, and_both, flat-append, all_step, all_weaker, all_append, all_left, all_both, all_kept, all_filter, all_flat, same_hash-refl, same_hash-true, same_hash-sym, same_conn-true, same_conn-refl, same_number}
+use Rattle.scp_pending.proofs.Basics.{append_nil, clash, or_none, or_left, or_right, flat-append, all_step, all_weaker, all_append, all_left, all_both, all_kept, all_filter, all_flat, same_hash-true, same_conn-true, same_conn-refl, same_number}
 use Rattle.scp_pending.proofs.Wanting.{is_for-true, one_of}
-use Rattle.scp_pending.proofs.Serving.{AreSingle, shut_none, parked-opened, parked-others_mine, parked-others_other, parked_in-mine, parked_in-other, parked-resolved, parked-served, parked-in_order, single-in_order}
+use Rattle.scp_pending.proofs.Serving.{AreSingle, parked-opened, parked-others_mine, parked-others_other, parked_in-mine, parked_in-other, parked-resolved, parked-served, parked-in_order}
 use Rattle.scp_pending.proofs.Standing.{Stands, Fits, gives_up_other}
-use Rattle.scp_pending.proofs.Listing.{AreListed, IsListed, and_none, and_all, or_none_of, any_push, conn_sym, has-joined, has-left, count-waiting, not_named, answer_waits, waits_as, own_from}
+use Rattle.scp_pending.proofs.Listing.{AreListed, IsListed, and_none, and_all, or_none_of, any_push, conn_sym, has-joined, count-waiting, not_named, answer_waits, waits_as, own_from}
 use Rattle.scp_pending.proofs.Rising.{entering_as}
 use Rattle.scp_pending.proofs.Following.{frame_step, AllConns, open_conn, conns_step}
 use Rattle.scp_pending.proofs.Accounting.{shape_front}

@@ -1,16 +1,13 @@
 -- What a call keeps, and what follows for every list of takes.
-use Rattle.std.proofs.Common.{◌≡◌, ℕ, ◌+◌, ◌<◌, ◌≤◌, Bool, true, false, cond, not, List, [], ◌∷◌, ◌++◌, length, refl, sym, ◌∙◌, ap, subst, arith, append_assoc, map}
+use Rattle.std.proofs.Common.{◌≡◌, ℕ, true, false, List, [], ◌∷◌, ◌++◌, refl, sym, ◌∙◌, ap, subst, append_assoc}
 use Rattle.std.specs.Prelude.{◌↔◌, Option, Some, None, IfNone, option_to_list}
-use Rattle.std.specs.List.{AllByRecursion}
-use Rattle.scp_types.specs.declared.names.ConnId.{ConnId}
 use Rattle.scp_types.specs.declared.names.NodeId.{NodeId}
 use Rattle.scp_quorum.specs.QuorumTree.{QuorumTree}
 use Rattle.scp_wire.specs.declared.link.Inbound.{Inbound}
 use Rattle.scp_pending.specs.declared.ready.Ready.{Ready}
-use Rattle.scp_pending.specs.declared.parked.Parked.{Parked}
-use Rattle.scp_pending.specs.Queues.{QueueView, is_of, at_slot, parked_of}
+use Rattle.scp_pending.specs.Queues.{QueueView, at_slot}
 use Rattle.scp_pending.specs.Rules.{PendingView, Settled, fresh, rules, releases, taken_in, settled_by, released_by}
-use Rattle.scp_pending.specs.Causes.{HasCause, HeadWaits, IsSettledBy}
+use Rattle.scp_pending.specs.Causes.{HeadWaits}
 use Rattle.scp_pending.specs.Pends.{Pends, IsSettled, start_of}
 use Rattle.scp_pending.specs.Laws.{AllHaveCauses, FewAreParked, WaitersWait}
 use Rattle.scp_pending.proofs.Basics.{append_nil, all_weaker}

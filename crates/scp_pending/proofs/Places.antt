@@ -1,12 +1,12 @@
 -- The place of a connection's queue.
-use Rattle.std.proofs.Common.{◌≡◌, ℕ, ◌+◌, ◌<◌, ◌≤◌, Bool, true, false, cond, not, List, [], ◌∷◌, ◌++◌, length, refl, sym, ◌∙◌, ap, subst, arith, zero, suc, take, drop, get_or, set}
+use Rattle.std.proofs.Common.{◌≡◌, ℕ, ◌+◌, ◌<◌, ◌≤◌, Bool, true, false, cond, not, List, [], ◌∷◌, ◌++◌, length, refl, sym, ◌∙◌, ap, subst, arith, suc, get_or, set}
 use Rattle.std.specs.Prelude.{◌||◌, nat_lt, Option, Some, None, IfSome, IfNone, position, remove}
-use Rattle.std.specs.List.{prefix_len, position_or_len}
+use Rattle.std.specs.List.{position_or_len}
 use Rattle.std.proofs.lemmas.Bool.{ltb-true, ltb-false}
 use Rattle.scp_types.specs.declared.names.ConnId.{ConnId}
 use Rattle.scp_pending.specs.Queues.{QueueView, is_of, is_open, parked_of, others, changed, with_parked, parked_in, is_empty}
 use Rattle.scp_pending.specs.declared.parked.Parked.{Parked}
-use Rattle.scp_pending.specs.Outcome.{IsPlace}
+use Rattle.scp_pending.specs.inside.Outcome.{IsPlace}
 use Rattle.scp_pending.proofs.Basics.{same_conn-true}
 
 abbrev place : ConnId → List QueueView → ℕ

@@ -1,15 +1,13 @@
 -- A local command stands where it came.
-use Rattle.std.proofs.Common.{◌≡◌, List, [], ◌∷◌, ◌++◌, refl, sym, ◌∙◌, ap, map}
-use Rattle.scp_types.specs.declared.names.NodeId.{NodeId}
+use Rattle.std.proofs.Common.{◌≡◌, List, [], ◌∷◌, ◌++◌, refl, ◌∙◌, ap, map}
 use Rattle.scp_wire.specs.declared.link.Command.{Command}
 use Rattle.scp_wire.specs.declared.link.Command.TheVariants.{Tick, Propose, Round, Timer, Ask}
-use Rattle.scp_wire.specs.declared.link.Inbound.{Inbound}
 use Rattle.scp_wire.specs.declared.link.Inbound.TheVariants as inbound
 use Rattle.scp_pending.specs.declared.ready.Ready.{Ready}
 use Rattle.scp_pending.specs.Endings.{passing_command}
-use Rattle.scp_pending.specs.Pends.{Pends, start_of}
-use Rattle.scp_pending.specs.Placing.{as_given, StandsAt, CommandsKeepPlace}
-use Rattle.scp_pending.specs.Rules.{PendingView, Settled, rules, releases, settled_by, released_by}
+use Rattle.scp_pending.specs.Pends.{start_of}
+use Rattle.scp_pending.specs.Placing.{as_given, CommandsKeepPlace}
+use Rattle.scp_pending.specs.Rules.{Settled, rules, releases, settled_by, released_by}
 use Rattle.scp_pending.proofs.Ending.{passed_along}
 use Rattle.scp_pending.proofs.Passing.{released-append}
 use Rattle.scp_pending.proofs.Sound.{sound_start, sound_along}

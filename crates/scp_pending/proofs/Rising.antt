@@ -1,7 +1,6 @@
 -- What is parked of a connection has ascending numbers.
-use Rattle.std.proofs.Common.{◌≡◌, ℕ, ◌+◌, ◌<◌, ◌≤◌, Bool, true, false, cond, not, List, [], ◌∷◌, ◌++◌, length, refl, sym, ◌∙◌, ap, subst, arith, map, inl, inr, ◌⊎◌}
-use Rattle.std.specs.Prelude.{◌&&◌, Option, Some, None}
-use Rattle.std.specs.List.{list_any, AllByRecursion}
+use Rattle.std.proofs.Common.{◌≡◌, ℕ, ◌+◌, ◌≤◌, Bool, true, false, cond, List, [], ◌∷◌, ◌++◌, refl, sym, ◌∙◌, ap, subst, arith, map, inl, inr, ◌⊎◌}
+use Rattle.std.specs.Prelude.{Option, Some, None}
 use Rattle.scp_types.specs.declared.names.ConnId.{ConnId}
 use Rattle.scp_types.specs.declared.names.Hash.{Hash}
 use Rattle.scp_types.specs.declared.names.Seq.{Seq}
@@ -20,11 +19,11 @@ use Rattle.scp_pending.specs.declared.parked.Parked.{Parked}
 use Rattle.scp_pending.specs.declared.parked.Parked.TheVariants.{Waits, Free, Lost}
 use Rattle.scp_pending.specs.declared.ready.DropCause.TheVariants.{BadSet, GaveUp}
 use Rattle.scp_pending.specs.Sanity.{is_sane}
-use Rattle.scp_pending.specs.Queues.{QueueView, is_open, parked_of, others, parked_in, is_held, stays_behind, stays_of, served, in_order_of, seq_of, named, is_hash, hash_of, resolved_one, resolved, with_set, lost_by}
+use Rattle.scp_pending.specs.Queues.{QueueView, is_open, parked_of, others, parked_in, is_held, stays_behind, served, in_order_of, seq_of, named, is_hash, hash_of, resolved_one, resolved, with_set, lost_by}
 use Rattle.scp_pending.specs.Rules.{Settled, rules, opens, opened, closed_off, entering_by, entering, found, overflows, goes_through, parks, by_answer, answered, is_answer, is_given_up, gives_up_one, hears}
 use Rattle.scp_pending.specs.Endings.{Ascend}
 use Rattle.scp_pending.proofs.Basics.{map-append, same_conn-true}
-use Rattle.scp_pending.proofs.Serving.{AreSingle, how_many, how_many-map, parked-opened, parked-others_mine, parked-others_other, parked_in-mine, parked_in-other, parked-resolved, parked-served, parked-in_order}
+use Rattle.scp_pending.proofs.Serving.{AreSingle, parked-opened, parked-others_mine, parked-others_other, parked_in-mine, parked_in-other, parked-resolved, parked-served, parked-in_order}
 
 abbrev pub seqs_of : ConnId → List QueueView → List Seq
 seqs_of c qs = map seq_of (parked_of c qs)

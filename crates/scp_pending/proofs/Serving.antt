@@ -1,20 +1,17 @@
 -- The queues: how many a connection has, what is parked of it, and what leaves.
-use Rattle.std.proofs.Common.{◌≡◌, ℕ, ◌+◌, ◌<◌, ◌≤◌, Bool, true, false, cond, not, List, [], ◌∷◌, ◌++◌, length, refl, sym, ◌∙◌, ap, subst, arith, append_assoc, nat_eq, map, inl, inr, ◌⊎◌}
-use Rattle.std.specs.Prelude.{◌&&◌, ◌||◌, nat_lt, filter, flat_map, Option}
-use Rattle.std.specs.List.{list_any, AllByRecursion}
+use Rattle.std.proofs.Common.{◌≡◌, ℕ, ◌+◌, ◌≤◌, Bool, true, false, cond, not, List, [], ◌∷◌, ◌++◌, refl, sym, ◌∙◌, ap, subst, arith, map}
+use Rattle.std.specs.Prelude.{◌||◌, filter}
+use Rattle.std.specs.List.{AllByRecursion}
 use Rattle.scp_types.specs.declared.names.ConnId.{ConnId}
 use Rattle.scp_types.specs.declared.names.Hash.{Hash}
 use Rattle.scp_wire.specs.declared.carried.Carried.{Carried}
 use Rattle.scp_wire.specs.Connections.{same_conn}
-use Rattle.scp_wire.specs.Marks.{Mark, number, one_if}
 use Rattle.scp_pending.specs.declared.parked.Parked.{Parked}
-use Rattle.scp_pending.specs.declared.parked.Parked.TheVariants.{Waits, Free, Lost}
 use Rattle.scp_pending.specs.declared.ready.Ready.{Ready}
-use Rattle.scp_pending.specs.declared.ready.Ready.TheVariants.{Deliver, Dropped}
-use Rattle.scp_pending.specs.Queues.{QueueView, is_of, is_open, parked_of, others, changed, with_parked, parked_in, is_empty, leaves_of, stays_of, stays_in, served, leaves_in, leaving_of, is_head_waiting, with_first, in_order_of, seq_of, named, resolved_one, resolved_in, resolved}
-use Rattle.scp_pending.specs.Line.{ready_mark, marks_of, parked_mark, marks_parked}
+use Rattle.scp_pending.specs.Queues.{QueueView, is_of, is_open, parked_of, others, changed, with_parked, parked_in, is_empty, leaves_of, stays_of, stays_in, served, leaves_in, leaving_of, is_head_waiting, with_first, in_order_of, resolved_one, resolved}
+use Rattle.scp_pending.specs.Line.{ready_mark, marks_of, parked_mark}
 use Rattle.scp_pending.specs.Causes.{plus}
-pub use Rattle.scp_pending.specs.Kept.{how_many, AreSingle}
+pub use Rattle.scp_pending.specs.inside.Kept.{how_many, AreSingle}
 pub use Rattle.scp_pending.proofs.Laning.{IsParkedOf}
 use Rattle.scp_pending.proofs.Laning.{HasLane, leaves-other, lane_apart}
 use Rattle.scp_wire.specs.Lanes.{in_lane}

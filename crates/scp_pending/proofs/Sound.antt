@@ -1,8 +1,8 @@
 -- One item more: what is stored is sane, each connection has one queue, what is parked stands, and what leaves has its cause.
-use Rattle.std.proofs.Common.{◌≡◌, ℕ, ◌+◌, ◌<◌, ◌≤◌, Bool, true, false, cond, not, List, [], ◌∷◌, ◌++◌, length, refl, sym, ◌∙◌, ap, subst, arith, append_assoc, map, drop, inl, inr, ◌⊎◌}
-use Rattle.std.specs.Prelude.{◌&&◌, ◌||◌, nat_lt, filter, Option, Some, None, is_some}
+use Rattle.std.proofs.Common.{◌≡◌, ℕ, ◌≤◌, Bool, true, false, cond, not, List, [], ◌∷◌, ◌++◌, length, refl, sym, ◌∙◌, ap, subst, arith, append_assoc, map, drop}
+use Rattle.std.specs.Prelude.{◌&&◌, nat_lt, nat_le, filter, Option, Some, None, is_some}
 use Rattle.std.specs.List.{list_any, AllByRecursion}
-use Rattle.std.proofs.lemmas.Bool.{ltb-true, ltb-false}
+use Rattle.std.proofs.lemmas.Bool.{leb-false}
 use Rattle.std.proofs.lemmas.List.{length-append}
 use Rattle.scp_types.specs.declared.names.ConnId.{ConnId}
 use Rattle.scp_types.specs.declared.names.Hash.{Hash}
@@ -12,7 +12,6 @@ use Rattle.scp_quorum.specs.Sane.{IsSane}
 use Rattle.scp_wire.specs.declared.carried.Carried.{Carried}
 use Rattle.scp_wire.specs.declared.side.SideMessage.{SideMessage}
 use Rattle.scp_wire.specs.declared.side.SideMessage.TheVariants.{GetSet, Set, NoSet}
-use Rattle.scp_wire.specs.declared.link.Cause.{Cause}
 use Rattle.scp_wire.specs.declared.link.Cause.TheVariants.{ParkedFull}
 use Rattle.scp_wire.specs.declared.link.Command.TheVariants.{Tick, Propose, Round, Timer, Ask}
 use Rattle.scp_wire.specs.declared.link.Inbound.{Inbound}
@@ -24,23 +23,25 @@ use Rattle.scp_fetch.specs.declared.want.Miss.TheVariants.{One, All}
 use Rattle.scp_pending.specs.declared.parked.Parked.{Parked}
 use Rattle.scp_pending.specs.declared.parked.Parked.TheVariants.{Waits, Free, Lost}
 use Rattle.scp_pending.specs.declared.ready.DropCause.{DropCause}
-use Rattle.scp_pending.specs.declared.ready.DropCause.TheVariants.{BadSet, GaveUp, Closed as ByClose, ParkedFull as ByFull}
+use Rattle.scp_pending.specs.declared.ready.DropCause.TheVariants.{GaveUp, Closed as ByClose, ParkedFull as ByFull}
+use Rattle.scp_pending.specs.declared.pending.TheConstants.{PARKED_LIMIT}
 use Rattle.scp_pending.specs.declared.ready.Ready.{Ready}
-use Rattle.scp_pending.specs.declared.ready.Ready.TheVariants.{Deliver, Dropped, Closed, Local}
-use Rattle.scp_pending.specs.Sanity.{has_spelling, sane_of_test}
+use Rattle.scp_pending.specs.declared.ready.Ready.TheVariants.{Dropped, Closed}
+use Rattle.scp_pending.specs.Sanity.{has_spelling}
+use Rattle.scp_pending.proofs.Sanity.{sane_of_test}
 use Rattle.scp_fetch.specs.Hashes.{same_hash}
-use Rattle.scp_fetch.specs.Wants.{is_for, is_wanted, waits_besides, leave, left_by, ask, new_want, wanted_by, unask, unasked, is_missed, is_last, count_miss, missed_by, last_missed, without, gives_up}
+use Rattle.scp_fetch.specs.Wants.{is_for, is_wanted, waits_besides, leave, left_by, ask, new_want, unask, unasked, is_missed, is_last, count_miss, missed_by, last_missed, without, gives_up}
 use Rattle.scp_fetch.specs.Store.{StoreView, lookup, pushed, stored}
-use Rattle.scp_pending.specs.Queues.{QueueView, is_of, is_open, is_link_open, parked_of, others, changed, with_parked, parked_in, is_empty, is_held, fate, leaves_of, served, leaving_of, in_order_of, named, is_hash, hash_of, waits_for, is_waiting, resolved, with_set, lost_by, dropped}
-use Rattle.scp_pending.specs.Rules.{Settled, settled_by, released_by, rules, releases, opens, opened, closed_off, entering_by, entering, found, is_full, overflows, goes_through, wanted_named, wanted_with, parks, enters, brings, brought, by_answer, answered, is_answer, is_given_up, gives_up_one, missed_one, missed_all, hears, heard_out, link_number, link_of, fresh}
-use Rattle.scp_pending.specs.Causes.{is_set, is_miss, plus, Place, IsMissed, HasCause}
-use Rattle.scp_pending.proofs.Basics.{append_nil, clash, or_none, or_left, or_right, and_both, not_false, same_hash-true, same_hash-sym, same_conn-true, all_step, all_weaker, all_append, all_left, all_both, all_kept, all_filter}
+use Rattle.scp_pending.specs.Queues.{QueueView, is_of, is_open, is_link_open, parked_of, others, changed, with_parked, parked_in, is_empty, is_held, fate, served, leaving_of, in_order_of, named, is_hash, hash_of, waits_for, is_waiting, resolved, lost_by, dropped}
+use Rattle.scp_pending.specs.Rules.{Settled, settled_by, released_by, rules, releases, opens, opened, closed_off, entering_by, entering, found, is_full, overflows, goes_through, wanted_named, wanted_with, parks, enters, by_answer, answered, is_answer, is_given_up, gives_up_one, hears, link_number, link_of, fresh}
+use Rattle.scp_pending.specs.Causes.{is_set, is_miss, plus, IsMissed, HasCause}
+use Rattle.scp_pending.proofs.Basics.{append_nil, clash, or_none, or_left, or_right, not_false, same_hash-true, same_hash-sym, same_conn-true, all_step, all_weaker, all_append, all_both, all_kept, all_filter}
 use Rattle.scp_pending.proofs.Later.{settled-push, IsMissed-later, HasCause-later}
 use Rattle.scp_pending.proofs.Stored.{store_step}
-use Rattle.scp_pending.proofs.Wanting.{AtLeast, wanted-map, ask-hash, ask-misses, count-hash, count-misses, wanted_by-other, is_for-true, least-map, least-wanted_by, none_wanted, few_missed}
+use Rattle.scp_pending.proofs.Wanting.{AtLeast, wanted-map, ask-hash, ask-misses, count-hash, count-misses, wanted_by-other, least-map, least-wanted_by, none_wanted, few_missed}
 use Rattle.scp_pending.proofs.Serving.{how_many, AreSingle, how_many-append, how_many-map, how_many-served, how_many-parked_in, none_shut, others_few, all_in_order, single-in_order}
 use Rattle.scp_pending.proofs.Listing.{AreListed, StandsElse, others_else, still_left, listed_step}
-use Rattle.scp_pending.proofs.Standing.{Stands, AllStand, Fits, FitsButHead, Keeps, IsWant, stays, quiet, new_stands, answer_stands, miss_stands, keeps_missed, gives_up_other, served_fit, resolved_fit, fate_caused}
+use Rattle.scp_pending.proofs.Standing.{Stands, Fits, Keeps, IsWant, stays, quiet, new_stands, answer_stands, miss_stands, keeps_missed, gives_up_other, served_fit, resolved_fit, fate_caused}
 use Rattle.scp_pending.proofs.Laning.{held-push}
 
 -- ---- each connection has at most one queue
@@ -187,15 +188,15 @@ closed_fit start taken s c item e single listed k a = all_both (Fits start taken
     }
 
 -- a message is parked behind others
-changed_fit : (start : Settled) (taken : List Inbound) (wanted : List Want) (c : ConnId) (p : Parked) (qs : List QueueView) → is_held (parked_of c qs) p ≡ true → nat_lt 63 (length (parked_of c qs)) ≡ false → Stands start taken wanted c p → AllByRecursion (Fits start taken wanted) qs → AllByRecursion (Fits start taken wanted) (changed c (with_parked p) qs)
+changed_fit : (start : Settled) (taken : List Inbound) (wanted : List Want) (c : ConnId) (p : Parked) (qs : List QueueView) → is_held (parked_of c qs) p ≡ true → nat_le PARKED_LIMIT (length (parked_of c qs)) ≡ false → Stands start taken wanted c p → AllByRecursion (Fits start taken wanted) qs → AllByRecursion (Fits start taken wanted) (changed c (with_parked p) qs)
 changed_fit start taken wanted c p [] held few w a = tt
 changed_fit start taken wanted c p (q ∷ qs) held few w a = by_test (is_of c q) refl held few (λ e f. changed_fit start taken wanted c p qs e f w a.1)
   where
-    by_test : (b : Bool) → is_of c q ≡ b → is_held (cond b q.parked (parked_of c qs)) p ≡ true → nat_lt 63 (length (cond b q.parked (parked_of c qs))) ≡ false → (is_held (parked_of c qs) p ≡ true → nat_lt 63 (length (parked_of c qs)) ≡ false → AllByRecursion (Fits start taken wanted) (changed c (with_parked p) qs)) → AllByRecursion (Fits start taken wanted) (cond b (with_parked p q ∷ qs) (q ∷ changed c (with_parked p) qs))
+    by_test : (b : Bool) → is_of c q ≡ b → is_held (cond b q.parked (parked_of c qs)) p ≡ true → nat_le PARKED_LIMIT (length (cond b q.parked (parked_of c qs))) ≡ false → (is_held (parked_of c qs) p ≡ true → nat_le PARKED_LIMIT (length (parked_of c qs)) ≡ false → AllByRecursion (Fits start taken wanted) (changed c (with_parked p) qs)) → AllByRecursion (Fits start taken wanted) (cond b (with_parked p q ∷ qs) (q ∷ changed c (with_parked p) qs))
     by_test true k held few rest = (
       record {
         waits = held-push [] q.parked p a.0.waits held;
-        few = omega (arith, length-append q.parked (p ∷ []), ltb-false 63 (length q.parked) few);
+        few = omega (arith, length-append q.parked (p ∷ []), leb-false PARKED_LIMIT (length q.parked) few);
         stands = all_append (Stands start taken wanted q.conn) q.parked (p ∷ []) a.0.stands (subst (λ (d : ConnId). Stands start taken wanted d p) (sym (same_conn-true q.conn c k)) w, tt);
       },
       a.1,
@@ -212,7 +213,7 @@ few_of_flow false g e h = refl
 few_of_flow true false e h = absurd cc
 few_of_flow true true e h = absurd cc
 
-entered_fit : (start : Settled) (taken : List Inbound) (wanted : List Want) (c : ConnId) (p : Parked) (qs : List QueueView) → goes_through c p qs ≡ false → nat_lt 63 (length (parked_of c qs)) ≡ false → Stands start taken wanted c p → AllByRecursion (Fits start taken wanted) qs → AllByRecursion (Fits start taken wanted) (parked_in c p qs)
+entered_fit : (start : Settled) (taken : List Inbound) (wanted : List Want) (c : ConnId) (p : Parked) (qs : List QueueView) → goes_through c p qs ≡ false → nat_le PARKED_LIMIT (length (parked_of c qs)) ≡ false → Stands start taken wanted c p → AllByRecursion (Fits start taken wanted) qs → AllByRecursion (Fits start taken wanted) (parked_in c p qs)
 entered_fit start taken wanted c p qs through few w a = by_test (is_empty (parked_of c qs)) refl (held_of (is_held (parked_of c qs) p) through)
   where
     nil_of : (ps : List Parked) → is_empty ps ≡ true → ps ≡ []

@@ -1,47 +1,45 @@
 -- What is parked stands by what was taken.
-use Rattle.std.proofs.Common.{◌≡◌, ℕ, ◌+◌, ◌<◌, ◌≤◌, Bool, true, false, cond, not, List, [], ◌∷◌, ◌++◌, length, refl, sym, ◌∙◌, ap, subst, arith, append_assoc, map, inl, inr, ◌⊎◌}
-use Rattle.std.specs.Prelude.{◌&&◌, ◌||◌, nat_lt, filter, find, Option, Some, None, is_some}
-use Rattle.std.specs.List.{list_any, AllByRecursion}
-use Rattle.std.proofs.lemmas.Bool.{ltb-true, ltb-false}
-use Rattle.std.proofs.lemmas.List.{length-append}
+use Rattle.std.proofs.Common.{◌≡◌, ℕ, ◌<◌, ◌≤◌, Bool, true, false, cond, not, List, [], ◌∷◌, ◌++◌, length, refl, sym, ◌∙◌, ap, subst, arith, map, inl, inr}
+use Rattle.std.specs.Prelude.{◌&&◌, ◌||◌, nat_lt, find, Option, Some, None}
+use Rattle.std.specs.List.{AllByRecursion}
+use Rattle.std.proofs.lemmas.Bool.{ltb-true}
 use Rattle.scp_types.specs.declared.names.ConnId.{ConnId}
 use Rattle.scp_types.specs.declared.names.Hash.{Hash}
 use Rattle.scp_types.specs.declared.names.Seq.{Seq}
 use Rattle.scp_quorum.specs.QuorumTree.{QuorumTree}
-use Rattle.scp_quorum.specs.QuorumKind.{set_hash}
 use Rattle.scp_quorum.specs.Sane.{IsSane}
 use Rattle.scp_wire.specs.Sets.{IsSetOf}
 use Rattle.scp_wire.specs.declared.carried.Carried.{Carried}
 use Rattle.scp_wire.specs.declared.message.Message.{Message}
 use Rattle.scp_wire.specs.declared.message.Message.TheVariants as message
-use Rattle.scp_wire.specs.declared.side.SideMessage.TheVariants.{GetSet, Set, NoSet}
-use Rattle.scp_wire.specs.declared.link.Command.TheVariants.{Tick}
+use Rattle.scp_wire.specs.declared.side.SideMessage.TheVariants.{Set}
 use Rattle.scp_wire.specs.declared.link.Inbound.{Inbound}
 use Rattle.scp_wire.specs.declared.link.Inbound.TheVariants as inbound
 use Rattle.scp_fetch.specs.declared.want.Want.{Want}
 use Rattle.scp_fetch.specs.declared.want.Miss.{Miss}
-use Rattle.scp_fetch.specs.declared.want.Miss.TheVariants.{One, All}
+use Rattle.scp_fetch.specs.declared.want.Miss.TheVariants.{One}
 use Rattle.scp_pending.specs.declared.parked.Parked.{Parked}
 use Rattle.scp_pending.specs.declared.parked.Parked.TheVariants.{Waits, Free, Lost}
+use Rattle.scp_pending.specs.declared.pending.TheConstants.{PARKED_LIMIT}
 use Rattle.scp_pending.specs.declared.ready.DropCause.{DropCause}
 use Rattle.scp_pending.specs.declared.ready.DropCause.TheVariants.{BadSet, GaveUp, Closed as ByClose, ParkedFull as ByFull}
-use Rattle.scp_pending.specs.declared.ready.Ready.{Ready}
-use Rattle.scp_pending.specs.declared.ready.Ready.TheVariants.{Deliver, Dropped, Closed, Local}
-use Rattle.scp_pending.specs.Sanity.{is_sane, has_spelling, sane_of_test}
+use Rattle.scp_pending.specs.declared.ready.Ready.TheVariants.{Dropped}
+use Rattle.scp_pending.specs.Sanity.{is_sane, has_spelling}
+use Rattle.scp_pending.proofs.Sanity.{sane_of_test}
 use Rattle.scp_fetch.specs.Hashes.{same_hash}
 use Rattle.scp_fetch.specs.Wants.{is_for, is_wanted, is_missed, is_last, missed_by, without, gives_up}
 use Rattle.scp_fetch.specs.Store.{StoreView, has_hash, lookup, stored}
-use Rattle.scp_pending.specs.Queues.{QueueView, is_open, is_of, parked_of, waits, at_slot, fate, leaves_of, stays_of, stays_in, served, leaves_in, leaving_of, named, is_hash, hash_of, waits_for, resolved_one, resolved_in, resolved, with_set, lost_by}
-use Rattle.scp_pending.specs.Rules.{Settled, settled_by, rules, entering_by, entering, found, wanted_named, wanted_with, by_answer, is_given_up}
-use Rattle.scp_pending.specs.Causes.{is_set, is_bad, is_miss, has, plus, times, Place, behind, Waiting, misses_since, IsWaiting, CameAfter, StoodThen, IsTaken, IsBadSet, IsMissed, IsGivenUp, HasCause, HeadWaits}
-use Rattle.scp_pending.proofs.Basics.{append_nil, clash, or_none, or_right, and_both, not_false, same_hash-refl, same_hash-true, same_hash-sym, same_conn-refl, same_conn-true, all_step, all_weaker, all_left, all_append, all_kept, all_filter, all_flat}
+use Rattle.scp_pending.specs.Queues.{QueueView, is_open, is_of, parked_of, waits, at_slot, fate, leaves_of, stays_in, served, leaves_in, leaving_of, named, is_hash, hash_of, waits_for, resolved_one, resolved_in, resolved, with_set, lost_by}
+use Rattle.scp_pending.specs.Rules.{Settled, settled_by, rules, entering_by, entering, found, wanted_named, wanted_with, by_answer}
+use Rattle.scp_pending.specs.Causes.{is_set, is_bad, is_miss, has, plus, Place, behind, Waiting, misses_since, CameAfter, StoodThen, IsTaken, IsBadSet, IsMissed, IsGivenUp, HasCause, HeadWaits}
+use Rattle.scp_pending.proofs.Basics.{append_nil, or_right, and_both, same_hash-refl, same_hash-true, same_hash-sym, same_conn-refl, same_conn-true, all_step, all_weaker, all_left, all_filter, all_flat}
 use Rattle.scp_pending.proofs.Later.{later, settled-push, now_from, has-later, times-later, Waiting-later, IsTaken-later, IsBadSet-later, IsMissed-later, IsGivenUp-later}
 use Rattle.scp_pending.proofs.Stored.{known_stored, unknown_still, answer_stores}
 use Rattle.scp_pending.proofs.Wanting.{AtLeast, zero_least, wanted_by-own, is_for-true, wanted-without, wanted-missed, least-missed, few_of, one_of}
 use Rattle.scp_wire.specs.Connections.{same_conn}
 use Rattle.scp_wire.specs.Lanes.{slot_of, HasSlot, HaveSlots}
 use Rattle.scp_pending.proofs.Laning.{HasLane, AreHeld, stays_held, stays_few, stays_all, leaves_all, FirstIs, first_waits}
-use Rattle.scp_pending.proofs.Serving.{IsParkedOf, AreMine}
+use Rattle.scp_pending.proofs.Serving.{IsParkedOf}
 
 pub record WaitsWell (start : Settled) (taken : List Inbound) (wanted : List Want) (x : Carried) : Type 0 where
   pub hash : Hash
@@ -141,12 +139,12 @@ lanes_of_queues start taken wanted c slots (q ∷ qs) h a = by_test (is_of c q) 
 -- a queue between two takes: each in it is held back, at most 64 are in it, and all in it stand
 pub record Fits (start : Settled) (taken : List Inbound) (wanted : List Want) (q : QueueView) : Type 0 where
   pub waits : AreHeld [] q.parked
-  pub few : length q.parked ≤ 64
+  pub few : length q.parked ≤ PARKED_LIMIT
   pub stands : AllStand start taken wanted q
 
 -- and before its head leaves
 pub record FitsButHead (start : Settled) (taken : List Inbound) (wanted : List Want) (q : QueueView) : Type 0 where
-  pub few : length q.parked ≤ 64
+  pub few : length q.parked ≤ PARKED_LIMIT
   pub stands : AllStand start taken wanted q
 
 pub served_fit : (start : Settled) (taken : List Inbound) (wanted : List Want) (qs : List QueueView) → AllByRecursion (FitsButHead start taken wanted) qs → AllByRecursion (Fits start taken wanted) (served qs) × AllByRecursion (HasCause start taken) (leaving_of qs)
@@ -156,7 +154,7 @@ served_fit start taken wanted qs a = (
 )
 
 pub resolved_fit : (start : Settled) (taken taken' : List Inbound) (wanted wanted' : List Want) (test : Option Hash → Bool) (f : Carried → Parked) (qs : List QueueView) → ((c : ConnId) (p : Parked) → Stands start taken wanted c p → Stands start taken' wanted' c (resolved_one test f p)) → AllByRecursion (Fits start taken wanted) qs → AllByRecursion (FitsButHead start taken' wanted') (resolved test f qs)
-resolved_fit start taken taken' wanted wanted' test f qs h a = all_step (Fits start taken wanted) (FitsButHead start taken' wanted') (resolved_in test f) qs (λ q k. record { few = subst (λ (n : ℕ). n ≤ 64) (sym (same_length q.parked)) k.few; stands = all_step (Stands start taken wanted q.conn) (Stands start taken' wanted' q.conn) (resolved_one test f) q.parked (h q.conn) k.stands }) a
+resolved_fit start taken taken' wanted wanted' test f qs h a = all_step (Fits start taken wanted) (FitsButHead start taken' wanted') (resolved_in test f) qs (λ q k. record { few = subst (λ (n : ℕ). n ≤ PARKED_LIMIT) (sym (same_length q.parked)) k.few; stands = all_step (Stands start taken wanted q.conn) (Stands start taken' wanted' q.conn) (resolved_one test f) q.parked (h q.conn) k.stands }) a
   where
     same_length : (ps : List Parked) → length (map (resolved_one test f) ps) ≡ length ps
     same_length [] = refl

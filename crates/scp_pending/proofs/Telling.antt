@@ -1,20 +1,12 @@
 -- How a connection's line stands to what came of it, one item after another.
-use Rattle.std.proofs.Common.{◌≡◌, ◌≢◌, ℕ, ◌+◌, ◌<◌, ◌≤◌, Bool, true, false, cond, not, List, [], ◌∷◌, ◌++◌, length, refl, sym, ◌∙◌, ap, subst, arith, append_assoc, nat_eq, inl, inr, ◌⊎◌}
-use Rattle.std.specs.Prelude.{◌&&◌, ◌||◌, Option, Some, None, fold, filter, flat_map, slice_get, is_some, position}
-use Rattle.std.specs.List.{list_any, AllByRecursion}
+use Rattle.std.proofs.Common.{◌≡◌, ◌≢◌, ℕ, ◌+◌, ◌<◌, Bool, true, false, List, [], ◌∷◌, ◌++◌, refl, sym, ◌∙◌, ap, arith, append_assoc, nat_eq, inl, inr, ◌⊎◌}
 use Rattle.std.proofs.lemmas.Bool.{eqb-true, eqb-false}
-use Rattle.scp_types.specs.declared.names.ConnId.{ConnId}
-use Rattle.scp_types.specs.declared.names.NodeId.{NodeId}
-use Rattle.scp_wire.specs.declared.carried.Carried.{Carried}
 use Rattle.scp_wire.specs.declared.link.Cause.{Cause}
 use Rattle.scp_wire.specs.declared.link.Cause.TheVariants.{ParkedFull}
-use Rattle.scp_wire.specs.declared.link.Inbound.{Inbound}
-use Rattle.scp_wire.specs.declared.link.Inbound.TheVariants as inbound
-use Rattle.scp_wire.specs.Connections.{conn_at, same_node, same_conn}
-use Rattle.scp_wire.specs.Shape.{Come, nothing_came, comes, MayCome, AreInOrder, is_from, of_peer}
-use Rattle.scp_wire.specs.Marks.{Mark, number, ended, one_if, came_mark, marks_in, IsCut, IsWhole}
+use Rattle.scp_wire.specs.Shape.{Come, nothing_came}
+use Rattle.scp_wire.specs.Marks.{Mark, number, ended}
 use Rattle.scp_wire.specs.Lanes.{EndsLast}
-use Rattle.scp_pending.proofs.Basics.{append_nil, clash, fold-append, flat-append, same_node-true, same_node-refl, same_conn-refl, same_conn-true, same_number}
+use Rattle.scp_pending.proofs.Basics.{append_nil}
 
 -- no end
 abbrev pub NoEnd : List Mark → Type 0

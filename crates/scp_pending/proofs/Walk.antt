@@ -1,5 +1,5 @@
 -- A loop that replaces each element by a function of it.
-use Rattle.std.proofs.Common.{◌≡◌, ℕ, ◌+◌, ◌<◌, ◌≤◌, List, [], ◌∷◌, ◌++◌, length, refl, sym, ◌∙◌, ap, arith, take, drop, set, get_or, map, zero, suc, add-one}
+use Rattle.std.proofs.Common.{◌≡◌, ℕ, ◌+◌, ◌<◌, ◌≤◌, List, [], ◌∷◌, ◌++◌, length, refl, ◌∙◌, ap, arith, take, drop, set, get_or, map, zero, suc, add-one}
 
 -- the first i are replaced
 abbrev pub walked : {X : Type 0} → (X → X) → ℕ → List X → List X

@@ -1,16 +1,16 @@
 -- The wants: what a change keeps of them.
-use Rattle.std.proofs.Common.{◌≡◌, ℕ, ◌+◌, ◌<◌, ◌≤◌, Bool, true, false, cond, not, List, [], ◌∷◌, ◌++◌, length, refl, sym, ◌∙◌, ap, subst, arith, append_assoc, map, inl, inr, ◌⊎◌}
+use Rattle.std.proofs.Common.{◌≡◌, ℕ, ◌+◌, ◌<◌, ◌≤◌, Bool, true, false, cond, not, List, [], ◌∷◌, ◌++◌, refl, sym, ◌∙◌, ap, arith, map, inl, inr}
 use Rattle.std.specs.Prelude.{◌&&◌, ◌||◌, nat_lt, filter, slice_set}
 use Rattle.std.specs.List.{list_any, AllByRecursion}
-use Rattle.std.proofs.lemmas.Bool.{ltb-true, ltb-false}
+use Rattle.std.proofs.lemmas.Bool.{ltb-false}
 use Rattle.scp_types.specs.declared.names.ConnId.{ConnId}
 use Rattle.scp_types.specs.declared.names.Hash.{Hash}
 use Rattle.scp_fetch.specs.declared.want.Want.{Want}
 use Rattle.scp_fetch.specs.declared.want.Miss.{Miss}
 use Rattle.scp_fetch.specs.Hashes.{same_hash}
-use Rattle.scp_fetch.specs.Wants.{is_for, is_wanted, joined, waits_besides, leave, left_by, ask, new_want, wanted_by, unask, unasked, without, is_missed, is_last, count_miss, missed_by, gives_up}
+use Rattle.scp_fetch.specs.Wants.{is_for, is_wanted, joined, ask, new_want, wanted_by, without, is_missed, is_last, count_miss, missed_by, gives_up}
 use Rattle.scp_pending.specs.Causes.{plus}
-use Rattle.scp_pending.proofs.Basics.{clash, or_none, if_any, or_left, or_right, and_both, not_false, same_hash-refl, same_hash-true, same_hash-sym, all_step, all_append, all_filter, all_kept}
+use Rattle.scp_pending.proofs.Basics.{clash, or_none, if_any, or_left, or_right, same_hash-refl, same_hash-true, all_step, all_append, all_filter}
 
 pub wanted-map : (f : Want → Want) → ((w : Want) → (f w).hash ≡ w.hash) → (hash : Hash) (ws : List Want) → is_wanted hash (map f ws) ≡ is_wanted hash ws
 wanted-map f same hash [] = refl

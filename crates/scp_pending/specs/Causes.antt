@@ -1,5 +1,5 @@
 -- Each message's fate has its cause among what was taken.
-use Rattle.std.specs.Prelude.{ℕ, ◌+◌, ◌<◌, ◌≤◌, ◌≡◌, ◌⊎◌, Bool, true, false, not, ◌&&◌, ◌||◌, List, [], ◌∷◌, ◌++◌, Option, Some, None}
+use Rattle.std.specs.Prelude.{ℕ, ◌+◌, ◌<◌, ◌≡◌, ◌⊎◌, Bool, true, false, not, ◌&&◌, ◌||◌, List, [], ◌∷◌, ◌++◌, Option, Some, None}
 use Rattle.std.specs.List.{AllByRecursion}
 use Rattle.scp_types.specs.declared.names.ConnId.{ConnId}
 use Rattle.scp_types.specs.declared.names.Hash.{Hash}
@@ -15,11 +15,10 @@ use Rattle.scp_pending.specs.Sanity.{is_sane, has_spelling}
 use Rattle.scp_fetch.specs.Hashes.{same_hash}
 use Rattle.scp_fetch.specs.Store.{lookup}
 use Rattle.scp_pending.specs.Delivery.{DeliveryView}
-use Rattle.scp_pending.specs.Queues.{QueueView, is_open, at_slot, named, hash_of}
+use Rattle.scp_pending.specs.Queues.{is_open, at_slot, named, hash_of}
 use Rattle.scp_pending.specs.Rules.{PendingView, Settled, rules, settled_by}
 use Rattle.scp_pending.specs.declared.parked.Parked.{Parked}
 use Rattle.scp_pending.specs.declared.parked.Parked.TheVariants.{Waits, Free, Lost}
-use Rattle.scp_pending.specs.declared.ready.DropCause.{DropCause}
 use Rattle.scp_pending.specs.declared.ready.DropCause.TheVariants.{BadSet, GaveUp, Closed as ByClose, ParkedFull as ByFull}
 use Rattle.scp_pending.specs.declared.ready.Ready.{Ready}
 use Rattle.scp_pending.specs.declared.ready.Ready.TheVariants.{Deliver, Dropped, Closed, Local}
@@ -65,16 +64,19 @@ abbrev pub has : (Settled → Inbound → Bool) → Settled → List Inbound →
 has test s [] = false
 has test s (item ∷ items) = test s item || has test (rules s item) items
 
+-- one more where the test holds
 abbrev pub plus : ℕ → Bool → ℕ
 plus n true = n + 1
 plus n false = n
 
+-- how many such items there are, each tested by what was settled before it
 abbrev pub times : (Settled → Inbound → Bool) → Settled → List Inbound → ℕ
 times test s [] = 0
 times test s (item ∷ items) = plus (times test (rules s item) items) (test s item)
 
 -- ---- where a message was taken: what came before it, and after
 
+-- where the message came: what came before it and after, and that its connection was open then
 pub record Place (start : Settled) (taken : List Inbound) (x : Carried) : Type 0 where
   pub before : List Inbound
   pub after : List Inbound
@@ -189,6 +191,8 @@ HeadWaits start taken c (Waits x ∷ ps) = (x.conn ≡ c) × IsWaiting start tak
 HeadWaits start taken c (Free delivery ∷ ps) = ⊥
 HeadWaits start taken c (Lost x cause ∷ ps) = ⊥
 
+-- Nothing is ready, and what heads each lane is an envelope whose set wasn't stored when it came; since then no live Set with its hash came,
+-- and fewer than twelve live misses of it.
 pub record IsSettledBy (start : Settled) (taken : List Inbound) (v : PendingView) : Type 0 where
   pub nothing_ready : v.leaving ≡ []
   pub heads_wait : AllByRecursion (λ q. (s : ℕ) → HeadWaits start taken q.conn (at_slot s q.parked)) v.settled.queues

@@ -5,6 +5,7 @@ use Rattle.scp_types.specs.declared.names.Seq.{Seq}
 use Rattle.scp_quorum.specs.QuorumTree.{QuorumTree}
 use Rattle.scp_wire.specs.declared.message.Message.{Message}
 
+-- what contracts see of a delivered message: its connection, number, content, and the set beside it
 pub record DeliveryView : Type 0 where
   pub conn : ConnId
   pub seq : Seq

@@ -1,6 +1,7 @@
 -- How each message of a connection left, and how the connection ended.
 use Rattle.std.specs.Prelude.{ℕ, ◌+◌, ◌≤◌, ◌≡◌, ◌≢◌, Bool, true, false, List, [], ◌∷◌, ◌++◌, ◌⊎◌, length, map, filter, nat_eq, flat_map}
-use Rattle.std.specs.List.{AllByRecursion}
+use Rattle.std.specs.List.{AllByRecursion, range_with_len}
+use Rattle.std.specs.List.Sorted.{IsPermutation}
 use Rattle.scp_types.specs.declared.names.ConnId.{ConnId}
 use Rattle.scp_types.specs.declared.names.Seq.{Seq}
 use Rattle.scp_wire.specs.declared.carried.Carried.{Carried}
@@ -12,9 +13,10 @@ use Rattle.scp_wire.specs.declared.link.Inbound.{Inbound}
 use Rattle.scp_wire.specs.declared.link.Inbound.TheVariants as inbound
 use Rattle.scp_wire.specs.Connections.{same_conn}
 use Rattle.scp_wire.specs.Marks.{one_if}
-use Rattle.scp_pending.specs.Queues.{is_open, parked_of}
-use Rattle.scp_pending.specs.Rules.{PendingView, Settled, settled_by}
+use Rattle.scp_pending.specs.Queues.{is_open}
+use Rattle.scp_pending.specs.Rules.{Settled, settled_by}
 use Rattle.scp_pending.specs.Causes.{IsWaiting}
+use Rattle.scp_pending.specs.declared.pending.TheConstants.{PARKED_LIMIT}
 use Rattle.scp_pending.specs.declared.ready.DropCause.{DropCause}
 use Rattle.scp_pending.specs.declared.ready.DropCause.TheVariants.{BadSet, GaveUp, Closed as ByClose, ParkedFull as ByFull}
 use Rattle.scp_pending.specs.declared.ready.Ready.{Ready}
@@ -27,27 +29,43 @@ pub data Way : Type 0 where
   by_full : Seq → Way
   over : Cause → Way
 
+-- how a dropped message left, by the cause
 abbrev pub way_by : DropCause → Seq → Way
 way_by BadSet seq = went seq
 way_by GaveUp seq = went seq
 way_by ByClose seq = by_close seq
 way_by ByFull seq = by_full seq
 
+-- what one thing says of it
 abbrev pub way : ConnId → Ready → List Way
 way c (Deliver delivery) = one_if (same_conn delivery.conn c) (went delivery.seq)
 way c (Dropped conn seq cause) = one_if (same_conn conn c) (way_by cause seq)
 way c (Closed conn cause) = one_if (same_conn conn c) (over cause)
 way c (Local command) = []
 
+-- how the messages of the connection left, in order, and its end
 abbrev pub ways : ConnId → List Ready → List Way
 ways c readies = flat_map (way c) readies
 
+-- the numbers of the messages that left
+abbrev pub number_of : Way → List ℕ
+number_of (went seq) = seq.0 ∷ []
+number_of (by_close seq) = seq.0 ∷ []
+number_of (by_full seq) = seq.0 ∷ []
+number_of (over cause) = []
+
+-- those of a list of them
+abbrev pub numbers_of : List Way → List ℕ
+numbers_of ws = flat_map number_of ws
+
+-- it left by its own fate, and not because its connection ended
 abbrev pub HasWent : Way → Type 0
 HasWent (went seq) = Unit {0}
 HasWent (by_close seq) = ⊥
 HasWent (by_full seq) = ⊥
 HasWent (over cause) = ⊥
 
+-- each left by its own fate
 abbrev pub AllWent : List Way → Type 0
 AllWent ws = AllByRecursion HasWent ws
 
@@ -81,7 +99,8 @@ pub record IsClosedOff (start : Settled) (slots : ℕ → ℕ) (taken : List Inb
   pub first : (s : ℕ) → FirstWaits start before c (seqs_at slots s seqs)
 
 -- it was cut off by one message too many: 65 are dropped, by ascending numbers, of which the last came then, and then comes
--- the end; the first of each lane was waiting
+-- the end; the first of each lane was waiting; and nothing that came before is lost: those that left are, by their numbers, all
+-- from 0 to that last one
 pub record IsCutOff (start : Settled) (slots : ℕ → ℕ) (taken : List Inbound) (c : ConnId) (ws : List Way) : Type 0 where
   pub front : List Way
   pub seqs : List Seq
@@ -92,9 +111,10 @@ pub record IsCutOff (start : Settled) (slots : ℕ → ℕ) (taken : List Inboun
   pub mine : last.conn ≡ c
   pub ways_are : ws ≡ front ++ (map by_full (seqs ++ last.seq ∷ []) ++ over ParkedFull ∷ [])
   pub fates : AllWent front
-  pub count : length (seqs ++ last.seq ∷ []) ≡ 65
+  pub count : length (seqs ++ last.seq ∷ []) ≡ PARKED_LIMIT + 1
   pub ascend : Ascend 0 (seqs ++ last.seq ∷ [])
   pub shuts : is_open c (settled_by start (before ++ inbound.Carried last ∷ [])).queues ≡ false
+  pub all : IsPermutation (range_with_len 0 (last.seq.0 + 1)) (numbers_of ws)
   pub first : (s : ℕ) → FirstWaits start (before ++ inbound.Carried last ∷ []) c (seqs_at slots s (seqs ++ last.seq ∷ []))
 
 -- while it is open, all that left had their own fates; afterwards too, or it was closed off or cut off
@@ -110,6 +130,7 @@ passing_command (Round slot) = (Round slot) ∷ []
 passing_command (Timer slot) = (Timer slot) ∷ []
 passing_command (Ask link slot) = (Ask link slot) ∷ []
 
+-- the command that passes, if it is one
 abbrev pub passing : Inbound → List Command
 passing (inbound.Opened c) = []
 passing (inbound.Carried x) = []
@@ -117,14 +138,17 @@ passing (inbound.Side c message) = []
 passing (inbound.Closed c cause) = []
 passing (inbound.Local command) = passing_command command
 
+-- the commands that pass among what came, in order
 abbrev pub commands_in : List Inbound → List Command
 commands_in items = flat_map passing items
 
+-- the command that was given, if it is one
 abbrev pub passed : Ready → List Command
 passed (Deliver delivery) = []
 passed (Dropped c seq cause) = []
 passed (Closed c cause) = []
 passed (Local command) = command ∷ []
 
+-- the commands among what was given, in order
 abbrev pub commands_of : List Ready → List Command
 commands_of readies = flat_map passed readies

@@ -48,6 +48,7 @@ pub record AreStored (brought : List QuorumTree) (store : StoreView) : Type 0 wh
   pub others_are_sane : AllByRecursion IsSane store.others
   pub found : (hash : Hash) (set : QuorumTree) → lookup hash store ≡ Some set → IsSane set × (hash_of set ≡ hash)
 
+-- besides its own set a stage stores just the last 256 of the sane sets that came live, were wanted, and had a hash under which none stood
 abbrev pub TheLastAreStored : Type 0
 TheLastAreStored = (me : NodeId) (peers : List NodeId) (local : QuorumTree) (taken : List Inbound) → IsSane local → AreStored (sets_brought (fresh me peers local) taken) (settled_by (fresh me peers local) taken).store
 
@@ -80,9 +81,11 @@ IsReplied s item link (message.GetRecord slot) = ⊥
 IsReplied s item link (message.Record slot value) = ⊥
 IsReplied s item link (message.Records first values) = ⊥
 
+-- a reply, where there is one, was asked for
 abbrev pub IfReplied : Settled → Inbound → Option (ℕ × Message) → Type 0
 IfReplied s item None = Unit {0}
 IfReplied s item (Some reply) = IsReplied s item reply.0 reply.1
 
+-- after any items, what an item is answered by was asked for
 abbrev pub RepliesAreAskedFor : Type 0
 RepliesAreAskedFor = (me : NodeId) (peers : List NodeId) (local : QuorumTree) (taken : List Inbound) (item : Inbound) → IfReplied (settled_by (fresh me peers local) taken) item (reply (settled_by (fresh me peers local) taken) item)

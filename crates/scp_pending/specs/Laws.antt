@@ -1,14 +1,14 @@
 -- What follows of the rules, for every list of takes.
-use Rattle.std.specs.Prelude.{ℕ, ◌+◌, ◌≡◌, ◌≤◌, ◌++◌, List, [], ◌∷◌, Some, slice_get, length, map, filter}
+use Rattle.std.specs.Prelude.{ℕ, ◌≡◌, ◌≤◌, ◌++◌, List, Some, slice_get, length, map, filter}
 use Rattle.std.specs.List.{AllByRecursion}
 use Rattle.scp_types.specs.declared.names.ConnId.{ConnId}
 use Rattle.scp_types.specs.declared.names.Hash.{Hash}
 use Rattle.scp_types.specs.declared.names.NodeId.{NodeId}
-use Rattle.scp_types.specs.declared.names.Seq.{Seq}
 use Rattle.scp_wire.specs.declared.link.Inbound.{Inbound}
 use Rattle.scp_wire.specs.Connections.{conn_at}
 use Rattle.scp_wire.specs.Shape.{HasShape}
 use Rattle.scp_wire.specs.Lanes.{HaveSlots}
+use Rattle.scp_pending.specs.declared.pending.TheConstants.{PARKED_LIMIT}
 use Rattle.scp_pending.specs.declared.ready.Ready.{Ready}
 use Rattle.scp_fetch.specs.Wants.{has_conn, is_wanted, waiting_for}
 use Rattle.scp_pending.specs.Queues.{is_open, is_waiting, parked_of}
@@ -33,7 +33,7 @@ AllHaveCauses = (me : NodeId) (peers : List NodeId) (taken : List Inbound) (give
 
 -- at most 64 are parked of a connection
 abbrev pub FewAreParked : Type 0
-FewAreParked = (me : NodeId) (peers : List NodeId) (taken : List Inbound) (given : List Ready) (v : PendingView) → Pends me peers taken given v → (c : ConnId) → length (parked_of c v.settled.queues) ≤ 64
+FewAreParked = (me : NodeId) (peers : List NodeId) (taken : List Inbound) (given : List Ready) (v : PendingView) → Pends me peers taken given v → (c : ConnId) → length (parked_of c v.settled.queues) ≤ PARKED_LIMIT
 
 -- the connections that stand in a hash's list are those of which something that is parked waits for it
 abbrev pub WaitersWait : Type 0

@@ -1,8 +1,7 @@
 -- What ready things, and what is parked, say of one connection.
-use Rattle.std.specs.Prelude.{ℕ, ◌+◌, ◌≡◌, Bool, true, false, List, [], ◌∷◌, ◌++◌, map, flat_map, Some, slice_get, count_by, length}
+use Rattle.std.specs.Prelude.{ℕ, ◌+◌, ◌≡◌, Bool, true, false, List, [], ◌++◌, map, flat_map, Some, slice_get, count_by, length}
 use Rattle.std.specs.List.{AllByRecursion}
 use Rattle.scp_types.specs.declared.names.ConnId.{ConnId}
-use Rattle.scp_types.specs.declared.names.NodeId.{NodeId}
 use Rattle.scp_wire.specs.declared.message.Message.{Message}
 use Rattle.scp_wire.specs.declared.link.Inbound.{Inbound}
 use Rattle.scp_wire.specs.Connections.{same_conn}
@@ -14,6 +13,7 @@ use Rattle.scp_pending.specs.declared.ready.Ready.TheVariants.{Deliver, Dropped,
 use Rattle.scp_pending.specs.Queues.{QueueView, parked_of, seq_of}
 use Rattle.scp_pending.specs.Rules.{PendingView}
 
+-- what one ready thing says of the connection
 abbrev pub ready_mark : ConnId → Ready → List Mark
 ready_mark c (Deliver delivery) = one_if (same_conn delivery.conn c) (number delivery.seq.0)
 ready_mark c (Dropped conn seq cause) = one_if (same_conn conn c) (number seq.0)
@@ -24,9 +24,11 @@ ready_mark c (Local command) = []
 abbrev pub marks_of : ConnId → List Ready → List Mark
 marks_of c readies = flat_map (ready_mark c) readies
 
+-- what one parked message says
 abbrev pub parked_mark : Parked → Mark
 parked_mark p = number (seq_of p).0
 
+-- the marks of what is parked of the connection
 abbrev pub marks_parked : ConnId → List QueueView → List Mark
 marks_parked c queues = map parked_mark (parked_of c queues)
 
@@ -52,6 +54,7 @@ HasItsMessage c messages (Dropped conn seq cause) = Unit {0}
 HasItsMessage c messages (Closed conn cause) = Unit {0}
 HasItsMessage c messages (Local command) = Unit {0}
 
+-- each of them is the message of its number
 abbrev pub HaveMessages : ConnId → List Message → List Ready → Type 0
 HaveMessages c messages readies = AllByRecursion (HasItsMessage c messages) readies
 

@@ -27,6 +27,7 @@ WhoItIsStays = (s : Settled) (items : List Inbound) → IsSameNode s (settled_by
 
 -- ---- whose its things are
 
+-- the node is one of the peers
 abbrev pub is_among : NodeId → List NodeId → Bool
 is_among node peers = list_any (λ peer. same_node peer node) peers
 
@@ -54,5 +55,6 @@ pub record AreOfLinks (me : NodeId) (peers : List NodeId) (s : Settled) (left : 
   pub held : AllByRecursion (λ (q : QueueView). IsOfLink me peers q.conn × AllByRecursion (IsParkedOf q.conn) q.parked) s.queues
   pub given : AllByRecursion (IsReadyOf (IsOfLink me peers)) left
 
+-- after any items, what is held, and what has left, is of a connection from a peer to this node, or a command
 abbrev pub NothingIsOfAStranger : Type 0
 NothingIsOfAStranger = (me : NodeId) (peers : List NodeId) (local : QuorumTree) (taken : List Inbound) → AreOfLinks me peers (settled_by (fresh me peers local) taken) (released_by (fresh me peers local) taken)

@@ -27,12 +27,14 @@ is_too_many Spent = false
 is_too_many Link = false
 is_too_many ParkedFull = true
 
+-- it is the end of the connection for want of room
 abbrev pub cuts_off : ConnId → Ready → Bool
 cuts_off c (Deliver delivery) = false
 cuts_off c (Dropped conn seq cause) = false
 cuts_off c (Closed conn cause) = same_conn conn c && is_too_many cause
 cuts_off c (Local command) = false
 
+-- one of them is its end for want of room
 abbrev pub is_cut_off : ConnId → List Ready → Bool
 is_cut_off c readies = list_any (cuts_off c) readies
 

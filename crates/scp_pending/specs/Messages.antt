@@ -25,6 +25,7 @@ IsParkedAs (Waits x) y = y ≡ x
 IsParkedAs (Free delivery) y = (y.conn ≡ delivery.conn) × (y.seq ≡ delivery.seq) × (y.message ≡ delivery.message)
 IsParkedAs (Lost x cause) y = y ≡ x
 
+-- the message is of the connection
 abbrev pub is_on : ConnId → Carried → Bool
 is_on c x = same_conn x.conn c
 
@@ -40,6 +41,7 @@ AreParked v messages = (c : ConnId) → AllZip IsParkedAs (parked_of c v.settled
 abbrev pub message_cmp : Carried → Carried → Ordering
 message_cmp x y = ordering_then (slice_cmp nat_cmp x.conn.from.0 y.conn.from.0) (ordering_then (nat_cmp x.conn.life y.conn.life) (nat_cmp x.seq.0 y.seq.0))
 
+-- a message by its number
 abbrev pub message_mark : Carried → Mark
 message_mark x = number x.seq.0
 

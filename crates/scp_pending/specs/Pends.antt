@@ -19,6 +19,7 @@ pub record Pends (me : NodeId) (peers : List NodeId) (taken : List Inbound) (giv
   pub settled : v.settled ≡ settled_by (start_of me peers v) taken
   pub left : given ++ v.leaving ≡ released_by (start_of me peers v) taken
 
+-- the same of a stage of this node and these peers
 abbrev pub IsSettled : NodeId → List NodeId → List Inbound → PendingView → Type 0
 IsSettled me peers taken v = IsSettledBy (start_of me peers v) taken v
 

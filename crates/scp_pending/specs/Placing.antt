@@ -12,6 +12,7 @@ use Rattle.scp_pending.specs.Endings.{passing_command, commands_in, commands_of}
 use Rattle.scp_pending.specs.Pends.{Pends, start_of}
 use Rattle.scp_pending.specs.Rules.{PendingView, Settled, released_by}
 
+-- a command as it is given
 abbrev pub as_given : Command → Ready
 as_given command = Local command
 

@@ -1,5 +1,5 @@
 -- What is parked: a queue for each open connection.
-use Rattle.std.specs.Prelude.{ℕ, ◌≡◌, Bool, true, false, not, ◌&&◌, ◌||◌, nat_eq, List, [], ◌∷◌, ◌++◌, Option, Some, None, nat_lt, length, map, filter, flat_map, option_map, if◌then◌else◌}
+use Rattle.std.specs.Prelude.{ℕ, Bool, true, false, not, ◌||◌, nat_eq, List, [], ◌∷◌, ◌++◌, Option, Some, None, map, filter, flat_map, option_map, if◌then◌else◌}
 use Rattle.std.specs.List.{list_any}
 use Rattle.std.specs.Option.{option_or}
 use Rattle.scp_types.specs.declared.names.ConnId.{ConnId}
@@ -15,17 +15,18 @@ use Rattle.scp_wire.specs.declared.message.Message.TheVariants.{Envelope, GetSet
 use Rattle.scp_wire.specs.Connections.{same_node, same_conn}
 use Rattle.scp_wire.specs.Lanes.{slot_of}
 use Rattle.scp_fetch.specs.Hashes.{same_hash}
-use Rattle.scp_pending.specs.Delivery.{DeliveryView}
 use Rattle.scp_pending.specs.declared.parked.Parked.{Parked}
 use Rattle.scp_pending.specs.declared.parked.Parked.TheVariants.{Waits, Free, Lost}
 use Rattle.scp_pending.specs.declared.ready.DropCause.{DropCause}
 use Rattle.scp_pending.specs.declared.ready.Ready.{Ready}
 use Rattle.scp_pending.specs.declared.ready.Ready.TheVariants.{Deliver, Dropped}
 
+-- an open connection, and what is parked of it, in order
 pub record QueueView : Type 0 where
   pub conn : ConnId
   pub parked : List Parked
 
+-- it is the queue of the connection
 abbrev pub is_of : ConnId → QueueView → Bool
 is_of c q = same_conn q.conn c
 
@@ -66,10 +67,12 @@ named (Records first values) = None
 abbrev pub hash_of : QuorumTree → Hash
 hash_of set = record { 0 = set_hash set }
 
+-- it is this hash
 abbrev pub is_hash : Hash → Option Hash → Bool
 is_hash hash None = false
 is_hash hash (Some other) = same_hash hash other
 
+-- what is parked waits for this hash
 abbrev pub waits_for : Hash → Parked → Bool
 waits_for hash (Waits x) = is_hash hash (named x.message)
 waits_for hash (Free delivery) = false
@@ -85,12 +88,13 @@ waited_by (Lost x cause) = None
 abbrev pub is_waiting : ConnId → Hash → List QueueView → Bool
 is_waiting c hash queues = list_any (waits_for hash) (parked_of c queues)
 
--- the slot that a parked message names: with its connection this is its lane
+-- the slot that a parked message names: with its connection this is its lane (this project's profile)
 abbrev pub lane_of : Parked → ℕ
 lane_of (Waits x) = slot_of x.message
 lane_of (Free delivery) = slot_of delivery.message
 lane_of (Lost x cause) = slot_of x.message
 
+-- what is parked names the slot
 abbrev pub is_at : ℕ → Parked → Bool
 is_at s p = nat_eq (lane_of p) s
 
@@ -98,6 +102,7 @@ is_at s p = nat_eq (lane_of p) s
 abbrev pub at_slot : ℕ → List Parked → List Parked
 at_slot s ps = filter (is_at s) ps
 
+-- what is parked waits for its quorum set
 abbrev pub waits : Parked → Bool
 waits (Waits x) = true
 waits (Free delivery) = false
@@ -107,6 +112,7 @@ waits (Lost x cause) = false
 abbrev pub is_held : List Parked → Parked → Bool
 is_held kept p = waits p || list_any (is_at (lane_of p)) kept
 
+-- nothing is parked
 abbrev pub is_empty : List Parked → Bool
 is_empty [] = true
 is_empty (p ∷ ps) = false
@@ -139,9 +145,11 @@ stays_of ps = stays_behind [] ps
 abbrev pub stays_in : QueueView → QueueView
 stays_in q = record q { parked = stays_of q.parked }
 
+-- each queue keeps what stays
 abbrev pub served : List QueueView → List QueueView
 served queues = map stays_in queues
 
+-- what leaves this queue
 abbrev pub leaves_in : QueueView → List Ready
 leaves_in q = leaves_of q.conn q.parked
 
@@ -158,7 +166,7 @@ is_head_waiting hash (p ∷ ps) = waits_for hash p
 abbrev pub with_first : Hash → List QueueView → List QueueView
 with_first hash queues = filter (λ q. is_head_waiting hash q.parked) queues ++ filter (λ q. not (is_head_waiting hash q.parked)) queues
 
--- of several hashes, the queues whose heads wait for the first one come first
+-- of several hashes, the queues whose heads wait for the first one come first (this project's profile)
 abbrev pub in_order_of : List Hash → List QueueView → List QueueView
 in_order_of [] queues = queues
 in_order_of (hash ∷ hashes) queues = with_first hash (in_order_of hashes queues)
@@ -169,9 +177,11 @@ resolved_one test f (Waits x) = if test (named x.message) then f x else Waits x
 resolved_one test f (Free delivery) = Free delivery
 resolved_one test f (Lost x cause) = Lost x cause
 
+-- the same in one queue
 abbrev pub resolved_in : (Option Hash → Bool) → (Carried → Parked) → QueueView → QueueView
 resolved_in test f q = record q { parked = map (resolved_one test f) q.parked }
 
+-- the same in each queue
 abbrev pub resolved : (Option Hash → Bool) → (Carried → Parked) → List QueueView → List QueueView
 resolved test f queues = map (resolved_in test f) queues
 
@@ -179,6 +189,7 @@ resolved test f queues = map (resolved_in test f) queues
 abbrev pub with_set : Option QuorumTree → Carried → Parked
 with_set set x = Free (record { conn = x.conn; seq = x.seq; message = x.message; set = set })
 
+-- the envelope is lost
 abbrev pub lost_by : DropCause → Carried → Parked
 lost_by cause x = Lost x cause
 
@@ -186,9 +197,11 @@ lost_by cause x = Lost x cause
 abbrev pub with_parked : Parked → QueueView → QueueView
 with_parked p q = record q { parked = q.parked ++ p ∷ [] }
 
+-- the message is parked behind what is parked of its connection
 abbrev pub parked_in : ConnId → Parked → List QueueView → List QueueView
 parked_in c p queues = if is_empty (parked_of c queues) then others c queues ++ record { conn = c; parked = p ∷ [] } ∷ [] else changed c (with_parked p) queues
 
+-- the number of what is parked
 abbrev pub seq_of : Parked → Seq
 seq_of (Waits x) = x.seq
 seq_of (Free delivery) = delivery.seq
@@ -199,5 +212,6 @@ abbrev pub first_waiting : List Parked → Option (Seq × Hash)
 first_waiting [] = None
 first_waiting (p ∷ ps) = option_or (option_map (λ hash. (seq_of p, hash)) (waited_by p)) (first_waiting ps)
 
+-- what is parked, dropped
 abbrev pub dropped : ConnId → DropCause → Parked → Ready
 dropped c cause p = Dropped c (seq_of p) cause

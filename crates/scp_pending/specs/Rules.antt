@@ -1,7 +1,6 @@
 -- The rules of the pending stage: what an item makes of what is parked, stored and wanted, what it releases, and what is
 -- replied (this project's profile).
-use Rattle.std.specs.Prelude.{ℕ, ◌≡◌, Bool, true, false, not, ◌&&◌, ◌||◌, List, [], ◌∷◌, ◌++◌, Option, Some, None, nat_lt, length, map, filter, if◌then◌else◌, position, is_some, fold}
-use Rattle.std.specs.List.{list_any}
+use Rattle.std.specs.Prelude.{ℕ, Bool, false, not, ◌&&◌, List, [], ◌∷◌, ◌++◌, Option, Some, None, nat_le, length, map, if◌then◌else◌, position, is_some, fold}
 use Rattle.std.specs.Option.{unwrap_or}
 use Rattle.scp_types.specs.declared.names.ConnId.{ConnId}
 use Rattle.scp_types.specs.declared.names.Hash.{Hash}
@@ -23,8 +22,9 @@ use Rattle.scp_fetch.specs.declared.want.Miss.TheVariants.{One, All}
 use Rattle.scp_fetch.specs.Wants.{is_wanted, is_asked, wanted_by, left_by, unasked, gives_up, last_missed, missed_by, without}
 use Rattle.scp_fetch.specs.Store.{StoreView, lookup, stored}
 use Rattle.scp_pending.specs.Queues.{QueueView, is_open, is_link_open, parked_of, others, named, is_hash, hash_of, waited_by, is_held, fate, served, leaving_of, in_order_of, resolved, with_set, lost_by, parked_in, dropped}
+use Rattle.scp_pending.specs.declared.pending.TheConstants.{PARKED_LIMIT}
 use Rattle.scp_pending.specs.declared.parked.Parked.{Parked}
-use Rattle.scp_pending.specs.declared.parked.Parked.TheVariants.{Waits, Free, Lost}
+use Rattle.scp_pending.specs.declared.parked.Parked.TheVariants.{Waits}
 use Rattle.scp_pending.specs.declared.ready.DropCause.TheVariants.{BadSet, GaveUp, Closed as ByClose, ParkedFull as ByFull}
 use Rattle.scp_pending.specs.declared.ready.Ready.{Ready}
 use Rattle.scp_pending.specs.declared.ready.Ready.TheVariants.{Dropped, Closed, Local}
@@ -43,12 +43,15 @@ pub record PendingView : Type 0 where
   pub settled : Settled
   pub leaving : List Ready
 
+-- a stage that took nothing: its own set, and no queue
 abbrev pub fresh : NodeId → List NodeId → QuorumTree → Settled
 fresh me peers local = record { me = me; peers = peers; store = record { local = local; others = [] }; wanted = []; queues = [] }
 
+-- the place of a peer among the peers, which is the number of its link; none for any other node
 abbrev pub link_of : NodeId → Settled → Option ℕ
 link_of node s = position (λ peer. same_node peer node) s.peers
 
+-- the number of a peer's link
 abbrev pub link_number : NodeId → Settled → ℕ
 link_number node s = unwrap_or (link_of node s) 0
 
@@ -58,6 +61,7 @@ link_number node s = unwrap_or (link_of node s) 0
 abbrev pub opens : ConnId → Settled → Bool
 opens c s = is_some (link_of c.from s) && same_node c.to s.me && not (is_link_open c.from s.queues)
 
+-- the connection has an empty queue; what is wanted may be asked for on its link again
 abbrev pub opened : ConnId → Settled → Settled
 opened c s = record s { queues = s.queues ++ record { conn = c; parked = [] } ∷ []; wanted = unasked (link_number c.from s) s.wanted }
 
@@ -69,6 +73,7 @@ closed_off c s = record s { queues = others c s.queues; wanted = left_by c s.wan
 
 -- ---- a carried message
 
+-- with the set that was found it has it; else it waits
 abbrev pub found : Carried → Option QuorumTree → Parked
 found x None = Waits x
 found x (Some set) = with_set (Some set) x
@@ -78,42 +83,50 @@ abbrev pub entering_by : Option Hash → StoreView → Carried → Parked
 entering_by None store x = with_set None x
 entering_by (Some hash) store x = found x (lookup hash store)
 
+-- how a message enters, by the sets that are there
 abbrev pub entering : StoreView → Carried → Parked
 entering store x = entering_by (named x.message) store x
 
--- 64 of it are parked
+-- as many of it are parked as may be (this project's profile: 64)
 abbrev pub is_full : ConnId → List QueueView → Bool
-is_full c queues = nat_lt 63 (length (parked_of c queues))
+is_full c queues = nat_le PARKED_LIMIT (length (parked_of c queues))
 
 -- it waits for nothing, and nothing of its lane is parked
 abbrev pub goes_through : ConnId → Parked → List QueueView → Bool
 goes_through c p queues = not (is_held (parked_of c queues) p)
 
--- it would be parked, and 64 are
+-- it would be parked, and as many are as may be
 abbrev pub overflows : ConnId → Parked → List QueueView → Bool
 overflows c p queues = is_full c queues && not (goes_through c p queues)
 
+-- what is wanted once something waits for this hash, if it waits for one
 abbrev pub wanted_named : ℕ → ConnId → Option Hash → List Want → List Want
 wanted_named link c None wanted = wanted
 wanted_named link c (Some hash) wanted = wanted_by hash link c wanted
 
+-- what is wanted once this is parked
 abbrev pub wanted_with : ℕ → ConnId → Parked → List Want → List Want
 wanted_with link c p wanted = wanted_named link c (waited_by p) wanted
 
+-- it stands in its queue, and the hash that it waits for is wanted
 abbrev pub parks : Carried → Parked → Settled → Settled
 parks x p s = record s { queues = parked_in x.conn p s.queues; wanted = wanted_with (link_number x.conn.from s) x.conn p s.wanted }
 
+-- it goes through, or it is parked
 abbrev pub enters : Carried → Parked → Settled → Settled
 enters x p s = if goes_through x.conn p s.queues then s else parks x p s
 
+-- what a live carried message makes of it: one too many closes its connection, any other enters
 abbrev pub brings : Carried → Settled → Settled
 brings x s = if overflows x.conn (entering s.store x) s.queues then closed_off x.conn s else enters x (entering s.store x) s
 
 -- ---- quorum sets
 
+-- with a sane set it has its set; with another it is lost as BadSet
 abbrev pub by_answer : QuorumTree → Carried → Parked
 by_answer set = if is_sane set then with_set (Some set) else lost_by BadSet
 
+-- a wanted set came: it is stored where it is sane, and what waited for it waits no more
 abbrev pub answered : QuorumTree → Settled → Settled
 answered set s = record s { store = (if is_sane set then stored set s.store else s.store); wanted = without (hash_of set) s.wanted; queues = served (resolved (is_hash (hash_of set)) (by_answer set) s.queues) }
 
@@ -127,6 +140,7 @@ abbrev pub is_given_up : List Want → Option Hash → Bool
 is_given_up wanted None = false
 is_given_up wanted (Some hash) = gives_up All wanted hash
 
+-- what a Tick makes of it: each wanted hash is missed once more, and what is given up is lost
 abbrev pub missed_all : Settled → Settled
 missed_all s = record s { wanted = missed_by All s.wanted; queues = served (resolved (is_given_up s.wanted) (lost_by GaveUp) (in_order_of (last_missed s.wanted) s.queues)) }
 
@@ -134,9 +148,11 @@ missed_all s = record s { wanted = missed_by All s.wanted; queues = served (reso
 abbrev pub gives_up_one : Hash → Settled → Settled
 gives_up_one hash s = record s { queues = served (resolved (is_hash hash) (lost_by GaveUp) s.queues) }
 
+-- what a NoSet makes of it: its hash is missed once more, and the twelfth time given up
 abbrev pub missed_one : Hash → Settled → Settled
 missed_one hash s = if gives_up (One hash) s.wanted hash then gives_up_one hash (record s { wanted = missed_by (One hash) s.wanted }) else record s { wanted = missed_by (One hash) s.wanted }
 
+-- what a live side message makes of it
 abbrev pub hears : SideMessage → Settled → Settled
 hears (GetSet hash) s = s
 hears (Set set) s = if is_answer set s then answered set s else s
@@ -144,6 +160,7 @@ hears (NoSet hash) s = missed_one hash s
 
 -- ---- all items
 
+-- what an item makes of it; what isn't live changes nothing
 abbrev pub rules : Settled → Inbound → Settled
 rules s (inbound.Opened c) = if opens c s then opened c s else s
 rules s (inbound.Carried x) = if is_open x.conn s.queues then brings x s else s
@@ -155,9 +172,11 @@ rules s (inbound.Local (Round slot)) = s
 rules s (inbound.Local (Timer slot)) = s
 rules s (inbound.Local (Ask link slot)) = s
 
+-- what leaves when a live carried message comes
 abbrev pub brought : Carried → Settled → List Ready
 brought x s = if overflows x.conn (entering s.store x) s.queues then map (dropped x.conn ByFull) (parked_of x.conn s.queues) ++ Dropped x.conn x.seq ByFull ∷ Closed x.conn ParkedFull ∷ [] else (if goes_through x.conn (entering s.store x) s.queues then fate x.conn (entering s.store x) else [])
 
+-- what leaves when a live side message comes
 abbrev pub heard_out : SideMessage → Settled → List Ready
 heard_out (GetSet hash) s = []
 heard_out (Set set) s = if is_answer set s then leaving_of (resolved (is_hash (hash_of set)) (by_answer set) s.queues) else []
@@ -175,17 +194,21 @@ releases s (inbound.Local (Round slot)) = Local (Round slot) ∷ []
 releases s (inbound.Local (Timer slot)) = Local (Timer slot) ∷ []
 releases s (inbound.Local (Ask link slot)) = Local (Ask link slot) ∷ []
 
+-- a request over the link for the set of this hash, if one is named and the link wasn't asked for it
 abbrev pub asks_named : ℕ → Option Hash → List Want → Option (ℕ × Message)
 asks_named link None wanted = None
 asks_named link (Some hash) wanted = if is_asked hash link wanted then None else Some (link, message.GetSet hash)
 
+-- the same, for the set that what is parked waits for
 abbrev pub asks : ℕ → Parked → List Want → Option (ℕ × Message)
 asks link p wanted = asks_named link (waited_by p) wanted
 
+-- the set of a hash where it is there, else that there is none
 abbrev pub answer : Hash → Option QuorumTree → Message
 answer hash None = message.NoSet hash
 answer hash (Some set) = message.Set set
 
+-- a request for a set is answered on the link to who asked; other side messages have no reply
 abbrev pub replies : ConnId → SideMessage → Settled → Option (ℕ × Message)
 replies c (GetSet hash) s = Some (link_number c.from s, answer hash (lookup hash s.store))
 replies c (Set set) s = None
@@ -201,6 +224,7 @@ reply s (inbound.Local command) = None
 
 -- ---- a list of items
 
+-- what a list of items makes of it, one after another
 abbrev pub settled_by : Settled → List Inbound → Settled
 settled_by s items = fold rules s items
 
@@ -209,5 +233,6 @@ abbrev pub released_by : Settled → List Inbound → List Ready
 released_by s [] = []
 released_by s (item ∷ items) = releases s item ++ released_by (rules s item) items
 
+-- the stage once it took an item: what its rules make of that, and what is released stands behind what is leaving
 abbrev pub taken_in : PendingView → Inbound → PendingView
 taken_in v item = record v { settled = rules v.settled item; leaving = v.leaving ++ releases v.settled item }

@@ -1,5 +1,5 @@
 -- Who waits for a quorum set, by what was taken.
-use Rattle.std.specs.Prelude.{Bool, not, ◌&&◌, List, [], ◌∷◌, nat_eq, map, filter, flat_map}
+use Rattle.std.specs.Prelude.{Bool, not, ◌&&◌, List, [], ◌∷◌, nat_eq, filter, flat_map}
 use Rattle.std.specs.List.{list_any}
 use Rattle.scp_types.specs.declared.names.ConnId.{ConnId}
 use Rattle.scp_types.specs.declared.names.Hash.{Hash}
@@ -19,6 +19,7 @@ carried_one (inbound.Side c message) = []
 carried_one (inbound.Closed c cause) = []
 carried_one (inbound.Local command) = []
 
+-- the messages among what was taken, in order
 abbrev pub carried_in : List Inbound → List Carried
 carried_in items = flat_map carried_one items
 

@@ -1,13 +1,21 @@
 //! What follows of the rules, for every list of takes: each law is the contract of a function that does nothing.
 ghost use Rattle.scp_pending.specs.Fetching.{RepliesAreAskedFor, TheLastAreStored};
+ghost use Rattle.scp_pending.specs.Independence.{LanesAreLed, PassesInPlace, WhatMayPassPasses};
 ghost use Rattle.scp_pending.specs.Linked.{NothingIsOfAStranger, WhoItIsStays};
 ghost use Rattle.scp_pending.specs.Living.{OpenAtEachPlace, OpenByPlace};
 ghost use Rattle.scp_pending.specs.Messages.{ParkedStandFor};
 ghost use Rattle.scp_pending.specs.Pends.{HereFromNothing, HerePasses, RestIsSettled};
 ghost use Rattle.scp_pending.specs.Placing.{CommandsKeepPlace};
+ghost use Rattle.scp_pending.specs.Sanity.{SanityIsTold, SpellingIsTold};
 ghost use Rattle.scp_pending.specs.Laws.{AllAccounts, AllExits, AllHaveCauses, CommandsPass, FewAreParked, WaitersWait, WaitersInOrder, WantedWhileWaited};
 
 use scp_wire::a_beginning_keeps_the_shape;
+
+/// The tests that the rules make of a quorum set pass just the sane ones, and just those that have a spelling.
+pub fn the_tests_of_a_set_tell()
+    ensures sane { SanityIsTold }
+    ensures spelt { SpellingIsTold }
+{}
 
 /// All that was given, and all that is ready, has its cause among what was taken.
 pub fn each_fate_has_its_cause()
@@ -109,4 +117,14 @@ pub fn what_is_replied_was_asked_for()
 /// A stage that has nothing ready is settled: the head of each lane is an envelope that waits for its quorum set.
 pub fn what_has_nothing_ready_is_settled()
     ensures settled { RestIsSettled }
+{}
+
+/// A lane that waits delays no other, though its quorum set is never found. What comes live and is no envelope, or has its set in
+/// the store, and finds nothing of its own slot parked on its connection, is given by that same step, with its set, whatever is
+/// parked in other lanes; so it stands among what was given just behind what left by what came before it. And where something is
+/// parked in a lane, its head is an envelope of that lane whose own quorum set isn't stored.
+pub fn no_lane_delays_another()
+    ensures passes { WhatMayPassPasses }
+    ensures place { PassesInPlace }
+    ensures led { LanesAreLed }
 {}

@@ -5,7 +5,7 @@ ghost use Rattle.scp_quorum.specs.QuorumKind.{set_hash};
 ghost use Rattle.scp_pending.specs.Queues.{named as named_by, hash_of, is_hash, waits_for as waits, waited_by, waits as is_waiting_one, lane_of, is_at, seq_of, resolved_one, lost_by, with_set};
 ghost use Rattle.scp_wire.specs.Lanes.{slot_of};
 ghost use Rattle.scp_pending.specs.Messages.{IsParkedAs};
-ghost use Rattle.scp_pending.specs.Outcome.{outcome_of, HasHash};
+ghost use Rattle.scp_pending.specs.inside.Outcome.{outcome_of, HasHash};
 
 use crate::ready::{Delivery, DropCause};
 use scp_fetch::Fetcher;

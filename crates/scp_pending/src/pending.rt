@@ -7,7 +7,7 @@ ghost use Rattle.scp_fetch.specs.Wants.{waiting_for, gives_up, without};
 ghost use Rattle.scp_fetch.specs.declared.want.Miss.{Miss};
 ghost use Rattle.scp_pending.specs.Queues.{is_of, is_open, parked_of, others, changed, with_parked, parked_in, served, leaving_of, resolved, lost_by, dropped, is_hash, is_link_open, stays_in, leaves_in, is_held, fate, waits, first_waiting as first_that_waits};
 ghost use Rattle.scp_pending.specs.Rules.{PendingView, Settled, fresh, rules, releases, reply, taken_in, entering as entering_with, link_number, opens, opened, closed_off, asks, brings, brought, enters, goes_through, overflows, parks, hears, heard_out, replies, answer as answer_for, is_full, wanted_with, asks_named, wanted_named};
-ghost use Rattle.scp_pending.specs.Outcome.{outcome_of, HasHash};
+ghost use Rattle.scp_pending.specs.inside.Outcome.{outcome_of, HasHash, IsPlace};
 ghost use Rattle.scp_quorum.specs.Sane.{IsSane};
 ghost use Rattle.scp_wire.specs.Fitting.{IsFitting};
 ghost use Rattle.scp_wire.specs.Connections.{same_node};
@@ -16,14 +16,14 @@ ghost use Rattle.std.specs.List.Sorted.{IsStrictlySortedBy};
 ghost use Rattle.scp_wire.specs.Shape.{HasShape};
 ghost use Rattle.scp_pending.specs.Messages.{AreParked, message_cmp};
 ghost use Rattle.scp_pending.specs.Pends.{Pends, IsSettled, IsIdle};
-ghost use Rattle.scp_pending.specs.Kept.{IsKept};
+ghost use Rattle.scp_pending.specs.inside.Kept.{IsKept};
 ghost use Rattle.scp_pending.specs.Passes.{Passes};
 ghost use Rattle.scp_pending.specs.declared.ready.Ready.{Ready};
 
 use crate::parked::{Outcome, Parked, named, slot_in};
 use crate::queue::{
-    Queue, count_of, give, give_up_in_order, has_lane_on, in_order,
-    is_link_open as is_link_open_in, messages_of, place_of, push_to, resolve_all, take_queue,
+    Queue, count_at, count_of, give, give_up_in_order, has_lane_at, in_order,
+    is_link_open as is_link_open_in, messages_of, place_of, push_at, resolve_all, take_queue,
 };
 use crate::ready::{Delivery, DropCause, Ready};
 use scp_fetch::{Fetcher, SetStore, Want};
@@ -52,10 +52,10 @@ pub struct Pending {
 impl Model for Pending {
     ghost use Rattle.std.specs.Prelude.{◌≡◌, false};
     ghost use Rattle.std.specs.Coded.{codes};
-    ghost use Rattle.scp_xdr.specs.TreeModel.{coded_row};
-    ghost use Rattle.scp_quorum.specs.QuorumTree.{coded_level};
+    ghost use Rattle.scp_xdr.specs.inside.TreeModel.{coded_row};
+    ghost use Rattle.scp_quorum.specs.inside.QuorumTree.{coded_level};
     ghost use Rattle.scp_pending.specs.Rules.{PendingView};
-    ghost use Rattle.scp_pending.specs.Kept.{IsKept};
+    ghost use Rattle.scp_pending.specs.inside.Kept.{IsKept};
 
     ghost Value = { PendingView };
 
@@ -81,8 +81,8 @@ struct Parking {
 impl Model for Parking {
     ghost use Rattle.std.specs.Prelude.{◌≤◌, length, false};
     ghost use Rattle.std.specs.Coded.{codes};
-    ghost use Rattle.scp_xdr.specs.TreeModel.{coded_row};
-    ghost use Rattle.scp_quorum.specs.QuorumTree.{coded_level};
+    ghost use Rattle.scp_xdr.specs.inside.TreeModel.{coded_row};
+    ghost use Rattle.scp_quorum.specs.inside.QuorumTree.{coded_level};
     ghost use Rattle.scp_pending.specs.Rules.{PendingView};
 
     ghost Value = { PendingView };
@@ -298,11 +298,11 @@ impl Parking {
         ensures rules { OnOk result (self.new ≡ taken_in self.old (Inbound.Carried carried)) }
     {
         let conn = carried.conn;
-        let Some(count) = count_of(&self.queues, &conn) else {
+        let Some(place) = place_of(&self.queues, &conn) else {
             return Ok(None);
         };
-        let held = self.is_held_back(&carried);
-        if held && count >= PARKED_LIMIT {
+        let held = self.is_held_back(place, &carried);
+        if held && count_at(&self.queues, place) >= PARKED_LIMIT {
             self.cut_off(carried)?;
             return Ok(None);
         }
@@ -311,16 +311,18 @@ impl Parking {
             give(conn, parked, &mut self.leaving)?;
             return Ok(None);
         }
-        self.park(conn, parked)
+        self.park(place, conn, parked)
     }
 
-    /// Whether the message would be parked: its quorum set is unknown, or something of its lane is parked.
+    /// Whether the message would be parked: its quorum set is unknown, or something of its lane is parked. Its connection's queue
+    /// has this place.
     #[tactic(auto, using(crate::proofs::Hearing::held_entering))]
-    fn is_held_back(&self, carried: &Carried) -> bool
+    fn is_held_back(&self, place: usize, carried: &Carried) -> bool
+        requires here { IsPlace carried.now.conn self.now.settled.queues place }
         ensures { result ≡ is_held (parked_of carried.now.conn self.now.settled.queues) (entering_with self.now.settled.store carried.now) }
     {
         will_wait(&self.store, carried)
-            || has_lane_on(&self.queues, &carried.conn, slot_in(carried.message.get()))
+            || has_lane_at(&self.queues, place, slot_in(carried.message.get()))
     }
 
     /// One too many would be parked: all that is parked of the connection is dropped with it, and the connection is cut off.
@@ -367,36 +369,35 @@ impl Parking {
         Ok(())
     }
 
-    /// Parks a message at the end of its queue. Where it waits, its quorum set is wanted, and its link is asked for it if it
-    /// wasn't yet.
-    fn park(&mut self, conn: ConnId, parked: Parked) -> Result<Option<(u8, Message)>, Fault>
-        requires open { is_open conn self.old.settled.queues ≡ true }
+    /// Parks a message at the end of its connection's queue, which has this place. Where it waits, its quorum set is wanted, and
+    /// its link is asked for it if it wasn't yet.
+    fn park(
+        &mut self,
+        place: usize,
+        conn: ConnId,
+        parked: Parked,
+    ) -> Result<Option<(u8, Message)>, Fault>
+        requires here { IsPlace conn self.old.settled.queues place }
         ensures reply { IfOk result (λ answer. answer ≡ asks (link_number conn.from self.old.settled) parked self.old.settled.wanted) }
         ensures fits { IfOk result (λ answer. IfSome answer (λ sent. IsFitting sent.1)) }
         ensures rules { OnOk result (self.new ≡ record self.old { settled = record self.old.settled { queues = parked_in conn parked self.old.settled.queues; wanted = wanted_with (link_number conn.from self.old.settled) conn parked self.old.settled.wanted } }) }
     {
         let hash = parked.waited();
-        let link = self.link_number(&conn.from);
-        let answer = self.ask(hash, link, conn)?;
-        push_to(&mut self.queues, &conn, parked)?;
+        let answer = self.ask(hash, conn)?;
+        push_at(&mut self.queues, place, parked)?;
         Ok(answer)
     }
 
     /// The quorum set of the hash is wanted, and the link is asked for it if it wasn't yet.
-    fn ask(
-        &mut self,
-        hash: Option<Hash>,
-        link: u8,
-        conn: ConnId,
-    ) -> Result<Option<(u8, Message)>, Fault>
-        requires few { link < 8 }
-        ensures reply { IfOk result (λ answer. answer ≡ asks_named link hash self.old.settled.wanted) }
+    fn ask(&mut self, hash: Option<Hash>, conn: ConnId) -> Result<Option<(u8, Message)>, Fault>
+        ensures reply { IfOk result (λ answer. answer ≡ asks_named (link_number conn.from self.old.settled) hash self.old.settled.wanted) }
         ensures fits { IfOk result (λ answer. IfSome answer (λ sent. IsFitting sent.1)) }
-        ensures rules { OnOk result (self.new ≡ record self.old { settled = record self.old.settled { wanted = wanted_named link conn hash self.old.settled.wanted } }) }
+        ensures rules { OnOk result (self.new ≡ record self.old { settled = record self.old.settled { wanted = wanted_named (link_number conn.from self.old.settled) conn hash self.old.settled.wanted } }) }
     {
         let Some(hash) = hash else {
             return Ok(None);
         };
+        let link = self.link_number(&conn.from);
         let asks = self.fetcher.want(&hash, link, &conn)?;
         if !asks {
             return Ok(None);

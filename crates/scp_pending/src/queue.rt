@@ -7,8 +7,9 @@ ghost use Rattle.scp_pending.specs.Queues.{is_of, is_open, is_link_open as link_
 ghost use Rattle.scp_pending.specs.Rules.{is_given_up};
 ghost use Rattle.std.specs.List.Sorted.{IsPermutation, IsSortedByKey};
 ghost use Rattle.scp_types.specs.Order.{conn_cmp};
-ghost use Rattle.scp_pending.specs.Outcome.{outcome_of, HasHash, IsPlace, Adds, parked_in_all};
-ghost use Rattle.scp_pending.specs.Kept.{IsKept, IsQuiet};
+ghost use Rattle.scp_types.specs.declared.names.ConnId.{ConnId};
+ghost use Rattle.scp_pending.specs.inside.Outcome.{outcome_of, HasHash, IsPlace, Adds, parked_in_all};
+ghost use Rattle.scp_pending.specs.inside.Kept.{IsKept, IsQuiet};
 ghost use Rattle.scp_pending.specs.declared.parked.Parked.{Parked};
 
 use crate::parked::{Outcome, Parked, named};
@@ -30,8 +31,8 @@ pub(crate) struct Queue {
 
 impl Model for Queue {
     ghost use Rattle.std.specs.Coded.{codes};
-    ghost use Rattle.scp_xdr.specs.TreeModel.{coded_row};
-    ghost use Rattle.scp_quorum.specs.QuorumTree.{coded_level};
+    ghost use Rattle.scp_xdr.specs.inside.TreeModel.{coded_row};
+    ghost use Rattle.scp_quorum.specs.inside.QuorumTree.{coded_level};
     ghost use Rattle.scp_pending.specs.Queues.{QueueView};
 
     ghost Value = { QueueView };
@@ -342,14 +343,11 @@ pub(crate) fn take_queue(queues: &mut Vec<Queue>, conn: &ConnId) -> Option<Queue
     Some(queues.remove(place))
 }
 
-/// Parks a message at the end of its queue; a queue in which it is the first stands behind the others from then on.
-pub(crate) fn push_to(queues: &mut Vec<Queue>, conn: &ConnId, parked: Parked) -> Result<(), Fault>
-    requires open { is_open conn.now queues.old.items ≡ true }
-    ensures { OnOk result (queues.new.items ≡ parked_in conn.now parked queues.old.items) }
+/// Parks a message at the end of the queue at a place; a queue in which it is the first stands behind the others from then on.
+pub(crate) fn push_at(queues: &mut Vec<Queue>, place: usize, parked: Parked) -> Result<(), Fault>
+    requires place { place < length queues.old.items }
+    ensures { OnOk result ((c : ConnId) → IsPlace c queues.old.items place → queues.new.items ≡ parked_in c parked queues.old.items) }
 {
-    let Some(place) = place_of(queues, conn) else {
-        return Ok(());
-    };
     if queues[place].len() > 0 {
         return queues[place].push(parked);
     }
@@ -524,13 +522,18 @@ fn put_in_order(
     Ok(())
 }
 
-/// Whether something of the lane is parked.
-#[tactic(auto, using(crate::proofs::Serving::parked_shut))]
-pub(crate) fn has_lane_on(queues: &[Queue], conn: &ConnId, slot: Slot) -> bool
-    ensures { result ≡ list_any (is_at slot.0) (parked_of conn.now queues.now) }
+/// Whether something of the lane is parked in the queue at a place.
+pub(crate) fn has_lane_at(queues: &[Queue], place: usize, slot: Slot) -> bool
+    requires place { place < length queues.now }
+    ensures { (c : ConnId) → IsPlace c queues.now place → result ≡ list_any (is_at slot.0) (parked_of c queues.now) }
 {
-    match place_of(queues, conn) {
-        Some(place) => queues[place].has_lane(slot),
-        None => false,
-    }
+    queues[place].has_lane(slot)
+}
+
+/// How many messages are parked in the queue at a place.
+pub(crate) fn count_at(queues: &[Queue], place: usize) -> usize
+    requires place { place < length queues.now }
+    ensures { (c : ConnId) → IsPlace c queues.now place → result ≡ length (parked_of c queues.now) }
+{
+    queues[place].len()
 }

@@ -38,8 +38,8 @@ pub struct Delivery {
 impl Model for Delivery {
     ghost use Rattle.std.specs.Prelude.{◌≡◌, option_map, true};
     ghost use Rattle.std.specs.Coded.{codes};
-    ghost use Rattle.scp_xdr.specs.TreeModel.{coded_row};
-    ghost use Rattle.scp_quorum.specs.QuorumTree.{coded_level};
+    ghost use Rattle.scp_xdr.specs.inside.TreeModel.{coded_row};
+    ghost use Rattle.scp_quorum.specs.inside.QuorumTree.{coded_level};
     ghost use Rattle.scp_wire.specs.Carried.{is_carried};
     ghost use Rattle.scp_wire.specs.Sets.{IsSetOf};
     ghost use Rattle.scp_pending.specs.Delivery.{DeliveryView};

@@ -7,7 +7,8 @@ use Rattle.scp_types.specs.declared.names.NodeId.{NodeId}
 use Rattle.scp_quorum.specs.Quorum.{IsWithin}
 use Rattle.scp_xdr.specs.Tree.{Trees, no_trees, tree_then}
 use Rattle.scp_quorum.specs.QuorumTree.{Level, QuorumTree}
-use Rattle.scp_quorum.specs.Satisfies.{satisfied_count, Satisfies, AreDisjoint, Blocks, outside}
+use Rattle.scp_quorum.specs.Satisfies.{satisfied_count, Satisfies, AreDisjoint, Blocks}
+use Rattle.scp_quorum.specs.inside.Satisfies.{outside}
 
 cond_mono : (a b : Bool) (m n : ℕ) → (a ≡ true → b ≡ true) → m ≤ n → cond a 1 0 + m ≤ cond b 1 0 + n
 cond_mono false b m n within h = omega (arith, h)

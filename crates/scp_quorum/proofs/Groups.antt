@@ -13,8 +13,9 @@ use Rattle.scp_quorum.specs.QuorumTree.{QuorumTree}
 use Rattle.scp_quorum.specs.Satisfies.{Satisfies}
 use Rattle.scp_quorum.specs.declared.sane_set.SaneSet.{SaneSet}
 use Rattle.scp_quorum.specs.NodeSet.{node_cmp, is_in}
-use Rattle.scp_quorum.specs.Quorum.{set_of, SatisfyThemselves, IsWithin, AllHaveSets, KeepsQuorums}
-use Rattle.scp_quorum.specs.Groups.{HasOneSet, IsGrouped, IsSettled}
+use Rattle.scp_quorum.specs.Quorum.{set_of, SatisfyThemselves, IsWithin}
+use Rattle.scp_quorum.specs.inside.Quorum.{AllHaveSets, KeepsQuorums}
+use Rattle.scp_quorum.specs.inside.Groups.{HasOneSet, IsGrouped, IsSettled}
 use Rattle.scp_quorum.proofs.Blocking.{Satisfies-within}
 use Rattle.scp_quorum.proofs.Pass.{Entries, decided, same_at, some_is_there}
 

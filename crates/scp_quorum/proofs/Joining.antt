@@ -8,7 +8,7 @@ use Rattle.std.proofs.lemmas.List.Quantifiers.{any-set, Any-push}
 use Rattle.scp_types.specs.declared.names.NodeId.{NodeId}
 use Rattle.scp_quorum.specs.declared.quorum.groups.Group.{Group}
 use Rattle.scp_quorum.specs.QuorumTree.{QuorumTree}
-use Rattle.scp_quorum.specs.Groups.{HasOneSet, IsGrouped}
+use Rattle.scp_quorum.specs.inside.Groups.{HasOneSet, IsGrouped}
 use Rattle.scp_quorum.proofs.Groups.{one_of_all}
 
 -- a group that has one member more, of the same set

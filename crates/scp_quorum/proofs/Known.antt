@@ -12,7 +12,8 @@ use Rattle.scp_quorum.specs.declared.sane_set.SaneSet.{SaneSet}
 use Rattle.scp_quorum.specs.NodeSet.{node_cmp, is_in}
 use Rattle.scp_quorum.specs.QuorumTree.{QuorumTree}
 use Rattle.scp_quorum.specs.Satisfies.{Satisfies}
-use Rattle.scp_quorum.specs.Quorum.{set_of, SatisfyThemselves, IsWithin, IsGreatestQuorum, IsInSomeQuorum, AllHaveSets}
+use Rattle.scp_quorum.specs.Quorum.{set_of, SatisfyThemselves, IsWithin, IsGreatestQuorum, IsInSomeQuorum}
+use Rattle.scp_quorum.specs.inside.Quorum.{AllHaveSets}
 
 is_some-map : {A B : Type 0} (f : A → B) (o : Option A) → is_some (option_map f o) ≡ is_some o
 is_some-map f None = refl

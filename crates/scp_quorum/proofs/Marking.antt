@@ -11,9 +11,10 @@ use Rattle.scp_quorum.specs.declared.sane_set.SaneSet.{SaneSet}
 use Rattle.scp_quorum.specs.declared.quorum.places.Seat.{Seat}
 use Rattle.scp_quorum.specs.QuorumTree.{QuorumTree}
 use Rattle.scp_quorum.specs.Satisfies.{Satisfies}
-use Rattle.scp_quorum.specs.Quorum.{IsWithin, SatisfyThemselves, KeepsQuorums, IsQuorum, IsGreatestQuorum, HasNoQuorum}
+use Rattle.scp_quorum.specs.Quorum.{IsWithin, SatisfyThemselves, IsQuorum, IsGreatestQuorum, HasNoQuorum}
+use Rattle.scp_quorum.specs.inside.Quorum.{KeepsQuorums}
 use Rattle.scp_quorum.specs.Places.{marked, is_marked_at, set_of_group, set_of_seat, set_at, shared_set, only}
-use Rattle.scp_quorum.specs.Marks.{AreVerdicts, verdict_on, kept_at}
+use Rattle.scp_quorum.specs.inside.Marks.{AreVerdicts, verdict_on, kept_at}
 use Rattle.scp_quorum.proofs.Blocking.{Satisfies-within}
 use Rattle.scp_quorum.proofs.Parts.{part_quorum, quorum_part}
 

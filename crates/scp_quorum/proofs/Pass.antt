@@ -15,7 +15,8 @@ use Rattle.scp_quorum.specs.declared.sane_set.SaneSet.{SaneSet}
 use Rattle.scp_quorum.specs.NodeSet.{node_cmp}
 use Rattle.scp_quorum.specs.QuorumTree.{QuorumTree}
 use Rattle.scp_quorum.specs.Satisfies.{Satisfies}
-use Rattle.scp_quorum.specs.Quorum.{set_of, SatisfyThemselves, AllHaveSets, KeepsQuorums}
+use Rattle.scp_quorum.specs.Quorum.{set_of, SatisfyThemselves}
+use Rattle.scp_quorum.specs.inside.Quorum.{AllHaveSets, KeepsQuorums}
 use Rattle.scp_quorum.proofs.Blocking.{Satisfies-within}
 
 abbrev pub Entries : Type 0

@@ -1,7 +1,7 @@
 -- An inner set has fewer sets inside than the set around it.
 use Rattle.std.proofs.Common.{◌≡◌, ℕ, zero, suc, ◌<◌, ◌≤◌, List, [], ◌∷◌, length, get_or, arith, ap}
 use Rattle.scp_xdr.specs.Tree.{in_a_row}
-use Rattle.scp_xdr.specs.TreeModel.{row_count, tree_count}
+use Rattle.scp_xdr.specs.inside.TreeModel.{row_count, tree_count}
 use Rattle.scp_quorum.specs.QuorumTree.{QuorumTree}
 
 one_count : (qs : List QuorumTree) (i : ℕ) (d : QuorumTree) → i < length qs → tree_count (get_or qs i d) ≤ row_count (in_a_row qs)

@@ -4,8 +4,7 @@ pub mod NodeSet
 pub mod Satisfies
 pub mod Sane
 pub mod Quorum
-pub mod Groups
 pub mod Places
 pub mod Laws
-pub mod Marks
 pub mod SharedSet
+pub mod inside

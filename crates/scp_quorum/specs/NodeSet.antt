@@ -11,5 +11,6 @@ use Rattle.scp_types.specs.declared.names.NodeId.{NodeId}
 abbrev pub node_cmp : NodeId → NodeId → Ordering
 node_cmp v w = slice_cmp nat_cmp v.0 w.0
 
+-- the node is in the set
 abbrev pub is_in : BTreeSet NodeId → NodeId → Bool
 is_in nodes v = node_set.contains node_cmp nodes v

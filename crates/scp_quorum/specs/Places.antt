@@ -1,5 +1,5 @@
 -- Nodes that are known by their places in lists, and the quorum sets that groups of them share.
-use Rattle.std.specs.Prelude.{◌≡◌, ℕ, Bool, false, cond, List, Option, Some, None, get_or, slice_get}
+use Rattle.std.specs.Prelude.{ℕ, Bool, false, cond, List, Option, Some, None, get_or, slice_get}
 use Rattle.std.specs.Option.{option_map}
 use Rattle.std.specs.declared.sync.Arc.{Arc}
 use Rattle.std.specs.Global.{Global}

@@ -1,5 +1,5 @@
 -- Which sets of nodes are quorums (the SCP draft). Each node has a quorum set, or none is known.
-use Rattle.std.specs.Prelude.{◌≡◌, Bool, true, Option, IsSome, IsSomeAnd}
+use Rattle.std.specs.Prelude.{◌≡◌, Bool, true, Option, IsSomeAnd}
 use Rattle.std.specs.Option.{option_map}
 use Rattle.std.specs.BTreeMap as node_map
 use Rattle.std.specs.BTreeMap.{BTreeMap}
@@ -40,11 +40,3 @@ IsInSomeQuorum sets at v = (nodes : NodeId → Bool) × IsQuorum sets at nodes �
 -- no set of nodes is a quorum at the node
 abbrev pub HasNoQuorum : (NodeId → Option QuorumTree) → NodeId → Type 0
 HasNoQuorum sets at = (nodes : NodeId → Bool) → IsQuorum sets at nodes → ⊥
-
--- each of the nodes has a quorum set
-abbrev pub AllHaveSets : (NodeId → Option QuorumTree) → (NodeId → Bool) → Type 0
-AllHaveSets sets nodes = (v : NodeId) → nodes v ≡ true → IsSome (sets v)
-
--- what satisfies itself inside the old nodes is inside the new ones
-abbrev pub KeepsQuorums : (NodeId → Option QuorumTree) → (NodeId → Bool) → (NodeId → Bool) → Type 0
-KeepsQuorums sets old new = (others : NodeId → Bool) → SatisfyThemselves sets others → IsWithin others old → IsWithin others new

@@ -14,9 +14,11 @@ level_kind = both uint32 (array 1000 node_kind)
 abbrev pub set_kind : Kind
 set_kind = tree 4 1000 level_kind
 
+-- what stands for one level of it
 abbrev pub level_value : Level → Values level_kind
 level_value l = (l.threshold, map node_value l.validators)
 
+-- what stands for a quorum set as a value of its kind
 abbrev pub set_value : QuorumTree → Values set_kind
 set_value q = tree_map level_value q
 
@@ -24,6 +26,7 @@ set_value q = tree_map level_value q
 abbrev pub level_of : Values level_kind → Level
 level_of v = record { threshold = v.0; validators = map node_of v.1 }
 
+-- back from a value of the kind to its quorum set
 abbrev pub quorum_set_of : Values set_kind → QuorumTree
 quorum_set_of v = tree_map level_of v
 
@@ -31,6 +34,7 @@ quorum_set_of v = tree_map level_of v
 abbrev pub SetIsItsValue : Type 0
 SetIsItsValue = (q : QuorumTree) → quorum_set_of (set_value q) ≡ q
 
+-- each value of the kind is that of the quorum set that it is read back as
 abbrev pub ValueIsASets : Type 0
 ValueIsASets = (v : Values set_kind) → set_value (quorum_set_of v) ≡ v
 

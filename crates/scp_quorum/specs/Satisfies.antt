@@ -1,5 +1,5 @@
 -- When a set of nodes satisfies or blocks a quorum set (the SCP draft). A set of nodes is a test of nodes.
-use Rattle.std.specs.Prelude.{◌≡◌, ℕ, ◌+◌, ◌≤◌, Bool, true, false, not, nat_le, count_by, if◌then◌else◌}
+use Rattle.std.specs.Prelude.{◌≡◌, ℕ, ◌+◌, ◌≤◌, Bool, true, false, nat_le, count_by, if◌then◌else◌}
 use Rattle.scp_types.specs.declared.names.NodeId.{NodeId}
 use Rattle.scp_xdr.specs.Tree.{Trees, no_trees, tree_then}
 use Rattle.scp_quorum.specs.QuorumTree.{Level, QuorumTree}
@@ -24,7 +24,3 @@ AreDisjoint us vs = (v : NodeId) → us v ≡ true → vs v ≡ false
 -- No set of nodes disjoint from these satisfies the quorum set.
 abbrev pub Blocks : (NodeId → Bool) → QuorumTree → Type 0
 Blocks nodes q = (others : NodeId → Bool) → AreDisjoint others nodes → Satisfies others q → ⊥
-
--- the nodes that are none of these
-abbrev pub outside : (NodeId → Bool) → NodeId → Bool
-outside nodes v = not (nodes v)

@@ -13,8 +13,9 @@ ghost use Rattle.std.specs.BTreeSet.{btree_set_len, IsFromIterResult};
 ghost use Rattle.scp_types.specs.declared.names.NodeId.{NodeId};
 ghost use Rattle.scp_quorum.specs.NodeSet.{is_in, node_cmp};
 ghost use Rattle.scp_quorum.specs.QuorumTree.{QuorumTree};
-ghost use Rattle.scp_quorum.specs.Quorum.{set_of, IsGreatestQuorum, IsInSomeQuorum, HasNoQuorum, IsWithin, AllHaveSets, SatisfyThemselves, KeepsQuorums};
-ghost use Rattle.scp_quorum.specs.Groups.{HasOneSet, IsSettled};
+ghost use Rattle.scp_quorum.specs.Quorum.{set_of, IsGreatestQuorum, IsInSomeQuorum, HasNoQuorum, IsWithin, SatisfyThemselves};
+ghost use Rattle.scp_quorum.specs.inside.Quorum.{AllHaveSets, KeepsQuorums};
+ghost use Rattle.scp_quorum.specs.inside.Groups.{HasOneSet, IsSettled};
 
 use crate::quorum_set::satisfied;
 use crate::sane_set::SaneSet;

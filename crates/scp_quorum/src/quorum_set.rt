@@ -33,8 +33,9 @@ pub struct QuorumSet {
 impl Model for QuorumSet {
     ghost use Rattle.std.proofs.Common.{arith};
     ghost use Rattle.scp_xdr.specs.Tree.{Tree, in_a_row};
-    ghost use Rattle.scp_xdr.specs.TreeModel.{coded_tree, tree_count, most_le-row_count};
-    ghost use Rattle.scp_quorum.specs.QuorumTree.{QuorumTree, coded_level};
+    ghost use Rattle.scp_xdr.specs.inside.TreeModel.{coded_tree, tree_count, most_le-row_count};
+    ghost use Rattle.scp_quorum.specs.QuorumTree.{QuorumTree};
+    ghost use Rattle.scp_quorum.specs.inside.QuorumTree.{coded_level};
 
     ghost Value = { QuorumTree };
 

@@ -20,8 +20,9 @@ pub struct SaneSet {
 impl Model for SaneSet {
     ghost use Rattle.std.specs.Prelude.{◌≡◌};
     ghost use Rattle.sha2.specs.Sha256.{sha256};
-    ghost use Rattle.scp_xdr.specs.TreeModel.{coded_tree};
-    ghost use Rattle.scp_quorum.specs.QuorumTree.{QuorumTree, coded_level};
+    ghost use Rattle.scp_xdr.specs.inside.TreeModel.{coded_tree};
+    ghost use Rattle.scp_quorum.specs.QuorumTree.{QuorumTree};
+    ghost use Rattle.scp_quorum.specs.inside.QuorumTree.{coded_level};
     ghost use Rattle.scp_quorum.specs.Sane.{IsSane};
     ghost use Rattle.scp_quorum.specs.QuorumKind.{set_spelling};
 

@@ -1,6 +1,8 @@
 -- The first words of a line, and those behind them.
 use Rattle.std.proofs.Common.{◌≡◌, ℕ, zero, suc, ◌+◌, ◌-◌, ◌<◌, ◌≤◌, Bool, true, false, List, [], ◌∷◌, ◌++◌, Bor, length, map, take, drop, get_or, refl, sym, ◌∙◌, ap, subst, arith, drop-cons}
+use Rattle.std.specs.Prelude.{is_some}
 use Rattle.std.proofs.lemmas.List.{length-map, get_or-map, take_rest, take_more}
+use Rattle.scp_rewrite.specs.Lines.{carried_by, carried_in}
 
 abbrev now_of : Bor (List ℕ) → List ℕ
 now_of w = w.now
@@ -51,3 +53,8 @@ next_text items texts i d e h =
     let n : i < length (map now_of items) = rw length-map h in
     let P : List (List ℕ) → Type 0 = λ l. take (i + 1) l ≡ take i l ++ (get_or items i d).now ∷ [] in
     subst P e (take_more (map now_of items) i [] n ∙ ap (λ y. take i (map now_of items) ++ y ∷ []) (get_or-map now_of items i d [] h))
+
+-- what a line carries is told by the first of its words
+pub first_word : (words : List (List ℕ)) (verb : List ℕ) → (0 < length words) × (verb ≡ get_or words 0 verb) → is_some (carried_by verb) ≡ is_some (carried_in words)
+first_word [] verb h = absurd (let few : 0 < 0 = h.0 in omega (arith, few))
+first_word (w ∷ ws) verb h = ap (λ (v : List ℕ). is_some (carried_by v)) h.1

@@ -6,7 +6,8 @@ use Rattle.std.proofs.lemmas.List.{length-take-le}
 use Rattle.scp_rewrite.specs.declared.line.Form.{Form}
 use Rattle.scp_rewrite.specs.declared.script.RewriteError.{RewriteError}
 use Rattle.scp_rewrite.specs.declared.script.RewriteError.TheVariants.{NoMemory, Refused}
-use Rattle.scp_rewrite.specs.Scripts.{lines_of, IsLineOf, AreLinesOf, IsPlaced, IsScriptOf, IsRefusedLine, IsRefusedScript}
+use Rattle.scp_rewrite.specs.Scripts.{lines_of, IsLineOf, AreLinesOf, IsScriptOf, IsRefusedLine, IsRefusedScript}
+use Rattle.scp_rewrite.specs.inside.Scripts.{IsPlaced}
 
 abbrev pub is_nil : {X : Type 0} → List X → Bool
 is_nil [] = true

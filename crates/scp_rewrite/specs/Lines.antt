@@ -1,6 +1,5 @@
 -- One line of a script, with its message, value or quorum set in digits or as text (this project's profile).
-use Rattle.std.specs.Prelude.{◌≡◌, ◌⊎◌, ◌≤◌, ◌<◌, ℕ, ◌+◌, List, [], ◌∷◌, ◌++◌, length, take, drop, Bool, true, Option, Some, None, Result, Ok, Err, if◌then◌else◌, codes, slice_get}
-use Rattle.std.specs.Option.{unwrap_or}
+use Rattle.std.specs.Prelude.{◌≡◌, ◌⊎◌, ◌≤◌, ◌<◌, ℕ, ◌+◌, List, [], ◌∷◌, ◌++◌, length, take, drop, Bool, true, Option, Some, None, Result, Ok, Err, if◌then◌else◌, codes}
 use Rattle.std.specs.Fmt.{decimal}
 use Rattle.std.specs.Result.{result_ok}
 use Rattle.hex.specs.Hex.{encode_lower, decode_of}
@@ -31,6 +30,7 @@ carried_by verb =
     else (if same verb (codes "propose") then Some Value
     else (if same verb (codes "set") then Some Set else None))
 
+-- what a line carries, by its words
 abbrev pub carried_in : List (List ℕ) → Option Carried
 carried_in [] = None
 carried_in (verb ∷ words) = carried_by verb
@@ -63,6 +63,7 @@ abbrev pub digits_of : List ℕ → List ℕ
 digits_of [] = codes "-"
 digits_of (byte ∷ bytes) = encode_lower (byte ∷ bytes)
 
+-- the bytes that a word of digits says, at least one
 abbrev pub some_bytes : List ℕ → Option (List ℕ)
 some_bytes [] = None
 some_bytes (digit ∷ digits) = result_ok (decode_of (digit ∷ digits))
@@ -75,6 +76,7 @@ bytes_in word = if same word (codes "-") then Some [] else some_bytes word
 abbrev pub digits_at : List (List ℕ) → Result (List ℕ) Refusal
 digits_at words = only_word bytes_in Digits words
 
+-- the words are one word of digits
 abbrev pub AreDigits : List (List ℕ) → Type 0
 AreDigits words = (bytes : List ℕ) × (digits_at words ≡ Ok bytes)
 
@@ -119,11 +121,13 @@ IsUnread Message bytes fault = message_reading bytes ≡ Err fault
 IsUnread Value bytes fault = (4096 < length bytes) × (fault ≡ TooLong)
 IsUnread Set bytes fault = reading_whole set_kind bytes ≡ Err fault
 
+-- the word for what a line carries
 abbrev pub name_of : Carried → List ℕ
 name_of Message = codes "message"
 name_of Value = codes "value"
 name_of Set = codes "set"
 
+-- the words for why bytes spell nothing
 abbrev pub fault_text : Fault → List ℕ
 fault_text (Malformed place) = codes "malformed at " ++ decimal place
 fault_text fault = codes "too long"

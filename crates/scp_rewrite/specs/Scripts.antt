@@ -1,8 +1,7 @@
 -- Scripts, line by line, in digits or as text (this project's profile).
-use Rattle.std.specs.Prelude.{◌≡◌, ◌==◌, ℕ, ◌+◌, Bool, true, List, [], ◌∷◌, ◌++◌, length, drop, Option, Some, None, Ok}
+use Rattle.std.specs.Prelude.{◌≡◌, ◌==◌, ℕ, ◌+◌, Bool, List, [], ◌∷◌, ◌++◌, length, drop, Option, Some, None, is_some, Ok}
 use Rattle.std.specs.List.{slice_split, join_with_byte, AllByRecursion}
 use Rattle.scp_text.specs.Messages.{words_of}
-use Rattle.scp_text.specs.declared.refusal.Refusal.{Refusal}
 use Rattle.scp_text.specs.declared.refusal.TextError.{TextError}
 use Rattle.scp_text.specs.declared.refusal.TextError.TheVariants.{NoMemory, Refused}
 use Rattle.scp_rewrite.specs.declared.line.Carried.{Carried}
@@ -17,15 +16,21 @@ use Rattle.scp_rewrite.specs.Lines.{carried_in, words_before, digits_of, digits_
 abbrev pub lines_of : List ℕ → List (List ℕ)
 lines_of script = slice_split (λ byte. byte == 10) script
 
+-- the line in this form, by what it carries
 abbrev pub IsLineBy : Option Carried → Form → List ℕ → List ℕ → Type 0
 IsLineBy (Some c) Hex line out = IsHexOf c (words_of line) line out
 IsLineBy (Some c) Text line out = IsTextOf c (words_of line) line out
 IsLineBy None form line out = out ≡ line
 
+-- the line carries a message, a value or a quorum set, by its first word
+abbrev pub carries : List ℕ → Bool
+carries line = is_some (carried_in (words_of line))
+
 -- the line in this form; a line that carries nothing stays
 abbrev pub IsLineOf : Form → List ℕ → List ℕ → Type 0
 IsLineOf form line out = IsLineBy (carried_in (words_of line)) form line out
 
+-- why it isn't written in this form, by what it carries
 abbrev pub IsNoLineBy : Option Carried → Form → List ℕ → TextError → Type 0
 IsNoLineBy c form line NoMemory = Unit {0}
 IsNoLineBy (Some c) Hex line (Refused refusal) = IsNoHex c (words_of line) (Refused refusal)
@@ -35,11 +40,6 @@ IsNoLineBy None form line (Refused refusal) = ⊥
 -- why a line isn't written in this form: want of memory, or the first word that is refused
 abbrev pub IsNoLineOf : Form → List ℕ → TextError → Type 0
 IsNoLineOf form line error = IsNoLineBy (carried_in (words_of line)) form line error
-
--- the same, by the line's place in a script
-abbrev pub IsPlaced : Form → List ℕ → ℕ → RewriteError → Type 0
-IsPlaced form line place errors.NoMemory = Unit {0}
-IsPlaced form line place (errors.Refused refusal) = IsNoLineOf form line (Refused refusal.refusal) × (refusal.line ≡ place)
 
 -- each of the lines in this form
 abbrev pub AreLinesOf : Form → List (List ℕ) → List (List ℕ) → Type 0
@@ -77,9 +77,11 @@ IsReadableBy (Some c) words =
     (bytes : List ℕ) × (text : List ℕ) × (digits_at (drop (words_before c) words) ≡ Ok bytes)
     × (drop (words_before c) words ≡ digits_of bytes ∷ []) × IsShown c bytes text
 
+-- the same, of what the line carries
 abbrev pub IsReadableLine : List ℕ → Type 0
 IsReadableLine line = IsReadableBy (carried_in (words_of line)) (words_of line)
 
+-- each line of the script is so
 abbrev pub IsReadable : List ℕ → Type 0
 IsReadable script = AllByRecursion IsReadableLine (lines_of script)
 

@@ -15,5 +15,5 @@ mod script;
 mod texting;
 
 pub use laws::{none_is_refused, scripts_come_back};
-pub use line::{Carried, Form};
+pub use line::{Carried, Form, carries};
 pub use script::{RewriteError, ScriptRefusal, line_in, rewrite};

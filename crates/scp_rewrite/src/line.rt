@@ -1,6 +1,7 @@
 //! The words of a line of a script, and what it carries.
 ghost use Rattle.std.specs.Prelude.{◌≡◌, ◌≤◌, Some, None, Ok, IfOk, IsOkUnless, length, map, take, drop, string_bytes};
 ghost use Rattle.scp_text.specs.Messages.{Answers, or_refused};
+ghost use Rattle.scp_rewrite.specs.Scripts.{carries as does_carry};
 ghost use Rattle.scp_rewrite.specs.Lines.{carried_by, carried_in as carried_of, words_before as count_before, before, ends, digits_of, bytes_in, digits_at as digits_of_word};
 
 use hex::FromHexError;
@@ -52,6 +53,16 @@ pub fn carried_in(words: &[&[u8]]) -> Option<Carried>
     match words {
         [] => None,
         [verb, ..] => carried_with(*verb),
+    }
+}
+
+/// Whether a line carries something: by its first word, without memory.
+pub fn carries(line: &[u8]) -> bool
+    ensures { result ≡ does_carry line.now }
+{
+    match line.split(|byte| *byte == b' ').next() {
+        Some(verb) => carried_with(verb).is_some(),
+        None => false,
     }
 }
 

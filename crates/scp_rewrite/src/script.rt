@@ -1,7 +1,8 @@
 //! Whole scripts, line by line.
 ghost use Rattle.std.specs.Prelude.{◌≡◌, ◌++◌, ◌∷◌, if◌then◌else◌, OnOk, IfOk, IfErr, map};
 ghost use Rattle.scp_rewrite.specs.declared.script.RewriteError.TheVariants.{NoMemory};
-ghost use Rattle.scp_rewrite.specs.Scripts.{lines_of, IsLineOf, IsNoLineOf, IsPlaced, IsScriptOf, IsRefusedScript};
+ghost use Rattle.scp_rewrite.specs.Scripts.{lines_of, IsLineOf, IsNoLineOf, IsScriptOf, IsRefusedScript};
+ghost use Rattle.scp_rewrite.specs.inside.Scripts.{IsPlaced};
 
 use crate::hexing::hex_line;
 use crate::line::{Form, carried_in, copy_of};

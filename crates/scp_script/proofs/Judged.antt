@@ -11,11 +11,11 @@ use Rattle.scp_script.specs.declared.command.Command.TheVariants.{Caps, Nodes, S
 use Rattle.scp_script.specs.declared.known.Known.{Known}
 use Rattle.scp_script.specs.declared.judging.Place.{Place}
 use Rattle.scp_script.specs.declared.judging.Place.TheVariants as place
-use Rattle.scp_script.specs.Bare.{bare}
+use Rattle.scp_script.specs.inside.Bare.{bare}
 use Rattle.scp_script.specs.Words.{lines_of, words_of, is_ascii, is_skipped}
 use Rattle.scp_script.specs.Script.{counted, begins, opens, closes, Admits, AreAdmitted, AreLines, IsScript, IsBadLine, HasNoBadLine, HasSetLine, is_line, is_set, command_in, commands_of}
 use Rattle.scp_script.specs.Reading.{Knows, KnowsLinks, Stands}
-use Rattle.scp_script.specs.Judging.{IsPlace, IsPlaceOfWords}
+use Rattle.scp_script.specs.inside.Judging.{IsPlace, IsPlaceOfWords}
 use Rattle.scp_script.proofs.Admitted.{admitted_front}
 use Rattle.scp_script.proofs.Lines.{commands_of-append, commands_of-more, command_in_other, lines-more, last_stands}
 

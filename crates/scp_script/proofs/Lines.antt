@@ -13,8 +13,9 @@ use Rattle.std.specs.Prelude.{codes, if◌then◌else◌}
 use Rattle.std.specs.List.{list_all}
 use Rattle.scp_script.specs.declared.command.Command.{Command}
 use Rattle.scp_script.specs.declared.reading.Reading.{Reading}
-use Rattle.scp_script.specs.Reading.{HasRead, TakesWords, Stands}
-use Rattle.scp_script.specs.Bare.{bare}
+use Rattle.scp_script.specs.inside.Reading.{HasRead}
+use Rattle.scp_script.specs.Reading.{TakesWords, Stands}
+use Rattle.scp_script.specs.inside.Bare.{bare}
 use Rattle.scp_script.specs.Words.{is_ascii, same, number_in, capacity_in, words_of}
 use Rattle.scp_script.specs.Script.{is_line, caps_by, command_in, commands_of, Admits, AreAdmitted, AreLines}
 

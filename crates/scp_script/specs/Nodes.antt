@@ -69,6 +69,7 @@ set_given node (Report at) = []
 abbrev pub set_at : ℕ → List Command → QuorumTree
 set_at node commands = unwrap_or (last_or None (flat_map (set_given node) commands)) (of_all 1 1)
 
+-- the capacities that a `caps` line gives
 abbrev pub capacities_given : Command → List Capacities
 capacities_given (Caps capacities) = capacities ∷ []
 capacities_given (Nodes count quorum) = []
@@ -93,6 +94,7 @@ capacities_of_none = record { link = 64; inbox = 64; ready = 64; decided = 64 }
 abbrev pub capacities_in : List Command → Capacities
 capacities_in commands = unwrap_or (last_or None (flat_map capacities_given commands)) capacities_of_none
 
+-- the node of which a `report` line asks for a report
 abbrev pub report_by : Command → List ℕ
 report_by (Caps capacities) = []
 report_by (Nodes count quorum) = []

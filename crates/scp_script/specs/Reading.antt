@@ -6,7 +6,7 @@ use Rattle.scp_script.specs.declared.links.Links.{Links}
 use Rattle.scp_script.specs.declared.links.Link.{Link}
 use Rattle.scp_script.specs.declared.command.Command.{Command}
 use Rattle.scp_script.specs.Words.{words_of}
-use Rattle.scp_script.specs.Script.{node_count, has_begun, is_open, lives, is_line, Admits, commands_of, command_in}
+use Rattle.scp_script.specs.Script.{node_count, has_begun, is_open, lives, is_line, Admits, command_in}
 use Rattle.scp_script.specs.Nodes.{NamesNodes, IsSmall}
 
 -- the fact where the result says yes
@@ -25,6 +25,7 @@ OnFalseOk (Err e) fact = Unit {0}
 abbrev pub place : ℕ → ℕ → ℕ
 place from to = (from - 1) * 8 + (to - 1)
 
+-- a link that was never open
 abbrev pub no_link : Link
 no_link = record { is_open = false; lives = 0 }
 
@@ -60,8 +61,3 @@ Stands before line = (is_line line ≡ true) × IfSome (command_in (words_of lin
 pub record TakesWords (old : Reading) (words : List (List ℕ)) (new : Reading) : Type 0 where
   pub commands : new.commands.items ≡ old.commands.items ++ option_to_list (command_in words)
   pub reading : IsReading new
-
--- what was read is what the lines say
-pub record HasRead (r : Reading) (lines : List (List ℕ)) : Type 0 where
-  pub reading : IsReading r
-  pub commands : r.commands.items ≡ commands_of lines

@@ -20,6 +20,7 @@ abbrev pub or_else : {A : Type 0} → Option A → Option A → Option A
 or_else (Some first) second = Some first
 or_else None second = second
 
+-- the refusal of the word of this number, where something else was expected there
 abbrev pub at_word : ℕ → Option Expected → Option Refusal
 at_word word (Some expected) = Some (record { word = word; expected = expected })
 at_word word None = None
@@ -50,6 +51,7 @@ is_marked (a ∷ b ∷ c ∷ bytes) = nat_eq a 239 && (nat_eq b 187 && nat_eq c 
 abbrev pub foreign_in : Expected → List ℕ → Option Expected
 foreign_in expected word = if_not (is_ascii word) expected
 
+-- what is expected of a line with bytes over 127: no byte order mark where it begins with one, else ASCII
 abbrev pub mark_in : List ℕ → Expected
 mark_in line = if is_marked line then NoMark else Ascii
 
@@ -58,13 +60,16 @@ abbrev pub blank_in : List ℕ → Option Expected
 blank_in [] = None
 blank_in (byte ∷ bytes) = if nat_eq byte 13 then Some NoReturn else (if nat_eq byte 9 then Some NoTab else blank_in bytes)
 
+-- there is no byte
 abbrev pub is_nothing : List ℕ → Bool
 is_nothing [] = true
 is_nothing (byte ∷ bytes) = false
 
+-- a word of no bytes: one space too many stands before it
 abbrev pub nothing_in : List ℕ → Option Expected
 nothing_in word = if is_nothing word then Some OneSpace else None
 
+-- the first word with a byte over 127
 abbrev pub foreign_fault : List ℕ → Option Refusal
 foreign_fault line = first_wrong (foreign_in (mark_in line)) 1 (parts_of line)
 
@@ -78,6 +83,7 @@ byte_fault line = if is_ascii line then (if is_skipped line then None else blank
 
 -- ---- words
 
+-- the verb that the first word is, if it is one
 abbrev pub verb_in : List ℕ → Option Verb
 verb_in word =
     if same word (codes "caps") then Some verbs.Caps
@@ -119,6 +125,7 @@ order_fault verbs.Nodes count begun = if_not (nat_eq count 0) NodesOnce
 order_fault verbs.Set count begun = if nat_eq count 0 then Some NodesFirst else (if begun then Some SetsFirst else None)
 order_fault verb count begun = if nat_eq count 0 then Some NodesFirst else None
 
+-- there is a number, and it is at most this
 abbrev pub is_most : ℕ → Option ℕ → Bool
 is_most most (Some number) = nat_le number most
 is_most most None = false
@@ -140,6 +147,7 @@ kind_fault kinds.Number count before word = if_not (is_some (number_in word)) AN
 kind_fault kinds.Digits count before word = if_not (is_some (hex_bytes word)) Digits
 kind_fault kinds.Set count before word = if_not (is_some (set_in (hex_bytes word))) ASet
 
+-- why a word isn't of this kind, behind the word before it: of a quorum set also why it isn't sane
 abbrev pub IsKindFault : Kind → ℕ → List ℕ → List ℕ → Option Expected → Type 0
 IsKindFault kinds.Set count before word found = IsSetFault (set_in (hex_bytes word)) found
 IsKindFault kind count before word found = found ≡ kind_fault kind count before word
@@ -162,6 +170,7 @@ link_fault verbs.Close opened lives = if_not opened AnOpenLink
 link_fault verbs.Send opened lives = if_not opened AnOpenLink
 link_fault verb opened lives = None
 
+-- the same of the link that the words name, if they name one
 abbrev pub link_fault_by : Verb → Option (ℕ × ℕ) → List Command → Option Expected
 link_fault_by verb (Some link) before = link_fault verb (is_open link.0 link.1 before) (lives link.0 link.1 before)
 link_fault_by verb None before = None
@@ -173,6 +182,7 @@ IsPlacedFault None verb before words found =
     (first : Option Refusal) × IsKindsFault (kinds_in verb) (node_count before) words 0 first
     × (found ≡ or_else first (at_word 2 (link_fault_by verb (link_in (word_at words 1) (word_at words 2)) before)))
 
+-- the first bad word, by the verb: the first word where it is none
 abbrev pub IsWordFaultBy : Option Verb → List Command → List (List ℕ) → Option Refusal → Type 0
 IsWordFaultBy None before words found = found ≡ Some (record { word = 1; expected = AVerb })
 IsWordFaultBy (Some verb) before words found = IsPlacedFault (order_fault verb (node_count before) (has_begun before)) verb before words found
@@ -181,10 +191,12 @@ IsWordFaultBy (Some verb) before words found = IsPlacedFault (order_fault verb (
 abbrev pub IsWordFault : List Command → List (List ℕ) → Option Refusal → Type 0
 IsWordFault before words found = IsWordFaultBy (verb_in (word_at words 0)) before words found
 
+-- the fault that was found before, else the first bad word
 abbrev pub IsFaultBehind : Option Refusal → List Command → List ℕ → Option Refusal → Type 0
 IsFaultBehind (Some refusal) before line found = found ≡ Some refusal
 IsFaultBehind None before line found = IsWordFault before (slice_split (λ byte. byte == 32) line) found
 
+-- the first bad word of a line, by whether no byte is over 127 and whether it is skipped: a comment is bad by bytes over 127 alone
 abbrev pub IsFaultOf : Bool → Bool → List Command → List ℕ → Option Refusal → Type 0
 IsFaultOf false skipped before line found = found ≡ foreign_fault line
 IsFaultOf true true before line found = found ≡ None

@@ -12,6 +12,7 @@ use Rattle.scp_script.specs.Words.{lines_of, is_ascii, is_skipped, words_of, sam
 
 -- ---- the command of a line
 
+-- the command of these capacities, where each is said
 abbrev pub caps_by : Option ℕ → Option ℕ → Option ℕ → Option ℕ → Option Command
 caps_by (Some link) (Some inbox) (Some ready) (Some decided) =
     Some (Caps (record { link = link; inbox = inbox; ready = ready; decided = decided }))
@@ -26,45 +27,54 @@ nodes_by (Some count) (Some quorum) = if nat_le quorum count then Some (Nodes co
 nodes_by (Some count) None = None
 nodes_by None quorum = None
 
+-- the command of this node and this set, where both are said
 abbrev pub set_by : Option ℕ → Option QuorumTree → Option Command
 set_by (Some node) (Some set) = Some (Set node set)
 set_by (Some node) None = None
 set_by None set = None
 
+-- the command that opens this link, where one is said
 abbrev pub open_by : Option (ℕ × ℕ) → Option Command
 open_by (Some link) = Some (Open link.0 link.1)
 open_by None = None
 
+-- the command that closes this link, where one is said
 abbrev pub close_by : Option (ℕ × ℕ) → Option Command
 close_by (Some link) = Some (Close link.0 link.1)
 close_by None = None
 
+-- the command that sends these bytes on this link, where both are said
 abbrev pub send_by : Option (ℕ × ℕ) → Option (List ℕ) → Option Command
 send_by (Some link) (Some bytes) = Some (Send link.0 link.1 bytes)
 send_by (Some link) None = None
 send_by None bytes = None
 
+-- the command that asks this link for the record of this slot, where both are said
 abbrev pub ask_by : Option (ℕ × ℕ) → Option ℕ → Option Command
 ask_by (Some link) (Some slot) = Some (Ask link.0 link.1 slot)
 ask_by (Some link) None = None
 ask_by None slot = None
 
+-- the command that proposes this value for this slot at this node, where all are said
 abbrev pub propose_by : Option ℕ → Option ℕ → Option (List ℕ) → Option Command
 propose_by (Some node) (Some slot) (Some value) = Some (Propose node slot value)
 propose_by (Some node) (Some slot) None = None
 propose_by (Some node) None value = None
 propose_by None slot value = None
 
+-- the command that begins the next round of this slot at this node, where both are said
 abbrev pub round_by : Option ℕ → Option ℕ → Option Command
 round_by (Some node) (Some slot) = Some (Round node slot)
 round_by (Some node) None = None
 round_by None slot = None
 
+-- the command by which this slot's timer rings at this node, where both are said
 abbrev pub timer_by : Option ℕ → Option ℕ → Option Command
 timer_by (Some node) (Some slot) = Some (Timer node slot)
 timer_by (Some node) None = None
 timer_by None slot = None
 
+-- the command that waits for so many things at the applier of this node, where both are said
 abbrev pub wait_by : Option ℕ → Option ℕ → Option Command
 wait_by (Some node) (Some things) = Some (Wait node things)
 wait_by (Some node) None = None
@@ -121,6 +131,7 @@ counted before (Report node) = before
 abbrev pub node_count : List Command → ℕ
 node_count commands = fold counted 0 commands
 
+-- the command is of no `caps`, `nodes` or `set` line: behind it no quorum set may be given
 abbrev pub begins : Command → Bool
 begins (Caps capacities) = false
 begins (Nodes count quorum) = false
@@ -141,6 +152,7 @@ begins (Report node) = true
 abbrev pub has_begun : List Command → Bool
 has_begun commands = list_any begins commands
 
+-- both are the link between the same nodes, in the same direction
 abbrev pub is_link : ℕ → ℕ → ℕ → ℕ → Bool
 is_link from to from2 to2 = nat_eq from from2 && nat_eq to to2
 

@@ -14,6 +14,7 @@ use Rattle.scp_quorum.specs.QuorumKind.{set_kind, quorum_set_of}
 abbrev pub lines_of : List ℕ → List (List ℕ)
 lines_of text = slice_split (λ byte. byte == 10) text
 
+-- no byte is over 127
 abbrev pub is_ascii : List ℕ → Bool
 is_ascii line = list_all (λ byte. nat_lt byte 128) line
 
@@ -26,6 +27,7 @@ is_skipped (byte ∷ bytes) = byte == 35
 abbrev pub words_of : List ℕ → List (List ℕ)
 words_of line = if is_skipped line then [] else slice_split (λ byte. byte == 32) line
 
+-- the same bytes
 abbrev pub same : List ℕ → List ℕ → Bool
 same a b = pointwise nat_eq a b
 
@@ -35,6 +37,7 @@ node_in [] = None
 node_in (digit ∷ []) = if nat_le 49 digit && nat_le digit 56 then Some (digit - 48) else None
 node_in (digit ∷ other ∷ digits) = None
 
+-- the link between two nodes, where both are said and differ
 abbrev pub link_by : Option ℕ → Option ℕ → Option (ℕ × ℕ)
 link_by (Some from) (Some to) = if nat_eq from to then None else Some (from, to)
 link_by (Some from) None = None
@@ -50,6 +53,7 @@ number_in word =
     if nat_lt (digits_value 10 word) (2 ^ 64) && same (decimal (digits_value 10 word)) word
     then Some (digits_value 10 word) else None
 
+-- a number from 1 to 1,024, where one is said
 abbrev pub capacity_by : Option ℕ → Option ℕ
 capacity_by (Some number) = if nat_le 1 number && nat_le number 1024 then Some number else None
 capacity_by None = None
@@ -58,6 +62,7 @@ capacity_by None = None
 abbrev pub capacity_in : List ℕ → Option ℕ
 capacity_in word = capacity_by (number_in word)
 
+-- the bytes that a word of hexadecimal digits says, at least one
 abbrev pub digits_bytes : List ℕ → Option (List ℕ)
 digits_bytes [] = None
 digits_bytes (digit ∷ digits) = result_ok (decode_of (digit ∷ digits))

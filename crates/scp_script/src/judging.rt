@@ -4,7 +4,7 @@ ghost use Rattle.scp_script.specs.declared.command.Command.{Command};
 ghost use Rattle.scp_script.specs.Reading.{Knows};
 ghost use Rattle.std.specs.List.{slice_split};
 ghost use Rattle.scp_script.specs.Script.{IsBadLine, HasNoBadLine, HasSetLine};
-ghost use Rattle.scp_script.specs.Judging.{IsPlace, IsPlaceOfWords};
+ghost use Rattle.scp_script.specs.inside.Judging.{IsPlace, IsPlaceOfWords};
 
 use crate::known::Known;
 use crate::line::{bare_command, is_set};

@@ -8,9 +8,7 @@ ghost use Rattle.scp_script.specs.Reading.{KnowsLinks, Knows};
 
 use crate::command::Command;
 use crate::links::{Link, Links};
-
-/// How often a link can be opened.
-pub const MOST_LIVES: u32 = 65535;
+use scp_types::LIFE_LIMIT;
 
 /// What is known of a script that is being read.
 #[derive(Drop)]
@@ -40,7 +38,7 @@ impl Known {
         ensures { (before : List Command) → Knows self.now before → (IsTrue result ↔ Admits before (Open from to)) }
     {
         let link = self.links.get(from, to);
-        from <= self.count && to <= self.count && !link.is_open && link.lives < MOST_LIVES
+        from <= self.count && to <= self.count && !link.is_open && link.lives < LIFE_LIMIT
     }
 
     /// Whether the command may stand here.
@@ -74,7 +72,7 @@ impl Known {
     {
         match command {
             Command::Open { from, to } => {
-                // A link that may be opened has fewer than `MOST_LIVES`.
+                // A link that may be opened has fewer than `LIFE_LIMIT`.
                 let lives = self.links.get(*from, *to).lives.saturating_add(1);
                 let link = Link {
                     is_open: true,

@@ -2,7 +2,7 @@
 ghost use Rattle.std.specs.Prelude.{◌≡◌, ◌∷◌, [], false, IfOk, IfSome, IsOkUnless, codes, map, option_map};
 ghost use Rattle.scp_script.specs.Words.{same, node_in, link_in, number_in, capacity_in, hex_bytes, set_in};
 ghost use Rattle.scp_script.specs.Script.{caps_by, nodes_by, set_by, open_by, close_by, send_by, ask_by, propose_by, round_by, timer_by, wait_by, command_in, is_set};
-ghost use Rattle.scp_script.specs.Bare.{bare};
+ghost use Rattle.scp_script.specs.inside.Bare.{bare};
 ghost use Rattle.scp_script.specs.Nodes.{NamesNodes};
 ghost use Rattle.scp_script.specs.declared.command.Command.TheVariants.{Tick, Report};
 

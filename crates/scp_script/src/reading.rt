@@ -8,12 +8,12 @@ ghost use Rattle.scp_script.specs.Reading.{IsReading, TakesWords, OnTrueOk, OnFa
 
 use crate::bytes::{blank_bytes, foreign_bytes};
 use crate::command::Command;
-use crate::known::{Known, MOST_LIVES};
+use crate::known::Known;
 use crate::line::command_from;
 use crate::reason::{Verb, kinds_of, misplaced, verb_of, word_at, wrong_word};
 use crate::refusal::{Expected, Refusal};
 use crate::words::{ascii, link, skipped, words};
-use scp_types::Fault;
+use scp_types::{Fault, LIFE_LIMIT};
 use std::alloc::{AllocError, Global};
 
 /// What was read of a script so far.
@@ -100,7 +100,7 @@ impl Reading {
         let link = self.known.links.get(from, to);
         match verb {
             Verb::Open if link.is_open => Some(Expected::AClosedLink),
-            Verb::Open if link.lives >= MOST_LIVES => Some(Expected::FewerLives),
+            Verb::Open if link.lives >= LIFE_LIMIT => Some(Expected::FewerLives),
             Verb::Close | Verb::Send if !link.is_open => Some(Expected::AnOpenLink),
             _ => None,
         }

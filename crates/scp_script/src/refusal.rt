@@ -1,6 +1,6 @@
 //! Why a line of a script is bad: the word, and what was expected there.
-
-use std::alloc::{AllocError, Global};
+ghost use Rattle.std.specs.Prelude.{◌≡◌};
+ghost use Rattle.scp_script.specs.Expected.{words_of, number_of};
 
 /// What was expected where a word of a line is bad.
 #[derive(Clone, Copy, Debug, PartialEq, Eq)]
@@ -36,7 +36,9 @@ pub enum Expected {
 
 impl Expected {
     /// What was expected, in words, up to the number that some end with.
-    fn words(self) -> &'static str {
+    pub fn words(self) -> &'static str
+        ensures { result.now ≡ words_of self }
+    {
         match self {
             Expected::Ascii => "ASCII",
             Expected::NoMark => "no byte order mark",
@@ -69,24 +71,16 @@ impl Expected {
         }
     }
 
-    /// The number that the words end with.
-    fn number(self) -> Option<u8> {
+    /// The number that the words end with, of those that do.
+    pub fn number(self) -> Option<u8>
+        ensures { result ≡ number_of self }
+    {
         match self {
             Expected::AThreshold(most) | Expected::ANode(most) | Expected::AnotherNode(most) => {
                 Some(most)
             }
             _ => None,
         }
-    }
-
-    /// What was expected, in words.
-    pub fn text(self, alloc: Global) -> Result<String, AllocError> {
-        let mut text = self.words().to_string(alloc)?;
-        if let Some(most) = self.number() {
-            let most = most.to_string(alloc)?;
-            text.push_str(most.as_str())?;
-        }
-        Ok(text)
     }
 }
 

@@ -9,7 +9,7 @@ use arrayvec::ArrayVec;
 use hex::FromHexError;
 use itoa::Buffer;
 use scp_quorum::QuorumSet;
-use scp_types::{Fault, Value};
+use scp_types::{CAPACITY_LIMIT, Fault, Value};
 use scp_wire::Bytes;
 use std::alloc::{AllocError, Global};
 use std::str;
@@ -85,7 +85,7 @@ fn capacity_from(number: Option<u64>) -> Option<u16>
 {
     match number {
         Some(number) => {
-            if 1 <= number && number <= 1024 {
+            if 1 <= number && number <= u64::from(CAPACITY_LIMIT) {
                 Some(number as u16)
             } else {
                 None

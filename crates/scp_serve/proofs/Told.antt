@@ -1,16 +1,16 @@
 -- What was told, after a call that was refused.
-use Rattle.std.proofs.Common.{◌≡◌, ◌≢◌, ◌⊎◌, ◌≤◌, inl, inr, ℕ, List, Option, refl, sym, subst, ap, arith}
+use Rattle.std.proofs.Common.{◌≡◌, ◌≢◌, ◌⊎◌, ◌≤◌, inl, inr, ℕ, List, Option, refl, sym, subst, arith}
 use Rattle.scp_types.specs.declared.fault.Fault.{Fault}
 use Rattle.scp_types.specs.declared.fault.Fault.TheVariants.{NoMemory, Malformed, TooLong, Insane, Full, NotOpen, AlreadyOpen, LivesSpent, BadConfig, Failed, JournalFull, BadScript, Refused, Device}
-use Rattle.scp_device.specs.Device.{Fails}
+use Rattle.scp_device.specs.Device.{Gains, Fails}
 use Rattle.scp_line.specs.declared.playing.PlayFault.{PlayFault}
-use Rattle.std.specs.Prelude.{IfSome, length, ◌<◌}
+use Rattle.std.specs.Prelude.{Result, Ok, Err, OnOk, OnErr, IfSome, length, ◌<◌}
 use Rattle.scp_script.specs.Script.{IsScript, IsBadLine, commands_in}
 use Rattle.scp_line.specs.Outcome.{status_of, IsCheckFault, IsPlayFault}
 use Rattle.scp_line.specs.Play.{IsNamed, Stops, Overflows}
-use Rattle.scp_line.specs.Threads.{IsThreadsFault}
+use Rattle.scp_line.specs.Threads.{IsThreadsFault, IsOfTheNodes, AreGivenUp}
 use Rattle.scp_types.specs.declared.fault.Stage.{Stage}
-use Rattle.scp_serve.specs.Serving.{IsTold, IsUnplayed, IsUnplayedInThreads}
+use Rattle.scp_serve.specs.Serving.{IsWritten, IsTold, IsUnplayed, IsUnplayedInThreads}
 
 pub status_is : (fault : Fault) → (status_of fault ≡ 1) ⊎ (status_of fault ≡ 3)
 status_is NoMemory = inr refl
@@ -44,9 +44,14 @@ more_fails a b c p q = (omega (arith, p.0, q.0), λ h. omega (arith, p.1 h, q.0)
 pub told_after : {W : Type 0} (written : W → Option (List ℕ)) (failures : W → ℕ) (old mid new : W) (fault : PlayFault)
     → (mid ≡ old) ⊎ Fails (failures old) (failures mid) → IsTold written failures mid fault new → IsTold written failures old fault new
 told_after {W} written failures old mid new fault (inl same) told = subst (λ (w : W). IsTold written failures w fault new) same told
-told_after written failures old mid new fault (inr failed) (inl same) = inr (inr (subst (λ (n : ℕ). Fails (failures old) n) (sym (ap failures same)) failed))
-told_after written failures old mid new fault (inr failed) (inr (inl line)) = inr (inr (subst (λ (n : ℕ). Fails (failures old) n) (sym line.1) failed))
-told_after written failures old mid new fault (inr failed) (inr (inr again)) = inr (inr (more_fails (failures old) (failures mid) (failures new) failed again))
+told_after written failures old mid new fault (inr failed) (inl line) = inr (subst (λ (n : ℕ). Fails (failures old) n) (sym line.1) failed)
+told_after written failures old mid new fault (inr failed) (inr again) = inr (more_fails (failures old) (failures mid) (failures new) failed again)
+
+-- a line was written whole, or the writer failed
+pub told_by : {W : Type 0} (written : W → Option (List ℕ)) (failures : W → ℕ) (old new : W) (text : List ℕ) (r : Result (Unit {0}) Fault)
+    → OnOk r (Gains (written old) text (written new)) → OnOk r (failures new ≡ failures old) → OnErr r (Fails (failures old) (failures new)) → IsWritten written failures old text new
+told_by written failures old new text (Ok done) whole kept raised = inl (whole, kept)
+told_by written failures old new text (Err fault) whole kept raised = inr raised
 
 -- ---- why a script wasn't played or found to be one
 
@@ -70,8 +75,8 @@ abbrev pub IsOfScript : Option (List ℕ) → Type 0
 IsOfScript left = IfSome left (λ all. (length all ≤ 1048576) × IsScript all)
 
 pub unplayed_in_threads : (left : Option (List ℕ)) (fault : PlayFault) → IsThreadsFault fault.fault → IsNamed fault.node fault.fault → (fault.fault ≡ TooLong → IsTooLong left)
-    → ((line : ℕ) → fault.fault ≡ BadScript line → IsBadAt left line) → ((stage : Stage) → fault.fault ≡ Refused stage → IsOfScript left) → (fault.fault ≡ Full → IsOfScript left) → IsUnplayedInThreads left fault
-unplayed_in_threads left fault cause named too_long line stage full = record { cause = cause; named = named; too_long = too_long; line = line; stage = stage; full = full }
+    → ((line : ℕ) → fault.fault ≡ BadScript line → IsBadAt left line) → ((stage : Stage) → fault.fault ≡ Refused stage → IsOfScript left) → (fault.fault ≡ Full → IsOfScript left) → (IsOfTheNodes fault.fault → IfSome left (λ all. AreGivenUp all fault.node fault.fault)) → IsUnplayedInThreads left fault
+unplayed_in_threads left fault cause named too_long line stage full given_up = record { cause = cause; named = named; too_long = too_long; line = line; stage = stage; full = full; given_up = given_up }
 
 plays : (fault : Fault) → IsCheckFault fault → IsPlayFault fault
 plays NoMemory h = tt

@@ -7,15 +7,15 @@ use Rattle.scp_line.specs.declared.playing.PlayFault.{PlayFault}
 use Rattle.scp_script.specs.Script.{IsScript, IsBadLine, commands_in}
 use Rattle.scp_line.specs.Outcome.{fault_line, IsPlayFault}
 use Rattle.scp_line.specs.Play.{IsNamed, Stops, Overflows}
-use Rattle.scp_line.specs.Threads.{IsThreadsFault}
+use Rattle.scp_line.specs.Threads.{IsThreadsFault, IsOfTheNodes, AreGivenUp}
 
 -- this text was written and nothing else, or the writer failed
 abbrev pub IsWritten : {W : Type 0} → (W → Option (List ℕ)) → (W → ℕ) → W → List ℕ → W → Type 0
 IsWritten written failures old text new = (Gains (written old) text (written new) × (failures new ≡ failures old)) ⊎ Fails (failures old) (failures new)
 
--- a fault was told by its line and nothing else; nothing was written where the line had no memory
+-- a fault was told by its line and nothing else, or the writer failed
 abbrev pub IsTold : {W : Type 0} → (W → Option (List ℕ)) → (W → ℕ) → W → PlayFault → W → Type 0
-IsTold written failures old fault new = (new ≡ old) ⊎ IsWritten written failures old (fault_line fault.node fault.fault) new
+IsTold written failures old fault new = IsWritten written failures old (fault_line fault.node fault.fault) new
 
 -- why a script that was read from here, all that was left, wasn't played
 pub record IsUnplayed (left : Option (List ℕ)) (fault : PlayFault) : Type 0 where
@@ -34,3 +34,4 @@ pub record IsUnplayedInThreads (left : Option (List ℕ)) (fault : PlayFault) : 
   pub line : (line : ℕ) → fault.fault ≡ BadScript line → IfSome left (λ all. (length all ≤ 1048576) × IsBadLine all line)
   pub stage : (stage : Stage) → fault.fault ≡ Refused stage → IfSome left (λ all. (length all ≤ 1048576) × IsScript all)
   pub full : fault.fault ≡ Full → IfSome left (λ all. (length all ≤ 1048576) × IsScript all)
+  pub given_up : IsOfTheNodes fault.fault → IfSome left (λ all. AreGivenUp all fault.node fault.fault)

@@ -6,7 +6,7 @@
 //! - `serve` answers 2 only with `usage` and with nothing read, and 1 or 3 only of a fault;
 //! - a fault is told once, by its own line and its status, and a node that failed by its number.
 //!
-//! Which words ask for what is shown by tests.
+//! Not claimed: which words ask for what, which tests show.
 #![tactic(auto)]
 
 mod asked;

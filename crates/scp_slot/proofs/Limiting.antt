@@ -10,6 +10,7 @@ use Rattle.scp_types.specs.declared.ballot.Ballot.{Ballot}
 use Rattle.scp_types.specs.declared.names.NodeId.{NodeId}
 use Rattle.scp_quorum.specs.NodeSet.{node_cmp}
 use Rattle.scp_quorum.specs.QuorumTree.{QuorumTree}
+use Rattle.scp_quorum.specs.SharedSet.{SharedSet}
 use Rattle.scp_envelope.specs.declared.statement.Pledges.{Pledges}
 use Rattle.scp_envelope.specs.declared.statement.Pledges.TheVariants.{Prepare, Confirm, Externalize, Nominate}
 use Rattle.scp_envelope.specs.declared.statement.Envelope.{Envelope as Enveloped}
@@ -42,7 +43,7 @@ use Rattle.scp_slot.specs.declared.output.Verdict.{Verdict}
 use Rattle.scp_slot.specs.Judged.{HasInvalid, IsInvalid}
 use Rattle.scp_slot.specs.Limits.{KeepsLimits}
 use Rattle.scp_slot.specs.Slot.{SlotView, Begins, HoldsShort}
-use Rattle.scp_slot.specs.Takes.{Rests, Ballots, BallotsRest, PassesOn, Nominates, Shared, HearsKind, TakesEnvelope, TakesInput, Takes, ballots_given}
+use Rattle.scp_slot.specs.Takes.{Rests, Ballots, BallotsRest, PassesOn, Nominates, HearsKind, TakesEnvelope, TakesInput, Takes, ballots_given}
 
 no_one : {A : Type 0} (R : A → Type 0) (o : Option A) → o ≡ None → ForSome o R
 no_one R o none = λ x e. none_some o x none e
@@ -229,7 +230,7 @@ short_rests verdict old out new holds rests = (
 
 -- ---- each input
 
-short_kind : (kind : StatementKind) (level : List ℕ → Level) (combined : List (List ℕ) → List ℕ) (e : Enveloped) (set : Shared) (old : SlotView) (out : SlotOutput) (new : SlotView) → kind_of_pledges e.statement.pledges ≡ kind → ¬ (HasInvalid level e.statement.pledges)
+short_kind : (kind : StatementKind) (level : List ℕ → Level) (combined : List (List ℕ) → List ℕ) (e : Enveloped) (set : SharedSet) (old : SlotView) (out : SlotOutput) (new : SlotView) → kind_of_pledges e.statement.pledges ≡ kind → ¬ (HasInvalid level e.statement.pledges)
     → Given level combined old.nomination new.nomination → HoldsShort old → HearsKind kind combined e set old out new → Holds out new
 short_kind Nominating level combined e set old out new is good given holds hears = short_nominated level combined old out new given holds (same_option IsShortValue old.nomination.proposal new.nomination.proposal hears.proposal holds.proposal) hears.nominates
 short_kind Balloting level combined e set old out new is good given holds hears =
@@ -237,7 +238,7 @@ short_kind Balloting level combined e set old out new is good given holds hears 
     (hear_short e set.value old.ballots new.ballots (ballots_given out) (says_valid level given.valid e.statement.pledges is good) (were_short old holds) hears.exact)
     hears.ballots hears.nomination hears.emitted
 
-short_envelope : (level : List ℕ → Level) (combined : List (List ℕ) → List ℕ) (e : Enveloped) (set : Shared) (old : SlotView) (out : SlotOutput) (new : SlotView) → Given level combined old.nomination new.nomination → HoldsShort old → TakesEnvelope level combined e set old out new → Holds out new
+short_envelope : (level : List ℕ → Level) (combined : List (List ℕ) → List ℕ) (e : Enveloped) (set : SharedSet) (old : SlotView) (out : SlotOutput) (new : SlotView) → Given level combined old.nomination new.nomination → HoldsShort old → TakesEnvelope level combined e set old out new → Holds out new
 short_envelope level combined e set old out new given holds takes = elim takes [
   | inl own ↦ short_rests _ old out new holds own.1
   | inr a ↦ elim a.1 [

@@ -6,6 +6,7 @@ use Rattle.std.proofs.lemmas.Bool.{cases_lt}
 use Rattle.scp_types.specs.declared.names.NodeId.{NodeId}
 use Rattle.scp_quorum.specs.QuorumTree.{QuorumTree}
 use Rattle.scp_driver.specs.declared.driver.Level.{Level}
+use Rattle.scp_quorum.specs.SharedSet.{SharedSet}
 use Rattle.scp_envelope.specs.Sane.{IsSane}
 use Rattle.scp_envelope.specs.declared.statement.Envelope.{Envelope as Enveloped}
 use Rattle.scp_envelope.specs.declared.statement.Envelope.{Envelope as AnEnvelope}
@@ -22,10 +23,11 @@ use Rattle.scp_slot.specs.declared.output.SlotOutput.{SlotOutput}
 use Rattle.scp_slot.specs.declared.output.Verdict.{Verdict}
 use Rattle.scp_slot.specs.declared.output.Verdict.TheVariants.{Fresh, Stale, Own, BadStatement, BadValue, Idle}
 use Rattle.scp_slot.specs.Newest.{Puts}
-use Rattle.scp_slot.specs.Judged.{HasInvalid, IsBehind, IsJudged}
+use Rattle.scp_slot.specs.Judged.{HasInvalid, IsBehind}
+use Rattle.scp_slot.specs.inside.Judged.{IsJudged}
 use Rattle.scp_slot.specs.declared.state.State.{State}
 use Rattle.scp_slot.specs.Slot.{SlotView, IsRunning, view_of}
-use Rattle.scp_slot.specs.Takes.{Rests, Cases, Ballots, BallotsRest, Candidate, PassesOn, Nominates, nomination_given, ballots_given, IsSameMachine, Shared, Enters, Times, HearsNomination, HearsBallot, HearsFresh, TakesEnvelope, last_of}
+use Rattle.scp_slot.specs.Takes.{Rests, Cases, Ballots, BallotsRest, Candidate, PassesOn, Nominates, nomination_given, ballots_given, IsSameMachine, Enters, Times, HearsNomination, HearsBallot, HearsFresh, TakesEnvelope, last_of}
 
 pub after : {D : Type 0} (s t : State D) → s ≡ t → view_of s false ≡ view_of t false
 after {D} s t e = ap (λ (x : State D). view_of x false) e
@@ -33,7 +35,7 @@ after {D} s t e = ap (λ (x : State D). view_of x false) e
 pub same_nominator : {D : Type 0} (s t : State D) → s ≡ t → s.nominator ≡ t.nominator
 same_nominator {D} s t e = ap (λ (x : State D). x.nominator) e
 
-pub enters_as : (e : Enveloped) (set : Shared) (old mid new : SlotView) → new.newest ≡ mid.newest → Enters e set old mid → Enters e set old new
+pub enters_as : (e : Enveloped) (set : SharedSet) (old mid new : SlotView) → new.newest ≡ mid.newest → Enters e set old mid → Enters e set old new
 enters_as e set old mid new is enters = record { heard = enters.heard; statement = enters.statement; with_set = enters.with_set; puts = subst (λ (n : StatementKind → NodeId → Option Heard). Puts old.newest n enters.heard) (sym is) enters.puts }
 
 pub moves_by : (old : SlotView) (b : ballot.Ballots) (out : SlotOutput) (new : SlotView) (given : Balloted) → ballots_given out ≡ given → new.ballots ≡ b → new.more ≡ given.more → new.decided ≡ is_some given.decided
@@ -94,7 +96,7 @@ pub round_left : (rounds nodes : ℕ) → ¬ (nodes ≤ rounds) → rounds < nod
 round_left rounds nodes not = elim (cases_lt rounds nodes) [ inl lt ↦ lt | inr ge ↦ absurd (not ge) ]
 
 -- the verdict on an envelope, and what comes of it
-pub judged_rests : (level : List ℕ → Level) (combined : List (List ℕ) → List ℕ) (e : Enveloped) (set : Shared) (verdict : Verdict) (old : SlotView) (out : SlotOutput) (new : SlotView) → IsJudged level old.me (last_of old e.statement) e.statement verdict → verdict ≢ Fresh → Rests verdict old out new
+pub judged_rests : (level : List ℕ → Level) (combined : List (List ℕ) → List ℕ) (e : Enveloped) (set : SharedSet) (verdict : Verdict) (old : SlotView) (out : SlotOutput) (new : SlotView) → IsJudged level old.me (last_of old e.statement) e.statement verdict → verdict ≢ Fresh → Rests verdict old out new
     → TakesEnvelope level combined e set old out new
 judged_rests level combined e set verdict old out new judged stale rests = elim judged [
   | inl own ↦ inl (own.0, turned _ own.1)
@@ -116,7 +118,7 @@ judged_rests level combined e set verdict old out new judged stale rests = elim 
     turned : (w : Verdict) → verdict ≡ w → Rests w old out new
     turned w is = subst (λ (x : Verdict). Rests x old out new) is rests
 
-pub judged_fresh : (level : List ℕ → Level) (combined : List (List ℕ) → List ℕ) (e : Enveloped) (set : Shared) (verdict : Verdict) (old : SlotView) (out : SlotOutput) (new : SlotView) → IsJudged level old.me (last_of old e.statement) e.statement verdict → verdict ≡ Fresh → HearsFresh combined e set old out new
+pub judged_fresh : (level : List ℕ → Level) (combined : List (List ℕ) → List ℕ) (e : Enveloped) (set : SharedSet) (verdict : Verdict) (old : SlotView) (out : SlotOutput) (new : SlotView) → IsJudged level old.me (last_of old e.statement) e.statement verdict → verdict ≡ Fresh → HearsFresh combined e set old out new
     → TakesEnvelope level combined e set old out new
 judged_fresh level combined e set verdict old out new judged fresh hears = elim judged [
   | inl own ↦ absurd (let t : Own ≡ Fresh = sym own.1 ∙ fresh in cc)
@@ -142,7 +144,7 @@ pub hears_ballot : (old new : ballot.Ballots) (e : Enveloped) (q : QuorumTree) �
     → ballot.Hears old.board new.board e.statement.node e.statement.pledges (counted_of_other e.statement.node e.statement.pledges q)
 hears_ballot old new e q other slot kind undecided hears = elim hears [ inl heard ↦ heard.1 | inr not ↦ absurd (not.0 (other, slot, kind, undecided)) ]
 
-pub heard_by : (e : Enveloped) (set : Shared) (old mid : SlotView) (b : ballot.Ballots) (out : SlotOutput) (new : SlotView) (given : Balloted) → IsRunning old → old.decided ≡ false → e.statement.node ≢ old.me → e.statement.slot.0 ≡ old.slot → kind_of_pledges e.statement.pledges ≡ Balloting
+pub heard_by : (e : Enveloped) (set : SharedSet) (old mid : SlotView) (b : ballot.Ballots) (out : SlotOutput) (new : SlotView) (given : Balloted) → IsRunning old → old.decided ≡ false → e.statement.node ≢ old.me → e.statement.slot.0 ≡ old.slot → kind_of_pledges e.statement.pledges ≡ Balloting
     → mid.me ≡ old.me → mid.slot ≡ old.slot → mid.nomination ≡ old.nomination → mid.ballots ≡ old.ballots → Enters e set old mid
     → new.me ≡ mid.me → new.slot ≡ mid.slot → new.nomination ≡ mid.nomination → new.newest ≡ mid.newest → new.ballots ≡ b → new.more ≡ given.more → new.decided ≡ is_some given.decided
     → ballots_given out ≡ given → out.emitted.nomination ≡ None → out.verdict ≡ Fresh
@@ -160,7 +162,7 @@ heard_by e set old mid b out new given runs undecided other slot kind m_me m_slo
   verdict = fresh;
 }
 
-pub nominated_by : (combined : List (List ℕ) → List ℕ) (e : Enveloped) (set : Shared) (old noted mid : SlotView) (out : SlotOutput) (new : SlotView) (given : Nominated)
+pub nominated_by : (combined : List (List ℕ) → List ℕ) (e : Enveloped) (set : SharedSet) (old noted mid : SlotView) (out : SlotOutput) (new : SlotView) (given : Nominated)
     → noted.me ≡ old.me → noted.slot ≡ old.slot → noted.nomination ≡ old.nomination → mid.ballots ≡ old.ballots → mid.more ≡ old.more → mid.decided ≡ old.decided → Enters e set old noted
     → new.me ≡ noted.me → new.slot ≡ noted.slot → new.nomination ≡ mid.nomination → new.newest ≡ noted.newest
     → nominate.Advances combined (nominate.own noted.nomination) noted.nomination.lists mid.nomination given → nominate.KeepsMaking noted.nomination mid.nomination → mid.nomination.failed ≡ false

@@ -20,7 +20,7 @@ use Rattle.scp_slot.specs.declared.newest.Heard.{Heard}
 use Rattle.scp_slot.specs.declared.output.SlotOutput.{SlotOutput}
 use Rattle.scp_slot.specs.Newest.{Puts}
 use Rattle.scp_slot.specs.Slot.{SlotView, Shows, IsRunning, Begins}
-use Rattle.scp_slot.specs.Takes.{Ballots, BallotsRest, Candidate, PassesOn, Nominates, IsSameMachine, Shared, Enters}
+use Rattle.scp_slot.specs.Takes.{Ballots, BallotsRest, Candidate, PassesOn, Nominates, IsSameMachine, Enters}
 
 some_is : {A : Type 0} (o : Option A) → is_some o ≡ true → IsSome o
 some_is (Some x) e = search rules

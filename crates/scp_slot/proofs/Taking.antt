@@ -7,6 +7,7 @@ use Rattle.scp_types.specs.declared.names.NodeId.{NodeId}
 use Rattle.scp_quorum.specs.NodeSet.{node_cmp}
 use Rattle.scp_quorum.specs.QuorumTree.{QuorumTree}
 use Rattle.scp_driver.specs.declared.driver.Level.{Level}
+use Rattle.scp_quorum.specs.SharedSet.{SharedSet}
 use Rattle.scp_envelope.specs.declared.statement.Pledges.{Pledges}
 use Rattle.scp_envelope.specs.declared.statement.Statement.{Statement}
 use Rattle.scp_envelope.specs.declared.statement.Envelope.{Envelope as Enveloped}
@@ -28,13 +29,13 @@ use Rattle.scp_slot.specs.declared.output.SlotOutput.{SlotOutput}
 use Rattle.scp_slot.specs.declared.output.Verdict.{Verdict}
 use Rattle.scp_slot.specs.Newest.{Puts}
 use Rattle.scp_slot.specs.Slot.{SlotView, Shows, IsRunning, Begins}
-use Rattle.scp_slot.specs.Takes.{Rests, Cases, Ballots, BallotsRest, PassesOn, Nominates, IsSameMachine, Shared, Enters, Proposes, AddsRound, Times, HearsNomination, HearsBallot, HearsKind, HearsFresh, TakesEnvelope, TakesInput, Takes, Decides, quiet}
+use Rattle.scp_slot.specs.Takes.{Rests, Cases, Ballots, BallotsRest, PassesOn, Nominates, IsSameMachine, Enters, Proposes, AddsRound, Times, HearsNomination, HearsBallot, HearsKind, HearsFresh, TakesEnvelope, TakesInput, Takes, Decides, quiet}
 use Rattle.scp_slot.proofs.Running.{none_not, shows_kept, shows_put, running_nominated, running_balloted}
 
 running_rests : (verdict : Verdict) (old : SlotView) (out : SlotOutput) (new : SlotView) → IsRunning old → Rests verdict old out new → IsRunning new
 running_rests verdict old out new runs rests = subst (λ (v : SlotView). IsRunning v) (sym rests.same) runs
 
-running_kind : (kind : StatementKind) (combined : List (List ℕ) → List ℕ) (e : Enveloped) (set : Shared) (old : SlotView) (out : SlotOutput) (new : SlotView) → kind_of_pledges e.statement.pledges ≡ kind → IsRunning old → old.decided ≡ false → HearsKind kind combined e set old out new → IsRunning new
+running_kind : (kind : StatementKind) (combined : List (List ℕ) → List ℕ) (e : Enveloped) (set : SharedSet) (old : SlotView) (out : SlotOutput) (new : SlotView) → kind_of_pledges e.statement.pledges ≡ kind → IsRunning old → old.decided ≡ false → HearsKind kind combined e set old out new → IsRunning new
 running_kind Nominating combined e set old out new is runs undecided hears =
     let h = hears.enters.heard in
     let same_kind : kind_of_pledges h.statement.pledges ≡ Nominating = ap (λ (s : Statement). kind_of_pledges s.pledges) hears.enters.statement ∙ is in
@@ -52,7 +53,7 @@ running_kind Balloting combined e set old out new is runs undecided hears =
     (shows_put old.ballots.board new.ballots.board (old.newest Balloting) (new.newest Balloting) h e.statement.node e.statement.pledges set.value hears.ballots.advances.making.me hears.hears.statements hears.hears.sets puts (ap (λ (s : Statement). s.pledges) hears.enters.statement) hears.enters.with_set runs.statements)
     (λ v. hears.enters.puts.other_kind Nominating (λ other. let t : Nominating ≡ Balloting = other ∙ same_kind in absurd cc) v)
 
-running_envelope : (level : List ℕ → Level) (combined : List (List ℕ) → List ℕ) (e : Enveloped) (set : Shared) (old : SlotView) (out : SlotOutput) (new : SlotView) → IsRunning old → old.decided ≡ false → TakesEnvelope level combined e set old out new → IsRunning new
+running_envelope : (level : List ℕ → Level) (combined : List (List ℕ) → List ℕ) (e : Enveloped) (set : SharedSet) (old : SlotView) (out : SlotOutput) (new : SlotView) → IsRunning old → old.decided ≡ false → TakesEnvelope level combined e set old out new → IsRunning new
 running_envelope level combined e set old out new runs undecided takes = elim takes [
   | inl own ↦ running_rests _ old out new runs own.1
   | inr a ↦ elim a.1 [
@@ -148,11 +149,11 @@ decides_passed : (composite : Option (List ℕ)) (old : SlotView) (out : SlotOut
 decides_passed None old out new passes = decides_not old out new passes.ballots passes.decided
 decides_passed (Some v) old out new passes = decides_moves old out new passes.ballots
 
-decides_kind : (kind : StatementKind) (combined : List (List ℕ) → List ℕ) (e : Enveloped) (set : Shared) (old : SlotView) (out : SlotOutput) (new : SlotView) → HearsKind kind combined e set old out new → Decides old out new
+decides_kind : (kind : StatementKind) (combined : List (List ℕ) → List ℕ) (e : Enveloped) (set : SharedSet) (old : SlotView) (out : SlotOutput) (new : SlotView) → HearsKind kind combined e set old out new → Decides old out new
 decides_kind Nominating combined e set old out new hears = decides_passed hears.nominates.composite old out new hears.nominates.passed
 decides_kind Balloting combined e set old out new hears = decides_moves old out new hears.ballots
 
-decides_envelope : (level : List ℕ → Level) (combined : List (List ℕ) → List ℕ) (e : Enveloped) (set : Shared) (old : SlotView) (out : SlotOutput) (new : SlotView) → TakesEnvelope level combined e set old out new → Decides old out new
+decides_envelope : (level : List ℕ → Level) (combined : List (List ℕ) → List ℕ) (e : Enveloped) (set : SharedSet) (old : SlotView) (out : SlotOutput) (new : SlotView) → TakesEnvelope level combined e set old out new → Decides old out new
 decides_envelope level combined e set old out new takes = elim takes [
   | inl own ↦ decides_rests _ old out new own.1
   | inr a ↦ elim a.1 [

@@ -6,11 +6,7 @@ use Rattle.scp_envelope.specs.declared.statement.Statement.{Statement}
 use Rattle.scp_envelope.specs.Newer.{IsNewer}
 use Rattle.scp_driver.specs.declared.driver.Level.{Level}
 use Rattle.scp_driver.specs.declared.driver.Level.TheVariants.{Invalid}
-use Rattle.scp_types.specs.declared.names.NodeId.{NodeId}
-use Rattle.scp_envelope.specs.Sane.{IsSane}
 use Rattle.scp_slot.specs.declared.newest.Heard.{Heard}
-use Rattle.scp_slot.specs.declared.output.Verdict.{Verdict}
-use Rattle.scp_slot.specs.declared.output.Verdict.TheVariants.{Fresh, Stale, Own, BadStatement, BadValue}
 
 -- the driver calls the value invalid
 abbrev pub IsInvalid : (List ℕ → Level) → List ℕ → Type 0
@@ -26,16 +22,3 @@ HasInvalid level (Nominate p) = ⊥
 -- there is a newest one, and the statement isn't newer than it
 abbrev pub IsBehind : Option Heard → Statement → Type 0
 IsBehind newest s = IsSomeAnd newest (λ h. ¬ (IsNewer h.statement s))
-
--- this verdict where it fits, else what the later ones say
-abbrev pub FirstOf : Type 0 → Verdict → (Verdict → Type 0) → Verdict → Type 0
-FirstOf fits first later verdict = (fits × (verdict ≡ first)) ⊎ ((¬ fits) × later verdict)
-
--- the verdict on an envelope's statement, by the newest of its node and kind
-abbrev pub IsJudged : (List ℕ → Level) → NodeId → Option Heard → Statement → Verdict → Type 0
-IsJudged level me newest s =
-    FirstOf (s.node ≡ me) Own
-    (FirstOf (¬ (IsSane s.pledges)) BadStatement
-    (FirstOf (HasInvalid level s.pledges) BadValue
-    (FirstOf (IsBehind newest s) Stale
-    (λ verdict. verdict ≡ Fresh))))

@@ -3,3 +3,4 @@ pub mod Judged
 pub mod Slot
 pub mod Takes
 pub mod Limits
+pub mod inside

@@ -19,6 +19,3 @@ newest_of n Balloting v = node_map.get node_cmp n.ballots v
 pub record Puts (old new : StatementKind → NodeId → Option Heard) (h : Heard) : Type 0 where
   pub its_kind : (v : NodeId) → new (kind_of_pledges h.statement.pledges) v ≡ cond (is_at (node_cmp h.statement.node) v) (Some h) (old (kind_of_pledges h.statement.pledges) v)
   pub other_kind : (kind : StatementKind) → kind ≢ kind_of_pledges h.statement.pledges → (v : NodeId) → new kind v ≡ old kind v
-
-abbrev pub Enters : Newest → Newest → Heard → Type 0
-Enters old new h = Puts (newest_of old) (newest_of new) h

@@ -14,6 +14,7 @@ use Rattle.scp_ballot_rules.specs.Owed.{OwesNothing}
 use Rattle.scp_ballot_rules.specs.Values.{BoardSaysOnly, StateSaysOnly}
 use Rattle.scp_ballot.specs.Balloting as ballot
 use Rattle.scp_ballot.specs.Balloting.{Ballots, ballots, IsDecided, HasBallot}
+use Rattle.scp_ballot.specs.Outcome.{BeginsBlank}
 use Rattle.scp_slot.specs.declared.newest.Heard.{Heard}
 use Rattle.scp_slot.specs.declared.state.State.{State}
 use Rattle.scp_slot.specs.declared.machine.SlotMachine.{SlotMachine}
@@ -32,13 +33,16 @@ pub record SlotView : Type 0 where
   pub more : Bool
   pub failed : Bool
 
+-- what contracts see of a slot's machine, of its state
 abbrev pub view_of : {D : Type 0} → State D → Bool → SlotView
 view_of s failed =
     record { me = s.me; slot = s.slot.0; nomination = nomination s.nominator; ballots = ballots s.balloter; newest = newest_of s.newest; decided = s.decided; more = s.more; failed = failed }
 
+-- what contracts see of a slot's machine
 abbrev pub slot_view : {D : Type 0} → SlotMachine D → SlotView
 slot_view m = view_of m.state.value m.failed
 
+-- the machine's driver
 abbrev pub driver_of : {D : Type 0} → SlotMachine D → D
 driver_of m = nominate.driver_of m.state.value.nominator
 
@@ -87,6 +91,8 @@ pub record HoldsShort (v : SlotView) : Type 0 where
   pub board : BoardSaysOnly IsShortValue v.ballots.board
   pub state : StateSaysOnly IsShortValue v.ballots.state
 
+-- of a machine that hasn't failed, by the driver's levels and places: what holds of it between inputs, and that its values have at most
+-- 4,096 bytes each
 abbrev pub IsSound : {D : Type 0} → (D → ℕ → List ℕ → Level) → (D → ℕ → ℕ → ℕ → ℕ) → SlotMachine D → Type 0
 IsSound level place m = m.failed ≡ false → IsWorking level place m.state.value × HoldsShort (slot_view m)
 
@@ -96,6 +102,7 @@ pub record Begins (node : NodeId) (number : ℕ) (set : QuorumTree) (v : SlotVie
   pub slot : v.slot ≡ number
   pub nomination : nominate.Begins node number set v.nomination
   pub ballots : ballot.Begins node number set v.ballots
+  pub blank : BeginsBlank v.ballots
   pub newest : (kind : StatementKind) (u : NodeId) → v.newest kind u ≡ None
   pub decided : v.decided ≡ false
   pub more : v.more ≡ false

@@ -1,9 +1,7 @@
 -- What one input does to the machine of a slot.
-use Rattle.std.specs.Prelude.{◌≡◌, ◌≢◌, ◌<◌, ◌≤◌, ◌+◌, ◌⊎◌, ◌↔◌, ℕ, List, length, Bool, true, false, Option, Some, None, IsSome, is_some}
+use Rattle.std.specs.Prelude.{◌≡◌, ◌≢◌, ◌≤◌, ◌+◌, ◌⊎◌, ◌↔◌, ℕ, List, length, Bool, true, false, Option, Some, None, IsSome, is_some}
 use Rattle.std.specs.Option.{ForSome}
-use Rattle.std.specs.declared.sync.Arc.{Arc}
-use Rattle.std.specs.Global.{Global}
-use Rattle.scp_quorum.specs.declared.sane_set.SaneSet.{SaneSet}
+use Rattle.scp_quorum.specs.SharedSet.{SharedSet}
 use Rattle.scp_envelope.specs.declared.statement.Statement.{Statement}
 use Rattle.scp_envelope.specs.declared.statement.Envelope.{Envelope as Enveloped}
 use Rattle.scp_envelope.specs.Sane.{IsSane}
@@ -73,6 +71,7 @@ pub record Candidate (value : List ℕ) (old : SlotView) (out : SlotOutput) (new
   pub others : ballot.KeepsOthers old.ballots.board new.ballots.board
   pub exact : ComposesExactly value old.ballots new.ballots (ballots_given out)
 
+-- what nomination's composite, if there is one, makes of the ballots
 abbrev pub PassesOn : Option (List ℕ) → SlotView → SlotOutput → SlotView → Type 0
 PassesOn None old out new = BallotsRest old out new
 PassesOn (Some composite) old out new = Candidate composite old out new
@@ -126,18 +125,15 @@ pub record Times (old : SlotView) (out : SlotOutput) (new : SlotView) : Type 0 w
   pub newest : new.newest ≡ old.newest
   pub verdict : Cases (IsSome out.emitted.ballot) (out.verdict ≡ Fresh) (out.verdict ≡ Idle)
 
-abbrev pub Shared : Type 0
-Shared = Arc SaneSet Global
-
 -- the statement with its set stands in the place of the newest of its node and kind
-pub record Enters (e : Enveloped) (set : Shared) (old new : SlotView) : Type 0 where
+pub record Enters (e : Enveloped) (set : SharedSet) (old new : SlotView) : Type 0 where
   pub heard : Heard
   pub statement : heard.statement ≡ e.statement
   pub with_set : heard.set.value ≡ set.value
   pub puts : Puts old.newest new.newest heard
 
 -- A fresh NOMINATE.
-pub record HearsNomination (combined : List (List ℕ) → List ℕ) (e : Enveloped) (set : Shared) (old : SlotView) (out : SlotOutput) (new : SlotView) : Type 0 where
+pub record HearsNomination (combined : List (List ℕ) → List ℕ) (e : Enveloped) (set : SharedSet) (old : SlotView) (out : SlotOutput) (new : SlotView) : Type 0 where
   pub machine : IsSameMachine old new
   pub nominates : Nominates combined old out new
   pub proposal : new.nomination.proposal ≡ old.nomination.proposal
@@ -146,7 +142,7 @@ pub record HearsNomination (combined : List (List ℕ) → List ℕ) (e : Envelo
   pub enters : Enters e set old new
 
 -- A fresh ballot statement.
-pub record HearsBallot (e : Enveloped) (set : Shared) (old : SlotView) (out : SlotOutput) (new : SlotView) : Type 0 where
+pub record HearsBallot (e : Enveloped) (set : SharedSet) (old : SlotView) (out : SlotOutput) (new : SlotView) : Type 0 where
   pub machine : IsSameMachine old new
   pub ballots : Ballots old out new
   pub composite : new.ballots.composite ≡ old.ballots.composite
@@ -157,11 +153,13 @@ pub record HearsBallot (e : Enveloped) (set : Shared) (old : SlotView) (out : Sl
   pub enters : Enters e set old new
   pub verdict : out.verdict ≡ Fresh
 
-abbrev pub HearsKind : StatementKind → (List (List ℕ) → List ℕ) → Enveloped → Shared → SlotView → SlotOutput → SlotView → Type 0
+-- of a nomination, or of a ballot statement
+abbrev pub HearsKind : StatementKind → (List (List ℕ) → List ℕ) → Enveloped → SharedSet → SlotView → SlotOutput → SlotView → Type 0
 HearsKind Nominating combined e set old out new = HearsNomination combined e set old out new
 HearsKind Balloting combined e set old out new = HearsBallot e set old out new
 
-abbrev pub HearsFresh : (List (List ℕ) → List ℕ) → Enveloped → Shared → SlotView → SlotOutput → SlotView → Type 0
+-- what a fresh statement makes of the machine, by its kind
+abbrev pub HearsFresh : (List (List ℕ) → List ℕ) → Enveloped → SharedSet → SlotView → SlotOutput → SlotView → Type 0
 HearsFresh combined e set old out new = HearsKind (kind_of_pledges e.statement.pledges) combined e set old out new
 
 -- the newest statement of the node and kind
@@ -169,7 +167,7 @@ abbrev pub last_of : SlotView → Statement → Option Heard
 last_of v s = v.newest (kind_of_pledges s.pledges) s.node
 
 -- An envelope: its verdict is the first that fits, and only a fresh one is taken in.
-abbrev pub TakesEnvelope : (List ℕ → Level) → (List (List ℕ) → List ℕ) → Enveloped → Shared → SlotView → SlotOutput → SlotView → Type 0
+abbrev pub TakesEnvelope : (List ℕ → Level) → (List (List ℕ) → List ℕ) → Enveloped → SharedSet → SlotView → SlotOutput → SlotView → Type 0
 TakesEnvelope level combined e set old out new =
     Cases (e.statement.node ≡ old.me) (Rests Own old out new)
     (Cases (¬ (IsSane e.statement.pledges)) (Rests BadStatement old out new)
@@ -197,6 +195,7 @@ NominatesBy level extracted place old Round m = (nominate.nomination m ≡ old) 
 NominatesBy level extracted place old Timer m = nominate.nomination m ≡ old
 NominatesBy level extracted place old (Envelope e set) m = (nominate.nomination m ≡ old) ⊎ nominate.ComesFromHearing level extracted place old e set.value m
 
+-- the nomination is as it was, or the steps of nomination lead to it from the board and the lists that it had
 abbrev pub NominatesExactly : {D : Type 0} → (D → ℕ → List ℕ → Level) → (D → ℕ → List ℕ → Option (List ℕ)) → (D → ℕ → ℕ → ℕ → ℕ) → SlotView → SlotInput → SlotMachine D → Type 0
 NominatesExactly level extracted place old input m = NominatesBy level extracted place old.nomination input m.state.value.nominator
 

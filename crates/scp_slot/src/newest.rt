@@ -30,7 +30,8 @@ pub(crate) struct Newest {
 }
 
 impl Newest {
-    ghost use Rattle.scp_slot.specs.Newest.{newest_of, Enters};
+    ghost use Rattle.scp_slot.specs.Newest.{newest_of};
+    ghost use Rattle.scp_slot.specs.inside.Newest.{Enters};
 
     /// Nothing was heard.
     pub(crate) fn new(alloc: Global) -> Newest

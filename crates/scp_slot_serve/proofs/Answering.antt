@@ -8,7 +8,8 @@ use Rattle.scp_slot.specs.declared.output.SlotInput.{SlotInput}
 use Rattle.scp_slot.specs.declared.output.SlotOutput.{SlotOutput}
 use Rattle.scp_slot.specs.Slot.{SlotView, Begins}
 use Rattle.scp_slot_serve.specs.declared.script.Setup.{Setup}
-use Rattle.scp_slot_serve.specs.Answers.{verdict_word, hex_word, node_word, decided_text, more_text, IsEmitted, IsOutput, Appends, IsAnswer, AreAnswers, Answers}
+use Rattle.scp_slot_serve.specs.Answers.{verdict_word, hex_word, node_word, decided_text, more_text, IsEmitted, IsOutput, IsAnswer, AreAnswers, Answers}
+use Rattle.scp_slot_serve.specs.inside.Answers.{Appends}
 
 -- what was added is added to by what comes next
 pub added : (s p n t u : List ℕ) → t ≡ s ++ p → u ≡ t ++ n → u ≡ s ++ (p ++ n)

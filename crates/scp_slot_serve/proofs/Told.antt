@@ -2,7 +2,7 @@
 use Rattle.std.proofs.Common.{◌≡◌, ◌≢◌, ◌⊎◌, ◌≤◌, inl, inr, ℕ, refl, arith}
 use Rattle.scp_types.specs.declared.fault.Fault.{Fault}
 use Rattle.scp_types.specs.declared.fault.Fault.TheVariants.{NoMemory, Malformed, TooLong, Insane, Full, NotOpen, AlreadyOpen, LivesSpent, BadConfig, Failed, JournalFull, BadScript, Refused, Device}
-use Rattle.scp_slot_serve.specs.Serving.{status_of}
+use Rattle.scp_slot_serve.specs.inside.Serving.{status_of}
 
 status_is : (fault : Fault) → (status_of fault ≡ 1) ⊎ (status_of fault ≡ 3)
 status_is NoMemory = inr refl

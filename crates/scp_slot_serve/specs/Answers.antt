@@ -18,6 +18,7 @@ use Rattle.scp_slot.specs.Takes.{Takes, Decides}
 use Rattle.scp_slot_serve.specs.declared.script.Script.{Script}
 use Rattle.scp_slot_serve.specs.declared.script.Setup.{Setup}
 
+-- the word of a verdict
 abbrev pub verdict_word : Verdict → List ℕ
 verdict_word Fresh = codes "fresh"
 verdict_word Stale = codes "stale"
@@ -31,6 +32,7 @@ abbrev pub hex_word : List ℕ → List ℕ
 hex_word [] = codes "-"
 hex_word (byte ∷ bytes) = encode_lower (byte ∷ bytes)
 
+-- the line of an emitted envelope of these bytes
 abbrev pub emitted_line : List ℕ → List ℕ
 emitted_line bytes = codes "emit " ++ hex_word bytes ++ codes "\n"
 
@@ -45,6 +47,7 @@ abbrev pub IsEmitted : Option Envelope → List ℕ → Type 0
 IsEmitted None text = text ≡ []
 IsEmitted (Some e) text = IsEnvelopeLine e text
 
+-- a node's id in digits, behind a space
 abbrev pub node_word : NodeId → List ℕ
 node_word node = codes " " ++ hex_word node.0
 
@@ -52,10 +55,12 @@ node_word node = codes " " ++ hex_word node.0
 abbrev pub decided_line : Certified → List ℕ
 decided_line d = codes "decided " ++ hex_word d.value ++ codes " " ++ decimal d.n ++ flat_map node_word d.quorum.keys ++ codes "\n"
 
+-- the line of a decision, and none without one
 abbrev pub decided_text : Option Certified → List ℕ
 decided_text None = []
 decided_text (Some d) = decided_line d
 
+-- the line `more`, where it is so
 abbrev pub more_text : Bool → List ℕ
 more_text true = codes "more\n"
 more_text false = []
@@ -67,10 +72,6 @@ pub record IsOutput (out : SlotOutput) (text : List ℕ) : Type 0 where
   pub nominated : IsEmitted out.emitted.nomination nomination
   pub balloted : IsEmitted out.emitted.ballot ballot
   pub whole : text ≡ verdict_word out.verdict ++ codes "\n" ++ nomination ++ ballot ++ decided_text out.decided ++ more_text out.more
-
--- a text with P was added
-abbrev pub Appends : (List ℕ → Type 0) → List ℕ → List ℕ → Type 0
-Appends P old new = (text : List ℕ) × P text × (new ≡ old ++ text)
 
 -- the machine takes the input, decides where its ballots do, and the text is what it gives
 pub record IsShown (level : ℕ → List ℕ → Level) (combined : ℕ → List (List ℕ) → List ℕ) (input : SlotInput) (old : SlotView) (text : List ℕ) (new : SlotView) : Type 0 where
@@ -97,6 +98,7 @@ pub record Answers (level : ℕ → List ℕ → Level) (combined : ℕ → List
   pub begins : Begins setup.me setup.slot.0 setup.set.value first
   pub answers : AreAnswers level combined inputs first text last
 
+-- what is answered to a script's setup and its inputs; to a script of nothing, nothing
 abbrev pub IsPlayedBy : Option Setup → List SlotInput → List ℕ → Type 0
 IsPlayedBy None inputs text = text ≡ []
 IsPlayedBy (Some setup) inputs text = Answers (λ slot. kv_level) (λ slot. greatest) setup inputs text

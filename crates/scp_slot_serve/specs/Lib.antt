@@ -1,2 +1,3 @@
 pub mod Serving
 pub mod Answers
+pub mod inside

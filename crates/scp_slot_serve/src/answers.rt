@@ -2,7 +2,8 @@
 ghost use Rattle.std.specs.Prelude.{◌≡◌, ◌↔◌, ◌++◌, IsTrue, IfOk, OnOk, string_bytes, flat_map, codes};
 ghost use Rattle.scp_slot.specs.Slot.{IsSound, slot_view, driver_of};
 ghost use Rattle.scp_slot.specs.Takes.{IsOfSlot};
-ghost use Rattle.scp_slot_serve.specs.Answers.{verdict_word, hex_word, node_word, emitted_line, decided_line, more_text, decided_text, IsEnvelopeLine, IsEmitted, IsOutput, Appends, IsAnswer, Answers, IsPlayed};
+ghost use Rattle.scp_slot_serve.specs.Answers.{verdict_word, hex_word, node_word, emitted_line, decided_line, more_text, decided_text, IsEnvelopeLine, IsEmitted, IsOutput, IsAnswer, Answers, IsPlayed};
+ghost use Rattle.scp_slot_serve.specs.inside.Answers.{Appends};
 
 use crate::script::{Script, Setup};
 use scp_ballot::Certified;

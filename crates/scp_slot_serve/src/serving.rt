@@ -1,6 +1,6 @@
 //! What the words of a command line are answered with.
 ghost use Rattle.std.specs.Prelude.{◌≡◌, ◌≢◌, ◌≤◌, IfOk, string_bytes};
-ghost use Rattle.scp_slot_serve.specs.Serving.{line_of, status_of};
+ghost use Rattle.scp_slot_serve.specs.inside.Serving.{line_of, status_of};
 
 use crate::answers::play;
 use crate::asked::{Asked, read_words};

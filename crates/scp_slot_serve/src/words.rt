@@ -5,13 +5,10 @@ ghost use Rattle.scp_slot_serve.specs.Serving.{lines_of};
 use hex::FromHexError;
 use scp_envelope::{Envelope, decode};
 use scp_quorum::{QuorumSet, SaneSet};
-use scp_types::{Fault, NodeId, Value};
+use scp_types::{Fault, NodeId, VALUE_LIMIT, Value};
 use std::alloc::{AllocError, Global};
 use std::str;
 use std::sync::Arc;
-
-/// The most bytes of a value (this project's profile).
-const VALUE_LIMIT: usize = 4096;
 
 /// The lines of a text.
 pub fn lines<'a>(alloc: Global, text: &'a [u8]) -> Result<Vec<&'a [u8]>, AllocError>

@@ -5,7 +5,7 @@ use On::*;
 use Verdict::*;
 use scp_driver::KvDriver;
 use scp_envelope::{Envelope, Externalize, Nominate, Pledges, Signature, Statement, ValueList};
-use scp_ledger::{Ledger, Onward, Origin, Outgoing, SharedDecision, Took, Verdict};
+use scp_ledger::{CommandFate, Ledger, Onward, Origin, Outgoing, SharedDecision, Took, Verdict};
 use scp_pending::{DropCause, Pending, Ready};
 use scp_quorum::{QuorumSet, SaneSet};
 use scp_types::{Ballot, ConnId, Fault, NodeId, Seq, SharedValue, Slot, Value};
@@ -369,6 +369,45 @@ fn took(alloc: Global, ledger: &mut Ledger<KvDriver>, act: Act) -> Result<Option
         Some(ready) => Ok(Some(ledger.take(ready)?)),
         None => Ok(None),
     }
+}
+
+/// Whether just this became of each, one after the other, on a ledger that took nothing.
+fn are_told(alloc: Global, acts: &[(Act, Option<CommandFate>)]) -> Result<bool, Fault> {
+    let mut ledger = ledger(alloc)?;
+    for (act, fate) in acts {
+        let Some(took) = took(alloc, &mut ledger, *act)? else {
+            return Ok(false);
+        };
+        if took.command != *fate {
+            return Ok(false);
+        }
+    }
+    Ok(true)
+}
+
+#[test]
+fn commands_are_told_what_became_of_them(rt: HostRuntime) -> Result<(), Fail> {
+    let acts = [
+        (Proposes(1, false), Some(CommandFate::BadValue)),
+        (Proposes(1, true), Some(CommandFate::Proposed)),
+        (Proposes(1, true), Some(CommandFate::ProposedBefore)),
+        (Rounds(1), Some(CommandFate::RoundAdded)),
+        (Rounds(1), Some(CommandFate::NoRoundLeft)),
+        (Times(1), Some(CommandFate::NoBallot)),
+        (Times(0), Some(CommandFate::OldSlot)),
+        (Rounds(17), Some(CommandFate::FarSlot)),
+        (Ask(0, 4), Some(CommandFate::Asked)),
+        (Ask(0, 4), Some(CommandFate::AskedBefore)),
+        (Ask(0, 17), Some(CommandFate::FarSlot)),
+        (Externalizes(TWO, 1), None),
+        (Ask(0, 1), Some(CommandFate::Decided)),
+        (Proposes(1, true), Some(CommandFate::OldSlot)),
+        (Externalizes(TWO, 3), None),
+        (Times(3), Some(CommandFate::Decided)),
+        (Tick, None),
+    ];
+    assert!(rt; are_told(rt.alloc(), &acts)?);
+    Ok(())
 }
 
 /// Whether another node's EXTERNALIZE decides, with the certificate of both.

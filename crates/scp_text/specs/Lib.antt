@@ -3,3 +3,4 @@ pub mod Values
 pub mod Sets
 pub mod Messages
 pub mod Laws
+pub mod Expected

@@ -1,5 +1,5 @@
 -- Messages as text (this project's profile): their words, what the words say, and the first that is refused.
-use Rattle.std.specs.Prelude.{◌≡◌, ◌≤◌, ◌⊎◌, ◌==◌, ℕ, ◌+◌, Bool, true, false, List, [], ◌∷◌, ◌++◌, map, Option, Some, None, Result, Ok, Err, if◌then◌else◌, nat_lt, codes, slice_get, option_map}
+use Rattle.std.specs.Prelude.{◌≡◌, ◌≤◌, ◌⊎◌, ◌==◌, ℕ, ◌+◌, Bool, true, List, [], ◌∷◌, ◌++◌, map, Option, Some, None, Result, Ok, Err, if◌then◌else◌, codes, slice_get, option_map}
 use Rattle.std.specs.List.{slice_split}
 use Rattle.std.specs.Option.{unwrap_or}
 use Rattle.std.specs.Fmt.{decimal}
@@ -12,8 +12,6 @@ use Rattle.scp_envelope.specs.declared.statement.Prepare.{Prepare}
 use Rattle.scp_envelope.specs.declared.statement.Confirm.{Confirm}
 use Rattle.scp_envelope.specs.declared.statement.Externalize.{Externalize}
 use Rattle.scp_envelope.specs.declared.statement.Nominate.{Nominate}
-use Rattle.scp_envelope.specs.declared.statement.Statement.{Statement}
-use Rattle.scp_envelope.specs.declared.statement.Envelope.{Envelope as SignedEnvelope}
 use Rattle.scp_envelope.specs.declared.statement.Pledges.{Pledges}
 use Rattle.scp_envelope.specs.declared.statement.Pledges.TheVariants.{Prepare as Preparing, Confirm as Confirming, Externalize as Externalizing, Nominate as Nominating}
 use Rattle.scp_wire.specs.declared.message.Message.{Message}
@@ -30,35 +28,45 @@ use Rattle.scp_text.specs.declared.refusal.Expected.TheVariants.{AMessage, ASlot
 
 -- ---- written
 
+-- a ballot under a name: its counter and its value
 abbrev pub ballot_text : List ℕ → Ballot → List ℕ
 ballot_text name ballot = bracketed name (decimal ballot.counter ++ 44 ∷ value_text ballot.value)
 
+-- a ballot under a name, or a dash for none
 abbrev pub optional_text : List ℕ → Option Ballot → List ℕ
 optional_text name (Some ballot) = ballot_text name ballot
 optional_text name None = codes "-"
 
+-- values under a name
 abbrev pub values_text : List ℕ → List (List ℕ) → List ℕ
 values_text name values = bracketed name (listed 44 true (map value_text values))
 
+-- the word of a signature, and none of an empty one
 abbrev pub signature_words : List ℕ → List (List ℕ)
 signature_words [] = []
 signature_words (byte ∷ bytes) = bracketed (codes "sig(") (encode_lower (byte ∷ bytes)) ∷ []
 
+-- the words of a statement: its kind, its node, its slot, the hash of its quorum set, and then these
 abbrev pub words_with : List ℕ → NodeId → Slot → Hash → List (List ℕ) → List (List ℕ)
 words_with name node slot hash words = name ∷ node_text node ∷ decimal slot.0 ∷ hash_text hash ∷ words
 
+-- what a NOMINATE says besides
 abbrev pub nominate_words : Nominate → List (List ℕ)
 nominate_words p = values_text (codes "votes(") p.votes ∷ values_text (codes "accepted(") p.accepted ∷ []
 
+-- what a PREPARE says besides
 abbrev pub prepare_words : Prepare → List (List ℕ)
 prepare_words p = ballot_text (codes "ballot(") p.ballot ∷ optional_text (codes "prepared(") p.prepared ∷ optional_text (codes "prime(") p.prepared_prime ∷ decimal p.n_commit ∷ decimal p.n_high ∷ []
 
+-- what a CONFIRM says besides
 abbrev pub confirm_words : Confirm → List (List ℕ)
 confirm_words p = ballot_text (codes "ballot(") p.ballot ∷ decimal p.n_prepared ∷ decimal p.n_commit ∷ decimal p.n_high ∷ []
 
+-- what an EXTERNALIZE says besides
 abbrev pub externalize_words : Externalize → List (List ℕ)
 externalize_words p = ballot_text (codes "commit(") p.commit ∷ decimal p.n_high ∷ []
 
+-- the words of a statement, by its kind
 abbrev pub pledges_words : NodeId → Slot → Pledges → List (List ℕ)
 pledges_words node slot (Nominating p) = words_with (codes "nominate") node slot p.set_hash (nominate_words p)
 pledges_words node slot (Preparing p) = words_with (codes "prepare") node slot p.set_hash (prepare_words p)
@@ -82,14 +90,17 @@ message_text message = listed 32 true (message_words message)
 -- ---- read
 
 infixl 10 ◌>>=◌
+-- one reading after another; the first refusal stays
 abbrev pub ◌>>=◌ : {A B : Type 0} → Result A Refusal → (A → Result B Refusal) → Result B Refusal
 (Ok x) >>= f = f x
 (Err e) >>= f = Err e
 
+-- what was found, or the refusal of the word at this place
 abbrev pub or_refused : {A : Type 0} → Option A → ℕ → Expected → Result A Refusal
 or_refused (Some x) place expected = Ok x
 or_refused None place expected = Err (record { word = place; expected = expected })
 
+-- what the word says, where there is one
 abbrev pub said_by : {A : Type 0} → (List ℕ → Option A) → Option (List ℕ) → Option A
 said_by says (Some word) = says word
 said_by says None = None
@@ -98,6 +109,7 @@ said_by says None = None
 unfoldable pub at : {A : Type 0} → (List ℕ → Option A) → Expected → List (List ℕ) → ℕ → Result A Refusal
 at says expected words place = or_refused (said_by says (slice_get words place)) (place + 1) expected
 
+-- no word stands there, or that word is refused
 abbrev pub no_word : Option (List ℕ) → ℕ → Result Bool Refusal
 no_word None place = Ok true
 no_word (Some word) place = Err (record { word = place; expected = NoMore })
@@ -113,6 +125,7 @@ ballot_from (a ∷ []) = None
 ballot_from (a ∷ b ∷ c ∷ more) = None
 ballot_from (a ∷ b ∷ []) = and_then (counter_in a) (λ counter. and_then (value_in b) (λ value. Some (record { counter = counter; value = value })))
 
+-- the ballot that a word says under this name
 unfoldable pub ballot_in : List ℕ → List ℕ → Option Ballot
 ballot_in name word = and_then (inside name word) (λ inner. ballot_from (items_in inner))
 
@@ -120,12 +133,15 @@ ballot_in name word = and_then (inside name word) (λ inner. ballot_from (items_
 unfoldable pub optional_in : List ℕ → List ℕ → Option (Option Ballot)
 optional_in name word = if same word (codes "-") then Some None else option_map Some (ballot_in name word)
 
+-- the values that a word says under this name
 unfoldable pub values_in : List ℕ → List ℕ → Option (List (List ℕ))
 values_in name word = and_then (inside name word) (λ inner. all_of value_in (items_in inner))
 
+-- the bytes of a signature that a word says
 unfoldable pub signature_in : List ℕ → Option (List ℕ)
 signature_in word = and_then (inside (codes "sig(") word) (λ inner. digits_in inner)
 
+-- the signature that the last word says, no word behind it; an empty one where there is no word
 abbrev pub signature_by : Option (List ℕ) → List (List ℕ) → ℕ → Result (List ℕ) Refusal
 signature_by None words place = Ok []
 signature_by (Some word) words place = do
@@ -137,9 +153,11 @@ signature_by (Some word) words place = do
 unfoldable pub signature_at : List (List ℕ) → ℕ → Result (List ℕ) Refusal
 signature_at words place = signature_by (slice_get words place) words place
 
+-- the slot that a word says
 abbrev pub slot_in : List ℕ → Option Slot
 slot_in word = option_map (λ number. record { 0 = number }) (number_in word)
 
+-- the NOMINATE that words say, behind its kind, node and slot
 unfoldable pub nominate_in : List (List ℕ) → Result Pledges Refusal
 nominate_in words = do
   set_hash ← at hash_in AHash words 3
@@ -147,6 +165,7 @@ nominate_in words = do
   accepted ← at (values_in (codes "accepted(")) Accepted words 5
   Ok (Nominating (record { set_hash = set_hash; votes = votes; accepted = accepted }))
 
+-- the PREPARE that words say, behind its kind, node and slot
 unfoldable pub prepare_in : List (List ℕ) → Result Pledges Refusal
 prepare_in words = do
   set_hash ← at hash_in AHash words 3
@@ -157,6 +176,7 @@ prepare_in words = do
   n_high ← at counter_in ACounter words 8
   Ok (Preparing (record { set_hash = set_hash; ballot = ballot; prepared = prepared; prepared_prime = prime; n_commit = n_commit; n_high = n_high }))
 
+-- the CONFIRM that words say, behind its kind, node and slot
 unfoldable pub confirm_in : List (List ℕ) → Result Pledges Refusal
 confirm_in words = do
   set_hash ← at hash_in AHash words 3
@@ -166,6 +186,7 @@ confirm_in words = do
   n_high ← at counter_in ACounter words 7
   Ok (Confirming (record { ballot = ballot; n_prepared = n_prepared; n_commit = n_commit; n_high = n_high; set_hash = set_hash }))
 
+-- the EXTERNALIZE that words say, behind its kind, node and slot
 unfoldable pub externalize_in : List (List ℕ) → Result Pledges Refusal
 externalize_in words = do
   set_hash ← at hash_in AHash words 3
@@ -182,30 +203,35 @@ envelope_in pledges_in place words = do
   signature ← signature_at words place
   Ok (Envelope (record { value = record { statement = record { node = node; slot = slot; pledges = pledges }; signature = signature } }))
 
+-- the request for a quorum set that words say
 unfoldable pub get_set_in : List (List ℕ) → Result Message Refusal
 get_set_in words = do
   hash ← at hash_in AHash words 1
   done ← ended words 2
   Ok (GetSet hash)
 
+-- the message with a quorum set that words say
 unfoldable pub the_set_in : List (List ℕ) → Result Message Refusal
 the_set_in words = do
   set ← at set_in ASet words 1
   done ← ended words 2
   Ok (Set set)
 
+-- the message that a quorum set isn't there, as words say it
 unfoldable pub no_set_in : List (List ℕ) → Result Message Refusal
 no_set_in words = do
   hash ← at hash_in AHash words 1
   done ← ended words 2
   Ok (NoSet hash)
 
+-- the request for a record that words say
 unfoldable pub get_record_in : List (List ℕ) → Result Message Refusal
 get_record_in words = do
   slot ← at slot_in ASlot words 1
   done ← ended words 2
   Ok (GetRecord slot)
 
+-- the record that words say
 unfoldable pub record_in : List (List ℕ) → Result Message Refusal
 record_in words = do
   slot ← at slot_in ASlot words 1
@@ -213,6 +239,7 @@ record_in words = do
   done ← ended words 3
   Ok (Record slot value)
 
+-- the batch of records that words say
 unfoldable pub records_in : List (List ℕ) → Result Message Refusal
 records_in words = do
   first ← at slot_in ASlot words 1
@@ -220,6 +247,7 @@ records_in words = do
   done ← ended words 3
   Ok (Records first values)
 
+-- the envelope that words say, by the first of them
 abbrev pub envelope_by : List ℕ → List (List ℕ) → Result Message Refusal
 envelope_by verb words =
     if same verb (codes "nominate") then envelope_in nominate_in 6 words
@@ -228,6 +256,7 @@ envelope_by verb words =
     else (if same verb (codes "externalize") then envelope_in externalize_in 6 words
     else Err (record { word = 1; expected = AMessage }))))
 
+-- the message that words say, by the first of them
 abbrev pub message_by : List ℕ → List (List ℕ) → Result Message Refusal
 message_by verb words =
     if same verb (codes "record") then record_in words

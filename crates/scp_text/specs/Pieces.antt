@@ -1,21 +1,24 @@
 -- The pieces of the notation: printable words, items in brackets, numbers and digits (this project's profile).
-use Rattle.std.specs.Prelude.{ℕ, ◌+◌, ◌-◌, ◌^◌, Bool, true, false, not, ◌&&◌, ◌||◌, List, [], ◌∷◌, ◌++◌, length, take, drop, Option, Some, None, if◌then◌else◌, nat_eq, nat_lt, nat_le, codes}
+use Rattle.std.specs.Prelude.{ℕ, ◌+◌, ◌-◌, ◌^◌, Bool, false, not, ◌&&◌, ◌||◌, List, [], ◌∷◌, ◌++◌, length, take, drop, Option, Some, None, if◌then◌else◌, nat_eq, nat_lt, nat_le}
 use Rattle.std.specs.Result.{result_ok}
 use Rattle.std.specs.Cmp.Lexicographic.{pointwise}
 use Rattle.std.specs.Fmt.{decimal}
 use Rattle.std.specs.Str.Parse.{digits_value}
 use Rattle.std.specs.List.{list_all, onto_first}
-use Rattle.hex.specs.Hex.{decode_of, encode_lower}
+use Rattle.hex.specs.Hex.{decode_of}
 
 -- the second step, if the first found something
 infixl 10 ◌>>=◌
+-- one reading after another; none where one finds none
 abbrev pub ◌>>=◌ : {A B : Type 0} → Option A → (A → Option B) → Option B
 (Some x) >>= f = f x
 None >>= f = None
 
+-- the same, as a word
 abbrev pub and_then : {A B : Type 0} → Option A → (A → Option B) → Option B
 and_then found f = found >>= f
 
+-- the same bytes
 abbrev pub same : List ℕ → List ℕ → Bool
 same a b = pointwise nat_eq a b
 
@@ -37,9 +40,11 @@ listed mark first (text ∷ texts) = (if first then text else mark ∷ text) ++ 
 abbrev pub bracketed : List ℕ → List ℕ → List ℕ
 bracketed name inner = name ++ (inner ++ 41 ∷ [])
 
+-- the text behind this front, where it begins with that
 abbrev pub without_front : List ℕ → List ℕ → Option (List ℕ)
 without_front front text = if same (take (length front) text) front then Some (drop (length front) text) else None
 
+-- the text before this end, where it ends with that
 abbrev pub without_end : List ℕ → List ℕ → Option (List ℕ)
 without_end end text = if same (drop (length text - length end) text) end then Some (take (length text - length end) text) else None
 
@@ -53,6 +58,7 @@ inside name text = do
 abbrev pub cuts : ℕ → ℕ → Bool
 cuts byte depth = nat_eq byte 44 && nat_eq depth 0
 
+-- how many brackets are open behind a byte
 abbrev pub depth_after : ℕ → ℕ → ℕ
 depth_after byte depth = if nat_eq byte 40 then depth + 1 else (if nat_eq byte 41 then depth - 1 else depth)
 
@@ -86,5 +92,6 @@ number_in word =
 unfoldable pub digits_in : List ℕ → Option (List ℕ)
 digits_in text = result_ok (decode_of text)
 
+-- the bytes, where they are so many at most
 abbrev pub at_most : ℕ → List ℕ → Option (List ℕ)
 at_most limit bytes = if nat_le (length bytes) limit then Some bytes else None

@@ -1,5 +1,5 @@
 -- Nodes, hashes and quorum sets as text (this project's profile).
-use Rattle.std.specs.Prelude.{ℕ, zero, suc, Bool, true, false, not, ◌&&◌, List, [], ◌∷◌, ◌++◌, length, map, replicate, Option, Some, None, option_map, if◌then◌else◌, nat_eq, nat_lt, nat_le, codes}
+use Rattle.std.specs.Prelude.{ℕ, zero, suc, Bool, true, ◌&&◌, List, [], ◌∷◌, ◌++◌, length, map, replicate, Option, Some, None, if◌then◌else◌, nat_eq, nat_lt, nat_le, codes}
 use Rattle.std.specs.List.{list_all, list_any, position_or_len, before_first, after_first}
 use Rattle.std.specs.Result.{result_ok}
 use Rattle.std.specs.Fmt.{decimal}
@@ -9,7 +9,7 @@ use Rattle.scp_types.specs.declared.names.Hash.{Hash}
 use Rattle.scp_xdr.specs.Tree.{Trees, no_trees, tree_then, tree_of}
 use Rattle.scp_quorum.specs.QuorumTree.{Level, QuorumTree}
 use Rattle.scp_quorum.specs.QuorumKind.{set_hash}
-use Rattle.scp_text.specs.Pieces.{◌>>=◌, listed, bracketed, inside, items_in, all_of, number_in, digits_in}
+use Rattle.scp_text.specs.Pieces.{◌>>=◌, listed, bracketed, inside, items_in, all_of, number_in}
 
 -- ---- written
 
@@ -18,13 +18,16 @@ abbrev pub number_of : List ℕ → Option ℕ
 number_of [] = None
 number_of (byte ∷ bytes) = if nat_lt 0 byte && list_all (λ b. nat_eq b byte) bytes then Some byte else None
 
+-- a node by its number where it has one, else by its digits
 abbrev pub node_by : Option ℕ → List ℕ → List ℕ
 node_by (Some number) bytes = decimal number
 node_by None bytes = encode_lower bytes
 
+-- the text of a node: its number, where all its bytes are one that isn't 0, else its 64 digits
 unfoldable pub node_text : NodeId → List ℕ
 node_text node = node_by (number_of node.0) node.0
 
+-- the text of a hash: its 64 digits
 abbrev pub hash_text : Hash → List ℕ
 hash_text hash = encode_lower hash.0
 
@@ -32,10 +35,12 @@ hash_text hash = encode_lower hash.0
 unfoldable pub level_text : Level → List (List ℕ) → List ℕ
 level_text level inner = decimal level.threshold ++ bracketed (codes "of(") (listed 44 true (map node_text level.validators ++ inner))
 
+-- the texts of the sets of a row
 unfoldable pub row_texts : Trees Level → List (List ℕ)
 row_texts no_trees = []
 row_texts (tree_then level inner others) = level_text level (row_texts inner) ∷ row_texts others
 
+-- the text of a quorum set
 unfoldable pub set_text : QuorumTree → List ℕ
 set_text set = level_text set.head (row_texts set.inner)
 
@@ -45,9 +50,11 @@ set_text set = level_text set.head (row_texts set.inner)
 unfoldable pub id_in : List ℕ → Option (List ℕ)
 id_in word = result_ok (decode_sized word 32)
 
+-- the node of a number from 1 to 255
 abbrev pub numbered : ℕ → Option NodeId
 numbered number = if nat_lt 0 number && nat_lt number 256 then Some (record { 0 = replicate 32 number }) else None
 
+-- the node of these bytes, else the one of the number that the word says
 abbrev pub node_from : Option (List ℕ) → List ℕ → Option NodeId
 node_from (Some bytes) word = Some (record { 0 = bytes })
 node_from None word = number_in word >>= (λ number. numbered number)
@@ -60,6 +67,7 @@ node_in word = node_from (id_in word) word
 abbrev pub counter_in : List ℕ → Option ℕ
 counter_in word = number_in word >>= (λ number. if nat_lt number 4294967296 then Some number else None)
 
+-- a bracket opens in the word: it says an inner set
 abbrev pub has_bracket : List ℕ → Bool
 has_bracket word = list_any (λ byte. nat_eq byte 40) word
 
@@ -68,6 +76,7 @@ abbrev pub nodes_first : List (List ℕ) → List (List ℕ)
 nodes_first [] = []
 nodes_first (word ∷ words) = if has_bracket word then [] else word ∷ nodes_first words
 
+-- the words from the first inner set on
 abbrev pub sets_after : List (List ℕ) → List (List ℕ)
 sets_after [] = []
 sets_after (word ∷ words) = if has_bracket word then word ∷ words else sets_after words

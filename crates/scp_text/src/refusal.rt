@@ -1,5 +1,6 @@
 //! Why a text is refused.
 ghost use Rattle.std.specs.Prelude.{◌≡◌};
+ghost use Rattle.scp_text.specs.Expected.{expected_text};
 ghost use Rattle.scp_text.specs.declared.refusal.TextError.TheVariants.{NoMemory};
 
 use scp_types::Fault;
@@ -33,7 +34,9 @@ pub enum Expected {
 
 impl Expected {
     /// What was expected, in words.
-    pub fn text(self) -> &'static str {
+    pub fn text(self) -> &'static str
+        ensures { result.now ≡ expected_text self }
+    {
         match self {
             Expected::AMessage => "a message, as record SLOT VALUE",
             Expected::ASlot => "a slot, below 2^64",

@@ -11,11 +11,8 @@ use crate::refusal::{Expected, Refusal, TextError};
 use crate::set::read_fitting;
 use crate::term::Term;
 use scp_quorum::QuorumSet;
-use scp_types::{Fault, Value};
+use scp_types::{Fault, VALUE_LIMIT, Value};
 use std::alloc::Global;
-
-/// The most bytes of a value (this project's profile).
-const VALUE_LIMIT: usize = 4_096;
 
 /// That the text of a value within its limit is read as it. Does nothing.
 fn see_value(bytes: &[u8])

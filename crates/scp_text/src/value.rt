@@ -8,7 +8,7 @@ ghost use Rattle.scp_text.specs.Pieces.{items_in};
 use crate::pieces::{digits, inside, items, word, write_digits};
 use crate::term::{Term, read_all, write_all};
 use scp_kv::{Op, ops_of};
-use scp_types::{Fault, Value};
+use scp_types::{Fault, VALUE_LIMIT, Value};
 use scp_xdr::{
     Reader, Writer, Xdr, array_fits, encode_within, pass_array, read_array, spend_array,
     write_array,
@@ -16,7 +16,7 @@ use scp_xdr::{
 use std::alloc::Global;
 
 /// The most bytes of an operation list (this project's profile).
-const LIST_LIMIT: usize = 4_096;
+const LIST_LIMIT: usize = VALUE_LIMIT;
 
 /// The most operations of an operation list (this project's profile).
 const COUNT_LIMIT: u32 = 64;

@@ -1,15 +1,13 @@
 -- What was told, and why.
-use Rattle.std.proofs.Common.{◌≡◌, ◌≢◌, ◌⊎◌, ◌≤◌, inl, inr, ℕ, List, Option, Some, None, refl, sym, ◌∙◌, subst, ap, arith, ◌++◌, Result, Ok, Err}
-use Rattle.std.specs.Prelude.{IfOk, codes, IfSome, length, ◌<◌}
+use Rattle.std.proofs.Common.{◌≡◌, ◌≢◌, ◌⊎◌, ◌≤◌, inl, inr, ℕ, List, Option, Some, None, refl, sym, ◌∙◌, subst, ap, arith, ◌++◌, [], append-nil}
+use Rattle.std.specs.Prelude.{Result, Ok, Err, OnOk, OnErr, IfSome, length, ◌<◌}
 use Rattle.scp_types.specs.declared.fault.Fault.{Fault}
 use Rattle.scp_types.specs.declared.fault.Fault.TheVariants.{NoMemory, Malformed, TooLong, Insane, Full, NotOpen, AlreadyOpen, LivesSpent, BadConfig, Failed, JournalFull, BadScript, Refused, Device}
-use Rattle.std.specs.Fmt.{decimal}
-use Rattle.scp_rewrite.specs.declared.script.ScriptRefusal.{ScriptRefusal}
-use Rattle.scp_device.specs.Device.{Fails, IsReadFault, IsAll}
+use Rattle.scp_device.specs.Device.{Gains, Fails, IsReadFault, IsAll}
 use Rattle.scp_rewrite.specs.declared.line.Form.{Form}
 use Rattle.scp_text_serve.specs.declared.serving.Failure.{Failure}
 use Rattle.scp_text_serve.specs.declared.serving.Failure.TheVariants as failures
-use Rattle.scp_text_serve.specs.Serving.{status_of, IsFailureLine, IsCause, IsWritten, IsTold}
+use Rattle.scp_text_serve.specs.Serving.{status_of, IsCause, IsWritten, IsTold}
 
 status_is : (failure : Failure) → (status_of failure ≡ 1) ⊎ (status_of failure ≡ 3)
 status_is (failures.Refused r) = inl refl
@@ -43,9 +41,14 @@ more_fails a b c p q = (omega (arith, p.0, q.0), λ h. omega (arith, p.1 h, q.0)
 -- a writer failed, and then that was told
 pub told_after : {W : Type 0} (written : W → Option (List ℕ)) (count : W → ℕ) (old mid new : W) (failure : Failure)
     → Fails (count old) (count mid) → IsTold written count mid failure new → IsTold written count old failure new
-told_after {W} written count old mid new failure failed (inl same) = inr (inl (subst (λ (n : ℕ). Fails (count old) n) (sym (ap count same)) failed))
-told_after written count old mid new failure failed (inr (inl again)) = inr (inl (more_fails (count old) (count mid) (count new) failed again))
-told_after written count old mid new failure failed (inr (inr line)) = inr (inl (subst (λ (n : ℕ). Fails (count old) n) (sym line.3) failed))
+told_after written count old mid new failure failed (inl line) = inr (subst (λ (n : ℕ). Fails (count old) n) (sym line.1) failed)
+told_after written count old mid new failure failed (inr again) = inr (more_fails (count old) (count mid) (count new) failed again)
+
+-- a line was written whole, or the writer failed
+pub told_by : {W : Type 0} (written : W → Option (List ℕ)) (count : W → ℕ) (old new : W) (text : List ℕ) (r : Result (Unit {0}) Fault)
+    → OnOk r (Gains (written old) text (written new)) → OnOk r (count new ≡ count old) → OnErr r (Fails (count old) (count new)) → IsWritten written count old text new
+told_by written count old new text (Ok done) whole kept raised = inl (whole, kept)
+told_by written count old new text (Err fault) whole kept raised = inr raised
 
 -- a script that couldn't be read
 pub read_cause : (form : Form) (left : Option (List ℕ)) (fault : Fault) → IsReadFault fault → (fault ≡ TooLong → IfSome left (λ all. 16777216 < length all)) → IsCause form left (failures.Failed fault)
@@ -88,9 +91,6 @@ known_cause form left script (failures.Failed JournalFull) e h = absurd h
 known_cause form left script (failures.Failed (BadScript line)) e h = absurd h
 known_cause form left script (failures.Failed (Refused stage)) e h = absurd h
 
--- the line of a refusal, whatever was expected
-pub refusal_told : {A E : Type 0} (r : Result A E) (bytes : A → List ℕ) (refusal : ScriptRefusal) (expected : List ℕ)
-    → IfOk r (λ t. bytes t ≡ codes "fault 12 line " ++ decimal refusal.line ++ codes " at " ++ decimal refusal.refusal.word ++ codes ": " ++ expected ++ codes "\n")
-    → IfOk r (λ t. IsFailureLine (failures.Refused refusal) (bytes t))
-refusal_told (Ok t) bytes refusal expected h = (expected, h)
-refusal_told (Err e) bytes refusal expected h = tt
+-- the line of a refusal, of what was expected there and nothing behind it
+pub no_end : (front word back said : List ℕ) → word ≡ said → front ++ (word ++ []) ++ back ≡ front ++ said ++ back
+no_end front word back said e = ap (λ (l : List ℕ). front ++ l ++ back) (append-nil word ∙ e)

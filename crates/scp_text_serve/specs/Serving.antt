@@ -1,20 +1,20 @@
 -- What a command line is answered with.
 use Rattle.std.specs.Prelude.{ℕ, ◌≡◌, ◌≤◌, ◌<◌, ◌⊎◌, List, ◌++◌, length, Option, IfSome, codes}
 use Rattle.std.specs.Fmt.{decimal}
-use Rattle.scp_types.specs.declared.fault.Fault.{Fault}
 use Rattle.scp_types.specs.declared.fault.Fault.TheVariants.{NoMemory, TooLong, Device}
 use Rattle.scp_types.specs.Fault.{number_of}
 use Rattle.scp_device.specs.Device.{Gains, Fails}
+use Rattle.scp_text.specs.Expected.{expected_text}
 use Rattle.scp_rewrite.specs.declared.line.Form.{Form}
 use Rattle.scp_rewrite.specs.Scripts.{IsRefusedLine}
 use Rattle.scp_text_serve.specs.declared.serving.Failure.{Failure}
 use Rattle.scp_text_serve.specs.declared.serving.Failure.TheVariants.{Refused, Failed}
 
--- the line that tells a failure: a refusal by its line, its word and some words on what was expected, a fault by its number
-abbrev pub IsFailureLine : Failure → List ℕ → Type 0
-IsFailureLine (Refused refusal) text =
-    (expected : List ℕ) × (text ≡ codes "fault 12 line " ++ decimal refusal.line ++ codes " at " ++ decimal refusal.refusal.word ++ codes ": " ++ expected ++ codes "\n")
-IsFailureLine (Failed fault) text = text ≡ codes "fault " ++ decimal (number_of fault) ++ codes "\n"
+-- the line that tells a failure: a refusal by its line, its word and what was expected there, a fault by its number
+abbrev pub failure_line : Failure → List ℕ
+failure_line (Refused refusal) =
+    codes "fault 12 line " ++ decimal refusal.line ++ codes " at " ++ decimal refusal.refusal.word ++ codes ": " ++ expected_text refusal.refusal.expected ++ codes "\n"
+failure_line (Failed fault) = codes "fault " ++ decimal (number_of fault) ++ codes "\n"
 
 -- 1 for a script that was refused, 3 for memory or the device
 abbrev pub status_of : Failure → ℕ
@@ -34,7 +34,6 @@ IsCause form left (Failed fault) = ⊥
 abbrev pub IsWritten : {W : Type 0} → (W → Option (List ℕ)) → (W → ℕ) → W → List ℕ → W → Type 0
 IsWritten written failures old text new = (Gains (written old) text (written new) × (failures new ≡ failures old)) ⊎ Fails (failures old) (failures new)
 
--- a failure was told by its line and nothing else, or the writer failed; nothing was written where the line had no memory
+-- a failure was told by its line and nothing else, or the writer failed
 abbrev pub IsTold : {W : Type 0} → (W → Option (List ℕ)) → (W → ℕ) → W → Failure → W → Type 0
-IsTold written failures old failure new =
-    (new ≡ old) ⊎ (Fails (failures old) (failures new) ⊎ ((text : List ℕ) × IsFailureLine failure text × Gains (written old) text (written new) × (failures new ≡ failures old)))
+IsTold written failures old failure new = IsWritten written failures old (failure_line failure) new

@@ -5,7 +5,7 @@
 //! - a script that is refused leaves nothing written but the line that tells its first refused word;
 //! - a failure is told once, by its own line and its status: 1 of the script, 3 of memory or the device.
 //!
-//! Which words ask for what is shown by tests.
+//! Not claimed: which words ask for which form. Tests show that.
 #![tactic(auto)]
 
 mod device;

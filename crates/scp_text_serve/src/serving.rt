@@ -1,15 +1,14 @@
 //! What the words of a command line are answered with.
-ghost use Rattle.std.specs.Prelude.{◌≡◌, ◌++◌, ◌≢◌, ◌≤◌, ℕ, List, length, IfOk, IfErr, IfSome, codes, string_bytes};
-ghost use Rattle.std.specs.Fmt.{decimal};
-ghost use Rattle.scp_device.specs.Device.{Gains, IsAll};
+ghost use Rattle.std.specs.Prelude.{◌≡◌, ◌≢◌, ◌≤◌, ℕ, List, length, OnOk, OnErr, IfOk, IfErr, codes};
+ghost use Rattle.scp_device.specs.Device.{Gains, Fails, IsAll};
 ghost use Rattle.scp_rewrite.specs.Scripts.{IsScriptOf, IsRefusedScript};
-ghost use Rattle.scp_text_serve.specs.Serving.{IsFailureLine, status_of, IsCause, IsWritten, IsTold};
+ghost use Rattle.scp_text_serve.specs.Serving.{failure_line, status_of, IsCause, IsWritten, IsTold};
 
 use crate::device::{SCRIPT_LIMIT, read_within, write_bytes};
-use scp_device::{ReportOut, ScriptIn};
+use scp_device::{ReportOut, ScriptIn, write_bad_word, write_numbered};
 use scp_rewrite::{Form, RewriteError, ScriptRefusal, rewrite};
 use scp_types::Fault;
-use std::alloc::{AllocError, Global};
+use std::alloc::Global;
 
 /// Why a script wasn't written in a form.
 #[derive(Clone, Copy, Debug, PartialEq, Eq)]
@@ -20,45 +19,36 @@ pub enum Failure {
     Failed(Fault),
 }
 
-/// The line that tells a failure.
-fn line_of(alloc: Global, failure: Failure) -> Result<String, AllocError>
-    ensures { IfOk result (λ text. IsFailureLine failure (string_bytes text)) }
+/// Writes the line that tells a refusal. The one refusal of its own is `Fault::Device`, where the writer failed.
+fn write_refusal<W: ReportOut>(writer: &mut W, refusal: ScriptRefusal) -> Result<(), Fault>
+    ensures whole { OnOk result (Gains (W.written writer.old) (failure_line (Failure.Refused refusal)) (W.written writer.new)) }
+    ensures raised { OnErr result (Fails (W.failures writer.old) (W.failures writer.new)) }
+    ensures kept { OnOk result (W.failures writer.new ≡ W.failures writer.old) }
+{
+    let line = refusal.line as u64;
+    let word = refusal.refusal.word as u64;
+    write_bad_word(writer, line, word, refusal.refusal.expected.text(), "")
+}
+
+/// Writes the line that tells a fault, and is refused so.
+fn write_fault<W: ReportOut>(writer: &mut W, fault: Fault) -> Result<(), Fault>
+    ensures whole { OnOk result (Gains (W.written writer.old) (failure_line (Failure.Failed fault)) (W.written writer.new)) }
+    ensures raised { OnErr result (Fails (W.failures writer.old) (W.failures writer.new)) }
+    ensures kept { OnOk result (W.failures writer.new ≡ W.failures writer.old) }
+{
+    write_numbered(writer, "fault ", u64::from(fault.number()), "\n")
+}
+
+/// Writes the line that tells a failure, and is refused so.
+fn write_failure<W: ReportOut>(writer: &mut W, failure: Failure) -> Result<(), Fault>
+    ensures whole { OnOk result (Gains (W.written writer.old) (failure_line failure) (W.written writer.new)) }
+    ensures raised { OnErr result (Fails (W.failures writer.old) (W.failures writer.new)) }
+    ensures kept { OnOk result (W.failures writer.new ≡ W.failures writer.old) }
 {
     match failure {
-        Failure::Refused(refusal) => line_of_refusal(alloc, refusal),
-        Failure::Failed(fault) => line_of_fault(alloc, fault),
+        Failure::Refused(refusal) => write_refusal(writer, refusal),
+        Failure::Failed(fault) => write_fault(writer, fault),
     }
-}
-
-/// The line that tells a word that is refused, and what was expected there.
-fn refusal_text(
-    alloc: Global,
-    line: usize,
-    word: usize,
-    expected: &str,
-) -> Result<String, AllocError>
-    ensures { IfOk result (λ text. string_bytes text ≡ codes "fault 12 line " ++ decimal line ++ codes " at " ++ decimal word ++ codes ": " ++ expected.now ++ codes "\n") }
-{
-    let mut text = format!(in alloc; "fault 12 line {line} at {word}: ")?;
-    text.push_str(expected)?;
-    text.push_str("\n")?;
-    Ok(text)
-}
-
-/// The line that tells a refusal.
-fn line_of_refusal(alloc: Global, refusal: ScriptRefusal) -> Result<String, AllocError>
-    ensures { IfOk result (λ text. IsFailureLine (Failure.Refused refusal) (string_bytes text)) }
-{
-    let expected = refusal.refusal.expected.text();
-    refusal_text(alloc, refusal.line, refusal.refusal.word, expected)
-}
-
-/// The line that tells a fault.
-fn line_of_fault(alloc: Global, fault: Fault) -> Result<String, AllocError>
-    ensures { IfOk result (λ text. IsFailureLine (Failure.Failed fault) (string_bytes text)) }
-{
-    let number = fault.number();
-    format!(in alloc; "fault {number}\n")
 }
 
 /// The exit status of a failure.
@@ -71,18 +61,16 @@ fn status(failure: Failure) -> u8
     }
 }
 
-/// Writes the line that tells a failure, if there is memory for it and the writer takes it, and answers the exit status.
-#[tactic(auto, using(crate::proofs::Told::some_status, crate::proofs::Told::few_status, crate::proofs::Told::no_usage))]
-fn tell<W: ReportOut>(alloc: Global, failure: Failure, writer: &mut W) -> u8
+/// Writes the line that tells a failure, if the writer takes it, and answers the exit status. It takes no memory.
+#[tactic(auto, using(crate::proofs::Told::some_status, crate::proofs::Told::few_status, crate::proofs::Told::no_usage, crate::proofs::Told::told_by))]
+fn tell<W: ReportOut>(failure: Failure, writer: &mut W) -> u8
     ensures status { result ≡ status_of failure }
     ensures some { 1 ≤ result }
     ensures few { result ≤ 3 }
     ensures no_usage { result ≢ 2 }
     ensures told { IsTold W.written W.failures writer.old failure writer.new }
 {
-    if let Ok(line) = line_of(alloc, failure) {
-        let _ = write_bytes(writer, line.as_bytes());
-    }
+    let _ = write_failure(writer, failure);
     status(failure)
 }
 
@@ -117,7 +105,7 @@ fn read_and_rewrite<R: ScriptIn>(
 
 /// Writes all of these bytes, or tells that the writer failed. Answers the exit status.
 #[tactic(auto, using(crate::proofs::Told::told_after))]
-fn finish<W: ReportOut>(alloc: Global, out: &[u8], writer: &mut W) -> u8
+fn finish<W: ReportOut>(out: &[u8], writer: &mut W) -> u8
     ensures few { result ≤ 3 }
     ensures no_usage { result ≢ 2 }
     ensures written { result ≡ 0 → Gains (W.written writer.old) out.now (W.written writer.new) }
@@ -125,12 +113,12 @@ fn finish<W: ReportOut>(alloc: Global, out: &[u8], writer: &mut W) -> u8
 {
     match write_bytes(writer, out) {
         Ok(()) => 0,
-        Err(_) => tell(alloc, Failure::Failed(Fault::Device), writer),
+        Err(_) => tell(Failure::Failed(Fault::Device), writer),
     }
 }
 
 /// Reads a script whole, at most 16 MiB, writes it in this form, and answers 0. Else writes nothing of it, tells the failure
-/// by its line, if there is memory for that and the writer takes it, and answers its status: 1 where the script was refused
+/// by its line, if the writer takes it, and answers its status: 1 where the script was refused
 /// or is too long, and 3.
 pub fn serve_rewrite<R: ScriptIn, W: ReportOut>(
     alloc: Global,
@@ -142,12 +130,12 @@ pub fn serve_rewrite<R: ScriptIn, W: ReportOut>(
     ensures no_usage { result ≢ 2 }
     // What was read is a script of at most 16 MiB, and what was written is this script in the form.
     ensures rewritten { result ≡ 0 → (script out : List ℕ) × IsAll (R.left reader.old) script × (length script ≤ SCRIPT_LIMIT) × IsScriptOf form script out × Gains (W.written writer.old) out (W.written writer.new) }
-    // Else just the line of the failure was written, if anything, or the writer failed.
+    // Else just the line of the failure was written, or the writer failed.
     ensures refused { result ≢ 0 → (failure : Failure) × (result ≡ status_of failure) × IsCause form (R.left reader.old) failure × IsTold W.written W.failures writer.old failure writer.new }
 {
     match read_and_rewrite(alloc, form, reader) {
-        Ok(out) => finish(alloc, out.as_slice(), writer),
-        Err(failure) => tell(alloc, failure, writer),
+        Ok(out) => finish(out.as_slice(), writer),
+        Err(failure) => tell(failure, writer),
     }
 }
 
@@ -174,7 +162,7 @@ pub fn serve<R: ScriptIn, W: ReportOut>(
     ensures rewritten { result ≡ 0 → (form : Form) × (script out : List ℕ) × IsAll (R.left reader.old) script × (length script ≤ SCRIPT_LIMIT) × IsScriptOf form script out × Gains (W.written writer.old) out (W.written writer.new) }
     // 2 is answered only with `usage`, and nothing was read.
     ensures usage { result ≡ 2 → (reader.new ≡ reader.old) × IsWritten W.written W.failures writer.old (codes "usage\n") writer.new }
-    // 1 and 3 are answered only of a failure: its line was written and nothing else, or nothing at all, or the writer failed.
+    // 1 and 3 are answered only of a failure: its line was written and nothing else, or the writer failed.
     ensures refused { result ≢ 0 → result ≢ 2 → (form : Form) × (failure : Failure) × (result ≡ status_of failure) × IsCause form (R.left reader.old) failure × IsTold W.written W.failures writer.old failure writer.new }
 {
     match words {

@@ -3,3 +3,4 @@ pub mod Sending
 pub mod Taken
 pub mod Telling
 pub mod Turning
+pub mod Wanting

@@ -4,7 +4,7 @@ use Rattle.std.proofs.lemmas.Bool.Decides.{nat_tests}
 use Rattle.std.proofs.lemmas.List.Folds.{list_any-append}
 use Rattle.scp_script.specs.Script.{is_link}
 use Rattle.scp_trace_lint.specs.declared.warned.SentLink.{SentLink}
-use Rattle.scp_trace_lint.specs.Sent.{has_sent}
+use Rattle.scp_trace_lint.specs.inside.Sent.{has_sent}
 
 or_none : (a b : Bool) → (a || (b || false)) ≡ (a || b)
 or_none true b = refl

@@ -9,11 +9,13 @@ use Rattle.scp_script.specs.declared.reading.Reading.{Reading}
 use Rattle.scp_script.specs.Words.{words_of, is_skipped, is_ascii}
 use Rattle.scp_script.specs.Script.{command_in, commands_of, AreLines, AreAdmitted}
 use Rattle.scp_script.specs.Nodes.{NamesNodes}
-use Rattle.scp_script.specs.Reading.{HasRead, IsReading, Stands}
+use Rattle.scp_script.specs.inside.Reading.{HasRead}
+use Rattle.scp_script.specs.Reading.{IsReading, Stands}
 use Rattle.scp_script.proofs.Lines.{reads-more, lines-more}
 use Rattle.scp_trace_lint.specs.declared.fault.LintFault.{LintFault}
 use Rattle.scp_trace_lint.specs.declared.fault.LintFault.TheVariants as faults
-use Rattle.scp_trace_lint.specs.Lines.{numbers_of, IsSaid, IsTaken, IsBad, IsReason, IsPlaced, IsLintFault}
+use Rattle.scp_trace_lint.specs.Lines.{numbers_of, IsSaid, IsBad, IsReason}
+use Rattle.scp_trace_lint.specs.inside.Lines.{IsTaken, IsPlaced, IsFound}
 
 -- these lines were read
 pub record HasTaken (lines : List (List ℕ)) (reading : Reading) (numbers : List ℕ) : Type 0 where
@@ -107,17 +109,20 @@ all_admitted lines reading numbers h = subst (λ (cs : List Command). AreAdmitte
 
 pub refused_there : (text : List ℕ) (i : ℕ) (line : List ℕ) (reading : Reading) (numbers : List ℕ) (fault : LintFault)
     → lines_of text ≡ take i (lines_of text) ++ line ∷ drop (i + 1) (lines_of text) → i ≤ length (lines_of text) → HasTaken (take i (lines_of text)) reading numbers
-    → IsPlaced reading.commands.items line (i + 1) fault → IsLintFault text fault
+    → IsPlaced reading.commands.items line (i + 1) fault → IsFound text fault
 refused_there text i line reading numbers faults.NoMemory parts within h p = tt
+refused_there text i line reading numbers (faults.BadAt number) parts within h p = absurd p
 refused_there text i line reading numbers (faults.Bad bad) parts within h p = record {
-  front = take i (lines_of text);
-  line = line;
-  back = drop (i + 1) (lines_of text);
-  digits = h.digits;
-  lines = parts;
-  place = p.0 ∙ ap (λ n. n + 1) (sym (length-take-le i (lines_of text) within));
-  written = h.written;
-  good = h.good;
-  is_bad = subst (λ (cs : List Command). IsBad cs line) h.read.commands p.1;
+  line = record {
+    front = take i (lines_of text);
+    line = line;
+    back = drop (i + 1) (lines_of text);
+    digits = h.digits;
+    lines = parts;
+    place = p.0 ∙ ap (λ n. n + 1) (sym (length-take-le i (lines_of text) within));
+    written = h.written;
+    good = h.good;
+    is_bad = subst (λ (cs : List Command). IsBad cs line) h.read.commands p.1;
+  };
   reason = subst (λ (cs : List Command). IsReason cs line bad.reason) h.read.commands p.2;
 }

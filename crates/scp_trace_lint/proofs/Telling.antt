@@ -16,8 +16,8 @@ use Rattle.scp_wire.specs.Message.{message_reading}
 use Rattle.scp_trace_lint.specs.declared.warning.Warning.{Warning}
 use Rattle.scp_trace_lint.specs.declared.warning.Warning.TheVariants.{Driven, Unled, BadValue}
 use Rattle.scp_trace_lint.specs.Nodes.{acts_on, settles_them, sends_on, proposes_for, is_list, speaks_in}
-use Rattle.scp_trace_lint.specs.Sent.{has_sent}
-use Rattle.scp_trace_lint.specs.Behind.{KnowsBefore, place_behind}
+use Rattle.scp_trace_lint.specs.inside.Sent.{has_sent}
+use Rattle.scp_trace_lint.specs.inside.Behind.{KnowsBefore, place_behind}
 use Rattle.scp_trace_lint.specs.Warnings.{Turns, turn_of, leader_of, is_led, bytes_warning, rest_place, line_warnings, command_warnings}
 use Rattle.scp_trace_lint.proofs.Counting.{one_more}
 

@@ -1,5 +1,5 @@
 -- Who speaks in a script (this project's profile).
-use Rattle.std.specs.Prelude.{ℕ, Bool, true, false, not, ◌&&◌, ◌||◌, List, Option, Some, None, nat_eq, is_some}
+use Rattle.std.specs.Prelude.{ℕ, Bool, true, false, not, ◌&&◌, ◌||◌, List, nat_eq, is_some}
 use Rattle.std.specs.List.{list_any}
 use Rattle.scp_kv.specs.Op.{ops_in}
 use Rattle.scp_script.specs.declared.command.Command.{Command}
@@ -30,6 +30,7 @@ is_own node (Tick at) = nat_eq at node
 is_own node (Ask from to slot) = nat_eq from node
 is_own node command = false
 
+-- it is a `send` line in the name of this node
 abbrev pub sends_for : ℕ → Command → Bool
 sends_for node (Send from to bytes) = nat_eq from node
 sends_for node command = false
@@ -38,10 +39,12 @@ sends_for node command = false
 abbrev pub is_scripted_in : ℕ → List Command → Bool
 is_scripted_in node commands = list_any (sends_for node) commands && (not (list_any (opens_to node) commands) && not (list_any (is_own node) commands))
 
+-- it is a `send` line on this link
 abbrev pub sends_on : ℕ → ℕ → Command → Bool
 sends_on from to (Send at other bytes) = is_link from to at other
 sends_on from to command = false
 
+-- it is a `report` line
 abbrev pub reports : Command → Bool
 reports (Report node) = true
 reports command = false
@@ -64,6 +67,7 @@ acts_on (Tick node) = true
 acts_on (Ask from to slot) = true
 acts_on command = false
 
+-- the value is an operation list
 abbrev pub is_list : List ℕ → Bool
 is_list value = is_some (ops_in value)
 
@@ -77,10 +81,7 @@ abbrev pub proposes_at : ℕ → ℕ → Command → Bool
 proposes_at node slot (Propose at of value) = nat_eq at node && (is_list value && nat_eq of slot)
 proposes_at node slot command = false
 
-abbrev pub is_slot : ℕ → Option ℕ → Bool
-is_slot slot None = false
-is_slot slot (Some other) = nat_eq other slot
-
+-- it is a `round` line of this node and this slot
 abbrev pub is_round : ℕ → ℕ → Command → Bool
 is_round node slot (Round at of) = nat_eq at node && nat_eq of slot
 is_round node slot command = false

@@ -2,6 +2,8 @@
 use Rattle.std.specs.Prelude.{◌≡◌, ℕ, List, ◌++◌, flat_map, Option, Some, None, codes}
 use Rattle.std.specs.Fmt.{decimal}
 use Rattle.scp_text.specs.Sets.{node_text}
+use Rattle.scp_text.specs.Expected.{expected_text}
+use Rattle.scp_script.specs.Expected.{words_of as expected_words, number_of as expected_number, number_text}
 use Rattle.scp_script.specs.declared.command.Command.{Command}
 use Rattle.scp_trace_lint.specs.Lines.{IsSaid}
 use Rattle.scp_trace_lint.specs.declared.fault.Reason.{Reason}
@@ -33,15 +35,31 @@ IsLinted text out =
 
 -- ---- the first bad line
 
+-- the number of the first bad word
 abbrev pub word_of : Reason → ℕ
 word_of (Line refusal) = refusal.word
 word_of (Text refusal) = refusal.word
 
--- the line that tells it, by its number, its first bad word and some words on what was expected there
-abbrev pub IsReasonText : ℕ → Option Reason → List ℕ → Type 0
-IsReasonText line (Some reason) text =
-    (expected : List ℕ) × (text ≡ codes "fault 12 line " ++ decimal line ++ codes " at " ++ decimal (word_of reason) ++ codes ": " ++ expected ++ codes "\n")
-IsReasonText line None text = text ≡ codes "fault 12 line " ++ decimal line ++ codes "\n"
+-- what was expected there, in words, up to the number that some end with
+abbrev pub words_of : Reason → List ℕ
+words_of (Line refusal) = expected_words refusal.expected
+words_of (Text refusal) = expected_text refusal.expected
 
-abbrev pub IsBadText : BadLine → List ℕ → Type 0
-IsBadText bad text = IsReasonText bad.line bad.reason text
+-- the number that these words end with, of those that do
+abbrev pub number_of : Reason → Option ℕ
+number_of (Line refusal) = expected_number refusal.expected
+number_of (Text refusal) = None
+
+-- the line that tells of a bad line by its number alone
+abbrev pub line_text : ℕ → List ℕ
+line_text line = codes "fault 12 line " ++ decimal line ++ codes "\n"
+
+-- the line that tells of one by its number, the number of its first bad word, and what was expected there
+abbrev pub reason_text : ℕ → Option Reason → List ℕ
+reason_text line (Some reason) =
+    codes "fault 12 line " ++ decimal line ++ codes " at " ++ decimal (word_of reason) ++ codes ": " ++ (words_of reason ++ number_text (number_of reason)) ++ codes "\n"
+reason_text line None = line_text line
+
+-- the line that tells of the first bad line
+abbrev pub bad_text : BadLine → List ℕ
+bad_text bad = reason_text bad.line bad.reason

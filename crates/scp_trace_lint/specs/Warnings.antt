@@ -22,6 +22,7 @@ use Rattle.scp_trace_lint.specs.declared.warning.Warning.TheVariants.{Malformed,
 abbrev pub Turns : Type 0
 Turns = List (List NodeId)
 
+-- those of the node of this number
 abbrev pub turn_of : Turns → ℕ → List NodeId
 turn_of turns node = get_or turns (node - 1) []
 
@@ -30,6 +31,7 @@ pub record AreTurns (commands : List Command) (turns : Turns) : Type 0 where
   pub each : length turns ≡ node_count commands
   pub turn : (node : ℕ) → 1 ≤ node → node ≤ node_count commands → AreInTurn (id_of node) (set_at node commands) (turn_of turns node)
 
+-- the same node
 abbrev pub is_same : NodeId → NodeId → Bool
 is_same a b = pointwise nat_eq a.0 b.0
 
@@ -70,6 +72,7 @@ abbrev pub slot_warning : Turns → List Command → List Command → ℕ → �
 slot_warning turns commands before line node slot =
     if not (list_any (proposes_for slot) before) && not (is_led turns commands slot) then Unled line slot (leader_of (turn_of turns node) slot 1) ∷ [] else []
 
+-- what one line is warned of: of a `send` its bytes and its link, of a `propose` its value and its slot, of any other nothing
 abbrev pub command_warnings : Turns → List Command → List Command → ℕ → Command → List Warning
 command_warnings turns commands before line (Send from to bytes) = bytes_warning line (message_reading bytes) ++ link_warning commands before line from to
 command_warnings turns commands before line (Propose node slot value) = if is_list value then slot_warning turns commands before line node slot else BadValue line ∷ []
@@ -86,6 +89,7 @@ abbrev pub rest_place : ℕ → List Command → Option ℕ
 rest_place place [] = None
 rest_place place (command ∷ others) = if acts_on command && not (list_any settles_them others) then Some place else rest_place (place + 1) others
 
+-- the warning of the line at this place, if there is one
 abbrev pub unsettled_at : List ℕ → Option ℕ → List Warning
 unsettled_at lines None = []
 unsettled_at lines (Some place) = map Unsettled (option_to_list (slice_get lines place))
@@ -96,6 +100,7 @@ rest_warning lines commands = unsettled_at lines (rest_place 0 commands)
 
 -- ---- as a whole
 
+-- the node is among these
 abbrev pub has_node : List NodeId → NodeId → Bool
 has_node nodes node = list_any (λ n. is_same n node) nodes
 
@@ -104,15 +109,20 @@ abbrev pub is_unopened : Turns → List Command → ℕ → ℕ → Bool
 is_unopened turns commands from to =
     not (nat_eq from to) && (speaks_in from commands && (has_node (turn_of turns to) (id_of from) && (not (is_scripted_in to commands) && not (list_any (opens from to) commands))))
 
+-- the warning of a link that nobody opens, where it is so
 abbrev pub unopened_from : Turns → List Command → ℕ → ℕ → List Warning
 unopened_from turns commands from to = if is_unopened turns commands from to then Unopened from to ∷ [] else []
 
+-- the links that nobody opens, by their senders and then by their receivers
 abbrev pub unopened : Turns → List Command → List Warning
 unopened turns commands = flat_map (λ from. flat_map (unopened_from turns commands from) (numbers (node_count commands))) (numbers (node_count commands))
 
+-- the warning that no report is asked for, where it is so
 abbrev pub report_warning : List Command → List Warning
 report_warning commands = if list_any reports commands then [] else Unreported ∷ []
 
+-- all that is warned of: by the lines, in their order; then where the nodes don't come to rest; the links that nobody opens; and that no
+-- report is asked for
 abbrev pub warnings_by : Turns → List Command → List ℕ → List Warning
 warnings_by turns commands lines =
     line_warnings turns commands [] lines commands ++ (rest_warning lines commands ++ (unopened turns commands ++ report_warning commands))

@@ -1,5 +1,6 @@
 //! Why a script is refused.
 ghost use Rattle.std.specs.Prelude.{◌≡◌};
+ghost use Rattle.scp_trace_lint.specs.Texts.{word_of, words_of, number_of};
 ghost use Rattle.scp_trace_lint.specs.declared.fault.LintFault.TheVariants.{NoMemory};
 
 use scp_script::Refusal;
@@ -16,6 +17,38 @@ pub enum Reason {
     Text(TextRefusal),
 }
 
+impl Reason {
+    /// The number of the first bad word, from 1 on.
+    pub fn word(self) -> usize
+        ensures { result ≡ word_of self }
+    {
+        match self {
+            Reason::Line(refusal) => refusal.word,
+            Reason::Text(refusal) => refusal.word,
+        }
+    }
+
+    /// What was expected there, in words, up to the number that some end with.
+    pub fn words(self) -> &'static str
+        ensures { result.now ≡ words_of self }
+    {
+        match self {
+            Reason::Line(refusal) => refusal.expected.words(),
+            Reason::Text(refusal) => refusal.expected.text(),
+        }
+    }
+
+    /// The number that these words end with, of those that do.
+    pub fn number(self) -> Option<u8>
+        ensures { result ≡ number_of self }
+    {
+        match self {
+            Reason::Line(refusal) => refusal.expected.number(),
+            Reason::Text(_) => None,
+        }
+    }
+}
+
 /// The first bad line of a script, from 1 on, and its first bad word.
 #[derive(Clone, Copy, Debug, PartialEq, Eq)]
 pub struct BadLine {
@@ -30,6 +63,8 @@ pub enum LintFault {
     NoMemory,
     /// A line is bad.
     Bad(BadLine),
+    /// This line, from 1 on, is the first bad one, and there is no memory to tell its word.
+    BadAt(usize),
 }
 
 impl From<AllocError> for LintFault {

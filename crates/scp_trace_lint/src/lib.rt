@@ -2,7 +2,8 @@
 //!
 //! What it promises:
 //! - a script is refused just where a line of it is bad, in digits or as text; the first such line is told, with its first bad word
-//!   and what was expected there;
+//!   and what was expected there; for want of memory by its number alone, and it isn't hidden by that before a line that carries a
+//!   message, a value or a quorum set;
 //! - of a script without a bad line it tells each warning just where its definition holds, those of lines first, in their order.
 #![tactic(auto)]
 
@@ -15,11 +16,13 @@ mod text;
 mod turns;
 mod warned;
 mod warning;
+mod writing;
 
 pub use fault::{BadLine, LintFault, Reason};
 pub use linting::lint;
 pub use nodes::is_scripted;
 pub use reading::{Script, read};
-pub use text::{line_of_fault, text_of_warnings};
+pub use text::text_of_warnings;
 pub use warned::warnings;
 pub use warning::Warning;
+pub use writing::{write_bad_at, write_bad_line};

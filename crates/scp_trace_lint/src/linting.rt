@@ -28,12 +28,16 @@ fn told(alloc: Global, script: &Script) -> Result<String, Fault>
 }
 
 /// The warnings of a script, a line for each, and `ok`; or its first bad line.
+#[tactic(auto, using(crate::proofs::Wanting::said_wants))]
 pub fn lint(alloc: Global, text: &[u8]) -> Result<String, LintFault>
     // No line is bad: these are the lines of its warnings, and `ok`.
     ensures linted { IfOk result (λ out. IsLinted text.now (string_bytes out)) }
-    // Memory ran out, or a line is the first bad one.
+    // A line is the first bad one, or memory ran out: then it is told by its number, where that takes no memory.
     ensures cause { IfErr result (IsLintFault text.now) }
 {
     let script = read(alloc, text)?;
-    Ok(told(alloc, &script)?)
+    match told(alloc, &script) {
+        Ok(text) => Ok(text),
+        Err(_) => Err(LintFault::NoMemory),
+    }
 }

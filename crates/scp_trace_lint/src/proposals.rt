@@ -5,8 +5,9 @@ ghost use Rattle.std.specs.Ordering.{nat_cmp};
 ghost use Rattle.std.specs.BTreeMap as tree;
 ghost use Rattle.std.specs.BTreeSet as sorted;
 ghost use Rattle.scp_script.specs.Script.{node_count};
-ghost use Rattle.scp_trace_lint.specs.Nodes.{is_round, is_slot, proposes_at};
-ghost use Rattle.scp_trace_lint.specs.Led.{leads_by};
+ghost use Rattle.scp_trace_lint.specs.Nodes.{is_round, proposes_at};
+ghost use Rattle.scp_trace_lint.specs.inside.Nodes.{is_slot};
+ghost use Rattle.scp_trace_lint.specs.inside.Led.{leads_by};
 ghost use Rattle.scp_trace_lint.specs.Warnings.{leads_own, is_led};
 
 use crate::turns::{Turn, leads, turn_at};

@@ -1,18 +1,21 @@
 //! A script, line by line, in digits or as text.
-ghost use Rattle.std.specs.Prelude.{◌≡◌, ◌∷◌, ◌++◌, [], map, All, IfOk, IfErr, OnOk, if◌then◌else◌};
+ghost use Rattle.std.specs.Prelude.{◌≡◌, ◌∷◌, ◌++◌, [], map, take, not, All, IfOk, IfErr, OnOk, if◌then◌else◌};
+ghost use Rattle.std.specs.List.{list_any};
 ghost use Rattle.scp_text.specs.declared.refusal.TextError.TheVariants.{Refused};
 ghost use Rattle.scp_rewrite.specs.declared.line.Form.TheVariants.{Hex};
-ghost use Rattle.scp_rewrite.specs.Scripts.{lines_of, IsLineOf, IsNoLineOf};
-ghost use Rattle.scp_script.specs.Script.{AreAdmitted};
+ghost use Rattle.scp_rewrite.specs.Scripts.{lines_of, carries as does_carry, IsLineOf, IsNoLineOf};
+ghost use Rattle.scp_script.specs.Script.{AreAdmitted, IsBadLine};
 ghost use Rattle.scp_script.specs.Nodes.{NamesNodes};
 ghost use Rattle.scp_script.specs.Reading.{IsReading};
 ghost use Rattle.scp_trace_lint.specs.declared.fault.LintFault.TheVariants.{NoMemory};
-ghost use Rattle.scp_trace_lint.specs.Lines.{IsSaid, IsBad, IsReason, IsLintFault, IsPlaced, IsTaken};
+ghost use Rattle.scp_trace_lint.specs.Lines.{IsSaid, IsBad, IsReason, IsLintFault};
+ghost use Rattle.scp_trace_lint.specs.inside.Lines.{IsPlaced, IsTaken, IsFound, bad_line_of};
 
 use crate::fault::{BadLine, LintFault, Reason};
-use scp_rewrite::{Form, line_in};
-use scp_script::{Command, Reading, odd_bytes, skipped};
+use scp_rewrite::{Form, carries, line_in};
+use scp_script::{Command, Reading, odd_bytes, parse, skipped};
 use scp_text::{Refusal, TextError};
+use scp_types::Fault;
 use scp_wire::Bytes;
 use std::alloc::{AllocError, Global};
 
@@ -137,16 +140,13 @@ fn note(numbers: &mut Vec<usize>, holds: bool, number: usize) -> Result<(), Allo
     Ok(())
 }
 
-/// Reads a script: its commands, in their order, or its first bad line. It takes time in proportion to the text.
+/// Reads the lines of a script, one after the other.
 #[tactic(auto, using(crate::proofs::Taken::nothing_taken, crate::proofs::Taken::all_said, crate::proofs::Taken::all_named, crate::proofs::Taken::all_admitted))]
-pub fn read(alloc: Global, text: &[u8]) -> Result<Script, LintFault>
-    // No line is bad, and these are the commands and their lines.
+fn read_lines(alloc: Global, text: &[u8]) -> Result<Script, LintFault>
     ensures said { IfOk result (λ script. IsSaid text.now script.commands.items script.lines.items) }
-    // Each names nodes from 1 to 8, and may stand behind those before it.
     ensures nodes { IfOk result (λ script. All NamesNodes script.commands.items) }
     ensures admitted { IfOk result (λ script. AreAdmitted [] script.commands.items) }
-    // Memory ran out, or a line is the first bad one.
-    ensures cause { IfErr result (IsLintFault text.now) }
+    ensures cause { IfErr result (IsFound text.now) }
 {
     let mut reading = Reading::new(alloc);
     let mut numbers = Vec::new(alloc);
@@ -163,4 +163,69 @@ pub fn read(alloc: Global, text: &[u8]) -> Result<Script, LintFault>
         commands,
         lines: numbers,
     })
+}
+
+/// The bad line that a reading told.
+fn bad_line<T: Drop>(read: Result<T, Fault>) -> Option<usize>
+    ensures { result ≡ bad_line_of read }
+{
+    match read {
+        Err(Fault::BadScript(line)) => Some(line),
+        _ => None,
+    }
+}
+
+/// Whether none of the first lines, so many, carries something.
+fn are_bare(text: &[u8], count: usize) -> bool
+    ensures { result ≡ not (list_any does_carry (take count (lines_of text.now))) }
+{
+    let mut left = count;
+    for line in text.split(|byte| *byte == b'\n') {
+        if left == 0 {
+            return true;
+        }
+        if carries(line) {
+            return false;
+        }
+        left -= 1;
+    }
+    true
+}
+
+/// What is told of a text whose first bad line, as a script in digits, is this one.
+fn told_at(text: &[u8], line: usize) -> LintFault
+    requires { IsBadLine text.now line }
+    ensures { IsLintFault text.now result }
+{
+    if are_bare(text, line) {
+        return LintFault::BadAt(line);
+    }
+    LintFault::NoMemory
+}
+
+/// What is told of a text without memory: its first bad line, where none up to it carries something.
+fn without_memory(alloc: Global, text: &[u8]) -> LintFault
+    ensures { IsLintFault text.now result }
+{
+    match bad_line(parse(alloc, text)) {
+        Some(line) => told_at(text, line),
+        None => LintFault::NoMemory,
+    }
+}
+
+/// Reads a script: its commands, in their order, or its first bad line. It takes time in proportion to the text.
+pub fn read(alloc: Global, text: &[u8]) -> Result<Script, LintFault>
+    // No line is bad, and these are the commands and their lines.
+    ensures said { IfOk result (λ script. IsSaid text.now script.commands.items script.lines.items) }
+    // Each names nodes from 1 to 8, and may stand behind those before it.
+    ensures nodes { IfOk result (λ script. All NamesNodes script.commands.items) }
+    ensures admitted { IfOk result (λ script. AreAdmitted [] script.commands.items) }
+    // A line is the first bad one, or memory ran out: then it is told by its number, where that takes no memory.
+    ensures cause { IfErr result (IsLintFault text.now) }
+{
+    match read_lines(alloc, text) {
+        Ok(script) => Ok(script),
+        Err(LintFault::NoMemory) => Err(without_memory(alloc, text)),
+        Err(fault) => Err(fault),
+    }
 }

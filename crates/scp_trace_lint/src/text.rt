@@ -1,65 +1,12 @@
-//! The lines that tell a warning or a bad line.
-ghost use Rattle.std.specs.Prelude.{◌≡◌, ◌++◌, IfOk, IsOkUnless, codes, string_bytes, Some};
+//! The lines that tell a warning.
+ghost use Rattle.std.specs.Prelude.{◌≡◌, ◌++◌, IfOk, IsOkUnless, codes, string_bytes};
 ghost use Rattle.std.specs.Fmt.{decimal};
-ghost use Rattle.scp_trace_lint.specs.Texts.{word_of as place_of, warning_text, warnings_text, IsReasonText, IsBadText};
+ghost use Rattle.scp_trace_lint.specs.Texts.{warning_text, warnings_text};
 
-use crate::fault::{BadLine, Reason};
 use crate::warning::Warning;
 use scp_text::Term;
 use scp_types::{Fault, NodeId};
 use std::alloc::{AllocError, Global};
-
-/// What was expected at the word of a bad line, in words.
-fn expected(alloc: Global, reason: Reason) -> Result<String, AllocError> {
-    match reason {
-        Reason::Line(refusal) => refusal.expected.text(alloc),
-        Reason::Text(refusal) => refusal.expected.text().to_string(alloc),
-    }
-}
-
-/// The word of a bad line, from 1 on.
-fn word(reason: Reason) -> usize
-    ensures { result ≡ place_of reason }
-{
-    match reason {
-        Reason::Line(refusal) => refusal.word,
-        Reason::Text(refusal) => refusal.word,
-    }
-}
-
-/// The line that tells a bad word, and what was expected there.
-fn line_of_word(
-    alloc: Global,
-    line: usize,
-    word: usize,
-    expected: &str,
-) -> Result<String, AllocError>
-    ensures { IfOk result (λ text. string_bytes text ≡ codes "fault 12 line " ++ decimal line ++ codes " at " ++ decimal word ++ codes ": " ++ expected.now ++ codes "\n") }
-{
-    let mut text = format!(in alloc; "fault 12 line {line} at {word}: ")?;
-    text.push_str(expected)?;
-    text.push_str("\n")?;
-    Ok(text)
-}
-
-/// The line that tells a reason.
-fn line_of_reason(alloc: Global, line: usize, reason: Reason) -> Result<String, AllocError>
-    ensures { IfOk result (λ text. IsReasonText line (Some reason) (string_bytes text)) }
-{
-    let expected = expected(alloc, reason)?;
-    line_of_word(alloc, line, word(reason), expected.as_str())
-}
-
-/// The line that tells the first bad line of a script.
-pub fn line_of_fault(alloc: Global, bad: BadLine) -> Result<String, AllocError>
-    ensures { IfOk result (λ text. IsBadText bad (string_bytes text)) }
-{
-    let line = bad.line;
-    match bad.reason {
-        Some(reason) => line_of_reason(alloc, line, reason),
-        None => format!(in alloc; "fault 12 line {line}\n"),
-    }
-}
 
 /// The line that warns of a line in these words.
 fn of_line(alloc: Global, line: usize, words: &str) -> Result<String, AllocError>

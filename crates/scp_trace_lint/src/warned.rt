@@ -9,8 +9,8 @@ ghost use Rattle.scp_script.specs.declared.command.Command.{Command};
 ghost use Rattle.scp_trace_lint.specs.declared.warning.Warning.TheVariants.{Driven, BadValue, Unled};
 ghost use Rattle.scp_trace_lint.specs.Nodes.{speaks_in, settles_them, acts_on, is_list};
 ghost use Rattle.scp_trace_lint.specs.Warnings.{AreWarnings, warnings_by, bytes_warning, command_warnings, line_warnings, rest_warning, rest_place, is_unopened, unopened, unopened_from, report_warning, leader_of, turn_of};
-ghost use Rattle.scp_trace_lint.specs.Sent.{has_sent};
-ghost use Rattle.scp_trace_lint.specs.Behind.{KnowsBefore, KnowsWhole, place_behind};
+ghost use Rattle.scp_trace_lint.specs.inside.Sent.{has_sent};
+ghost use Rattle.scp_trace_lint.specs.inside.Behind.{KnowsBefore, KnowsWhole, place_behind};
 
 use crate::nodes::{is_opened, is_reported, is_scripted, speaks};
 use crate::proposals::led;

@@ -12,7 +12,7 @@ use Rattle.scp_ballot_rules.specs.Greatest.{ballot_at}
 use Rattle.scp_ballot_rules.specs.Owed.{IsCandidate, IsBoundary}
 use Rattle.scp_vote.specs.Board.{Seen}
 use Rattle.scp_trace_needs.specs.Needs.{IsTopBallot, IsTopBoundary}
-use Rattle.scp_trace_needs.specs.Found.{IsGreatest, Raises}
+use Rattle.scp_trace_needs.specs.inside.Found.{IsGreatest, Raises}
 use Rattle.scp_trace_needs.proofs.Visiting.{decided}
 use Rattle.scp_trace_needs.proofs.Naming.{same_value, value_itself}
 

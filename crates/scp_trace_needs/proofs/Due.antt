@@ -19,7 +19,7 @@ use Rattle.scp_trace_needs.specs.declared.steps.Step.{Step}
 use Rattle.scp_trace_needs.specs.declared.steps.Step.TheVariants.{AcceptNominated, ConfirmNominated, AcceptPrepared, ConfirmPrepared, AcceptCommit, ConfirmCommit}
 use Rattle.scp_trace_needs.specs.declared.steps.Need.{Need}
 use Rattle.scp_trace_needs.specs.Needs.{IsNamed, IsNominationDue, value_of}
-use Rattle.scp_trace_needs.specs.Found.{IsNext, IsNeedFor}
+use Rattle.scp_trace_needs.specs.inside.Found.{IsNext, IsNeedFor}
 
 -- who accepts stands by it
 accepts_stands : (claim : Claim) (p : Pledges) → Stands Accepts claim p → Stands VotesOrAccepts claim p

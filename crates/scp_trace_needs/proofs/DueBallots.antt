@@ -27,7 +27,7 @@ use Rattle.scp_trace_needs.specs.declared.steps.Step.{Step}
 use Rattle.scp_trace_needs.specs.declared.steps.Step.TheVariants.{AcceptNominated, ConfirmNominated, AcceptPrepared, ConfirmPrepared, AcceptCommit, ConfirmCommit}
 use Rattle.scp_trace_needs.specs.declared.steps.Need.{Need}
 use Rattle.scp_trace_needs.specs.Needs.{IsPreparing, IsTopBallot, IsTopBoundary, IsBallotDue, value_of, AreBallotNeeds}
-use Rattle.scp_trace_needs.specs.Found.{IsGreatest, IsNeedOf, IsNext, IsNeedFor}
+use Rattle.scp_trace_needs.specs.inside.Found.{IsGreatest, IsNeedOf, IsNext, IsNeedFor}
 use Rattle.scp_trace_needs.proofs.Counters.{Counters, has_counter, same_top, same_boundary, top_boundary}
 use Rattle.scp_trace_needs.proofs.Due.{confirmed_accepted}
 use Rattle.scp_trace_needs.proofs.Listing.{AreSoFar, so_far_start, so_far_more, so_far_end, sorted_none, sorted_one}

@@ -1,7 +1,9 @@
+pub mod Ascending
 pub mod Counters
 pub mod Due
 pub mod DueBallots
 pub mod Listing
 pub mod Members
 pub mod Naming
+pub mod Speaking
 pub mod Visiting

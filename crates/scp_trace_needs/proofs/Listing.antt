@@ -1,11 +1,11 @@
 -- Going over values that ascend, what each needs is listed.
-use Rattle.std.proofs.Common.{◌≡◌, ℕ, ◌<◌, List, [], ◌∷◌, ◌++◌, map, Option, Some, None, Contains, sym, subst, ◌⊎◌, inl, inr, arith}
+use Rattle.std.proofs.Common.{◌≡◌, ℕ, ◌<◌, List, [], ◌∷◌, ◌++◌, map, Option, Some, None, Contains, sym, subst, ◌⊎◌, inl, inr}
 use Rattle.std.specs.List.{All, Any, AllByRecursion}
 use Rattle.std.specs.List.Sorted.{IsStrictlySortedBy}
 use Rattle.std.specs.Option.{option_to_list}
 use Rattle.std.specs.declared.cmp.Ordering.TheVariants.{Less}
 use Rattle.std.proofs.lemmas.List.{append-nil}
-use Rattle.std.proofs.lemmas.List.Elements.{All-nil, All-push, All-contains, All-from_recursion, Contains-append_left, Contains-append_right, Contains-push, Contains-push_cases, Contains-append_cases}
+use Rattle.std.proofs.lemmas.List.Elements.{All-nil, All-push, All-contains, All-from_recursion, Contains-append_left, Contains-append_right, Contains-push, Contains-push_cases}
 use Rattle.scp_types.specs.declared.names.NodeId.{NodeId}
 use Rattle.scp_envelope.specs.Ballots.{value_cmp}
 use Rattle.scp_vote.specs.declared.board.Board.{Board}
@@ -13,7 +13,8 @@ use Rattle.scp_vote.specs.declared.claim.Claim.{Claim}
 use Rattle.scp_trace_needs.specs.declared.steps.Step.{Step}
 use Rattle.scp_trace_needs.specs.declared.steps.Need.{Need}
 use Rattle.scp_trace_needs.specs.Needs.{IsNeed, value_of, AreNeeds}
-use Rattle.scp_trace_needs.specs.Found.{IsNeedFor}
+use Rattle.scp_trace_needs.specs.inside.Found.{IsNeedFor}
+use Rattle.scp_trace_needs.proofs.Ascending.{none_there, first_or_rest}
 
 abbrev pub told_value : Need → List ℕ
 told_value need = value_of need.claim
@@ -52,15 +53,6 @@ below_rest v rest up w h = All-contains (λ x. value_cmp v x ≡ Less) rest w (A
 sorted_rest : (v : List ℕ) (rest : List (List ℕ)) → IsStrictlySortedBy value_cmp (v ∷ rest) → IsStrictlySortedBy value_cmp rest
 unfolding IsStrictlySortedBy
 sorted_rest v rest up = up.1
-
-none_there : {X : Type 0} (x : X) → Contains [] x → ⊥
-none_there x h = let lt : h.0 < 0 = h.1 in omega arith
-
-first_or_rest : (v : List ℕ) (rest : List (List ℕ)) (w : List ℕ) → Contains (v ∷ rest) w → (v ≡ w) ⊎ Contains rest w
-first_or_rest v rest w h = elim (Contains-append_cases (v ∷ []) rest w h) [
-  | inl first ↦ elim (Contains-push_cases [] v w first) [ inl none ↦ absurd (none_there w none) | inr same ↦ inl same ]
-  | inr later ↦ inr later
-]
 
 -- the same element, in a list and as one of which P holds
 any_of : (P : Need → Type 0) (ns : List Need) (need : Need) → Contains ns need → P need → Any P ns

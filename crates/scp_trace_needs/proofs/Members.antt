@@ -1,5 +1,7 @@
 -- Going over nodes, those of which something holds are gathered.
-use Rattle.std.proofs.Common.{◌≡◌, ◌↔◌, ◌+◌, ◌<◌, ◌≤◌, cond, Option, Some, IsSomeAnd, ◌∙◌, ℕ, ap, take, get_or, length, Bool, true, false, not, List, [], ◌∷◌, ◌++◌, Contains, IsTrue, refl, subst, ◌⊎◌, inl, inr, sym}
+use Rattle.std.proofs.Common.{◌≡◌, ◌↔◌, ◌+◌, ◌<◌, ◌≤◌, cond, Option, Some, None, IsSomeAnd, ◌∙◌, ℕ, ap, take, get_or, length, Bool, true, false, not, List, [], ◌∷◌, ◌++◌, Contains, IsTrue, refl, subst, ◌⊎◌, inl, inr, sym}
+use Rattle.std.specs.Prelude.{if◌then◌else◌, is_some}
+use Rattle.std.specs.List.Sorted.{IsStrictlySortedBy}
 use Rattle.std.proofs.lemmas.List.{take_more, take_all}
 use Rattle.std.proofs.lemmas.List.Elements.{Contains-append_left, Contains-push, Contains-push_cases}
 use Rattle.scp_types.specs.declared.names.NodeId.{NodeId}
@@ -8,32 +10,74 @@ use Rattle.scp_quorum.specs.NodeSet.{node_cmp}
 use Rattle.scp_quorum.specs.QuorumTree.{QuorumTree}
 use Rattle.scp_quorum.specs.Satisfies.{Satisfies}
 use Rattle.scp_quorum.proofs.Blocking.{Satisfies-within}
-use Rattle.scp_vote.specs.Board.{Seen}
+use Rattle.scp_vote.specs.declared.claim.Claim.{Claim}
+use Rattle.scp_vote.specs.declared.claim.Support.{Support}
+use Rattle.scp_vote.specs.Claims.{Stands}
+use Rattle.scp_vote.specs.Board.{Seen, Has}
 use Rattle.scp_vote.proofs.Chain.{same_at, at_itself}
+use Rattle.scp_trace_needs.proofs.Ascending.{none_there, sorted_push, sorted_front, below_last}
 use Rattle.scp_trace_needs.proofs.Visiting.{decided}
-use Rattle.scp_trace_needs.specs.Needs.{AreMembers, AreThese, IsShort}
+use Rattle.scp_trace_needs.specs.Needs.{AreStanding, AreMembers, AreThese, IsShort}
+
+-- a member that isn't one of them, and one that is
+members_passed : (P : NodeId → Type 0) (front nodes : List NodeId) (u : NodeId) → ¬ (P u) → AreMembers P front nodes → AreMembers P (front ++ u ∷ []) nodes
+members_passed P front nodes u out before = record {
+  these = λ v. (
+    (λ h. (Contains-append_left front (u ∷ []) v ((before.these v).0 h).0, ((before.these v).0 h).1)),
+    λ h. elim (Contains-push_cases front u v h.0) [
+      | inl was ↦ (before.these v).1 (was, h.1)
+      | inr same ↦ absurd (out (subst P (sym same) h.1))
+    ],
+  );
+  ascending = λ up. before.ascending (sorted_front node_cmp front u up);
+}
+
+members_taken : (P : NodeId → Type 0) (front nodes : List NodeId) (u : NodeId) → P u → AreMembers P front nodes → AreMembers P (front ++ u ∷ []) (nodes ++ u ∷ [])
+members_taken P front nodes u p before = record {
+  these = λ v. (
+    (λ h. elim (Contains-push_cases nodes u v h) [
+      | inl was ↦ (Contains-append_left front (u ∷ []) v ((before.these v).0 was).0, ((before.these v).0 was).1)
+      | inr same ↦ (subst (λ (w : NodeId). Contains (front ++ u ∷ []) w) same (Contains-push front u), subst P same p)
+    ]),
+    λ h. elim (Contains-push_cases front u v h.0) [
+      | inl was ↦ Contains-append_left nodes (u ∷ []) v ((before.these v).1 (was, h.1))
+      | inr same ↦ subst (λ (w : NodeId). Contains (nodes ++ u ∷ []) w) same (Contains-push nodes u)
+    ],
+  );
+  ascending = λ up. sorted_push node_cmp nodes u (before.ascending (sorted_front node_cmp front u up)) (λ v h. below_last node_cmp front u up v ((before.these v).0 h).0);
+}
 
 -- one member more
-pub members_more : (P : NodeId → Type 0) (front nodes more : List NodeId) (u : NodeId) (one : Bool) → (IsTrue one ↔ P u)
-    → ((v : NodeId) → Contains more v ↔ (Contains nodes v ⊎ ((u ≡ v) × (one ≡ true)))) → AreMembers P front nodes → AreMembers P (front ++ u ∷ []) more
-members_more P front nodes more u one told adds before = λ v. (
-  (λ h. elim ((adds v).0 h) [
-    | inl was ↦ (Contains-append_left front (u ∷ []) v ((before v).0 was).0, ((before v).0 was).1)
-    | inr now ↦ (subst (λ (w : NodeId). Contains (front ++ u ∷ []) w) now.0 (Contains-push front u), subst P now.0 (told.0 now.1))
-  ]),
-  λ h. elim (Contains-push_cases front u v h.0) [
-    | inl was ↦ (adds v).1 (inl ((before v).1 (was, h.1)))
-    | inr same ↦ (adds v).1 (inr (same, told.1 (subst P (sym same) h.1)))
-  ],
-)
+members_more : (P : NodeId → Type 0) (front nodes more : List NodeId) (u : NodeId) (one : Bool) → (IsTrue one ↔ P u) → more ≡ (if one then nodes ++ u ∷ [] else nodes)
+    → AreMembers P front nodes → AreMembers P (front ++ u ∷ []) more
+members_more P front nodes more u true told is before = subst (λ (ns : List NodeId). AreMembers P (front ++ u ∷ []) ns) (sym is) (members_taken P front nodes u (told.0 refl) before)
+members_more P front nodes more u false told is before =
+    subst (λ (ns : List NodeId). AreMembers P (front ++ u ∷ []) ns) (sym is) (members_passed P front nodes u (λ p. let wrong : false ≡ true = told.1 p in absurd cc) before)
 
 pub members_at : (P : NodeId → Type 0) (xs nodes more : List NodeId) (i : ℕ) (d u : NodeId) (one : Bool) → i < length xs → get_or xs i d ≡ u → (IsTrue one ↔ P u)
-    → ((v : NodeId) → Contains more v ↔ (Contains nodes v ⊎ ((u ≡ v) × (one ≡ true)))) → AreMembers P (take i xs) nodes → AreMembers P (take (i + 1) xs) more
+    → more ≡ (if one then nodes ++ u ∷ [] else nodes) → AreMembers P (take i xs) nodes → AreMembers P (take (i + 1) xs) more
 members_at P xs nodes more i d u one lt is told adds before =
     subst (λ (front : List NodeId). AreMembers P front more) (sym (take_more xs i d lt ∙ ap (λ (x : NodeId). take i xs ++ x ∷ []) is)) (members_more P (take i xs) nodes more u one told adds before)
 
 pub members_all : (P : NodeId → Type 0) (xs nodes : List NodeId) (i : ℕ) → length xs ≤ i → AreMembers P (take i xs) nodes → AreMembers P xs nodes
 members_all P xs nodes i long all = subst (λ (front : List NodeId). AreMembers P front nodes) (take_all i xs long) all
+
+-- no member so far
+pub members_none : (P : NodeId → Type 0) → AreMembers P [] []
+members_none P = record { these = λ v. ((λ h. absurd (none_there v h)), λ h. h.0); ascending = λ up. up }
+
+-- ---- of those that have a statement, the ones that stand by a claim
+
+has_one : {A : Type 0} (P : A → Type 0) (o : Option A) → IsSomeAnd o P → is_some o ≡ true
+has_one P None h = absurd h
+has_one P (Some x) h = refl
+
+pub all_standing : (b : Seen) (support : Support) (claim : Claim) (speakers nodes : List NodeId) → ((v : NodeId) → Contains speakers v ↔ (is_some (b.statement v) ≡ true)) → IsStrictlySortedBy node_cmp speakers
+    → AreMembers (Has b (Stands support claim)) speakers nodes → AreStanding b support claim nodes
+all_standing b support claim speakers nodes speaking up all = record {
+  these = λ v. ((λ h. ((all.these v).0 h).1), λ h. (all.these v).1 ((speaking v).1 (has_one (Stands support claim) (b.statement v) h), h));
+  ascending = all.ascending up;
+}
 
 -- a node was put into a set
 pub set_more : (old new : NodeId → Bool) (u : NodeId) → ((w : NodeId) → new w ≡ cond (is_at (node_cmp u) w) true (old w)) → (v : NodeId) → (new v ≡ true) ↔ ((old v ≡ true) ⊎ (u ≡ v))

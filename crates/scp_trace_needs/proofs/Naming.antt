@@ -20,7 +20,7 @@ use Rattle.scp_vote.specs.Claims.{Stands}
 use Rattle.scp_vote.specs.Board.{Seen}
 use Rattle.scp_vote.proofs.Chain.{same_at}
 use Rattle.scp_trace_needs.specs.Needs.{IsNamed}
-use Rattle.scp_trace_needs.specs.Found.{Adds}
+use Rattle.scp_trace_needs.specs.inside.Found.{Adds}
 use Rattle.scp_trace_needs.proofs.Visiting.{Entries, decided}
 
 is_eq-true : (o : Ordering) → is_eq o ≡ true → o ≡ Equal

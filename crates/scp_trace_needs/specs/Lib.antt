@@ -1,2 +1,2 @@
 pub mod Needs
-pub mod Found
+pub mod inside

@@ -3,6 +3,7 @@ use Rattle.std.specs.Prelude.{◌↔◌, ◌≡◌, ◌≢◌, ◌≤◌, ℕ, B
 use Rattle.std.specs.List.Sorted.{IsStrictlySortedBy}
 use Rattle.scp_types.specs.declared.names.NodeId.{NodeId}
 use Rattle.scp_types.specs.declared.ballot.Ballot.{Ballot}
+use Rattle.scp_quorum.specs.NodeSet.{node_cmp}
 use Rattle.scp_quorum.specs.Satisfies.{Satisfies}
 use Rattle.scp_envelope.specs.declared.statement.Pledges.{Pledges}
 use Rattle.scp_envelope.specs.declared.statement.Pledges.TheVariants.{Prepare, Confirm, Externalize, Nominate}
@@ -37,9 +38,10 @@ abbrev pub IsOwed : Bool → Seen → Claim → Type 0
 IsOwed true b claim = ¬ (Confirmed b claim)
 IsOwed false b claim = ¬ (Accepted b claim)
 
--- just the nodes whose statements stand so by the claim
-abbrev pub AreStanding : Seen → Support → Claim → List NodeId → Type 0
-AreStanding b support claim nodes = (v : NodeId) → Contains nodes v ↔ Has b (Stands support claim) v
+-- just the nodes whose statements stand so by the claim, ascending: so each once
+pub record AreStanding (b : Seen) (support : Support) (claim : Claim) (nodes : List NodeId) : Type 0 where
+  pub these : (v : NodeId) → Contains nodes v ↔ Has b (Stands support claim) v
+  pub ascending : IsStrictlySortedBy node_cmp nodes
 
 -- the statement confirms or externalizes another value
 abbrev pub SettlesElse : List ℕ → Pledges → Type 0
@@ -62,9 +64,10 @@ IsLacking b claim counted v = (¬ (Contains counted v)) × (¬ (IsAgainst b clai
 abbrev pub IsOpposed : Seen → Claim → List NodeId → NodeId → Type 0
 IsOpposed b claim counted v = (¬ (Contains counted v)) × IsAgainst b claim v
 
--- just the members of which P holds
-abbrev pub AreMembers : (NodeId → Type 0) → List NodeId → List NodeId → Type 0
-AreMembers P members nodes = (v : NodeId) → Contains nodes v ↔ (Contains members v × P v)
+-- just the members of which P holds; where the members ascend, so do they, each once
+pub record AreMembers (P : NodeId → Type 0) (members nodes : List NodeId) : Type 0 where
+  pub these : (v : NodeId) → Contains nodes v ↔ (Contains members v × P v)
+  pub ascending : IsStrictlySortedBy node_cmp members → IsStrictlySortedBy node_cmp nodes
 
 -- just these nodes
 abbrev pub AreThese : List NodeId → (NodeId → Bool) → Type 0
@@ -79,6 +82,7 @@ abbrev pub counted_by : Bool → List NodeId → List NodeId → List NodeId
 counted_by true votes accepts = accepts
 counted_by false votes accepts = votes
 
+-- the nodes that count for the step: to accept a claim those that vote for it or accept it, to confirm it those that accept it
 abbrev pub counted_of : Need → List NodeId
 counted_of need = counted_by (confirms need.step) need.votes.items need.accepts.items
 
@@ -134,6 +138,7 @@ IsBallotDue b AcceptCommit claim = IsPreparing (b.statement b.me) × ((x : Ballo
 IsBallotDue b ConfirmCommit claim = (p : Confirming) × (b.statement b.me ≡ Some (Confirm p)) × (claim ≡ Committed p.n_high p.n_high p.ballot.value) × (¬ (Confirmed b claim))
 IsBallotDue b step claim = ⊥
 
+-- the value of a claim
 abbrev pub value_of : Claim → List ℕ
 value_of (Prepared x) = x.value
 value_of (Committed low high value) = value
@@ -146,8 +151,10 @@ pub record AreNeeds (board : Board) (members : List NodeId) (IsDue : Step → Cl
   pub all : (step : Step) (claim : Claim) → IsDue step claim → Any (λ (need : Need). (need.step ≡ step) × (need.claim ≡ claim)) needs
   pub ascending : IsStrictlySortedBy value_cmp (map (λ (need : Need). value_of need.claim) needs)
 
+-- just the steps that are due in the nomination, each with its need, ascending by their values
 abbrev pub AreNominationNeeds : Board → List NodeId → List Need → Type 0
 AreNominationNeeds board members needs = AreNeeds board members (IsNominationDue (seen Nomination board)) needs
 
+-- just the steps that are due in the ballots, each with its need, ascending by their values
 abbrev pub AreBallotNeeds : Board → List NodeId → List Need → Type 0
 AreBallotNeeds board members needs = AreNeeds board members (IsBallotDue (seen Balloting board)) needs

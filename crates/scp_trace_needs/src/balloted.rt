@@ -11,7 +11,7 @@ ghost use Rattle.scp_vote.specs.declared.claim.StatementKind.TheVariants.{Ballot
 ghost use Rattle.scp_vote.specs.Seen.{seen};
 ghost use Rattle.scp_trace_needs.specs.declared.steps.Step.TheVariants.{AcceptPrepared, ConfirmPrepared, AcceptCommit};
 ghost use Rattle.scp_trace_needs.specs.Needs.{IsPreparing, IsTopBallot, IsBallotDue, AreBallotNeeds};
-ghost use Rattle.scp_trace_needs.specs.Found.{IsGreatest, Raises, IsNeedOf, IsNext, IsNeedFor};
+ghost use Rattle.scp_trace_needs.specs.inside.Found.{IsGreatest, Raises, IsNeedOf, IsNext, IsNeedFor};
 
 use crate::steps::{Need, Step, add, need_unless_reached, next};
 use scp_ballot_steps::boundaries::boundaries;

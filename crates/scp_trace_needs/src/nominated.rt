@@ -9,7 +9,7 @@ ghost use Rattle.scp_vote.specs.declared.claim.Support.TheVariants.{VotesOrAccep
 ghost use Rattle.scp_vote.specs.Claims.{Stands};
 ghost use Rattle.scp_vote.specs.Seen.{seen};
 ghost use Rattle.scp_trace_needs.specs.Needs.{IsNamed, IsNominationDue, AreNominationNeeds};
-ghost use Rattle.scp_trace_needs.specs.Found.{Adds, IsNeedFor};
+ghost use Rattle.scp_trace_needs.specs.inside.Found.{Adds, IsNeedFor};
 
 use crate::steps::{Need, Step, add, next};
 use scp_envelope::Pledges;

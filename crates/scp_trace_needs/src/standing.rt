@@ -1,7 +1,10 @@
 //! The nodes whose statements stand by a claim.
-ghost use Rattle.std.specs.Prelude.{◌≡◌, ◌↔◌, ◌⊎◌, true, Contains, IfOk, OnOk};
+ghost use Rattle.std.specs.Prelude.{◌≡◌, ◌↔◌, ◌++◌, ◌∷◌, [], true, if◌then◌else◌, is_some, Contains, IsTrue, IfOk, OnOk};
+ghost use Rattle.std.specs.List.Sorted.{IsStrictlySortedBy};
 ghost use Rattle.scp_types.specs.declared.names.NodeId.{NodeId};
-ghost use Rattle.scp_vote.specs.Board.{kind_of};
+ghost use Rattle.scp_quorum.specs.NodeSet.{node_cmp};
+ghost use Rattle.scp_vote.specs.Board.{Has, kind_of};
+ghost use Rattle.scp_vote.specs.Claims.{Stands};
 ghost use Rattle.scp_vote.specs.Seen.{seen};
 ghost use Rattle.scp_trace_needs.specs.Needs.{AreStanding};
 
@@ -11,7 +14,7 @@ use std::alloc::{AllocError, Global};
 
 /// Adds the node, if it is one.
 pub fn add_if(nodes: &mut Vec<NodeId>, node: NodeId, is_one: bool) -> Result<(), AllocError>
-    ensures { OnOk result ((v : NodeId) → Contains nodes.new.items v ↔ (Contains nodes.old.items v ⊎ ((node ≡ v) × (is_one ≡ true)))) }
+    ensures { OnOk result (nodes.new.items ≡ (if is_one then nodes.old.items ++ node ∷ [] else nodes.old.items)) }
 {
     if !is_one {
         return Ok(());
@@ -32,6 +35,31 @@ pub fn standing(
     standing_in(alloc, board, claim.kind(), claim, support)
 }
 
+/// The nodes that have a statement of this kind, ascending.
+fn speakers(alloc: Global, board: &Board, kind: StatementKind) -> Result<Vec<NodeId>, AllocError>
+    ensures these { IfOk result (λ nodes. (v : NodeId) → Contains nodes.items v ↔ (is_some ((seen kind board.now).statement v) ≡ true)) }
+    ensures ascending { IfOk result (λ nodes. IsStrictlySortedBy node_cmp nodes.items) }
+{
+    let nodes: Vec<NodeId> = board.statements(kind).keys().copied().collect(alloc)?;
+    Ok(nodes)
+}
+
+/// Whether the node's statement of this kind stands by the claim.
+fn is_standing(
+    board: &Board,
+    kind: StatementKind,
+    claim: &Claim,
+    support: Support,
+    node: &NodeId,
+) -> bool
+    ensures { IsTrue result ↔ Has (seen kind board.now) (Stands support claim.now) node.now }
+{
+    match board.statement(kind, node) {
+        Some(envelope) => stands(support, claim, &envelope.get().statement),
+        None => false,
+    }
+}
+
 /// Those whose statements of this kind do.
 fn standing_in(
     alloc: Global,
@@ -42,10 +70,14 @@ fn standing_in(
 ) -> Result<Vec<NodeId>, AllocError>
     ensures { IfOk result (λ nodes. AreStanding (seen kind board.now) support claim.now nodes.items) }
 {
+    let speakers = speakers(alloc, board, kind)?;
     let mut nodes = Vec::new(alloc);
-    for (node, entry) in board.statements(kind) {
-        let is_one = stands(support, claim, &entry.envelope.get().statement);
-        add_if(&mut nodes, *node, is_one)?;
+    for node in speakers.as_slice() {
+        add_if(
+            &mut nodes,
+            *node,
+            is_standing(board, kind, claim, support, node),
+        )?;
     }
     Ok(nodes)
 }

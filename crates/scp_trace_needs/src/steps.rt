@@ -6,7 +6,7 @@ ghost use Rattle.scp_vote.specs.declared.claim.StatementKind.TheVariants.{Ballot
 ghost use Rattle.scp_vote.specs.Board.{Has, kind_of};
 ghost use Rattle.scp_vote.specs.Seen.{seen};
 ghost use Rattle.scp_trace_needs.specs.Needs.{confirms as is_confirming, IsOwed, SettlesElse, IsAgainst, IsLacking, IsOpposed, AreMembers, AreThese, IsShort, counted_by, IsNeed};
-ghost use Rattle.scp_trace_needs.specs.Found.{IsReached, IsNeedOf, IsNext};
+ghost use Rattle.scp_trace_needs.specs.inside.Found.{IsReached, IsNeedOf, IsNext};
 
 use crate::standing::{add_if, standing};
 use scp_envelope::Pledges;

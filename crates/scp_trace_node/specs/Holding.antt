@@ -22,6 +22,7 @@ asked_for count number want = others_with count number (λ from. slice_index_or 
 abbrev pub asked_line : Names → ℕ → Want → List NodeId → List ℕ
 asked_line names number want nodes = decimal number ++ codes " wants " ++ name_of names want.hash ++ codes " misses " ++ decimal want.misses ++ codes " asked " ++ nodes_text nodes ++ codes "\n"
 
+-- the line of a wanted set
 abbrev pub want_line : Names → ℕ → ℕ → Want → List ℕ
 want_line names count number want = asked_line names number want (asked_for count number want)
 
@@ -34,6 +35,7 @@ abbrev pub held_text : Names → ℕ → ℕ → ℕ → ℕ → Option (Seq × 
 held_text names number from life count None = []
 held_text names number from life count (Some first) = decimal number ++ codes " holds " ++ decimal from ++ codes " " ++ decimal life ++ codes " " ++ decimal count ++ codes " first " ++ decimal first.0.0 ++ codes " waits " ++ name_of names first.1 ++ codes "\n"
 
+-- the line of the connection of this life from another node
 abbrev pub life_text : Names → ℕ → NodeView → ℕ → ℕ → List ℕ
 life_text names number v from life = held_text names number from life (count_held (conn_from from number life) v.pending) (first_waiting (parked_of (conn_from from number life) v.pending.settled.queues))
 

@@ -10,7 +10,7 @@ use Rattle.scp_wire.specs.Connections.{conn_at, same_conn}
 use Rattle.scp_ledger.specs.declared.journal.Fate.{Fate}
 use Rattle.scp_ledger.specs.declared.journal.Fate.TheVariants.{Taken, Dropped, Closed}
 use Rattle.scp_core.specs.Node.{NodeView, lives_at, queued_at}
-use Rattle.scp_sent.specs.Handing.{waiting_at}
+use Rattle.scp_outboxes.specs.Handing.{waiting_at}
 use Rattle.scp_network.specs.Rounds.{link_of}
 use Rattle.scp_script.specs.declared.command.Command.{Command}
 use Rattle.scp_script.specs.declared.command.Command.TheVariants as script
@@ -33,6 +33,7 @@ others_with count number test = map id_of (filter (λ other. not (nat_eq other n
 
 -- ---- links that were never open, or whose last connection has ended
 
+-- the word for why a connection ended
 abbrev pub cause_word : Cause → List ℕ
 cause_word Malformed = codes "malformed"
 cause_word Link = codes "link"
@@ -49,6 +50,7 @@ cause_by conn (Closed of cause) = if same_conn of conn then Some cause else None
 abbrev pub ended_by : ConnId → List Fate → Option Cause
 ended_by conn journal = slice_get (flat_map (λ fate. option_to_list (cause_by conn fate)) journal) 0
 
+-- the line of a link that was never open
 abbrev pub never_line : ℕ → ℕ → List ℕ
 never_line number from = decimal number ++ codes " from " ++ decimal from ++ codes " never\n"
 
@@ -81,9 +83,11 @@ queue_text number word count = if nat_lt 0 count then decimal number ++ codes " 
 abbrev pub link_queue_line : ℕ → ℕ → ℕ → List ℕ
 link_queue_line number from count = decimal number ++ codes " queued link " ++ decimal from ++ codes " " ++ decimal count ++ codes "\n"
 
+-- that line, where anything stands in the queue
 abbrev pub link_queue_text : ℕ → ℕ → ℕ → List ℕ
 link_queue_text number from count = if nat_lt 0 count then link_queue_line number from count else []
 
+-- how much stands in the queue of the link from another node
 abbrev pub queued_from : ℕ → NodeView → ℕ → List ℕ
 queued_from number v from = link_queue_text number from (queued_at v (link_of from number))
 
@@ -125,6 +129,7 @@ why_unsent commands played number to =
 abbrev pub unsent_line : ℕ → ℕ → ℕ → List ℕ → List ℕ
 unsent_line number to count why = decimal number ++ codes " unsent " ++ decimal to ++ codes " " ++ decimal count ++ codes " " ++ why ++ codes "\n"
 
+-- the line of what waits to go to another node, and why, where anything does
 abbrev pub unsent_text : List Command → List Command → ℕ → NodeView → ℕ → List ℕ
 unsent_text commands played number v to =
     if nat_lt 0 (waiting_at v.outboxes (link_of to number)) then unsent_line number to (waiting_at v.outboxes (link_of to number)) (why_unsent commands played number to) else []

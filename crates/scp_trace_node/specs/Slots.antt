@@ -91,10 +91,21 @@ moves number slot script.Settle = false
 moves number slot (script.Wait at things) = false
 moves number slot (script.Report at) = false
 
--- Something began the slot at the node: another's envelope that its machine judged, or a line that begins a round of it or runs
--- out its time. An own envelope and a proposal that is refused don't.
+-- the line lets the nodes settle, so that each takes what stands in its queues
+abbrev pub rests : Command → Bool
+rests script.Settle = true
+rests (script.Wait at things) = true
+rests command = false
+
+-- a line begins a round of the slot at the node or runs out its time, and the node took that: a line behind it lets the nodes settle
+abbrev pub is_taken : ℕ → ℕ → List Command → Bool
+is_taken number slot [] = false
+is_taken number slot (command ∷ commands) = if moves number slot command then list_any rests commands else is_taken number slot commands
+
+-- Something began the slot at the node: another's envelope that its machine judged, or a round or a time of it that the node took. An own
+-- envelope that comes back and a proposal that is refused don't.
 abbrev pub is_begun : ℕ → ℕ → List Fate → List Command → Bool
-is_begun number slot journal played = list_any (is_judged slot) journal || list_any (moves number slot) played
+is_begun number slot journal played = list_any (is_judged slot) journal || is_taken number slot played
 
 -- the machine isn't told of: nothing that came changed it, and nothing began the slot
 abbrev pub IsHidden : ℕ → ℕ → List Fate → List Command → SlotMachine KvDriver → Type 0

@@ -4,7 +4,7 @@ use Rattle.std.specs.Fmt.{decimal}
 use Rattle.scp_types.specs.declared.names.NodeId.{NodeId}
 use Rattle.scp_nominate.specs.Turns.{AreInTurn}
 use Rattle.scp_core.specs.Node.{NodeView}
-use Rattle.scp_core.specs.Stages.{KvRuns}
+use Rattle.scp_ledger.specs.Kv.{KvRuns}
 use Rattle.scp_text.specs.Sets.{set_text}
 use Rattle.scp_script.specs.declared.command.Command.{Command}
 use Rattle.scp_script.specs.Nodes.{id_of}

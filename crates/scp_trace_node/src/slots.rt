@@ -5,7 +5,7 @@ ghost use Rattle.scp_ledger.specs.Decisions.{is_at};
 ghost use Rattle.scp_ledger.specs.Seen.{is_asked, machine_at};
 ghost use Rattle.scp_network.specs.Rounds.{link_of};
 ghost use Rattle.scp_trace_slot.specs.Adding.{Adds};
-ghost use Rattle.scp_trace_node.specs.Slots.{decided_text, asked_of, asked_text, is_machines, is_of, is_judged, moves, is_begun, IsHidden, IsToldOf, IsSlotText, slot_above, IsTextOf, IsTextAbove, AreTexts};
+ghost use Rattle.scp_trace_node.specs.Slots.{decided_text, asked_of, asked_text, is_machines, is_of, is_judged, moves, rests, is_taken, is_begun, IsHidden, IsToldOf, IsSlotText, slot_above, IsTextOf, IsTextAbove, AreTexts};
 
 use crate::others::{add_if, lowest_of};
 use crate::stand::Seen;
@@ -154,13 +154,30 @@ fn is_move(command: &Command, number: u8, slot: u64) -> bool
     }
 }
 
-/// Whether a line does so.
-fn is_moved(played: &[Command], number: u8, slot: u64) -> bool
-    ensures { result ≡ list_any (moves number slot) played.now }
+/// Whether the line lets the nodes settle.
+fn does_rest(command: &Command) -> bool
+    ensures { result ≡ rests command.now }
 {
-    for command in played {
+    match command {
+        Command::Settle | Command::Wait { .. } => true,
+        _ => false,
+    }
+}
+
+/// Whether one of the lines does.
+fn do_rest(lines: &[Command]) -> bool
+    ensures { result ≡ list_any rests lines.now }
+{
+    lines.iter().any(|command| does_rest(command))
+}
+
+/// Whether a round or a time of the slot was taken by the node: a line says so, and one behind it lets the nodes settle.
+fn was_taken(played: &[Command], number: u8, slot: u64) -> bool
+    ensures { result ≡ is_taken number slot played.now }
+{
+    for (index, command) in played.iter().enumerate() {
         if is_move(command, number, slot) {
-            return true;
+            return do_rest(&played[index + 1..]);
         }
     }
     false
@@ -212,15 +229,15 @@ fn has_judgement(journal: &[Fate], slot: u64) -> bool
     false
 }
 
-/// Whether something began the slot at the node: another's envelope, a round or its time. An own envelope and a proposal that is
-/// refused don't.
+/// Whether something began the slot at the node: another's envelope, or a round or its time that was taken. An own envelope and a
+/// proposal that is refused don't.
 fn has_begun(number: u8, node: &Node, played: &[Command], slot: u64) -> bool
     ensures { result ≡ is_begun number slot node.now.ledger.journal played.now }
 {
     if has_judgement(node.journal(), slot) {
         return true;
     }
-    is_moved(played, number, slot)
+    was_taken(played, number, slot)
 }
 
 /// Whether the machine isn't told of.

@@ -4,6 +4,7 @@ use Rattle.scp_script.specs.Words.{same}
 use Rattle.scp_trace_serve.specs.declared.asked.Asked.{Asked as Asking}
 use Rattle.scp_trace_serve.specs.declared.asked.Asked.TheVariants.{Lint, Stand, Usage}
 
+-- what one word asks for: `lint` or `stand`, else how the program is used
 abbrev pub word_asks : List ℕ → Asking
 word_asks word = if same word (codes "lint") then Lint else (if same word (codes "stand") then Stand else Usage)
 

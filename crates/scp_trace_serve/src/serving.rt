@@ -1,16 +1,17 @@
 //! What the words of a command line are answered with.
-ghost use Rattle.std.specs.Prelude.{◌≡◌, ◌≢◌, ◌≤◌, ◌⊎◌, ◌++◌, ℕ, List, Some, length, map, OnOk, IfOk, IfErr, codes, string_bytes};
-ghost use Rattle.scp_device.specs.Device.{Gains, IsAll};
+ghost use Rattle.std.specs.Prelude.{◌≡◌, ◌≢◌, ◌≤◌, ◌⊎◌, ◌++◌, ℕ, List, Some, length, map, OnOk, OnErr, IfOk, IfErr, codes, string_bytes};
+ghost use Rattle.scp_device.specs.Device.{Gains, Fails, IsAll};
 ghost use Rattle.scp_trace_lint.specs.Texts.{IsLinted};
 ghost use Rattle.scp_line.specs.Outcome.{fault_line};
 ghost use Rattle.scp_trace_stand.specs.Told.{IsTold as IsToldOf};
 ghost use Rattle.scp_trace_serve.specs.Asked.{asked_by};
-ghost use Rattle.scp_trace_serve.specs.Serving.{IsFailureLine, status_of, IsCause, IsWritten, IsTold, IsStood, IsStoodUpTo, IsTelling};
+ghost use Rattle.scp_trace_serve.specs.Serving.{failure_line, status_of, IsCause, IsWritten, IsTold, HasFailed, IsStood, IsStoodUpTo};
+ghost use Rattle.scp_trace_serve.specs.inside.Serving.{IsTelling};
 
 use crate::asked::{Asked, read_words};
-use scp_device::{ReportOut, SCRIPT_LIMIT, ScriptIn, read_script, write_text};
+use scp_device::{ReportOut, SCRIPT_LIMIT, ScriptIn, read_script, write_numbered, write_text};
 use scp_line::{PlayFault, line_of_fault as line_of_play};
-use scp_trace_lint::{BadLine, LintFault, line_of_fault, lint};
+use scp_trace_lint::{BadLine, LintFault, lint, write_bad_at, write_bad_line};
 use scp_trace_stand::{StandFault, Told, stand};
 use scp_types::Fault;
 use std::alloc::{AllocError, Global};
@@ -20,25 +21,31 @@ use std::alloc::{AllocError, Global};
 pub enum Failure {
     /// A line is bad.
     Bad(BadLine),
+    /// This line, from 1 on, is the first bad one, and there was no memory to tell its word.
+    BadAt(usize),
     /// It is too long, memory ran out, or a read or a write failed.
     Failed(Fault),
 }
 
-/// The line that tells a fault.
-fn fault_line(alloc: Global, fault: Fault) -> Result<String, AllocError>
-    ensures { IfOk result (λ text. IsFailureLine (Failure.Failed fault) (string_bytes text)) }
+/// Writes the line that tells a fault. The one refusal is `Fault::Device`, where the writer failed.
+fn write_fault<W: ReportOut>(writer: &mut W, fault: Fault) -> Result<(), Fault>
+    ensures whole { OnOk result (Gains (W.written writer.old) (failure_line (Failure.Failed fault)) (W.written writer.new)) }
+    ensures raised { OnErr result (Fails (W.failures writer.old) (W.failures writer.new)) }
+    ensures kept { OnOk result (W.failures writer.new ≡ W.failures writer.old) }
 {
-    let number = fault.number();
-    format!(in alloc; "fault {number}\n")
+    write_numbered(writer, "fault ", u64::from(fault.number()), "\n")
 }
 
-/// The line that tells a failure.
-fn line_of(alloc: Global, failure: Failure) -> Result<String, AllocError>
-    ensures { IfOk result (λ text. IsFailureLine failure (string_bytes text)) }
+/// Writes the line that tells a failure, and is refused so.
+fn write_failure<W: ReportOut>(writer: &mut W, failure: Failure) -> Result<(), Fault>
+    ensures whole { OnOk result (Gains (W.written writer.old) (failure_line failure) (W.written writer.new)) }
+    ensures raised { OnErr result (Fails (W.failures writer.old) (W.failures writer.new)) }
+    ensures kept { OnOk result (W.failures writer.new ≡ W.failures writer.old) }
 {
     match failure {
-        Failure::Bad(bad) => line_of_fault(alloc, bad),
-        Failure::Failed(fault) => fault_line(alloc, fault),
+        Failure::Bad(bad) => write_bad_line(writer, bad),
+        Failure::BadAt(line) => write_bad_at(writer, line),
+        Failure::Failed(fault) => write_fault(writer, fault),
     }
 }
 
@@ -47,36 +54,36 @@ fn status(failure: Failure) -> u8
     ensures { result ≡ status_of failure }
 {
     match failure {
-        Failure::Bad(_) | Failure::Failed(Fault::TooLong) => 1,
+        Failure::Bad(_) | Failure::BadAt(_) | Failure::Failed(Fault::TooLong) => 1,
         Failure::Failed(_) => 3,
     }
 }
 
-/// Writes the line that tells a failure, if there is memory for it and the writer takes it, and answers the exit status.
-#[tactic(auto, using(crate::proofs::Told::some_status, crate::proofs::Told::few_status, crate::proofs::Told::no_usage))]
-fn tell<W: ReportOut>(alloc: Global, failure: Failure, writer: &mut W) -> u8
+/// Writes the line that tells a failure, if the writer takes it, and answers the exit status. It takes no memory.
+#[tactic(auto, using(crate::proofs::Told::some_status, crate::proofs::Told::few_status, crate::proofs::Told::no_usage, crate::proofs::Told::told_by))]
+fn tell<W: ReportOut>(failure: Failure, writer: &mut W) -> u8
     ensures status { result ≡ status_of failure }
     ensures some { 1 ≤ result }
     ensures few { result ≤ 3 }
     ensures no_usage { result ≢ 2 }
     ensures told { IsTold W.written W.failures writer.old failure writer.new }
 {
-    if let Ok(line) = line_of(alloc, failure) {
-        let _ = write_text(writer, line.as_str());
-    }
+    let _ = write_failure(writer, failure);
     status(failure)
 }
 
 /// What is told of a script, by its bytes.
+#[tactic(auto, using(crate::proofs::Told::want_cause))]
 fn linted(alloc: Global, script: &[u8]) -> Result<String, Failure>
     requires { length script.now ≤ SCRIPT_LIMIT }
     ensures linted { IfOk result (λ out. IsLinted script.now (string_bytes out)) }
-    ensures cause { IfErr result (IsCause (Some script.now)) }
+    ensures cause { IfErr result (IsCause ⊥ ⊥ (Some script.now)) }
 {
     match lint(alloc, script) {
         Ok(text) => Ok(text),
         Err(LintFault::NoMemory) => Err(Failure::Failed(Fault::NoMemory)),
         Err(LintFault::Bad(bad)) => Err(Failure::Bad(bad)),
+        Err(LintFault::BadAt(line)) => Err(Failure::BadAt(line)),
     }
 }
 
@@ -84,7 +91,7 @@ fn linted(alloc: Global, script: &[u8]) -> Result<String, Failure>
 #[tactic(auto, using(crate::proofs::Told::read_cause, crate::proofs::Told::known_cause, crate::proofs::Told::all_left))]
 fn read_and_lint<R: ScriptIn>(alloc: Global, reader: &mut R) -> Result<String, Failure>
     ensures linted { IfOk result (λ out. (script : List ℕ) × IsAll (R.left reader.old) script × (length script ≤ SCRIPT_LIMIT) × IsLinted script (string_bytes out)) }
-    ensures cause { IfErr result (IsCause (R.left reader.old)) }
+    ensures cause { IfErr result (IsCause (reader.new ≡ reader.old) (Fails (R.failures reader.old) (R.failures reader.new)) (R.left reader.old)) }
 {
     match read_script(alloc, reader) {
         Ok(script) => linted(alloc, script.as_slice()),
@@ -93,33 +100,33 @@ fn read_and_lint<R: ScriptIn>(alloc: Global, reader: &mut R) -> Result<String, F
 }
 
 /// Writes the whole text, or tells that the writer failed. Answers the exit status.
-#[tactic(auto, using(crate::proofs::Told::told_after))]
-fn finish<W: ReportOut>(alloc: Global, text: &str, writer: &mut W) -> u8
+#[tactic(auto, using(crate::proofs::Told::failed_after))]
+fn finish<W: ReportOut>(text: &str, writer: &mut W) -> u8
     ensures few { result ≤ 3 }
     ensures no_usage { result ≢ 2 }
     ensures written { result ≡ 0 → Gains (W.written writer.old) text.now (W.written writer.new) }
-    ensures failed { result ≢ 0 → (result ≡ 3) × IsTold W.written W.failures writer.old (Failure.Failed Fault.Device) writer.new }
+    ensures failed { result ≢ 0 → (result ≡ 3) × Fails (W.failures writer.old) (W.failures writer.new) }
 {
     match write_text(writer, text) {
         Ok(()) => 0,
-        Err(_) => tell(alloc, Failure::Failed(Fault::Device), writer),
+        Err(_) => tell(Failure::Failed(Fault::Device), writer),
     }
 }
 
 /// Reads a script whole, at most 1,048,576 bytes, writes its warnings and `ok`, and answers 0. Else writes nothing of that, tells the
-/// failure by its line, if there is memory for that and the writer takes it, and answers its status: 1 where a line is bad or the
+/// failure by its line, if the writer takes it, and answers its status: 1 where a line is bad or the
 /// script is too long, and 3.
 pub fn serve_lint<R: ScriptIn, W: ReportOut>(alloc: Global, reader: &mut R, writer: &mut W) -> u8
     ensures few { result ≤ 3 }
     ensures no_usage { result ≢ 2 }
     // What was read is a script of at most 1,048,576 bytes of which no line is bad, and its warnings and `ok` were written.
     ensures linted { result ≡ 0 → (script out : List ℕ) × IsAll (R.left reader.old) script × (length script ≤ SCRIPT_LIMIT) × IsLinted script out × Gains (W.written writer.old) out (W.written writer.new) }
-    // Else just the line of the failure was written, if anything, or the writer failed.
-    ensures refused { result ≢ 0 → (failure : Failure) × (result ≡ status_of failure) × IsCause (R.left reader.old) failure × IsTold W.written W.failures writer.old failure writer.new }
+    // Else just the line of the failure was written, or the writer failed.
+    ensures refused { result ≢ 0 → (failure : Failure) × (result ≡ status_of failure) × IsCause (reader.new ≡ reader.old) (HasFailed (R.failures reader.old) (R.failures reader.new) (W.failures writer.old) (W.failures writer.new)) (R.left reader.old) failure × IsTold W.written W.failures writer.old failure writer.new }
 {
     match read_and_lint(alloc, reader) {
-        Ok(text) => finish(alloc, text.as_str(), writer),
-        Err(failure) => tell(alloc, failure, writer),
+        Ok(text) => finish(text.as_str(), writer),
+        Err(failure) => tell(failure, writer),
     }
 }
 
@@ -131,15 +138,17 @@ enum Telling {
 }
 
 /// What is told of where nodes stand, by the bytes of a script.
+#[tactic(auto, using(crate::proofs::Told::want_cause))]
 fn stood(alloc: Global, script: &[u8]) -> Result<Told, Failure>
     requires { length script.now ≤ SCRIPT_LIMIT }
     ensures told { IfOk result (IsToldOf script.now) }
-    ensures cause { IfErr result (IsCause (Some script.now)) }
+    ensures cause { IfErr result (IsCause ⊥ ⊥ (Some script.now)) }
 {
     match stand(alloc, script) {
         Ok(told) => Ok(told),
         Err(StandFault::NoMemory) => Err(Failure::Failed(Fault::NoMemory)),
         Err(StandFault::Bad(bad)) => Err(Failure::Bad(bad)),
+        Err(StandFault::BadAt(line)) => Err(Failure::BadAt(line)),
     }
 }
 
@@ -166,10 +175,11 @@ fn with_its_fault(alloc: Global, told: Told) -> Result<Telling, AllocError>
 }
 
 /// What is told of a script.
+#[tactic(auto, using(crate::proofs::Told::told_wants))]
 fn shown(alloc: Global, script: &[u8]) -> Result<Telling, Failure>
     requires { length script.now ≤ SCRIPT_LIMIT }
     ensures told { IfOk result (IsTelling script.now) }
-    ensures cause { IfErr result (IsCause (Some script.now)) }
+    ensures cause { IfErr result (IsCause ⊥ ⊥ (Some script.now)) }
 {
     let told = stood(alloc, script)?;
     match with_its_fault(alloc, told) {
@@ -182,7 +192,7 @@ fn shown(alloc: Global, script: &[u8]) -> Result<Telling, Failure>
 #[tactic(auto, using(crate::proofs::Told::read_cause, crate::proofs::Told::known_cause, crate::proofs::Told::all_left))]
 fn read_and_stand<R: ScriptIn>(alloc: Global, reader: &mut R) -> Result<Telling, Failure>
     ensures told { IfOk result (λ telling. (script : List ℕ) × IsAll (R.left reader.old) script × (length script ≤ SCRIPT_LIMIT) × IsTelling script telling) }
-    ensures cause { IfErr result (IsCause (R.left reader.old)) }
+    ensures cause { IfErr result (IsCause (reader.new ≡ reader.old) (Fails (R.failures reader.old) (R.failures reader.new)) (R.left reader.old)) }
 {
     match read_script(alloc, reader) {
         Ok(script) => shown(alloc, script.as_slice()),
@@ -191,11 +201,11 @@ fn read_and_stand<R: ScriptIn>(alloc: Global, reader: &mut R) -> Result<Telling,
 }
 
 /// Writes what was told up to a fault, or tells that the writer failed. Answers 3.
-fn finish_part<W: ReportOut>(alloc: Global, text: &str, writer: &mut W) -> u8
+fn finish_part<W: ReportOut>(text: &str, writer: &mut W) -> u8
     ensures status { result ≡ 3 }
-    ensures written { Gains (W.written writer.old) text.now (W.written writer.new) ⊎ IsTold W.written W.failures writer.old (Failure.Failed Fault.Device) writer.new }
+    ensures written { Gains (W.written writer.old) text.now (W.written writer.new) ⊎ Fails (W.failures writer.old) (W.failures writer.new) }
 {
-    let _status = finish(alloc, text, writer);
+    let _status = finish(text, writer);
     3
 }
 
@@ -206,16 +216,16 @@ pub fn serve_stand<R: ScriptIn, W: ReportOut>(alloc: Global, reader: &mut R, wri
     ensures no_usage { result ≢ 2 }
     // What was read is a script of at most 1,048,576 bytes, it was played to its end, and all that is told of it was written.
     ensures stood { result ≡ 0 → (script text : List ℕ) × IsAll (R.left reader.old) script × (length script ≤ SCRIPT_LIMIT) × IsStood script text × Gains (W.written writer.old) text (W.written writer.new) }
-    // Else just the line of a failure was written, if anything, or the writer failed; or what is told of a script up to the fault that
+    // Else just the line of a failure was written, or the writer failed; or what is told of a script up to the fault that
     // stopped it, and that fault's line.
     ensures refused { result ≢ 0 →
-        ((failure : Failure) × (result ≡ status_of failure) × IsCause (R.left reader.old) failure × IsTold W.written W.failures writer.old failure writer.new)
+        ((failure : Failure) × (result ≡ status_of failure) × IsCause (reader.new ≡ reader.old) (HasFailed (R.failures reader.old) (R.failures reader.new) (W.failures writer.old) (W.failures writer.new)) (R.left reader.old) failure × IsTold W.written W.failures writer.old failure writer.new)
         ⊎ ((script text : List ℕ) × (result ≡ 3) × IsAll (R.left reader.old) script × (length script ≤ SCRIPT_LIMIT) × IsStoodUpTo script text × Gains (W.written writer.old) text (W.written writer.new)) }
 {
     match read_and_stand(alloc, reader) {
-        Ok(Telling::Whole(text)) => finish(alloc, text.as_str(), writer),
-        Ok(Telling::Part(text)) => finish_part(alloc, text.as_str(), writer),
-        Err(failure) => tell(alloc, failure, writer),
+        Ok(Telling::Whole(text)) => finish(text.as_str(), writer),
+        Ok(Telling::Part(text)) => finish_part(text.as_str(), writer),
+        Err(failure) => tell(failure, writer),
     }
 }
 
@@ -245,10 +255,10 @@ pub fn serve<R: ScriptIn, W: ReportOut>(
     // To any other words `usage` is written, 2 is answered, and nothing is read; 2 is answered to these alone.
     ensures usage { asked_by (map (λ word. word.now) words.now) ≡ Asked.Usage → (result ≡ 2) × (reader.new ≡ reader.old) × IsWritten W.written W.failures writer.old (codes "usage\n") writer.new }
     ensures no_usage { asked_by (map (λ word. word.now) words.now) ≢ Asked.Usage → result ≢ 2 }
-    // 1 and 3 are answered only of a failure: its line was written and nothing else, or nothing at all, or the writer failed; or, to
+    // 1 and 3 are answered only of a failure: its line was written and nothing else, or the writer failed; or, to
     // `stand`, of a script that a fault stopped: what is told of it up to there was written, and the fault's line.
     ensures refused { result ≢ 0 → result ≢ 2 →
-        ((failure : Failure) × (result ≡ status_of failure) × IsCause (R.left reader.old) failure × IsTold W.written W.failures writer.old failure writer.new)
+        ((failure : Failure) × (result ≡ status_of failure) × IsCause (reader.new ≡ reader.old) (HasFailed (R.failures reader.old) (R.failures reader.new) (W.failures writer.old) (W.failures writer.new)) (R.left reader.old) failure × IsTold W.written W.failures writer.old failure writer.new)
         ⊎ ((asked_by (map (λ word. word.now) words.now) ≡ Asked.Stand) × (script text : List ℕ) × (result ≡ 3) × IsAll (R.left reader.old) script × (length script ≤ SCRIPT_LIMIT) × IsStoodUpTo script text × Gains (W.written writer.old) text (W.written writer.new)) }
 {
     match read_words(words) {

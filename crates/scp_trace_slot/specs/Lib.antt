@@ -1,4 +1,4 @@
 pub mod Adding
 pub mod Names
 pub mod Machine
-pub mod Inside
+pub mod inside

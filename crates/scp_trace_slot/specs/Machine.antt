@@ -1,7 +1,8 @@
 -- Where the machine of a slot stands, in lines.
-use Rattle.std.specs.Prelude.{◌≡◌, ◌↔◌, ℕ, Bool, true, false, not, ◌&&◌, ◌||◌, List, [], ◌∷◌, ◌++◌, filter, flat_map, Contains, Option, Some, None, is_some, if◌then◌else◌, codes}
+use Rattle.std.specs.Prelude.{◌≡◌, ◌↔◌, ℕ, Bool, true, false, not, ◌&&◌, ◌||◌, List, [], ◌∷◌, ◌++◌, filter, flat_map, Contains, Option, Some, None, is_some, if◌then◌else◌, nat_eq, nat_lt, codes}
 use Rattle.std.specs.Fmt.{decimal}
 use Rattle.std.specs.List.{list_any}
+use Rattle.std.specs.Cmp.Lexicographic.{pointwise}
 use Rattle.std.specs.List.Sorted.{IsStrictlySortedBy}
 use Rattle.scp_types.specs.declared.names.NodeId.{NodeId}
 use Rattle.scp_quorum.specs.NodeSet.{node_cmp}
@@ -29,7 +30,7 @@ use Rattle.scp_trace_needs.specs.declared.steps.Step.{Step}
 use Rattle.scp_trace_needs.specs.declared.steps.Step.TheVariants.{AcceptNominated, ConfirmNominated, AcceptPrepared, ConfirmPrepared, AcceptCommit, ConfirmCommit}
 use Rattle.scp_trace_needs.specs.declared.steps.Need.{Need}
 use Rattle.scp_trace_slot.specs.declared.names.Names.{Names}
-use Rattle.scp_trace_slot.specs.Names.{nodes_text, statement_text}
+use Rattle.scp_trace_slot.specs.Names.{nodes_text, said_as, statement_text}
 
 -- ---- the rounds
 
@@ -38,26 +39,47 @@ pub record AreLeaders (slot : ℕ) (members : List NodeId) (rounds : ℕ) (leade
   pub ascending : IsStrictlySortedBy node_cmp leaders
   pub these : (v : NodeId) → Contains leaders v ↔ Leads (leader_place slot) members rounds v
 
+-- the word that tells whether this node leads
 abbrev pub leads_word : Bool → List ℕ
 leads_word true = codes "leads "
 leads_word false = codes "waits "
 
--- a proposal is voted for where this node leads
-abbrev pub proposal_text : NodeId → List NodeId → Option (List ℕ) → List ℕ
-proposal_text me leaders None = codes "none"
-proposal_text me leaders (Some value) = leads_word (list_any (λ v. same_node v me) leaders) ++ value_text value
+-- the value is one of these
+abbrev pub has_value : List (List ℕ) → List ℕ → Bool
+has_value values value = list_any (λ v. pointwise nat_eq v value) values
 
-abbrev pub rounds_line : ℕ → ℕ → NodeId → List NodeId → ℕ → Option (List ℕ) → List ℕ
-rounds_line number slot me leaders rounds proposal =
+-- the nomination votes for the value, or accepts it
+abbrev pub names_value : Option Pledges → List ℕ → Bool
+names_value (Some (Nominate p)) value = has_value p.votes value || has_value p.accepted value
+names_value (Some (Prepare p)) value = false
+names_value (Some (Confirm p)) value = false
+names_value (Some (Externalize p)) value = false
+names_value None value = false
+
+-- the proposal of this node: it leads where this node does and its own nomination votes for the value, else it waits
+abbrev pub proposal_text : NodeId → List NodeId → Option Pledges → Option (List ℕ) → List ℕ
+proposal_text me leaders own None = codes "none"
+proposal_text me leaders own (Some value) = leads_word (list_any (λ v. same_node v me) leaders && names_value own value) ++ value_text value
+
+-- the line of the rounds: how many, their leaders, and this node's proposal
+abbrev pub rounds_line : ℕ → ℕ → NodeId → List NodeId → Option Pledges → ℕ → Option (List ℕ) → List ℕ
+rounds_line number slot me leaders own rounds proposal =
     decimal number ++ codes " slot " ++ decimal slot ++ codes " nominates round " ++ decimal rounds ++ codes " leaders " ++ nodes_text leaders
-    ++ codes " proposal " ++ proposal_text me leaders proposal ++ codes "\n"
+    ++ codes " proposal " ++ proposal_text me leaders own proposal ++ codes "\n"
 
 -- ---- the phase
 
--- by the own ballot statement
+-- an own statement is sent, but for a PREPARE of counter 0: that of a node without a ballot
+abbrev pub is_sent : Pledges → Bool
+is_sent (Prepare p) = nat_lt 0 p.ballot.counter
+is_sent (Confirm p) = true
+is_sent (Externalize p) = true
+is_sent (Nominate p) = true
+
+-- by the own ballot statement, where it is sent
 abbrev pub phase_word : Option Pledges → List ℕ
 phase_word None = codes "nominate"
-phase_word (Some (Prepare p)) = codes "prepare"
+phase_word (Some (Prepare p)) = if nat_lt 0 p.ballot.counter then codes "prepare" else codes "nominate"
 phase_word (Some (Confirm p)) = codes "confirm"
 phase_word (Some (Externalize p)) = codes "externalize"
 phase_word (Some (Nominate p)) = codes "nominate"
@@ -67,22 +89,28 @@ abbrev pub candidate_text : List (List ℕ) → List ℕ
 candidate_text [] = codes "-"
 candidate_text (v ∷ vs) = value_text (greatest (v ∷ vs))
 
+-- the line of the phase, and of what the candidates are combined to
 abbrev pub phase_line : ℕ → ℕ → Option Pledges → List (List ℕ) → List ℕ
 phase_line number slot own candidates =
     decimal number ++ codes " slot " ++ decimal slot ++ codes " phase " ++ phase_word own ++ codes " candidate " ++ candidate_text candidates ++ codes "\n"
 
 -- ---- what was said
 
--- the line of a statement, if there is one
-abbrev pub statement_line : Names → ℕ → ℕ → List ℕ → Option Envelope → List ℕ
-statement_line names number slot word None = []
-statement_line names number slot word (Some e) =
-    decimal number ++ codes " slot " ++ decimal slot ++ codes " " ++ word ++ codes " " ++ statement_text names e ++ codes "\n"
+-- the line of a statement of a node in the slot, if there is one
+abbrev pub statement_line : Names → ℕ → ℕ → List ℕ → NodeId → Option Envelope → List ℕ
+statement_line names number slot word v None = []
+statement_line names number slot word v (Some e) =
+    decimal number ++ codes " slot " ++ decimal slot ++ codes " " ++ word ++ codes " " ++ statement_text names (said_as v slot e) ++ codes "\n"
+
+-- the own statement, where it is sent
+abbrev pub sent : Option Envelope → Option Envelope
+sent None = None
+sent (Some e) = if is_sent e.statement.pledges then Some e else None
 
 -- the newest of a node: nomination, then ballot
 abbrev pub lines_of : Names → ℕ → ℕ → List ℕ → Board → Board → NodeId → List ℕ
 lines_of names number slot word nominations ballots v =
-    statement_line names number slot word (envelope_at Nominating nominations v) ++ statement_line names number slot word (envelope_at Balloting ballots v)
+    statement_line names number slot word v (envelope_at Nominating nominations v) ++ statement_line names number slot word v (envelope_at Balloting ballots v)
 
 -- a statement of the node stands on one of the boards
 abbrev pub is_heard : Seen → Seen → NodeId → Bool
@@ -93,6 +121,7 @@ pub record AreHeard (me : NodeId) (nominations ballots : Seen) (nodes : List Nod
   pub ascending : IsStrictlySortedBy node_cmp nodes
   pub these : (v : NodeId) → Contains nodes v ↔ ((not (same_node v me) && is_heard nominations ballots v) ≡ true)
 
+-- another node, of which nothing is heard
 abbrev pub is_silent : NodeId → Seen → Seen → NodeId → Bool
 is_silent me nominations ballots v = not (same_node v me) && not (is_heard nominations ballots v)
 
@@ -112,6 +141,7 @@ abbrev pub votes_line : ℕ → ℕ → Option Pledges → List NodeId → List 
 votes_line number slot (Some own) nodes = []
 votes_line number slot None nodes = decimal number ++ codes " slot " ++ decimal slot ++ codes " needs vote from " ++ nodes_text nodes ++ codes "\n"
 
+-- the word of a step
 abbrev pub step_word : Step → List ℕ
 step_word AcceptNominated = codes "accept-nominated"
 step_word ConfirmNominated = codes "confirm-nominated"
@@ -126,12 +156,15 @@ claim_text (Nominated value) = value_text value
 claim_text (Prepared ballot) = ballot_text (codes "ballot(") ballot
 claim_text (Committed low high value) = ballot_text (codes "commit(") (record { counter = low; value = value })
 
+-- who votes for the claim, and who accepts it
 abbrev pub who_text : Need → List ℕ
 who_text need = codes " votes " ++ nodes_text need.votes.items ++ codes " accepts " ++ nodes_text need.accepts.items
 
+-- who lacks, who is against, and who is short
 abbrev pub missing_text : Need → List ℕ
 missing_text need = codes " lacks " ++ nodes_text need.lacks.items ++ codes " against " ++ nodes_text need.against.items ++ codes " short " ++ nodes_text need.short.items
 
+-- the line of what a step of a claim needs
 abbrev pub need_text : ℕ → ℕ → Need → List ℕ
 need_text number slot need =
     decimal number ++ codes " slot " ++ decimal slot ++ codes " needs " ++ step_word need.step ++ codes " " ++ claim_text need.claim ++ who_text need ++ missing_text need ++ codes "\n"
@@ -155,10 +188,10 @@ pub record Facts : Type 0 where
 -- what it does and what was said
 abbrev pub said_lines : Names → ℕ → NodeId → ℕ → Nomination → Facts → List ℕ
 said_lines names number me slot n f =
-    rounds_line number slot me f.leaders n.rounds n.proposal
+    rounds_line number slot me f.leaders ((heard f.nominations).statement (heard f.nominations).me) n.rounds n.proposal
     ++ phase_line number slot ((seen Balloting f.ballots).statement (seen Balloting f.ballots).me) n.lists.candidates
-    ++ statement_line names number slot (codes "own") (envelope_at Nominating f.nominations (heard f.nominations).me)
-    ++ statement_line names number slot (codes "own") (envelope_at Balloting f.ballots (seen Balloting f.ballots).me)
+    ++ statement_line names number slot (codes "own") me (envelope_at Nominating f.nominations (heard f.nominations).me)
+    ++ statement_line names number slot (codes "own") me (sent (envelope_at Balloting f.ballots (seen Balloting f.ballots).me))
     ++ flat_map (lines_of names number slot (codes "heard") f.nominations f.ballots) f.others
 
 -- who said nothing, and what is needed
@@ -169,6 +202,7 @@ needs_lines number me members slot proposes f =
     ++ flat_map (need_text number slot) f.to_nominate
     ++ flat_map (need_text number slot) f.to_ballot
 
+-- all lines of a slot's machine
 abbrev pub machine_lines : Names → ℕ → NodeId → List NodeId → ℕ → Nomination → Facts → List ℕ
 machine_lines names number me members slot n f = said_lines names number me slot n f ++ needs_lines number me members slot (is_some n.proposal) f
 

@@ -34,6 +34,7 @@ text_at names hash = option_map string_bytes (hash_map.get hash_cmp names.sets h
 abbrev pub named : List ℕ → List ℕ
 named text = bracketed (codes "hash(") text
 
+-- a hash by its set's text where that is known and makes less than 64 characters, else by its 64 digits
 abbrev pub name_by : Option (List ℕ) → Hash → List ℕ
 name_by (Some text) hash = if nat_lt (length (named text)) 64 then named text else hash_text hash
 name_by None hash = hash_text hash
@@ -44,6 +45,7 @@ name_of names hash = name_by (text_at names hash) hash
 
 -- ---- the sets of a script
 
+-- the quorum set that a message brings
 abbrev pub set_in : Option Message → List QuorumTree
 set_in (Some (SetMessage set)) = set ∷ []
 set_in (Some (EnvelopeMessage e)) = []
@@ -98,6 +100,10 @@ nodes_text (v ∷ vs) = listed 44 true (map node_text (v ∷ vs))
 -- the words with this one for their fourth
 abbrev pub with_fourth : List ℕ → List (List ℕ) → List (List ℕ)
 with_fourth word words = take 3 words ++ word ∷ drop 4 words
+
+-- what the envelope says, as said by this node in this slot
+abbrev pub said_as : NodeId → ℕ → Envelope → Envelope
+said_as node slot e = record { statement = record { node = node; slot = record { 0 = slot }; pledges = e.statement.pledges }; signature = e.signature }
 
 -- the text of the envelope as a message, with the hash in it, its fourth word, by its name
 abbrev pub statement_text : Names → Envelope → List ℕ

@@ -1,9 +1,9 @@
 //! The lines of a slot's machine.
-ghost use Rattle.std.specs.Prelude.{◌≡◌, ◌++◌, OnOk, IsOkUnless, codes, flat_map, option_map, option_copied, string_bytes};
+ghost use Rattle.std.specs.Prelude.{◌≡◌, ◌++◌, Some, OnOk, IsOkUnless, codes, flat_map, option_map, option_copied, string_bytes};
 ghost use Rattle.std.specs.List.{list_any};
 ghost use Rattle.scp_wire.specs.Connections.{same_node};
 ghost use Rattle.scp_nominate.specs.Nomination.{nomination};
-ghost use Rattle.scp_trace_slot.specs.Machine.{leads_word, proposal_text, rounds_line, phase_word, candidate_text, phase_line, statement_line, lines_of, silent_line, votes_line};
+ghost use Rattle.scp_trace_slot.specs.Machine.{leads_word, has_value as has_value_of, names_value, proposal_text, rounds_line, is_sent as is_sent_of, phase_word, candidate_text, phase_line, sent as sent_of, statement_line, lines_of, silent_line, votes_line};
 
 use crate::names::Names;
 use crate::statements::write_statement;
@@ -27,14 +27,44 @@ fn word_of(leads: bool) -> &'static str
     if leads { "leads " } else { "waits " }
 }
 
-/// Adds a proposal, and whether this node votes for it.
+/// Whether the value is one of these.
+fn has_value(values: &[Value], value: &Value) -> bool
+    ensures { result ≡ has_value_of values.now value.now }
+{
+    values.iter().any(|other| *other == *value)
+}
+
+/// Whether the pledges nominate the value: vote for it or accept it.
+fn names_in(pledges: &Pledges, value: &Value) -> bool
+    ensures { result ≡ names_value (Some pledges.now) value.now }
+{
+    match pledges {
+        Pledges::Nominate(p) => {
+            has_value(p.votes.as_slice(), value) || has_value(p.accepted.as_slice(), value)
+        }
+        _ => false,
+    }
+}
+
+/// Whether the own nomination votes for the value.
+fn votes_for(own: Option<&SharedEnvelope>, value: &Value) -> bool
+    ensures { result ≡ names_value (option_map (λ e. e.now.statement.pledges) own.entry) value.now }
+{
+    match own {
+        Some(own) => names_in(&own.get().statement.pledges, value),
+        None => false,
+    }
+}
+
+/// Adds a proposal, and whether this node leads and votes for it.
 fn write_proposal(
     out: &mut String,
     me: NodeId,
     leaders: &[NodeId],
+    own: Option<&SharedEnvelope>,
     proposal: Option<&Value>,
 ) -> Result<(), Fault>
-    ensures added { OnOk result (string_bytes out.new ≡ string_bytes out.old ++ proposal_text me leaders.now (option_copied proposal.entry)) }
+    ensures added { OnOk result (string_bytes out.new ≡ string_bytes out.old ++ proposal_text me leaders.now (option_map (λ e. e.now.statement.pledges) own.entry) (option_copied proposal.entry)) }
     ensures only_memory { IsOkUnless result Fault.NoMemory }
 {
     match proposal {
@@ -43,7 +73,7 @@ fn write_proposal(
             Ok(())
         }
         Some(value) => {
-            out.push_str(word_of(leads(leaders, me)))?;
+            out.push_str(word_of(leads(leaders, me) && votes_for(own, value)))?;
             write_value(out, value)
         }
     }
@@ -56,10 +86,11 @@ pub(crate) fn write_rounds(
     slot: u64,
     me: NodeId,
     leaders: &[NodeId],
+    own: Option<&SharedEnvelope>,
     rounds: u64,
     proposal: Option<&Value>,
 ) -> Result<(), Fault>
-    ensures added { OnOk result (string_bytes out.new ≡ string_bytes out.old ++ rounds_line number slot me leaders.now rounds (option_copied proposal.entry)) }
+    ensures added { OnOk result (string_bytes out.new ≡ string_bytes out.old ++ rounds_line number slot me leaders.now (option_map (λ e. e.now.statement.pledges) own.entry) rounds (option_copied proposal.entry)) }
     ensures only_memory { IsOkUnless result Fault.NoMemory }
 {
     write!(
@@ -68,19 +99,25 @@ pub(crate) fn write_rounds(
     )?;
     write_nodes(out, leaders)?;
     out.push_str(" proposal ")?;
-    write_proposal(out, me, leaders, proposal)?;
+    write_proposal(out, me, leaders, own, proposal)?;
     out.push_str("\n")?;
     Ok(())
 }
 
-/// The phase of the ballots, by the own statement.
+/// The phase of the ballots, by the own statement, where it is sent.
 fn phase_of(own: Option<&SharedEnvelope>) -> &'static str
     ensures { result.now ≡ phase_word (option_map (λ e. e.now.statement.pledges) own.entry) }
 {
     match own {
         None => "nominate",
         Some(own) => match &own.get().statement.pledges {
-            Pledges::Prepare(_) => "prepare",
+            Pledges::Prepare(p) => {
+                if 0 < p.ballot.counter {
+                    "prepare"
+                } else {
+                    "nominate"
+                }
+            }
             Pledges::Confirm(_) => "confirm",
             Pledges::Externalize(_) => "externalize",
             Pledges::Nominate(_) => "nominate",
@@ -129,23 +166,55 @@ pub(crate) fn write_phase(
     Ok(())
 }
 
-/// Adds a statement behind a word, if there is one.
+/// Whether an own statement is sent: each is, but for a PREPARE of counter 0.
+fn is_sent(pledges: &Pledges) -> bool
+    ensures { result ≡ is_sent_of pledges.now }
+{
+    match pledges {
+        Pledges::Prepare(p) => 0 < p.ballot.counter,
+        _ => true,
+    }
+}
+
+/// The own statement, if it is sent.
+fn sent_one<'a>(own: &'a SharedEnvelope) -> Option<&'a SharedEnvelope>
+    ensures { option_map (λ e. e.now) result ≡ sent_of (Some own.entry.now) }
+{
+    if is_sent(&own.get().statement.pledges) {
+        Some(own)
+    } else {
+        None
+    }
+}
+
+/// The own statement, if there is one and it is sent.
+pub(crate) fn sent<'a>(own: Option<&'a SharedEnvelope>) -> Option<&'a SharedEnvelope>
+    ensures { option_map (λ e. e.now) result ≡ sent_of (option_map (λ e. e.now) own.entry) }
+{
+    match own {
+        Some(own) => sent_one(own),
+        None => None,
+    }
+}
+
+/// Adds a statement of a node behind a word, if there is one.
 pub(crate) fn write_said(
     out: &mut String,
     number: u8,
     slot: u64,
     names: &Names,
     word: &str,
+    node: NodeId,
     statement: Option<&SharedEnvelope>,
 ) -> Result<(), Fault>
-    ensures added { OnOk result (string_bytes out.new ≡ string_bytes out.old ++ statement_line names.now number slot word.now (option_map (λ e. e.now) statement.entry)) }
+    ensures added { OnOk result (string_bytes out.new ≡ string_bytes out.old ++ statement_line names.now number slot word.now node (option_map (λ e. e.now) statement.entry)) }
     ensures only_memory { IsOkUnless result Fault.NoMemory }
 {
     let Some(statement) = statement else {
         return Ok(());
     };
     write!(out, "{number} slot {slot} {word} ")?;
-    write_statement(out, names, statement.get())?;
+    write_statement(out, names, node, slot, statement.get())?;
     out.push_str("\n")?;
     Ok(())
 }
@@ -164,9 +233,9 @@ fn write_node(
     ensures only_memory { IsOkUnless result Fault.NoMemory }
 {
     let nomination = nominations.statement(StatementKind::Nomination, node);
-    write_said(out, number, slot, names, "heard", nomination)?;
+    write_said(out, number, slot, names, "heard", *node, nomination)?;
     let ballot = ballots.statement(StatementKind::Balloting, node);
-    write_said(out, number, slot, names, "heard", ballot)
+    write_said(out, number, slot, names, "heard", *node, ballot)
 }
 
 /// Adds what these nodes said last.

@@ -6,10 +6,12 @@ ghost use Rattle.scp_nominate.specs.Nomination.{nomination};
 ghost use Rattle.scp_slot.specs.Slot.{slot_view};
 ghost use Rattle.scp_trace_slot.specs.Adding.{Adds};
 ghost use Rattle.scp_trace_slot.specs.Machine.{AreFacts, said_lines, needs_lines, IsMachineText, IsBlankMachine};
-ghost use Rattle.scp_trace_slot.specs.Inside.{facts_of};
+ghost use Rattle.scp_trace_slot.specs.inside.Facts.{facts_of};
 
 use crate::facts::{lacking, leaders, others, silent, to_nominate};
-use crate::lines::{write_heard, write_phase, write_rounds, write_said, write_silent, write_votes};
+use crate::lines::{
+    sent, write_heard, write_phase, write_rounds, write_said, write_silent, write_votes,
+};
 use crate::names::Names;
 use crate::needs::write_needs;
 use scp_driver::KvDriver;
@@ -83,6 +85,7 @@ fn write_what_is_said(
     let ballots = shown.ballots;
     let nomination = nominations.own(StatementKind::Nomination);
     let ballot = ballots.own(StatementKind::Balloting);
+    let said = sent(ballot);
     let leaders = shown.leaders.as_slice();
     write_rounds(
         out,
@@ -90,12 +93,13 @@ fn write_what_is_said(
         slot,
         me,
         leaders,
+        nomination,
         nominator.rounds(),
         nominator.proposal(),
     )?;
     write_phase(out, number, slot, ballot, nominator)?;
-    write_said(out, number, slot, names, "own", nomination)?;
-    write_said(out, number, slot, names, "own", ballot)?;
+    write_said(out, number, slot, names, "own", me, nomination)?;
+    write_said(out, number, slot, names, "own", me, said)?;
     write_heard(
         out,
         number,

@@ -5,13 +5,13 @@ ghost use Rattle.scp_text.specs.Pieces.{listed};
 ghost use Rattle.scp_text.specs.Sets.{node_text};
 ghost use Rattle.scp_text.specs.Messages.{optional_text, signature_words, nominate_words, prepare_words, confirm_words, externalize_words, pledges_words};
 ghost use Rattle.scp_envelope.specs.Kinds.{set_hash_of};
-ghost use Rattle.scp_trace_slot.specs.Names.{name_of, with_fourth, statement_text};
+ghost use Rattle.scp_trace_slot.specs.Names.{name_of, with_fourth, said_as, statement_text};
 
 use crate::names::Names;
 use crate::texts::{write_ballot, write_values};
-use scp_envelope::{Confirm, Envelope, Externalize, Nominate, Pledges, Prepare, Statement};
+use scp_envelope::{Confirm, Envelope, Externalize, Nominate, Pledges, Prepare};
 use scp_text::Term;
-use scp_types::{Ballot, Fault, Hash};
+use scp_types::{Ballot, Fault, Hash, NodeId, Slot};
 
 /// Adds a space and a term.
 fn write_term<T: Term>(out: &mut String, term: &T) -> Result<(), Fault>
@@ -57,15 +57,16 @@ fn write_front(
     out: &mut String,
     names: &Names,
     kind: &str,
-    statement: &Statement,
+    node: NodeId,
+    slot: u64,
     hash: &Hash,
 ) -> Result<(), Fault>
-    ensures added { OnOk result (string_bytes out.new ≡ string_bytes out.old ++ listed 32 true (kind.now ∷ node_text statement.now.node ∷ decimal statement.now.slot.0 ∷ name_of names.now hash.now ∷ [])) }
+    ensures added { OnOk result (string_bytes out.new ≡ string_bytes out.old ++ listed 32 true (kind.now ∷ node_text node ∷ decimal slot ∷ name_of names.now hash.now ∷ [])) }
     ensures only_memory { IsOkUnless result Fault.NoMemory }
 {
     out.push_str(kind)?;
-    write_term(out, &statement.node)?;
-    write_term(out, &statement.slot)?;
+    write_term(out, &node)?;
+    write_term(out, &Slot(slot))?;
     out.push_str(" ")?;
     names.write_hash(out, hash)
 }
@@ -111,13 +112,14 @@ fn write_externalize(out: &mut String, p: &Externalize) -> Result<(), Fault>
 fn write_nominating(
     out: &mut String,
     names: &Names,
-    statement: &Statement,
+    node: NodeId,
+    slot: u64,
     p: &Nominate,
 ) -> Result<(), Fault>
-    ensures added { OnOk result (string_bytes out.new ≡ string_bytes out.old ++ listed 32 true (codes "nominate" ∷ node_text statement.now.node ∷ decimal statement.now.slot.0 ∷ name_of names.now p.now.set_hash ∷ nominate_words p.now)) }
+    ensures added { OnOk result (string_bytes out.new ≡ string_bytes out.old ++ listed 32 true (codes "nominate" ∷ node_text node ∷ decimal slot ∷ name_of names.now p.now.set_hash ∷ nominate_words p.now)) }
     ensures only_memory { IsOkUnless result Fault.NoMemory }
 {
-    write_front(out, names, "nominate", statement, &p.set_hash)?;
+    write_front(out, names, "nominate", node, slot, &p.set_hash)?;
     write_nominate(out, p)
 }
 
@@ -125,13 +127,14 @@ fn write_nominating(
 fn write_preparing(
     out: &mut String,
     names: &Names,
-    statement: &Statement,
+    node: NodeId,
+    slot: u64,
     p: &Prepare,
 ) -> Result<(), Fault>
-    ensures added { OnOk result (string_bytes out.new ≡ string_bytes out.old ++ listed 32 true (codes "prepare" ∷ node_text statement.now.node ∷ decimal statement.now.slot.0 ∷ name_of names.now p.now.set_hash ∷ prepare_words p.now)) }
+    ensures added { OnOk result (string_bytes out.new ≡ string_bytes out.old ++ listed 32 true (codes "prepare" ∷ node_text node ∷ decimal slot ∷ name_of names.now p.now.set_hash ∷ prepare_words p.now)) }
     ensures only_memory { IsOkUnless result Fault.NoMemory }
 {
-    write_front(out, names, "prepare", statement, &p.set_hash)?;
+    write_front(out, names, "prepare", node, slot, &p.set_hash)?;
     write_prepare(out, p)
 }
 
@@ -139,13 +142,14 @@ fn write_preparing(
 fn write_confirming(
     out: &mut String,
     names: &Names,
-    statement: &Statement,
+    node: NodeId,
+    slot: u64,
     p: &Confirm,
 ) -> Result<(), Fault>
-    ensures added { OnOk result (string_bytes out.new ≡ string_bytes out.old ++ listed 32 true (codes "confirm" ∷ node_text statement.now.node ∷ decimal statement.now.slot.0 ∷ name_of names.now p.now.set_hash ∷ confirm_words p.now)) }
+    ensures added { OnOk result (string_bytes out.new ≡ string_bytes out.old ++ listed 32 true (codes "confirm" ∷ node_text node ∷ decimal slot ∷ name_of names.now p.now.set_hash ∷ confirm_words p.now)) }
     ensures only_memory { IsOkUnless result Fault.NoMemory }
 {
-    write_front(out, names, "confirm", statement, &p.set_hash)?;
+    write_front(out, names, "confirm", node, slot, &p.set_hash)?;
     write_confirm(out, p)
 }
 
@@ -153,38 +157,47 @@ fn write_confirming(
 fn write_externalizing(
     out: &mut String,
     names: &Names,
-    statement: &Statement,
+    node: NodeId,
+    slot: u64,
     p: &Externalize,
 ) -> Result<(), Fault>
-    ensures added { OnOk result (string_bytes out.new ≡ string_bytes out.old ++ listed 32 true (codes "externalize" ∷ node_text statement.now.node ∷ decimal statement.now.slot.0 ∷ name_of names.now p.now.set_hash ∷ externalize_words p.now)) }
+    ensures added { OnOk result (string_bytes out.new ≡ string_bytes out.old ++ listed 32 true (codes "externalize" ∷ node_text node ∷ decimal slot ∷ name_of names.now p.now.set_hash ∷ externalize_words p.now)) }
     ensures only_memory { IsOkUnless result Fault.NoMemory }
 {
-    write_front(out, names, "externalize", statement, &p.set_hash)?;
+    write_front(out, names, "externalize", node, slot, &p.set_hash)?;
     write_externalize(out, p)
 }
 
-/// Adds a statement, its set's hash by its name.
-fn write_pledges(out: &mut String, names: &Names, statement: &Statement) -> Result<(), Fault>
-    ensures added { OnOk result (string_bytes out.new ≡ string_bytes out.old ++ listed 32 true (with_fourth (name_of names.now (set_hash_of statement.now.pledges)) (pledges_words statement.now.node statement.now.slot statement.now.pledges))) }
+/// Adds what a node says in a slot, its set's hash by its name.
+fn write_pledges(
+    out: &mut String,
+    names: &Names,
+    node: NodeId,
+    slot: u64,
+    pledges: &Pledges,
+) -> Result<(), Fault>
+    ensures added { OnOk result (string_bytes out.new ≡ string_bytes out.old ++ listed 32 true (with_fourth (name_of names.now (set_hash_of pledges.now)) (pledges_words node (record { 0 = slot }) pledges.now))) }
     ensures only_memory { IsOkUnless result Fault.NoMemory }
 {
-    match &statement.pledges {
-        Pledges::Nominate(p) => write_nominating(out, names, statement, p),
-        Pledges::Prepare(p) => write_preparing(out, names, statement, p),
-        Pledges::Confirm(p) => write_confirming(out, names, statement, p),
-        Pledges::Externalize(p) => write_externalizing(out, names, statement, p),
+    match pledges {
+        Pledges::Nominate(p) => write_nominating(out, names, node, slot, p),
+        Pledges::Prepare(p) => write_preparing(out, names, node, slot, p),
+        Pledges::Confirm(p) => write_confirming(out, names, node, slot, p),
+        Pledges::Externalize(p) => write_externalizing(out, names, node, slot, p),
     }
 }
 
-/// Adds a statement with its signature.
+/// Adds a statement with its signature, as said by this node in this slot.
 pub(crate) fn write_statement(
     out: &mut String,
     names: &Names,
+    node: NodeId,
+    slot: u64,
     envelope: &Envelope,
 ) -> Result<(), Fault>
-    ensures added { OnOk result (string_bytes out.new ≡ string_bytes out.old ++ statement_text names.now envelope.now) }
+    ensures added { OnOk result (string_bytes out.new ≡ string_bytes out.old ++ statement_text names.now (said_as node slot envelope.now)) }
     ensures only_memory { IsOkUnless result Fault.NoMemory }
 {
-    write_pledges(out, names, &envelope.statement)?;
+    write_pledges(out, names, node, slot, &envelope.statement.pledges)?;
     write_signature(out, envelope.signature.as_slice())
 }

@@ -5,10 +5,10 @@ use Rattle.std.proofs.lemmas.Option.{slice_get_within, slice_get_read, get_or_fr
 use Rattle.scp_types.specs.declared.fault.Fault.{Fault}
 use Rattle.scp_core.specs.Ledger.{TheoremGivesLedger}
 use Rattle.scp_core.specs.Node.{NodeView}
-use Rattle.scp_core.specs.Stages.{KvRuns}
+use Rattle.scp_ledger.specs.Kv.{KvRuns}
 use Rattle.scp_core.specs.Theorem.{LedgerTheorem}
 use Rattle.scp_network.specs.Heard.{Nodes, past_at}
-use Rattle.scp_network.specs.Inside.{NetworkView}
+use Rattle.scp_network.specs.Network.{NetworkView}
 use Rattle.scp_script.specs.declared.command.Command.{Command}
 use Rattle.scp_script.specs.declared.command.Command.TheVariants.{Report}
 use Rattle.scp_script.specs.Script.{node_count, AreAdmitted, Admits}
@@ -17,7 +17,7 @@ use Rattle.scp_line.specs.Nodes.{HasPlayed}
 use Rattle.scp_trace_slot.specs.declared.names.Names.{Names}
 use Rattle.scp_trace_slot.specs.Adding.{Adds}
 use Rattle.scp_trace_node.specs.Stand.{IsSeen, IsStand}
-use Rattle.scp_trace_stand.specs.Playing.{IsPlaying, StandsNext}
+use Rattle.scp_trace_stand.specs.inside.Playing.{IsPlaying, StandsNext, moment_at}
 use Rattle.scp_trace_stand.specs.Told.{HavePlayed, TellsNode}
 
 pub seen_at : (count : ℕ) (commands played : List Command) (network : NetworkView) (i : ℕ) (v : NodeView) → IsPlaying count commands played network → slice_get network.nodes i ≡ Some v → IsSeen count v
@@ -31,9 +31,8 @@ seen_at count commands played network i v playing at =
       ledger = subst (λ (u : NodeView). KvRuns u.ledger) (sym (theorem.now runs)) theorem.flows.journal.running;
     }
 
-pub have_played : TheoremGivesLedger → (commands played : List Command) (network : NetworkView) → HasPlayed commands played network → HavePlayed commands played network.nodes
+pub have_played : TheoremGivesLedger → (commands played : List Command) (network : NetworkView) (far : HasPlayed commands played network) → HavePlayed commands played (moment_at far.heard network)
 have_played law commands played network far = record {
-  heard = far.heard;
   played = far.played;
   ledgers = λ i d here. law (past_at (i + 1) far.heard) (get_or network.nodes i d) (far.played.have i d here);
 }

@@ -1,28 +1,11 @@
 -- What holds while a script is played.
-use Rattle.std.specs.Prelude.{ℕ, ◌≡◌, ◌≤◌, List, [], ◌∷◌, ◌++◌, All}
-use Rattle.scp_network.specs.Inside.{NetworkView}
-use Rattle.scp_script.specs.declared.command.Command.{Command}
-use Rattle.scp_script.specs.Script.{AreAdmitted, node_count}
-use Rattle.scp_script.specs.Nodes.{NamesNodes}
-use Rattle.scp_line.specs.Nodes.{HasPlayed}
 use Rattle.scp_trace_lint.specs.declared.fault.LintFault.{LintFault}
 use Rattle.scp_trace_lint.specs.declared.fault.LintFault.TheVariants as lint
 use Rattle.scp_trace_stand.specs.declared.playing.StandFault.{StandFault}
-use Rattle.scp_trace_stand.specs.declared.playing.StandFault.TheVariants.{NoMemory, Bad}
+use Rattle.scp_trace_stand.specs.declared.playing.StandFault.TheVariants.{NoMemory, Bad, BadAt}
 
--- these lines of a script were played by so many nodes
-pub record IsPlaying (count : ℕ) (commands played : List Command) (network : NetworkView) : Type 0 where
-  pub count_is : count ≡ node_count commands
-  pub few : count ≤ 8
-  pub so_far : HasPlayed commands played network
-
--- the command is the next behind these
-pub record StandsNext (commands before : List Command) (command : Command) : Type 0 where
-  pub after' : List Command
-  pub split : commands ≡ before ++ command ∷ after'
-  pub names : All NamesNodes commands
-  pub admitted : AreAdmitted [] commands
-
+-- why nothing is told, by why the script isn't taken in
 abbrev pub stand_fault : LintFault → StandFault
 stand_fault lint.NoMemory = NoMemory
 stand_fault (lint.Bad bad) = Bad bad
+stand_fault (lint.BadAt number) = BadAt number

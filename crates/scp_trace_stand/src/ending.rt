@@ -1,9 +1,10 @@
 //! Where nodes stand at the end of a script.
 ghost use Rattle.std.specs.Prelude.{◌≡◌, ◌≤◌, ◌+◌, OnOk, IsOkUnless, string_bytes};
+ghost use Rattle.scp_line.specs.Nodes.{HasPlayed};
 ghost use Rattle.scp_trace_slot.specs.Adding.{Adds};
 ghost use Rattle.scp_trace_node.specs.Slots.{AreTexts};
 ghost use Rattle.scp_trace_stand.specs.Told.{acts as acts_by, asks_for, is_told as is_told_in, TellsLast, IsEnd};
-ghost use Rattle.scp_trace_stand.specs.Playing.{IsPlaying};
+ghost use Rattle.scp_trace_stand.specs.inside.Playing.{IsPlaying, moment_at};
 
 use crate::standing::{Playing, write_node};
 use scp_core::each_node_holds_its_ledger;
@@ -85,7 +86,7 @@ fn write_all(out: &mut String, playing: Playing<'_>, network: &Network) -> Resul
 pub fn write_end(out: &mut String, playing: Playing<'_>, network: &Network) -> Result<(), Fault>
     requires playing { IsPlaying playing.count playing.commands.now playing.played.now network.now }
     requires whole { playing.played.now ≡ playing.commands.now }
-    ensures added { OnOk result (Adds (string_bytes out.old) (string_bytes out.new) (IsEnd playing.entry.names.now playing.entry.commands.now)) }
+    ensures added { (so_far : HasPlayed playing.entry.commands.now playing.entry.commands.now network.now) → OnOk result (Adds (string_bytes out.old) (string_bytes out.new) (IsEnd playing.entry.names.now playing.entry.commands.now (moment_at so_far.heard network.now))) }
     ensures only_memory { IsOkUnless result Fault.NoMemory }
 {
     each_node_holds_its_ledger();

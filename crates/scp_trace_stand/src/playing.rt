@@ -2,15 +2,16 @@
 ghost use Rattle.std.specs.Prelude.{◌≡◌, ◌≢◌, ◌<◌, get_or, ◌++◌, ◌∷◌, [], All, OnOk, IfOk, IfErr, IsOkUnless, List, true, false, length, string_bytes};
 ghost use Rattle.scp_script.specs.Script.{AreAdmitted, node_count};
 ghost use Rattle.scp_script.specs.Nodes.{NamesNodes};
+ghost use Rattle.scp_line.specs.Laws.{GoesOn};
 ghost use Rattle.scp_line.specs.Nodes.{HaveRoom, HasPlayed, IsStoppedAt};
 ghost use Rattle.scp_trace_lint.specs.declared.warning.Warning.{Warning};
 ghost use Rattle.scp_trace_lint.specs.Texts.{warnings_text};
 ghost use Rattle.scp_trace_lint.specs.Warnings.{AreWarnings};
 ghost use Rattle.scp_trace_slot.specs.Adding.{Adds};
 ghost use Rattle.scp_trace_slot.specs.Names.{AreNames};
-ghost use Rattle.scp_trace_stand.specs.declared.playing.StandFault.TheVariants.{NoMemory};
-ghost use Rattle.scp_trace_stand.specs.Told.{acts as acts_by, IsPiece, AreTold, IsWhole, IsCutOff, IsToldTo, IsTold, IsStandFault};
-ghost use Rattle.scp_trace_stand.specs.Playing.{IsPlaying, StandsNext, stand_fault};
+ghost use Rattle.scp_trace_stand.specs.Told.{acts as acts_by, IsPiece, IsRun, IsWhole, IsCutOff, IsToldTo, IsTold, IsStandFault};
+ghost use Rattle.scp_trace_stand.specs.inside.Playing.{IsPlaying, StandsNext, moment_at};
+ghost use Rattle.scp_trace_stand.specs.Playing.{stand_fault};
 
 use crate::ending::{acts, write_end};
 use crate::standing::{Playing, tell_line};
@@ -29,6 +30,8 @@ pub enum StandFault {
     NoMemory,
     /// A line is bad.
     Bad(BadLine),
+    /// This line, from 1 on, is the first bad one, and there is no memory to tell its word.
+    BadAt(usize),
 }
 
 impl From<LintFault> for StandFault {
@@ -38,16 +41,8 @@ impl From<LintFault> for StandFault {
         match fault {
             LintFault::NoMemory => StandFault::NoMemory,
             LintFault::Bad(bad) => StandFault::Bad(bad),
+            LintFault::BadAt(line) => StandFault::BadAt(line),
         }
-    }
-}
-
-/// For calls whose one refusal is want of memory.
-impl From<Fault> for StandFault {
-    ghost from_gives = { λ _ e. e ≡ NoMemory };
-
-    fn from(_fault: Fault) -> StandFault {
-        StandFault::NoMemory
     }
 }
 
@@ -62,7 +57,7 @@ pub struct Told {
 fn do_line(playing: Playing<'_>, network: &mut Network, command: &Command) -> Result<(), PlayFault>
     requires playing { IsPlaying playing.count playing.commands.now playing.played.now network.old }
     requires next { StandsNext playing.commands.now playing.played.now command.now }
-    ensures played { OnOk result (HasPlayed playing.entry.commands.now (playing.entry.played.now ++ command.now ∷ []) network.new) }
+    ensures goes { (so_far : HasPlayed playing.entry.commands.now playing.entry.played.now network.old) → OnOk result (GoesOn playing.entry.commands.now playing.entry.played.now command.now network.old network.new so_far) }
     ensures stopped { IfErr result (λ e. IsStoppedAt playing.entry.commands.now playing.entry.played.now e) }
     ensures acts { IfErr result (λ e. acts_by command.now ≡ true) }
 {
@@ -83,8 +78,8 @@ fn play_line(
 ) -> Result<(), PlayFault>
     requires playing { IsPlaying playing.count playing.commands.now playing.played.now network.old }
     requires next { StandsNext playing.commands.now playing.played.now command.now }
-    ensures played { OnOk result (HasPlayed playing.entry.commands.now (playing.entry.played.now ++ command.now ∷ []) network.new) }
-    ensures told { OnOk result (Adds (string_bytes out.old) (string_bytes out.new) (IsPiece playing.entry.names.now playing.entry.commands.now playing.entry.played.now line command.now)) }
+    ensures goes { (so_far : HasPlayed playing.entry.commands.now playing.entry.played.now network.old) → OnOk result (GoesOn playing.entry.commands.now playing.entry.played.now command.now network.old network.new so_far) }
+    ensures told { (so_far : HasPlayed playing.entry.commands.now playing.entry.played.now network.old) → OnOk result (Adds (string_bytes out.old) (string_bytes out.new) (IsPiece playing.entry.names.now playing.entry.commands.now playing.entry.played.now (moment_at so_far.heard network.old) line command.now)) }
     ensures stopped { IfErr result (λ e. e.fault ≢ Fault.NoMemory → IsStoppedAt playing.entry.commands.now playing.entry.played.now e) }
     ensures same { IfErr result (λ e. e.fault ≢ Fault.NoMemory → string_bytes out.new ≡ string_bytes out.old) }
 {
@@ -112,8 +107,7 @@ fn play_lines(
     requires admitted { AreAdmitted [] whole.commands.now }
     requires count { length lines.now ≡ length whole.commands.now }
     requires empty { string_bytes out.old ≡ [] }
-    ensures played { OnOk result (HasPlayed whole.entry.commands.now whole.entry.commands.now network.new) }
-    ensures told { OnOk result (AreTold whole.entry.names.now whole.entry.commands.now [] lines.now whole.entry.commands.now (string_bytes out.new)) }
+    ensures told { OnOk result ((so_far : HasPlayed whole.entry.commands.now whole.entry.commands.now network.new) × IsRun whole.entry.names.now whole.entry.commands.now lines.now whole.entry.commands.now (string_bytes out.new) (moment_at so_far.heard network.new)) }
     ensures stopped { IfErr result (λ e. e.fault ≢ Fault.NoMemory → IsCutOff whole.entry.names.now whole.entry.commands.now lines.now (string_bytes out.new) e) }
 {
     let mut index = 0;
@@ -217,13 +211,20 @@ fn played(alloc: Global, script: &Script) -> Result<Told, Fault>
 /// Plays a script, one step after another, and tells where its nodes stand: behind each `report` line that node, and behind the
 /// last line each node that no report told behind the last line that acts; and its warnings. Where a line isn't done, it tells of
 /// those before it, and why it wasn't.
+#[tactic(auto, using(crate::proofs::Pieces::stand_refused, crate::proofs::Pieces::said_wants))]
 pub fn stand(alloc: Global, text: &[u8]) -> Result<Told, StandFault>
     // No line is bad, and this is told of the script.
     ensures told { IfOk result (IsTold text.now) }
-    // Memory ran out, or a line is the first bad one.
+    // A line is the first bad one, or memory ran out: then it is told by its number, where that takes no memory.
     ensures cause { IfErr result (IsStandFault text.now) }
 {
-    let script = read(alloc, text)?;
+    let script = match read(alloc, text) {
+        Ok(script) => script,
+        Err(fault) => return Err(StandFault::from(fault)),
+    };
     a_script_has_room();
-    Ok(played(alloc, &script)?)
+    match played(alloc, &script) {
+        Ok(told) => Ok(told),
+        Err(_) => Err(StandFault::NoMemory),
+    }
 }

@@ -1,8 +1,9 @@
 //! Where a node stands that plays a script.
 ghost use Rattle.std.specs.Prelude.{◌≡◌, ◌≤◌, ◌++◌, OnOk, IsOkUnless, string_bytes};
+ghost use Rattle.scp_line.specs.Nodes.{HasPlayed};
 ghost use Rattle.scp_trace_slot.specs.Adding.{Adds};
 ghost use Rattle.scp_trace_stand.specs.Told.{TellsNode, report_line, IsPiece};
-ghost use Rattle.scp_trace_stand.specs.Playing.{IsPlaying, StandsNext};
+ghost use Rattle.scp_trace_stand.specs.inside.Playing.{IsPlaying, StandsNext, moment_at};
 
 use scp_core::each_node_holds_its_ledger;
 use scp_network::Network;
@@ -74,7 +75,7 @@ fn tell_report(
 ) -> Result<(), Fault>
     requires playing { IsPlaying playing.count playing.commands.now playing.played.now network.now }
     requires number { (1 ≤ number) × (number ≤ playing.count) }
-    ensures told { OnOk result (Adds (string_bytes out.old) (string_bytes out.new) (IsPiece playing.entry.names.now playing.entry.commands.now playing.entry.played.now line (Command.Report number))) }
+    ensures told { (so_far : HasPlayed playing.entry.commands.now playing.entry.played.now network.now) → OnOk result (Adds (string_bytes out.old) (string_bytes out.new) (IsPiece playing.entry.names.now playing.entry.commands.now playing.entry.played.now (moment_at so_far.heard network.now) line (Command.Report number))) }
     ensures only_memory { IsOkUnless result Fault.NoMemory }
 {
     each_node_holds_its_ledger();
@@ -92,7 +93,7 @@ pub fn tell_line(
 ) -> Result<(), Fault>
     requires playing { IsPlaying playing.count playing.commands.now playing.played.now network.now }
     requires next { StandsNext playing.commands.now playing.played.now command.now }
-    ensures told { OnOk result (Adds (string_bytes out.old) (string_bytes out.new) (IsPiece playing.entry.names.now playing.entry.commands.now playing.entry.played.now line command.now)) }
+    ensures told { (so_far : HasPlayed playing.entry.commands.now playing.entry.played.now network.now) → OnOk result (Adds (string_bytes out.old) (string_bytes out.new) (IsPiece playing.entry.names.now playing.entry.commands.now playing.entry.played.now (moment_at so_far.heard network.now) line command.now)) }
     ensures only_memory { IsOkUnless result Fault.NoMemory }
 {
     match command {

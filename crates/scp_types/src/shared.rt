@@ -53,6 +53,7 @@ impl Deref for SharedValue {
 
     ghost deref_gives = { λ s v. v ≡ s };
 
+    /// The value.
     fn deref(&self) -> &Value
         ensures { result.now ≡ self.now }
     {

@@ -8,8 +8,8 @@ use std::cmp::Ordering;
 use std::marker::Model;
 
 /// What is agreed on: bytes, of any number. Values are ordered by their bytes, so that a proper
-/// prefix is less than the whole. The limit of 4,096 bytes is that of the spelling (this project's
-/// profile), and is tested where a value is read or written.
+/// prefix is less than the whole. The limit, `VALUE_LIMIT`, is that of the spelling (this
+/// project's profile), and is tested where a value is read or written.
 #[derive(Debug, Drop)]
 pub struct Value(Vec<u8>);
 

@@ -12,7 +12,8 @@ use Rattle.scp_quorum.specs.NodeSet.{node_cmp}
 use Rattle.scp_envelope.specs.declared.statement.Pledges.{Pledges}
 use Rattle.scp_vote.specs.Board.{Seen, Puts, KeepsOwn}
 use Rattle.scp_vote.specs.Licence.{with_own, Follows, MayFollow, Leads, Licensed}
-use Rattle.scp_vote.proofs.Same.{IsSame, same_sym, follows_same}
+use Rattle.scp_vote.specs.inside.Chain.{IsChain}
+use Rattle.scp_vote.proofs.Same.{same_sym, follows_same}
 
 is_eq-true : (o : Ordering) → is_eq o ≡ true → o ≡ Equal
 is_eq-true Less e = cc
@@ -28,12 +29,6 @@ at_itself v = ap is_eq (tied_itself nat_list_cmp_total v.0)
 leads_more : (others : Seen) (p : Option Pledges) (qs : List Pledges) (last : Option Pledges) (q : Pledges) → Leads others p qs last → MayFollow others last q → Leads others p (qs ++ q ∷ []) (Some q)
 leads_more others p [] last q e follows = (let P : Option Pledges → Type 0 = λ o. MayFollow others o q in subst P (sym e) follows, refl)
 leads_more others p (r ∷ rs) last q h follows = (h.0, leads_more others (Some r) rs last q h.1 follows)
-
--- What holds of a board since the own statement was `first`, the others' part being as on `others`.
-pub record IsChain (others : Seen) (first : Option Pledges) (now : Seen) : Type 0 where
-  pub board : IsSame (with_own others (now.statement now.me)) now
-  pub keeps : KeepsOwn now
-  pub licensed : Licensed others first (now.statement now.me)
 
 itself : {A : Type 0} (t : Bool) (x y : A) → (t ≡ true → y ≡ x) → y ≡ cond t x y
 itself true x y h = h refl

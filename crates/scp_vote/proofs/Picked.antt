@@ -8,7 +8,7 @@ use Rattle.scp_quorum.specs.Quorum.{IsQuorum, IsGreatestQuorum, HasNoQuorum}
 use Rattle.scp_quorum.proofs.Blocking.{Satisfies-within}
 use Rattle.scp_envelope.specs.declared.statement.Pledges.{Pledges}
 use Rattle.scp_vote.specs.Board.{Seen, Has, AllHave, HasQuorumOf, IsBlockedBy, IsGreatestWhere, KeepsOwn}
-use Rattle.scp_vote.specs.Statements.{PicksNodes, PicksSets}
+use Rattle.scp_vote.specs.inside.Statements.{PicksNodes, PicksSets}
 
 there : {A : Type 0} (o : Option A) (P : A → Type 0) → IsSomeAnd o P → IsSome o
 there None P h = absurd h

@@ -10,8 +10,8 @@ use Rattle.scp_envelope.specs.declared.statement.Pledges.{Pledges}
 use Rattle.scp_vote.specs.declared.statements.Side.{Side}
 use Rattle.scp_vote.specs.declared.statements.Entry.{Entry}
 use Rattle.scp_vote.specs.Board.{Has}
-use Rattle.scp_vote.specs.Statements.{PicksNodes}
-use Rattle.scp_vote.specs.Side.{side}
+use Rattle.scp_vote.specs.inside.Statements.{PicksNodes}
+use Rattle.scp_vote.specs.inside.Side.{side}
 use Rattle.scp_vote.proofs.Chain.{same_at, at_itself}
 
 abbrev pub Entries : Type 0

@@ -9,10 +9,11 @@ use Rattle.scp_quorum.specs.NodeSet.{node_cmp}
 use Rattle.scp_quorum.specs.QuorumTree.{QuorumTree}
 use Rattle.scp_vote.specs.declared.statements.Entry.{Entry}
 use Rattle.scp_vote.specs.Board.{Seen, IsCounted, Puts, PutsCounted, KeepsOwn}
-use Rattle.scp_vote.specs.Statements.{seen_in, Enters}
+use Rattle.scp_vote.specs.Statements.{seen_in}
+use Rattle.scp_vote.specs.inside.Statements.{Enters}
 use Rattle.scp_envelope.specs.declared.statement.Pledges.{Pledges}
 use Rattle.scp_envelope.specs.declared.statement.Envelope.{Envelope}
-use Rattle.scp_vote.specs.Seats.{Shared}
+use Rattle.scp_vote.specs.inside.Seats.{Shared}
 use Rattle.scp_vote.proofs.Chain.{same_at}
 
 put_keeps : (t : Bool) (x : Entry) (o n : Option Entry) (l : QuorumTree) → n ≡ cond t (Some x) o → (t ≡ true → x.counted.value ≡ l) → ForSome o (λ e. e.counted.value ≡ l) → ForSome n (λ e. e.counted.value ≡ l)

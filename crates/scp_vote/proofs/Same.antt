@@ -10,13 +10,8 @@ use Rattle.scp_vote.specs.declared.claim.Claim.TheVariants.{Prepared, Committed,
 use Rattle.scp_vote.specs.declared.claim.Support.TheVariants.{VotesOrAccepts, Accepts}
 use Rattle.scp_vote.specs.Claims.{Stands}
 use Rattle.scp_vote.specs.Board.{Seen, HasQuorumOf, Accepted, Confirmed, AllHave}
+use Rattle.scp_vote.specs.inside.Chain.{IsSame}
 use Rattle.scp_vote.specs.Licence.{Follows, high_end, VotesWell, AcceptsWell, ExternalizesWell}
-
-pub record IsSame (a b : Seen) : Type 0 where
-  pub me : b.me ≡ a.me
-  pub local : b.local ≡ a.local
-  pub statement : (v : NodeId) → b.statement v ≡ a.statement v
-  pub counted : (v : NodeId) → b.counted v ≡ a.counted v
 
 pub same_sym : (a b : Seen) → IsSame a b → IsSame b a
 same_sym a b s = record { me = sym s.me; local = sym s.local; statement = λ v. sym (s.statement v); counted = λ v. sym (s.counted v) }

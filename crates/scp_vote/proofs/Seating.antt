@@ -23,10 +23,10 @@ use Rattle.scp_vote.specs.declared.claim.Claim.{Claim}
 use Rattle.scp_vote.specs.declared.claim.Support.TheVariants.{VotesOrAccepts, Accepts}
 use Rattle.scp_vote.specs.Claims.{Stands}
 use Rattle.scp_vote.specs.declared.statements.Side.{Side}
-use Rattle.scp_vote.specs.Side.{side}
+use Rattle.scp_vote.specs.inside.Side.{side}
 use Rattle.scp_vote.specs.Board.{Seen, Has, HasQuorumOf, IsBlockedBy, Accepted, IsGreatestWhere}
-use Rattle.scp_vote.specs.Statements.{Enters, PicksNodes, PicksSets}
-use Rattle.scp_vote.specs.Seats.{Shared, IsSeated, AreSeated, place_in, KeepsSets, IsUnused, IsPlaceFor, IsPutAt}
+use Rattle.scp_vote.specs.inside.Statements.{Enters, PicksNodes, PicksSets}
+use Rattle.scp_vote.specs.inside.Seats.{Shared, IsSeated, AreSeated, place_in, KeepsSets, IsUnused, IsPlaceFor, IsPutAt}
 use Rattle.scp_vote.proofs.Chain.{same_at, at_itself}
 use Rattle.scp_vote.proofs.Picked.{greatest_picked, none_picked, blocked_iff}
 use Rattle.scp_vote.proofs.Picking.{Entries, IsPicking, picking_takes, picking_by, has_at, at_has}

@@ -12,8 +12,8 @@ use Rattle.scp_quorum.specs.Places.{set_of_group, set_of_seat, set_at, marked, i
 use Rattle.scp_vote.specs.declared.statements.Entry.{Entry}
 use Rattle.scp_vote.specs.declared.statements.Side.{Side}
 use Rattle.scp_vote.specs.Board.{KeepsOwn}
-use Rattle.scp_vote.specs.Side.{side}
-use Rattle.scp_vote.specs.Seats.{Shared, place_in}
+use Rattle.scp_vote.specs.inside.Side.{side}
+use Rattle.scp_vote.specs.inside.Seats.{Shared, place_in}
 use Rattle.scp_vote.proofs.Picked.{own_counted}
 use Rattle.scp_vote.proofs.Seating.{shared_counted}
 

@@ -42,6 +42,7 @@ kind_of (Nominated v) = Nomination
 abbrev pub Has : Seen → (Pledges → Type 0) → NodeId → Type 0
 Has b P v = IsSomeAnd (b.statement v) P
 
+-- each of the nodes has a statement of which P holds
 abbrev pub AllHave : Seen → (Pledges → Type 0) → (NodeId → Bool) → Type 0
 AllHave b P nodes = (v : NodeId) → nodes v ≡ true → Has b P v
 
@@ -75,7 +76,7 @@ Certificate b c nodes = IsGreatestWhere b (Stands Accepts c) nodes
 abbrev pub alone : NodeId → QuorumTree
 alone v = record { head = record { threshold = 1; validators = v ∷ [] }; inner = no_trees }
 
--- of another node's EXTERNALIZE that node alone is counted, else the delivered set
+-- of another node's EXTERNALIZE that node alone is counted, else the delivered set (this project's profile)
 abbrev pub counted_of_other : NodeId → Pledges → QuorumTree → QuorumTree
 counted_of_other v (Prepare p) delivered = delivered
 counted_of_other v (Confirm p) delivered = delivered

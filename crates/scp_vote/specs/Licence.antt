@@ -54,6 +54,7 @@ AcceptsWell b p (Confirming q) = IsSomeAnd p (λ p. AcceptsCommits p q.n_commit 
 AcceptsWell b p (Externalizing q) = Unit {0}
 AcceptsWell b p (Nominating q) = Unit {0}
 
+-- it is an EXTERNALIZE
 abbrev pub IsExternalize : Pledges → Type 0
 IsExternalize (Preparing p) = ⊥
 IsExternalize (Confirming p) = ⊥

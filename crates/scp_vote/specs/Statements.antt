@@ -1,8 +1,7 @@
 -- What is seen of a table of statements, and which nodes are picked from it.
-use Rattle.std.specs.Prelude.{◌≡◌, Bool, true, cond, ◌↔◌, IsTrue, Option, Some, IsSome}
 use Rattle.std.specs.Option.{option_map}
 use Rattle.std.specs.BTreeMap as node_map
-use Rattle.std.specs.BTreeMap.{BTreeMap, is_at}
+use Rattle.std.specs.BTreeMap.{BTreeMap}
 use Rattle.scp_types.specs.declared.names.NodeId.{NodeId}
 use Rattle.scp_quorum.specs.NodeSet.{node_cmp}
 use Rattle.scp_quorum.specs.QuorumTree.{QuorumTree}
@@ -17,17 +16,3 @@ seen_in me local entries = record {
   statement = λ v. option_map (λ (e : Entry). e.envelope.statement.pledges) (node_map.get node_cmp entries v);
   counted = λ v. option_map (λ (e : Entry). e.counted.value) (node_map.get node_cmp entries v);
 }
-
--- the entry is that of its node, and all else is as before
-abbrev pub Enters : BTreeMap NodeId Entry → BTreeMap NodeId Entry → Entry → Type 0
-Enters old new e = (v : NodeId) → node_map.get node_cmp new v ≡ cond (is_at (node_cmp e.envelope.statement.node) v) (Some e) (node_map.get node_cmp old v)
-
--- just the nodes with H are picked
-abbrev pub PicksNodes : (NodeId → Type 0) → (NodeId → Bool) → Type 0
-PicksNodes H nodes = (v : NodeId) → IsTrue (nodes v) ↔ H v
-
--- The sets are the counted ones of the given nodes that have a statement.
-pub record PicksSets (b : Seen) (nodes : NodeId → Bool) (sets : NodeId → Option QuorumTree) : Type 0 where
-  pub sound : (v : NodeId) → IsSome (sets v) → nodes v ≡ true
-  pub same : (v : NodeId) → IsSome (sets v) → sets v ≡ b.counted v
-  pub complete : (v : NodeId) → nodes v ≡ true → sets v ≡ b.counted v

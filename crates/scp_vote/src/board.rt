@@ -33,7 +33,7 @@ pub struct Board {
 
 impl Board {
     ghost use Rattle.scp_vote.specs.Seen.{seen, envelope_at};
-    ghost use Rattle.scp_vote.specs.Side.{side};
+    ghost use Rattle.scp_vote.specs.inside.Side.{side};
     ghost use Rattle.scp_vote.specs.Statements.{seen_in};
 
     /// A board without statements, of this node and its set.

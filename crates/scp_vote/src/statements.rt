@@ -45,9 +45,9 @@ impl Side<'_> {
     ghost use Rattle.scp_quorum.specs.Places.{marked, only};
     ghost use Rattle.scp_vote.specs.Claims.{Stands};
     ghost use Rattle.scp_vote.specs.Board.{Has, Accepted, Confirmed, IsGreatestWhere, IsCounted, KeepsOwn};
-    ghost use Rattle.scp_vote.specs.Statements.{PicksNodes};
-    ghost use Rattle.scp_vote.specs.Seats.{place_in};
-    ghost use Rattle.scp_vote.specs.Side.{side};
+    ghost use Rattle.scp_vote.specs.inside.Statements.{PicksNodes};
+    ghost use Rattle.scp_vote.specs.inside.Seats.{place_in};
+    ghost use Rattle.scp_vote.specs.inside.Side.{side};
     ghost use Rattle.scp_vote.specs.declared.claim.Support.TheVariants.{VotesOrAccepts, Accepts};
 
     /// Marks for the seats, none of them marked.

@@ -2,7 +2,7 @@
 ghost use Rattle.std.specs.Prelude.{◌≡◌, ◌≢◌, ◌≤◌, ◌<◌, ℕ, IfOk, IfSome, OnOk, OnErr, Some, cond, get_or, set, length, true, false};
 ghost use Rattle.std.proofs.Props.{props};
 ghost use Rattle.scp_quorum.specs.Places.{set_of_group};
-ghost use Rattle.scp_vote.specs.Seats.{AreSeated, KeepsSets, IsUnused, IsPlaceFor, IsPutAt, place_in};
+ghost use Rattle.scp_vote.specs.inside.Seats.{AreSeated, KeepsSets, IsUnused, IsPlaceFor, IsPutAt, place_in};
 
 use crate::statements::Entry;
 use scp_envelope::SharedEnvelope;
@@ -28,7 +28,7 @@ pub(crate) struct Table {
 
 impl Table {
     ghost use Rattle.std.specs.Prelude.{◌≡◌, ℕ, [], OnOk, OnErr};
-    ghost use Rattle.scp_vote.specs.Statements.{Enters};
+    ghost use Rattle.scp_vote.specs.inside.Statements.{Enters};
 
     /// No statements.
     pub(crate) fn new(alloc: Global) -> Table

@@ -14,7 +14,8 @@ use Rattle.scp_wire.specs.declared.link.Inbound.TheVariants.{Opened, Carried, Si
 use Rattle.scp_wire.specs.Connections.{conn_at, same_conn, same_node}
 use Rattle.scp_wire.specs.Shape.{Come, nothing_came, comes, MayCome, AreInOrder, is_from, of_peer}
 use Rattle.scp_wire.specs.Lanes.{slot_in, slots_of, HasSlot, HaveSlots, is_in_lane}
-use Rattle.scp_wire.specs.Marks.{Mark, number, ended, one_if, came_mark, marks_in, came_message, messages_in, Follows}
+use Rattle.scp_wire.specs.Marks.{Mark, number, ended, one_if, came_mark, marks_in, came_message, messages_in}
+use Rattle.scp_wire.specs.inside.Marks.{Follows}
 use Rattle.scp_wire.specs.Parts.{PartsSayWhatTheWholeSays, LanesArePartByPart, PeersSayAllOfTheirs, IsNumbered, NumbersNameMessages, OrderIsOfThePeer, OthersHaveNoNumber}
 use Rattle.scp_wire.proofs.Lanes.{filter-append}
 

@@ -7,7 +7,7 @@ use Rattle.scp_wire.specs.declared.message.Message.TheVariants.{Envelope, GetSet
 use Rattle.scp_wire.specs.declared.link.Inbound.{Inbound}
 use Rattle.scp_wire.specs.declared.link.Inbound.TheVariants as inbound
 use Rattle.scp_wire.specs.declared.link.Cause.TheVariants.{Spent}
-use Rattle.scp_wire.specs.Carried.{IsCarried, IsCarried-prop}
+use Rattle.scp_wire.specs.inside.Carried.{IsCarried, IsCarried-prop}
 use Rattle.scp_wire.specs.LinkReading.{brought_one, numbered}
 
 abbrev as_carried : (conn : ConnId) (n : ℕ) (m : Message) → IsCarried m → Inbound

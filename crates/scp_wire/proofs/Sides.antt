@@ -12,7 +12,8 @@ use Rattle.scp_quorum.specs.QuorumKind.{set_kind}
 use Rattle.scp_envelope.specs.Kinds.{envelope_kind}
 use Rattle.scp_wire.specs.Message.{message_kind, message_of}
 use Rattle.scp_wire.specs.Carried.{is_side}
-use Rattle.scp_wire.specs.Reading.{has_side_word, reading_of}
+use Rattle.scp_wire.specs.inside.Reading.{has_side_word}
+use Rattle.scp_wire.specs.Reading.{reading_of}
 use Rattle.scp_wire.proofs.Readings.{reading_within, longer_has_none}
 
 abbrev arms : Arms

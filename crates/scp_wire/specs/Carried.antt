@@ -1,6 +1,5 @@
 -- Which messages are numbered on their connection.
-use Rattle.std.specs.Prelude.{◌≡◌, Bool, true, false, Option, Some, None}
-use Rattle.std.proofs.Math.Bool.{Bool-set}
+use Rattle.std.specs.Prelude.{Bool, true, false, Option, Some, None}
 use Rattle.scp_wire.specs.declared.message.Message.{Message}
 use Rattle.scp_wire.specs.declared.message.Message.TheVariants.{Envelope, GetSet, Set, NoSet, GetRecord, Record, Records}
 
@@ -14,13 +13,6 @@ is_carried (NoSet hash) = false
 is_carried (GetRecord slot) = true
 is_carried (Record slot value) = true
 is_carried (Records first values) = false
-
-abbrev pub IsCarried : Message → Type 0
-IsCarried message = is_carried message ≡ true
-
--- whether a message is carried has one proof
-pub IsCarried-prop : (m : Message) → IsProp (IsCarried m)
-IsCarried-prop m = hlevel (Bool-set)
 
 -- what was read is a side message
 abbrev pub is_side : Option Message → Bool

@@ -21,6 +21,7 @@ slot_of (GetRecord slot) = slot.0
 slot_of (Record slot value) = slot.0
 slot_of (Records first values) = 0
 
+-- the slot of a message that is there; 0, which is no slot, where none is
 abbrev pub slot_in : Option Message → ℕ
 slot_in None = 0
 slot_in (Some message) = slot_of message
@@ -34,6 +35,7 @@ abbrev pub is_in_lane : (ℕ → ℕ) → ℕ → Mark → Bool
 is_in_lane slots s (number n) = nat_eq (slots n) s
 is_in_lane slots s (ended cause) = true
 
+-- the lane of a slot: its numbers, and each end
 abbrev pub in_lane : (ℕ → ℕ) → ℕ → List Mark → List Mark
 in_lane slots s marks = filter (is_in_lane slots s) marks
 
@@ -71,5 +73,6 @@ HasSlot c slots (Side conn message) = Unit {0}
 HasSlot c slots (Closed conn cause) = Unit {0}
 HasSlot c slots (Local command) = Unit {0}
 
+-- the slots of the messages that came of the connection are these
 abbrev pub HaveSlots : ConnId → (ℕ → ℕ) → List Inbound → Type 0
 HaveSlots c slots items = AllByRecursion (HasSlot c slots) items

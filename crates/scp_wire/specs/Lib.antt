@@ -12,3 +12,4 @@ pub mod Sent
 pub mod Lanes
 pub mod ReaderLaws
 pub mod Parts
+pub mod inside

@@ -1,6 +1,6 @@
 -- What a link's items are read as (this project's profile): carried messages numbered 0, 1, 2, .. on each connection, a
 -- batch as its records, side messages, and the connection's end. What follows of a connection that ended is discarded up to the next Opened.
-use Rattle.std.specs.Prelude.{ℕ, ◌+◌, ◌^◌, ◌≤◌, length, ◌≡◌, refl, Bool, true, false, ◌&&◌, List, [], ◌∷◌, ◌++◌, Option, Some, None, nat_eq, if◌then◌else◌, fold, drop}
+use Rattle.std.specs.Prelude.{ℕ, ◌+◌, ◌≡◌, refl, Bool, true, false, ◌&&◌, List, [], ◌∷◌, ◌++◌, Option, Some, None, nat_eq, if◌then◌else◌, fold, drop}
 use Rattle.scp_types.specs.declared.names.ConnId.{ConnId}
 use Rattle.scp_wire.specs.declared.message.Message.{Message}
 use Rattle.scp_wire.specs.declared.message.Message.TheVariants.{Envelope, GetSet, Set, NoSet, GetRecord, Record, Records}
@@ -42,6 +42,7 @@ abbrev pub records_from : ℕ → List (List ℕ) → List Message
 records_from slot [] = []
 records_from slot (value ∷ values) = Record (record { 0 = slot }) value ∷ records_from (slot + 1) values
 
+-- the messages that one message is read as: a batch its records, any other itself
 abbrev pub singles : Message → List Message
 singles (Envelope envelope) = Envelope envelope ∷ []
 singles (GetSet hash) = GetSet hash ∷ []
@@ -50,16 +51,6 @@ singles (NoSet hash) = NoSet hash ∷ []
 singles (GetRecord slot) = GetRecord slot ∷ []
 singles (Record slot value) = Record slot value ∷ []
 singles (Records first values) = records_from first.0 values
-
--- the last record of a batch names a slot
-abbrev pub HasRoom : Message → Type 0
-HasRoom (Envelope envelope) = Unit {0}
-HasRoom (GetSet hash) = Unit {0}
-HasRoom (Set set) = Unit {0}
-HasRoom (NoSet hash) = Unit {0}
-HasRoom (GetRecord slot) = Unit {0}
-HasRoom (Record slot value) = Unit {0}
-HasRoom (Records first values) = first.0 + length values ≤ 2 ^ 64
 
 -- 1,000,000 messages were carried, and this would be one more
 abbrev pub is_spent : ℕ → Message → Bool
@@ -73,6 +64,7 @@ next_of n message = if is_carried message then n + 1 else n
 abbrev pub brought_one : ConnId → ℕ → Message → Inbound
 brought_one conn n message = if is_spent n message then inbound.Closed conn Spent else numbered conn n message
 
+-- the reader after one message
 abbrev pub after_one : ReaderView → Message → ReaderView
 after_one r message = if is_spent r.next message then record r { ended = true } else record r { next = next_of r.next message }
 
@@ -81,6 +73,7 @@ abbrev pub brought_each : ConnId → ℕ → List Message → List Inbound
 brought_each conn n [] = []
 brought_each conn n (m ∷ ms) = brought_one conn n m ∷ (if is_spent n m then [] else brought_each conn (next_of n m) ms)
 
+-- the reader after messages in turn
 abbrev pub after_each : ReaderView → List Message → ReaderView
 after_each r [] = r
 after_each r (m ∷ ms) = if is_spent r.next m then after_one r m else after_each (after_one r m) ms
@@ -90,6 +83,7 @@ abbrev pub brought : ConnId → ℕ → Option Message → List Inbound
 brought conn n None = inbound.Closed conn Malformed ∷ []
 brought conn n (Some message) = brought_each conn n (singles message)
 
+-- the reader after bytes with this reading
 abbrev pub after_read : ReaderView → Option Message → ReaderView
 after_read r None = record r { ended = true }
 after_read r (Some message) = after_each r (singles message)
@@ -116,6 +110,7 @@ abbrev pub readings : ReaderView → List LinkItem → List Inbound
 readings r [] = []
 readings r (item ∷ items) = reading r item ++ readings (after r item) items
 
+-- the reader after a list of items
 abbrev pub after_all : ReaderView → List LinkItem → ReaderView
 after_all r items = fold after r items
 

@@ -1,5 +1,5 @@
 -- What a list of things says of one connection: all that is of it; of that the numbers of its messages, and its end.
-use Rattle.std.specs.Prelude.{ℕ, ◌+◌, ◌≡◌, Bool, false, List, [], ◌∷◌, ◌++◌, ◌⊎◌, filter, flat_map, if◌then◌else◌}
+use Rattle.std.specs.Prelude.{ℕ, ◌≡◌, Bool, false, List, [], ◌∷◌, ◌++◌, ◌⊎◌, filter, flat_map, if◌then◌else◌}
 use Rattle.scp_types.specs.declared.names.ConnId.{ConnId}
 use Rattle.scp_wire.specs.declared.message.Message.{Message}
 use Rattle.scp_wire.specs.declared.link.Cause.{Cause}
@@ -16,6 +16,7 @@ is_of c (Side conn message) = same_conn conn c
 is_of c (Closed conn cause) = same_conn conn c
 is_of c (Local command) = false
 
+-- what is of the connection, in order
 abbrev pub of_conn : ConnId → List Inbound → List Inbound
 of_conn c items = filter (is_of c) items
 
@@ -24,6 +25,7 @@ pub data Mark : Type 0 where
   number : ℕ → Mark
   ended : Cause → Mark
 
+-- it alone where the test holds, else nothing
 abbrev pub one_if : {X : Type 0} → Bool → X → List X
 one_if mine x = if mine then x ∷ [] else []
 
@@ -39,6 +41,7 @@ came_mark c (Local command) = []
 abbrev pub marks_in : ConnId → List Inbound → List Mark
 marks_in c items = flat_map (came_mark c) items
 
+-- the message, where it is a carried one of the connection
 abbrev pub came_message : ConnId → Inbound → List Message
 came_message c (Opened conn) = []
 came_message c (Carried x) = one_if (same_conn x.conn c) x.message
@@ -49,12 +52,6 @@ came_message c (Local command) = []
 -- the carried messages of what came
 abbrev pub messages_in : ConnId → List Inbound → List Message
 messages_in c items = flat_map (came_message c) items
-
--- numbers from n on without a gap, and nothing after an end
-abbrev pub Follows : ℕ → List Mark → Type 0
-Follows n [] = Unit {0}
-Follows n (number seq ∷ rest) = (seq ≡ n) × Follows (n + 1) rest
-Follows n (ended cause ∷ rest) = rest ≡ []
 
 -- the line is what was sent up to somewhere, then an end as ParkedFull, then what is still to be discarded
 pub record IsCut (sent line : List Mark) : Type 0 where

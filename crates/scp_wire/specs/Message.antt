@@ -12,9 +12,11 @@ use Rattle.scp_envelope.specs.Envelopes.{envelope_of}
 use Rattle.scp_wire.specs.declared.message.Message.{Message}
 use Rattle.scp_wire.specs.declared.message.Message.TheVariants.{Envelope, GetSet, Set, NoSet, GetRecord, Record, Records}
 
+-- the XDR of a link message: a union of seven arms (RFC 4506; this project's profile)
 abbrev pub message_kind : Kind
 message_kind = union (arm 1 envelope_kind (arm 2 hash_kind (arm 3 set_kind (arm 4 hash_kind (arm 5 uint64 (arm 6 (both uint64 value_kind) (arm 7 (numbered 32 value_kind) no_arm)))))))
 
+-- what stands for a message as a value of its kind: the arm of its sort
 abbrev pub message_value : Message → Values message_kind
 message_value (Envelope envelope) = inl (envelope_value envelope.value)
 message_value (GetSet hash) = inr (inl hash.0)

@@ -34,6 +34,7 @@ pub record SaysPartByPart (c : ConnId) (front rest : List Inbound) : Type 0 wher
   pub marks : marks_in c (front ++ rest) ≡ marks_in c front ++ marks_in c rest
   pub messages : messages_in c (front ++ rest) ≡ messages_in c front ++ messages_in c rest
 
+-- two parts of what came say of a connection, one after the other, what the whole says
 abbrev pub PartsSayWhatTheWholeSays : Type 0
 PartsSayWhatTheWholeSays = (c : ConnId) (front rest : List Inbound) → SaysPartByPart c front rest
 
@@ -46,6 +47,7 @@ pub record IsSaidByItsPeer (c : ConnId) (items : List Inbound) : Type 0 where
   pub marks : marks_in c (of_peer c.from items) ≡ marks_in c items
   pub messages : messages_in c (of_peer c.from items) ≡ messages_in c items
 
+-- what came of a connection's peer says all that what came says of the connection
 abbrev pub PeersSayAllOfTheirs : Type 0
 PeersSayAllOfTheirs = (c : ConnId) (items : List Inbound) → IsSaidByItsPeer c items
 

@@ -16,6 +16,7 @@ pub record IsSent (c : ConnId) (items : List LinkItem) : Type 0 where
   pub line : marks_in c (readings unread items) ≡ line_of_sent 0 1000000 (sent c items) (is_closed c items)
   pub all : of_conn c (readings unread items) ≡ read_of_sent c items
 
+-- what is read of a link's items is of each connection what was sent on it
 abbrev pub ReadingsAreSent : Type 0
 ReadingsAreSent = (peer me : NodeId) (items : List LinkItem) → AreOfLink peer me never_open items → (life : ℕ) → IsSent (conn_at peer me life) items
 
@@ -28,6 +29,7 @@ pub record Grows (r : ReaderView) (items more : List LinkItem) : Type 0 where
   pub given : readings r (items ++ more) ≡ readings r items ++ readings (after_all r items) more
   pub stands : after_all r (items ++ more) ≡ after_all (after_all r items) more
 
+-- with further items what is read grows by what these are read as, where the reader stands
 abbrev pub ReadingsGrow : Type 0
 ReadingsGrow = (r : ReaderView) (items more : List LinkItem) → Grows r items more
 
@@ -36,5 +38,6 @@ pub record GrowsByOne (r : ReaderView) (items : List LinkItem) (item : LinkItem)
   pub given : readings r (items ++ item ∷ []) ≡ readings r items ++ reading (after_all r items) item
   pub stands : after_all r (items ++ item ∷ []) ≡ after (after_all r items) item
 
+-- the same, by one item
 abbrev pub ReadingsGrowByOne : Type 0
 ReadingsGrowByOne = (r : ReaderView) (items : List LinkItem) (item : LinkItem) → GrowsByOne r items item

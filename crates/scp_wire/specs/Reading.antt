@@ -1,8 +1,7 @@
 -- The message that bytes spell.
-use Rattle.std.specs.Prelude.{◌≡◌, ℕ, ◌<◌, ◌↔◌, Bool, false, ◌||◌, List, Option, Some, None, Result, Ok, Err, nat_eq, slice_index}
+use Rattle.std.specs.Prelude.{◌≡◌, ℕ, ◌<◌, ◌↔◌, List, Option, Some, None, Result, Ok, Err, slice_index}
 use Rattle.scp_types.specs.declared.fault.Fault.{Fault}
 use Rattle.scp_xdr.specs.Kind.{Values}
-use Rattle.scp_xdr.specs.Reading.{Read}
 use Rattle.scp_wire.specs.declared.message.Message.{Message}
 use Rattle.scp_wire.specs.Message.{message_kind, message_value, message_of, message_reading, SpellsMessage}
 
@@ -15,11 +14,7 @@ message_in (Err f) = None
 unfoldable pub reading_of : List ℕ → Option Message
 reading_of bytes = message_in (message_reading bytes)
 
--- the first word is the discriminant of a message that isn't carried
-abbrev pub has_side_word : Read ℕ → Bool
-has_side_word (Ok word) = nat_eq word.0 2 || (nat_eq word.0 3 || nat_eq word.0 4)
-has_side_word (Err f) = false
-
+-- each number of the list is below 256
 abbrev pub AreBytes : List ℕ → Type 0
 AreBytes bytes = (i : ℕ) → slice_index bytes i < 256
 

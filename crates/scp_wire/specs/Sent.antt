@@ -20,6 +20,7 @@ sent_by c (Opened conn) = []
 sent_by c (Bytes conn bytes) = one_if (same_conn conn c) bytes
 sent_by c (Closed conn) = []
 
+-- the item closes the connection
 abbrev pub closed_by : ConnId → LinkItem → Bool
 closed_by c (Opened conn) = false
 closed_by c (Bytes conn bytes) = false
@@ -29,6 +30,7 @@ closed_by c (Closed conn) = same_conn conn c
 abbrev pub sent : ConnId → List LinkItem → List (List ℕ)
 sent c items = flat_map (sent_by c) items
 
+-- some item closes it
 abbrev pub is_closed : ConnId → List LinkItem → Bool
 is_closed c [] = false
 is_closed c (x ∷ xs) = closed_by c x || is_closed c xs
@@ -38,14 +40,17 @@ abbrev pub readable_from : Option Message → List Message → List Message
 readable_from None rest = []
 readable_from (Some message) rest = singles message ++ rest
 
+-- the messages up to the first bytes that have no reading
 abbrev pub readable : List (List ℕ) → List Message
 readable [] = []
 readable (bytes ∷ rest) = readable_from (reading_of bytes) (readable rest)
 
+-- all bytes have a reading
 abbrev pub all_readable : List (List ℕ) → Bool
 all_readable [] = true
 all_readable (bytes ∷ rest) = if is_some (reading_of bytes) then all_readable rest else false
 
+-- the carried ones of the messages
 abbrev pub all_carried : List (List ℕ) → List Message
 all_carried bytes = filter is_carried (readable bytes)
 
@@ -53,6 +58,7 @@ all_carried bytes = filter is_carried (readable bytes)
 abbrev pub carried_of : ℕ → List (List ℕ) → List Message
 carried_of limit bytes = take limit (all_carried bytes)
 
+-- why the connection ends: one carried message too many, bytes that are no message, or the close; none while it goes on
 abbrev pub end_of : ℕ → List (List ℕ) → Bool → Option Cause
 end_of limit bytes closed = if nat_lt limit (length (all_carried bytes)) then Some Spent else (if not (all_readable bytes) then Some Malformed else (if closed then Some Link else None))
 
@@ -73,6 +79,7 @@ opened_by c (Opened conn) = one_if (same_conn conn c) (inbound.Opened c)
 opened_by c (Bytes conn bytes) = []
 opened_by c (Closed conn) = []
 
+-- what the openings of the connection among the items are read as
 abbrev pub opened : ConnId → List LinkItem → List Inbound
 opened c items = flat_map (opened_by c) items
 

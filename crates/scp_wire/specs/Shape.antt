@@ -15,9 +15,11 @@ pub record Tail : Type 0 where
   pub life : ℕ
   pub is_open : Bool
 
+-- the tail of a link that was never opened
 abbrev pub never_open : Tail
 never_open = record { life = 0; is_open = false }
 
+-- the tail after an item
 abbrev pub goes : Tail → LinkItem → Tail
 goes t (item.Opened conn) = record { life = t.life + 1; is_open = true }
 goes t (item.Bytes conn bytes) = t
@@ -29,6 +31,7 @@ MayGo peer me t (item.Opened conn) = (t.is_open ≡ false) × (conn ≡ conn_at 
 MayGo peer me t (item.Bytes conn bytes) = (t.is_open ≡ true) × (conn ≡ conn_at peer me t.life)
 MayGo peer me t (item.Closed conn) = (t.is_open ≡ true) × (conn ≡ conn_at peer me t.life)
 
+-- what a link may carry: each item may go where its tail then stands
 abbrev pub AreOfLink : NodeId → NodeId → Tail → List LinkItem → Type 0
 AreOfLink peer me t [] = Unit {0}
 AreOfLink peer me t (x ∷ xs) = MayGo peer me t x × AreOfLink peer me (goes t x) xs
@@ -41,9 +44,11 @@ pub record Come : Type 0 where
   pub is_open : Bool
   pub next : ℕ
 
+-- nothing came of the link yet
 abbrev pub nothing_came : Come
 nothing_came = record { life = 0; is_open = false; next = 0 }
 
+-- where the link stands after an item
 abbrev pub comes : Come → Inbound → Come
 comes h (Opened conn) = record { life = h.life + 1; is_open = true; next = 0 }
 comes h (Carried carried) = record h { next = h.next + 1 }
@@ -60,6 +65,7 @@ MayCome peer me h (Side conn message) = (h.is_open ≡ true) × (conn ≡ conn_a
 MayCome peer me h (Closed conn cause) = (h.is_open ≡ true) × (conn ≡ conn_at peer me h.life) × (cause ≢ ParkedFull)
 MayCome peer me h (Local command) = ⊥
 
+-- what comes of one peer is in order: each thing may come where the link then stands
 abbrev pub AreInOrder : NodeId → NodeId → Come → List Inbound → Type 0
 AreInOrder peer me h [] = Unit {0}
 AreInOrder peer me h (x ∷ xs) = MayCome peer me h x × AreInOrder peer me (comes h x) xs
@@ -72,6 +78,7 @@ is_from peer (Side conn message) = same_node conn.from peer
 is_from peer (Closed conn cause) = same_node conn.from peer
 is_from peer (Local command) = false
 
+-- what came of the peer
 abbrev pub of_peer : NodeId → List Inbound → List Inbound
 of_peer peer items = filter (is_from peer) items
 

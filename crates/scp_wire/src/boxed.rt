@@ -65,6 +65,7 @@ impl Deref for BoxedEnvelope {
 
     ghost deref_gives = { λ b e. e ≡ b.value };
 
+    /// The envelope.
     fn deref(&self) -> &Envelope
         ensures { result.now ≡ self.now.value }
     {

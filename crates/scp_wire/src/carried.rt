@@ -1,5 +1,5 @@
 //! A message with its connection and its number there.
-ghost use Rattle.scp_wire.specs.Carried.{IsCarried, IsCarried-prop};
+ghost use Rattle.scp_wire.specs.inside.Carried.{IsCarried, IsCarried-prop};
 
 use crate::fitting::FittingMessage;
 use scp_types::{ConnId, Seq};

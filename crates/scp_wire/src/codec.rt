@@ -8,7 +8,8 @@ ghost use Rattle.scp_xdr.specs.Words.{Gives, IsReadingFault};
 ghost use Rattle.scp_wire.specs.Carried.{is_side};
 ghost use Rattle.scp_wire.specs.Fitting.{IsFitting};
 ghost use Rattle.scp_wire.specs.Message.{message_kind, message_value, message_reading, SpellsMessage, FitsMessage, HasRanges, BreaksALimit};
-ghost use Rattle.scp_wire.specs.Reading.{reading_of, has_side_word, ReadingIsSpelt};
+ghost use Rattle.scp_wire.specs.Reading.{reading_of, ReadingIsSpelt};
+ghost use Rattle.scp_wire.specs.inside.Reading.{has_side_word};
 
 use crate::boxed::BoxedEnvelope;
 use crate::message::{MESSAGE_LIMIT, Message};

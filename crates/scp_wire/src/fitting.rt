@@ -8,16 +8,13 @@ ghost use Rattle.scp_wire.specs.Fitting.{IsFitting};
 
 use crate::codec::BATCH_LIMIT;
 use crate::message::Message;
-use scp_types::Value;
+use scp_types::{VALUE_LIMIT, Value};
 use scp_xdr::{Xdr, numbered_fits, spend_array, spend_u64};
 use std::marker::Model;
 
 /// The most bytes of an envelope, a quorum set or a batch in a link message: 65,536 without the 4 of its kind (this project's
 /// profile).
 const PART_LIMIT: usize = 65_532;
-
-/// The most bytes of a value (this project's profile).
-const VALUE_LIMIT: usize = 4096;
 
 /// A message that breaks no limit of a link message: `encode` never refuses it as too long. Contracts see the message.
 #[derive(Debug, Drop)]
@@ -27,8 +24,8 @@ pub struct FittingMessage {
 
 impl Model for FittingMessage {
     ghost use Rattle.std.specs.Coded.{codes};
-    ghost use Rattle.scp_xdr.specs.TreeModel.{coded_row};
-    ghost use Rattle.scp_quorum.specs.QuorumTree.{coded_level};
+    ghost use Rattle.scp_xdr.specs.inside.TreeModel.{coded_row};
+    ghost use Rattle.scp_quorum.specs.inside.QuorumTree.{coded_level};
     ghost use Rattle.scp_wire.specs.declared.message.Message.{Message};
     ghost use Rattle.scp_wire.specs.Fitting.{IsFitting};
 

@@ -34,5 +34,5 @@ pub use laws::{
 };
 pub use link::{Bytes, Cause, Command, Inbound, LinkItem};
 pub use message::{MESSAGE_LIMIT, Message};
-pub use reader::{CARRIED_LIMIT, LinkReader};
+pub use reader::LinkReader;
 pub use side::SideMessage;

@@ -4,7 +4,8 @@ ghost use Rattle.scp_wire.specs.declared.link.LinkItem.{LinkItem};
 ghost use Rattle.scp_wire.specs.declared.link.Inbound.{Inbound};
 ghost use Rattle.scp_wire.specs.Carried.{is_carried};
 ghost use Rattle.scp_wire.specs.Fitting.{IsFitting};
-ghost use Rattle.scp_wire.specs.LinkReading.{reading, after, unread, brought_each, after_each, records_from, brought_one, after_one, brought, after_read, HasRoom, first_of, taken_by, HasRead};
+ghost use Rattle.scp_wire.specs.LinkReading.{reading, after, unread, brought_each, after_each, records_from, brought_one, after_one, brought, after_read, first_of, taken_by, HasRead};
+ghost use Rattle.scp_wire.specs.inside.LinkReading.{HasRoom};
 
 use crate::carried::Carried;
 use crate::codec::decode;
@@ -13,13 +14,10 @@ use crate::link::{Cause, Inbound, LinkItem};
 use crate::message::Message;
 use crate::side::SideMessage;
 use scp_envelope::ValueList;
-use scp_types::{ConnId, Fault, Seq, Slot};
+use scp_types::{CARRIED_LIMIT, ConnId, Fault, Seq, Slot};
 use std::alloc::Global;
 use std::collections::VecDeque;
 use std::marker::Model;
-
-/// The most messages that one connection carries (this project's profile).
-pub const CARRIED_LIMIT: u64 = 1_000_000;
 
 /// Where a reader stands on its link.
 #[derive(Debug, Drop)]
@@ -52,8 +50,8 @@ pub struct LinkReader {
 
 impl Model for LinkReader {
     ghost use Rattle.std.specs.Coded.{codes};
-    ghost use Rattle.scp_xdr.specs.TreeModel.{coded_row};
-    ghost use Rattle.scp_quorum.specs.QuorumTree.{coded_level};
+    ghost use Rattle.scp_xdr.specs.inside.TreeModel.{coded_row};
+    ghost use Rattle.scp_quorum.specs.inside.QuorumTree.{coded_level};
     ghost use Rattle.scp_wire.specs.LinkReading.{ReaderState};
 
     ghost Value = { ReaderState };

@@ -6,7 +6,8 @@ use Rattle.scp_wire.specs.declared.link.Inbound.{Inbound}
 use Rattle.scp_wire.specs.LinkReading.{ReaderState, HasRead, unread, readings}
 use Rattle.scp_ends.specs.Order.{values}
 use Rattle.scp_ends.specs.Ends.{Sender, Receiver, HeardAll}
-use Rattle.scp_workers.specs.Reading.{HasGiven, HasReadAll}
+use Rattle.scp_workers.specs.inside.Reading.{HasGiven}
+use Rattle.scp_workers.specs.Reading.{HasReadAll}
 
 -- all that was left of a batch was given
 pub gave_rest : (items : List LinkItem) (given more : List Inbound) (r q : ReaderState) → HasRead items given r → q ≡ record r { rest = [] } → more ≡ given ++ r.rest → HasGiven items more q

@@ -6,7 +6,8 @@ use Rattle.scp_pending.specs.declared.ready.Ready.{Ready}
 use Rattle.scp_ledger.specs.declared.took.Onward.{Onward}
 use Rattle.scp_ends.specs.Order.{values}
 use Rattle.scp_ends.specs.Ends.{Sender, Receiver, HeardAll}
-use Rattle.scp_workers.specs.Slot.{KvLedger, KvJournals, SlotWorking, HasJournaledAll, IsFor}
+use Rattle.scp_ledger.specs.Kv.{KvLedger, KvJournals}
+use Rattle.scp_workers.specs.Slot.{SlotWorking, HasJournaledAll, IsFor}
 
 pub not_failed : (b : Bool) → not b ≡ true → b ≡ false
 not_failed true e = cc

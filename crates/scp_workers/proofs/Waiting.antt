@@ -16,7 +16,8 @@ use Rattle.scp_ends.specs.Order.{values}
 use Rattle.scp_ends.specs.Ends.{Sender, Receiver, HeardAll}
 use Rattle.scp_ends.proofs.Steps.{values_append, values_stop}
 use Rattle.scp_workers.specs.Working.{IsSameEnd}
-use Rattle.scp_workers.specs.Pending.{PendWorking, PendEnd, GivesOn, TakesIn, TakesOn, HasPended, HasPendedAll, IsFor, HoldsEnds}
+use Rattle.scp_workers.specs.Pending.{PendWorking, PendEnd, HasPendedAll, IsFor, HoldsEnds}
+use Rattle.scp_workers.specs.inside.Pending.{GivesOn, TakesIn, TakesOn, HasPended}
 
 pub takes_in : WhoItIsStays → (x : Inbound) (old new : PendingView) → ((me : NodeId) → (peers : List NodeId) → Passes (Pends me peers) (x ∷ []) [] old new) → new ≡ taken_in old x → TakesIn x old new
 takes_in stays x old new passes e = (passes, ap (λ (v : PendingView). v.settled.store.local) e ∙ (stays old.settled (x ∷ [])).local)

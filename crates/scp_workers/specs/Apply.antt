@@ -6,6 +6,7 @@ use Rattle.scp_apply.specs.Applies.{Applies}
 use Rattle.scp_ends.specs.Order.{values}
 use Rattle.scp_ends.specs.Ends.{Receiver, HeardAll}
 
+-- what contracts see of the applier's worker that works: its receiving end, whether it failed, and whether it was cut off
 pub record ApplyWorking : Type 0 where
   pub input : Receiver Onward
   pub failed : Bool
@@ -23,6 +24,7 @@ pub record HasAppliedAll (input : Receiver Onward) (v : ApplierView) : Type 0 wh
   pub heard : HeardAll input
   pub applies : Applies (values input.got) v
 
+-- a worker that ended well has applied all that it received
 abbrev pub EndsWell : ApplyEnd → Type 0
 EndsWell e = e.well ≡ true → HasAppliedAll e.input e.view
 
@@ -30,9 +32,3 @@ EndsWell e = e.well ≡ true → HasAppliedAll e.input e.view
 pub record HoldsEnds (w : ApplyWorking) (e : ApplyEnd) : Type 0 where
   pub input : e.input.line ≡ w.input.line
   pub producers : e.input.producers ≡ w.input.producers
-
--- ---- while it works
-
-pub record SameEnds (v w : ApplyWorking) : Type 0 where
-  pub input : w.input.line ≡ v.input.line
-  pub producers : w.input.producers ≡ v.input.producers

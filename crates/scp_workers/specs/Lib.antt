@@ -3,3 +3,4 @@ pub mod Reading
 pub mod Pending
 pub mod Slot
 pub mod Apply
+pub mod inside

@@ -1,12 +1,13 @@
 -- What contracts see of the worker that reads a link, and of what it ends with.
-use Rattle.std.specs.Prelude.{◌≡◌, Bool, List, [], Option, IfSome}
+use Rattle.std.specs.Prelude.{◌≡◌, Bool, Option, IfSome}
 use Rattle.scp_wire.specs.declared.link.LinkItem.{LinkItem}
 use Rattle.scp_wire.specs.declared.link.Inbound.{Inbound}
-use Rattle.scp_wire.specs.LinkReading.{ReaderState, HasRead, unread, readings}
+use Rattle.scp_wire.specs.LinkReading.{unread, readings}
 use Rattle.scp_ends.specs.Order.{values}
 use Rattle.scp_ends.specs.Ends.{Sender, Receiver, HeardAll}
 use Rattle.scp_workers.specs.Working.{IsSameEnd}
 
+-- what contracts see of a reader's worker that works: its ends, whether it failed, and whether it was cut off
 pub record ReaderWorking : Type 0 where
   pub input : Receiver LinkItem
   pub output : Sender Inbound
@@ -24,6 +25,7 @@ pub record HasReadAll (input : Receiver LinkItem) (output : Sender Inbound) : Ty
   pub heard : HeardAll input
   pub reads : output.sent ≡ readings unread (values input.got)
 
+-- a worker that ended well has sent on all that it received is read as
 abbrev pub EndsWell : ReaderEnd → Type 0
 EndsWell e = IfSome e.output (HasReadAll e.input)
 
@@ -32,14 +34,3 @@ pub record HoldsEnds (w : ReaderWorking) (e : ReaderEnd) : Type 0 where
   pub input : e.input.line ≡ w.input.line
   pub producers : e.input.producers ≡ w.input.producers
   pub output : IfSome e.output (IsSameEnd w.output)
-
--- ---- while it works
-
--- the reader took these items of its link and gave this, and nothing is left of a batch
-abbrev pub HasGiven : List LinkItem → List Inbound → ReaderState → Type 0
-HasGiven items given r = HasRead items given r × (r.rest ≡ [])
-
-pub record SameEnds (v w : ReaderWorking) : Type 0 where
-  pub input : w.input.line ≡ v.input.line
-  pub producers : w.input.producers ≡ v.input.producers
-  pub output : IsSameEnd v.output w.output

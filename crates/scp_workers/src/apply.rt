@@ -4,7 +4,8 @@ ghost use Rattle.scp_ledger.specs.declared.took.Onward.{Onward};
 ghost use Rattle.scp_ledger.specs.Onwards.{KeepsWindow};
 ghost use Rattle.scp_apply.specs.Applies.{Applies};
 ghost use Rattle.scp_ends.specs.Ends.{HeardAll};
-ghost use Rattle.scp_workers.specs.Apply.{SameEnds, HoldsEnds, EndsWell};
+ghost use Rattle.scp_workers.specs.inside.Apply.{SameEnds};
+ghost use Rattle.scp_workers.specs.Apply.{HoldsEnds, EndsWell};
 
 use crate::handing::hand_out;
 use scp_apply::{Applier, what_holds_of_an_applier_holds_with_one_thing_more};
@@ -57,7 +58,7 @@ impl Model for ApplyEnded {
     ghost use Rattle.std.specs.Ordering.{nat_cmp};
     ghost use Rattle.std.specs.Cmp.Lexicographic.{slice_cmp};
     ghost use Rattle.std.specs.Coded.{codes, coded_ℕ, coded_list};
-    ghost use Rattle.scp_workers.specs.Working.{HearsToTheEnd};
+    ghost use Rattle.scp_workers.specs.inside.Working.{HearsToTheEnd};
     ghost use Rattle.scp_workers.specs.Apply.{ApplyEnd, EndsWell};
 
     ghost Value = { ApplyEnd };

@@ -2,7 +2,8 @@
 ghost use Rattle.std.specs.Prelude.{◌≡◌, ◌≢◌, ℕ, ◌<◌, ◌≤◌, true, false, [], ◌∷◌, ◌++◌, IsTrue, ◌↔◌, IsSome, length};
 ghost use Rattle.scp_ends.specs.Ends.{HeardAll};
 ghost use Rattle.scp_workers.specs.Working.{IsSameEnd};
-ghost use Rattle.scp_workers.specs.Pending.{GivesOn, TakesIn, TakesOn, SameEnds, HoldsEnds, EndsWell};
+ghost use Rattle.scp_workers.specs.inside.Pending.{GivesOn, TakesIn, TakesOn, SameEnds};
+ghost use Rattle.scp_workers.specs.Pending.{HoldsEnds, EndsWell};
 
 use crate::ending::stop_well;
 use crate::handing::hand_out;
@@ -11,7 +12,7 @@ use scp_gate::{Counter, Gate, Stage};
 use scp_outbox::SharedOutbox;
 use scp_pending::{Pending, Ready, who_it_is_stays};
 use scp_quorum::SaneSet;
-use scp_types::NodeId;
+use scp_types::{NODE_LIMIT, NodeId};
 use scp_wire::Inbound;
 use std::alloc::Global;
 use std::marker::Model;
@@ -30,7 +31,7 @@ pub struct PendWorker {
     peers: Snapshot<Vec<NodeId>>,
     local: Snapshot<Arc<SaneSet>>,
     producers: u8,
-    stops: [bool; 8],
+    stops: [bool; NODE_LIMIT],
     counter: Counter,
     failed: bool,
     gone: Option<Nobody>,
@@ -39,9 +40,10 @@ pub struct PendWorker {
 impl Model for PendWorker {
     ghost use Rattle.std.specs.Prelude.{◌≡◌, ◌≤◌, true, false, is_some};
     ghost use Rattle.std.specs.Coded.{codes};
-    ghost use Rattle.scp_xdr.specs.TreeModel.{coded_row};
-    ghost use Rattle.scp_quorum.specs.QuorumTree.{coded_level};
-    ghost use Rattle.scp_workers.specs.Pending.{PendWorking, AreStops, HasPended};
+    ghost use Rattle.scp_xdr.specs.inside.TreeModel.{coded_row};
+    ghost use Rattle.scp_quorum.specs.inside.QuorumTree.{coded_level};
+    ghost use Rattle.scp_workers.specs.Pending.{PendWorking};
+    ghost use Rattle.scp_workers.specs.inside.Pending.{AreStops, HasPended};
 
     ghost Value = { PendWorking };
 
@@ -65,9 +67,9 @@ pub struct PendEnded {
 impl Model for PendEnded {
     ghost use Rattle.std.specs.Prelude.{is_some};
     ghost use Rattle.std.specs.Coded.{codes};
-    ghost use Rattle.scp_xdr.specs.TreeModel.{coded_row};
-    ghost use Rattle.scp_quorum.specs.QuorumTree.{coded_level};
-    ghost use Rattle.scp_workers.specs.Working.{HearsToTheEnd};
+    ghost use Rattle.scp_xdr.specs.inside.TreeModel.{coded_row};
+    ghost use Rattle.scp_quorum.specs.inside.QuorumTree.{coded_level};
+    ghost use Rattle.scp_workers.specs.inside.Working.{HearsToTheEnd};
     ghost use Rattle.scp_workers.specs.Pending.{PendEnd, EndsWell};
 
     ghost Value = { PendEnd };
@@ -258,7 +260,7 @@ impl PendWorker {
             peers: known,
             local: set,
             producers,
-            stops: [false; 8],
+            stops: [false; NODE_LIMIT],
             counter: Counter::new(node, Stage::Pend),
             failed: false,
             gone: None,

@@ -3,7 +3,8 @@ ghost use Rattle.std.specs.Prelude.{◌≡◌, [], ◌∷◌, ◌++◌, true, fa
 ghost use Rattle.scp_wire.specs.declared.link.LinkItem.{LinkItem};
 ghost use Rattle.scp_ends.specs.Ends.{HeardAll};
 ghost use Rattle.scp_workers.specs.Working.{IsSameEnd};
-ghost use Rattle.scp_workers.specs.Reading.{HasGiven, HoldsEnds, SameEnds, EndsWell};
+ghost use Rattle.scp_workers.specs.inside.Reading.{HasGiven, SameEnds};
+ghost use Rattle.scp_workers.specs.Reading.{HoldsEnds, EndsWell};
 
 use crate::ending::stop_well;
 use scp_ends::{Gone, InboxDone, InboxTx, Item, LinkRx, Nobody};
@@ -29,10 +30,11 @@ pub struct ReaderWorker {
 impl Model for ReaderWorker {
     ghost use Rattle.std.specs.Prelude.{◌≡◌, true, false, is_some};
     ghost use Rattle.std.specs.Coded.{codes};
-    ghost use Rattle.scp_xdr.specs.TreeModel.{coded_row};
-    ghost use Rattle.scp_quorum.specs.QuorumTree.{coded_level};
+    ghost use Rattle.scp_xdr.specs.inside.TreeModel.{coded_row};
+    ghost use Rattle.scp_quorum.specs.inside.QuorumTree.{coded_level};
     ghost use Rattle.scp_ends.specs.Order.{values};
-    ghost use Rattle.scp_workers.specs.Reading.{ReaderWorking, HasGiven};
+    ghost use Rattle.scp_workers.specs.Reading.{ReaderWorking};
+    ghost use Rattle.scp_workers.specs.inside.Reading.{HasGiven};
 
     ghost Value = { ReaderWorking };
 
@@ -55,9 +57,9 @@ pub struct ReaderEnded {
 impl Model for ReaderEnded {
     ghost use Rattle.std.specs.Prelude.{is_some};
     ghost use Rattle.std.specs.Coded.{codes};
-    ghost use Rattle.scp_xdr.specs.TreeModel.{coded_row};
-    ghost use Rattle.scp_quorum.specs.QuorumTree.{coded_level};
-    ghost use Rattle.scp_workers.specs.Working.{HearsToTheEnd};
+    ghost use Rattle.scp_xdr.specs.inside.TreeModel.{coded_row};
+    ghost use Rattle.scp_quorum.specs.inside.QuorumTree.{coded_level};
+    ghost use Rattle.scp_workers.specs.inside.Working.{HearsToTheEnd};
     ghost use Rattle.scp_workers.specs.Reading.{ReaderEnd, EndsWell};
 
     ghost Value = { ReaderEnd };

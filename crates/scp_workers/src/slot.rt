@@ -6,7 +6,9 @@ ghost use Rattle.scp_pending.specs.declared.ready.Ready.{Ready};
 ghost use Rattle.scp_ends.specs.Ends.{HeardAll};
 ghost use Rattle.scp_ledger.specs.Onwards.{KeepsWindow};
 ghost use Rattle.scp_workers.specs.Working.{IsSameEnd};
-ghost use Rattle.scp_workers.specs.Slot.{KvJournals, Stands, JournalsOn, MayFollow, SameEnds, HoldsEnds, EndsWell};
+ghost use Rattle.scp_ledger.specs.Kv.{KvJournals};
+ghost use Rattle.scp_workers.specs.Slot.{HoldsEnds, EndsWell};
+ghost use Rattle.scp_workers.specs.inside.Slot.{Stands, JournalsOn, MayFollow, SameEnds};
 
 use crate::ending::stop_well;
 use crate::handing::hand_out_all;
@@ -45,10 +47,11 @@ pub struct SlotWorker {
 impl Model for SlotWorker {
     ghost use Rattle.std.specs.Prelude.{◌≡◌, true, false, is_some};
     ghost use Rattle.std.specs.Coded.{codes};
-    ghost use Rattle.scp_xdr.specs.TreeModel.{coded_row};
-    ghost use Rattle.scp_quorum.specs.QuorumTree.{coded_level};
+    ghost use Rattle.scp_xdr.specs.inside.TreeModel.{coded_row};
+    ghost use Rattle.scp_quorum.specs.inside.QuorumTree.{coded_level};
     ghost use Rattle.scp_ends.specs.Order.{values};
-    ghost use Rattle.scp_workers.specs.Slot.{KvJournals, SlotWorking};
+    ghost use Rattle.scp_ledger.specs.Kv.{KvJournals};
+    ghost use Rattle.scp_workers.specs.Slot.{SlotWorking};
 
     ghost Value = { SlotWorking };
 
@@ -72,11 +75,11 @@ pub struct SlotEnded {
 impl Model for SlotEnded {
     ghost use Rattle.std.specs.Prelude.{is_some};
     ghost use Rattle.std.specs.Coded.{codes};
-    ghost use Rattle.scp_xdr.specs.TreeModel.{coded_row};
-    ghost use Rattle.scp_quorum.specs.QuorumTree.{coded_level};
+    ghost use Rattle.scp_xdr.specs.inside.TreeModel.{coded_row};
+    ghost use Rattle.scp_quorum.specs.inside.QuorumTree.{coded_level};
     ghost use Rattle.scp_driver.specs.contracts.kv_driver.KvDriver as driver;
-    ghost use Rattle.scp_ledger.specs.Coding.{machine_code};
-    ghost use Rattle.scp_workers.specs.Working.{HearsToTheEnd};
+    ghost use Rattle.scp_ledger.specs.inside.Coding.{machine_code};
+    ghost use Rattle.scp_workers.specs.inside.Working.{HearsToTheEnd};
     ghost use Rattle.scp_workers.specs.Slot.{SlotEnd, EndsWell};
 
     ghost Value = { SlotEnd };

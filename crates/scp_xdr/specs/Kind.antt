@@ -6,6 +6,7 @@ use Rattle.std.specs.Int.{w32, w64, to_be_bytes}
 use Rattle.scp_xdr.specs.Tree.{Trees, no_trees, tree_then, Tree, row_len}
 
 mutual
+  -- the kinds of XDR: numbers, bytes, optional, array, numbered on, two in a row, union, tree (RFC 4506)
   pub data Kind : Type 0 where
     uint32 : Kind
     uint64 : Kind
@@ -39,6 +40,7 @@ abbrev mutual
   Values (union arms) = ArmValues arms
   Values (tree levels max head) = Tree (Values head)
 
+  -- a value of one of the arms
   pub ArmValues : Arms → Type 0
   ArmValues no_arm = ⊥
   ArmValues (arm tag k others) = Values k ⊎ ArmValues others
@@ -51,9 +53,11 @@ padding_len n = (4 - n % 4) % 4
 unfoldable pub word : ℕ → List ℕ
 word n = to_be_bytes w32 n
 
+-- eight bytes, big-endian
 unfoldable pub long_word : ℕ → List ℕ
 long_word n = to_be_bytes w64 n
 
+-- the bytes, and zeros up to a multiple of four (RFC 4506, section 3)
 unfoldable pub padded : List ℕ → List ℕ
 padded bytes = bytes ++ replicate (padding_len (length bytes)) 0
 
@@ -62,10 +66,12 @@ abbrev pub row_spelling : {X : Type 0} → (X → List ℕ) → Trees X → List
 row_spelling text no_trees = []
 row_spelling text (tree_then x inner others) = (text x ++ (word (row_len inner) ++ row_spelling text inner)) ++ row_spelling text others
 
+-- the head, how many trees are inside, and each of them
 abbrev pub tree_spelling : {X : Type 0} → (X → List ℕ) → Tree X → List ℕ
 tree_spelling text t = text t.head ++ (word (row_len t.inner) ++ row_spelling text t.inner)
 
 abbrev mutual
+  -- the one spelling of a value, part by part (RFC 4506)
   pub spelling : (k : Kind) → Values k → List ℕ
   spelling uint32 n = word n
   spelling uint64 n = long_word n
@@ -79,11 +85,13 @@ abbrev mutual
   spelling (union arms) v = arm_spelling arms v
   spelling (tree levels max head) t = tree_spelling (λ v. spelling head v) t
 
+  -- the arm's discriminant, and then its value
   pub arm_spelling : (arms : Arms) → ArmValues arms → List ℕ
   arm_spelling no_arm v = elim v [ ]
   arm_spelling (arm tag k others) (inl v) = word tag ++ spelling k v
   arm_spelling (arm tag k others) (inr v) = arm_spelling others v
 
+-- the discriminant of a value's arm
 abbrev pub tag_of : (arms : Arms) → ArmValues arms → ℕ
 tag_of no_arm v = elim v [ ]
 tag_of (arm tag k others) (inl v) = tag
@@ -100,6 +108,7 @@ RowFits Fit levels max no_trees = Unit {0}
 RowFits Fit levels max (tree_then x inner others) =
     (Fit x × (row_len inner ≤ limit_at levels max) × (row_len inner < 2 ^ 32) × RowFits Fit (levels - 1) max inner) × RowFits Fit levels max others
 
+-- the head fits, few trees are inside, and no level is below the last
 abbrev pub TreeFits : {X : Type 0} → (X → Type 0) → ℕ → ℕ → Tree X → Type 0
 TreeFits Fit levels max t = Fit t.head × (row_len t.inner ≤ limit_at levels max) × (row_len t.inner < 2 ^ 32) × RowFits Fit (levels - 1) max t.inner
 
@@ -119,6 +128,7 @@ abbrev mutual
   Fits (union arms) v = ArmFits arms v
   Fits (tree levels max head) t = TreeFits (λ v. Fits head v) levels max t
 
+  -- the discriminant has 32 bits, is that of no earlier arm, and the value fits
   pub ArmFits : (arms : Arms) → ArmValues arms → Type 0
   ArmFits no_arm v = ⊥
   ArmFits (arm tag k others) (inl v) = (tag < 2 ^ 32) × Fits k v

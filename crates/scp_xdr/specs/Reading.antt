@@ -12,9 +12,11 @@ pub record Cursor : Type 0 where
   pub place : ℕ
   pub rest : List ℕ
 
+-- at the beginning of the bytes
 abbrev pub start : List ℕ → Cursor
 start bytes = record { place = 0; rest = bytes }
 
+-- n bytes further on
 abbrev pub skip : ℕ → Cursor → Cursor
 skip n c = record { place = c.place + n; rest = drop n c.rest }
 
@@ -23,13 +25,16 @@ abbrev pub Read : Type 0 → Type 0
 Read X = Result (X × Cursor) Fault
 
 infixl 10 ◌>>=◌
+-- one reading after another; the first fault stays
 abbrev pub ◌>>=◌ : {A B : Type 0} → Result A Fault → (A → Result B Fault) → Result B Fault
 (Ok x) >>= f = f x
 (Err e) >>= f = Err e
 
+-- four bytes, big-endian
 unfoldable pub read_uint32 : Cursor → Read ℕ
 read_uint32 c = if nat_lt (length c.rest) 4 then Err (Malformed c.place) else Ok (from_be_bytes w32 (take 4 c.rest), skip 4 c)
 
+-- eight bytes, big-endian
 unfoldable pub read_uint64 : Cursor → Read ℕ
 read_uint64 c = if nat_lt (length c.rest) 8 then Err (Malformed c.place) else Ok (from_be_bytes w64 (take 8 c.rest), skip 8 c)
 
@@ -37,10 +42,12 @@ read_uint64 c = if nat_lt (length c.rest) 8 then Err (Malformed c.place) else Ok
 abbrev pub first_nonzero : List ℕ → Option ℕ
 first_nonzero bytes = position (λ b. not (b == 0)) bytes
 
+-- malformed at the first byte of padding that isn't 0
 abbrev pub unless_nonzero : Option ℕ → ℕ → ℕ → Cursor → Read (List ℕ)
 unless_nonzero None n padding c = Ok (take n c.rest, skip padding (skip n c))
 unless_nonzero (Some i) n padding c = Err (Malformed (c.place + n + i))
 
+-- n bytes, and zeros behind them
 abbrev pub read_padded : ℕ → ℕ → Cursor → Read (List ℕ)
 read_padded n padding c = if nat_lt (length c.rest) (n + padding) then Err (Malformed c.place) else unless_nonzero (first_nonzero (take padding (drop n c.rest))) n padding c
 
@@ -54,16 +61,19 @@ read_count max c = do
   n ← read_uint32 c
   if nat_lt max n.0 then Err TooLong else Ok n
 
+-- bytes behind their length
 unfoldable pub read_opaque : ℕ → Cursor → Read (List ℕ)
 read_opaque max c = do
   n ← read_count max c
   read_bytes n.0 n.1
 
+-- which flag a number is, if it is one
 abbrev pub flag_of : ℕ → ℕ → Result Bool Fault
 flag_of place zero = Ok false
 flag_of place (suc zero) = Ok true
 flag_of place (suc (suc n)) = Err (Malformed place)
 
+-- 0 or 1
 unfoldable pub read_flag : Cursor → Read Bool
 read_flag c = do
   n ← read_uint32 c
@@ -78,6 +88,7 @@ read_items item (suc n) c = do
   others ← read_items item n first.1
   Ok (first.0 ∷ others.0, others.1)
 
+-- a flag, and where it is 1 a value
 unfoldable pub read_optional : {X : Type 0} → (Cursor → Read X) → Cursor → Read (Option X)
 read_optional item c = do
   flag ← read_flag c
@@ -95,6 +106,7 @@ unfoldable pub read_inner : {X : Type 0} → (Cursor → Read X) → ℕ → ℕ
 read_inner head zero max c = read_count 0 c >>= λ n. Ok ([], n.1)
 read_inner head (suc levels) max c = read_count max c >>= λ n. read_items (tree_with head (read_inner head levels max)) n.0 n.1
 
+-- a head, a count, and so many trees
 abbrev pub read_tree : {X : Type 0} → (Cursor → Read X) → ℕ → ℕ → Cursor → Read (Tree X)
 read_tree head levels max c = tree_with head (read_inner head levels max) c
 
@@ -102,6 +114,7 @@ read_tree head levels max c = tree_with head (read_inner head levels max) c
 abbrev pub run_of : ℕ → ℕ → ℕ → ℕ → ℕ → Cursor → Read (ℕ × ℕ)
 run_of max first_place count_place first n c = if n == 0 then Err (Malformed count_place) else (if nat_lt max n then Err TooLong else (if nat_lt (2 ^ 64) (first + n) then Err (Malformed first_place) else Ok ((first, n), c)))
 
+-- the first number and the count of numbered values
 unfoldable pub read_run : ℕ → Cursor → Read (ℕ × ℕ)
 read_run max c = do
   first ← read_uint64 c
@@ -109,6 +122,7 @@ read_run max c = do
   run_of max c.place first.1.place first.0 n.0 n.1
 
 abbrev mutual
+  -- reading a value of a kind, item by item from left to right
   pub reading : (k : Kind) → Cursor → Read (Values k)
   reading uint32 c = read_uint32 c
   reading uint64 c = read_uint64 c

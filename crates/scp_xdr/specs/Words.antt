@@ -9,16 +9,6 @@ abbrev pub Reads : {X Y : Type 0} → (X → Y) → Cursor → Cursor → Result
 Reads view old new (Ok x) read = read ≡ Ok (view x, new)
 Reads view old new (Err f) read = (read ≡ Err f) × (new ≡ old)
 
--- The same of a call that takes no memory and leaves the reader anywhere at a refusal.
-abbrev pub Parses : {X Y : Type 0} → (X → Y) → Cursor → Result X Fault → Read Y → Type 0
-Parses view new (Ok x) read = read ≡ Ok (view x, new)
-Parses view new (Err f) read = read ≡ Err f
-
--- The same of a call that gives nothing of the value that it read.
-abbrev pub Passes : {X Y : Type 0} → Cursor → Result X Fault → Read Y → Type 0
-Passes {X} {Y} new (Ok x) read = (y : Y) × (read ≡ Ok (y, new))
-Passes new (Err f) read = read ≡ Err f
-
 -- The call passed over a value, or met the first fault.
 abbrev pub GoesPast : {X : Type 0} → Cursor → Result X Fault → Result Cursor Fault → Type 0
 GoesPast new (Ok x) passed = passed ≡ Ok new
@@ -29,6 +19,7 @@ abbrev pub Decodes : {X Y : Type 0} → (X → Y) → Cursor → Result X Fault 
 Decodes view new (Ok x) read = read ≡ Ok (view x, new)
 Decodes view new (Err f) read = f ≢ NoMemory → read ≡ Err f
 
+-- a call gave what reading gives, or ran out of memory
 abbrev pub Gives : {X Y : Type 0} → (X → Y) → Result X Fault → Result Y Fault → Type 0
 Gives view (Ok x) read = read ≡ Ok (view x)
 Gives view (Err f) read = f ≢ NoMemory → read ≡ Err f

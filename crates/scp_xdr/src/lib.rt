@@ -10,6 +10,8 @@
 //! - a refusal of a call of `Reader` or `Writer` leaves it as it was, and `decode` answers want of memory
 //!   only for bytes that spell a value. What reads or writes a part of a value, as `read_array` and the
 //!   methods of `Xdr` do, may leave the reader or the writer within that part.
+//!
+//! Not claimed: where the reader of such a part stands after a refusal. One that writes a part may leave the beginning of its spelling.
 #![tactic(auto)]
 
 mod padding;

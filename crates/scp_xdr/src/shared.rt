@@ -10,7 +10,8 @@ use crate::xdr::Xdr;
 use scp_types::{Ballot, Fault, Hash, NodeId, SharedValue, Value};
 use std::alloc::Global;
 
-const VALUE_LIMIT: u32 = 4_096;
+/// The most bytes of a value, as a count of XDR.
+const VALUE_LIMIT: u32 = scp_types::VALUE_LIMIT as u32;
 
 impl Xdr for Value {
     ghost kind = { value_kind };

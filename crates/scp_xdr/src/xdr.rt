@@ -4,7 +4,8 @@ ghost use Rattle.scp_xdr.specs.Kind.{Kind, Values, Fits, Spells, spelling, optio
 ghost use Rattle.scp_xdr.specs.Length.{spelled_len};
 ghost use Rattle.scp_xdr.specs.Reading.{Cursor, reading, reading_whole, read_items, read_run};
 ghost use Rattle.scp_xdr.specs.Passing.{left_of, passing, passing_whole, pass_items};
-ghost use Rattle.scp_xdr.specs.Words.{IsReadingFault, GoesPast, PassesWhole, Parses, Decodes, Gives, Extends, Leaves};
+ghost use Rattle.scp_xdr.specs.Words.{IsReadingFault, GoesPast, PassesWhole, Decodes, Gives, Extends, Leaves};
+ghost use Rattle.scp_xdr.specs.inside.Words.{Parses};
 
 use crate::reader::Reader;
 use crate::room::spend_u32;

@@ -4,10 +4,6 @@ use Rattle.std.specs.Prelude.{None, fold, length}
 use Rattle.std.specs.List.{AllByRecursion}
 use Rattle.std.proofs.lemmas.Grind.{flat_map-append}
 use Rattle.std.proofs.lemmas.List.Elements.{All-nil}
-use Rattle.scp_driver.specs.declared.kv_driver.KvDriver.{KvDriver}
-use Rattle.scp_slot.specs.declared.machine.SlotMachine.{SlotMachine}
-use Rattle.scp_ledger.specs.Seen.{machine_at}
-use Rattle.scp_outbox.specs.Outbox.{OutboxView}
 use Rattle.scp_core.specs.declared.config.Config.{Config}
 use Rattle.scp_core.specs.declared.event.Event.{Event}
 use Rattle.scp_core.specs.declared.event.Reply.{Reply}
@@ -16,22 +12,22 @@ use Rattle.scp_core.specs.Flow.{Flows}
 use Rattle.scp_core.specs.History.{Exchange, Past, hears, past_of, nothing_heard}
 use Rattle.scp_core.specs.Ledger.{IsFailure}
 use Rattle.scp_core.specs.Node.{NodeView}
-use Rattle.scp_core.specs.Theorem.{IsMade, AreSteps, LedgerTheorem}
+use Rattle.scp_core.specs.Theorem.{made, AreSteps, LedgerTheorem}
 use Rattle.scp_core.specs.Sent.{sent_by, sent_to, IsSentOut, grounds_of}
 use Rattle.scp_core.proofs.Below.{Laws}
 use Rattle.scp_core.proofs.grounds.Basics.{none_some}
-use Rattle.scp_core.proofs.grounds.Handing.{Boxes, boxes_sent, first_boxes, sent_out}
+use Rattle.scp_core.proofs.grounds.Handing.{boxes_sent, first_boxes, sent_out}
 use Rattle.scp_core.proofs.grounds.Putting.{IsSaid}
 use Rattle.scp_core.proofs.grounds.Stepping.{State, state_of, at_arrived, state_step, quiet}
 
 -- ---- the node as it was made
 
-made_stands : Laws → (v : NodeView) → IsMade v → State nothing_heard (λ link. []) v
-made_stands law v m = state_of nothing_heard (λ link. []) v [] (sym m.queues.0) (record {
+made_stands : Laws → (c : Config) → State nothing_heard (λ link. []) (made c)
+made_stands law c = state_of nothing_heard (λ link. []) (made c) [] refl (record {
   handed = λ link. [];
-  boxes = subst (λ (o : List OutboxView). Boxes (grounds_of v []) (λ link. []) o (λ link. [])) (sym m.outboxes) (first_boxes law.empty (grounds_of v []) (length v.config.peers));
-  machines = λ at machine e. none_some None machine refl (sym (ap (λ (ms : List (ℕ × SlotMachine KvDriver)). machine_at ms at) m.ledger.3) ∙ e);
-  behind = λ link. All-nil (IsSaid v.ledger);
+  boxes = first_boxes law.empty (grounds_of (made c) []) (length c.peers);
+  machines = λ at machine e. none_some None machine refl e;
+  behind = λ link. All-nil (IsSaid (made c).ledger);
 })
 
 -- ---- each exchange after it
@@ -58,7 +54,7 @@ along law c (x ∷ xs) p sent v last a s =
 -- by the exchanges and the node that they left, while it runs
 pub sent_at : Laws → (past : List Exchange) (v : NodeView) → LedgerTheorem past v → (f : Flows (past_of v.config past) v) → (link : ℕ) → IsSentOut (grounds_of v f.arrived) link (sent_to link past)
 sent_at law past v h f =
-    let s : State (past_of v.config past) (λ link. sent_to link past) v = along law v.config past nothing_heard (λ link. []) h.first v h.replies (made_stands law h.first h.made) in
+    let s : State (past_of v.config past) (λ link. sent_to link past) v = along law v.config past nothing_heard (λ link. []) (made v.config) v h.replies (made_stands law v.config) in
     let st = at_arrived (past_of v.config past) (λ link. sent_to link past) v f s in
     sent_out (grounds_of v f.arrived) (λ link. sent_to link past) v.outboxes st.handed st.boxes
 

@@ -29,7 +29,7 @@ use Rattle.scp_ledger.specs.Verdicts.{link_of}
 use Rattle.scp_apply.specs.Applied.{value_of}
 use Rattle.scp_ledger.specs.Runs.{things}
 use Rattle.scp_apply.specs.Applier.{ApplierView, Takes}
-use Rattle.scp_account.specs.Fates.{IsOfLink, conn_of}
+use Rattle.scp_theorem.specs.Fates.{IsOfLink, conn_of}
 use Rattle.scp_core.specs.Flow.{Flows}
 use Rattle.scp_core.specs.History.{Past}
 use Rattle.scp_core.specs.Node.{NodeView}

@@ -29,6 +29,7 @@ use Rattle.scp_slot.specs.declared.output.SlotInput.TheVariants.{Propose, Round,
 use Rattle.scp_slot.specs.declared.output.SlotOutput.{SlotOutput}
 use Rattle.scp_slot.specs.declared.output.Verdict.{Verdict}
 use Rattle.scp_slot.specs.Slot.{SlotView}
+use Rattle.scp_quorum.specs.SharedSet.{SharedSet}
 use Rattle.scp_slot.specs.Takes as slot
 use Rattle.scp_core.proofs.grounds.Basics.{some_there, there_some, none_some}
 
@@ -223,7 +224,7 @@ module _ (me : NodeId) (at : ℕ) (hash : Hash) (old : SlotView) (out : SlotOutp
   times : slot.Times old out new → Says me at hash old out new
   times t = record { nomination = nomination_stays t.nomination t.emitted; ballots = ballots_advance t.ballots }
 
-  hears : (kind : StatementKind) (combined : List (List ℕ) → List ℕ) (e : Enveloped) (set : slot.Shared) → slot.HearsKind kind combined e set old out new → Says me at hash old out new
+  hears : (kind : StatementKind) (combined : List (List ℕ) → List ℕ) (e : Enveloped) (set : SharedSet) → slot.HearsKind kind combined e set old out new → Says me at hash old out new
   hears Nominating combined e set h = nominates combined h.nominates
   hears Balloting combined e set h = record { nomination = nomination_stays h.nomination h.emitted; ballots = ballots_advance h.ballots }
 

@@ -7,12 +7,12 @@ use Rattle.std.proofs.lemmas.Bool.{eqb-true, eqb-false}
 use Rattle.scp_wire.specs.declared.message.Message.{Message}
 use Rattle.scp_wire.specs.Message.{message_value, SpellsMessage}
 use Rattle.scp_outbox.specs.Outbox.{OutboxView}
-use Rattle.scp_sent.specs.Handing.{PutsAll, HandsOut, GivesThere, empty_outbox}
-use Rattle.scp_sent.specs.Sent.{statement_of, IsStep, AreNewer, AreSent}
-use Rattle.scp_sent.specs.Waiting.{Sends}
-use Rattle.scp_sent.specs.Laws.{EmptySends, PutsKeepSends, GivesKeepSends}
+use Rattle.scp_outboxes.specs.Handing.{PutsAll, GivesThere, empty_outbox}
+use Rattle.scp_outboxes.specs.Sent.{statement_of, IsStep, AreNewer, AreSent}
+use Rattle.scp_outboxes.specs.Waiting.{Sends}
+use Rattle.scp_outboxes.specs.Laws.{EmptySends, PutsKeepSends, GivesKeepSends}
 use Rattle.scp_ledger.specs.declared.took.Outgoing.{Outgoing}
-use Rattle.scp_core.specs.Node.{HandsOne, messages_for, handed_by}
+use Rattle.scp_core.specs.Node.{HandsOne, messages_for}
 use Rattle.scp_core.proofs.Queues.{get_set, within, there_is}
 use Rattle.scp_core.specs.Sent.{Grounds, MaySend, IsSentOut}
 use Rattle.scp_core.proofs.grounds.Basics.{get_replicate, none_some, some_same}

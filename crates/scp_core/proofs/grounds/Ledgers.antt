@@ -8,7 +8,7 @@ use Rattle.scp_types.specs.declared.names.Seq.{Seq}
 use Rattle.scp_types.specs.declared.names.Slot.{Slot}
 use Rattle.scp_quorum.specs.QuorumTree.{QuorumTree}
 use Rattle.scp_quorum.specs.SharedSet.{SharedSet}
-use Rattle.scp_driver.specs.Kv.{kv_level, greatest}
+use Rattle.scp_driver.specs.Kv.{kv_level, greatest, leader_place}
 use Rattle.scp_driver.specs.declared.driver.Level.{Level}
 use Rattle.scp_driver.specs.declared.kv_driver.KvDriver.{KvDriver}
 use Rattle.scp_envelope.specs.declared.statement.Statement.{Statement}
@@ -34,7 +34,7 @@ use Rattle.scp_ledger.specs.Seen.{machine_at}
 use Rattle.scp_ledger.specs.Decisions.{is_decided, named_by}
 use Rattle.scp_ledger.specs.Takes.{to_peers, decision_of, RunsAt, Passes, Decides, Forwards, TakesMessage, Commands, Asks, TakesAsk, TakesCommand}
 use Rattle.scp_core.specs.declared.config.Config.{Config}
-use Rattle.scp_core.specs.Stages.{KvLedger, KvTakes}
+use Rattle.scp_ledger.specs.Kv.{KvLedger, KvTakes}
 use Rattle.scp_core.proofs.grounds.Basics.{IsMore, no_more, more_of, none_some, which, at_is}
 use Rattle.scp_core.proofs.grounds.Emitted.{IsMine}
 use Rattle.scp_core.proofs.grounds.Machines.{AreMine, IsBehind, Ran, ran, decided_then, decided_last}
@@ -53,6 +53,12 @@ pub record LedgerStep (c : Config) (old : KvLedger) (x : Ready) (took : Took) (n
 
 abbrev level : KvDriver → ℕ → List ℕ → Level
 level driver slot value = kv_level value
+
+abbrev extracted : KvDriver → ℕ → List ℕ → Option (List ℕ)
+extracted driver slot value = None
+
+abbrev place : KvDriver → ℕ → ℕ → ℕ → ℕ
+place driver slot round n = leader_place slot round n
 
 abbrev combined : KvDriver → ℕ → List (List ℕ) → List ℕ
 combined driver slot values = greatest values
@@ -80,9 +86,9 @@ module _ (c : Config) (old : KvLedger) (x : Ready) (took : Took) (new : KvLedger
   asks : (link : ℕ) (at : Slot) → x ≡ ready.Local (Ask link at) → Asks old link at took new → LedgerStep c old x took new
   asks link at is p = still (ap (λ (v : KvLedger). v.machines) p.same) (ap (λ (v : KvLedger). v.decisions) p.same) (no_more old.journal new.journal (ap (λ (v : KvLedger). v.journal) p.same)) (inr (inl (link, at, is, p.outgoing)))
 
-  runs : (at : Slot) (given : SlotInput) (fates : List Fate) → RunsAt level combined old at given fates took new → LedgerStep c old x took new
+  runs : (at : Slot) (given : SlotInput) (fates : List Fate) → RunsAt level extracted combined place old at given fates took new → LedgerStep c old x took new
   runs at given fates r =
-      let told = ran c level combined old at given fates took new me_is set_is mine r in
+      let told = ran c level extracted combined place old at given fates took new me_is set_is mine r in
       record {
         machines = told.machines;
         behind = told.behind;
@@ -119,20 +125,20 @@ module _ (c : Config) (old : KvLedger) (x : Ready) (took : Took) (new : KvLedger
         ]
       ]
 
-  commands : (at : Slot) (given : SlotInput) → Commands level combined old at given took new → LedgerStep c old x took new
+  commands : (at : Slot) (given : SlotInput) → Commands level extracted combined place old at given took new → LedgerStep c old x took new
   commands at given h = elim h [ inl w ↦ passes _ [] w.2 | inr r ↦ runs at given [] r ]
 
   takes_ask : (link : ℕ) (at : Slot) → x ≡ ready.Local (Ask link at) → TakesAsk old link at took new → LedgerStep c old x took new
   takes_ask link at is h = elim h.3 [ inl w ↦ passes _ [] w.1 | inr w ↦ asks link at is w.1 ]
 
-  takes_command : (command : Command) → x ≡ ready.Local command → TakesCommand level combined old command took new → LedgerStep c old x took new
+  takes_command : (command : Command) → x ≡ ready.Local command → TakesCommand level extracted combined place old command took new → LedgerStep c old x took new
   takes_command (Propose at value) is h = commands at (input.Propose value) h
   takes_command (Round at) is h = commands at input.Round h
   takes_command (Timer at) is h = commands at input.Timer h
   takes_command Tick is h = passes None [] h
   takes_command (Ask link at) is h = takes_ask link at is h
 
-  takes_message : (conn : ConnId) (seq : Seq) (m : Message) (beside : Option QuorumTree) → TakesMessage level combined old conn seq m beside took new → LedgerStep c old x took new
+  takes_message : (conn : ConnId) (seq : Seq) (m : Message) (beside : Option QuorumTree) → TakesMessage level extracted combined place old conn seq m beside took new → LedgerStep c old x took new
   takes_message conn seq (Envelope e) beside h = elim h.5 [ inl w ↦ passes _ _ w.1 | inr w ↦ runs e.value.statement.slot _ _ w.2 ]
   takes_message conn seq (GetSet hash) beside h = absurd h
   takes_message conn seq (Set inside) beside h = absurd h

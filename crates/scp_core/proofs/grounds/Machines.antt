@@ -38,7 +38,7 @@ use Rattle.scp_ledger.specs.Seen.{machine_at}
 use Rattle.scp_ledger.specs.Decisions.{is_at, is_decided}
 use Rattle.scp_ledger.specs.Takes.{IsMachineFor, decision_of, RunsAt}
 use Rattle.scp_core.specs.declared.config.Config.{Config}
-use Rattle.scp_core.specs.Stages.{KvLedger}
+use Rattle.scp_ledger.specs.Kv.{KvLedger}
 use Rattle.scp_core.specs.Sent.{IsOwn, IsOwnOf, IsDecided}
 use Rattle.scp_core.proofs.grounds.Basics.{none_some, some_same, true_isnt, which, and_first, and_second, at_is}
 use Rattle.scp_core.proofs.grounds.Emitted.{IsTold, Tells, HasDecision, IsMine, Says, mine_then, says}
@@ -162,8 +162,8 @@ pub record Ran (c : Config) (old : KvLedger) (out : SlotOutput) (new : KvLedger)
   pub nomination : (e : Enveloped) → out.emitted.nomination ≡ Some e → MayTell c old new e × (is_nomination e.statement.pledges ≡ true)
   pub ballots : (e : Enveloped) → out.emitted.ballot ≡ Some e → MayTell c old new e × (is_nomination e.statement.pledges ≡ false)
 
-module _ (c : Config) (level : KvDriver → ℕ → List ℕ → Level) (combined : KvDriver → ℕ → List (List ℕ) → List ℕ) (old : KvLedger) (at : Slot) (given : SlotInput) (fates : List Fate) (took : Took) (new : KvLedger)
-    (me_is : old.me ≡ c.me) (set_is : old.local ≡ c.set) (mine : AreMine c.me (hash_of c.set) old) (r : RunsAt level combined old at given fates took new) where
+module _ (c : Config) (level : KvDriver → ℕ → List ℕ → Level) (extracted : KvDriver → ℕ → List ℕ → Option (List ℕ)) (combined : KvDriver → ℕ → List (List ℕ) → List ℕ) (place : KvDriver → ℕ → ℕ → ℕ → ℕ) (old : KvLedger) (at : Slot) (given : SlotInput) (fates : List Fate) (took : Took) (new : KvLedger)
+    (me_is : old.me ≡ c.me) (set_is : old.local ≡ c.set) (mine : AreMine c.me (hash_of c.set) old) (r : RunsAt level extracted combined place old at given fates took new) where
   abbrev hash : Hash
   hash = hash_of c.set
 

@@ -7,7 +7,7 @@ use Rattle.std.proofs.lemmas.List.Quantifiers.{position-Some}
 use Rattle.scp_types.specs.declared.names.ConnId.{ConnId}
 use Rattle.scp_types.specs.declared.names.NodeId.{NodeId}
 use Rattle.scp_wire.specs.Connections.{conn_at, same_node}
-use Rattle.scp_account.specs.Fates.{IsOfLink}
+use Rattle.scp_theorem.specs.Fates.{IsOfLink}
 use Rattle.scp_core.specs.declared.config.Config.{Config}
 use Rattle.scp_core.proofs.Steps.{same_node-is}
 use Rattle.scp_core.proofs.Queues.{there_is, peer_is}

@@ -1,5 +1,5 @@
 -- What each stage hands out leaves the outboxes as they are to be.
-use Rattle.std.proofs.Common.{◌≡◌, ℕ, Bool, true, false, List, [], ◌∷◌, ◌++◌, refl, sym, ◌∙◌, subst, append-nil, All, get_or, inl, inr, nat_eq, map}
+use Rattle.std.proofs.Common.{◌≡◌, ℕ, Bool, true, false, List, [], ◌∷◌, ◌++◌, refl, sym, ◌∙◌, subst, append-nil, All, get_or, nat_eq, map}
 use Rattle.std.specs.Prelude.{Option, Some, None, option_to_list, if◌then◌else◌}
 use Rattle.std.specs.Option.{ForSome}
 use Rattle.std.proofs.lemmas.List.Elements.{All-nil, All-cons, All-append}
@@ -9,14 +9,14 @@ use Rattle.scp_envelope.specs.declared.statement.Statement.{Statement}
 use Rattle.scp_wire.specs.declared.message.Message.{Message}
 use Rattle.scp_wire.specs.declared.message.Message.TheVariants.{Envelope, GetSet, Set, NoSet, GetRecord, Record, Records}
 use Rattle.scp_outbox.specs.Outbox.{OutboxView, is_nomination, same_bool}
-use Rattle.scp_sent.specs.Laws.{PutsKeepSends}
-use Rattle.scp_sent.specs.Handing.{to_link}
-use Rattle.scp_sent.specs.Sent.{statement_of, IsStep, AreNewer}
+use Rattle.scp_outboxes.specs.Laws.{PutsKeepSends}
+use Rattle.scp_outboxes.specs.Handing.{to_link}
+use Rattle.scp_outboxes.specs.Sent.{statement_of, IsStep, AreNewer}
 use Rattle.scp_pending.specs.Queues.{hash_of}
 use Rattle.scp_ledger.specs.declared.took.Outgoing.TheVariants.{ToAll, To}
 use Rattle.scp_ledger.specs.Takes.{to_all}
 use Rattle.scp_core.specs.Node.{Hands, HandsOne, HandsEach}
-use Rattle.scp_core.specs.Stages.{KvLedger}
+use Rattle.scp_ledger.specs.Kv.{KvLedger}
 use Rattle.scp_core.specs.Sent.{Grounds, MaySend}
 use Rattle.scp_core.proofs.grounds.Basics.{true_isnt, and_second}
 use Rattle.scp_core.proofs.grounds.Growing.{Grows, may_more}

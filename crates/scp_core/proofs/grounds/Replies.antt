@@ -10,7 +10,7 @@ use Rattle.scp_wire.specs.declared.message.Message.TheVariants.{Envelope, GetSet
 use Rattle.scp_wire.specs.declared.link.Inbound.{Inbound}
 use Rattle.scp_wire.specs.declared.link.Inbound.TheVariants as inbound
 use Rattle.scp_wire.specs.Connections.{conn_at}
-use Rattle.scp_sent.specs.Sent.{statement_of}
+use Rattle.scp_outboxes.specs.Sent.{statement_of}
 use Rattle.scp_pending.specs.Fetching.{IsToBeAsked, IsAskedFor, IsReplied, IfReplied, RepliesAreAskedFor}
 use Rattle.scp_pending.specs.Linked.{NothingIsOfAStranger, WhoItIsStays}
 use Rattle.scp_pending.specs.Rules.{Settled, settled_by, reply}

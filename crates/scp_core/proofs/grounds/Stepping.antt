@@ -1,6 +1,6 @@
 -- One step: what was sent rests on its grounds then too.
 use Rattle.std.proofs.Common.{◌≡◌, ◌≢◌, ℕ, Bool, true, false, List, [], ◌∷◌, ◌++◌, refl, sym, ◌∙◌, ap, subst, append_assoc, append-nil, take, drop, All, inl, inr}
-use Rattle.std.specs.Prelude.{Option, Some, None, slice_set, if◌then◌else◌}
+use Rattle.std.specs.Prelude.{Option, Some, slice_set, if◌then◌else◌}
 use Rattle.std.proofs.lemmas.Bool.{eq-eqb, ne_eqb}
 use Rattle.std.proofs.lemmas.List.{append_cancel_right}
 use Rattle.scp_types.specs.declared.names.Slot.{Slot}
@@ -27,7 +27,7 @@ use Rattle.scp_core.specs.Flow.{Flows}
 use Rattle.scp_core.specs.History.{Past, accepts, moves, hears, readings_of}
 use Rattle.scp_core.specs.Node.{NodeView, HandsEach, PendTakes, SlotTakes, ApplyTakes, Accepts, Moves, SendsOut, Step, Fails}
 use Rattle.scp_core.specs.Settled.{start_at}
-use Rattle.scp_core.specs.Stages.{KvLedger}
+use Rattle.scp_ledger.specs.Kv.{KvLedger}
 use Rattle.scp_core.specs.Theorem.{IsReply}
 use Rattle.scp_core.proofs.Below.{Laws}
 use Rattle.scp_core.proofs.Links.{hand_cut}
@@ -117,7 +117,7 @@ module _ (law : Laws) (p : Past) (sent : ℕ → List (List ℕ)) (old new : Nod
   g = grounds_of old f.arrived
 
   abbrev h : Grounds
-  h = grounds_of (record old { ready = b.rest; ledger = b.after'; slot_hand = b.took.onward; outboxes = new.outboxes }) f.arrived
+  h = grounds_of (record old { ready = b.rest; ledger = b.after'; slot_hand = b.took.onward; last_command = b.took.command; outboxes = new.outboxes }) f.arrived
 
   more : Grows g h
   more = record { config = refl; taken = no_more f.arrived f.arrived refl; journal = s.journal; decisions = s.decisions; applied = no_more old.applier.applied old.applier.applied refl }
@@ -145,7 +145,7 @@ slot_takes : Laws → (p : Past) (sent : ℕ → List (List ℕ)) (old new : Nod
 slot_takes law p sent old new f b st =
     let s = ledger_step old.config old.ledger b.x b.took b.after' f.journal.me_is f.journal.local_is st.machines b.takes in
     subst (λ (v : NodeView). State (moves p SlotTake) sent v) (sym b.is)
-    (state_of (moves p SlotTake) sent (record old { ready = b.rest; ledger = b.after'; slot_hand = b.took.onward; outboxes = new.outboxes }) f.arrived f.inbox (slot_sends law p sent old new f b s st))
+    (state_of (moves p SlotTake) sent (record old { ready = b.rest; ledger = b.after'; slot_hand = b.took.onward; last_command = b.took.command; outboxes = new.outboxes }) f.arrived f.inbox (slot_sends law p sent old new f b s st))
 
 -- ---- events that move something
 

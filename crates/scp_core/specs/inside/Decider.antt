@@ -7,6 +7,7 @@ use Rattle.scp_quorum.specs.QuorumTree.{QuorumTree}
 use Rattle.scp_wire.specs.declared.message.Message.{Message}
 use Rattle.scp_pending.specs.declared.ready.Ready.{Ready}
 use Rattle.scp_ledger.specs.declared.journal.Decision.{Decision}
+use Rattle.scp_ledger.specs.declared.took.CommandFate.{CommandFate}
 use Rattle.scp_ledger.specs.declared.took.Onward.{Onward}
 use Rattle.scp_ledger.specs.declared.took.Took.{Took}
 use Rattle.scp_ledger.specs.Ledger.{IsLedger}
@@ -19,12 +20,13 @@ use Rattle.scp_core.specs.declared.event.Reply.{Reply}
 use Rattle.scp_core.specs.declared.event.Reply.TheVariants.{Blocked, Idle, Moved, JournalFull, NoMemory}
 use Rattle.scp_core.specs.Node.{HandsEach}
 use Rattle.scp_core.specs.inside.Stage.{new_ledger}
-use Rattle.scp_core.specs.Stages.{KvLedger, KvTakes, KvRuns}
+use Rattle.scp_ledger.specs.Kv.{KvLedger, KvTakes, KvTells, KvRuns}
 
 pub record DeciderView : Type 0 where
   pub failed : Bool
   pub ledger : KvLedger
   pub hand : Option Onward
+  pub last_command : Option CommandFate
   pub queue : List Onward
   pub room : ℕ
   pub applier : ApplierView
@@ -34,6 +36,7 @@ new_decider me local peers room = record {
   failed = false;
   ledger = new_ledger me local peers;
   hand = None;
+  last_command = None;
   queue = [];
   room = room;
   applier = record { failed = false; applied = []; buffer = []; state = Some map.empty };
@@ -63,11 +66,12 @@ pub record Keeps (old new : DeciderView) : Type 0 where
   pub journal : new.ledger.journal ≡ old.ledger.journal
   pub decisions : new.ledger.decisions ≡ old.ledger.decisions
   pub asked : new.ledger.asked ≡ old.ledger.asked
+  pub command : new.last_command ≡ old.last_command
   pub applied : new.applier.applied ≡ old.applier.applied
 
 -- the slot stage takes a thing, and what goes out is put into the outboxes
 abbrev pub Decides : DeciderView → List OutboxView → Ready → Reply → DeciderView → List OutboxView → Type 0
-Decides old boxes x Moved new after' = (took : Took) × KvTakes old.ledger x took new.ledger × IsLedger new.ledger × KvRuns new.ledger × (new ≡ record old { ledger = new.ledger; hand = took.onward }) × HandsEach boxes took.outgoing after'
+Decides old boxes x Moved new after' = (took : Took) × KvTakes old.ledger x took new.ledger × KvTells old.ledger x took × IsLedger new.ledger × KvRuns new.ledger × (new ≡ record old { ledger = new.ledger; hand = took.onward; last_command = took.command }) × HandsEach boxes took.outgoing after'
 Decides old boxes x JournalFull new after' = (adds_entry x ≡ true) × (length old.ledger.journal ≡ 1000000) × Keeps old new
 Decides old boxes x NoMemory new after' = (¬ ((adds_entry x ≡ true) × (length old.ledger.journal ≡ 1000000))) × Keeps old new
 Decides old boxes x reply new after' = ⊥

@@ -4,11 +4,11 @@ use Rattle.scp_types.specs.declared.names.NodeId.{NodeId}
 use Rattle.scp_quorum.specs.QuorumTree.{QuorumTree}
 use Rattle.scp_outbox.specs.Outbox.{OutboxView}
 use Rattle.scp_pending.specs.declared.ready.Ready.{Ready}
-use Rattle.scp_ledger.specs.declared.took.Onward.{Onward}
 use Rattle.scp_ledger.specs.declared.took.Took.{Took}
 use Rattle.scp_ledger.specs.Ledger.{IsLedger}
 use Rattle.scp_core.specs.declared.stage.Shown.{Shown}
-use Rattle.scp_core.specs.Stages.{KvLedger, KvTakes, KvRuns}
+use Rattle.scp_core.specs.declared.stage.Given.{Given}
+use Rattle.scp_ledger.specs.Kv.{KvLedger, KvTakes, KvTells, KvRuns}
 use Rattle.scp_core.specs.Node.{HandsEach}
 
 abbrev pub new_ledger : NodeId → QuorumTree → List NodeId → KvLedger
@@ -24,10 +24,12 @@ abbrev pub Shows : KvLedger → KvLedger → Type 0
 Shows old new = (new.journal ≡ old.journal) × (new.decisions ≡ old.decisions) × (new.asked ≡ old.asked)
 
 -- a thing is taken, and what goes out is put into the outboxes
-pub record TakesOut (old : KvLedger) (boxes : List OutboxView) (x : Ready) (onward : Option Onward) (new : KvLedger) (after' : List OutboxView) : Type 0 where
+pub record TakesOut (old : KvLedger) (boxes : List OutboxView) (x : Ready) (given : Given) (new : KvLedger) (after' : List OutboxView) : Type 0 where
   pub took : Took
   pub takes : KvTakes old x took new
-  pub onward_is : took.onward ≡ onward
+  pub tells : KvTells old x took
+  pub onward_is : took.onward ≡ given.onward
+  pub command_is : took.command ≡ given.command
   pub known : IsLedger new
   pub running : KvRuns new
   pub hands : HandsEach boxes took.outgoing after'

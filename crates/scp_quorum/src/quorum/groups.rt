@@ -7,7 +7,7 @@ ghost use Rattle.scp_types.specs.declared.names.NodeId.{NodeId};
 ghost use Rattle.scp_quorum.specs.NodeSet.{is_in};
 ghost use Rattle.scp_quorum.specs.QuorumTree.{QuorumTree};
 ghost use Rattle.scp_quorum.specs.Quorum.{set_of, IsWithin};
-ghost use Rattle.scp_quorum.specs.Groups.{HasOneSet, IsGrouped};
+ghost use Rattle.scp_quorum.specs.inside.Groups.{HasOneSet, IsGrouped};
 
 use crate::sane_set::SaneSet;
 use scp_types::{Hash, NodeId};

@@ -4,7 +4,8 @@ ghost use Rattle.std.specs.Bool.{OnFalse, OnTrue};
 ghost use Rattle.std.specs.BTreeSet.{btree_set_len};
 ghost use Rattle.scp_types.specs.declared.names.NodeId.{NodeId};
 ghost use Rattle.scp_quorum.specs.NodeSet.{is_in};
-ghost use Rattle.scp_quorum.specs.Quorum.{set_of, SatisfyThemselves, IsGreatestQuorum, IsInSomeQuorum, HasNoQuorum, AllHaveSets, KeepsQuorums};
+ghost use Rattle.scp_quorum.specs.Quorum.{set_of, SatisfyThemselves, IsGreatestQuorum, IsInSomeQuorum, HasNoQuorum};
+ghost use Rattle.scp_quorum.specs.inside.Quorum.{AllHaveSets, KeepsQuorums};
 
 use super::known_nodes;
 use crate::quorum_set::satisfied;

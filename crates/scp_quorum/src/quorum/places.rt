@@ -2,9 +2,10 @@
 ghost use Rattle.std.specs.Prelude.{◌≡◌, ◌↔◌, ◌<◌, ℕ, Option, Bool, true, false, get_or, length, count_by, IfOk, OnOk, IsTrue, IsOkUnless};
 ghost use Rattle.std.specs.Bool.{OnFalse, OnTrue};
 ghost use Rattle.scp_types.specs.declared.names.NodeId.{NodeId};
-ghost use Rattle.scp_quorum.specs.Quorum.{IsWithin, IsGreatestQuorum, HasNoQuorum, KeepsQuorums, SatisfyThemselves};
+ghost use Rattle.scp_quorum.specs.Quorum.{IsWithin, IsGreatestQuorum, HasNoQuorum, SatisfyThemselves};
+ghost use Rattle.scp_quorum.specs.inside.Quorum.{KeepsQuorums};
 ghost use Rattle.scp_quorum.specs.Places.{marked, only, shared_set};
-ghost use Rattle.scp_quorum.specs.Marks.{AreVerdicts, kept_at};
+ghost use Rattle.scp_quorum.specs.inside.Marks.{AreVerdicts, kept_at};
 
 use crate::quorum_set::Nodes;
 use crate::sane_set::SaneSet;

@@ -3,7 +3,8 @@
 ghost use Rattle.std.specs.Prelude.{◌≡◌, ◌↔◌, ◌≤◌, Bool, IfSome, IsTrue, count_by, length, take};
 ghost use Rattle.scp_types.specs.declared.names.NodeId.{NodeId};
 ghost use Rattle.scp_quorum.specs.NodeSet.{is_in};
-ghost use Rattle.scp_quorum.specs.Satisfies.{Satisfies, Blocks, outside};
+ghost use Rattle.scp_quorum.specs.Satisfies.{Satisfies, Blocks};
+ghost use Rattle.scp_quorum.specs.inside.Satisfies.{outside};
 
 use super::QuorumSet;
 use scp_types::NodeId;

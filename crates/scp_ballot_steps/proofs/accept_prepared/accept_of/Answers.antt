@@ -2,7 +2,7 @@ use Rattle.std.proofs.Common.{◌≡◌, ℕ, List, true, false, sym, ◌∙◌,
 use Rattle.scp_vote.specs.declared.claim.Claim.TheVariants.{Prepared}
 use Rattle.scp_vote.specs.Board.{Accepted}
 use Rattle.scp_ballot_steps.specs.Told.{ballots_on}
-use Rattle.scp_ballot_steps.specs.Finding.{IsGreatest}
+use Rattle.scp_ballot_steps.specs.inside.Finding.{IsGreatest}
 use Rattle.scp_ballot_steps.proofs.Stepping.{accepts_more}
 use Rattle.scp_ballot_steps.proofs.Exactly.{more_answers, more_rests}
 use Rattle.scp_ballot_steps.proofs.accept_prepared.accept_of.Goals as goal

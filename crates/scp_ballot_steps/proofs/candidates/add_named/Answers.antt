@@ -1,7 +1,7 @@
 use Rattle.std.proofs.Common.{sym, subst}
 use Rattle.scp_envelope.specs.declared.statement.Pledges.{Pledges}
 use Rattle.scp_ballot_rules.specs.Owed.{Names}
-use Rattle.scp_ballot_steps.specs.Finding.{Adds}
+use Rattle.scp_ballot_steps.specs.inside.Finding.{Adds}
 use Rattle.scp_ballot_steps.proofs.candidates.add_named.Goals as goal
 
 pub returns-in_ok-add_prepare-in-Prepare-clause-added : goal.returns-in_ok-add_prepare-in-Prepare-clause-added

@@ -1,7 +1,7 @@
 use Rattle.std.proofs.Common.{◌≡◌, ◌<◌, ℕ, List, Contains, IfNone, IfSome, subst}
 use Rattle.scp_ballot_steps.specs.declared.finding.Bound.TheVariants.{Of}
 use Rattle.scp_ballot_steps.specs.declared.told.Stage.TheVariants.{Confirmation}
-use Rattle.scp_ballot_steps.specs.Finding.{IsExactRange}
+use Rattle.scp_ballot_steps.specs.inside.Finding.{IsExactRange}
 use Rattle.scp_types.specs.declared.ballot.Ballot.{Ballot}
 use Rattle.scp_vote.specs.declared.claim.Claim.TheVariants.{Committed}
 use Rattle.scp_vote.specs.Board.{Confirmed}

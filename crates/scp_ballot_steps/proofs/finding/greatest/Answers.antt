@@ -1,8 +1,9 @@
 use Rattle.std.proofs.Common.{sym, subst, arith, Option}
 use Rattle.scp_types.specs.declared.ballot.Ballot.{Ballot}
 use Rattle.scp_vote.specs.declared.claim.Claim.TheVariants.{Prepared}
-use Rattle.scp_ballot_steps.specs.Told.{ballots_on, Reached}
-use Rattle.scp_ballot_steps.specs.Finding.{IsWithin}
+use Rattle.scp_ballot_steps.specs.Told.{ballots_on}
+use Rattle.scp_ballot_steps.specs.inside.Told.{Reached}
+use Rattle.scp_ballot_steps.specs.inside.Finding.{IsWithin}
 use Rattle.scp_ballot_steps.proofs.Best.{IsGreatestBefore, greatest_start, greatest_more, greatest_end}
 use Rattle.scp_ballot_steps.proofs.finding.greatest.Goals as goal
 

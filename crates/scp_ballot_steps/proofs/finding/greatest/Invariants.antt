@@ -1,6 +1,7 @@
 use Rattle.scp_vote.specs.declared.claim.Claim.TheVariants.{Prepared}
-use Rattle.scp_ballot_steps.specs.Told.{ballots_on, Reached}
-use Rattle.scp_ballot_steps.specs.Finding.{IsWithin}
+use Rattle.scp_ballot_steps.specs.Told.{ballots_on}
+use Rattle.scp_ballot_steps.specs.inside.Told.{Reached}
+use Rattle.scp_ballot_steps.specs.inside.Finding.{IsWithin}
 use Rattle.scp_ballot_steps.proofs.Best.{IsGreatestBefore}
 use Rattle.scp_ballot_steps.proofs.finding.greatest.Given as goal
 

@@ -1,8 +1,9 @@
 use Rattle.std.proofs.Common.{◌<◌, refl, arith}
 use Rattle.scp_types.specs.declared.ballot.Ballot.{Ballot}
 use Rattle.scp_vote.specs.declared.claim.Claim.TheVariants.{Committed}
-use Rattle.scp_ballot_steps.specs.Told.{ballots_on, Reached}
-use Rattle.scp_ballot_steps.specs.Finding.{IsWithin}
+use Rattle.scp_ballot_steps.specs.Told.{ballots_on}
+use Rattle.scp_ballot_steps.specs.inside.Told.{Reached}
+use Rattle.scp_ballot_steps.specs.inside.Finding.{IsWithin}
 use Rattle.scp_ballot_steps.proofs.Firsts.{first_start, first_more, first_end}
 use Rattle.scp_ballot_steps.proofs.range.highest.Goals as goal
 

@@ -1,7 +1,8 @@
 use Rattle.std.proofs.Common.{◌<◌}
 use Rattle.scp_vote.specs.declared.claim.Claim.TheVariants.{Committed}
-use Rattle.scp_ballot_steps.specs.Told.{ballots_on, Reached}
-use Rattle.scp_ballot_steps.specs.Finding.{IsWithin}
+use Rattle.scp_ballot_steps.specs.Told.{ballots_on}
+use Rattle.scp_ballot_steps.specs.inside.Told.{Reached}
+use Rattle.scp_ballot_steps.specs.inside.Finding.{IsWithin}
 use Rattle.scp_ballot_steps.proofs.Firsts.{IsFirstBefore}
 use Rattle.scp_ballot_steps.proofs.range.highest.Given as goal
 

@@ -1,6 +1,7 @@
 use Rattle.std.proofs.Common.{ℕ, arith}
 use Rattle.scp_vote.specs.declared.claim.Claim.TheVariants.{Committed}
-use Rattle.scp_ballot_steps.specs.Told.{ballots_on, Reached}
+use Rattle.scp_ballot_steps.specs.Told.{ballots_on}
+use Rattle.scp_ballot_steps.specs.inside.Told.{Reached}
 use Rattle.scp_ballot_steps.proofs.Firsts.{least_start, least_more, least_end}
 use Rattle.scp_ballot_steps.proofs.range.lowest.Goals as goal
 

@@ -1,5 +1,6 @@
 use Rattle.scp_vote.specs.declared.claim.Claim.TheVariants.{Committed}
-use Rattle.scp_ballot_steps.specs.Told.{ballots_on, Reached}
+use Rattle.scp_ballot_steps.specs.Told.{ballots_on}
+use Rattle.scp_ballot_steps.specs.inside.Told.{Reached}
 use Rattle.scp_ballot_steps.proofs.Firsts.{IsLeastBefore}
 use Rattle.scp_ballot_steps.proofs.range.lowest.Given as goal
 

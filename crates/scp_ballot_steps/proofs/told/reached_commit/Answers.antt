@@ -1,6 +1,7 @@
 use Rattle.std.proofs.Common.{◌↔◌, IsTrue, IfOk, subst, List, ℕ}
 use Rattle.scp_vote.specs.declared.claim.Claim.TheVariants.{Committed}
-use Rattle.scp_ballot_steps.specs.Told.{ballots_on, Reached}
+use Rattle.scp_ballot_steps.specs.Told.{ballots_on}
+use Rattle.scp_ballot_steps.specs.inside.Told.{Reached}
 use Rattle.scp_ballot_steps.proofs.told.reached_commit.Goals as goal
 
 pub returns-clause-exact : goal.returns-clause-exact

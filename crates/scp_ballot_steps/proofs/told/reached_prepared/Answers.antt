@@ -1,7 +1,8 @@
 use Rattle.std.proofs.Common.{◌↔◌, IsTrue, IfOk, subst}
 use Rattle.scp_types.specs.declared.ballot.Ballot.{Ballot}
 use Rattle.scp_vote.specs.declared.claim.Claim.TheVariants.{Prepared}
-use Rattle.scp_ballot_steps.specs.Told.{ballots_on, Reached}
+use Rattle.scp_ballot_steps.specs.Told.{ballots_on}
+use Rattle.scp_ballot_steps.specs.inside.Told.{Reached}
 use Rattle.scp_ballot_steps.proofs.told.reached_prepared.Goals as goal
 
 pub returns-clause-exact : goal.returns-clause-exact

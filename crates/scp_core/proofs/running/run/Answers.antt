@@ -11,3 +11,6 @@ returns-clause-count c = let ok : is_ok c.answer_all.result ≡ true = search ru
 
 pub returns-clause-ledger : goal.returns-clause-ledger
 returns-clause-ledger c = let ok : is_ok c.answer_all.result ≡ true = search rules in c.each_node_holds_its_ledger.ensures.ledger _ _ (on_ok _ c.answer_all.result ok c.answer_all.ensures.theorem)
+
+pub returns-clause-headline : goal.returns-clause-headline
+returns-clause-headline c = let ok : is_ok c.answer_all.result ≡ true = search rules in c.each_node_holds_its_headline.ensures.headline _ _ (c.each_node_holds_its_ledger.ensures.ledger _ _ (on_ok _ c.answer_all.result ok c.answer_all.ensures.theorem))

@@ -2,7 +2,8 @@ use Rattle.std.proofs.Common.{◌≡◌, [], length}
 use Rattle.crossbeam_channel.specs.Claims.{view, IsSeatAt}
 use Rattle.crossbeam_channel.specs.Ends.{sends_on, ruled_capacity}
 use Rattle.scp_ends.specs.Order.{receiver}
-use Rattle.scp_ends.specs.Ends.{line_of, AreFresh}
+use Rattle.scp_ends.specs.inside.Passes.{line_of}
+use Rattle.scp_ends.specs.Ends.{AreFresh}
 use Rattle.scp_ends.proofs.make.ends_of.Given as goal
 
 abbrev pub ghosts-size : goal.ghosts-size

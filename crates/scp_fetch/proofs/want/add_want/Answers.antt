@@ -4,7 +4,7 @@ use Rattle.std.specs.Cmp.Lexicographic.{pointwise}
 use Rattle.indexmap.specs.IndexMap.{get}
 use Rattle.indexmap.proofs.CallerLemmas.{insert_entry-new}
 use Rattle.scp_fetch.specs.declared.want.Want.{Want}
-use Rattle.scp_fetch.specs.Table.{wants_in}
+use Rattle.scp_fetch.specs.inside.Table.{wants_in}
 use Rattle.scp_fetch.proofs.Tables.{stands_of, none_of, wants_push, under_push}
 use Rattle.scp_fetch.proofs.want.add_want.Goals as goal
 

@@ -1,5 +1,5 @@
 use Rattle.std.proofs.lemmas.Iterator.Consumers.{map_from_collect, YieldsList-from_rest}
-use Rattle.scp_fetch.specs.Table.{wants_in}
+use Rattle.scp_fetch.specs.inside.Table.{wants_in}
 use Rattle.scp_fetch.proofs.want.all_wants.Goals as goal
 
 pub returns : goal.returns

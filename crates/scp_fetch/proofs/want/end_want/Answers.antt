@@ -1,5 +1,5 @@
 use Rattle.std.proofs.Common.{◌∙◌, ap}
-use Rattle.scp_fetch.specs.Table.{wants_in}
+use Rattle.scp_fetch.specs.inside.Table.{wants_in}
 use Rattle.scp_fetch.proofs.Tables.{stands_of}
 use Rattle.scp_fetch.proofs.want.end_want.Goals as goal
 

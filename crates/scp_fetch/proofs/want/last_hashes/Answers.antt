@@ -4,7 +4,7 @@ use Rattle.std.proofs.lemmas.Iterator.Consumers.{YieldsList-from_filter, YieldsL
 use Rattle.scp_fetch.specs.declared.want.Want.{Want}
 use Rattle.scp_fetch.specs.declared.want.Miss.TheVariants.{All}
 use Rattle.scp_fetch.specs.Wants.{is_last}
-use Rattle.scp_fetch.specs.Table.{wants_in}
+use Rattle.scp_fetch.specs.inside.Table.{wants_in}
 use Rattle.scp_fetch.proofs.want.last_hashes.Goals as goal
 
 pub returns-clause-hashes : goal.returns-clause-hashes

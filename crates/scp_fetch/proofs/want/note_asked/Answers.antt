@@ -2,7 +2,7 @@ use Rattle.std.proofs.Common.{rules, ◌≡◌, ◌∙◌, ◌+◌, ap, sym, ref
 use Rattle.std.specs.Prelude.{Option, Some, None, IfSome, slice_set, slice_index_or, nat_lt, not, is_some}
 use Rattle.std.specs.Option.{option_map_or}
 use Rattle.scp_fetch.specs.declared.want.Want.{Want}
-use Rattle.scp_fetch.specs.Table.{wants_in}
+use Rattle.scp_fetch.specs.inside.Table.{wants_in}
 use Rattle.scp_fetch.specs.Wants.{joined}
 use Rattle.scp_fetch.proofs.Tables.{stands_of, by_some, changed_none, on_err-of}
 use Rattle.scp_fetch.proofs.want.note_asked.Goals as goal

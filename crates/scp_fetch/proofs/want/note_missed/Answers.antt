@@ -2,7 +2,7 @@ use Rattle.std.proofs.Common.{rules, ◌≡◌, ◌∙◌, ◌+◌, ap, sym, ref
 use Rattle.std.specs.Prelude.{Option, Some, None, IfSome, slice_set, nat_lt}
 use Rattle.std.specs.Option.{option_map_or}
 use Rattle.scp_fetch.specs.declared.want.Want.{Want}
-use Rattle.scp_fetch.specs.Table.{wants_in}
+use Rattle.scp_fetch.specs.inside.Table.{wants_in}
 use Rattle.scp_fetch.specs.declared.want.Miss.TheVariants.{One}
 use Rattle.scp_fetch.specs.Wants.{is_last, missed_by}
 use Rattle.scp_fetch.proofs.Tables.{stands_of, missed_none, missed_more, by_some, few_by, one_more}

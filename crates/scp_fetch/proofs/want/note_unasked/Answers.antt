@@ -1,7 +1,7 @@
 use Rattle.std.proofs.Common.{rules, true, refl, ◌∙◌, ap, map}
 use Rattle.scp_fetch.specs.declared.want.Want.{Want}
 use Rattle.scp_fetch.specs.Wants.{unask}
-use Rattle.scp_fetch.specs.Table.{wants_in}
+use Rattle.scp_fetch.specs.inside.Table.{wants_in}
 use Rattle.scp_fetch.proofs.Tables.{walked_all, under_walked, kept_all}
 use Rattle.scp_fetch.proofs.want.note_unasked.Goals as goal
 

@@ -10,8 +10,10 @@ use Rattle.scp_pending.specs.Pends.{Pends}
 use Rattle.scp_pending.specs.Rules.{PendingView}
 use Rattle.scp_apply.specs.Applier.{ApplierView}
 use Rattle.scp_ends.specs.Order.{values}
-use Rattle.scp_workers.specs.Slot.{KvLedger}
+use Rattle.scp_ledger.specs.Kv.{KvLedger}
 use Rattle.scp_gather.specs.declared.gathering.NodeReport.{NodeReport}
+use Rattle.scp_headline.specs.Headline.{Headline}
+use Rattle.scp_gather.specs.Headline.{books_reported}
 use Rattle.scp_gather.specs.Report.{IsReportOf}
 use Rattle.scp_gather.proofs.Joining.{node_pends}
 use Rattle.scp_gather.proofs.gathering.gather.Goals as goal
@@ -46,3 +48,15 @@ returns-clause-theorem c = λ me set peers n.
       state_is = applied.1 ∙ ap (λ (v : ApplierView). v.state) parts.2;
     })
     c.told.result c.told.ensures.journal c.told.ensures.parked c.told.ensures.ascending c.told.ensures.applied
+
+if_ok_one : {X Y : Type 0} (P Q : X → Type 0) → ((x : X) → P x → Q x) → (r : Result X Y) → IfOk r P → IfOk r Q
+if_ok_one P Q f (Ok x) p = f x p
+if_ok_one P Q f (Err e) p = tt
+
+pub returns-clause-headline : goal.returns-clause-headline
+returns-clause-headline c = λ me set peers n.
+    if_ok_one
+    (λ (r : NodeReport). IsReportOf me set peers c.args.ends r.journal.items r.parked.items r.applied.items r.state)
+    (λ (r : NodeReport). Headline (books_reported me set peers c.args.ends r.journal.items r.applied.items r.state))
+    (λ r is. c.what_is_reported_keeps_the_headline.ensures.headline me set peers c.args.ends r.journal.items r.parked.items r.applied.items r.state is)
+    c.told.result (returns-clause-theorem c me set peers n)

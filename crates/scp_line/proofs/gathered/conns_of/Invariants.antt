@@ -1,6 +1,6 @@
 use Rattle.std.proofs.Common.{◌≡◌, fold, drop}
 use Rattle.std.specs.BTreeSet.{insert_key}
-use Rattle.scp_line.specs.Report.{conn_cmp}
+use Rattle.scp_types.specs.Order.{conn_cmp}
 use Rattle.scp_line.specs.Threads.{conns_waiting}
 use Rattle.scp_line.proofs.gathered.conns_of.Given as goal
 

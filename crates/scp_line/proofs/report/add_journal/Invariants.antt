@@ -1,6 +1,7 @@
 use Rattle.std.proofs.Common.{◌≡◌, fold, drop}
 use Rattle.std.specs.BTreeSet.{insert_key}
-use Rattle.scp_line.specs.Report.{conn_of, conn_cmp}
+use Rattle.scp_theorem.specs.Fates.{conn_of}
+use Rattle.scp_types.specs.Order.{conn_cmp}
 use Rattle.scp_line.proofs.report.add_journal.Given as goal
 
 -- what is left leads to all

@@ -1,7 +1,8 @@
 use Rattle.std.proofs.Common.{◌≡◌, ◌++◌, ◌∷◌, [], ◌+◌, take, sym, ap, ◌∙◌, arith}
 use Rattle.std.proofs.lemmas.List.{take_more}
-use Rattle.scp_line.specs.Report.{conn_of, fate_line}
-use Rattle.scp_line.specs.Parts.{lines_at}
+use Rattle.scp_theorem.specs.Fates.{conn_of}
+use Rattle.scp_line.specs.Report.{fate_line}
+use Rattle.scp_line.specs.inside.Parts.{lines_at}
 use Rattle.scp_line.proofs.Sections.{sections-more}
 use Rattle.scp_line.proofs.report.sections.Goals as goal
 

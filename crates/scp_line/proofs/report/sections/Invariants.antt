@@ -1,7 +1,7 @@
 use Rattle.std.proofs.Common.{◌≡◌, take}
 use Rattle.scp_types.specs.declared.names.ConnId.{ConnId}
 use Rattle.scp_line.specs.Report.{fate_lines}
-use Rattle.scp_line.specs.Parts.{lines_at}
+use Rattle.scp_line.specs.inside.Parts.{lines_at}
 use Rattle.scp_line.proofs.report.sections.Given as goal
 
 abbrev pub invariant-loop-fate : goal.invariant-loop-fate

@@ -1,6 +1,6 @@
 use Rattle.std.proofs.Common.{arith}
 use Rattle.scp_line.specs.Report.{conn_parked, waiting_line}
-use Rattle.scp_line.specs.Parts.{lines_at}
+use Rattle.scp_line.specs.inside.Parts.{lines_at}
 use Rattle.scp_line.proofs.Sections.{sections-next}
 use Rattle.scp_line.proofs.report.sort_all_parked.Goals as goal
 

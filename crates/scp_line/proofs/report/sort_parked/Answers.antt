@@ -1,7 +1,8 @@
 use Rattle.std.proofs.Common.{string_bytes}
 use Rattle.std.specs.Ordering.{is_eq}
-use Rattle.scp_line.specs.Report.{conn_cmp, parked_line}
-use Rattle.scp_line.specs.Parts.{lines_at}
+use Rattle.scp_types.specs.Order.{conn_cmp}
+use Rattle.scp_line.specs.Report.{parked_line}
+use Rattle.scp_line.specs.inside.Parts.{lines_at}
 use Rattle.scp_line.proofs.Sections.{sorted_in}
 use Rattle.scp_line.proofs.report.sort_parked.Goals as goal
 

@@ -1,10 +1,12 @@
 use Rattle.std.proofs.Common.{◌≡◌, ◌++◌, ◌∙◌, ℕ, List, string_bytes, flat_map, ap, sym, subst}
 use Rattle.scp_gather.specs.declared.gathering.NodeReport.{NodeReport}
-use Rattle.scp_threads.specs.Reported.{AreNodesReported}
+use Rattle.scp_threaded_script.specs.Reported.{AreNodesReported}
 use Rattle.scp_script.specs.Script.{commands_in}
 use Rattle.scp_script.specs.Nodes.{reports_in}
 use Rattle.scp_line.specs.Threads.{report_gathered_at}
-use Rattle.scp_line.proofs.Threaded.{threads_have_room, are_gathered_reports}
+use Rattle.scp_line.proofs.Headlines.{are_gathered_headlined}
+use Rattle.std.proofs.lemmas.Result.{err_from_is_err_and}
+use Rattle.scp_line.proofs.Threaded.{threads_have_room, are_gathered_reports, given_up_not_bad}
 use Rattle.scp_line.proofs.threads.played.Goals as goal
 
 pub run_lines-requires-clause-room : goal.run_lines-requires-clause-room
@@ -18,3 +20,17 @@ returns-in-Ok-clause-reports g c =
     let reported : AreNodesReported commands reports = subst (λ (l : List NodeReport). AreNodesReported commands l) (sym c.as_slice-reports.ensures.value) c.in_ok-nodes.ensures.reported in
     let text : string_bytes c.write_all_gathered.new.text ≡ flat_map (report_gathered_at reports) (reports_in commands) = c.in-Ok.ensures ∙ ap (λ (l : List ℕ). l ++ flat_map (report_gathered_at reports) (reports_in commands)) c.new-printed.ensures.bytes in
     are_gathered_reports c.args.text.now (string_bytes c.write_all_gathered.new.text) commands reports same reported text
+
+pub returns-in-Ok-clause-headline : goal.returns-in-Ok-clause-headline
+returns-in-Ok-clause-headline g c =
+    let commands = c.as_slice-commands.result.now in
+    let reports = c.as_slice-reports.result.now in
+    let same : commands ≡ commands_in c.args.text.now = c.as_slice-commands.ensures.value ∙ c.in_ok-script.ensures.commands in
+    let reported : AreNodesReported commands reports = subst (λ (l : List NodeReport). AreNodesReported commands l) (sym c.as_slice-reports.ensures.value) c.in_ok-nodes.ensures.reported in
+    let text : string_bytes c.write_all_gathered.new.text ≡ flat_map (report_gathered_at reports) (reports_in commands) = c.in-Ok.ensures ∙ ap (λ (l : List ℕ). l ++ flat_map (report_gathered_at reports) (reports_in commands)) c.new-printed.ensures.bytes in
+    are_gathered_headlined c.what_is_reported_keeps_the_headline.ensures.headline c.args.text.now (string_bytes c.write_all_gathered.new.text) commands reports same reported text
+
+pub returns-in_err-nodes-clause-line : goal.returns-in_err-nodes-clause-line
+returns-in_err-nodes-clause-line g c =
+    let p = err_from_is_err_and c.from_residual-in_err-nodes.result c.from_residual-in_err-nodes.ensures.1 in
+    rw (p.1, p.2) (λ line is. absurd (given_up_not_bad c.as_slice-commands.result.now c.in_err-nodes.field-0.0 c.in_err-nodes.ensures.given_up line is))

@@ -1,7 +1,7 @@
 use Rattle.std.proofs.Common.{◌+◌}
 use Rattle.scp_network.specs.Heard.{InOrder}
 use Rattle.scp_network.specs.Rounds.{Carries}
-use Rattle.scp_network.specs.Inside.{Acts}
+use Rattle.scp_network.specs.inside.Acting.{Acts}
 use Rattle.scp_network.proofs.rounds.carry_all.Given as goal
 
 -- what went to the nodes so far

@@ -1,6 +1,6 @@
 use Rattle.std.proofs.Common.{◌+◌, ℕ, length, subst}
 use Rattle.scp_network.specs.Rounds.{IsTurn}
-use Rattle.scp_network.specs.Inside.{Acts}
+use Rattle.scp_network.specs.inside.Acting.{Acts}
 use Rattle.scp_network.proofs.Hearing.{acts_next}
 use Rattle.scp_network.proofs.rounds.round.Goals as goal
 

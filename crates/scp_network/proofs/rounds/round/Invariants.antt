@@ -1,7 +1,7 @@
 use Rattle.std.proofs.Common.{length}
 use Rattle.scp_network.specs.Heard.{InOrder}
 use Rattle.scp_network.specs.Rounds.{IsTurn}
-use Rattle.scp_network.specs.Inside.{Acts}
+use Rattle.scp_network.specs.inside.Acting.{Acts}
 use Rattle.scp_network.proofs.rounds.round.Given as goal
 
 -- the turns of the nodes so far

@@ -1,6 +1,6 @@
 use Rattle.std.proofs.Common.{◌≡◌, ◌⊎◌, length}
 use Rattle.scp_network.specs.Rounds.{AreRounds, AllRun}
-use Rattle.scp_network.specs.Inside.{Hear}
+use Rattle.scp_network.specs.Network.{Hear}
 use Rattle.scp_network.proofs.rounds.settle.Given as goal
 
 -- the rounds so far, after which no node failed

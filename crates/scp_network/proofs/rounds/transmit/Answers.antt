@@ -2,7 +2,7 @@ use Rattle.std.proofs.Common.{◌+◌, ℕ, subst}
 use Rattle.scp_core.specs.declared.event.Event.TheVariants.{Drain, Send}
 use Rattle.scp_core.specs.declared.event.Reply.TheVariants.{Sent}
 use Rattle.scp_network.specs.Rounds.{link_of}
-use Rattle.scp_network.specs.Inside.{IsAnswered}
+use Rattle.scp_network.specs.Network.{IsAnswered}
 use Rattle.scp_network.proofs.Acting.{dry, sent}
 use Rattle.scp_network.proofs.rounds.transmit.Goals as goal
 

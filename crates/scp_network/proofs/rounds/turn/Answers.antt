@@ -1,7 +1,7 @@
 use Rattle.std.proofs.Common.{rules, ◌≡◌, ◌+◌, ◌-◌, ℕ, length, subst}
 use Rattle.scp_network.specs.Heard.{InOrder}
 use Rattle.scp_network.specs.Rounds.{HearsAll, stage_events, Carries}
-use Rattle.scp_network.specs.Inside.{Acts}
+use Rattle.scp_network.specs.inside.Acting.{Acts}
 use Rattle.scp_network.proofs.Hearing.{acts_then}
 use Rattle.scp_network.proofs.rounds.turn.Goals as goal
 

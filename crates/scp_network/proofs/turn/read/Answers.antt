@@ -1,7 +1,7 @@
 use Rattle.std.proofs.Common.{◌≡◌, ◌+◌, ℕ, suc, [], ◌∷◌, sym, subst, arith}
 use Rattle.scp_core.specs.declared.event.Event.TheVariants.{ReaderTake, ReaderPut}
 use Rattle.scp_network.specs.Rounds.{HearsAll, reader_events}
-use Rattle.scp_network.specs.Inside.{Acts}
+use Rattle.scp_network.specs.inside.Acting.{Acts}
 use Rattle.scp_network.proofs.Hearing.{acts_all}
 use Rattle.scp_network.proofs.turn.read.Goals as goal
 

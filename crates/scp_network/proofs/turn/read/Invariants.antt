@@ -1,6 +1,6 @@
 use Rattle.std.proofs.Common.{◌+◌}
 use Rattle.scp_network.specs.Rounds.{HearsAll, reader_events}
-use Rattle.scp_network.specs.Inside.{Acts}
+use Rattle.scp_network.specs.inside.Acting.{Acts}
 use Rattle.scp_network.proofs.turn.read.Given as goal
 
 -- what the readers of the links so far did

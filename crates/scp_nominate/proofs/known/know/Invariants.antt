@@ -1,6 +1,6 @@
 use Rattle.std.proofs.Common.{◌≡◌, ◌<◌, ℕ, [], get_or}
 use Rattle.scp_driver.specs.Driver.{IsFull}
-use Rattle.scp_nominate.specs.Steps.{Learns}
+use Rattle.scp_nominate.specs.inside.Steps.{Learns}
 use Rattle.scp_nominate.proofs.known.know.Given as goal
 
 abbrev pub invariant-loop-value : goal.invariant-loop-value

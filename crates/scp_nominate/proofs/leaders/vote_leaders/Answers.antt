@@ -4,7 +4,7 @@ use Rattle.scp_driver.specs.Driver.{IsFull}
 use Rattle.scp_nominate.specs.Heard.{heard}
 use Rattle.scp_nominate.proofs.Leading.{leading, each_node}
 use Rattle.scp_nominate.specs.Owed.{Suggests}
-use Rattle.scp_nominate.specs.Values.{items}
+use Rattle.scp_nominate.specs.inside.Values.{items}
 use Rattle.scp_nominate.specs.Voting.{VotesAfter}
 use Rattle.scp_nominate.proofs.Turns.{goes_more, goes_all}
 use Rattle.scp_nominate.proofs.Suggesting.{one_more}

@@ -3,9 +3,9 @@ use Rattle.scp_types.specs.declared.names.NodeId.{NodeId}
 use Rattle.scp_driver.specs.Driver.{IsFull}
 use Rattle.scp_nominate.specs.Heard.{heard}
 use Rattle.scp_nominate.specs.Values.{Has}
-use Rattle.scp_nominate.specs.Steps.{MoreVotes}
+use Rattle.scp_nominate.specs.inside.Steps.{MoreVotes}
 use Rattle.scp_nominate.specs.Owed.{Suggests}
-use Rattle.scp_nominate.specs.Values.{items}
+use Rattle.scp_nominate.specs.inside.Values.{items}
 use Rattle.scp_nominate.specs.Voting.{VotesAfter}
 use Rattle.scp_nominate.proofs.Turns.{GoesOn}
 use Rattle.scp_nominate.proofs.Leading.{IsHeard}

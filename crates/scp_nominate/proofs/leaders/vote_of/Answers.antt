@@ -1,7 +1,7 @@
 use Rattle.std.proofs.Common.{◌≡◌, ◌∙◌, sym, ap, inl, inr, Some, None, rules}
 use Rattle.std.proofs.lemmas.Result.{on_ok_weaker}
 use Rattle.scp_driver.specs.Driver.{IsFull}
-use Rattle.scp_nominate.specs.Values.{items}
+use Rattle.scp_nominate.specs.inside.Values.{items}
 use Rattle.scp_nominate.proofs.Turns.{votes_some, votes_none}
 use Rattle.scp_nominate.proofs.leaders.vote_of.Goals as goal
 

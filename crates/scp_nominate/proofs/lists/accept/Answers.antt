@@ -2,7 +2,8 @@ use Rattle.scp_vote.specs.Board.{Accepted}
 use Rattle.scp_nominate.specs.Heard.{heard}
 use Rattle.std.proofs.Common.{◌≡◌, ◌<◌, length, arith, sym, ◌∙◌, subst, Contains, [], get_or}
 use Rattle.scp_vote.specs.declared.claim.Claim.TheVariants.{Nominated}
-use Rattle.scp_nominate.specs.Steps.{Accepts, IsTaken, own_lists}
+use Rattle.scp_nominate.specs.inside.Steps.{Accepts, IsTaken}
+use Rattle.scp_nominate.specs.Steps.{own_lists}
 use Rattle.scp_nominate.specs.InTurn.{InTurn}
 use Rattle.scp_nominate.specs.Taking.{TakesOne}
 use Rattle.scp_nominate.proofs.Turns.{goes_more, goes_all}

@@ -2,7 +2,8 @@ use Rattle.std.proofs.Common.{◌<◌, ℕ, [], get_or, Contains}
 use Rattle.scp_vote.specs.declared.claim.Claim.TheVariants.{Nominated}
 use Rattle.scp_vote.specs.Board.{Accepted}
 use Rattle.scp_nominate.specs.Heard.{heard}
-use Rattle.scp_nominate.specs.Steps.{Accepts, IsTaken, own_lists}
+use Rattle.scp_nominate.specs.inside.Steps.{Accepts, IsTaken}
+use Rattle.scp_nominate.specs.Steps.{own_lists}
 use Rattle.scp_nominate.specs.Taking.{TakesOne}
 use Rattle.scp_nominate.proofs.Turns.{GoesOn}
 use Rattle.scp_nominate.proofs.lists.accept.Given as goal

@@ -2,8 +2,8 @@ use Rattle.std.proofs.Common.{ℕ, List, subst, rules}
 use Rattle.scp_vote.specs.declared.claim.Claim.TheVariants.{Nominated}
 use Rattle.scp_vote.specs.Board.{Accepted}
 use Rattle.scp_nominate.specs.Heard.{heard}
-use Rattle.scp_nominate.specs.Values.{Adds}
-use Rattle.scp_nominate.specs.Steps.{HasRoom}
+use Rattle.scp_nominate.specs.inside.Values.{Adds}
+use Rattle.scp_nominate.specs.inside.Steps.{HasRoom}
 use Rattle.scp_nominate.proofs.Growing.{accepts_one}
 use Rattle.scp_nominate.specs.Values.{Has}
 use Rattle.scp_nominate.proofs.Turns.{takes_new}

@@ -3,7 +3,7 @@ use Rattle.scp_nominate.specs.Heard.{heard}
 use Rattle.std.proofs.Common.{◌≡◌, ◌<◌, length, arith, sym, ◌∙◌, subst, Contains, [], get_or}
 use Rattle.scp_vote.specs.declared.claim.Claim.TheVariants.{Nominated}
 use Rattle.scp_nominate.specs.Values.{Has}
-use Rattle.scp_nominate.specs.Steps.{Confirms}
+use Rattle.scp_nominate.specs.inside.Steps.{Confirms}
 use Rattle.std.proofs.lemmas.List.{get_or_default}
 use Rattle.scp_nominate.proofs.Growing.{confirming, doing, each_value}
 use Rattle.scp_nominate.proofs.lists.confirm.Goals as goal

@@ -3,7 +3,7 @@ use Rattle.scp_vote.specs.declared.claim.Claim.TheVariants.{Nominated}
 use Rattle.scp_vote.specs.Board.{Confirmed}
 use Rattle.scp_nominate.specs.Heard.{heard}
 use Rattle.scp_nominate.specs.Values.{Has}
-use Rattle.scp_nominate.specs.Steps.{Confirms}
+use Rattle.scp_nominate.specs.inside.Steps.{Confirms}
 use Rattle.scp_nominate.proofs.lists.confirm.Given as goal
 
 abbrev pub invariant-loop-value : goal.invariant-loop-value

@@ -2,7 +2,7 @@ use Rattle.std.proofs.Common.{ℕ, List, subst, rules}
 use Rattle.scp_vote.specs.declared.claim.Claim.TheVariants.{Nominated}
 use Rattle.scp_vote.specs.Board.{Confirmed}
 use Rattle.scp_nominate.specs.Heard.{heard}
-use Rattle.scp_nominate.specs.Values.{Adds}
+use Rattle.scp_nominate.specs.inside.Values.{Adds}
 use Rattle.scp_nominate.proofs.Growing.{confirms_one, added_has}
 use Rattle.scp_nominate.proofs.lists.confirm_one.Goals as goal
 

@@ -1,6 +1,6 @@
 use Rattle.std.proofs.Common.{◌<◌, ℕ, List, length, subst, rules}
 use Rattle.std.proofs.lemmas.Result.{on_ok_weaker}
-use Rattle.scp_nominate.specs.Values.{Adds}
+use Rattle.scp_nominate.specs.inside.Values.{Adds}
 use Rattle.scp_nominate.proofs.Growing.{added_only}
 use Rattle.scp_nominate.proofs.Turns.{votes_added}
 use Rattle.scp_nominate.proofs.lists.vote.Goals as goal

@@ -1,6 +1,6 @@
 use Rattle.std.proofs.Common.{List, subst}
 use Rattle.scp_types.specs.declared.names.NodeId.{NodeId}
-use Rattle.scp_nominate.specs.Turns.{IsNodeGap}
+use Rattle.scp_nominate.specs.inside.Turns.{IsNodeGap}
 use Rattle.scp_nominate.proofs.Turning.{inserted}
 use Rattle.scp_nominate.proofs.Inserting.{inserted_ascends}
 use Rattle.scp_nominate.proofs.nodes.add_node.Goals as goal

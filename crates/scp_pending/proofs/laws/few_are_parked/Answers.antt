@@ -1,5 +1,4 @@
 use Rattle.scp_pending.proofs.Passing.{few_are_parked as few'}
-use Rattle.scp_pending.proofs.Following.{told_step}
 use Rattle.scp_pending.proofs.laws.few_are_parked.Goals as goal
 
 pub returns : goal.returns

@@ -1,6 +1,6 @@
 use Rattle.std.proofs.Common.{◌≡◌, ◌++◌, List, length}
 use Rattle.scp_pending.specs.declared.parked.Parked.{Parked}
-use Rattle.scp_pending.specs.Outcome.{Adds}
+use Rattle.scp_pending.specs.inside.Outcome.{Adds}
 use Rattle.scp_pending.proofs.queue.add_each.Given as goal
 
 abbrev pub invariant-loop-p : goal.invariant-loop-p

@@ -7,7 +7,7 @@ use Rattle.std.specs.List.{list_any}
 use Rattle.scp_types.specs.declared.names.Hash.{Hash}
 use Rattle.scp_fetch.specs.Wants.{has_conn, waiting_for}
 use Rattle.scp_pending.specs.Queues.{QueueView}
-use Rattle.scp_pending.specs.Kept.{IsQuiet}
+use Rattle.scp_pending.specs.inside.Kept.{IsQuiet}
 use Rattle.scp_pending.proofs.queue.give_up_all.Goals as goal
 
 pub loop-i-preserved : goal.loop-i-preserved

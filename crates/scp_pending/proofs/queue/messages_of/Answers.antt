@@ -1,7 +1,7 @@
 use Rattle.std.proofs.Common.{arith, ◌≡◌, List, [], ◌∷◌, ◌++◌, sym, ap, ◌∙◌, subst, append_assoc}
 use Rattle.std.proofs.lemmas.List.{append-nil, nil_from_length}
 use Rattle.scp_pending.specs.Queues.{QueueView}
-use Rattle.scp_pending.specs.Outcome.{Adds, parked_in_all}
+use Rattle.scp_pending.specs.inside.Outcome.{Adds, parked_in_all}
 use Rattle.scp_pending.proofs.Messaging.{added_queue}
 use Rattle.scp_pending.proofs.queue.messages_of.Goals as goal
 

@@ -1,5 +1,5 @@
 use Rattle.std.proofs.Common.{◌≡◌, ◌++◌, []}
-use Rattle.scp_pending.specs.Outcome.{Adds, parked_in_all}
+use Rattle.scp_pending.specs.inside.Outcome.{Adds, parked_in_all}
 use Rattle.scp_pending.proofs.queue.messages_of.Given as goal
 
 abbrev pub invariant-loop-queue : goal.invariant-loop-queue

@@ -3,7 +3,7 @@ use Rattle.std.specs.Prelude.{filter}
 use Rattle.std.specs.List.{AllByRecursion}
 use Rattle.scp_fetch.specs.Wants.{has_conn}
 use Rattle.scp_pending.specs.Queues.{is_head_waiting, is_hash}
-use Rattle.scp_pending.specs.Kept.{IsQuiet}
+use Rattle.scp_pending.specs.inside.Kept.{IsQuiet}
 use Rattle.scp_pending.proofs.queue.put_first.Given as goal
 
 abbrev pub invariant-loop-queue : goal.invariant-loop-queue

@@ -1,10 +1,10 @@
-use Rattle.std.proofs.Common.{◌≡◌, ◌++◌, ◌∷◌, [], List, sym, ◌∙◌, ap, subst, false}
+use Rattle.std.proofs.Common.{◌≡◌, List, sym, ◌∙◌, ap, subst, false}
 use Rattle.std.specs.List.{AllByRecursion}
 use Rattle.scp_types.specs.declared.names.ConnId.{ConnId}
 use Rattle.scp_types.specs.declared.names.Hash.{Hash}
 use Rattle.scp_fetch.specs.Wants.{has_conn, waiting_for}
 use Rattle.scp_pending.specs.Queues.{QueueView, in_order_of, is_hash}
-use Rattle.scp_pending.specs.Kept.{IsQuiet}
+use Rattle.scp_pending.specs.inside.Kept.{IsQuiet}
 use Rattle.scp_pending.proofs.Freeing.{order_push}
 use Rattle.scp_pending.proofs.Serving.{all_first}
 use Rattle.scp_pending.proofs.queue.put_in_order.Goals as goal

@@ -3,7 +3,7 @@ use Rattle.std.specs.List.{AllByRecursion}
 use Rattle.scp_types.specs.declared.names.Hash.{Hash}
 use Rattle.scp_fetch.specs.Wants.{has_conn, waiting_for}
 use Rattle.scp_pending.specs.Queues.{in_order_of, is_hash}
-use Rattle.scp_pending.specs.Kept.{IsQuiet}
+use Rattle.scp_pending.specs.inside.Kept.{IsQuiet}
 use Rattle.scp_pending.proofs.queue.put_in_order.Given as goal
 
 abbrev pub invariant-loop-hash : goal.invariant-loop-hash

@@ -1,6 +1,6 @@
 use Rattle.std.proofs.Common.{arith}
 use Rattle.scp_pending.specs.Queues.{resolved_in, is_hash}
-use Rattle.scp_pending.specs.Outcome.{outcome_of}
+use Rattle.scp_pending.specs.inside.Outcome.{outcome_of}
 use Rattle.scp_pending.proofs.Keeping.{went_on, went_stays, went_leaves}
 use Rattle.scp_pending.proofs.queue.resolve_all.Goals as goal
 

@@ -1,5 +1,5 @@
 use Rattle.scp_pending.specs.Queues.{resolved_in, is_hash}
-use Rattle.scp_pending.specs.Outcome.{outcome_of}
+use Rattle.scp_pending.specs.inside.Outcome.{outcome_of}
 use Rattle.scp_pending.proofs.Keeping.{Went}
 use Rattle.scp_pending.proofs.queue.resolve_all.Given as goal
 

@@ -1,9 +1,8 @@
-use Rattle.std.proofs.Common.{◌≡◌, [], sym, ◌∙◌, ap, false}
+use Rattle.std.proofs.Common.{◌≡◌, sym, ◌∙◌, ap, false}
 use Rattle.scp_types.specs.declared.names.ConnId.{ConnId}
 use Rattle.scp_fetch.specs.Wants.{has_conn}
 use Rattle.scp_pending.specs.Queues.{is_hash}
-use Rattle.scp_pending.specs.Outcome.{outcome_of}
-use Rattle.scp_pending.specs.Kept.{IsQuiet}
+use Rattle.scp_pending.specs.inside.Outcome.{outcome_of}
 use Rattle.std.specs.Prelude.{◌++◌}
 use Rattle.scp_pending.proofs.Basics.{append_nil}
 use Rattle.scp_pending.proofs.Keeping.{quiet_stays, quiet_leaves}

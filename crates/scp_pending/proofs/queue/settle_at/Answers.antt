@@ -1,7 +1,7 @@
-use Rattle.std.proofs.Common.{◌≡◌, length, refl, sym, ◌∙◌, ap, set, get_or}
+use Rattle.std.proofs.Common.{◌≡◌, length, refl, ◌∙◌, ap, set, get_or}
 use Rattle.std.proofs.lemmas.List.{get_or_read_under}
 use Rattle.scp_pending.specs.Queues.{resolved_one, is_hash}
-use Rattle.scp_pending.specs.Outcome.{outcome_of}
+use Rattle.scp_pending.specs.inside.Outcome.{outcome_of}
 use Rattle.scp_pending.specs.declared.parked.Parked.{Parked}
 use Rattle.scp_pending.proofs.Settling.{set_twice}
 use Rattle.scp_pending.proofs.queue.settle_at.Goals as goal

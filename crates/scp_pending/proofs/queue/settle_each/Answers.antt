@@ -1,7 +1,7 @@
-use Rattle.std.proofs.Common.{◌≡◌, ◌<◌, length, sym, ◌∙◌, ap, set, arith}
+use Rattle.std.proofs.Common.{◌<◌, length, sym, ◌∙◌, ap, set, arith}
 use Rattle.std.proofs.lemmas.List.Edits.{map_over_more}
 use Rattle.scp_pending.specs.Queues.{resolved_one, is_hash}
-use Rattle.scp_pending.specs.Outcome.{outcome_of}
+use Rattle.scp_pending.specs.inside.Outcome.{outcome_of}
 use Rattle.scp_pending.specs.declared.parked.Parked.{Parked}
 use Rattle.scp_pending.proofs.Settling.{kept_more, other_stays}
 use Rattle.scp_pending.proofs.queue.settle_each.Goals as goal

@@ -4,8 +4,9 @@ use Rattle.std.specs.BTreeSet.{btree_set_len}
 use Rattle.scp_types.specs.declared.names.NodeId.{NodeId}
 use Rattle.scp_quorum.specs.NodeSet.{is_in}
 use Rattle.scp_quorum.specs.QuorumTree.{QuorumTree}
-use Rattle.scp_quorum.specs.Quorum.{IsWithin, KeepsQuorums}
-use Rattle.scp_quorum.specs.Groups.{HasOneSet}
+use Rattle.scp_quorum.specs.Quorum.{IsWithin}
+use Rattle.scp_quorum.specs.inside.Quorum.{KeepsQuorums}
+use Rattle.scp_quorum.specs.inside.Groups.{HasOneSet}
 use Rattle.scp_quorum.proofs.quorum.follow_counts.Given as goal
 
 abbrev pub invariant-loop : goal.invariant-loop

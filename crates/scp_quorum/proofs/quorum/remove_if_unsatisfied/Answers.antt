@@ -5,7 +5,7 @@ use Rattle.scp_types.specs.declared.names.NodeId.{NodeId}
 use Rattle.scp_quorum.specs.NodeSet.{is_in}
 use Rattle.scp_quorum.specs.QuorumTree.{QuorumTree}
 use Rattle.scp_quorum.specs.Satisfies.{Satisfies}
-use Rattle.scp_quorum.specs.Groups.{IsSettled}
+use Rattle.scp_quorum.specs.inside.Groups.{IsSettled}
 use Rattle.scp_quorum.proofs.Groups.{removal_keeps, absent_is_settled}
 use Rattle.scp_quorum.proofs.quorum.remove_if_unsatisfied.Goals as goal
 

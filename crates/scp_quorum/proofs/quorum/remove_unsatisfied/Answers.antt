@@ -4,7 +4,7 @@ use Rattle.std.proofs.lemmas.Bool.{OnTrue_at, OnTrue_from, OnFalse_at, OnFalse_f
 use Rattle.std.proofs.lemmas.Grind.{common_steps}
 use Rattle.scp_quorum.specs.declared.quorum.groups.Group.{Group}
 use Rattle.scp_quorum.specs.NodeSet.{is_in}
-use Rattle.scp_quorum.specs.Groups.{IsSettled}
+use Rattle.scp_quorum.specs.inside.Groups.{IsSettled}
 use Rattle.scp_quorum.proofs.Groups.{IsGroupPass, group_pass_none, group_removed, group_stays}
 use Rattle.scp_quorum.proofs.quorum.remove_unsatisfied.Goals as goal
 use Rattle.scp_quorum.proofs.quorum.remove_unsatisfied.Goals.{then-remove_if_unsatisfied, else-remove_if_unsatisfied}

@@ -3,8 +3,9 @@ use Rattle.std.specs.List.{All}
 use Rattle.std.proofs.lemmas.Bool.{OnFalse_at}
 use Rattle.scp_quorum.specs.declared.quorum.groups.Group.{Group}
 use Rattle.scp_quorum.specs.NodeSet.{is_in}
-use Rattle.scp_quorum.specs.Quorum.{set_of, AllHaveSets}
-use Rattle.scp_quorum.specs.Groups.{HasOneSet, IsSettled}
+use Rattle.scp_quorum.specs.Quorum.{set_of}
+use Rattle.scp_quorum.specs.inside.Quorum.{AllHaveSets}
+use Rattle.scp_quorum.specs.inside.Groups.{HasOneSet, IsSettled}
 use Rattle.scp_quorum.proofs.Groups.{all_settled}
 use Rattle.scp_quorum.proofs.quorum.settle.Goals as goal
 

@@ -1,6 +1,7 @@
 use Rattle.std.specs.BTreeSet.{btree_set_len}
 use Rattle.scp_quorum.specs.NodeSet.{is_in}
-use Rattle.scp_quorum.specs.Quorum.{set_of, AllHaveSets, KeepsQuorums}
+use Rattle.scp_quorum.specs.Quorum.{set_of}
+use Rattle.scp_quorum.specs.inside.Quorum.{AllHaveSets, KeepsQuorums}
 use Rattle.scp_quorum.proofs.quorum.settle.Given as goal
 
 abbrev pub invariant-loop-alloc : goal.invariant-loop-alloc

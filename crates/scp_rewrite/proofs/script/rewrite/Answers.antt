@@ -1,7 +1,8 @@
 use Rattle.std.proofs.Common.{◌≡◌, ◌∙◌, ◌++◌, ◌∷◌, [], ap, sym, subst, map, take, drop, length, get_or, ℕ, ◌+◌, ◌<◌, List, Bor, arith}
 use Rattle.std.specs.Prelude.{if◌then◌else◌}
 use Rattle.std.proofs.lemmas.List.{length-map}
-use Rattle.scp_rewrite.specs.Scripts.{lines_of, IsLineOf, IsPlaced}
+use Rattle.scp_rewrite.specs.Scripts.{lines_of, IsLineOf}
+use Rattle.scp_rewrite.specs.inside.Scripts.{IsPlaced}
 use Rattle.scp_rewrite.proofs.Words.{text_at, next_text}
 use Rattle.scp_rewrite.proofs.Writing.{HasWritten, more_written, refused_there}
 use Rattle.scp_rewrite.proofs.script.rewrite.Goals as goal

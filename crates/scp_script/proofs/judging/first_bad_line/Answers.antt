@@ -5,7 +5,7 @@ use Rattle.std.proofs.lemmas.Iterator.Consumers.{YieldsList-at, YieldsList-turn,
 use Rattle.scp_script.specs.Words.{lines_of}
 use Rattle.scp_script.specs.Script.{commands_of}
 use Rattle.scp_script.specs.declared.judging.Place.{Place}
-use Rattle.scp_script.specs.Judging.{IsPlace}
+use Rattle.scp_script.specs.inside.Judging.{IsPlace}
 use Rattle.scp_script.proofs.Judged.{one_more_line, first_bad, has_set_line, all_good, script_has_no_bad_line}
 use Rattle.scp_script.proofs.judging.first_bad_line.Goals as goal
 

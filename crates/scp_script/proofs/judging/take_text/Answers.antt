@@ -1,6 +1,6 @@
 use Rattle.std.proofs.Common.{◌∙◌, ◌==◌, ap, subst, is_some, map, List, ℕ, Bor}
 use Rattle.std.specs.List.{slice_split}
-use Rattle.scp_script.specs.Judging.{IsPlaceOfWords}
+use Rattle.scp_script.specs.inside.Judging.{IsPlaceOfWords}
 use Rattle.scp_script.proofs.Judged.{many_words}
 use Rattle.scp_script.proofs.judging.take_text.Goals as goal
 

@@ -1,7 +1,7 @@
 use Rattle.std.proofs.Common.{◌≡◌, None, sym, map, ap, option_map, length, List, ℕ, Bor, inl, inr, arith, nat_lt, true, false, ◌<◌, ◌≤◌}
 use Rattle.std.proofs.lemmas.Bool.Decides.{nat_tests}
 use Rattle.std.proofs.lemmas.List.{length-map}
-use Rattle.scp_script.specs.Bare.{bare}
+use Rattle.scp_script.specs.inside.Bare.{bare}
 use Rattle.scp_script.specs.Script.{command_in}
 use Rattle.scp_script.proofs.Lines.{command_in_other}
 use Rattle.scp_script.proofs.line.bare_command.Goals.{in_default-via-then-words-lt1, in_default-via-else-words-lt1+else-words-lt2+else-words-lt3+else-words-lt4+else-words-lt5+else-words-lt6}

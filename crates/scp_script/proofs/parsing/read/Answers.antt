@@ -3,7 +3,8 @@ use Rattle.std.proofs.lemmas.List.{length-map}
 use Rattle.scp_script.specs.declared.command.Command.{Command}
 use Rattle.scp_script.specs.Words.{lines_of, words_of}
 use Rattle.scp_script.specs.Script.{commands_of, AreLines}
-use Rattle.scp_script.specs.Reading.{HasRead, TakesWords, Stands}
+use Rattle.scp_script.specs.inside.Reading.{HasRead}
+use Rattle.scp_script.specs.Reading.{TakesWords, Stands}
 use Rattle.scp_script.proofs.Lines.{next_line, reads-more, lines-more, last_stands}
 use Rattle.scp_script.proofs.parsing.read.Goals as goal
 

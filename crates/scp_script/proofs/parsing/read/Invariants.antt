@@ -1,7 +1,7 @@
 use Rattle.std.proofs.Common.{take}
 use Rattle.scp_script.specs.Words.{lines_of}
 use Rattle.scp_script.specs.Script.{AreLines}
-use Rattle.scp_script.specs.Reading.{HasRead}
+use Rattle.scp_script.specs.inside.Reading.{HasRead}
 use Rattle.scp_script.proofs.parsing.read.Given as goal
 
 -- the lines so far are a script's, and were taken in

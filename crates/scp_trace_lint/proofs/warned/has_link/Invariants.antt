@@ -1,5 +1,5 @@
 use Rattle.std.proofs.Common.{◌≡◌, drop}
-use Rattle.scp_trace_lint.specs.Sent.{has_sent}
+use Rattle.scp_trace_lint.specs.inside.Sent.{has_sent}
 use Rattle.scp_trace_lint.proofs.warned.has_link.Given as goal
 
 -- what is left tells it

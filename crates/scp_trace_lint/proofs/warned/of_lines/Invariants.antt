@@ -1,5 +1,5 @@
 use Rattle.std.proofs.Common.{◌≡◌, ◌≤◌, ◌++◌, [], length, take, drop}
-use Rattle.scp_trace_lint.specs.Behind.{KnowsBefore}
+use Rattle.scp_trace_lint.specs.inside.Behind.{KnowsBefore}
 use Rattle.scp_trace_lint.specs.Warnings.{line_warnings}
 use Rattle.scp_trace_lint.proofs.warned.of_lines.Given as goal
 

@@ -1,7 +1,7 @@
 use Rattle.std.proofs.Common.{List, ℕ, subst}
 use Rattle.scp_vote.specs.declared.claim.Claim.TheVariants.{Committed}
 use Rattle.scp_trace_needs.specs.declared.steps.Step.TheVariants.{ConfirmCommit}
-use Rattle.scp_trace_needs.specs.Found.{IsNeedOf}
+use Rattle.scp_trace_needs.specs.inside.Found.{IsNeedOf}
 use Rattle.scp_trace_needs.proofs.DueBallots.{confirm_needs}
 use Rattle.scp_trace_needs.proofs.balloted.confirming.Goals as goal
 

@@ -1,7 +1,7 @@
 use Rattle.std.proofs.Common.{take, ℕ, List}
 use Rattle.std.specs.BTreeMap as tree
 use Rattle.scp_envelope.specs.Ballots.{value_cmp}
-use Rattle.scp_trace_needs.specs.Found.{IsGreatest}
+use Rattle.scp_trace_needs.specs.inside.Found.{IsGreatest}
 use Rattle.scp_trace_needs.proofs.Counters.{At}
 use Rattle.scp_trace_needs.proofs.balloted.greatest.Given as goal
 

@@ -7,7 +7,7 @@ use Rattle.scp_vote.specs.declared.claim.StatementKind.TheVariants.{Balloting}
 use Rattle.scp_vote.specs.Seen.{seen}
 use Rattle.scp_trace_needs.specs.declared.steps.Step.TheVariants.{AcceptPrepared, ConfirmPrepared, AcceptCommit}
 use Rattle.scp_trace_needs.specs.Needs.{IsBallotDue}
-use Rattle.scp_trace_needs.specs.Found.{IsNeedOf, IsNext, IsNeedFor}
+use Rattle.scp_trace_needs.specs.inside.Found.{IsNeedOf, IsNext, IsNeedFor}
 use Rattle.scp_trace_needs.proofs.DueBallots.{prepared_next, prepared_done, bounded_for, unbounded_for}
 use Rattle.scp_trace_needs.proofs.balloted.of_value.Goals as goal
 

@@ -7,7 +7,7 @@ use Rattle.scp_ballot_rules.specs.Greatest.{ballot_at}
 use Rattle.scp_ballot_rules.specs.Owed.{IsCandidate}
 use Rattle.scp_vote.specs.declared.claim.StatementKind.TheVariants.{Balloting}
 use Rattle.scp_vote.specs.Seen.{seen}
-use Rattle.scp_trace_needs.specs.Found.{IsGreatest}
+use Rattle.scp_trace_needs.specs.inside.Found.{IsGreatest}
 use Rattle.scp_trace_needs.proofs.Counters.{Counters, greatest_as}
 use Rattle.scp_trace_needs.proofs.balloted.top_ballots.Goals as goal
 

@@ -1,6 +1,6 @@
 use Rattle.std.proofs.Common.{take, Contains, IsSome}
 use Rattle.scp_kv.specs.Op.{ops_in}
-use Rattle.scp_trace_needs.specs.Found.{Adds}
+use Rattle.scp_trace_needs.specs.inside.Found.{Adds}
 use Rattle.scp_trace_needs.proofs.nominated.add_values.Given as goal
 
 -- those so far

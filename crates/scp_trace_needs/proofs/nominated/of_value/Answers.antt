@@ -5,7 +5,7 @@ use Rattle.scp_vote.specs.declared.claim.StatementKind.TheVariants.{Nomination}
 use Rattle.scp_vote.specs.Seen.{seen}
 use Rattle.scp_trace_needs.specs.declared.steps.Step.TheVariants.{AcceptNominated, ConfirmNominated}
 use Rattle.scp_trace_needs.specs.Needs.{IsNominationDue}
-use Rattle.scp_trace_needs.specs.Found.{IsNext, IsNeedFor}
+use Rattle.scp_trace_needs.specs.inside.Found.{IsNext, IsNeedFor}
 use Rattle.scp_trace_needs.proofs.Due.{nominated_for}
 use Rattle.scp_trace_needs.proofs.nominated.of_value.Goals as goal
 

@@ -1,34 +1,29 @@
-use Rattle.std.proofs.Common.{◌≡◌, [], Some, refl, sym, ◌∙◌, ap, subst}
-use Rattle.std.specs.Option.{option_map}
-use Rattle.std.specs.BTreeMap as node_map
-use Rattle.std.specs.Map.Iter.{deref_pair}
-use Rattle.std.proofs.lemmas.Map.Views.{All-turn}
-use Rattle.scp_quorum.specs.NodeSet.{node_cmp}
-use Rattle.scp_vote.specs.declared.statements.Entry.{Entry}
+use Rattle.std.proofs.Common.{◌≡◌, [], List, refl, sym, subst, arith}
+use Rattle.scp_types.specs.declared.names.NodeId.{NodeId}
+use Rattle.scp_vote.specs.Board.{Has}
 use Rattle.scp_vote.specs.Claims.{Stands}
 use Rattle.scp_vote.specs.Seen.{seen}
-use Rattle.scp_trace_needs.proofs.Visiting.{Entries, AreVisited, visited_more}
+use Rattle.scp_trace_needs.specs.Needs.{AreMembers}
+use Rattle.scp_trace_needs.proofs.Members.{members_none, members_at, members_all, all_standing}
 use Rattle.scp_trace_needs.proofs.standing.standing_in.Goals as goal
+
+pub loop-node-init : goal.loop-node-init
+loop-node-init c =
+    let P = Has (seen c.args.kind c.args.board.now) (Stands c.args.support c.args.claim.now) in
+    subst (λ (nodes : List NodeId). AreMembers P [] nodes) (sym c.new-nodes.ensures.items) (members_none P)
 
 pub loop-node-preserved : goal.loop-node-preserved
 loop-node-preserved c =
-    let claim = c.args.claim.now in
-    let b = seen c.args.kind c.args.board.now in
-    let item : node_map.get node_cmp c.statements-node-items.result.now c.in-Some.node.now ≡ Some c.in-Some.entry.now =
-    All-turn deref_pair (λ e. node_map.get node_cmp c.statements-node-items.result.now e.0 ≡ Some e.1) _ _ _ _ _ _ _ c.into_iter-node-iterator.ensures.into_iter_gives.6 c.into_iter-node-iterator.ensures.into_iter_gives.0 c.loop-node.yielded_by c.in-Some.is c.next.ensures.steps
-    in
-    let before : Entries → Type 0 = λ rest. AreVisited b (Stands c.args.support claim) c.loop-node.nodes.items rest in
-    visited_more b (Stands c.args.support claim) c.loop-node.nodes.items c.add_if.new.nodes.items c.in-Some.node.now c.in-Some.entry.now c.in-Some.entry.now.envelope.statement.pledges c.stands-is_one.result _
-    (sym (c.statements-node-items.ensures.pledges c.in-Some.node.now) ∙ ap (option_map (λ (e : Entry). e.envelope.statement.pledges)) item)
-    (rw c.get.ensures at c.stands-is_one.ensures)
+    members_at (Has (seen c.args.kind c.args.board.now) (Stands c.args.support c.args.claim.now)) c.as_slice-node-items.result.now c.loop-node.nodes.items c.add_if.new.nodes.items c.loop-node.node-index _ _ c.is_standing.result (omega arith) refl
+    c.is_standing.ensures
     c.in_ok-add_if.ensures
-    (subst before c.in-Some.ensures.steps c.loop-node.invariant)
+    c.loop-node.invariant
 
 pub returns : goal.returns
-returns c = λ v.
-    let claim = c.args.claim.now in
-    let b = seen c.args.kind c.args.board.now in
-    let g : AreVisited b (Stands c.args.support claim) c.loop-node.nodes.items [] =
-    subst (λ (rest : Entries). AreVisited b (Stands c.args.support claim) c.loop-node.nodes.items rest) c.in-None.ensures.steps.0 c.loop-node.invariant
+returns c =
+    let P = Has (seen c.args.kind c.args.board.now) (Stands c.args.support c.args.claim.now) in
+    let speakers = c.in_ok-speakers.speakers.items in
+    let all : AreMembers P speakers c.loop-node.nodes.items =
+    subst (λ (nodes : List NodeId). AreMembers P nodes c.loop-node.nodes.items) c.as_slice-node-items.ensures.value (members_all P c.as_slice-node-items.result.now c.loop-node.nodes.items c.loop-node.node-index c.loop-node-test.false c.loop-node.invariant)
     in
-    (λ h. g.sound v h, λ h. g.complete v refl h)
+    all_standing (seen c.args.kind c.args.board.now) c.args.support c.args.claim.now speakers c.loop-node.nodes.items c.in_ok-speakers.ensures.these c.in_ok-speakers.ensures.ascending all

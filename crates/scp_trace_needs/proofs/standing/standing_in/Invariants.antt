@@ -1,8 +1,10 @@
+use Rattle.std.proofs.Common.{take}
+use Rattle.scp_vote.specs.Board.{Has}
 use Rattle.scp_vote.specs.Claims.{Stands}
 use Rattle.scp_vote.specs.Seen.{seen}
-use Rattle.scp_trace_needs.proofs.Visiting.{AreVisited}
+use Rattle.scp_trace_needs.specs.Needs.{AreMembers}
 use Rattle.scp_trace_needs.proofs.standing.standing_in.Given as goal
 
--- of the nodes so far
+-- of those that spoke, so far
 abbrev pub invariant-loop-node : goal.invariant-loop-node
-invariant-loop-node l = AreVisited (seen l.fn.kind l.board) (Stands l.support l.claim) l.nodes.items l.node-iterator
+invariant-loop-node l = AreMembers (Has (seen l.fn.kind l.board) (Stands l.support l.claim)) (take l.node-index l.node-items) l.nodes.items

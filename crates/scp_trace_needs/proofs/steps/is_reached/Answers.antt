@@ -1,7 +1,7 @@
 use Rattle.std.proofs.Common.{◌∙◌, ◌↔◌, Bool, IfOk, IsTrue, sym, subst}
 use Rattle.scp_vote.specs.Board.{kind_of}
 use Rattle.scp_vote.specs.Seen.{seen}
-use Rattle.scp_trace_needs.specs.Found.{IsReached}
+use Rattle.scp_trace_needs.specs.inside.Found.{IsReached}
 use Rattle.scp_trace_needs.proofs.steps.is_reached.Goals as goal
 
 pub returns-then-confirms-clause-exact : goal.returns-then-confirms-clause-exact

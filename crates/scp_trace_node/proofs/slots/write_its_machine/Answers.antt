@@ -2,7 +2,7 @@ use Rattle.std.proofs.Common.{◌∙◌, ap, Option, string_bytes, subst}
 use Rattle.scp_driver.specs.declared.kv_driver.KvDriver.{KvDriver}
 use Rattle.scp_slot.specs.declared.machine.SlotMachine.{SlotMachine}
 use Rattle.scp_ledger.specs.Seen.{machine_at}
-use Rattle.scp_core.specs.Stages.{KvLedger}
+use Rattle.scp_ledger.specs.Kv.{KvLedger}
 use Rattle.scp_trace_slot.specs.Adding.{Adds}
 use Rattle.scp_trace_node.specs.Slots.{IsToldOf}
 use Rattle.scp_trace_node.proofs.slots.write_its_machine.Goals as goal

@@ -3,7 +3,7 @@ use Rattle.std.specs.Prelude.{is_some}
 use Rattle.scp_nominate.specs.Nomination.{Nomination, nomination}
 use Rattle.scp_slot.specs.Slot.{slot_view}
 use Rattle.scp_trace_slot.specs.Machine.{said_lines, needs_lines, machine_lines}
-use Rattle.scp_trace_slot.specs.Inside.{facts_of}
+use Rattle.scp_trace_slot.specs.inside.Facts.{facts_of}
 use Rattle.scp_trace_slot.proofs.Ways.{then_ok, joined}
 use Rattle.scp_trace_slot.proofs.machine.write_machine.Goals as goal
 

@@ -9,6 +9,5 @@ use Rattle.scp_trace_slot.proofs.statements.write_externalizing.Goals as goal
 
 pub returns-clause-added : goal.returns-clause-added
 returns-clause-added c =
-    let s = c.args.statement.now in
     let p = c.args.p.now in
-    after_words c.write_externalize.result (string_bytes c.args.out.now) (string_bytes c.write_front.new.out) (string_bytes c.write_externalize.new.out) (codes "externalize") (node_text s.node ∷ decimal s.slot.0 ∷ name_of c.args.names.now p.set_hash ∷ []) (externalize_words p) c.in_ok-write_front.ensures.added c.write_externalize.ensures.added
+    after_words c.write_externalize.result (string_bytes c.args.out.now) (string_bytes c.write_front.new.out) (string_bytes c.write_externalize.new.out) (codes "externalize") (node_text c.args.node ∷ decimal c.args.slot ∷ name_of c.args.names.now p.set_hash ∷ []) (externalize_words p) c.in_ok-write_front.ensures.added c.write_externalize.ensures.added

@@ -9,6 +9,5 @@ use Rattle.scp_trace_slot.proofs.statements.write_nominating.Goals as goal
 
 pub returns-clause-added : goal.returns-clause-added
 returns-clause-added c =
-    let s = c.args.statement.now in
     let p = c.args.p.now in
-    after_words c.write_nominate.result (string_bytes c.args.out.now) (string_bytes c.write_front.new.out) (string_bytes c.write_nominate.new.out) (codes "nominate") (node_text s.node ∷ decimal s.slot.0 ∷ name_of c.args.names.now p.set_hash ∷ []) (nominate_words p) c.in_ok-write_front.ensures.added c.write_nominate.ensures.added
+    after_words c.write_nominate.result (string_bytes c.args.out.now) (string_bytes c.write_front.new.out) (string_bytes c.write_nominate.new.out) (codes "nominate") (node_text c.args.node ∷ decimal c.args.slot ∷ name_of c.args.names.now p.set_hash ∷ []) (nominate_words p) c.in_ok-write_front.ensures.added c.write_nominate.ensures.added

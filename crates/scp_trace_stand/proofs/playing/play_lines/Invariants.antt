@@ -1,12 +1,10 @@
-use Rattle.std.proofs.Common.{◌≡◌, [], take, string_bytes}
-use Rattle.scp_line.specs.Nodes.{HasPlayed}
-use Rattle.scp_trace_stand.specs.Told.{AreTold}
+use Rattle.std.proofs.Common.{◌≡◌, take, string_bytes}
+use Rattle.scp_trace_stand.proofs.Pieces.{StandsSo}
 use Rattle.scp_trace_stand.proofs.playing.play_lines.Given as goal
 
 -- the lines so far were played and told
 abbrev pub invariant-loop-command : goal.invariant-loop-command
 invariant-loop-command l = record {
   at : l.index ≡ l.command-index;
-  so_far : HasPlayed l.whole.commands.now (take l.index l.whole.commands.now) l.network;
-  told : AreTold l.whole.names.now l.whole.commands.now [] l.lines (take l.index l.whole.commands.now) (string_bytes l.out);
+  so : StandsSo l.whole.names.now l.whole.commands.now l.lines (take l.index l.whole.commands.now) (string_bytes l.out) l.network;
 }

@@ -1,5 +1,5 @@
 use Rattle.scp_workers.specs.Working.{IsSameEnd}
-use Rattle.scp_workers.specs.Pending.{GivesOn}
+use Rattle.scp_workers.specs.inside.Pending.{GivesOn}
 use Rattle.scp_workers.proofs.pend.give_all.Given as goal
 
 abbrev pub invariant-loop : goal.invariant-loop

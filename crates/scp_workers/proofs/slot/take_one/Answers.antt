@@ -1,7 +1,7 @@
 use Rattle.std.proofs.Common.{◌++◌, [], ◌∷◌, sym, subst}
 use Rattle.std.specs.Prelude.{List}
 use Rattle.scp_ledger.specs.declared.took.Onward.{Onward}
-use Rattle.scp_workers.specs.Slot.{KvJournals}
+use Rattle.scp_ledger.specs.Kv.{KvJournals}
 use Rattle.scp_workers.proofs.slot.take_one.Goals as goal
 
 pub send_any-requires : goal.send_any-requires

@@ -1,7 +1,7 @@
 use Rattle.std.proofs.Common.{◌≡◌, false, rules, subst}
 use Rattle.scp_ballot.specs.View.{BalloterView}
 use Rattle.scp_ballot.specs.Balloting.{ballots, Advances, TakesValue, MakesFirst, KeepsOthers}
-use Rattle.scp_ballot.specs.Inside.{ballots_of}
+use Rattle.scp_ballot.specs.inside.Balloter.{ballots_of}
 use Rattle.scp_ballot.proofs.Advancing.{advances, gives_rests}
 use Rattle.scp_ballot.proofs.Calling.{others_kept, composite_ballot, composite_phase, composite_rises}
 use Rattle.scp_ballot.proofs.Composing.{composite_enters, composite_taken, composite_first}

@@ -1,7 +1,7 @@
 use Rattle.std.proofs.Common.{◌≡◌, false, rules, sym, subst}
 use Rattle.scp_ballot.specs.View.{BalloterView}
 use Rattle.scp_ballot.specs.Balloting.{ballots, Advances, HasBallot, HearsOnly}
-use Rattle.scp_ballot.specs.Inside.{ballots_of}
+use Rattle.scp_ballot.specs.inside.Balloter.{ballots_of}
 use Rattle.scp_ballot.proofs.Calling.{take_ballot}
 use Rattle.scp_ballot.proofs.Composing.{take_composite}
 use Rattle.scp_ballot.proofs.Taking.{take_advances, take_rests, take_hears}

@@ -1,7 +1,7 @@
 use Rattle.std.proofs.Common.{◌≡◌, false, rules, sym, subst}
 use Rattle.scp_ballot.specs.View.{BalloterView}
 use Rattle.scp_ballot.specs.Balloting.{ballots, Advances, HasBallot, KeepsOthers, RaisesCounter}
-use Rattle.scp_ballot.specs.Inside.{ballots_of}
+use Rattle.scp_ballot.specs.inside.Balloter.{ballots_of}
 use Rattle.scp_ballot.proofs.Advancing.{advances, gives_rests}
 use Rattle.scp_ballot.proofs.Calling.{others_kept, timer_ballot, timer_raises, timer_phase, timer_rises}
 use Rattle.scp_ballot.proofs.Composing.{timer_enters, timer_composite}

@@ -2,8 +2,8 @@ use Rattle.std.proofs.Common.{◌≡◌, ◌<◌, sym, subst, rules}
 use Rattle.scp_ballot_rules.proofs.Owing.{owes_nothing}
 use Rattle.scp_ballot.specs.declared.machine.Machine.{Machine}
 use Rattle.scp_ballot_steps.specs.Told.{ballots_on}
-use Rattle.scp_ballot.specs.Machine.{IsSettled}
-use Rattle.scp_ballot.specs.Exactly.{GoesTo}
+use Rattle.scp_ballot.specs.inside.Machine.{IsSettled}
+use Rattle.scp_ballot.specs.inside.Exactly.{GoesTo}
 use Rattle.scp_ballot.proofs.Settling.{settled_start, settled_first, settled_renews}
 use Rattle.scp_ballot.proofs.Comings.{goes_none, goes_some, goes_more, comes_at_rest, comes_at_limit}
 use Rattle.scp_ballot.proofs.machine.Machine.settle.Goals.{in-Some+in_ok-renew-in-Some, in-None}

@@ -1,5 +1,5 @@
-use Rattle.scp_ballot.specs.Machine.{IsSettled}
-use Rattle.scp_ballot.specs.Exactly.{GoesTo}
+use Rattle.scp_ballot.specs.inside.Machine.{IsSettled}
+use Rattle.scp_ballot.specs.inside.Exactly.{GoesTo}
 use Rattle.scp_ballot.proofs.machine.Machine.settle.Given as goal
 
 abbrev pub invariant-loop : goal.invariant-loop

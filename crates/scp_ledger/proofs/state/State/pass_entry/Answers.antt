@@ -1,5 +1,5 @@
 use Rattle.std.proofs.Common.{◌≡◌, ◌++◌, ◌∷◌, []}
-use Rattle.scp_ledger.specs.Inside.{IsSound}
+use Rattle.scp_ledger.specs.inside.State.{IsSound}
 use Rattle.scp_ledger.proofs.Stated.{on_ok, sound_passed}
 use Rattle.scp_ledger.proofs.state.State.pass_entry.Goals as goal
 
@@ -8,4 +8,4 @@ returns-clause-sound g c =
     let old = c.args.self.now in
     let new = c.pass.new.self in
     on_ok c.pass.result (new.journal.items ≡ old.journal.items ++ c.args.fate ∷ []) (IsSound g.D.Driver.level g.D.Driver.place new)
-    (λ journal. sound_passed g.D.Driver.level g.D.Driver.combined g.D.Driver.place old new c.args.fate c.requires.sound c.requires.quiet c.requires.room journal c.pass.ensures.decisions c.pass.ensures.rest c.pass.ensures.window) c.pass.ensures.journal
+    (λ journal. sound_passed g.D.Driver.level g.D.Driver.extracted g.D.Driver.combined g.D.Driver.place old new c.args.fate c.requires.sound c.requires.quiet c.requires.room journal c.pass.ensures.decisions c.pass.ensures.rest c.pass.ensures.window) c.pass.ensures.journal

@@ -4,7 +4,7 @@ use Rattle.std.specs.Option.{option_copied_mut}
 use Rattle.std.specs.BTreeMap as tree
 use Rattle.std.specs.Ordering.{nat_cmp}
 use Rattle.scp_ledger.specs.Seen.{machine_at}
-use Rattle.scp_ledger.specs.Inside.{IsTakenOut}
+use Rattle.scp_ledger.specs.inside.State.{IsTakenOut}
 use Rattle.scp_ledger.specs.declared.state.State.{State}
 use Rattle.scp_ledger.proofs.Outcomes.{run_and_gone}
 use Rattle.scp_ledger.proofs.state.State.run.Goals as goal
@@ -25,6 +25,9 @@ returns-clause-ran g c =
       after = n;
       takes = c.in_ok-out-in-Some.ensures.takes;
       decides = c.in_ok-out-in-Some.ensures.decides;
+      ascending = c.in_ok-out-in-Some.ensures.ascending;
+      nominates = c.in_ok-out-in-Some.ensures.nominates;
+      votes = c.in_ok-out-in-Some.ensures.votes;
       running = c.in_ok-out-in-Some.ensures.running;
       sound = c.enter.ensures.sound;
       its_driver = c.in_ok-out-in-Some.ensures.driver;

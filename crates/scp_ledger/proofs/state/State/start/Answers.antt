@@ -4,7 +4,7 @@ use Rattle.std.specs.BTreeMap as tree
 use Rattle.std.specs.Ordering.{nat_cmp}
 use Rattle.scp_slot.specs.Takes.{IsOfSlot}
 use Rattle.scp_ledger.specs.Seen.{machine_at}
-use Rattle.scp_ledger.specs.Inside.{IsTakenOut}
+use Rattle.scp_ledger.specs.inside.State.{IsTakenOut}
 use Rattle.scp_ledger.proofs.Outcomes.{made_and_kept}
 use Rattle.scp_ledger.proofs.Ran.{at_is}
 use Rattle.scp_ledger.proofs.state.State.start.Goals as goal
@@ -25,6 +25,9 @@ returns-clause-ran g c =
       after = c.enter.new.machine;
       takes = c.in_ok-out.ensures.takes;
       decides = c.in_ok-out.ensures.decides;
+      ascending = c.in_ok-out.ensures.ascending;
+      nominates = c.in_ok-out.ensures.nominates;
+      votes = c.in_ok-out.ensures.votes;
       running = c.in_ok-out.ensures.running;
       sound = c.enter.ensures.sound;
       its_driver = c.in_ok-out.ensures.driver;

@@ -4,7 +4,7 @@ use Rattle.scp_types.specs.declared.names.NodeId.{NodeId}
 use Rattle.scp_wire.specs.declared.message.Message.TheVariants.{Record}
 use Rattle.scp_ledger.specs.declared.journal.Verdict.TheVariants.{Decided}
 use Rattle.scp_ledger.specs.declared.journal.Fate.TheVariants.{Taken}
-use Rattle.scp_ledger.specs.Inside.{state_view}
+use Rattle.scp_ledger.specs.inside.State.{state_view}
 use Rattle.scp_ledger.specs.Verdicts.{link_of}
 use Rattle.scp_ledger.specs.Verdicts.{IsRecordVerdict}
 use Rattle.scp_ledger.specs.Takes.{TakesRecord, Passes, Decides}

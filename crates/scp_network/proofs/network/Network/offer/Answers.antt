@@ -1,6 +1,6 @@
 use Rattle.std.proofs.Common.{◌≡◌, ◌+◌, ℕ, ap, subst, arith}
 use Rattle.scp_network.specs.Heard.{Nodes}
-use Rattle.scp_network.specs.Inside.{IsAnswered}
+use Rattle.scp_network.specs.Network.{IsAnswered}
 use Rattle.scp_network.proofs.network.Network.offer.Goals as goal
 
 pub returns : goal.returns

@@ -4,7 +4,7 @@ use Rattle.scp_nominate.proofs.Suggesting.{none_of}
 use Rattle.scp_types.specs.declared.names.NodeId.{NodeId}
 use Rattle.scp_nominate.specs.Heard.{heard}
 use Rattle.scp_driver.specs.Driver.{IsFull}
-use Rattle.scp_nominate.specs.Values.{items}
+use Rattle.scp_nominate.specs.inside.Values.{items}
 use Rattle.scp_nominate.specs.InTurn.{InTurn}
 use Rattle.scp_nominate.specs.Voting.{VotesAfter, VotesOwn}
 use Rattle.scp_nominate.proofs.guide.Guide.vote_first.Goals as goal

@@ -3,7 +3,7 @@ use Rattle.scp_driver.specs.Driver.{IsFull}
 use Rattle.scp_nominate.specs.Heard.{heard}
 use Rattle.scp_vote.specs.Board.{Seen}
 use Rattle.scp_nominate.specs.declared.lists.Lists.{Lists}
-use Rattle.scp_nominate.specs.Own.{size}
+use Rattle.scp_nominate.specs.inside.Own.{size}
 use Rattle.scp_nominate.specs.Owed.{MayVote, VotesFor}
 use Rattle.scp_nominate.specs.Steps.{own_lists}
 use Rattle.scp_nominate.proofs.Suggesting.{may_stays, votes_weaker, votes_then}

@@ -1,9 +1,9 @@
 use Rattle.std.proofs.Common.{◌-◌, Contains}
 use Rattle.scp_driver.specs.Driver.{IsFull}
 use Rattle.scp_nominate.specs.Heard.{heard}
-use Rattle.scp_nominate.specs.Own.{size}
+use Rattle.scp_nominate.specs.inside.Own.{size}
 use Rattle.scp_nominate.specs.Owed.{MayVote, VotesFor}
-use Rattle.scp_nominate.specs.State.{IsSettling}
+use Rattle.scp_nominate.specs.inside.State.{IsSettling}
 use Rattle.scp_nominate.specs.Steps.{own_lists}
 use Rattle.scp_nominate.proofs.Repeated.{GoesRound}
 use Rattle.scp_nominate.proofs.state.State.settle.Given as goal

@@ -2,17 +2,17 @@ use Rattle.std.proofs.Common.{All, length, ap, sym, subst, arith, ◌∙◌}
 use Rattle.std.proofs.lemmas.List.Elements.{All-nil}
 use Rattle.scp_wire.specs.Fitting.{IsFitting}
 use Rattle.scp_outbox.specs.Outbox.{IsOutbox}
-use Rattle.scp_outbox.specs.Inside.{outbox_view}
+use Rattle.scp_outbox.specs.inside.Outbox.{outbox_view}
 use Rattle.scp_outbox.proofs.Kept.{ring_leaves_known, leaves_known}
 use Rattle.scp_outbox.proofs.outbox.Outbox.next.Goals as goal
 
-ring_left : (c : goal.In-Some-take_front) → IsOutbox (record { live = c.self.inside.live; marks = c.take_front.new.items.items; ring = c.take_front-2.new.items.items; statements = c.self.inside.statements.items })
+ring_left : (c : goal.In-Some-take_front) → IsOutbox (record { live = c.self.inside.live; marks = c.take_front.new.items.items; ring = c.take_front-2.new.items.items; statements = c.self.inside.statements.items; overwritten = c.self.inside.overwritten })
 ring_left c =
     let rest = ring_leaves_known (outbox_view c.self.inside) c.in-Some-take_front.message c.take_front-2.new.items.items c.in-Some-take_front.ensures.taken c.self.invariant.known in
     let no_marks = ap length c.in_default.ensures.taken.1 in
     record { marks = omega (arith, no_marks); ring = rest.ring; statements = rest.statements; one_each = rest.one_each; ring_fits = rest.ring_fits; statements_fit = rest.statements_fit }
 
-statements_left : (c : goal.In-Some-take_front-2) → IsOutbox (record { live = c.self.inside.live; marks = c.take_front.new.items.items; ring = c.take_front-2.new.items.items; statements = c.take_front-3.new.items.items })
+statements_left : (c : goal.In-Some-take_front-2) → IsOutbox (record { live = c.self.inside.live; marks = c.take_front.new.items.items; ring = c.take_front-2.new.items.items; statements = c.take_front-3.new.items.items; overwritten = c.self.inside.overwritten })
 statements_left c =
     let rest = leaves_known (outbox_view c.self.inside) c.in-Some-take_front-2.envelope c.take_front-3.new.items.items c.in-Some-take_front-2.ensures.taken c.self.invariant.known in
     let no_marks = ap length c.in_default.ensures.taken.1 in

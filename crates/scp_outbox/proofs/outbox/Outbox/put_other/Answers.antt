@@ -1,4 +1,4 @@
-use Rattle.scp_outbox.specs.Inside.{outbox_view}
+use Rattle.scp_outbox.specs.inside.Outbox.{outbox_view}
 use Rattle.scp_outbox.proofs.Kept.{pushed_known}
 use Rattle.scp_outbox.proofs.outbox.Outbox.put_other.Goals as goal
 

@@ -1,4 +1,4 @@
-use Rattle.std.proofs.Common.{◌∙◌, rules, false}
+use Rattle.std.proofs.Common.{rules, false}
 use Rattle.scp_quorum.specs.QuorumKind.{set_kind, set_value}
 use Rattle.scp_xdr.specs.Kind.{Fits}
 use Rattle.scp_pending.specs.Rules.{PendingView}

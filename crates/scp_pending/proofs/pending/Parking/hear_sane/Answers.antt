@@ -1,4 +1,4 @@
-use Rattle.std.proofs.Common.{◌∙◌, rules, false}
+use Rattle.std.proofs.Common.{rules, false}
 use Rattle.scp_pending.specs.Rules.{PendingView}
 use Rattle.scp_pending.proofs.Hearing.{answer_sane}
 use Rattle.scp_pending.proofs.pending.Parking.hear_sane.Goals as goal

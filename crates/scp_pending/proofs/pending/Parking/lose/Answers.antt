@@ -1,12 +1,11 @@
-use Rattle.std.proofs.Common.{◌≡◌, List, sym, ◌∙◌, ap, subst, true, false}
+use Rattle.std.proofs.Common.{◌≡◌, List, sym, ◌∙◌, subst, true, false}
 use Rattle.std.specs.List.{AllByRecursion}
 use Rattle.scp_types.specs.declared.names.ConnId.{ConnId}
 use Rattle.scp_fetch.specs.declared.want.Miss.TheVariants.{One, All}
 use Rattle.scp_fetch.specs.Wants.{has_conn, gives_up}
 use Rattle.scp_pending.specs.Queues.{QueueView, is_hash}
 use Rattle.scp_pending.specs.Rules.{PendingView}
-use Rattle.scp_pending.specs.Outcome.{outcome_of}
-use Rattle.scp_pending.specs.Kept.{IsKept, IsQuiet}
+use Rattle.scp_pending.specs.inside.Kept.{IsKept, IsQuiet}
 use Rattle.scp_pending.proofs.Hearing.{missed_last}
 use Rattle.scp_pending.proofs.Keeping.{quiet_but, last_alike}
 use Rattle.scp_pending.proofs.pending.Parking.lose.Goals as goal

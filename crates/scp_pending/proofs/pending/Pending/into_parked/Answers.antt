@@ -8,7 +8,7 @@ use Rattle.scp_wire.specs.declared.link.Inbound.{Inbound}
 use Rattle.scp_wire.specs.Shape.{HasShape}
 use Rattle.scp_pending.specs.declared.ready.Ready.{Ready}
 use Rattle.scp_pending.specs.Messages.{AreParked, message_cmp}
-use Rattle.scp_pending.specs.Outcome.{Adds, parked_in_all}
+use Rattle.scp_pending.specs.inside.Outcome.{Adds, parked_in_all}
 use Rattle.scp_pending.specs.Pends.{Pends}
 use Rattle.scp_pending.specs.Rules.{PendingView}
 use Rattle.scp_pending.proofs.Ascending.{ascending}

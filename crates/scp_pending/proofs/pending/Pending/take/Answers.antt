@@ -1,4 +1,4 @@
-use Rattle.std.proofs.Common.{List, [], ◌∷◌, ◌++◌, subst}
+use Rattle.std.proofs.Common.{[], ◌∷◌, ◌++◌, subst}
 use Rattle.scp_pending.specs.Rules.{PendingView}
 use Rattle.scp_pending.specs.Pends.{Pends}
 use Rattle.scp_pending.proofs.Passing.{Pends-take}

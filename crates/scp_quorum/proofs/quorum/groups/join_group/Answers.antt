@@ -6,7 +6,7 @@ use Rattle.std.specs.List.{All}
 use Rattle.scp_types.specs.declared.names.NodeId.{NodeId}
 use Rattle.scp_quorum.specs.declared.quorum.groups.Group.{Group}
 use Rattle.scp_quorum.specs.QuorumTree.{QuorumTree}
-use Rattle.scp_quorum.specs.Groups.{HasOneSet, IsGrouped}
+use Rattle.scp_quorum.specs.inside.Groups.{HasOneSet, IsGrouped}
 use Rattle.scp_quorum.proofs.Joining.{joins_one_set, joins, joins_others, begins_one_set, begins, begins_others}
 use Rattle.scp_quorum.proofs.quorum.groups.join_group.Goals as goal
 use Rattle.scp_quorum.proofs.quorum.groups.join_group.Goals.{in_default-via-in-None-1, in_default-via-in-Some+else-is_same_set}

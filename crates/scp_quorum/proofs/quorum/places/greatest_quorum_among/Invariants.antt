@@ -1,5 +1,6 @@
 use Rattle.std.proofs.Common.{◌≡◌, count_by, length}
-use Rattle.scp_quorum.specs.Quorum.{IsWithin, KeepsQuorums}
+use Rattle.scp_quorum.specs.Quorum.{IsWithin}
+use Rattle.scp_quorum.specs.inside.Quorum.{KeepsQuorums}
 use Rattle.scp_quorum.specs.Places.{marked, shared_set}
 use Rattle.scp_quorum.proofs.quorum.places.greatest_quorum_among.Given as goal
 

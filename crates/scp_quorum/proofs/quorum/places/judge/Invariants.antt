@@ -1,5 +1,5 @@
 use Rattle.std.proofs.Common.{take}
-use Rattle.scp_quorum.specs.Marks.{AreVerdicts}
+use Rattle.scp_quorum.specs.inside.Marks.{AreVerdicts}
 use Rattle.scp_quorum.proofs.quorum.places.judge.Given as goal
 
 abbrev pub invariant-loop-set : goal.invariant-loop-set

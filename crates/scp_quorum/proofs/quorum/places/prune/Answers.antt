@@ -1,7 +1,7 @@
 use Rattle.std.proofs.Common.{List, Bool, sym, subst}
 use Rattle.std.proofs.lemmas.Bool.{OnFalse_from, OnFalse_at}
 use Rattle.scp_quorum.specs.Places.{marked}
-use Rattle.scp_quorum.specs.Marks.{AreVerdicts}
+use Rattle.scp_quorum.specs.inside.Marks.{AreVerdicts}
 use Rattle.scp_quorum.proofs.Marking.{marks_keep, marks_settled}
 use Rattle.scp_quorum.proofs.quorum.places.prune.Goals as goal
 

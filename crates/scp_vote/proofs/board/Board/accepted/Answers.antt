@@ -1,7 +1,7 @@
 use Rattle.std.proofs.Common.{◌≡◌, ◌∙◌, ◌↔◌, IsTrue, IfOk, ap, subst}
 use Rattle.scp_vote.specs.Board.{Seen, kind_of, Accepted}
 use Rattle.scp_vote.specs.Seen.{seen}
-use Rattle.scp_vote.specs.Side.{side}
+use Rattle.scp_vote.specs.inside.Side.{side}
 use Rattle.scp_vote.proofs.board.Board.accepted.Goals as goal
 
 pub returns-clause-exact : goal.returns-clause-exact

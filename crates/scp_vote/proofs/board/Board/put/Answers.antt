@@ -3,7 +3,7 @@ use Rattle.scp_vote.specs.declared.claim.StatementKind.{StatementKind}
 use Rattle.scp_vote.specs.declared.claim.StatementKind.TheVariants.{Nomination, Balloting}
 use Rattle.scp_vote.specs.Board.{Seen, IsCounted, kind_of_pledges}
 use Rattle.scp_vote.specs.Seen.{seen}
-use Rattle.scp_vote.specs.Side.{side}
+use Rattle.scp_vote.specs.inside.Side.{side}
 use Rattle.scp_vote.specs.Statements.{seen_in}
 use Rattle.scp_vote.proofs.Putting.{own_set_put, put_counted, same_seen, on_err}
 use Rattle.scp_vote.proofs.Kept.{by_kind, kind_puts}

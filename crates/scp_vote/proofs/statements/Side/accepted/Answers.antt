@@ -2,8 +2,8 @@ use Rattle.std.proofs.Common.{◌≡◌, true, false, refl, sym, ◌∙◌, inr}
 use Rattle.scp_quorum.specs.Places.{marked}
 use Rattle.scp_vote.specs.Claims.{Stands}
 use Rattle.scp_vote.specs.declared.claim.Support.TheVariants.{VotesOrAccepts, Accepts}
-use Rattle.scp_vote.specs.Seats.{place_in}
-use Rattle.scp_vote.specs.Side.{side}
+use Rattle.scp_vote.specs.inside.Seats.{place_in}
+use Rattle.scp_vote.specs.inside.Side.{side}
 use Rattle.scp_vote.proofs.Seating.{marks_exactly, marks_block, accepted_exactly}
 use Rattle.scp_vote.proofs.statements.Side.accepted.Goals as goal
 

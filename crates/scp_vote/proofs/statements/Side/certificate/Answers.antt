@@ -4,9 +4,9 @@ use Rattle.scp_quorum.specs.NodeSet.{is_in}
 use Rattle.scp_quorum.specs.Places.{marked}
 use Rattle.scp_vote.specs.Claims.{Stands}
 use Rattle.scp_vote.specs.declared.claim.Support.TheVariants.{Accepts}
-use Rattle.scp_vote.specs.Statements.{PicksNodes}
-use Rattle.scp_vote.specs.Seats.{place_in}
-use Rattle.scp_vote.specs.Side.{side}
+use Rattle.scp_vote.specs.inside.Statements.{PicksNodes}
+use Rattle.scp_vote.specs.inside.Seats.{place_in}
+use Rattle.scp_vote.specs.inside.Side.{side}
 use Rattle.scp_vote.proofs.Seating.{marks_none, marks_greatest, same_greatest, written}
 use Rattle.scp_vote.proofs.statements.Side.certificate.Goals as goal
 

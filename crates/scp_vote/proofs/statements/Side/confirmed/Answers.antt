@@ -1,7 +1,7 @@
 use Rattle.scp_quorum.specs.Places.{marked}
 use Rattle.scp_vote.specs.Claims.{Stands}
 use Rattle.scp_vote.specs.declared.claim.Support.TheVariants.{Accepts}
-use Rattle.scp_vote.specs.Seats.{place_in}
+use Rattle.scp_vote.specs.inside.Seats.{place_in}
 use Rattle.scp_vote.proofs.Seating.{marks_exactly}
 use Rattle.scp_vote.proofs.statements.Side.confirmed.Goals as goal
 

@@ -1,6 +1,6 @@
 use Rattle.std.proofs.Common.{◌<◌, length, arith}
 use Rattle.scp_quorum.specs.Places.{marked}
-use Rattle.scp_vote.specs.Seats.{place_in}
+use Rattle.scp_vote.specs.inside.Seats.{place_in}
 use Rattle.scp_vote.proofs.Seating.{found_counted, none_counted}
 use Rattle.scp_vote.proofs.Single.{one_set_greatest}
 use Rattle.scp_vote.proofs.statements.Side.has_quorum.Goals as goal

@@ -3,8 +3,8 @@ use Rattle.std.proofs.lemmas.Bool.{OnFalse_from}
 use Rattle.scp_quorum.specs.QuorumTree.{QuorumTree}
 use Rattle.scp_quorum.specs.Satisfies.{Satisfies}
 use Rattle.scp_quorum.specs.Places.{marked}
-use Rattle.scp_vote.specs.Seats.{place_in}
-use Rattle.scp_vote.specs.Side.{side}
+use Rattle.scp_vote.specs.inside.Seats.{place_in}
+use Rattle.scp_vote.specs.inside.Side.{side}
 use Rattle.scp_vote.proofs.Picked.{own_counted}
 use Rattle.scp_vote.proofs.Seating.{none_without_local}
 use Rattle.scp_vote.proofs.statements.Side.may_have_quorum.Goals as goal

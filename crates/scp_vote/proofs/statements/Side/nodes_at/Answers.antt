@@ -4,7 +4,7 @@ use Rattle.std.specs.Map.Iter.{deref_pair}
 use Rattle.std.proofs.lemmas.Map.Views.{All-turn}
 use Rattle.scp_quorum.specs.NodeSet.{node_cmp, is_in}
 use Rattle.scp_quorum.specs.Places.{marked}
-use Rattle.scp_vote.specs.Seats.{place_in}
+use Rattle.scp_vote.specs.inside.Seats.{place_in}
 use Rattle.scp_vote.proofs.Picking.{Entries, IsPicking, picking_by, picking_takes}
 use Rattle.std.specs.Option.{option_map}
 use Rattle.scp_types.specs.declared.names.NodeId.{NodeId}

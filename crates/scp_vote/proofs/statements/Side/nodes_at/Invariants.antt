@@ -1,7 +1,7 @@
 use Rattle.std.proofs.Common.{◌≡◌, true}
 use Rattle.scp_quorum.specs.NodeSet.{is_in}
 use Rattle.scp_quorum.specs.Places.{marked}
-use Rattle.scp_vote.specs.Seats.{place_in}
+use Rattle.scp_vote.specs.inside.Seats.{place_in}
 use Rattle.scp_vote.proofs.Picking.{IsPicking}
 use Rattle.scp_vote.proofs.statements.Side.nodes_at.Given as goal
 

@@ -3,8 +3,8 @@ use Rattle.scp_quorum.specs.Places.{marked}
 use Rattle.scp_vote.specs.Claims.{Stands}
 use Rattle.scp_vote.specs.declared.claim.Support.TheVariants.{VotesOrAccepts, Accepts}
 use Rattle.scp_vote.specs.Board.{Has}
-use Rattle.scp_vote.specs.Seats.{place_in}
-use Rattle.scp_vote.specs.Side.{side}
+use Rattle.scp_vote.specs.inside.Seats.{place_in}
+use Rattle.scp_vote.specs.inside.Side.{side}
 use Rattle.scp_vote.proofs.Picking.{IsPicking}
 use Rattle.scp_vote.proofs.statements.Side.standing.Given as goal
 

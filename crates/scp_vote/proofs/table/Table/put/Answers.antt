@@ -1,6 +1,6 @@
 use Rattle.std.proofs.Common.{◌≡◌, List, length, refl, sym, ◌∙◌, subst}
 use Rattle.scp_quorum.specs.declared.quorum.places.Seat.{Seat}
-use Rattle.scp_vote.specs.Seats.{AreSeated, KeepsSets, IsPlaceFor}
+use Rattle.scp_vote.specs.inside.Seats.{AreSeated, KeepsSets, IsPlaceFor}
 use Rattle.scp_vote.proofs.Seating.{seated_kept, seated_again, seated_more, seated_same, place_within}
 use Rattle.scp_vote.proofs.table.Table.put.Goals as goal
 

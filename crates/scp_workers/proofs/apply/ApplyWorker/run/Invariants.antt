@@ -1,4 +1,4 @@
-use Rattle.scp_workers.specs.Apply.{SameEnds}
+use Rattle.scp_workers.specs.inside.Apply.{SameEnds}
 use Rattle.scp_workers.proofs.apply.ApplyWorker.run.Given as goal
 
 abbrev pub invariant-loop : goal.invariant-loop

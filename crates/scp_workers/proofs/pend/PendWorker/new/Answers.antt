@@ -1,7 +1,7 @@
 use Rattle.std.proofs.Common.{false, List, [], ◌∷◌, refl, sym, ap, subst}
 use Rattle.scp_types.specs.declared.names.NodeId.{NodeId}
 use Rattle.scp_quorum.specs.QuorumTree.{QuorumTree}
-use Rattle.scp_workers.specs.Pending.{HasPended}
+use Rattle.scp_workers.specs.inside.Pending.{HasPended}
 use Rattle.scp_workers.proofs.Waiting.{starts}
 use Rattle.scp_workers.proofs.Stopping.{no_flag}
 use Rattle.scp_workers.proofs.pend.PendWorker.new.Goals as goal

@@ -1,4 +1,4 @@
-use Rattle.scp_workers.specs.Pending.{SameEnds}
+use Rattle.scp_workers.specs.inside.Pending.{SameEnds}
 use Rattle.scp_workers.proofs.pend.PendWorker.work.Given as goal
 
 abbrev pub invariant-loop : goal.invariant-loop

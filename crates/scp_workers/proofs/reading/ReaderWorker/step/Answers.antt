@@ -1,7 +1,7 @@
 use Rattle.std.proofs.Common.{ap, ◌∙◌, List, [], ◌∷◌, ◌++◌, arith}
 use Rattle.scp_wire.specs.declared.link.LinkItem.{LinkItem}
 use Rattle.scp_ends.specs.Order.{number_of, values}
-use Rattle.scp_workers.specs.Reading.{HasGiven}
+use Rattle.scp_workers.specs.inside.Reading.{HasGiven}
 use Rattle.scp_workers.proofs.Receiving.{heard_end, one_more, no_more, not_lost}
 use Rattle.scp_workers.proofs.reading.ReaderWorker.step.Goals as goal
 

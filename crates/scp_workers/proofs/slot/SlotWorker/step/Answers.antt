@@ -1,7 +1,7 @@
 use Rattle.std.proofs.Common.{rules, ap, ◌∙◌, List, [], ◌∷◌, ◌++◌, arith}
 use Rattle.scp_pending.specs.declared.ready.Ready.{Ready}
 use Rattle.scp_ends.specs.Order.{number_of, values}
-use Rattle.scp_workers.specs.Slot.{KvJournals}
+use Rattle.scp_ledger.specs.Kv.{KvJournals}
 use Rattle.scp_workers.proofs.Receiving.{heard_end, one_more, no_more}
 use Rattle.scp_workers.proofs.slot.SlotWorker.step.Goals as goal
 

@@ -1,4 +1,4 @@
-use Rattle.scp_workers.specs.Slot.{SameEnds}
+use Rattle.scp_workers.specs.inside.Slot.{SameEnds}
 use Rattle.scp_workers.proofs.slot.SlotWorker.work.Given as goal
 
 abbrev pub invariant-loop : goal.invariant-loop

@@ -1,5 +1,5 @@
 use Rattle.std.proofs.Common.{◌<◌, arith}
-use Rattle.scp_xdr.specs.TreeModel.{tree_count}
+use Rattle.scp_xdr.specs.inside.TreeModel.{tree_count}
 use Rattle.scp_quorum.proofs.Smaller.{inner_is_smaller}
 use Rattle.scp_quorum.proofs.quorum.counts.Counts.+add_set.Goals as goal
 

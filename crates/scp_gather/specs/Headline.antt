@@ -1,0 +1,22 @@
+-- The headline of a node that has ended: of what went over its links, and of what its report shows.
+use Rattle.std.specs.Prelude.{List, Some}
+use Rattle.scp_types.specs.declared.names.NodeId.{NodeId}
+use Rattle.scp_quorum.specs.QuorumTree.{QuorumTree}
+use Rattle.scp_kv.specs.Map.{KvMap}
+use Rattle.scp_wire.specs.declared.carried.Carried.{Carried}
+use Rattle.scp_ledger.specs.declared.journal.Decision.{Decision}
+use Rattle.scp_ledger.specs.declared.journal.Fate.{Fate}
+use Rattle.scp_headline.specs.Books.{books_of}
+use Rattle.scp_headline.specs.Headline.{Books, Headline}
+use Rattle.scp_gather.specs.Gathered.{account_gathered}
+use Rattle.scp_gather.specs.Left.{Left}
+use Rattle.scp_gather.specs.Report.{IsReportOf}
+
+-- its books: what went over its links and what it still holds, by what its threads left, and the journal, the applied list and the state of
+-- its report
+abbrev pub books_reported : NodeId → QuorumTree → List NodeId → Left → List Fate → List Decision → KvMap → Books
+books_reported me set peers e journal applied state = record (books_of (account_gathered me set peers e)) { journal = journal; applied = applied; state = Some state }
+
+-- what is the report of a node keeps the headline
+abbrev pub ReportsKeepHeadline : Type 0
+ReportsKeepHeadline = (me : NodeId) (set : QuorumTree) (peers : List NodeId) (e : Left) (journal : List Fate) (parked : List Carried) (applied : List Decision) (state : KvMap) → IsReportOf me set peers e journal parked applied state → Headline (books_reported me set peers e journal applied state)

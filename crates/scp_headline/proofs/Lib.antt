@@ -1,0 +1,4 @@
+pub mod Waiting
+pub mod Cutting
+pub mod Folding
+pub mod Keeping

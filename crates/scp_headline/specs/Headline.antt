@@ -1,0 +1,153 @@
+-- The headline: what becomes of what is sent to a node, over plain lists, and no more.
+use Rattle.std.specs.Prelude.{ℕ, ◌+◌, ◌<◌, ◌≡◌, false, Bool, List, [], ◌∷◌, ◌++◌, Option, Some, nat_eq, slice_get, map, flat_map, filter, option_to_list, All, Contains, IsSomeAnd, IfSome}
+use Rattle.std.specs.List.{AllByRecursion, range_with_len}
+use Rattle.std.specs.List.Sorted.{IsPermutation}
+use Rattle.std.specs.FinMap as finite
+use Rattle.scp_types.specs.declared.names.ConnId.{ConnId}
+use Rattle.scp_types.specs.declared.names.Hash.{Hash}
+use Rattle.scp_types.specs.declared.names.NodeId.{NodeId}
+use Rattle.scp_xdr.specs.Kind.{Values}
+use Rattle.scp_quorum.specs.QuorumTree.{QuorumTree}
+use Rattle.scp_quorum.specs.QuorumKind.{set_hash}
+use Rattle.scp_quorum.specs.SharedSet.{SharedSet}
+use Rattle.scp_vote.specs.declared.claim.StatementKind.TheVariants.{Balloting}
+use Rattle.scp_kv.specs.Map.{KvMap}
+use Rattle.scp_kv.specs.Op.{ops_kind, IsOps}
+use Rattle.scp_kv.specs.State.{after_ops}
+use Rattle.scp_wire.specs.declared.link.Cause.{Cause}
+use Rattle.scp_wire.specs.declared.link.Cause.TheVariants.{ParkedFull}
+use Rattle.scp_wire.specs.declared.message.Message.{Message}
+use Rattle.scp_wire.specs.declared.message.Message.TheVariants.{Record}
+use Rattle.scp_wire.specs.Connections.{conn_at}
+use Rattle.scp_wire.specs.Lanes.{slot_of, slots_of, in_lane}
+use Rattle.scp_wire.specs.Marks.{Mark, number, ended, IsWhole}
+use Rattle.scp_wire.specs.Sent.{numbers}
+use Rattle.scp_pending.specs.Queues.{named}
+use Rattle.scp_ledger.specs.declared.journal.Decision.{Decision}
+use Rattle.scp_ledger.specs.declared.journal.Fate.{Fate}
+use Rattle.scp_ledger.specs.declared.journal.Fate.TheVariants.{Taken, Dropped, Closed}
+use Rattle.scp_ledger.specs.declared.journal.Origin.{Origin}
+use Rattle.scp_ledger.specs.declared.journal.Origin.TheVariants.{Machine, Named}
+use Rattle.scp_ledger.specs.declared.journal.Verdict.TheVariants.{Decided}
+use Rattle.scp_ledger.specs.Certificate.{IsCertificate}
+use Rattle.scp_ledger.specs.Decisions.{OnePerSlot}
+use Rattle.scp_ledger.specs.Journal.{newest}
+use Rattle.scp_ledger.specs.Marks.{marks_of}
+use Rattle.scp_apply.specs.Applied.{AreInOrder, values_of}
+use Rattle.scp_theorem.specs.Fates.{Fates, conn_of, IsOfLink}
+
+-- a message that waits for a quorum set, or behind one that does, with its number on its connection
+pub record Waiter : Type 0 where
+  pub place : ℕ
+  pub message : Message
+
+-- what was sent to a node, what it holds, and what it shows
+pub record Books : Type 0 where
+  pub me : NodeId
+  pub set : QuorumTree  -- its own quorum set
+  pub peers : List NodeId  -- the node at the other end of each link
+  -- the carried messages that were sent over a link on a connection, in order; and why that ended, if it did
+  pub messages : ℕ → ConnId → List Message
+  pub end : ℕ → ConnId → Option Cause
+  -- what the node holds of them without a fate, in order: what has left the queue where messages wait, that queue, and what isn't there yet
+  pub ahead : ConnId → List Mark
+  pub waiting : ConnId → List Waiter
+  pub behind : ℕ → ConnId → List Mark
+  -- whether it has a quorum set of this hash
+  pub has_set : Hash → Bool
+  -- the fate of each message; the decisions; those of them that are applied; and the state
+  pub journal : List Fate
+  pub decisions : List Decision
+  pub applied : List Decision
+  pub state : Option KvMap
+
+-- ---- one connection
+
+-- all that was sent on it: the numbers of its messages, from 0 on, and then its end
+abbrev pub line_of : Books → ℕ → ConnId → List Mark
+line_of b l c = numbers 0 (b.messages l c) ++ map ended (option_to_list (b.end l c))
+
+-- all that is held of it
+abbrev pub held_of : Books → ℕ → ConnId → List Mark
+held_of b l c = b.ahead c ++ (map (λ w. number w.place) (b.waiting c) ++ b.behind l c)
+
+-- what has left the queue where its messages wait: what has its fate, and what is on the way to it
+abbrev pub left_of : Books → ConnId → List Mark
+left_of b c = marks_of c b.journal ++ b.ahead c
+
+-- the number that a mark has; an end has none
+abbrev pub number_in : Mark → List ℕ
+number_in (number n) = n ∷ []
+number_in (ended cause) = []
+
+-- those of marks, in order
+abbrev pub numbers_in : List Mark → List ℕ
+numbers_in marks = flat_map number_in marks
+
+-- in some order they are all numbers from 0 to a last one, each once
+abbrev pub AreAllUpTo : List ℕ → Type 0
+AreAllUpTo ns = (last : ℕ) × IsPermutation (range_with_len 0 (last + 1)) ns
+
+-- Its messages have one fate each at most, and within each slot from the first, in the order sent, none after its end; each is the message of
+-- its number. In each slot the fates, and then what is held, are what was sent, so that nothing is lost; or where the connection was cut off,
+-- what stands before the cut is a beginning of that. Where it was cut off, no message that came before the cut is missing.
+pub record HasFates (b : Books) (l : ℕ) (c : ConnId) : Type 0 where
+  pub fates : Fates c (b.messages l c) b.journal
+  pub nothing_lost : (s : ℕ) → IsWhole (in_lane (slots_of (b.messages l c)) s (line_of b l c)) (in_lane (slots_of (b.messages l c)) s (marks_of c b.journal ++ held_of b l c))
+  pub none_missing : Contains (left_of b c) (ended ParkedFull) → AreAllUpTo (numbers_in (left_of b c))
+
+-- beside a taken envelope stands a quorum set that has the hash which it names
+abbrev pub HasNamedSet : Fate → Type 0
+HasNamedSet (Taken conn seq message set verdict) = IfSome (named message) (λ hash. IsSomeAnd set (λ s. hash.0 ≡ set_hash s.value))
+HasNamedSet (Dropped conn seq cause) = Unit {0}
+HasNamedSet (Closed conn cause) = Unit {0}
+
+-- ---- what waits
+
+-- of what waits, what names this slot, in order
+abbrev pub of_slot : ℕ → List Waiter → List Waiter
+of_slot s waiters = filter (λ w. nat_eq (slot_of w.message) s) waiters
+
+-- it is an envelope, and names a quorum set that the node hasn't got
+abbrev pub LacksItsSet : (Hash → Bool) → Message → Type 0
+LacksItsSet has_set message = IsSomeAnd (named message) (λ hash. has_set hash ≡ false)
+
+-- ---- decisions
+
+-- It rests on a quorum at this node, whose other members' last ballot statements in the journal accept its commit; or on a record of it that
+-- was taken, and decided.
+abbrev pub RestsOn : Books → Decision → Origin → Type 0
+RestsOn b d (Machine n quorum own) = IsCertificate b.me b.set (λ v. newest d.slot.0 Balloting v b.journal) d.value n quorum
+RestsOn b d (Named conn seq) = (beside : Option SharedSet) × Contains b.journal (Taken conn seq (Record d.slot d.value) beside Decided)
+
+-- ---- the state
+
+-- what a value makes of the state: its operations in order, where its bytes are an operation list, and else nothing
+pub record IsAfter (old : KvMap) (value : List ℕ) (new : KvMap) : Type 0 where
+  pub does : (ops : Values ops_kind) → IsOps value ops → new ≡ after_ops old ops
+  pub stays : All (λ byte. byte < 256) value → ((ops : Values ops_kind) → IsOps value ops → ⊥) → new ≡ old
+
+-- what values make of it, one after another
+abbrev pub IsFold : KvMap → List (List ℕ) → KvMap → Type 0
+IsFold old [] new = new ≡ old
+IsFold old (value ∷ values) new = (between : KvMap) × IsAfter old value between × IsFold between values new
+
+-- ---- the headline
+
+-- Each message that was sent has one fate, in the order of its slot; what is decided is applied, in the order of the slots; and the state is
+-- what was applied.
+pub record Headline (b : Books) : Type 0 where
+  -- of each connection of each link the messages have one fate each, in order, and nothing is lost; and nothing else has a fate
+  pub fates : (l : ℕ) → (peer : NodeId) → slice_get b.peers l ≡ Some peer → (life : ℕ) → HasFates b l (conn_at peer b.me life)
+  pub no_others : AllByRecursion (λ fate. IsOfLink b.me b.peers (conn_of fate)) b.journal
+  -- each taken envelope has the quorum set that its hash names
+  pub sets : All HasNamedSet b.journal
+  -- in each slot what waits is led by an envelope of that slot whose quorum set the node lacks: one that never comes delays no other slot
+  pub delays_none : (c : ConnId) (s : ℕ) (first : Waiter) (rest : List Waiter) → of_slot s (b.waiting c) ≡ first ∷ rest → LacksItsSet b.has_set first.message
+  -- each slot has at most one decision, and each decision rests on a quorum or on a taken record
+  pub one_decision : OnePerSlot b.decisions
+  pub grounds : All (λ d. RestsOn b d d.origin) b.decisions
+  -- slots 1 to n are applied, once each and in order, each with its decision; and the state is what their values make of the empty map
+  pub in_order : AreInOrder 1 b.applied
+  pub decided : All (Contains b.decisions) b.applied
+  pub folded : IsSomeAnd b.state (IsFold finite.empty (values_of b.applied))

@@ -1,0 +1,52 @@
+-- What is printed of a script is of nodes that hold their headlines.
+use Rattle.std.proofs.Common.{◌≡◌, ◌+◌, ◌∙◌, ℕ, List, get_or, ap, subst}
+use Rattle.std.specs.Prelude.{flat_map}
+use Rattle.scp_core.specs.Headline.{LedgerGivesHeadline}
+use Rattle.scp_core.specs.Ledger.{TheoremGivesLedger}
+use Rattle.scp_network.specs.Heard.{past_at}
+use Rattle.scp_network.specs.Network.{NetworkView}
+use Rattle.scp_gather.specs.declared.gathering.NodeReport.{NodeReport}
+use Rattle.scp_gather.specs.Headline.{ReportsKeepHeadline}
+use Rattle.scp_threaded_node.specs.Seats.{Each}
+use Rattle.scp_threaded_script.specs.Reported.{AreNodesReported, AreSoReported}
+use Rattle.scp_script.specs.declared.command.Command.{Command}
+use Rattle.scp_script.specs.Nodes.{id_of, peers_of, reports_in, set_at}
+use Rattle.scp_script.specs.Script.{commands_in, node_count}
+use Rattle.scp_line.specs.Headlines.{AreHeadlined, IsHeadlined, AreGatheredHeadlined}
+use Rattle.scp_line.specs.inside.Nodes.{IsPlayed}
+use Rattle.scp_line.specs.Play.{ArePlayed, report_at}
+use Rattle.scp_line.specs.Threads.{report_gathered_at}
+
+pub are_headlined : TheoremGivesLedger → LedgerGivesHeadline → (text printed : List ℕ) (commands : List Command) (network : NetworkView) → commands ≡ commands_in text → IsPlayed commands network → printed ≡ flat_map (report_at network.nodes) (reports_in commands) → AreHeadlined text printed
+are_headlined law gives text printed commands network same played is = record {
+  heard = played.heard;
+  nodes = network.nodes;
+  played = subst (λ (l : List Command). ArePlayed l l played.heard network.nodes) same played.played;
+  headlines = λ i d here. gives (past_at (i + 1) played.heard) (get_or network.nodes i d) (law (past_at (i + 1) played.heard) (get_or network.nodes i d) (played.played.have i d here));
+  reports = is ∙ ap (λ (l : List Command). flat_map (report_at network.nodes) (reports_in l)) same;
+}
+
+-- ---- in threads
+
+headlines_at : ReportsKeepHeadline → (commands : List Command) (nodes : List NodeReport) → AreSoReported commands nodes → Each (λ i r. IsHeadlined commands (i + 1) r) nodes
+headlines_at law commands nodes are = λ i r at.
+    let is = are i r at in
+    let ended = is.ended in
+    record {
+      left = ended.left;
+      stood = is.stood;
+      stood_are = is.stood_are;
+      links_count = ended.links_count;
+      links_are = ended.links_are;
+      headline = law (id_of (i + 1)) (set_at (i + 1) commands) (peers_of (node_count commands) (i + 1)) ended.left r.journal.items r.parked.items r.applied.items r.state ended.report;
+    }
+
+pub are_gathered_headlined : ReportsKeepHeadline → (script text : List ℕ) (commands : List Command) (nodes : List NodeReport) → commands ≡ commands_in script → AreNodesReported commands nodes → text ≡ flat_map (report_gathered_at nodes) (reports_in commands) → AreGatheredHeadlined script text
+are_gathered_headlined law script text commands nodes same reported reports =
+    let are : AreNodesReported (commands_in script) nodes = subst (λ (c : List Command). AreNodesReported c nodes) same reported in
+    record {
+      nodes = nodes;
+      count = are.0;
+      headlines = headlines_at law (commands_in script) nodes are.1;
+      reports = subst (λ (c : List Command). text ≡ flat_map (report_gathered_at nodes) (reports_in c)) same reports;
+    }

@@ -1,0 +1,46 @@
+-- What a script prints is the reports of nodes that hold their headlines: where they went one step after another, and where they ran in threads.
+use Rattle.std.specs.Prelude.{ℕ, ◌+◌, ◌<◌, ◌≡◌, List, flat_map, get_or, length}
+use Rattle.scp_headline.specs.Headline.{Headline}
+use Rattle.scp_core.specs.Headline.{HoldsHeadline}
+use Rattle.scp_core.specs.Node.{NodeView}
+use Rattle.scp_network.specs.Heard.{Heard, Nodes, past_at}
+use Rattle.scp_gather.specs.declared.gathering.NodeReport.{NodeReport}
+use Rattle.scp_gather.specs.Headline.{books_reported}
+use Rattle.scp_gather.specs.Left.{Left}
+use Rattle.scp_threaded_node.specs.declared.ending.Stood.{Stood}
+use Rattle.scp_threaded_node.specs.Ended.{AreSentBy}
+use Rattle.scp_threaded_node.specs.Seats.{Each}
+use Rattle.scp_threaded_script.specs.Lines.{driven_to, items_to}
+use Rattle.scp_threaded_script.specs.Reported.{AreStood}
+use Rattle.scp_script.specs.declared.command.Command.{Command}
+use Rattle.scp_script.specs.Script.{commands_in, node_count}
+use Rattle.scp_script.specs.Nodes.{id_of, peers_of, reports_in, set_at}
+use Rattle.scp_line.specs.Play.{ArePlayed, report_at}
+use Rattle.scp_line.specs.Threads.{report_gathered_at}
+
+-- The text is the reports that the script asks for, one for each `report` line, in their order, of nodes that played all its lines, each
+-- of which holds its headline, by what it heard.
+pub record AreHeadlined (script text : List ℕ) : Type 0 where
+  pub heard : List Heard
+  pub nodes : Nodes
+  pub played : ArePlayed (commands_in script) (commands_in script) heard nodes
+  pub headlines : (i : ℕ) → (d : NodeView) → i < length nodes → HoldsHeadline (past_at (i + 1) heard) (get_or nodes i d)
+  pub reports : text ≡ flat_map (report_at nodes) (reports_in (commands_in script))
+
+-- The headline of the node of this number holds, of books that show what its report shows: over each link that the script drives went what
+-- the lines put on it, over each other one what a courier carried.
+pub record IsHeadlined (commands : List Command) (number : ℕ) (r : NodeReport) : Type 0 where
+  pub left : Left
+  pub stood : List Stood
+  pub stood_are : AreStood commands number stood
+  pub links_count : length left.links ≡ length (peers_of (node_count commands) number)
+  pub links_are : AreSentBy (driven_to commands number) (items_to number commands) stood left.links
+  pub headline : Headline (books_reported (id_of number) (set_at number commands) (peers_of (node_count commands) number) left r.journal.items r.applied.items r.state)
+
+-- The text is the reports that the script asks for, of nodes whose stages ran in threads: of each node that the script has, one that holds
+-- its headline.
+pub record AreGatheredHeadlined (script text : List ℕ) : Type 0 where
+  pub nodes : List NodeReport
+  pub count : length nodes ≡ node_count (commands_in script)
+  pub headlines : Each (λ i r. IsHeadlined (commands_in script) (i + 1) r) nodes
+  pub reports : text ≡ flat_map (report_gathered_at nodes) (reports_in (commands_in script))

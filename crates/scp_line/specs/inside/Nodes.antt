@@ -1,0 +1,21 @@
+-- What the nodes of a script hear more, while it is played.
+-- Here stands what no public clause reaches: nothing here need be believed.
+use Rattle.std.specs.Prelude.{◌≤◌, ◌≡◌, ◌⊎◌, List, length}
+use Rattle.scp_types.specs.declared.fault.Fault.TheVariants.{Failed as failing, Full as full}
+use Rattle.scp_network.specs.Heard.{Heard}
+use Rattle.scp_network.specs.Network.{NetworkView}
+use Rattle.scp_script.specs.declared.command.Command.{Command}
+use Rattle.scp_script.specs.Nodes.{IsSmall}
+use Rattle.scp_line.specs.declared.playing.PlayFault.{PlayFault}
+use Rattle.scp_line.specs.Play.{ArePlayed, Stops, Overflows}
+use Rattle.scp_line.specs.Nodes.{IsWant}
+
+-- all lines were played
+pub record IsPlayed (commands : List Command) (network : NetworkView) : Type 0 where
+  pub heard : List Heard
+  pub played : ArePlayed commands commands heard network.nodes
+  pub few : length network.nodes ≤ 8
+
+-- why lines weren't all done
+abbrev pub IsStopped : List Command → PlayFault → Type 0
+IsStopped commands e = IsWant e ⊎ (((e.fault ≡ failing) × IsSmall e.node × Stops commands e.node) ⊎ ((e.fault ≡ full) × (e.node ≡ 0) × Overflows commands))

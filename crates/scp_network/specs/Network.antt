@@ -1,0 +1,44 @@
+-- What the nodes heard more, while something was done.
+use Rattle.std.specs.Prelude.{ℕ, ◌≡◌, ◌⊎◌, ◌<◌, Bool, true, List, ◌++◌, Option, Some, None, Result, Ok, Err, length, slice_set, ◌&&◌, nat_le, if◌then◌else◌}
+use Rattle.scp_core.specs.declared.event.Event.{Event}
+use Rattle.scp_core.specs.declared.event.Reply.{Reply}
+use Rattle.scp_network.specs.Heard.{Nodes, Heard, HaveHeard, IsOne}
+use Rattle.scp_network.specs.Rounds.{Rests, Breaks, AllRun, place_of}
+
+-- more was heard, of which this holds; what was heard before and this together are what the ledger theorem holds for
+pub record Hear (old new : Nodes) (Is : Nodes → List Heard → Nodes → Type 0) : Type 0 where
+  pub heard : List Heard
+  pub is : Is old heard new
+  pub count : length new ≡ length old
+  pub have : (past : List Heard) → HaveHeard past old → HaveHeard (past ++ heard) new
+
+-- a node of a number did one step
+abbrev pub IsAnswered : Nodes → ℕ → Event → Reply → Nodes → Type 0
+IsAnswered old number event reply new = Hear old new (IsOne (record { node = number; event = event; reply = reply }))
+
+-- the nodes came to rest and none failed, or one failed
+abbrev pub Settled : List Bool → Nodes → Result (Unit {0}) ℕ → Nodes → Type 0
+Settled driven old (Ok done) new = Hear old new (Rests driven (length old)) × AllRun new
+Settled driven old (Err number) new = Hear old new (Breaks driven (length old) number)
+
+-- what contracts see of a network: its nodes, and the links that are driven
+pub record NetworkView : Type 0 where
+  pub nodes : Nodes
+  pub driven : List Bool  -- by place_of: whether the caller alone sends on that link
+
+-- an event was offered to the node of a number, which isn't there where nothing is answered
+abbrev pub Offered : NetworkView → ℕ → Event → Option Reply → NetworkView → Type 0
+Offered old number event (Some reply) new = IsAnswered old.nodes number event reply new.nodes × (new.driven ≡ old.driven)
+Offered old number event None new = ((number ≡ 0) ⊎ (length old.nodes < number)) × (new ≡ old)
+
+-- a node of this number can be there: it is from 1 to 8
+abbrev pub is_number : ℕ → Bool
+is_number number = nat_le 1 number && nat_le number 8
+
+-- one link more is driven, where both nodes can be there
+abbrev pub driven_more : List Bool → ℕ → ℕ → List Bool
+driven_more driven from to = if is_number from && is_number to then slice_set driven (place_of from to) true else driven
+
+-- from now on the caller alone sends on the link from a node to another
+abbrev pub Drives : NetworkView → ℕ → ℕ → NetworkView → Type 0
+Drives old from to new = (new.nodes ≡ old.nodes) × (new.driven ≡ driven_more old.driven from to)

@@ -1,0 +1,5 @@
+pub mod Own
+pub mod State
+pub mod Steps
+pub mod Turns
+pub mod Values

@@ -1,0 +1,33 @@
+-- What is kept, whatever is put and given.
+use Rattle.std.specs.Prelude.{ℕ, List, [], ◌∷◌, ◌++◌}
+use Rattle.scp_wire.specs.Message.{message_value, SpellsMessage}
+use Rattle.scp_wire.specs.declared.message.Message.{Message}
+use Rattle.scp_outbox.specs.Outbox.{OutboxView, Gives}
+use Rattle.scp_outbox.specs.declared.mark.Out.TheVariants as out
+use Rattle.scp_outboxes.specs.Handing.{PutsAll, HandsOut, empty_outbox}
+use Rattle.scp_outboxes.specs.Sent.{AreNewer, AreSent}
+use Rattle.scp_outboxes.specs.Waiting.{Sends}
+
+-- at first nothing was handed out, nothing was sent, and nothing waits
+abbrev pub EmptySends : Type 0
+EmptySends = Sends [] [] empty_outbox
+
+-- more is handed out, each statement newer than all of its slot and kind before it, and all of it is put
+abbrev pub PutsKeepSends : Type 0
+PutsKeepSends = (handed more : List Message) (sent : List (List ℕ)) (old new : OutboxView) → AreNewer (handed ++ more) → PutsAll old more new → Sends handed sent old → Sends (handed ++ more) sent new
+
+-- what is next is sent
+abbrev pub GivesKeepSends : Type 0
+GivesKeepSends = (handed : List Message) (sent : List (List ℕ)) (old new : OutboxView) (message : Message) (bytes : List ℕ) → Gives old (out.Message message) new → SpellsMessage bytes (message_value message) → Sends handed sent old → Sends handed (sent ++ bytes ∷ []) new
+
+-- so all that was sent was handed out, and each statement is newer than those of its slot and kind sent before
+abbrev pub SendsAreSent : Type 0
+SendsAreSent = (handed : List Message) (sent : List (List ℕ)) (o : OutboxView) → Sends handed sent o → AreSent handed sent
+
+-- where nothing is handed out nothing changes
+abbrev pub NothingChangesNothing : Type 0
+NothingChangesNothing = (outboxes : List OutboxView) → HandsOut outboxes (λ link. []) outboxes
+
+-- what is handed out in two turns is handed out, the one after the other
+abbrev pub TurnsAddUp : Type 0
+TurnsAddUp = (first second : ℕ → List Message) (old between new : List OutboxView) → HandsOut old first between → HandsOut between second new → HandsOut old (λ link. first link ++ second link) new

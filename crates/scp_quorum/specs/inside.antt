@@ -1,0 +1,5 @@
+pub mod Groups
+pub mod Marks
+pub mod Quorum
+pub mod QuorumTree
+pub mod Satisfies

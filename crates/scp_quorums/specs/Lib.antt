@@ -1,0 +1,3 @@
+pub mod Quorums
+pub mod Told
+pub mod inside

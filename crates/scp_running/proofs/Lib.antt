@@ -1,5 +1,0 @@
-pub mod Lists
-mod Leaving
-mod Crossing
-mod Lanes
-mod Rooms

@@ -1,5 +1,0 @@
-use Rattle.std.proofs.Common.{length}
-use Rattle.scp_running.proofs.ending.+end_lanes.Given as goal
-
-abbrev pub decreases-end_lanes : goal.decreases-end_lanes
-decreases-end_lanes g l = length l.lanes.items

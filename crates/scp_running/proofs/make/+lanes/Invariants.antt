@@ -1,5 +1,0 @@
-use Rattle.std.proofs.Common.{length}
-use Rattle.scp_running.proofs.make.+lanes.Given as goal
-
-abbrev pub decreases-lanes : goal.decreases-lanes
-decreases-lanes l = length l.ends.items

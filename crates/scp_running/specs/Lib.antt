@@ -1,5 +1,0 @@
-pub mod Seats
-pub mod Sources
-pub mod Acting
-pub mod Ended
-pub mod Left

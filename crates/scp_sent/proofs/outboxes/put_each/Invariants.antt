@@ -1,5 +1,0 @@
-use Rattle.scp_sent.proofs.Putting.{PutBelow}
-use Rattle.scp_sent.proofs.outboxes.put_each.Given as goal
-
-abbrev pub invariant-loop-outbox : goal.invariant-loop-outbox
-invariant-loop-outbox l = PutBelow l.fn.outboxes.items l.message l.outbox-index l.outbox-items

@@ -1,0 +1,42 @@
+//! Laws of the definitions, each the contract of a function that does nothing.
+ghost use Rattle.scp_theorem.specs.Kept.{RanKeepsLedger};
+ghost use Rattle.scp_theorem.specs.Runs.{NothingSentRan};
+
+use scp_driver::Driver;
+use scp_pending::{
+    each_command_keeps_its_place, each_command_passes_once, each_connection_ends_by_its_cause,
+    each_fate_has_its_cause, no_lane_delays_another, no_message_is_lost_or_overtaken,
+    nothing_is_of_a_stranger, what_is_live_is_so_by_its_place, what_is_parked_came,
+};
+use scp_wire::{
+    a_beginning_keeps_the_shape, a_lane_follows_what_was_sent, each_number_names_its_message,
+    parts_say_what_the_whole_says, what_is_read_is_what_was_sent, what_is_read_keeps_the_shape,
+};
+
+/// Where each link carries what its tail may send, each stage took in order what the one before it gave, but for what lies between
+/// them, and each stands to what it took and gave as its calls promise: the ledger theorem.
+pub fn what_ran_keeps_the_ledger<D: Driver + Drop + Copy>()
+    ensures { RanKeepsLedger D.level D.extracted D.combined D.place }
+{
+    what_is_read_keeps_the_shape();
+    what_is_read_is_what_was_sent();
+    a_beginning_keeps_the_shape();
+    parts_say_what_the_whole_says();
+    each_number_names_its_message();
+    a_lane_follows_what_was_sent();
+    no_message_is_lost_or_overtaken();
+    each_connection_ends_by_its_cause();
+    each_fate_has_its_cause();
+    each_command_passes_once();
+    each_command_keeps_its_place();
+    no_lane_delays_another();
+    nothing_is_of_a_stranger();
+    what_is_live_is_so_by_its_place();
+    what_is_parked_came();
+}
+
+/// What is asked of a run can be met: a node to which nothing was sent ran so, whoever it and its peers are, wherever its stages
+/// stand so to having taken and given nothing.
+pub fn there_are_runs<D: Driver + Drop + Copy>()
+    ensures { NothingSentRan D.level D.extracted D.combined D.place }
+{}

@@ -1,0 +1,32 @@
+-- What is told of a node when it has ended.
+use Rattle.std.specs.Prelude.{◌≡◌, ℕ, Bool, true, false, List, length, slice_get, Some}
+use Rattle.scp_types.specs.declared.names.NodeId.{NodeId}
+use Rattle.scp_quorum.specs.QuorumTree.{QuorumTree}
+use Rattle.scp_wire.specs.declared.link.Inbound.{Inbound}
+use Rattle.scp_wire.specs.declared.link.LinkItem.{LinkItem}
+use Rattle.scp_ends.specs.Links.{LinkEnd}
+use Rattle.scp_courier.specs.Carrying.{IsCarried}
+use Rattle.scp_gather.specs.declared.gathering.NodeReport.{NodeReport}
+use Rattle.scp_gather.specs.Left.{Left}
+use Rattle.scp_gather.specs.Report.{IsReportOf}
+use Rattle.scp_threaded_node.specs.declared.ending.Stood.{Stood}
+use Rattle.scp_threaded_node.specs.Seats.{Each}
+
+-- where the script drives the link, this went over it; over any other a courier carried what spells messages, and opened and closed it
+-- so often
+abbrev pub IsSentBy : Bool → List LinkItem → Stood → LinkEnd → Type 0
+IsSentBy true sent stood k = k.tail.sent ≡ sent
+IsSentBy false sent stood k = IsCarried stood.lives stood.is_open k
+
+-- so it is with each link
+abbrev pub AreSentBy : (ℕ → Bool) → (ℕ → List LinkItem) → List Stood → List LinkEnd → Type 0
+AreSentBy driven sent stood links = Each (λ i k. (st : Stood) → slice_get stood i ≡ Some st → IsSentBy (driven i) (sent i) st k) links
+
+-- It is the report of a node of these peers, gathered from what its threads left, a link for each peer. Its own commands were these, and so
+-- was all that went over the links that the script drives.
+pub record IsEnded (me : NodeId) (set : QuorumTree) (peers : List NodeId) (commands : List Inbound) (driven : ℕ → Bool) (sent : ℕ → List LinkItem) (stood : List Stood) (r : NodeReport) : Type 0 where
+  pub left : Left
+  pub report : IsReportOf me set peers left r.journal.items r.parked.items r.applied.items r.state
+  pub commands_are : left.local.sent ≡ commands
+  pub links_count : length left.links ≡ length peers
+  pub links_are : AreSentBy driven sent stood left.links

@@ -1,0 +1,6 @@
+pub mod Seats
+pub mod Sources
+pub mod Acting
+pub mod Ended
+pub mod Faults
+pub mod inside

@@ -1,0 +1,33 @@
+-- What the threads of a node left, beside what they were started with.
+-- No public clause reaches this: nothing here need be believed.
+use Rattle.std.specs.Prelude.{◌≡◌, ℕ, List, length, Some, slice_get}
+use Rattle.scp_ends.specs.Links.{LinkEnd}
+use Rattle.scp_workers.specs.Reading.{ReaderEnd}
+use Rattle.scp_workers.specs.Reading as reading
+use Rattle.scp_workers.specs.Pending as pending
+use Rattle.scp_workers.specs.Slot as slotting
+use Rattle.scp_workers.specs.Apply as applying
+use Rattle.scp_courier.specs.Carrying.{IsSameLink}
+use Rattle.scp_gather.specs.Left.{Left}
+use Rattle.scp_threaded_node.specs.declared.node.Node.{Node}
+use Rattle.scp_threaded_node.specs.declared.node.Running.{Running}
+use Rattle.scp_threaded_node.specs.Seats.{tail_of}
+
+-- a link's sending end, and what its reader ended with
+pub record IsLaneOf (x : Running) (r : ReaderEnd) (k : LinkEnd) : Type 0 where
+  pub reader : reading.HoldsEnds x.reader.promise.0.value r
+  pub link : IsSameLink (tail_of x.tail) k
+
+-- one of each for each link, in their order
+pub record AreEndsOf (lanes : List Running) (readers : List ReaderEnd) (links : List LinkEnd) : Type 0 where
+  pub readers_count : length readers ≡ length lanes
+  pub links_count : length links ≡ length lanes
+  pub each : (i : ℕ) → (x : Running) → slice_get lanes i ≡ Some x → (r : ReaderEnd) → slice_get readers i ≡ Some r → (k : LinkEnd) → slice_get links i ≡ Some k → IsLaneOf x r k
+
+-- the ends are those that the threads of the node were given, and the end of its own commands is the node's
+pub record IsLeft (node : Node) (e : Left) : Type 0 where
+  pub lanes : AreEndsOf node.lanes.items e.readers e.links
+  pub local : e.local ≡ node.local
+  pub pend : pending.HoldsEnds node.pend.promise.0.value e.pend
+  pub slot : slotting.HoldsEnds node.slot.promise.0.value e.slot
+  pub apply : applying.HoldsEnds node.apply.promise.0.value e.apply

@@ -1,0 +1,289 @@
+//! The end of a node: all is stopped, every thread joined, and what they left is gathered.
+ghost use Rattle.std.specs.Prelude.{◌≡◌, ◌≤◌, ◌||◌, ◌++◌, ◌∷◌, ℕ, Bool, true, false, not, List, [], length, IfOk, IfSome, IsOkUnless, MatchResult, None, Ok, Some, is_none};
+ghost use Rattle.std.specs.List.{list_any};
+ghost use Rattle.std.specs.Option.{option_or};
+ghost use Rattle.std.specs.Result.{result_err};
+ghost use Rattle.scp_types.specs.declared.fault.Stage.TheVariants.{Reader};
+ghost use Rattle.scp_types.specs.declared.names.NodeId.{NodeId};
+ghost use Rattle.scp_quorum.specs.QuorumTree.{QuorumTree};
+ghost use Rattle.scp_wire.specs.declared.link.LinkItem.{LinkItem};
+ghost use Rattle.scp_ends.specs.Links.{LinkEnd};
+ghost use Rattle.scp_workers.specs.Reading as reading;
+ghost use Rattle.scp_courier.specs.Carrying.{IsSameLink, IsCarried};
+ghost use Rattle.scp_pending.specs.Peers.{AreApart};
+ghost use Rattle.scp_gather.specs.Report.{has_failed as failed, first_so};
+ghost use Rattle.scp_threaded_node.specs.Seats.{AreDriven, IsDriven, Runs, tail_of};
+ghost use Rattle.scp_threaded_node.specs.Ended.{IsEnded, IsSentBy, AreSentBy};
+ghost use Rattle.scp_threaded_node.specs.Faults.{NodeEnd, IsNodeEnd, IsTold, courier_fault, fault_by, fault_of, local_fault};
+ghost use Rattle.scp_threaded_node.specs.inside.Ending.{HasTailFault, HaveEnded, IsLeftOf};
+ghost use Rattle.scp_threaded_node.specs.inside.Left.{AreEndsOf, IsLeft};
+
+use crate::node::{Node, Running, Tail};
+use scp_courier::CourierEnded;
+use scp_ends::{LinkDone, LinkTx, LocalDone, LocalTx};
+use scp_gather::{Ends, NodeReport, first_failed, gather, has_failed};
+use scp_types::{Fault, Stage};
+use scp_workers::{ApplyEnded, PendEnded, ReaderEnded, SlotEnded};
+use std::alloc::Global;
+use std::sync::Wait;
+use std::thread::Threads;
+
+/// How a link stands: how often it was opened, and whether it is open.
+#[derive(Clone, Copy, Debug, PartialEq, Eq)]
+pub struct Stood {
+    pub lives: usize,
+    pub is_open: bool,
+}
+
+/// What a courier's link left, where the courier ended well and the link stands so; else that memory was wanting, or that the link
+/// stands otherwise.
+fn carried(ended: CourierEnded, stood: Stood) -> Result<LinkDone, Fault>
+    ensures link { IfOk result (λ k. ended.link ≡ Some k) }
+    ensures carried { IfOk result (IsCarried stood.lives stood.is_open) }
+    ensures why { result_err result ≡ courier_fault ended stood }
+{
+    let stands = ended.lives() as usize == stood.lives && ended.is_open() == stood.is_open;
+    match ended.into_link() {
+        None => Err(Fault::NoMemory),
+        Some(_) if !stands => Err(Fault::NotOpen),
+        Some(link) => Ok(link),
+    }
+}
+
+/// Ends a link that the script drives, where its reader is there.
+fn end_driven<R: Wait>(rt: &R, tail: LinkTx) -> Result<LinkDone, Fault>
+    ensures same { IfOk result (λ done. done ≡ tail) }
+    ensures gone { IsOkUnless result (Fault.Refused Reader) }
+{
+    match tail.stop(rt) {
+        Ok(done) => Ok(done),
+        Err(_) => Err(Fault::Refused(Stage::Reader)),
+    }
+}
+
+/// Stops a link, and waits until who sends on it has ended. Refused where a courier failed, or its link doesn't stand so.
+fn end_tail<R: Threads + Wait>(rt: &R, tail: Tail, stood: Stood) -> Result<LinkDone, Fault>
+    ensures same { IfOk result (IsSameLink (tail_of tail)) }
+    ensures sent { (driven : Bool) → (sent : List LinkItem) → IsDriven driven sent tail → IfOk result (IsSentBy driven sent stood) }
+    ensures why { HasTailFault tail stood (result_err result) }
+{
+    match tail {
+        Tail::Script(tail) => end_driven(rt, tail),
+        Tail::Courier(thread) => carried(thread.join(rt), stood),
+    }
+}
+
+/// Stops a link, and waits until its threads have ended.
+fn end_lane<R: Threads + Wait>(
+    rt: &R,
+    lane: Running,
+    stood: Stood,
+) -> (ReaderEnded, Result<LinkDone, Fault>)
+    ensures reader { reading.HoldsEnds lane.reader.promise.0.value result.0 }
+    ensures same { IfOk result.1 (IsSameLink (tail_of lane.tail)) }
+    ensures sent { (driven : Bool) → (sent : List LinkItem) → IsDriven driven sent lane.tail → IfOk result.1 (IsSentBy driven sent stood) }
+    ensures why { HasTailFault lane.tail stood (result_err result.1) }
+{
+    let Running { tail, reader } = lane;
+    let link = end_tail(rt, tail, stood);
+    (reader.join(rt), link)
+}
+
+/// What the links of a node left: all of it, where none has a fault and nothing is lost.
+#[derive(Drop)]
+struct Lanes {
+    readers: Vec<ReaderEnded>,
+    links: Vec<LinkDone>,
+    /// A reader failed.
+    failed: bool,
+    /// The fault of the first link whose sending end has one.
+    fault: Option<Fault>,
+    /// Memory was wanting.
+    lost: bool,
+}
+
+/// The first of two faults that is there.
+fn first(a: Option<Fault>, b: Option<Fault>) -> Option<Fault>
+    ensures { result ≡ option_or a b }
+{
+    match a {
+        Some(fault) => Some(fault),
+        None => b,
+    }
+}
+
+/// Why a link left nothing.
+fn fault_at(link: &Result<LinkDone, Fault>) -> Option<Fault>
+    ensures { result ≡ result_err link.now }
+{
+    match link {
+        Ok(_) => None,
+        Err(fault) => Some(*fault),
+    }
+}
+
+/// Adds what one link left, and says whether there was memory.
+fn keep(
+    readers: &mut Vec<ReaderEnded>,
+    links: &mut Vec<LinkDone>,
+    reader: ReaderEnded,
+    link: LinkDone,
+) -> bool
+    ensures { result ≡ true → (readers.new.items ≡ readers.old.items ++ reader ∷ []) × (links.new.items ≡ links.old.items ++ link ∷ []) }
+{
+    if readers.reserve(1).is_err() || links.reserve(1).is_err() {
+        return false;
+    }
+    readers.push_reserved(reader);
+    links.push_reserved(link);
+    true
+}
+
+/// Adds what one link left.
+fn add(lanes: &mut Lanes, reader: ReaderEnded, link: Result<LinkDone, Fault>)
+    ensures kept { lanes.new.lost ≡ false → lanes.new.fault ≡ None → (lanes.old.lost ≡ false) × (lanes.new.readers.items ≡ lanes.old.readers.items ++ reader ∷ []) × (k : LinkEnd) × (link ≡ Ok k) × (lanes.new.links.items ≡ lanes.old.links.items ++ k ∷ []) }
+    ensures failed { lanes.new.failed ≡ lanes.old.failed || failed reader }
+    ensures fault { lanes.new.fault ≡ option_or lanes.old.fault (result_err link) }
+{
+    lanes.failed = lanes.failed || has_failed(&reader);
+    lanes.fault = first(lanes.fault, fault_at(&link));
+    if let Ok(link) = link {
+        if !keep(&mut lanes.readers, &mut lanes.links, reader, link) {
+            lanes.lost = true;
+        }
+    }
+}
+
+/// Stops the links of a node, in their order, and waits until their threads have ended.
+fn end_lanes<R: Threads + Wait>(
+    rt: &R,
+    alloc: Global,
+    lanes: Vec<Running>,
+    stood: &[Stood],
+) -> Lanes
+    requires stood { length lanes.items ≤ length stood.now }
+    ensures left { result.lost ≡ false → result.fault ≡ None → AreEndsOf lanes.items result.readers.items result.links.items }
+    ensures readers { result.lost ≡ false → result.fault ≡ None → list_any failed result.readers.items ≡ result.failed }
+    ensures sent { (driven : ℕ → Bool) → (sent : ℕ → List LinkItem) → AreDriven driven sent lanes.items → result.lost ≡ false → result.fault ≡ None → AreSentBy driven sent stood.now result.links.items }
+    ensures ended { HaveEnded lanes.items stood.now result.failed result.fault }
+{
+    let mut lanes = lanes;
+    let Some(last) = lanes.pop() else {
+        return Lanes {
+            readers: Vec::new(alloc),
+            links: Vec::new(alloc),
+            failed: false,
+            fault: None,
+            lost: false,
+        };
+    };
+    let place = lanes.len();
+    let mut left = end_lanes(rt, alloc, lanes, stood);
+    let (reader, link) = end_lane(rt, last, stood[place]);
+    add(&mut left, reader, link);
+    left
+}
+
+/// Which fault is told: a stage's failure, else the first link's, else that of the commands; where there is none, want of memory.
+fn told(stage: Option<Stage>, links: Option<Fault>, commands: Option<Fault>) -> Fault
+    ensures { IsTold (fault_by stage links commands) result }
+{
+    if let Some(stage) = stage {
+        return Fault::Refused(stage);
+    }
+    match first(links, commands) {
+        Some(fault) => fault,
+        None => Fault::NoMemory,
+    }
+}
+
+/// What a node left, where nothing of it is lost.
+fn collect(
+    lanes: Lanes,
+    local: Option<LocalDone>,
+    pend: PendEnded,
+    slot: SlotEnded,
+    apply: ApplyEnded,
+) -> Result<Ends, Fault>
+    ensures all { IfOk result (λ e. (lanes.lost ≡ false) × (local ≡ Some e.local) × (e.readers ≡ lanes.readers.items) × (e.links ≡ lanes.links.items) × (e.pend ≡ pend) × (e.slot ≡ slot) × (e.apply ≡ apply)) }
+    ensures why { MatchResult result (λ _. lanes.fault ≡ None) (IsTold (fault_by (first_so lanes.failed (is_none pend.output) (is_none slot.output) (not apply.well)) lanes.fault (local_fault local))) }
+{
+    let Lanes {
+        readers,
+        links,
+        failed,
+        fault,
+        lost,
+    } = lanes;
+    let stage = first_failed(failed, &pend, &slot, &apply);
+    match local {
+        Some(local) if !lost && fault.is_none() => Ok(Ends {
+            readers,
+            links,
+            local,
+            pend,
+            slot,
+            apply,
+        }),
+        Some(_) => Err(told(stage, fault, None)),
+        None => Err(told(stage, fault, Some(Fault::Refused(Stage::Pend)))),
+    }
+}
+
+/// Ends a node's own commands.
+fn end_local<R: Wait>(rt: &R, local: LocalTx) -> Option<LocalDone>
+    ensures { IfSome result (λ done. done ≡ local) }
+{
+    match local.stop(rt) {
+        Ok(done) => Some(done),
+        Err(_) => None,
+    }
+}
+
+/// Stops a node, and joins each of its threads.
+fn stop<R: Threads + Wait>(
+    rt: &R,
+    alloc: Global,
+    node: Node,
+    stood: &[Stood],
+) -> Result<Ends, Fault>
+    requires stood { length node.lanes.items ≤ length stood.now }
+    ensures left { IfOk result (IsLeft node) }
+    ensures sent { (driven : ℕ → Bool) → (sent : ℕ → List LinkItem) → AreDriven driven sent node.lanes.items → IfOk result (λ e. AreSentBy driven sent stood.now e.links) }
+    ensures ended { (x : NodeEnd) × IsNodeEnd node stood.now x × MatchResult result (IsLeftOf x) (IsTold (fault_of x)) }
+{
+    let Node {
+        lanes,
+        local,
+        pend,
+        slot,
+        apply,
+    } = node;
+    let local = end_local(rt, local);
+    let lanes = end_lanes(rt, alloc, lanes, stood);
+    let pend = pend.join(rt);
+    let slot = slot.join(rt);
+    let apply = apply.join(rt);
+    collect(lanes, local, pend, slot, apply)
+}
+
+/// Stops a node, joins each of its threads, and gathers what they left; `stood[l]` is how link l stands where a courier sends on it.
+///
+/// Refused by `Refused` with the first stage, in the order of the pipeline, of which a worker failed; else by the fault of the first
+/// link whose sending end has one: `NotOpen` where its courier left it otherwise than it was to stand, `NoMemory` where its courier
+/// failed. Where there is none, by `NoMemory`. What the threads ended with is theirs: of it nothing but their promise is known.
+pub fn end<R: Threads + Wait>(
+    rt: &R,
+    alloc: Global,
+    node: Node,
+    stood: &[Stood],
+) -> Result<NodeReport, Fault>
+    requires runs { (me : NodeId) × (set : QuorumTree) × (peers : List NodeId) × Runs me set peers node }
+    requires stood { length node.lanes.items ≤ length stood.now }
+    ensures ended { (me : NodeId) → (set : QuorumTree) → (peers : List NodeId) → AreApart peers → Runs me set peers node
+        → (driven : ℕ → Bool) → (sent : ℕ → List LinkItem) → AreDriven driven sent node.lanes.items
+        → IfOk result (IsEnded me set peers node.local.sent driven sent stood.now) }
+    ensures fault { (x : NodeEnd) × IsNodeEnd node stood.now x × MatchResult result (λ _. fault_of x ≡ None) (IsTold (fault_of x)) }
+{
+    gather(stop(rt, alloc, node, stood)?)
+}

@@ -1,0 +1,311 @@
+//! The channels and workers of a node, before any thread is started.
+ghost use Rattle.std.specs.Prelude.{◌≡◌, ◌≤◌, ◌+◌, [], false, length, IfOk, IsOkUnless};
+ghost use Rattle.scp_quorum.specs.Sane.{IsSane};
+ghost use Rattle.scp_ends.specs.Ends.{AreFresh, fresh};
+ghost use Rattle.scp_ends.specs.Links.{new_link};
+ghost use Rattle.scp_threaded_node.specs.Seats.{IsLane, AreLanes, AreUnused, AreStages, IsLocal};
+ghost use Rattle.scp_types.specs.Range.{IsInRange};
+ghost use Rattle.scp_threaded_node.specs.Sources.{HaveRoom};
+
+use scp_ends::{
+    DecidedRx, DecidedTx, InboxRx, InboxTx, LinkRx, LinkTx, LocalTx, ReadyRx, ReadyTx, decided,
+    inbox, link, ready,
+};
+use scp_outbox::SharedOutbox;
+use scp_quorum::{QuorumSet, SaneSet};
+use scp_script::Capacities;
+use scp_types::{Fault, NodeId};
+use scp_workers::{ApplyWorker, PendWorker, ReaderWorker, SlotWorker};
+use std::alloc::{AllocError, Global};
+use std::sync::Arc;
+
+/// A link to a node: its sending end, and the worker that reads it.
+#[derive(Drop)]
+pub struct Lane {
+    pub tail: LinkTx,
+    pub reader: ReaderWorker,
+}
+
+/// What a node consists of: a link from each peer, the end of its own commands, and the workers of its stages.
+#[derive(Drop)]
+pub struct Parts {
+    pub lanes: Vec<Lane>,
+    pub local: LocalTx,
+    pub pend: PendWorker,
+    pub slot: SlotWorker,
+    pub apply: ApplyWorker,
+}
+
+/// The outboxes of a node: at place l, what goes to its peer of link l.
+pub type Outboxes = Vec<Arc<SharedOutbox>>;
+
+/// The same outboxes once more.
+pub fn again(alloc: Global, outboxes: &[Arc<SharedOutbox>]) -> Result<Outboxes, AllocError> {
+    let mut copies = Vec::new(alloc);
+    for outbox in outboxes {
+        copies.reserve(1)?;
+        copies.push_reserved(Arc::try_clone(outbox)?);
+    }
+    Ok(copies)
+}
+
+/// A link from a peer, whose room is in range.
+fn link_of(
+    alloc: Global,
+    me: NodeId,
+    peer: NodeId,
+    capacity: usize,
+) -> Result<(LinkTx, LinkRx), Fault>
+    requires room { IsInRange capacity }
+    ensures ends { IfOk result (λ r. (r.0 ≡ new_link peer me r.1.line) × (r.1 ≡ record { line = r.1.line; producers = 1; room = capacity; got = [] })) }
+    ensures only_memory { IsOkUnless result Fault.NoMemory }
+{
+    link(alloc, peer, me, capacity)
+}
+
+/// The ends of an inbox for so many links and the node's own commands.
+fn inbox_of(alloc: Global, links: u8, capacity: usize) -> Result<(Vec<InboxTx>, InboxRx), Fault>
+    requires few { links ≤ 7 }
+    requires room { IsInRange capacity }
+    ensures ends { IfOk result (λ r. AreFresh r.1.line r.0.items × (length r.0.items ≡ links + 1) × (r.1 ≡ record { line = r.1.line; producers = links + 1; room = capacity; got = [] })) }
+    ensures only_memory { IsOkUnless result Fault.NoMemory }
+{
+    inbox(alloc, links + 1, capacity)
+}
+
+/// The ends of the channel to the slot stage, whose room is in range.
+fn ready_of(alloc: Global, capacity: usize) -> Result<(ReadyTx, ReadyRx), Fault>
+    requires room { IsInRange capacity }
+    ensures ends { IfOk result (λ r. (r.0 ≡ fresh r.1.line 0) × (r.1 ≡ record { line = r.1.line; producers = 1; room = capacity; got = [] })) }
+    ensures only_memory { IsOkUnless result Fault.NoMemory }
+{
+    ready(alloc, capacity)
+}
+
+/// The ends of the channel to the applier, whose room is in range.
+fn decided_of(alloc: Global, capacity: usize) -> Result<(DecidedTx, DecidedRx), Fault>
+    requires room { IsInRange capacity }
+    ensures ends { IfOk result (λ r. (r.0 ≡ fresh r.1.line 0) × (r.1 ≡ record { line = r.1.line; producers = 1; room = capacity; got = [] })) }
+    ensures only_memory { IsOkUnless result Fault.NoMemory }
+{
+    decided(alloc, capacity)
+}
+
+/// The link from a peer, and its reader.
+fn make_lane(
+    alloc: Global,
+    me: NodeId,
+    peer: NodeId,
+    place: u8,
+    capacity: usize,
+    tx: InboxTx,
+) -> Result<Lane, Fault>
+    requires unused { (tx.sent ≡ []) × (tx.number ≡ place) }
+    requires room { IsInRange capacity }
+    ensures lane { IfOk result (λ x. IsLane me peer tx.line place x.tail x.reader) }
+    ensures unused { IfOk result (λ x. x.tail.tail.sent ≡ []) }
+    ensures only_memory { IsOkUnless result Fault.NoMemory }
+{
+    let (tail, rx) = link_of(alloc, me, peer, capacity)?;
+    Ok(Lane {
+        tail,
+        reader: ReaderWorker::new(alloc, me, place, rx, tx),
+    })
+}
+
+/// The links from the first peers, a reader's end for each, in their order.
+fn lanes(
+    alloc: Global,
+    me: NodeId,
+    peers: &[NodeId],
+    capacity: usize,
+    rx: &InboxRx,
+    ends: Vec<InboxTx>,
+) -> Result<Vec<Lane>, Fault>
+    requires few { (length ends.items ≤ length peers.now) × (length peers.now ≤ 7) }
+    requires fresh { AreFresh rx.now.line ends.items }
+    requires room { IsInRange capacity }
+    ensures count { IfOk result (λ xs. length xs.items ≡ length ends.items) }
+    ensures lanes { IfOk result (λ xs. AreLanes me peers.now rx.now.line xs.items) }
+    ensures unused { IfOk result (λ xs. AreUnused xs.items) }
+    ensures only_memory { IsOkUnless result Fault.NoMemory }
+{
+    let mut rest = ends;
+    let Some(last) = rest.pop() else {
+        return Ok(Vec::new(alloc));
+    };
+    let place = rest.len();
+    let mut lanes = lanes(alloc, me, peers, capacity, rx, rest)?;
+    lanes.reserve(1)?;
+    let next = make_lane(alloc, me, peers[place], place as u8, capacity, last)?;
+    lanes.push_reserved(next);
+    Ok(lanes)
+}
+
+/// The quorum set, which is sane.
+fn sane(set: QuorumSet) -> Result<SaneSet, Fault>
+    requires { IsSane set }
+    ensures set { IfOk result (λ made. made ≡ set) }
+    ensures only_memory { IsOkUnless result Fault.NoMemory }
+{
+    match set.into_sane() {
+        Ok(set) => Ok(set),
+        Err((fault, _)) => Err(fault),
+    }
+}
+
+/// The worker of the pending stage, between the inbox and the slot stage.
+fn make_pend(
+    alloc: Global,
+    me: NodeId,
+    set: Arc<SaneSet>,
+    peers: &[NodeId],
+    outboxes: &[Arc<SharedOutbox>],
+    rx: InboxRx,
+    tx: ReadyTx,
+) -> Result<PendWorker, AllocError>
+    requires few { length peers.now ≤ 7 }
+    requires unused { (rx.got ≡ []) × (tx.sent ≡ []) }
+    requires producers { rx.producers ≡ length peers.now + 1 }
+    ensures { IfOk result (λ w. w ≡ record { me = me; peers = peers.now; local = set.value; input = rx; output = tx; failed = false; cut_off = false }) }
+{
+    let known = Vec::from_slice(alloc, peers)?;
+    let outlets = again(alloc, outboxes)?;
+    let producers = peers.len() as u8 + 1;
+    Ok(PendWorker::new(alloc, me, known, set, outlets, rx, producers, tx))
+}
+
+/// The worker of the slot stage, between the pending stage and the applier.
+fn make_slot(
+    alloc: Global,
+    me: NodeId,
+    set: Arc<SaneSet>,
+    peers: &[NodeId],
+    outboxes: &[Arc<SharedOutbox>],
+    rx: ReadyRx,
+    tx: DecidedTx,
+) -> Result<SlotWorker, AllocError>
+    requires few { length peers.now ≤ 7 }
+    requires unused { (rx.got ≡ []) × (tx.sent ≡ []) }
+    requires one { rx.producers ≡ 1 }
+    ensures { IfOk result (λ w. w ≡ record { me = me; peers = peers.now; local = set.value; input = rx; output = tx; failed = false; cut_off = false }) }
+{
+    let known = Vec::from_slice(alloc, peers)?;
+    let outlets = again(alloc, outboxes)?;
+    Ok(SlotWorker::new(alloc, me, known, set, outlets, rx, tx))
+}
+
+/// The worker of the applier, behind the slot stage.
+fn make_apply(
+    alloc: Global,
+    me: NodeId,
+    outboxes: &[Arc<SharedOutbox>],
+    rx: DecidedRx,
+) -> Result<ApplyWorker, AllocError>
+    requires unused { rx.got ≡ [] }
+    requires one { rx.producers ≡ 1 }
+    ensures { IfOk result (λ w. w ≡ record { input = rx; failed = false; cut_off = false }) }
+{
+    Ok(ApplyWorker::new(alloc, me, again(alloc, outboxes)?, rx))
+}
+
+/// The slot stage and the applier, and the end that sends to them.
+fn make_last(
+    alloc: Global,
+    me: NodeId,
+    set: Arc<SaneSet>,
+    peers: &[NodeId],
+    capacities: Capacities,
+    outboxes: &[Arc<SharedOutbox>],
+) -> Result<(ReadyTx, SlotWorker, ApplyWorker), Fault>
+    requires few { length peers.now ≤ 7 }
+    requires room { HaveRoom capacities }
+    ensures ready { IfOk result (λ r. r.0 ≡ fresh r.1.input.line 0) }
+    ensures slot_of { IfOk result (λ r. (r.1.me ≡ me) × (r.1.peers ≡ peers.now) × (r.1.local ≡ set.value) × (r.1.input.producers ≡ 1)) }
+    ensures decided { IfOk result (λ r. (r.1.output.line ≡ r.2.input.line) × (r.1.output.number ≡ 0) × (r.2.input.producers ≡ 1)) }
+    ensures only_memory { IsOkUnless result Fault.NoMemory }
+{
+    let (tx, ready) = ready_of(alloc, usize::from(capacities.ready))?;
+    let (decided, rx) = decided_of(alloc, usize::from(capacities.decided))?;
+    let slot = make_slot(alloc, me, set, peers, outboxes, ready, decided)?;
+    let apply = make_apply(alloc, me, outboxes, rx)?;
+    Ok((tx, slot, apply))
+}
+
+/// The stages of a node behind its inbox, which carried nothing yet.
+fn make_stages(
+    alloc: Global,
+    me: NodeId,
+    set: QuorumSet,
+    peers: &[NodeId],
+    capacities: Capacities,
+    outboxes: &[Arc<SharedOutbox>],
+    rx: InboxRx,
+) -> Result<(PendWorker, SlotWorker, ApplyWorker), Fault>
+    requires few { length peers.now ≤ 7 }
+    requires sane { IsSane set }
+    requires room { HaveRoom capacities }
+    requires inbox { (rx.got ≡ []) × (rx.producers ≡ length peers.now + 1) }
+    ensures stages { IfOk result (λ r. AreStages me set peers.now r.0 r.1 r.2) }
+    ensures inbox { IfOk result (λ r. r.0.input ≡ rx) }
+    ensures only_memory { IsOkUnless result Fault.NoMemory }
+{
+    let set = Arc::new(alloc, sane(set)?)?;
+    let again = Arc::try_clone(&set)?;
+    let (tx, slot, apply) = make_last(alloc, me, again, peers, capacities, outboxes)?;
+    let pend = make_pend(alloc, me, set, peers, outboxes, rx, tx)?;
+    Ok((pend, slot, apply))
+}
+
+/// The links of a node of these peers, the end of its own commands, and its inbox.
+fn make_lanes(
+    alloc: Global,
+    me: NodeId,
+    peers: &[NodeId],
+    capacities: Capacities,
+) -> Result<(Vec<Lane>, LocalTx, InboxRx), Fault>
+    requires few { length peers.now ≤ 7 }
+    requires room { HaveRoom capacities }
+    ensures count { IfOk result (λ r. length r.0.items ≡ length peers.now) }
+    ensures lanes { IfOk result (λ r. AreLanes me peers.now r.2.line r.0.items × AreUnused r.0.items) }
+    ensures local { IfOk result (λ r. r.1 ≡ fresh r.2.line (length peers.now)) }
+    ensures inbox { IfOk result (λ r. (r.2.got ≡ []) × (r.2.producers ≡ length peers.now + 1)) }
+    ensures only_memory { IsOkUnless result Fault.NoMemory }
+{
+    let (mut ends, rx) = inbox_of(alloc, peers.len() as u8, usize::from(capacities.inbox))?;
+    let Some(local) = ends.pop() else {
+        unreachable!()
+    };
+    let lanes = lanes(alloc, me, peers, usize::from(capacities.link), &rx, ends)?;
+    Ok((lanes, LocalTx::new(local), rx))
+}
+
+/// A node of these peers, whose channels carried nothing yet.
+pub fn make_parts(
+    alloc: Global,
+    me: NodeId,
+    set: QuorumSet,
+    peers: &[NodeId],
+    capacities: Capacities,
+    outboxes: &[Arc<SharedOutbox>],
+) -> Result<Parts, Fault>
+    requires few { length peers.now ≤ 7 }
+    requires sane { IsSane set }
+    requires room { HaveRoom capacities }
+    ensures count { IfOk result (λ p. length p.lanes.items ≡ length peers.now) }
+    ensures lanes { IfOk result (λ p. AreLanes me peers.now p.pend.input.line p.lanes.items) }
+    ensures local { IfOk result (λ p. IsLocal peers.now p.pend p.local) }
+    ensures stages { IfOk result (λ p. AreStages me set peers.now p.pend p.slot p.apply) }
+    ensures unused { IfOk result (λ p. AreUnused p.lanes.items × (p.local.sent ≡ [])) }
+    ensures only_memory { IsOkUnless result Fault.NoMemory }
+{
+    let (lanes, local, rx) = make_lanes(alloc, me, peers, capacities)?;
+    let (pend, slot, apply) = make_stages(alloc, me, set, peers, capacities, outboxes, rx)?;
+    Ok(Parts {
+        lanes,
+        local,
+        pend,
+        slot,
+        apply,
+    })
+}

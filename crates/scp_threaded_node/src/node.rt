@@ -1,0 +1,202 @@
+//! A node that runs: each of its workers in a thread of its own.
+ghost use Rattle.std.specs.Prelude.{◌≡◌, ◌<◌, ◌+◌, ◌∷◌, ◌++◌, ℕ, Bool, List, [], length, IfOk, IsOkUnless, is_none};
+ghost use Rattle.std.specs.Thread.{IsSync};
+ghost use Rattle.scp_types.specs.declared.names.NodeId.{NodeId};
+ghost use Rattle.scp_quorum.specs.QuorumTree.{QuorumTree};
+ghost use Rattle.scp_wire.specs.declared.link.Inbound.{Inbound};
+ghost use Rattle.scp_ends.specs.Ends.{Line};
+ghost use Rattle.scp_threaded_node.specs.Seats.{AreLanes, AreRunning, AreUnused, IsDriven, AreDriven, AreStages, IsLocal, Runs, tail_of};
+ghost use Rattle.scp_threaded_node.specs.Sources.{AreSources};
+
+use crate::make::{Lane, Parts};
+use crate::starting::{
+    ApplyThread, CourierThread, PendThread, ReaderThread, SlotThread, start_apply, start_courier,
+    start_pend, start_reader, start_slot,
+};
+use scp_courier::Courier;
+use scp_ends::{LinkTx, LocalTx};
+use scp_gate::Gate;
+use scp_outbox::SharedOutbox;
+use scp_types::{Fault, NodeId};
+use scp_workers::{ApplyWorker, SlotWorker};
+use std::alloc::Global;
+use std::sync::{Arc, Wait};
+use std::thread::{Scope, Threads};
+
+/// Who sends on a link.
+#[derive(Drop)]
+pub enum Tail {
+    /// The script.
+    Script(LinkTx),
+    /// A courier.
+    Courier(CourierThread),
+}
+
+/// A link to a node that runs.
+#[derive(Drop)]
+pub struct Running {
+    pub tail: Tail,
+    pub reader: ReaderThread,
+}
+
+/// A node that runs.
+#[derive(Drop)]
+pub struct Node {
+    pub lanes: Vec<Running>,
+    pub local: LocalTx,
+    pub pend: PendThread,
+    pub slot: SlotThread,
+    pub apply: ApplyThread,
+}
+
+/// What a courier is told: its node, the number of the link among that node's, and the outbox; or nothing, where the script sends.
+#[derive(Drop)]
+pub struct Source {
+    pub node: NodeId,
+    pub link: u8,
+    pub outbox: Arc<SharedOutbox>,
+}
+
+/// Starts what sends on a link.
+fn start_tail<'s, E, R: Threads + Wait + Sync, G: Gate + Sync>(
+    scope: &Scope<'s, E>,
+    rt: &'s R,
+    gate: &'s G,
+    alloc: Global,
+    tail: LinkTx,
+    source: Option<Source>,
+) -> Result<Tail, Fault>
+    requires unused { tail.tail.sent ≡ [] }
+    ensures tail { IfOk result (λ t. tail_of t ≡ tail) }
+    ensures driven { IfOk result (IsDriven (is_none source) []) }
+    ensures only_memory { IsOkUnless result Fault.NoMemory }
+{
+    match source {
+        None => Ok(Tail::Script(tail)),
+        Some(Source { node, link, outbox }) => {
+            let courier = Courier::new(alloc, node, link, outbox, tail);
+            Ok(Tail::Courier(start_courier(scope, rt, gate, courier)?))
+        }
+    }
+}
+
+/// Starts a link's reader, and what sends on it.
+fn start_lane<'s, E, R: Threads + Wait + Sync, G: Gate + Sync>(
+    scope: &Scope<'s, E>,
+    rt: &'s R,
+    gate: &'s G,
+    alloc: Global,
+    lane: Lane,
+    source: Option<Source>,
+) -> Result<Running, Fault>
+    requires unused { lane.tail.tail.sent ≡ [] }
+    ensures tail { IfOk result (λ x. tail_of x.tail ≡ lane.tail) }
+    ensures reader { IfOk result (λ x. x.reader.promise.0.value ≡ lane.reader) }
+    ensures driven { IfOk result (λ x. IsDriven (is_none source) [] x.tail) }
+    ensures only_memory { IsOkUnless result Fault.NoMemory }
+{
+    let Lane { tail, reader } = lane;
+    let reader = start_reader(scope, rt, gate, reader)?;
+    let tail = start_tail(scope, rt, gate, alloc, tail, source)?;
+    Ok(Running { tail, reader })
+}
+
+/// The last of the sources, which is taken off them.
+fn last_of(sources: &mut Vec<Option<Source>>) -> Option<Source>
+    requires some { 0 < length sources.old.items }
+    ensures last { sources.old.items ≡ sources.new.items ++ result ∷ [] }
+    ensures count { length sources.new.items + 1 ≡ length sources.old.items }
+{
+    let Some(source) = sources.pop() else {
+        unreachable!()
+    };
+    source
+}
+
+/// Starts the links of a node; `sources[l]` is what sends on link l where the script doesn't.
+fn start_lanes<'s, E, R: Threads + Wait + Sync, G: Gate + Sync>(
+    scope: &Scope<'s, E>,
+    rt: &'s R,
+    gate: &'s G,
+    alloc: Global,
+    lanes: Vec<Lane>,
+    sources: Vec<Option<Source>>,
+) -> Result<Vec<Running>, Fault>
+    requires sync { IsSync R.row × IsSync G.row }
+    requires sources { length sources.items ≡ length lanes.items }
+    requires unused { AreUnused lanes.items }
+    ensures count { IfOk result (λ xs. length xs.items ≡ length lanes.items) }
+    ensures lanes { (me : NodeId) → (peers : List NodeId) → (inbox : Line Inbound) → AreLanes me peers inbox lanes.items → IfOk result (λ xs. AreRunning me peers inbox xs.items) }
+    ensures driven { (driven : ℕ → Bool) → AreSources driven sources.items → IfOk result (λ xs. AreDriven driven (λ i. []) xs.items) }
+    ensures only_memory { IsOkUnless result Fault.NoMemory }
+{
+    let mut lanes = lanes;
+    let mut sources = sources;
+    let Some(last) = lanes.pop() else {
+        return Ok(Vec::new(alloc));
+    };
+    let source = last_of(&mut sources);
+    let mut running = start_lanes(scope, rt, gate, alloc, lanes, sources)?;
+    running.reserve(1)?;
+    let next = start_lane(scope, rt, gate, alloc, last, source)?;
+    running.push_reserved(next);
+    Ok(running)
+}
+
+/// Starts the last two stages.
+fn start_last<'s, E, R: Threads + Wait + Sync, G: Gate + Sync>(
+    scope: &Scope<'s, E>,
+    rt: &'s R,
+    gate: &'s G,
+    slot: SlotWorker,
+    apply: ApplyWorker,
+) -> Result<(SlotThread, ApplyThread), Fault>
+    ensures slot { IfOk result (λ t. t.0.promise.0.value ≡ slot) }
+    ensures apply { IfOk result (λ t. t.1.promise.0.value ≡ apply) }
+    ensures only_memory { IsOkUnless result Fault.NoMemory }
+{
+    let slot = start_slot(scope, rt, gate, slot)?;
+    let apply = start_apply(scope, rt, gate, apply)?;
+    Ok((slot, apply))
+}
+
+/// Starts a node.
+pub fn start<'s, E, R: Threads + Wait + Sync, G: Gate + Sync>(
+    scope: &Scope<'s, E>,
+    rt: &'s R,
+    gate: &'s G,
+    alloc: Global,
+    parts: Parts,
+    sources: Vec<Option<Source>>,
+) -> Result<Node, Fault>
+    requires sources { length sources.items ≡ length parts.lanes.items }
+    requires unused { AreUnused parts.lanes.items }
+    ensures runs { (me : NodeId) → (set : QuorumTree) → (peers : List NodeId) → length parts.lanes.items ≡ length peers → AreLanes me peers parts.pend.input.line parts.lanes.items → IsLocal peers parts.pend parts.local → AreStages me set peers parts.pend parts.slot parts.apply → IfOk result (Runs me set peers) }
+    ensures local { IfOk result (λ node. node.local ≡ parts.local) }
+    ensures driven { (driven : ℕ → Bool) → AreSources driven sources.items → IfOk result (λ node. AreDriven driven (λ i. []) node.lanes.items) }
+    ensures only_memory { IsOkUnless result Fault.NoMemory }
+{
+    let Parts {
+        lanes,
+        local,
+        pend,
+        slot,
+        apply,
+    } = parts;
+    let lanes = start_lanes(scope, rt, gate, alloc, lanes, sources)?;
+    let pend = start_pend(scope, rt, gate, pend)?;
+    match start_last(scope, rt, gate, slot, apply) {
+        Ok((slot, apply)) => Ok(Node {
+            lanes,
+            local,
+            pend,
+            slot,
+            apply,
+        }),
+        Err(fault) => {
+            // The pending stage waits for the end of each of its producers, and what a reader leaves keeps the inbox open.
+            drop(local.stop(rt));
+            Err(fault)
+        }
+    }
+}

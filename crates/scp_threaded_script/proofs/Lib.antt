@@ -1,0 +1,13 @@
+mod Each
+mod Nodes
+mod Peers
+mod Places
+mod Changing
+mod Links
+mod Sending
+mod Telling
+mod Acting
+mod Doing
+mod Standing
+pub mod Ending
+mod Faults

@@ -1,0 +1,6 @@
+use Rattle.scp_threaded_script.proofs.Acting.{all_unchanged}
+use Rattle.scp_threaded_script.proofs.Doing.{on_any_err}
+use Rattle.scp_threaded_script.proofs.lines.drive.Goals as goal
+
+pub returns-in_err-leave-clause-same : goal.returns-in_err-leave-clause-same
+returns-in_err-leave-clause-same g c = on_any_err _ (all_unchanged c.args.nodes.now.items)

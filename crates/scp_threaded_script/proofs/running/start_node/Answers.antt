@@ -1,0 +1,39 @@
+use Rattle.std.proofs.Common.{◌∙◌, ap, subst, length, arith}
+use Rattle.std.proofs.lemmas.Result.{err_from_is_err_and}
+use Rattle.scp_script.specs.Nodes.{id_of, peers_of, set_at}
+use Rattle.scp_threaded_node.specs.Seats.{AreLanes, IsLocal, AreStages}
+use Rattle.scp_threaded_script.specs.Lines.{driven_to}
+use Rattle.scp_threaded_script.proofs.Peers.{peer_count}
+use Rattle.scp_threaded_script.proofs.running.start_node.Goals as goal
+
+pub make_parts-requires-clause-few : goal.make_parts-requires-clause-few
+make_parts-requires-clause-few g c =
+    let e = c.as_slice.ensures.value ∙ c.in_ok-peers.ensures in
+    omega (arith, ap length e, peer_count c.args.count c.args.number c.requires.number.0 c.requires.number.1, c.requires.few)
+
+pub start-requires-clause-sources : goal.start-requires-clause-sources
+start-requires-clause-sources g c κs within =
+    let e = c.as_slice.ensures.value ∙ c.in_ok-peers.ensures in
+    omega (arith, ap length e, c.in_ok-sources.ensures.count, c.in_ok-parts.ensures.count, peer_count c.args.count c.args.number c.requires.number.0 c.requires.number.1)
+
+pub returns-clause-runs : goal.returns-clause-runs
+returns-clause-runs g c =
+    let me = id_of c.args.number in
+    let peers = peers_of c.args.count c.args.number in
+    let parts = c.in_ok-parts.parts in
+    let e = c.as_slice.ensures.value ∙ c.in_ok-peers.ensures in
+    c.start.ensures.runs me (set_at c.args.number c.args.commands.now) peers
+    (c.in_ok-parts.ensures.count ∙ ap length e)
+    (subst (λ x. AreLanes x peers parts.pend.input.line parts.lanes.items) c.id_from.ensures (subst (λ xs. AreLanes c.id_from.result xs parts.pend.input.line parts.lanes.items) e c.in_ok-parts.ensures.lanes))
+    (subst (λ xs. IsLocal xs parts.pend parts.local) e c.in_ok-parts.ensures.local)
+    (subst (λ x. AreStages x (set_at c.args.number c.args.commands.now) peers parts.pend parts.slot parts.apply) c.id_from.ensures
+    (subst (λ x. AreStages c.id_from.result x peers parts.pend parts.slot parts.apply) c.in_ok-set.ensures.set
+    (subst (λ xs. AreStages c.id_from.result c.in_ok-set.set xs parts.pend parts.slot parts.apply) e c.in_ok-parts.ensures.stages)))
+
+pub returns-clause-driven : goal.returns-clause-driven
+returns-clause-driven g c = c.start.ensures.driven (driven_to c.args.commands.now c.args.number) c.in_ok-sources.ensures.driven
+
+pub returns-in_err-sources-clause-only_memory : goal.returns-in_err-sources-clause-only_memory
+returns-in_err-sources-clause-only_memory g c =
+    let p = err_from_is_err_and c.from_residual-in_err-sources.result c.from_residual-in_err-sources.ensures.1 in
+    rw (p.1, p.2) c.in_err-sources.ensures.only_memory

@@ -1,0 +1,4 @@
+pub mod Ending
+pub mod Outlets
+pub mod Played
+pub mod Reported

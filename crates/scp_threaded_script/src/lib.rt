@@ -1,0 +1,21 @@
+//! The nodes of a script, each of whose stages runs in a thread of its own: what the lines do to them.
+//!
+//! What it promises, under every schedule, where no stage failed:
+//! - each node holds its ledger, of what was sent to it;
+//! - over each link that the script drives went what the lines put on it, whole and in order, and nothing else;
+//! - each node's commands are those of the lines, in order;
+//! - each other link was opened and closed as often as the lines say, and all that went over it spells messages.
+//!
+//! Where they give up, the first stage that failed of the first node of which one did is named; else what a line or a link lacked, or want
+//! of memory.
+//!
+//! Not claimed: that all threads have ended at each way out. A scope of threads gives its result only then, by the library's word.
+#![tactic(auto)]
+
+mod gate;
+mod lines;
+mod outboxes;
+mod running;
+
+pub use gate::{Counting, MOST_YIELDS};
+pub use running::{NodeFault, run_lines};

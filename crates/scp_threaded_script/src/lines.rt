@@ -1,0 +1,262 @@
+//! What the lines of a script do to nodes that run.
+ghost use Rattle.std.specs.Prelude.{◌≡◌, ◌≤◌, ◌-◌, ◌∷◌, ◌++◌, [], ℕ, List, OnOk, OnErr, All, IfOk, IfErr, IsOkUnless, length};
+ghost use Rattle.scp_wire.specs.declared.link.Inbound.TheVariants as inbound;
+ghost use Rattle.scp_script.specs.declared.command.Command.{Command};
+ghost use Rattle.scp_script.specs.declared.command.Command.TheVariants as script;
+ghost use Rattle.scp_script.specs.Nodes.{NamesNodes};
+ghost use Rattle.scp_script.specs.Script.{AreAdmitted};
+ghost use Rattle.scp_threaded_script.specs.inside.Outlets.{AreOutboxes};
+ghost use Rattle.scp_threaded_script.specs.inside.Played.{HaveDone, HaveLanes, AllRun, AreTwoOf, IsThere, IsNoLink, TellsAt, ActsOn, AreUnchanged, IsCommandOf};
+ghost use Rattle.scp_threaded_script.specs.Reported.{IsLineFault, IsOneOf};
+ghost use Rattle.scp_script.specs.Script.{node_count};
+ghost use Rattle.scp_threaded_node.specs.declared.acting.Act.{Act};
+ghost use Rattle.scp_threaded_node.specs.declared.node.Tail.{Tail};
+ghost use Rattle.scp_threaded_node.specs.Acting.{IsActFault};
+
+use crate::gate::Counting;
+use crate::outboxes::{leave, link_of, outbox_of};
+use crate::running::NodeFault;
+use scp_gate::Gate;
+use scp_outbox::Mark;
+use scp_script::Command;
+use scp_threaded_node::{Act, Node, Outboxes, act_at, is_carried_at, tell};
+use scp_types::{Fault, Slot};
+use scp_wire::{Bytes, Command as LocalCommand};
+use std::sync::Wait;
+
+/// The command for a node that a line is, with the node's number. It copies the value of a proposal; the one refusal is
+/// `NoMemory`.
+fn command_of(command: &Command) -> Result<Option<(u8, LocalCommand)>, Fault>
+    requires names { NamesNodes command.now }
+    ensures command { IfOk result (IsCommandOf command.now) }
+    ensures only_memory { IsOkUnless result Fault.NoMemory }
+{
+    match command {
+        Command::Propose { node, slot, value } => {
+            let value = value.copy()?;
+            Ok(Some((*node, LocalCommand::Propose(Slot(*slot), value))))
+        }
+        Command::Round { node, slot } => Ok(Some((*node, LocalCommand::Round(Slot(*slot))))),
+        Command::Timer { node, slot } => Ok(Some((*node, LocalCommand::Timer(Slot(*slot))))),
+        Command::Tick(node) => Ok(Some((*node, LocalCommand::Tick))),
+        Command::Ask { from, to, slot } => {
+            let link = link_of(*to, *from);
+            Ok(Some((*from, LocalCommand::Ask(link, Slot(*slot)))))
+        }
+        _ => Ok(None),
+    }
+}
+
+/// Why something wasn't done on a link to this node: its reader is gone, and the node is named, or it stands otherwise.
+fn fault_at(node: u8, fault: Fault) -> NodeFault
+    requires node { IsOneOf 8 node }
+    ensures { (count : ℕ) → IsOneOf count node → (act : Act) → (tail : Tail) → IsActFault act tail fault → IsLineFault count result.node result.fault }
+{
+    match fault {
+        Fault::Refused(_) => NodeFault { fault, node },
+        _ => NodeFault::from(Fault::NotOpen),
+    }
+}
+
+/// Does it on the link between two nodes, where the script sends on it; else does nothing. Where the link's reader is gone the second
+/// node is named; a link that can't do it stands otherwise than the lines say.
+fn act_on_link<R: Wait>(
+    rt: &R,
+    nodes: &mut Vec<Node>,
+    from: u8,
+    to: u8,
+    done: Act,
+) -> Result<(), NodeFault>
+    requires link { AreTwoOf (length nodes.old.items) from to }
+    requires lanes { HaveLanes nodes.old.items }
+    requires few { length nodes.old.items ≤ 8 }
+    ensures acts { OnOk result (ActsOn nodes.old.items from to done nodes.new.items) }
+    ensures same { OnErr result (AreUnchanged nodes.old.items nodes.new.items) }
+    ensures given_up { IfErr result (λ e. IsLineFault (length nodes.old.items) e.node e.fault) }
+{
+    let place = usize::from(link_of(from, to));
+    match act_at(rt, &mut nodes[usize::from(to - 1)], place, done) {
+        Ok(()) => Ok(()),
+        Err(fault) => Err(fault_at(to, fault)),
+    }
+}
+
+/// Tells the node of this number a command. A refusal names it.
+fn tell_node<R: Wait>(
+    rt: &R,
+    nodes: &mut Vec<Node>,
+    number: u8,
+    command: LocalCommand,
+) -> Result<(), NodeFault>
+    requires number { (1 ≤ number) × (number ≤ length nodes.old.items) }
+    requires few { length nodes.old.items ≤ 8 }
+    ensures told { OnOk result (TellsAt nodes.old.items number (inbound.Local command) nodes.new.items) }
+    ensures same { OnErr result (nodes.new.items ≡ nodes.old.items) }
+    ensures given_up { IfErr result (λ e. IsLineFault (length nodes.old.items) e.node e.fault) }
+{
+    match tell(rt, &mut nodes[usize::from(number - 1)], command) {
+        Ok(()) => Ok(()),
+        Err(fault) => Err(NodeFault {
+            fault,
+            node: number,
+        }),
+    }
+}
+
+/// Whether a courier sends on the link between two nodes.
+fn has_courier(nodes: &Vec<Node>, from: u8, to: u8) -> bool
+    requires link { AreTwoOf (length nodes.now.items) from to }
+    requires lanes { HaveLanes nodes.now.items }
+    requires few { length nodes.now.items ≤ 8 }
+{
+    is_carried_at(&nodes[usize::from(to - 1)], usize::from(link_of(from, to)))
+}
+
+/// Opens or closes a link: itself, where the script drives it; else by a mark in its sender's outbox.
+fn drive<R: Wait>(
+    rt: &R,
+    nodes: &mut Vec<Node>,
+    all: &[Outboxes],
+    from: u8,
+    to: u8,
+    done: Act,
+    left: Mark,
+) -> Result<(), NodeFault>
+    requires link { AreTwoOf (length nodes.old.items) from to }
+    requires lanes { HaveLanes nodes.old.items }
+    requires few { length nodes.old.items ≤ 8 }
+    requires outboxes { AreOutboxes (length nodes.old.items) all.now }
+    ensures acts { OnOk result (ActsOn nodes.old.items from to done nodes.new.items) }
+    ensures same { OnErr result (AreUnchanged nodes.old.items nodes.new.items) }
+    ensures given_up { IfErr result (λ e. IsLineFault (length nodes.old.items) e.node e.fault) }
+{
+    if has_courier(nodes, from, to) {
+        leave(rt, outbox_of(all, from, to), left)?;
+    }
+    act_on_link(rt, nodes, from, to, done)
+}
+
+/// Tells a node the command that a line is, if it is one.
+fn tell_line<R: Wait>(rt: &R, nodes: &mut Vec<Node>, command: &Command) -> Result<(), NodeFault>
+    requires names { NamesNodes command.now }
+    requires there { IsThere (length nodes.old.items) command.now }
+    requires few { length nodes.old.items ≤ 8 }
+    requires other { IsNoLink command.now }
+    ensures runs { (commands done : List Command) → HaveDone commands done nodes.old.items → AllRun commands nodes.new.items }
+    ensures done { OnOk result ((commands done : List Command) → HaveDone commands done nodes.old.items → HaveDone commands (done ++ command.now ∷ []) nodes.new.items) }
+    ensures given_up { IfErr result (λ e. IsLineFault (length nodes.old.items) e.node e.fault) }
+{
+    match command_of(command)? {
+        Some((number, local)) => tell_node(rt, nodes, number, local),
+        None => Ok(()),
+    }
+}
+
+/// Opens a link.
+fn open<R: Wait>(
+    rt: &R,
+    nodes: &mut Vec<Node>,
+    all: &[Outboxes],
+    from: u8,
+    to: u8,
+) -> Result<(), NodeFault>
+    requires link { AreTwoOf (length nodes.old.items) from to }
+    requires lanes { HaveLanes nodes.old.items }
+    requires few { length nodes.old.items ≤ 8 }
+    requires outboxes { AreOutboxes (length nodes.old.items) all.now }
+    ensures runs { (commands done : List Command) → HaveDone commands done nodes.old.items → AllRun commands nodes.new.items }
+    ensures done { OnOk result ((commands done : List Command) → HaveDone commands done nodes.old.items → HaveDone commands (done ++ script.Open from to ∷ []) nodes.new.items) }
+    ensures given_up { IfErr result (λ e. IsLineFault (length nodes.old.items) e.node e.fault) }
+{
+    drive(rt, nodes, all, from, to, Act::Open, Mark::Opened)
+}
+
+/// Closes a link.
+fn close<R: Wait>(
+    rt: &R,
+    nodes: &mut Vec<Node>,
+    all: &[Outboxes],
+    from: u8,
+    to: u8,
+) -> Result<(), NodeFault>
+    requires link { AreTwoOf (length nodes.old.items) from to }
+    requires lanes { HaveLanes nodes.old.items }
+    requires few { length nodes.old.items ≤ 8 }
+    requires outboxes { AreOutboxes (length nodes.old.items) all.now }
+    ensures runs { (commands done : List Command) → HaveDone commands done nodes.old.items → AllRun commands nodes.new.items }
+    ensures done { OnOk result ((commands done : List Command) → HaveDone commands done nodes.old.items → HaveDone commands (done ++ script.Close from to ∷ []) nodes.new.items) }
+    ensures given_up { IfErr result (λ e. IsLineFault (length nodes.old.items) e.node e.fault) }
+{
+    drive(rt, nodes, all, from, to, Act::Close, Mark::Closed)
+}
+
+/// Sends bytes on a link that the script drives.
+fn send<R: Wait>(
+    rt: &R,
+    nodes: &mut Vec<Node>,
+    from: u8,
+    to: u8,
+    bytes: &Bytes,
+) -> Result<(), NodeFault>
+    requires link { AreTwoOf (length nodes.old.items) from to }
+    requires lanes { HaveLanes nodes.old.items }
+    requires few { length nodes.old.items ≤ 8 }
+    ensures runs { (commands done : List Command) → HaveDone commands done nodes.old.items → AllRun commands nodes.new.items }
+    ensures done { OnOk result ((commands done : List Command) → HaveDone commands done nodes.old.items → HaveDone commands (done ++ script.Send from to bytes.now ∷ []) nodes.new.items) }
+    ensures given_up { IfErr result (λ e. IsLineFault (length nodes.old.items) e.node e.fault) }
+{
+    let bytes = bytes.copy()?;
+    act_on_link(rt, nodes, from, to, Act::Send(bytes))
+}
+
+/// Does what a line says.
+fn act_on_line<R: Wait, G: Gate>(
+    rt: &R,
+    nodes: &mut Vec<Node>,
+    all: &[Outboxes],
+    gate: &Counting<G>,
+    command: &Command,
+) -> Result<(), NodeFault>
+    requires names { NamesNodes command.now }
+    requires there { IsThere (length nodes.old.items) command.now }
+    requires lanes { HaveLanes nodes.old.items }
+    requires few { length nodes.old.items ≤ 8 }
+    requires outboxes { AreOutboxes (length nodes.old.items) all.now }
+    ensures runs { (commands done : List Command) → HaveDone commands done nodes.old.items → AllRun commands nodes.new.items }
+    ensures done { OnOk result ((commands done : List Command) → HaveDone commands done nodes.old.items → HaveDone commands (done ++ command.now ∷ []) nodes.new.items) }
+    ensures given_up { IfErr result (λ e. IsLineFault (length nodes.old.items) e.node e.fault) }
+{
+    match command {
+        Command::Open { from, to } => open(rt, nodes, all, *from, *to),
+        Command::Close { from, to } => close(rt, nodes, all, *from, *to),
+        Command::Send { from, to, bytes } => send(rt, nodes, *from, *to, bytes),
+        Command::Wait { node, things } => {
+            gate.wait(*node, *things);
+            Ok(())
+        }
+        _ => tell_line(rt, nodes, command),
+    }
+}
+
+/// Does what the lines say, in their order.
+pub fn act_all<R: Wait, G: Gate>(
+    rt: &R,
+    nodes: &mut Vec<Node>,
+    all: &[Outboxes],
+    gate: &Counting<G>,
+    commands: &[Command],
+) -> Result<(), NodeFault>
+    requires names { All NamesNodes commands.now }
+    requires admitted { AreAdmitted [] commands.now }
+    requires few { length nodes.old.items ≤ 8 }
+    requires outboxes { AreOutboxes (length nodes.old.items) all.now }
+    requires nodes { HaveDone commands.now [] nodes.old.items }
+    ensures runs { AllRun commands.now nodes.new.items }
+    ensures done { OnOk result (HaveDone commands.now commands.now nodes.new.items) }
+    ensures given_up { IfErr result (λ e. IsLineFault (node_count commands.now) e.node e.fault) }
+{
+    for command in commands {
+        act_on_line(rt, nodes, all, gate, command)?;
+    }
+    Ok(())
+}

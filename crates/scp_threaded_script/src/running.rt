@@ -1,0 +1,421 @@
+//! Nodes of a script, each of whose stages runs in a thread of its own.
+ghost use Rattle.std.specs.Prelude.{◌≡◌, ◌≢◌, ◌≤◌, ◌+◌, ◌∷◌, ◌++◌, ℕ, [], List, All, IfOk, IfErr, OnOk, OnErr, IsOkUnless, MatchResult, Option, None, Ok, length, is_none};
+ghost use Rattle.std.specs.Option.{option_or};
+ghost use Rattle.std.specs.Result.{result_err};
+ghost use Rattle.scp_script.specs.declared.command.Command.{Command};
+ghost use Rattle.scp_script.specs.Script.{AreAdmitted, node_count};
+ghost use Rattle.scp_script.specs.Nodes.{NamesNodes, capacities_in, id_of, peers_of, set_at};
+ghost use Rattle.scp_gather.specs.declared.gathering.NodeReport.{NodeReport};
+ghost use Rattle.scp_threaded_node.specs.Seats.{Runs, AreDriven};
+ghost use Rattle.scp_threaded_node.specs.Sources.{AreSources, HaveRoom};
+ghost use Rattle.scp_threaded_script.specs.Lines.{is_driven, driven_to};
+ghost use Rattle.scp_threaded_script.specs.inside.Outlets.{AreOutboxes};
+ghost use Rattle.scp_threaded_script.specs.inside.Ending.{HaveAllEnded, IsEndFault, IsNumbered, IsWhole};
+ghost use Rattle.scp_threaded_script.specs.inside.Played.{HaveDone, HaveDoneSoFar};
+ghost use Rattle.scp_threaded_script.specs.Reported.{AllRunSoFar};
+ghost use Rattle.scp_threaded_script.specs.Reported.{AreStood, AreSoReported, AreNodesReported, IsGivenUp, IsLineFault, IsToldOf, refused_at};
+ghost use Rattle.scp_threaded_script.specs.declared.running.NodeFault.{NodeFault};
+ghost use Rattle.scp_threaded_script.specs.inside.Reported.{AllStand};
+
+use crate::gate::{Counting, Lent};
+use crate::lines::act_all;
+use crate::outboxes::{all_outboxes, is_driven, link_of, outbox_of, stood_of, stop_all};
+use scp_gate::Gate;
+use scp_gather::NodeReport;
+use scp_script::{Command, capacities_of, count_of_nodes, id_from, peers_of_node, set_of_node};
+use scp_threaded_node::{Node, Outboxes, Source, Stood, end, make_parts, start};
+use scp_types::Fault;
+use std::alloc::Global;
+use std::sync::{Arc, Wait};
+use std::thread;
+use std::thread::{Scope, Threads};
+
+/// Why nothing is reported, and the node that the refusal names, or 0.
+#[derive(Clone, Copy, Debug, PartialEq, Eq)]
+pub struct NodeFault {
+    pub fault: Fault,
+    pub node: u8,
+}
+
+impl From<Fault> for NodeFault {
+    ghost use Rattle.std.specs.Prelude.{◌≡◌};
+
+    ghost from_gives = { λ fault result. result ≡ record { fault = fault; node = 0 } };
+
+    fn from(fault: Fault) -> NodeFault {
+        NodeFault { fault, node: 0 }
+    }
+}
+
+/// What sends on the link from a node to another, where the script doesn't.
+fn source_of(
+    all: &[Outboxes],
+    commands: &[Command],
+    from: u8,
+    to: u8,
+) -> Result<Option<Source>, Fault>
+    requires all { AreOutboxes (length all.now) all.now }
+    requires from { (1 ≤ from) × (from ≤ length all.now) }
+    requires to { (1 ≤ to) × (to ≤ length all.now) × (to ≢ from) }
+    ensures driven { IfOk result (λ source. is_none source ≡ is_driven commands.now from to) }
+    ensures only_memory { IsOkUnless result Fault.NoMemory }
+{
+    if is_driven(commands, from, to) {
+        return Ok(None);
+    }
+    Ok(Some(Source {
+        node: id_from(from),
+        link: link_of(to, from),
+        outbox: Arc::try_clone(outbox_of(all, from, to))?,
+    }))
+}
+
+/// What sends on each link to a node.
+fn sources_of(
+    alloc: Global,
+    all: &[Outboxes],
+    commands: &[Command],
+    count: u8,
+    to: u8,
+) -> Result<Vec<Option<Source>>, Fault>
+    requires few { count ≤ 8 }
+    requires all { AreOutboxes count all.now }
+    requires number { (1 ≤ to) × (to ≤ count) }
+    ensures count { IfOk result (λ sources. length sources.items + 1 ≡ count) }
+    ensures driven { IfOk result (λ sources. AreSources (driven_to commands.now to) sources.items) }
+    ensures only_memory { IsOkUnless result Fault.NoMemory }
+{
+    let mut sources = Vec::new(alloc);
+    for index in 0..count {
+        let from = index + 1;
+        if from == to {
+            continue;
+        }
+        sources.reserve(1)?;
+        sources.push_reserved(source_of(all, commands, from, to)?);
+    }
+    Ok(sources)
+}
+
+/// Starts the node of this number.
+fn start_node<'s, E, R: Threads + Wait + Sync, G: Gate + Sync>(
+    scope: &Scope<'s, E>,
+    rt: &'s R,
+    gate: &'s G,
+    alloc: Global,
+    all: &[Outboxes],
+    commands: &[Command],
+    count: u8,
+    number: u8,
+) -> Result<Node, Fault>
+    requires names { All NamesNodes commands.now }
+    requires admitted { AreAdmitted [] commands.now }
+    requires room { HaveRoom (capacities_in commands.now) }
+    requires few { count ≤ 8 }
+    requires all { AreOutboxes count all.now }
+    requires number { (1 ≤ number) × (number ≤ count) }
+    ensures runs { IfOk result (Runs (id_of number) (set_at number commands.now) (peers_of count number)) }
+    ensures local { IfOk result (λ node. node.local.sent ≡ []) }
+    ensures driven { IfOk result (λ node. AreDriven (driven_to commands.now number) (λ l. []) node.lanes.items) }
+    ensures only_memory { IsOkUnless result Fault.NoMemory }
+{
+    let peers = peers_of_node(alloc, count, number)?;
+    let set = set_of_node(alloc, commands, number)?;
+    let parts = make_parts(
+        alloc,
+        id_from(number),
+        set,
+        peers.as_slice(),
+        capacities_of(commands),
+        all[usize::from(number - 1)].as_slice(),
+    )?;
+    let sources = sources_of(alloc, all, commands, count, number)?;
+    start(scope, rt, gate, alloc, parts, sources)
+}
+
+/// Starts all nodes. Where one can't be started those before it run.
+fn start_all<'s, E, R: Threads + Wait + Sync, G: Gate + Sync>(
+    scope: &Scope<'s, E>,
+    rt: &'s R,
+    gate: &'s G,
+    alloc: Global,
+    all: &[Outboxes],
+    commands: &[Command],
+    nodes: &mut Vec<Node>,
+) -> Result<(), Fault>
+    requires names { All NamesNodes commands.now }
+    requires admitted { AreAdmitted [] commands.now }
+    requires room { HaveRoom (capacities_in commands.now) }
+    requires all { AreOutboxes (node_count commands.now) all.now }
+    requires none { nodes.old.items ≡ [] }
+    ensures few { (length nodes.new.items ≤ node_count commands.now) × (length nodes.new.items ≤ 8) }
+    ensures so_far { AllRunSoFar commands.now nodes.new.items }
+    ensures done { OnOk result (HaveDone commands.now [] nodes.new.items) }
+    ensures only_memory { IsOkUnless result Fault.NoMemory }
+{
+    let count = count_of_nodes(commands);
+    for index in 0..count {
+        nodes.reserve(1)?;
+        let node = start_node(scope, rt, gate, alloc, all, commands, count, index + 1)?;
+        nodes.push_reserved(node);
+    }
+    Ok(())
+}
+
+/// How each link to a node stands behind the lines, by the places of its peers.
+fn stood_to(alloc: Global, commands: &[Command], count: u8, to: u8) -> Result<Vec<Stood>, Fault>
+    requires few { count ≤ 8 }
+    requires count { count ≡ node_count commands.now }
+    requires number { (1 ≤ to) × (to ≤ count) }
+    ensures stood { IfOk result (λ stood. AreStood commands.now to stood.items) }
+    ensures only_memory { IsOkUnless result Fault.NoMemory }
+{
+    let mut stood = Vec::new(alloc);
+    for index in 0..count {
+        let from = index + 1;
+        if from == to {
+            continue;
+        }
+        stood.reserve(1)?;
+        stood.push_reserved(stood_of(commands, from, to));
+    }
+    Ok(stood)
+}
+
+/// How each link to each node stands behind the lines.
+fn all_stood(alloc: Global, commands: &[Command], count: u8) -> Result<Vec<Vec<Stood>>, Fault>
+    requires few { count ≤ 8 }
+    requires count { count ≡ node_count commands.now }
+    ensures stood { IfOk result (λ stood. AllStand commands.now stood.items) }
+    ensures only_memory { IsOkUnless result Fault.NoMemory }
+{
+    let mut all = Vec::new(alloc);
+    for index in 0..count {
+        all.reserve(1)?;
+        all.push_reserved(stood_to(alloc, commands, count, index + 1)?);
+    }
+    Ok(all)
+}
+
+/// What is told of nodes, and why there is less.
+#[derive(Drop)]
+struct Ended {
+    all: Vec<NodeReport>,
+    /// The first refusal of a stage.
+    refused: Option<NodeFault>,
+    /// A link stands otherwise than the lines leave it.
+    astray: bool,
+    /// A courier failed, or memory was wanting.
+    lost: bool,
+}
+
+/// Adds what is told of the node of this number.
+fn add(ended: &mut Ended, number: u8, told: Result<NodeReport, Fault>)
+    ensures told { IsWhole ended.new → IsWhole ended.old × (r : NodeReport) × (told ≡ Ok r) × (ended.new.all.items ≡ ended.old.all.items ++ r ∷ []) }
+    ensures refused { ended.new.refused ≡ option_or ended.old.refused (refused_at number (result_err told)) }
+{
+    match told {
+        Ok(report) => {
+            if ended.all.reserve(1).is_err() {
+                ended.lost = true;
+                return;
+            }
+            ended.all.push_reserved(report);
+        }
+        Err(Fault::NoMemory) => ended.lost = true,
+        Err(Fault::Refused(stage)) => {
+            if ended.refused.is_none() {
+                ended.refused = Some(NodeFault {
+                    fault: Fault::Refused(stage),
+                    node: number,
+                });
+            }
+        }
+        Err(_) => ended.astray = true,
+    }
+}
+
+/// Ends the nodes, in their order.
+fn end_nodes<R: Threads + Wait>(
+    rt: &R,
+    alloc: Global,
+    nodes: Vec<Node>,
+    stood: &[Vec<Stood>],
+) -> Ended
+    requires few { length nodes.items ≤ 8 }
+    requires nodes { (commands : List Command) × AllRunSoFar commands nodes.items × AllStand commands stood.now × (length nodes.items ≤ node_count commands) }
+    ensures reported { (commands : List Command) → HaveDoneSoFar commands commands nodes.items → AllStand commands stood.now → IsWhole result → (length result.all.items ≡ length nodes.items) × AreSoReported commands result.all.items }
+    ensures ended { HaveAllEnded nodes.items stood.now result.refused }
+{
+    let mut nodes = nodes;
+    let Some(last) = nodes.pop() else {
+        return Ended {
+            all: Vec::new(alloc),
+            refused: None,
+            astray: false,
+            lost: false,
+        };
+    };
+    let place = nodes.len();
+    let mut ended = end_nodes(rt, alloc, nodes, stood);
+    let told = end(rt, alloc, last, stood[place].as_slice());
+    add(&mut ended, place as u8 + 1, told);
+    ended
+}
+
+/// Ends all nodes. Refused by the first stage that failed of the first such node, which is named; else by `NotOpen`, where a link
+/// stands otherwise than the lines leave it, or by `NoMemory`.
+fn end_all<R: Threads + Wait>(
+    rt: &R,
+    alloc: Global,
+    nodes: Vec<Node>,
+    stood: &[Vec<Stood>],
+) -> Result<Vec<NodeReport>, NodeFault>
+    requires few { length nodes.items ≤ 8 }
+    requires nodes { (commands : List Command) × AllRunSoFar commands nodes.items × AllStand commands stood.now × (length nodes.items ≤ node_count commands) }
+    ensures reported { (commands : List Command) → HaveDone commands commands nodes.items → AllStand commands stood.now → IfOk result (λ all. AreNodesReported commands all.items) }
+    ensures ended { (refused : Option NodeFault) × HaveAllEnded nodes.items stood.now refused × MatchResult result (λ _. refused ≡ None) (IsEndFault refused) }
+{
+    let Ended {
+        all,
+        refused,
+        astray,
+        lost,
+    } = end_nodes(rt, alloc, nodes, stood);
+    if let Some(refused) = refused {
+        return Err(refused);
+    }
+    if astray {
+        return Err(NodeFault::from(Fault::NotOpen));
+    }
+    if lost {
+        return Err(NodeFault::from(Fault::NoMemory));
+    }
+    Ok(all)
+}
+
+/// Starts the nodes and does the lines.
+fn start_and_act<'s, E, R: Threads + Wait + Sync, G: Gate + Sync>(
+    scope: &Scope<'s, E>,
+    rt: &'s R,
+    gate: &'s Counting<G>,
+    alloc: Global,
+    all: &[Outboxes],
+    commands: &[Command],
+    nodes: &mut Vec<Node>,
+) -> Result<(), NodeFault>
+    requires names { All NamesNodes commands.now }
+    requires admitted { AreAdmitted [] commands.now }
+    requires room { HaveRoom (capacities_in commands.now) }
+    requires all { AreOutboxes (node_count commands.now) all.now }
+    requires none { nodes.old.items ≡ [] }
+    ensures few { length nodes.new.items ≤ node_count commands.now }
+    ensures so_far { AllRunSoFar commands.now nodes.new.items }
+    ensures done { OnOk result (HaveDone commands.now commands.now nodes.new.items) }
+    ensures given_up { IfErr result (λ e. IsLineFault (node_count commands.now) e.node e.fault) }
+{
+    start_all(scope, rt, gate, alloc, all, commands, nodes)?;
+    act_all(rt, nodes, all, gate, commands)
+}
+
+/// What is told: where a line wasn't done, the stage that failed, if one did, and else why the line wasn't done.
+fn told_of(
+    done: Result<(), NodeFault>,
+    told: Result<Vec<NodeReport>, NodeFault>,
+) -> Result<Vec<NodeReport>, NodeFault>
+    ensures whole { IfOk result (λ all. (told ≡ Ok all) × OnErr done ⊥) }
+    ensures given_up { (count : ℕ) → (refused : Option NodeFault) → IsNumbered refused → IfErr done (λ e. IsLineFault count e.node e.fault) → MatchResult told (λ _. refused ≡ None) (IsEndFault refused) → IfErr result (IsToldOf count refused) }
+{
+    match done {
+        Ok(()) => told,
+        Err(at_line) => match told {
+            Err(at_end) if at_end.node != 0 => Err(at_end),
+            _ => Err(at_line),
+        },
+    }
+}
+
+/// Runs the nodes, does the lines, and ends the nodes, whatever came.
+fn run_in<'s, E, R: Threads + Wait + Sync, G: Gate + Sync>(
+    scope: &Scope<'s, E>,
+    rt: &'s R,
+    gate: &'s Counting<G>,
+    alloc: Global,
+    all: &[Outboxes],
+    stood: &[Vec<Stood>],
+    commands: &[Command],
+) -> Result<Vec<NodeReport>, NodeFault>
+    requires names { All NamesNodes commands.now }
+    requires admitted { AreAdmitted [] commands.now }
+    requires room { HaveRoom (capacities_in commands.now) }
+    requires all { AreOutboxes (node_count commands.now) all.now }
+    requires stood { AllStand commands.now stood.now }
+    ensures reported { IfOk result (λ all. AreNodesReported commands.now all.items) }
+    ensures given_up { IfErr result (IsGivenUp commands.now) }
+{
+    let mut nodes = Vec::new(alloc);
+    let done = start_and_act(scope, rt, gate, alloc, all, commands, &mut nodes);
+    stop_all(rt, all, commands, count_of_nodes(commands));
+    let told = end_all(rt, alloc, nodes, stood);
+    told_of(done, told)
+}
+
+/// Runs the nodes, does the lines, and ends the nodes, in a scope of threads.
+fn run_scoped<R: Threads + Wait + Sync, G: Gate + Sync>(
+    rt: &R,
+    gate: &Counting<G>,
+    alloc: Global,
+    all: &[Outboxes],
+    stood: &[Vec<Stood>],
+    commands: &[Command],
+) -> Result<Vec<NodeReport>, NodeFault>
+    requires names { All NamesNodes commands.now }
+    requires admitted { AreAdmitted [] commands.now }
+    requires room { HaveRoom (capacities_in commands.now) }
+    requires all { AreOutboxes (node_count commands.now) all.now }
+    requires stood { AllStand commands.now stood.now }
+    ensures reported { IfOk result (λ all. AreNodesReported commands.now all.items) }
+    ensures given_up { IfErr result (IsGivenUp commands.now) }
+{
+    thread::scope(
+        thread::scope_env(),
+        rt,
+        |scope| -> Result<Vec<NodeReport>, NodeFault>
+            requires { All NamesNodes commands.now × AreAdmitted [] commands.now × HaveRoom (capacities_in commands.now) × AreOutboxes (node_count commands.now) all.now × AllStand commands.now stood.now }
+            ensures { IfOk result (λ reports. AreNodesReported commands.entry.now reports.items) × IfErr result (IsGivenUp commands.entry.now) }
+        { run_in(scope, rt, gate, alloc, all, stood, commands) },
+    )
+}
+
+/// Runs the nodes of a script, each of whose stages has a thread of its own, does what its lines say, in their order and by one thread, and
+/// ends the nodes: what is told of them. Each worker of a node calls the gate after each receive and before each send. At each way out all
+/// threads have ended.
+///
+/// Refused by `Refused` with the first stage that failed of the first node of which one did, which is named, whatever else was wrong; else by
+/// `Full` where a mark of an `open` or a `close` line found no room in an outbox after 1,000,000 yields, by `NotOpen` where a link stood
+/// otherwise than the lines say, by `NoMemory` where memory was wanting or a courier failed.
+pub fn run_lines<R: Threads + Wait + Sync, G: Gate + Sync>(
+    rt: &R,
+    gate: &G,
+    alloc: Global,
+    commands: &[Command],
+) -> Result<Vec<NodeReport>, NodeFault>
+    requires names { All NamesNodes commands.now }
+    requires admitted { AreAdmitted [] commands.now }
+    requires room { HaveRoom (capacities_in commands.now) }
+    ensures reported { IfOk result (λ all. AreNodesReported commands.now all.items) }
+    ensures given_up { IfErr result (IsGivenUp commands.now) }
+{
+    let counting = Counting::new(Lent::new(gate));
+    let count = count_of_nodes(commands);
+    let outboxes = all_outboxes(alloc, count)?;
+    let standing = all_stood(alloc, commands, count)?;
+    run_scoped(
+        rt,
+        &counting,
+        alloc,
+        outboxes.as_slice(),
+        standing.as_slice(),
+        commands,
+    )
+}

@@ -1,9 +1,0 @@
-use Rattle.std.proofs.Common.{◌≡◌, [], length}
-use Rattle.scp_threads.specs.Played.{HaveDoneSoFar}
-use Rattle.scp_threads.proofs.running.start_all.Given as goal
-
-abbrev pub invariant-loop-index : goal.invariant-loop-index
-invariant-loop-index g l = record {
-  count : length l.nodes.items ≡ l.index;
-  done : HaveDoneSoFar l.commands [] l.nodes.items;
-}

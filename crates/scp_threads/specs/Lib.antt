@@ -1,5 +1,0 @@
-pub mod Lines
-pub mod Outlets
-pub mod Played
-pub mod Reported
-mod Ending

@@ -1,9 +1,0 @@
--- The links that lines sent on.
-use Rattle.std.specs.Prelude.{ℕ, Bool, List}
-use Rattle.std.specs.List.{list_any}
-use Rattle.scp_script.specs.Script.{is_link}
-use Rattle.scp_trace_lint.specs.declared.warned.SentLink.{SentLink}
-
--- the link is one of these
-abbrev pub has_sent : List SentLink → ℕ → ℕ → Bool
-has_sent links from to = list_any (λ (link : SentLink). is_link from to link.from link.to) links

@@ -1,0 +1,5 @@
+pub mod Behind
+pub mod Led
+pub mod Lines
+pub mod Nodes
+pub mod Sent

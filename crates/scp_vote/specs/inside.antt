@@ -1,0 +1,4 @@
+pub mod Seats
+pub mod Side
+pub mod Statements
+pub mod Chain

@@ -1,0 +1,4 @@
+pub mod Carried
+pub mod LinkReading
+pub mod Marks
+pub mod Reading

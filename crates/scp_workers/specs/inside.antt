@@ -1,0 +1,5 @@
+pub mod Apply
+pub mod Pending
+pub mod Reading
+pub mod Slot
+pub mod Working

@@ -1,0 +1,2 @@
+pub mod TreeModel
+pub mod Words
