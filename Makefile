@@ -7,11 +7,11 @@ SCRIPT ?= examples/four_nodes.scp
 run:
 	@scripts/run
 
-# leaves the programs unproved as out/unproved/scp_line, scp_text, scp_slot and scp_trace, in a minute or two for each
+# leaves the programs unproved as out/unproved/scp and out/unproved/scp_line, in some minutes for each
 quick:
 	@scripts/quick
 
-# proves and builds what the program stands on, and leaves it as out/scp_line
+# proves and builds what the programs stand on, and leaves them as out/scp and out/scp_line
 build:
 	@scripts/build
 

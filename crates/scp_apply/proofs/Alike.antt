@@ -1,21 +1,18 @@
 -- Two appliers that show the same and take the same show the same then.
-use Rattle.std.proofs.Common.{◌≡◌, ◌≢◌, ℕ, ◌+◌, ◌<◌, ◌≤◌, false, List, [], ◌∷◌, ◌++◌, ◌⊎◌, inl, inr, length, get_or, refl, sym, ◌∙◌, ap, subst, arith, length-append, All}
-use Rattle.std.specs.Prelude.{◌↔◌, Option, Some, Contains, option_map}
-use Rattle.std.specs.List.Sorted.{IsPermutation}
+use Rattle.std.proofs.Common.{◌≡◌, ◌≢◌, ℕ, ◌+◌, ◌<◌, ◌≤◌, List, [], ◌∷◌, ◌++◌, inl, inr, length, get_or, refl, sym, ◌∙◌, ap, subst, arith, length-append}
+use Rattle.std.specs.Prelude.{Some, Contains, option_map}
 use Rattle.std.proofs.lemmas.Bool.{cases_lt}
 use Rattle.std.proofs.lemmas.List.{get_or_default}
 use Rattle.std.proofs.lemmas.List.Elements.{All-nil, All-cons, All-contains, Contains-push, Contains-append_left, Contains-append_right, Contains-append_cases}
 use Rattle.std.proofs.lemmas.List.Quantifiers.{all_pairs_push}
 use Rattle.std.proofs.lemmas.List.Sorted.{Contains-permutation, IsPermutation-sym}
 use Rattle.scp_kv.specs.State.{fold_of}
-use Rattle.scp_wire.specs.declared.message.Message.{Message}
 use Rattle.scp_wire.specs.declared.message.Message.TheVariants.{Record}
 use Rattle.scp_ledger.specs.declared.journal.Decision.{Decision}
-use Rattle.scp_ledger.specs.declared.took.Onward.{Onward}
 use Rattle.scp_ledger.specs.declared.took.Onward.TheVariants.{Decided, Asked}
 use Rattle.scp_ledger.specs.Decisions.{OnePerSlot}
 use Rattle.scp_apply.specs.Applied.{AreInOrder, values_of, value_of}
-use Rattle.scp_apply.specs.Applier.{ApplierView, IsApplier, IsRunning, IsLater, IsInWindow, CanTake, Applies, Takes}
+use Rattle.scp_apply.specs.Applier.{ApplierView, IsApplier, IsRunning, IsLater, IsInWindow, Applies}
 use Rattle.scp_apply.specs.Laws.{ShowTheSame, ApplyingIsAFunction}
 use Rattle.scp_apply.proofs.Applying.{not_there}
 

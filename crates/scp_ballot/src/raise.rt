@@ -16,26 +16,13 @@ ghost use Rattle.scp_ballot_rules.specs.RaiseCounter.{IsLeastFree, Raised, Raise
 ghost use Rattle.scp_ballot_rules.specs.Steps.{Answers};
 ghost use Rattle.scp_ballot_rules.specs.declared.state.Phase.TheVariants.{Prepare, Confirm};
 
-use scp_ballot_rules::{State, copy_some, counter};
+use scp_ballot_rules::{State, copy_some, counter, counter_of_pledges};
 use scp_ballot_steps::{local_set, me_of};
-use scp_envelope::Pledges;
 use scp_quorum::blocked;
 use scp_types::{Ballot, Fault, NodeId, SharedValue};
 use scp_vote::{Board, Entry, StatementKind};
 use std::alloc::{AllocError, Global};
 use std::collections::BTreeSet;
-
-/// The counter of a statement: that of its ballot, of an EXTERNALIZE its high end (this project's profile).
-fn counter_of_pledges(pledges: &Pledges) -> u32
-    ensures { result ≡ counter_in pledges.now }
-{
-    match pledges {
-        Pledges::Prepare(prepare) => prepare.ballot.counter,
-        Pledges::Confirm(confirm) => confirm.ballot.counter,
-        Pledges::Externalize(externalize) => externalize.n_high,
-        Pledges::Nominate(_) => 0,
-    }
-}
 
 /// Whether the node is another one, with a counter above n.
 fn is_ahead(me: NodeId, node: &NodeId, entry: &Entry, n: u32) -> bool

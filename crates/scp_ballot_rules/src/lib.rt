@@ -9,5 +9,5 @@ mod state;
 pub use laws::{
     a_step_is_licensed, rest_owes_nothing, the_rules_are_a_function, the_rules_say_what_stands,
 };
-pub use own::{copy_some, counter, pledges_of};
+pub use own::{copy_some, counter, counter_of_pledges, pledges_of};
 pub use state::{Phase, State};

@@ -1,6 +1,7 @@
 //! The own statement of a state.
 ghost use Rattle.std.specs.Prelude.{◌≡◌, IfOk, IsOkUnless};
 ghost use Rattle.scp_ballot_rules.specs.Own.{counter_of, or_zero, prepare_of, confirm_of, externalize_of, own_of};
+ghost use Rattle.scp_ballot_rules.specs.Owed.{counter_in};
 
 use crate::state::{Phase, State};
 use scp_envelope::{Confirm, Externalize, Pledges, Prepare};
@@ -14,6 +15,18 @@ pub fn counter(ballot: &Option<Ballot>) -> u32
     match ballot {
         Some(ballot) => ballot.counter,
         None => 0,
+    }
+}
+
+/// The counter of a ballot statement: that of its ballot, of an EXTERNALIZE its high end (this project's profile); of a NOMINATE 0.
+pub fn counter_of_pledges(pledges: &Pledges) -> u32
+    ensures { result ≡ counter_in pledges.now }
+{
+    match pledges {
+        Pledges::Prepare(prepare) => prepare.ballot.counter,
+        Pledges::Confirm(confirm) => confirm.ballot.counter,
+        Pledges::Externalize(externalize) => externalize.n_high,
+        Pledges::Nominate(_) => 0,
     }
 }
 

@@ -1,5 +1,7 @@
 -- What clients see of a node, and what one event does to it: the table of replies.
 use Rattle.std.specs.Prelude.{ℕ, ◌+◌, ◌-◌, ◌<◌, ◌≡◌, ◌≢◌, Bool, true, false, List, [], ◌∷◌, ◌++◌, ◌⊎◌, Option, Some, None, IsSome, length, map, slice_get, slice_set, option_to_list, flat_map, ◌&&◌, nat_lt, if◌then◌else◌}
+use Rattle.scp_ledger.specs.declared.journal.TheConstants.{JOURNAL_LIMIT}
+use Rattle.scp_types.specs.declared.limits.TheConstants.{LIFE_LIMIT}
 use Rattle.scp_types.specs.declared.names.NodeId.{NodeId}
 use Rattle.scp_wire.specs.declared.message.Message.{Message}
 use Rattle.scp_wire.specs.declared.message.Message.TheVariants.{Envelope}
@@ -88,7 +90,7 @@ HasLink v command = Unit {0}
 
 -- an accepted event
 abbrev pub Accepts : NodeView → Event → NodeView → Type 0
-Accepts old (Open l) new = AtLink old l (λ k. (k.is_open ≡ false) × (k.life < 65535) × (length k.queue ≢ k.room) × (new ≡ with_link old l (record k { life = k.life + 1; is_open = true; queue = k.queue ++ item.Opened (conn_at (peer_at old.config l) old.config.me (k.life + 1)) ∷ [] })))
+Accepts old (Open l) new = AtLink old l (λ k. (k.is_open ≡ false) × (k.life < LIFE_LIMIT) × (length k.queue ≢ k.room) × (new ≡ with_link old l (record k { life = k.life + 1; is_open = true; queue = k.queue ++ item.Opened (conn_at (peer_at old.config l) old.config.me (k.life + 1)) ∷ [] })))
 Accepts old (Send l bytes) new = AtLink old l (λ k. (k.is_open ≡ true) × (length k.queue ≢ k.room) × (new ≡ with_link old l (record k { queue = k.queue ++ item.Bytes (conn_at (peer_at old.config l) old.config.me k.life) bytes ∷ [] })))
 Accepts old (Close l) new = AtLink old l (λ k. (k.is_open ≡ true) × (length k.queue ≢ k.room) × (new ≡ with_link old l (record k { is_open = false; queue = k.queue ++ item.Closed (conn_at (peer_at old.config l) old.config.me k.life) ∷ [] })))
 Accepts old (Local command) new = HasLink old command × (length old.inbox ≢ old.inbox_room) × (new ≡ record old { inbox = old.inbox ++ inbound.Local command ∷ [] })
@@ -208,8 +210,8 @@ NamesNoLink v event = ⊥
 abbrev pub Refuses : NodeView → Event → Reply → Type 0
 Refuses v event NoLink = NamesNoLink v event
 Refuses v (Open l) AlreadyOpen = AtLink v l (λ k. k.is_open ≡ true)
-Refuses v (Open l) LivesSpent = AtLink v l (λ k. (k.is_open ≡ false) × (k.life ≡ 65535))
-Refuses v (Open l) Full = AtLink v l (λ k. (k.is_open ≡ false) × (k.life < 65535) × is_full k)
+Refuses v (Open l) LivesSpent = AtLink v l (λ k. (k.is_open ≡ false) × (k.life ≡ LIFE_LIMIT))
+Refuses v (Open l) Full = AtLink v l (λ k. (k.is_open ≡ false) × (k.life < LIFE_LIMIT) × is_full k)
 Refuses v (Send l bytes) NotOpen = AtLink v l (λ k. k.is_open ≡ false)
 Refuses v (Send l bytes) Full = AtLink v l (λ k. (k.is_open ≡ true) × is_full k)
 Refuses v (Close l) NotOpen = AtLink v l (λ k. k.is_open ≡ false)
@@ -281,7 +283,7 @@ pub record Fails (old : NodeView) (event : Event) (new : NodeView) : Type 0 wher
 
 -- the front of the ready queue would be entry number 1,000,001
 abbrev pub FillsJournal : NodeView → Event → Type 0
-FillsJournal v SlotTake = (v.slot_hand ≡ None) × (x : Ready) × (rest : List Ready) × (v.ready ≡ x ∷ rest) × (adds_entry x ≡ true) × (length v.ledger.journal ≡ 1000000)
+FillsJournal v SlotTake = (v.slot_hand ≡ None) × (x : Ready) × (rest : List Ready) × (v.ready ≡ x ∷ rest) × (adds_entry x ≡ true) × (length v.ledger.journal ≡ JOURNAL_LIMIT)
 FillsJournal v event = ⊥
 
 -- an event that can fail for want of memory: no other reply fits

@@ -2,6 +2,7 @@
 -- profile).
 use Rattle.std.specs.Prelude.{option_map}
 use Rattle.std.proofs.Common.{inl, inr}
+use Rattle.scp_envelope.specs.declared.codec.TheConstants.{LIST_LIMIT, SIGNATURE_LIMIT}
 use Rattle.scp_types.specs.declared.names.Hash.{Hash}
 use Rattle.scp_xdr.specs.Kind.{Kind, uint32, uint64, opaque, optional, array, both, union, no_arm, arm, Values}
 use Rattle.scp_xdr.specs.Shared.{value_kind, hash_kind, node_kind, ballot_kind, ballot_value}
@@ -40,7 +41,7 @@ externalize_value p = (ballot_value p.commit, (p.n_high, p.set_hash.0))
 
 -- at most 64 values: an array (RFC 4506, section 4.13; the limit is this project's profile)
 abbrev pub list_kind : Kind
-list_kind = array 64 value_kind
+list_kind = array LIST_LIMIT value_kind
 
 -- quorumSetHash, votes, accepted
 abbrev pub nominate_kind : Kind
@@ -71,7 +72,7 @@ statement_value s = (inl s.node.0, (s.slot.0, pledges_value s.pledges))
 
 -- at most 64 bytes
 abbrev pub signature_kind : Kind
-signature_kind = opaque 64
+signature_kind = opaque SIGNATURE_LIMIT
 
 -- statement, signature
 abbrev pub envelope_kind : Kind

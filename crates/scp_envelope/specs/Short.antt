@@ -1,13 +1,15 @@
 -- Short envelopes, which keep the limits of their kind and fit a link for certain (this project's profile).
 use Rattle.std.specs.Prelude.{◌≤◌, ℕ, List, length, Contains}
 use Rattle.std.specs.Option.{ForSome}
+use Rattle.scp_types.specs.declared.limits.TheConstants.{VALUE_LIMIT}
+use Rattle.scp_envelope.specs.declared.codec.TheConstants.{SIGNATURE_LIMIT}
 use Rattle.scp_envelope.specs.declared.statement.Pledges.{Pledges}
 use Rattle.scp_envelope.specs.declared.statement.Pledges.TheVariants.{Prepare, Confirm, Externalize, Nominate}
 use Rattle.scp_envelope.specs.declared.statement.Envelope.{Envelope}
 
 -- a value has at most 4,096 bytes
 abbrev pub IsShortValue : List ℕ → Type 0
-IsShortValue v = length v ≤ 4096
+IsShortValue v = length v ≤ VALUE_LIMIT
 
 -- P holds of each value in a statement
 abbrev pub SaysOnly : (List ℕ → Type 0) → Pledges → Type 0
@@ -27,4 +29,4 @@ HasShortLists (Nominate p) = (length p.votes ≤ 7) × (length p.accepted ≤ 7)
 pub record IsShort (e : Envelope) : Type 0 where
   pub values : SaysOnly IsShortValue e.statement.pledges
   pub lists : HasShortLists e.statement.pledges
-  pub signature : length e.signature ≤ 64
+  pub signature : length e.signature ≤ SIGNATURE_LIMIT

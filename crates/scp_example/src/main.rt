@@ -6,6 +6,7 @@
 use scp_core::{Bytes, Capacities, Command, Config, Event, Node, Peers, Reply};
 use scp_line::{ReportParts, write_report};
 use scp_quorum::QuorumSet;
+use scp_turn::turn;
 use scp_types::{Fault, NodeId, Slot, Value};
 use scp_wire::{Message, encode};
 use std::alloc::Global;
@@ -98,27 +99,6 @@ fn drive(node: &mut Node, peer: &mut Peer, timer: &mut Timer) {
 /// The second round of slot 2.
 fn add_round(node: &mut Node) {
     node.step(Event::Local(Command::Round(Slot(2))));
-}
-
-/// Whether a stage's event moves anything.
-fn moves(node: &mut Node, event: Event) -> bool {
-    matches!(node.step(event), Reply::Moved)
-}
-
-/// A step of a stage that takes, and one that puts. Whether anything moved.
-fn take_and_put(node: &mut Node, take: Event, put: Event) -> bool {
-    let took = moves(node, take);
-    let put = moves(node, put);
-    took || put
-}
-
-/// What the stages of a node with one link do in a turn. Whether anything moved.
-fn turn(node: &mut Node) -> bool {
-    let has_read = take_and_put(node, Event::ReaderTake(0), Event::ReaderPut(0));
-    let has_pended = take_and_put(node, Event::PendTake, Event::PendPut);
-    let has_decided = take_and_put(node, Event::SlotTake, Event::SlotPut);
-    let has_applied = moves(node, Event::ApplyTake);
-    has_read || has_pended || has_decided || has_applied
 }
 
 /// How many messages node 2 heard, and the node's report, as that of node 1.

@@ -1,6 +1,7 @@
 -- What follows where every worker of a node ended well.
 use Rattle.std.specs.Prelude.{◌≡◌, ℕ, Bool, true, false, List, [], ◌++◌, None, Some, IfSome, slice_get, filter}
 use Rattle.std.specs.List.{AllByRecursion}
+use Rattle.scp_types.specs.declared.limits.TheConstants.{CARRIED_LIMIT}
 use Rattle.scp_types.specs.declared.names.ConnId.{ConnId}
 use Rattle.scp_types.specs.declared.names.NodeId.{NodeId}
 use Rattle.scp_quorum.specs.QuorumTree.{QuorumTree}
@@ -75,7 +76,7 @@ IsOfItsNumber c messages x = same_conn x.conn c ≡ true → slice_get messages 
 pub record HasItsLine (a : Account KvDriver) (l : ℕ) (c : ConnId) (parked : List Carried) : Type 0 where
   pub whole : (s : ℕ) → IsWhole (in_lane (slots_sent a l c) s (line_sent a l c)) (in_lane (slots_sent a l c) s (marks_on c a.ledger.journal ++ marks_of_messages c parked))
   pub ends : (s : ℕ) → EndsLast (in_lane (slots_sent a l c) s (marks_on c a.ledger.journal ++ marks_of_messages c parked))
-  pub messages_are : AllByRecursion (IsOfItsNumber c (carried_of 1000000 (sent c (a.sent l)))) parked
+  pub messages_are : AllByRecursion (IsOfItsNumber c (carried_of CARRIED_LIMIT (sent c (a.sent l)))) parked
 
 -- so it is for each connection of a link; and no message is parked of any other
 pub record AreLeftParked (a : Account KvDriver) (parked : List Carried) : Type 0 where

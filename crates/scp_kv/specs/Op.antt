@@ -2,6 +2,8 @@
 use Rattle.std.specs.Prelude.{ℕ, ◌≤◌, nat_le, if◌then◌else◌, List, length, map, Option, None}
 use Rattle.std.proofs.Common.{inl, inr}
 use Rattle.std.specs.Result.{result_ok}
+use Rattle.scp_types.specs.declared.limits.TheConstants.{VALUE_LIMIT}
+use Rattle.scp_kv.specs.declared.ops.TheConstants.{COUNT_LIMIT, KEY_LIMIT, ENTRY_LIMIT}
 use Rattle.scp_xdr.specs.Kind.{Kind, opaque, array, both, union, no_arm, arm, Values, Spells}
 use Rattle.scp_xdr.specs.Reading.{reading_whole}
 use Rattle.scp_kv.specs.declared.ops.Op.{Op}
@@ -9,11 +11,11 @@ use Rattle.scp_kv.specs.declared.ops.Op.TheVariants.{Put, Del}
 
 -- 0 sets a key of at most 64 bytes to a value of at most 256, and 1 takes a key out
 abbrev pub op_kind : Kind
-op_kind = union (arm 0 (both (opaque 64) (opaque 256)) (arm 1 (opaque 64) no_arm))
+op_kind = union (arm 0 (both (opaque KEY_LIMIT) (opaque ENTRY_LIMIT)) (arm 1 (opaque KEY_LIMIT) no_arm))
 
 -- at most 64 operations, behind their count
 abbrev pub ops_kind : Kind
-ops_kind = array 64 op_kind
+ops_kind = array COUNT_LIMIT op_kind
 
 -- a value is put under a key
 abbrev pub put : List ℕ → List ℕ → Values op_kind
@@ -34,9 +36,9 @@ ops_value ops = map op_value ops
 
 -- the bytes are the operation list: at most 4,096 bytes, and the spelling of the list with nothing after it
 pub record IsOps (bytes : List ℕ) (ops : Values ops_kind) : Type 0 where
-  pub within : length bytes ≤ 4096
+  pub within : length bytes ≤ VALUE_LIMIT
   pub spells : Spells ops_kind bytes ops
 
 -- the list that the bytes are, if they are one: the law `ops_in_finds_the_list` ties it to IsOps
 unfoldable pub ops_in : List ℕ → Option (Values ops_kind)
-ops_in bytes = if nat_le (length bytes) 4096 then result_ok (reading_whole ops_kind bytes) else None
+ops_in bytes = if nat_le (length bytes) VALUE_LIMIT then result_ok (reading_whole ops_kind bytes) else None

@@ -33,7 +33,7 @@ use Rattle.scp_ledger.specs.declared.journal.Fate.{Fate}
 use Rattle.scp_ledger.specs.declared.journal.Origin.{Origin}
 use Rattle.scp_ledger.specs.declared.journal.Origin.TheVariants.{Machine, Named}
 use Rattle.scp_ledger.specs.Journal.{Heard, newest, is_of, is_its}
-use Rattle.scp_ledger.specs.Certificate.{IsCertificate, IsOwnExternalize, counted_of, is_among}
+use Rattle.scp_ledger.specs.Certificate.{IsCertificate, IsOwnExternalize, counted_of, has_node}
 use Rattle.scp_ledger.specs.Decisions.{is_at, is_decided, OnePerSlot, IsFounded, RestsOn, HasItsDecision, decision_by, IsLowest, IsNext, AreInWindow}
 use Rattle.scp_ledger.specs.Seen.{LedgerView, is_asked}
 use Rattle.scp_ledger.specs.Verdicts.{IsOpen, HasItsSet, link_of}
@@ -47,7 +47,7 @@ pub IsCertificate-same : (me : NodeId) (local : QuorumTree) (old new : NodeId 鈫
 IsCertificate-same me local old new x n nodes same h = record {
   quorum = record {
     has = h.quorum.has;
-    satisfied = 位 v has. subst (位 (o : Option QuorumTree). IsSomeAnd o (Satisfies (is_among nodes))) (ap (位 (o : Option Heard). cond (is_key (node_cmp me) v) (Some local) (option_map (counted_of v) o)) (sym (same v))) (h.quorum.satisfied v has);
+    satisfied = 位 v has. subst (位 (o : Option QuorumTree). IsSomeAnd o (Satisfies (has_node nodes))) (ap (位 (o : Option Heard). cond (is_key (node_cmp me) v) (Some local) (option_map (counted_of v) o)) (sym (same v))) (h.quorum.satisfied v has);
   };
   accepted = 位 v has other. subst (位 (o : Option Heard). IsSomeAnd o (位 s. AcceptsCommit s.statement.pledges n x)) (sym (same v)) (h.accepted v has other);
 }

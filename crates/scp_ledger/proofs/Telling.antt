@@ -1,5 +1,5 @@
 -- What became of a command, by the verdict on it.
-use Rattle.std.proofs.Common.{◌≡◌, ◌≢◌, ℕ, ◌<◌, ◌≤◌, ◌⊎◌, true, false, List, [], ◌∷◌, refl, sym, ◌∙◌, ap, subst, inl, inr, arith, length}
+use Rattle.std.proofs.Common.{◌≡◌, ◌≢◌, ℕ, ◌<◌, ◌≤◌, true, false, List, [], refl, sym, ◌∙◌, ap, subst, inl, inr, arith, length}
 use Rattle.std.specs.Prelude.{Bool, Option, Some, None, IsSome, IsSomeAnd, IsTrue, ◌↔◌, option_to_list, map, ◌++◌}
 use Rattle.scp_types.specs.declared.names.Slot.{Slot}
 use Rattle.scp_driver.specs.declared.driver.Level.{Level}
@@ -11,10 +11,9 @@ use Rattle.scp_slot.specs.declared.machine.SlotMachine.{SlotMachine}
 use Rattle.scp_slot.specs.declared.output.SlotInput.{SlotInput}
 use Rattle.scp_slot.specs.declared.output.SlotInput.TheVariants.{Propose, Round, Timer}
 use Rattle.scp_slot.specs.declared.output.SlotOutput.{SlotOutput}
-use Rattle.scp_slot.specs.declared.output.Emitted.{Emitted}
 use Rattle.scp_slot.specs.declared.output.Verdict.{Verdict as Found}
 use Rattle.scp_slot.specs.declared.output.Verdict.TheVariants as found
-use Rattle.scp_slot.specs.Slot.{SlotView, slot_view, driver_of}
+use Rattle.scp_slot.specs.Slot.{slot_view, driver_of}
 use Rattle.scp_slot.specs.Takes as slot
 use Rattle.scp_ledger.specs.declared.journal.Decision.{Decision}
 use Rattle.scp_ledger.specs.declared.journal.Verdict.{Verdict}
@@ -24,8 +23,8 @@ use Rattle.scp_ledger.specs.declared.took.Outgoing.{Outgoing}
 use Rattle.scp_ledger.specs.declared.took.Took.{Took}
 use Rattle.scp_ledger.specs.Decisions.{is_decided}
 use Rattle.scp_ledger.specs.Seen.{LedgerView, machine_at}
-use Rattle.scp_ledger.specs.Verdicts.{FirstOf, IsFar, BehindWindow, IsOpen, IsAskVerdict}
-use Rattle.scp_ledger.specs.Takes.{RunsAt, Passes, Asks, Commands, TakesAsk, IsMachineFor, verdict_from, to_all, to_peers}
+use Rattle.scp_ledger.specs.Verdicts.{FirstOf, BehindWindow, IsOpen}
+use Rattle.scp_ledger.specs.Takes.{RunsAt, Passes, Commands, TakesAsk, IsMachineFor, verdict_from, to_all}
 use Rattle.scp_ledger.specs.Ledger.{HasMachines}
 use Rattle.scp_ledger.specs.CommandFates.{BeforeMachine, ByMachine, IsProposalFate, IsRoundFate, IsTimerFate, IsAskFate}
 use Rattle.scp_ledger.specs.inside.FateBy.{fate_by, HasBallotAt, IsIdleTimer}

@@ -24,9 +24,9 @@ counted_of v h = counted_of_other v h.statement.pledges h.set
 abbrev pub counted : NodeId → QuorumTree → (NodeId → Option Heard) → NodeId → Option QuorumTree
 counted me local heard v = cond (is_at (node_cmp me) v) (Some local) (option_map (counted_of v) (heard v))
 
--- the nodes of a list
-abbrev pub is_among : List NodeId → NodeId → Bool
-is_among nodes v = list_any (is_at (node_cmp v)) nodes
+-- the node stands in the list
+abbrev pub has_node : List NodeId → NodeId → Bool
+has_node nodes v = list_any (is_at (node_cmp v)) nodes
 
 -- an EXTERNALIZE of this value and nH
 abbrev pub Externalizes : Pledges → List ℕ → ℕ → Type 0
@@ -46,5 +46,5 @@ pub record IsOwnExternalize (me : NodeId) (local : QuorumTree) (at : ℕ) (x : L
 -- The nodes are a quorum at this node; each other one's last ballot statement accepts commit(n, x).
 -- `heard` gives the last ballot statement of each other node with its set.
 pub record IsCertificate (me : NodeId) (local : QuorumTree) (heard : NodeId → Option Heard) (x : List ℕ) (n : ℕ) (nodes : List NodeId) : Type 0 where
-  pub quorum : IsQuorum (counted me local heard) me (is_among nodes)
-  pub accepted : (v : NodeId) → is_among nodes v ≡ true → v ≢ me → IsSomeAnd (heard v) (λ h. AcceptsCommit h.statement.pledges n x)
+  pub quorum : IsQuorum (counted me local heard) me (has_node nodes)
+  pub accepted : (v : NodeId) → has_node nodes v ≡ true → v ≢ me → IsSomeAnd (heard v) (λ h. AcceptsCommit h.statement.pledges n x)

@@ -1,7 +1,7 @@
 //! The nodes of a certificate.
 ghost use Rattle.std.specs.Prelude.{◌≡◌, length};
 ghost use Rattle.std.specs.BTreeSet.{keys};
-ghost use Rattle.scp_ledger.specs.Certificate.{is_among};
+ghost use Rattle.scp_ledger.specs.Certificate.{has_node};
 
 use scp_types::NodeId;
 use std::collections::BTreeSet;
@@ -30,7 +30,7 @@ impl Quorum {
 
     /// Whether the node is one of them. Its time grows with the logarithm of their number.
     pub fn contains(&self, node: NodeId) -> bool
-        ensures { result ≡ is_among self.now node }
+        ensures { result ≡ has_node self.now node }
     {
         self.0.contains(&node)
     }

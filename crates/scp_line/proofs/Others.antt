@@ -1,6 +1,6 @@
 -- The nodes of a script are linked to each other: the peers of each are the others.
 use Rattle.std.proofs.Common.{◌≡◌, ◌<◌, ◌≤◌, ◌+◌, ◌-◌, ◌⊎◌, ◌↔◌, inl, inr, ℕ, zero, suc, Bool, true, not, List, [], ◌∷◌, ◌++◌, map, filter, take, drop, length, get_or, nat_eq, refl, sym, ◌∙◌, ap, arith, ⊎_elim}
-use Rattle.std.specs.Prelude.{Result, Ok, Err, IfOk, IfErr, IsOkUnless, remove, slice_get}
+use Rattle.std.specs.Prelude.{Result, Ok, Err, IfOk, IfErr, IsOkUnless, remove}
 use Rattle.std.specs.List.{take-map, drop-map}
 use Rattle.std.specs.Cmp.Lexicographic.{pointwise, bytes_decides}
 use Rattle.std.proofs.lemmas.Bool.{cases_eq}
@@ -15,9 +15,8 @@ use Rattle.scp_network.specs.Heard.{Nodes}
 use Rattle.scp_network.specs.Network.{NetworkView}
 use Rattle.scp_network.specs.Linked.{ids_of, IsNetwork}
 use Rattle.scp_script.specs.declared.command.Command.{Command}
-use Rattle.scp_script.specs.Script.{node_count}
 use Rattle.scp_script.specs.Nodes.{numbers, id_of, peers_of}
-use Rattle.scp_line.specs.Play.{IsNew, AreNew}
+use Rattle.scp_line.specs.Play.{AreNew}
 use Rattle.scp_line.proofs.Fits.{up_to, passes}
 use Rattle.scp_line.proofs.Making.{new_at}
 

@@ -9,7 +9,8 @@ use Rattle.scp_core.specs.declared.event.Reply.{Reply}
 use Rattle.scp_core.specs.declared.event.Reply.TheVariants.{Failed, NoLink, AlreadyOpen, LivesSpent, NotOpen, Full, Accepted, Blocked, Idle, Moved, Sent, JournalFull, NoMemory}
 use Rattle.scp_core.specs.Node.{NodeView, LinkView, Step, Accepts, Moves, SendsOut}
 use Rattle.scp_network.specs.Heard.{Nodes, Heard, IsHeard, IsOne, InOrder}
-use Rattle.scp_network.specs.Rounds.{HearsAll, reader_events, stage_events, Carries, IsTurn, IsRound, AreRounds, Rests}
+use Rattle.scp_turn.specs.Turn.{reader_events, stage_events}
+use Rattle.scp_network.specs.Rounds.{HearsAll, Carries, IsTurn, IsRound, AreRounds, IsMovingRound, Rests}
 use Rattle.scp_line.proofs.Places.{set_same, get_set, map_at}
 use Rattle.scp_line.specs.Links.{tail_at, tails}
 use Rattle.scp_line.proofs.Tails.{linked}
@@ -217,9 +218,9 @@ round_stays : (driven : List Bool) (count : ℕ) (a : Nodes) (x : List Heard) (b
 round_stays driven count a x b p = in_order_stays (IsTurn driven count) (turn_stays driven count) count a x b p
 
 rounds_stay : (driven : List Bool) (count rounds : ℕ) (a : Nodes) (x : List Heard) (b : Nodes) → AreRounds driven count rounds a x b → AllStay a b
-rounds_stay driven count rounds a x b p = in_order_stays (λ round. IsRound driven count) (λ round. round_stays driven count) rounds a x b p
+rounds_stay driven count rounds a x b p = in_order_stays (λ round. IsMovingRound driven count) (λ round o heard n q. round_stays driven count o heard n q.0) rounds a x b p
 
 -- while the nodes came to rest
 pub rests_stay : (driven : List Bool) (count : ℕ) (a : Nodes) (x : List Heard) (b : Nodes) → Rests driven count a x b → AllStay a b
-rests_stay driven count a x b (inl p) = stay_then a p.2.mid b (rounds_stay driven count p.0 a p.2.first p.2.mid p.2.one) (round_stays driven count p.2.mid p.2.rest b p.2.two.0)
-rests_stay driven count a x b (inr p) = rounds_stay driven count 100000 a x b p
+rests_stay driven count a x b (true, p) = stay_then a p.2.mid b (rounds_stay driven count p.0 a p.2.first p.2.mid p.2.one) (round_stays driven count p.2.mid p.2.rest b p.2.two.0)
+rests_stay driven count a x b (false, p) = rounds_stay driven count 100000 a x b p

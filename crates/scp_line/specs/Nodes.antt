@@ -6,8 +6,10 @@ use Rattle.scp_core.specs.declared.event.Reply.{Reply}
 use Rattle.scp_core.specs.declared.event.Reply.TheVariants.{Accepted, Full}
 use Rattle.scp_core.specs.Config.{AreInRange}
 use Rattle.scp_core.specs.Node.{NodeView}
-use Rattle.scp_network.specs.Heard.{Nodes, Heard}
-use Rattle.scp_network.specs.Rounds.{Rests, Breaks, AllRun}
+use Rattle.scp_turn.specs.declared.watch.NoWatch.{NoWatch}
+use Rattle.scp_turn.specs.Watch.{Noting, unwatched}
+use Rattle.scp_network.specs.Heard.{Nodes, Heard, Noted, With}
+use Rattle.scp_network.specs.Rounds.{RestsAs, Breaks, AllRun}
 use Rattle.scp_network.specs.Network.{Hear, NetworkView}
 use Rattle.scp_script.specs.declared.command.Command.{Command}
 use Rattle.scp_script.specs.declared.command.Command.TheVariants as script
@@ -59,52 +61,71 @@ brings_to_rest (script.Report at) = false
 
 -- ---- what a line makes them hear, from one moment to another
 
+-- a network, and who watches it
+pub record Watching (W : Type 0) : Type 0 where
+  pub network : NetworkView
+  pub watch : W
+
+-- a network, and who watches it
+abbrev pub moment : {W : Type 0} → NetworkView → W → Watching W
+moment {W} network watch = record { network = network; watch = watch }
+
+-- the nodes heard more, of which this holds, and the watch noted each step of it
+abbrev pub Goes : {W : Type 0} → Noting W → Watching W → Watching W → (Nodes → List Heard → Nodes → Type 0) → Type 0
+Goes {W} Note old new Is = Hear old.network.nodes new.network.nodes (With (Noted Note old.watch new.watch) Is) × (new.network.driven ≡ old.network.driven)
+
 -- a line's event, of a node of this number, isn't heard: there is none, or no such node
 abbrev pub IsMissed : NetworkView → Option (ℕ × Event) → Type 0
 IsMissed network None = Unit {0}
 IsMissed network (Some offered) = (offered.0 ≡ 0) ⊎ (length network.nodes < offered.0)
 
 -- an offer: the answer and the number of the node
-abbrev pub Offers : NetworkView → Command → Option (ℕ × Reply) → NetworkView → Type 0
-Offers old command None new = (new ≡ old) × IsMissed old (event_by command)
-Offers old command (Some answer) new = (event : Event) × (event_by command ≡ Some (answer.0, event)) × Hear old.nodes new.nodes (Answers (answer.0, event) answer.1) × (new.driven ≡ old.driven)
+abbrev pub Offers : {W : Type 0} → Noting W → Watching W → Command → Option (ℕ × Reply) → Watching W → Type 0
+Offers {W} Note old command None new = (new ≡ old) × IsMissed old.network (event_by command)
+Offers {W} Note old command (Some answer) new = (event : Event) × (event_by command ≡ Some (answer.0, event)) × Goes Note old new (Answers (answer.0, event) answer.1)
 
--- the nodes came to rest and none failed, or one failed
-abbrev pub Settles : NetworkView → NetworkView → Result (Unit {0}) PlayFault → Type 0
-Settles old new (Ok done) = Hear old.nodes new.nodes (Rests old.driven (length old.nodes)) × AllRun new.nodes × (new.driven ≡ old.driven)
-Settles old new (Err e) = (e.fault ≡ failing) × Hear old.nodes new.nodes (Breaks old.driven (length old.nodes) e.node)
+-- the nodes came to rest, or went on to the last round, and none failed; or one failed
+abbrev pub Settles : {W : Type 0} → Noting W → Watching W → Watching W → Result Bool PlayFault → Type 0
+Settles {W} Note old new (Ok calm) = Goes Note old new (RestsAs old.network.driven (length old.network.nodes) calm) × AllRun new.network.nodes
+Settles {W} Note old new (Err e) = (e.fault ≡ failing) × Goes Note old new (Breaks old.network.driven (length old.network.nodes) e.node)
 
 -- there was no memory for an event
 abbrev pub IsWant : PlayFault → Type 0
 IsWant e = (e.fault ≡ NoMemory) × (e.node ≡ 0)
 
--- a line's event was offered; where it found no room this was done
-abbrev pub Tries : (NetworkView → NetworkView → Result (Unit {0}) PlayFault → Type 0) → NetworkView → Command → NetworkView → Result (Unit {0}) PlayFault → Type 0
-Tries IfFull old command new (Ok done) =
-    Offers old command None new
-    ⊎ (((number : ℕ) × Offers old command (Some (number, Accepted)) new)
-    ⊎ ((number : ℕ) × (mid : NetworkView) × Offers old command (Some (number, Full)) mid × IfFull mid new (Ok done)))
-Tries IfFull old command new (Err e) =
+-- a line's event was offered, and the nodes had come to rest as often as it brought them to it, or hadn't; where it found no room this was
+-- done
+abbrev pub Tries : {W : Type 0} → Noting W → Bool → (Watching W → Watching W → Result Bool PlayFault → Type 0) → Watching W → Command → Watching W → Result Bool PlayFault → Type 0
+Tries {W} Note calm IfFull old command new (Ok answer) =
+    ((answer ≡ calm) × Offers Note old command None new)
+    ⊎ (((number : ℕ) × (answer ≡ calm) × Offers Note old command (Some (number, Accepted)) new)
+    ⊎ ((number : ℕ) × (mid : Watching W) × Offers Note old command (Some (number, Full)) mid × IfFull mid new (Ok answer)))
+Tries {W} Note calm IfFull old command new (Err e) =
     IsWant e
-    ⊎ (((reply : Reply) × (reply ≢ Accepted) × (reply ≢ Full) × Offers old command (Some (e.node, reply)) new)
-    ⊎ ((number : ℕ) × (mid : NetworkView) × Offers old command (Some (number, Full)) mid × IfFull mid new (Err e)))
+    ⊎ (((reply : Reply) × (reply ≢ Accepted) × (reply ≢ Full) × Offers Note old command (Some (e.node, reply)) new)
+    ⊎ ((number : ℕ) × (mid : Watching W) × Offers Note old command (Some (number, Full)) mid × IfFull mid new (Err e)))
 
 -- it was given up
-abbrev pub GivesUp : NetworkView → NetworkView → Result (Unit {0}) PlayFault → Type 0
-GivesUp old new (Ok done) = ⊥
-GivesUp old new (Err e) = (new ≡ old) × (e.fault ≡ full) × (e.node ≡ 0)
+abbrev pub GivesUp : {W : Type 0} → Watching W → Watching W → Result Bool PlayFault → Type 0
+GivesUp {W} old new (Ok answer) = ⊥
+GivesUp {W} old new (Err e) = (new ≡ old) × (e.fault ≡ full) × (e.node ≡ 0)
 
--- the nodes came to rest, or one failed; then the event was offered once again
-abbrev pub ActsAgain : NetworkView → Command → NetworkView → Result (Unit {0}) PlayFault → Type 0
-ActsAgain old command new result =
-    ((e : PlayFault) × (result ≡ Err e) × Settles old new (Err e))
-    ⊎ ((mid : NetworkView) × Settles old mid (Ok tt) × Tries GivesUp mid command new result)
+-- the nodes came to rest, or went on to the last round, or one failed; then the event was offered once again
+abbrev pub ActsAgain : {W : Type 0} → Noting W → Watching W → Command → Watching W → Result Bool PlayFault → Type 0
+ActsAgain {W} Note old command new result =
+    ((e : PlayFault) × (result ≡ Err e) × Settles Note old new (Err e))
+    ⊎ ((mid : Watching W) × (calm : Bool) × Settles Note old mid (Ok calm) × Tries Note calm GivesUp mid command new result)
 
--- a line was done, or why not
-abbrev pub Acts : NetworkView → Command → NetworkView → Result (Unit {0}) PlayFault → Type 0
-Acts old command new result =
-    ((brings_to_rest command ≡ true) × Settles old new result)
-    ⊎ ((brings_to_rest command ≡ false) × Tries (λ mid last done. ActsAgain mid command last done) old command new result)
+-- a line was done, of which a watch noted each step, or why not
+abbrev pub Acts : {W : Type 0} → Noting W → Watching W → Command → Watching W → Result Bool PlayFault → Type 0
+Acts {W} Note old command new result =
+    ((brings_to_rest command ≡ true) × Settles Note old new result)
+    ⊎ ((brings_to_rest command ≡ false) × Tries Note true (λ mid last done. ActsAgain Note mid command last done) old command new result)
+
+-- a line was done with nobody told, or why not
+abbrev pub ActsAlone : NetworkView → Command → NetworkView → Result (Unit {0}) PlayFault → Type 0
+ActsAlone old command new (Ok done) = (calm : Bool) × (before after' : NoWatch) × Acts unwatched (moment old before) command (moment new after') (Ok calm)
+ActsAlone old command new (Err e) = (before after' : NoWatch) × Acts unwatched (moment old before) command (moment new after') (Err e)
 
 -- why the line behind these wasn't done
 abbrev pub IsStoppedAt : List Command → List Command → PlayFault → Type 0

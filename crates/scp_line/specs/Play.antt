@@ -1,5 +1,5 @@
 -- What is played and shown.
-use Rattle.std.specs.Prelude.{ℕ, ◌+◌, ◌-◌, ◌<◌, ◌≤◌, ◌≡◌, ◌⊎◌, Bool, false, List, [], ◌∷◌, ◌++◌, Option, Some, None, Err, flat_map, fold, replicate, length, codes, nat_eq, nat_lt, slice_get, get_or, option_to_list, if◌then◌else◌}
+use Rattle.std.specs.Prelude.{ℕ, ◌+◌, ◌-◌, ◌<◌, ◌≤◌, ◌≡◌, ◌⊎◌, Bool, true, false, List, [], ◌∷◌, ◌++◌, Option, Some, None, Err, flat_map, fold, replicate, length, codes, nat_eq, nat_lt, slice_get, get_or, option_to_list, if◌then◌else◌}
 use Rattle.std.specs.Fmt.{decimal}
 use Rattle.scp_types.specs.declared.names.ConnId.{ConnId}
 use Rattle.scp_types.specs.declared.fault.Fault.{Fault}
@@ -30,10 +30,10 @@ use Rattle.scp_script.specs.Words.{hex_bytes}
 use Rattle.scp_script.specs.Script.{commands_in, node_count}
 use Rattle.scp_script.specs.Nodes.{id_of, numbers, peers_of, set_at, capacities_in, reports_in}
 use Rattle.scp_line.specs.declared.report.Parked.{Parked}
-use Rattle.scp_line.specs.Report.{report_of, hex_word}
+use Rattle.scp_line.specs.Report.{ReportView, report_of, hex_word}
 use Rattle.scp_line.specs.Parts.{entries_of}
 use Rattle.scp_network.specs.Heard.{Nodes, Heard, HaveHeard, past_at, Then, IsNothing, IsOne}
-use Rattle.scp_network.specs.Rounds.{link_of, Rests, Breaks, AllRun}
+use Rattle.scp_network.specs.Rounds.{link_of, Rests, RestsAs, Breaks, AllRun}
 use Rattle.scp_network.specs.Network.{driven_more}
 
 -- the event that a command is, and the number of the node that hears it
@@ -66,21 +66,26 @@ driven_in commands = fold driven_by (replicate 64 false) commands
 abbrev pub Answers : ℕ × Event → Reply → Nodes → List Heard → Nodes → Type 0
 Answers offered reply = IsOne (record { node = offered.0; event = offered.1; reply = reply })
 
--- a line's event was accepted by its node: at once, or after the nodes had come to rest, where there was no room
-abbrev pub IsOffered : List Bool → ℕ → ℕ × Event → Nodes → List Heard → Nodes → Type 0
-IsOffered driven count offered old heard new =
-    Answers offered Accepted old heard new ⊎ Then (Answers offered Full) (Then (Rests driven count) (Answers offered Accepted)) old heard new
+-- A line's event was accepted by its node: at once, or after the nodes had come to rest, or hadn't in so many rounds, where there was no
+-- room.
+abbrev pub IsOffered : List Bool → ℕ → Bool → ℕ × Event → Nodes → List Heard → Nodes → Type 0
+IsOffered driven count calm offered old heard new =
+    ((calm ≡ true) × Answers offered Accepted old heard new) ⊎ Then (Answers offered Full) (Then (RestsAs driven count calm) (Answers offered Accepted)) old heard new
 
 -- what the nodes hear of a line's event: nothing where it has none, else what its offer says
-abbrev pub HearsBy : List Bool → ℕ → Option (ℕ × Event) → Nodes → List Heard → Nodes → Type 0
-HearsBy driven count None = IsNothing
-HearsBy driven count (Some offered) = IsOffered driven count offered
+abbrev pub HearsBy : List Bool → ℕ → Bool → Option (ℕ × Event) → Nodes → List Heard → Nodes → Type 0
+HearsBy driven count calm None old heard new = (calm ≡ true) × IsNothing old heard new
+HearsBy driven count calm (Some offered) old heard new = IsOffered driven count calm offered old heard new
+
+-- what the nodes heard of a line, where they came to rest as often as it brought them to it, or didn't
+abbrev pub HearsAs : List Bool → ℕ → Bool → Command → Nodes → List Heard → Nodes → Type 0
+HearsAs driven count calm script.Settle = RestsAs driven count calm
+HearsAs driven count calm (script.Wait at things) = RestsAs driven count calm
+HearsAs driven count calm command = HearsBy driven count calm (event_by command)
 
 -- what the nodes heard of a line
 abbrev pub Hears : List Bool → ℕ → Command → Nodes → List Heard → Nodes → Type 0
-Hears driven count script.Settle = Rests driven count
-Hears driven count (script.Wait at things) = Rests driven count
-Hears driven count command = HearsBy driven count (event_by command)
+Hears driven count command old heard new = (calm : Bool) × HearsAs driven count calm command old heard new
 
 -- what they heard of lines, one after the other
 abbrev pub Played : List Bool → ℕ → List Command → Nodes → List Heard → Nodes → Type 0
@@ -136,15 +141,19 @@ parked_in count number v = flat_map (parked_from v number) (numbers count)
 abbrev pub running_state : NodeView → Option KvMap
 running_state node = if node.failed then None else node.applier.state
 
--- the text of a node's report, of so many nodes
-abbrev pub report_of_node : ℕ → ℕ → NodeView → List ℕ
-report_of_node count number node = report_of (record {
+-- what a node's report tells, of so many nodes
+abbrev pub view_of_node : ℕ → ℕ → NodeView → ReportView
+view_of_node count number node = record {
   node = number;
   journal = node.ledger.journal;
   parked = parked_in count number node;
   applied = node.applier.applied;
   state = entries_of (running_state node);
-})
+}
+
+-- the text of a node's report, of so many nodes
+abbrev pub report_of_node : ℕ → ℕ → NodeView → List ℕ
+report_of_node count number node = report_of (view_of_node count number node)
 
 -- the report of the node of this number
 abbrev pub report_at : Nodes → ℕ → List ℕ

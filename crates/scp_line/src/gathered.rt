@@ -43,7 +43,7 @@ fn parked_on(messages: &[Carried], conn: &ConnId) -> Parked
 }
 
 /// How many messages of each connection wait, ascending by connections. A node holds at most 64 for each of its links.
-fn counts_of(alloc: Global, messages: &[Carried]) -> Result<Vec<Parked>, AllocError>
+pub fn counts_of(alloc: Global, messages: &[Carried]) -> Result<Vec<Parked>, AllocError>
     ensures { IfOk result (λ counts. counts.items ≡ parked_counts messages.now) }
 {
     let conns = conns_of(alloc, messages)?;

@@ -4,7 +4,8 @@ ghost use Rattle.scp_script.specs.Script.{AreAdmitted, node_count};
 ghost use Rattle.scp_script.specs.Nodes.{NamesNodes, IsSmall, reports_in};
 ghost use Rattle.scp_core.specs.Config.{IsConfig};
 ghost use Rattle.scp_line.specs.Play.{config_of, driven_in, event_by, IsNew, AreNew, Played, report_of_node, report_at};
-ghost use Rattle.scp_line.specs.Nodes.{HaveRoom, AreMade, Offers, Settles, Acts, ActsAgain, brings_to_rest};
+ghost use Rattle.scp_turn.specs.Watch.{notes};
+ghost use Rattle.scp_line.specs.Nodes.{HaveRoom, AreMade, moment, Offers, Settles, Acts, ActsAlone, ActsAgain, brings_to_rest};
 ghost use Rattle.scp_line.specs.inside.Nodes.{IsPlayed, IsStopped};
 
 use crate::playing::PlayFault;
@@ -13,6 +14,7 @@ use crate::waiting::parked_at;
 use scp_core::{Capacities, Command as LocalCommand, Config, Event, Node, Peers, Reply};
 use scp_network::{Network, link_from};
 use scp_script::{Command, capacities_of, count_of_nodes, id_from, peers_of_node, set_of_node};
+use scp_turn::{NoWatch, Watch};
 use scp_types::{Fault, Slot};
 use std::alloc::{AllocError, Global};
 
@@ -137,29 +139,35 @@ fn event_of(command: &Command) -> Result<Option<(u8, Event)>, Fault>
     })
 }
 
-/// Offers the event of a command to its node, and answers the node's number with its reply; `None` where the command is no event.
-/// The one refusal is `NoMemory`, and then nothing was offered.
-fn offer(network: &mut Network, command: &Command) -> Result<Option<(u8, Reply)>, Fault>
+/// Offers the event of a command to its node, of which the watch is told, and answers the node's number with its reply; `None` where
+/// the command is no event. The one refusal is `NoMemory`, and then nothing was offered.
+fn offer<W: Watch>(
+    network: &mut Network,
+    watch: &mut W,
+    command: &Command,
+) -> Result<Option<(u8, Reply)>, Fault>
     requires names { NamesNodes command.now }
-    ensures offers { IfOk result (λ answer. Offers network.old command.now answer network.new) }
+    ensures offers { IfOk result (λ answer. Offers (notes W.notes_before W.notes_after) (moment network.old watch.old) command.now answer (moment network.new watch.new)) }
     ensures same { IfErr result (λ fault. network.new ≡ network.old) }
+    ensures untold { IfErr result (λ fault. watch.new ≡ watch.old) }
     ensures only_memory { IsOkUnless result Fault.NoMemory }
 {
     let Some((number, event)) = event_of(command)? else {
         return Ok(None);
     };
-    match network.offer(number, event) {
+    match network.offer_with(watch, number, event) {
         Some(reply) => Ok(Some((number, reply))),
         None => Ok(None),
     }
 }
 
-/// Brings the nodes to rest. Refused by `Failed` where a node failed, which is named.
-fn settle(network: &mut Network) -> Result<(), PlayFault>
-    ensures { Settles network.old network.new result }
+/// Brings the nodes to rest, of which the watch is told, and answers whether they came to it. Refused by `Failed` where a node failed,
+/// which is named.
+fn settle<W: Watch>(network: &mut Network, watch: &mut W) -> Result<bool, PlayFault>
+    ensures { Settles (notes W.notes_before W.notes_after) (moment network.old watch.old) (moment network.new watch.new) result }
 {
-    match network.settle() {
-        Ok(()) => Ok(()),
+    match network.settle_with(watch) {
+        Ok(calm) => Ok(calm),
         Err(node) => Err(PlayFault {
             fault: Fault::Failed,
             node,
@@ -168,14 +176,18 @@ fn settle(network: &mut Network) -> Result<(), PlayFault>
 }
 
 /// Does what a line says where its event found no room: the nodes come to rest, and it is offered once again.
-fn act_again(network: &mut Network, command: &Command) -> Result<(), PlayFault>
+fn act_again<W: Watch>(
+    network: &mut Network,
+    watch: &mut W,
+    command: &Command,
+) -> Result<bool, PlayFault>
     requires names { NamesNodes command.now }
-    ensures { ActsAgain network.old command.now network.new result }
+    ensures { ActsAgain (notes W.notes_before W.notes_after) (moment network.old watch.old) command.now (moment network.new watch.new) result }
 {
-    settle(network)?;
-    match offer(network, command)? {
-        None => Ok(()),
-        Some((_, Reply::Accepted)) => Ok(()),
+    let calm = settle(network, watch)?;
+    match offer(network, watch, command)? {
+        None => Ok(calm),
+        Some((_, Reply::Accepted)) => Ok(calm),
         Some((_, Reply::Full)) => Err(PlayFault::from(Fault::Full)),
         Some((node, _)) => Err(PlayFault {
             fault: Fault::Failed,
@@ -191,22 +203,40 @@ fn is_rest(command: &Command) -> bool
     matches!(command, Command::Settle | Command::Wait { .. })
 }
 
-/// Does what a line says: where a queue is full, the nodes come to rest, and it is tried once again.
-pub fn act(network: &mut Network, command: &Command) -> Result<(), PlayFault>
+/// Does what a line says, of which the watch is told: where a queue is full, the nodes come to rest, and it is tried once again. Answers
+/// whether the nodes came to rest, where the line brought them to it: `false` only where each of 100,000 rounds moved something. Refused
+/// by `Failed` where a node failed or didn't take the line's event, which is named, by `Full` where its queue had no room also after a
+/// settle, and by `NoMemory`.
+pub fn act_with<W: Watch>(
+    network: &mut Network,
+    watch: &mut W,
+    command: &Command,
+) -> Result<bool, PlayFault>
     requires names { NamesNodes command.now }
-    ensures { Acts network.old command.now network.new result }
+    ensures { Acts (notes W.notes_before W.notes_after) (moment network.old watch.old) command.now (moment network.new watch.new) result }
 {
     if is_rest(command) {
-        return settle(network);
+        return settle(network, watch);
     }
-    match offer(network, command)? {
-        None => Ok(()),
-        Some((_, Reply::Accepted)) => Ok(()),
-        Some((_, Reply::Full)) => act_again(network, command),
+    match offer(network, watch, command)? {
+        None => Ok(true),
+        Some((_, Reply::Accepted)) => Ok(true),
+        Some((_, Reply::Full)) => act_again(network, watch, command),
         Some((node, _)) => Err(PlayFault {
             fault: Fault::Failed,
             node,
         }),
+    }
+}
+
+/// Does what a line says, as `act_with` does, with nobody told, nor whether the nodes came to rest.
+pub fn act(network: &mut Network, command: &Command) -> Result<(), PlayFault>
+    requires names { NamesNodes command.now }
+    ensures { ActsAlone network.old command.now network.new result }
+{
+    match act_with(network, &mut NoWatch, command) {
+        Ok(_) => Ok(()),
+        Err(fault) => Err(fault),
     }
 }
 

@@ -19,7 +19,8 @@ use scp_types::{ConnId, NodeId};
 use std::alloc::{AllocError, Global};
 use std::collections::{BTreeMap, BTreeSet};
 
-fn word_of_verdict(verdict: Verdict) -> &'static str
+/// The word of a verdict, as in a report.
+pub fn word_of_verdict(verdict: Verdict) -> &'static str
     ensures { result.now ≡ verdict_word verdict }
 {
     match verdict {
@@ -38,7 +39,8 @@ fn word_of_verdict(verdict: Verdict) -> &'static str
     }
 }
 
-fn word_of_cause(cause: Cause) -> &'static str
+/// The word for why a connection ended.
+pub fn word_of_cause(cause: Cause) -> &'static str
     ensures { result.now ≡ cause_word cause }
 {
     match cause {
@@ -49,7 +51,8 @@ fn word_of_cause(cause: Cause) -> &'static str
     }
 }
 
-fn word_of_drop(cause: DropCause) -> &'static str
+/// The word for why a message was dropped.
+pub fn word_of_drop(cause: DropCause) -> &'static str
     ensures { result.now ≡ drop_word cause }
 {
     match cause {
@@ -96,14 +99,14 @@ pub fn write_hex(text: &mut String, bytes: &[u8]) -> Result<(), AllocError>
 }
 
 /// The number of a node whose id is 32 bytes of its number.
-fn number_of(id: &NodeId) -> u8
+pub fn number_of(id: &NodeId) -> u8
     ensures { result ≡ node_number id.now }
 {
     id.0[0]
 }
 
-/// Adds who says so.
-fn write_origin(text: &mut String, origin: &Origin) -> Result<(), AllocError>
+/// Adds the words for what a decision rests on: a machine, or the record of a connection.
+pub fn write_origin(text: &mut String, origin: &Origin) -> Result<(), AllocError>
     ensures { OnOk result (string_bytes text.new ≡ string_bytes text.old ++ origin_words origin.now) }
 {
     match origin {
@@ -182,7 +185,7 @@ fn add_parked(conns: &mut BTreeSet<ConnId>, parked: &[Parked]) -> Result<(), All
 }
 
 /// The connections with entries or parked messages, ascending.
-fn connections(
+pub fn connections_of(
     alloc: Global,
     journal: &[Fate],
     parked: &[Parked],
@@ -302,14 +305,18 @@ fn write_section(
     Ok(())
 }
 
-/// Adds the connections' parts, ascending.
-fn write_sections(text: &mut String, journal: &[Fate], parked: &[Parked]) -> Result<(), AllocError>
+/// Adds the connections' parts, ascending. The time grows with the number of entries times the logarithm of the number of connections.
+pub fn write_sections(
+    text: &mut String,
+    journal: &[Fate],
+    parked: &[Parked],
+) -> Result<(), AllocError>
     ensures { OnOk result (string_bytes text.new ≡ string_bytes text.old ++ flat_map (section_of journal.now parked.now) (conns_of journal.now parked.now)) }
 {
     let alloc = *text.allocator();
     let mut sections = sections(alloc, journal)?;
     sort_all_parked(alloc, &mut sections, parked)?;
-    let conns = connections(alloc, journal, parked)?;
+    let conns = connections_of(alloc, journal, parked)?;
     for conn in &conns {
         write_section(text, &sections, conn)?;
     }
@@ -317,7 +324,7 @@ fn write_sections(text: &mut String, journal: &[Fate], parked: &[Parked]) -> Res
 }
 
 /// The connection of an entry.
-fn conn_of_fate(fate: &Fate) -> ConnId
+pub fn conn_of_fate(fate: &Fate) -> ConnId
     ensures { result ≡ conn_of fate.now }
 {
     match fate {

@@ -1,10 +1,14 @@
 //! Playing a script by nodes whose stages run in threads.
-ghost use Rattle.std.specs.Prelude.{◌≡◌, ◌≢◌, ◌⊎◌, ◌≤◌, ◌<◌, ℕ, List, length, IfOk, IfErr, IfSome, OnOk, string_bytes};
+ghost use Rattle.std.specs.Prelude.{◌≡◌, ◌≢◌, ◌⊎◌, ◌≤◌, ◌<◌, ℕ, List, [], All, length, IfOk, IfErr, IfSome, OnOk, string_bytes};
 ghost use Rattle.scp_types.specs.declared.fault.Fault.TheVariants.{BadScript};
 ghost use Rattle.scp_types.specs.declared.fault.Stage.{Stage};
 ghost use Rattle.scp_device.specs.Device.{Gains, GainsPart, Fails, IsAll};
-ghost use Rattle.scp_script.specs.Script.{IsScript, IsBadLine, HasNoBadLine, HasSetLine};
+ghost use Rattle.scp_script.specs.Script.{AreAdmitted, IsScript, IsBadLine, HasNoBadLine, HasSetLine};
+ghost use Rattle.scp_script.specs.Nodes.{NamesNodes};
+ghost use Rattle.scp_threaded_script.specs.Reported.{AreNodesReported, IsGivenUp};
+ghost use Rattle.scp_threaded_script.specs.Waits.{AreWaits};
 ghost use Rattle.scp_line.specs.Headlines.{AreGatheredHeadlined};
+ghost use Rattle.scp_line.specs.Nodes.{HaveRoom};
 ghost use Rattle.scp_line.specs.Play.{IsNamed};
 ghost use Rattle.scp_line.specs.Threads.{AreGatheredReports, AreGivenUp, IsOfTheNodes, IsThreadsFault};
 
@@ -13,8 +17,8 @@ use crate::playing::PlayFault;
 use scp_device::{ReportOut, SCRIPT_LIMIT, ScriptIn, read_script, write_text};
 use scp_gate::{Gate, Open};
 use scp_gather::what_is_reported_keeps_the_headline;
-use scp_script::parse;
-use scp_threaded_script::{NodeFault, run_lines};
+use scp_script::{Command, parse};
+use scp_threaded_script::{NodeFault, Ran, run_lines};
 use scp_types::Fault;
 use std::alloc::Global;
 use std::sync::Wait;
@@ -28,6 +32,27 @@ impl From<NodeFault> for PlayFault {
             fault: error.fault,
             node: error.node,
         }
+    }
+}
+
+/// Runs the nodes of a script, whose stages run in threads of their own, as `play_in_threads` does, and answers what is told of them, node 1
+/// first, and the places among the commands of the `wait` lines that gave up. Refused as `play_in_threads` is, but for what it reads
+/// and writes.
+pub fn run_in_threads<T: Threads + Wait + Sync>(
+    rt: &T,
+    alloc: Global,
+    commands: &[Command],
+) -> Result<Ran, PlayFault>
+    requires names { All NamesNodes commands.now }
+    requires admitted { AreAdmitted [] commands.now }
+    requires room { HaveRoom commands.now }
+    ensures reported { IfOk result (λ ran. AreNodesReported commands.now ran.reports.items) }
+    ensures waits { IfOk result (λ ran. AreWaits commands.now 0 ran.gave_up.items) }
+    ensures given_up { IfErr result (λ e. IsGivenUp commands.now (record { fault = e.fault; node = e.node })) }
+{
+    match run_lines(rt, &Open, alloc, commands) {
+        Ok(ran) => Ok(ran),
+        Err(fault) => Err(PlayFault::from(fault)),
     }
 }
 
@@ -54,8 +79,8 @@ fn played<T: Threads + Wait + Sync, G: Gate + Sync>(
 {
     let script = parse(alloc, text)?;
     let commands = script.as_slice();
-    let nodes = run_lines(rt, gate, alloc, commands)?;
-    let reports = nodes.as_slice();
+    let ran = run_lines(rt, gate, alloc, commands)?;
+    let reports = ran.reports.as_slice();
     what_is_reported_keeps_the_headline();
     let mut printed = String::new(alloc);
     match write_all_gathered(reports, &mut printed, commands) {

@@ -7,24 +7,8 @@ use Rattle.scp_core.specs.declared.event.Event.{Event}
 use Rattle.scp_core.specs.declared.event.Event.TheVariants as event
 use Rattle.scp_core.specs.declared.event.Reply.{Reply}
 use Rattle.scp_core.specs.declared.event.Reply.TheVariants as reply
-use Rattle.scp_core.specs.Node.{NodeView, LinkView, Step, SendsOut, accepts_at, accepts_of}
-use Rattle.scp_network.specs.Rounds.{IsStillReply}
-use Rattle.scp_network.specs.inside.Acting.{IsStage}
-
--- a stage sends nothing out
-sends_nothing : (v new : NodeView) (e : Event) (bytes : Bytes) → IsStage e → SendsOut v e bytes new → ⊥
-sends_nothing v new (event.Open l) bytes s p = s
-sends_nothing v new (event.Send l x) bytes s p = s
-sends_nothing v new (event.Close l) bytes s p = s
-sends_nothing v new (event.Local command) bytes s p = s
-sends_nothing v new (event.ReaderTake l) bytes s p = p
-sends_nothing v new (event.ReaderPut l) bytes s p = p
-sends_nothing v new event.PendTake bytes s p = p
-sends_nothing v new event.PendPut bytes s p = p
-sends_nothing v new event.SlotTake bytes s p = p
-sends_nothing v new event.SlotPut bytes s p = p
-sends_nothing v new event.ApplyTake bytes s p = p
-sends_nothing v new (event.Drain l) bytes s p = s
+use Rattle.scp_core.specs.Node.{NodeView, LinkView, Step, accepts_at, accepts_of}
+use Rattle.scp_turn.specs.Turn.{IsStillReply}
 
 still_else : (r : Reply) → r ≢ reply.Moved → ((bytes : Bytes) → r ≢ reply.Sent bytes) → IsStillReply r
 still_else reply.Accepted m s = tt
@@ -40,10 +24,6 @@ still_else reply.NoLink m s = tt
 still_else reply.Failed m s = tt
 still_else reply.JournalFull m s = tt
 still_else reply.NoMemory m s = tt
-
--- a step of a stage that doesn't move
-pub stage_still : (v new : NodeView) (e : Event) (r : Reply) → IsStage e → Step v e r new → r ≢ reply.Moved → IsStillReply r
-stage_still v new e r stage step m = still_else r m (λ bytes is. sends_nothing v new e bytes stage (subst (λ (x : Reply). Step v e x new) is step).1)
 
 -- a drain that doesn't send
 pub drain_still : (v new : NodeView) (l : ℕ) (r : Reply) → Step v (event.Drain l) r new → ((bytes : Bytes) → r ≢ reply.Sent bytes) → IsStillReply r

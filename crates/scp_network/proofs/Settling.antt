@@ -1,25 +1,44 @@
 -- Rounds, one after the other, until the nodes come to rest.
-use Rattle.std.proofs.Common.{inl, inr, ◌≡◌, ◌⊎◌, ◌<◌, ◌+◌, ℕ, Bool, false, List, length, refl, subst}
-use Rattle.scp_network.specs.Heard.{Nodes}
-use Rattle.scp_network.specs.Rounds.{IsStill, IsRound, AreRounds, AllRun, Rests, Breaks, HasFailed}
+use Rattle.std.proofs.Common.{◌≡◌, ◌⊎◌, ◌<◌, ◌+◌, ℕ, suc, Bool, true, false, List, length, refl, sym, ◌∙◌, subst, arith}
+use Rattle.std.specs.Prelude.{◌↔◌}
+use Rattle.scp_turn.specs.Watch.{Noting}
+use Rattle.scp_network.specs.Heard.{Nodes, Heard, Noted, With}
+use Rattle.scp_network.specs.Rounds.{IsStill, IsRound, AreRounds, AllRun, RestsAs, Breaks, HasFailed}
 use Rattle.scp_network.specs.Network.{Hear}
 use Rattle.scp_network.specs.inside.Acting.{Acts}
-use Rattle.scp_network.proofs.Hearing.{hear_as, hear_then, hear_next}
+use Rattle.scp_network.proofs.Hearing.{Did, hear_as, hear_then, hear_nothing, noted_on}
 
-pub round_more : (old mid new : Nodes) (driven : List Bool) (k : ℕ) (moved : Bool) → Hear old mid (AreRounds driven (length old) k) → Acts mid new (IsRound driven (length mid)) moved → Hear old new (AreRounds driven (length old) (k + 1))
-round_more old mid new driven k moved h a =
-    hear_next old mid new (λ round. IsRound driven (length old)) k h
-    (hear_as mid new (λ o heard n. IsRound driven (length mid) o heard n × (moved ≡ false → IsStill heard)) (IsRound driven (length old)) (λ heard p. subst (λ (c : ℕ). IsRound driven c mid heard new) h.count p.0) a)
+pub none_yet : {W : Type 0} (Note : Noting W) (w : W) (nodes : Nodes) (driven : List Bool) → Hear nodes nodes (With (Noted Note w w) (AreRounds driven (length nodes) 0))
+none_yet Note w nodes driven = hear_nothing nodes (With (Noted Note w w) (AreRounds driven (length nodes) 0)) ((refl, refl), (refl, refl))
 
-pub breaks : (old mid new : Nodes) (driven : List Bool) (k number : ℕ) (moved : Bool) → k < 100000 → (k ≡ 0) ⊎ AllRun mid → Hear old mid (AreRounds driven (length old) k) → Acts mid new (IsRound driven (length mid)) moved → HasFailed new number → Hear old new (Breaks driven (length old) number)
-breaks old mid new driven k number moved lt run h a f =
-    hear_then old mid new (AreRounds driven (length old) k) (λ o heard n. IsRound driven (length mid) o heard n × (moved ≡ false → IsStill heard)) (Breaks driven (length old) number)
-    (λ x y p q. (k, lt, record { mid = mid; first = x; rest = y; split = refl; one = (p, run); two = subst (λ (c : ℕ). IsRound driven c mid y new) h.count q.0 }, f)) h a
+moving : (moved : Bool) (heard : List Heard) → moved ≡ true → ((moved ≡ false) ↔ IsStill heard) → ¬ (IsStill heard)
+moving moved heard is iff = λ still. let e : true ≡ false = sym is ∙ iff.1 still in absurd cc
 
-pub rests_still : (old mid new : Nodes) (driven : List Bool) (k : ℕ) (moved : Bool) → k < 100000 → moved ≡ false → Hear old mid (AreRounds driven (length old) k) → Acts mid new (IsRound driven (length mid)) moved → Hear old new (Rests driven (length old))
-rests_still old mid new driven k moved lt calm h a =
-    hear_then old mid new (AreRounds driven (length old) k) (λ o heard n. IsRound driven (length mid) o heard n × (moved ≡ false → IsStill heard)) (Rests driven (length old))
-    (λ x y p q. inl (k, lt, record { mid = mid; first = x; rest = y; split = refl; one = p; two = (subst (λ (c : ℕ). IsRound driven c mid y new) h.count q.0, q.1 calm) })) h a
+pub round_more : {W : Type 0} (Note : Noting W) (w v z : W) (old mid new : Nodes) (driven : List Bool) (k : ℕ) (moved : Bool) → moved ≡ true → Hear old mid (With (Noted Note w v) (AreRounds driven (length old) k)) → Acts (Noted Note v z) mid new (IsRound driven (length mid)) moved → Hear old new (With (Noted Note w z) (AreRounds driven (length old) (k + 1)))
+round_more Note w v z old mid new driven k moved is h a =
+    let e : k + 1 ≡ suc k = omega arith in
+    subst (λ (j : ℕ). Hear old new (With (Noted Note w z) (AreRounds driven (length old) j))) (sym e)
+    (hear_then old mid new (With (Noted Note w v) (AreRounds driven (length old) k)) (With (Noted Note v z) (Did (IsRound driven (length mid)) moved)) (With (Noted Note w z) (AreRounds driven (length old) (suc k)))
+    (λ x y p q. (
+      record { mid = mid; first = x; rest = y; split = refl; one = p.0; two = (subst (λ (c : ℕ). IsRound driven c mid y new) h.count q.0.0, moving moved y is q.0.1) },
+      noted_on Note w v z old mid new x y p.1 q.1,
+    )) h a)
 
-pub rests_all : (old new : Nodes) (driven : List Bool) (k : ℕ) → k ≡ 100000 → Hear old new (AreRounds driven (length old) k) → Hear old new (Rests driven (length old))
-rests_all old new driven k e h = hear_as old new (AreRounds driven (length old) k) (Rests driven (length old)) (λ heard p. inr (subst (λ (j : ℕ). AreRounds driven (length old) j old heard new) e p)) h
+pub breaks : {W : Type 0} (Note : Noting W) (w v z : W) (old mid new : Nodes) (driven : List Bool) (k number : ℕ) (moved : Bool) → k < 100000 → (k ≡ 0) ⊎ AllRun mid → Hear old mid (With (Noted Note w v) (AreRounds driven (length old) k)) → Acts (Noted Note v z) mid new (IsRound driven (length mid)) moved → HasFailed new number → Hear old new (With (Noted Note w z) (Breaks driven (length old) number))
+breaks Note w v z old mid new driven k number moved lt run h a f =
+    hear_then old mid new (With (Noted Note w v) (AreRounds driven (length old) k)) (With (Noted Note v z) (Did (IsRound driven (length mid)) moved)) (With (Noted Note w z) (Breaks driven (length old) number))
+    (λ x y p q. (
+      (k, lt, record { mid = mid; first = x; rest = y; split = refl; one = (p.0, run); two = subst (λ (c : ℕ). IsRound driven c mid y new) h.count q.0.0 }, f),
+      noted_on Note w v z old mid new x y p.1 q.1,
+    )) h a
+
+pub rests_still : {W : Type 0} (Note : Noting W) (w v z : W) (old mid new : Nodes) (driven : List Bool) (k : ℕ) (moved : Bool) → k < 100000 → moved ≡ false → Hear old mid (With (Noted Note w v) (AreRounds driven (length old) k)) → Acts (Noted Note v z) mid new (IsRound driven (length mid)) moved → Hear old new (With (Noted Note w z) (RestsAs driven (length old) true))
+rests_still Note w v z old mid new driven k moved lt calm h a =
+    hear_then old mid new (With (Noted Note w v) (AreRounds driven (length old) k)) (With (Noted Note v z) (Did (IsRound driven (length mid)) moved)) (With (Noted Note w z) (RestsAs driven (length old) true))
+    (λ x y p q. (
+      (k, lt, record { mid = mid; first = x; rest = y; split = refl; one = p.0; two = (subst (λ (c : ℕ). IsRound driven c mid y new) h.count q.0.0, q.0.1.0 calm) }),
+      noted_on Note w v z old mid new x y p.1 q.1,
+    )) h a
+
+pub rests_not : {W : Type 0} (Note : Noting W) (w z : W) (old new : Nodes) (driven : List Bool) (k : ℕ) → k ≡ 100000 → Hear old new (With (Noted Note w z) (AreRounds driven (length old) k)) → Hear old new (With (Noted Note w z) (RestsAs driven (length old) false))
+rests_not Note w z old new driven k e h = hear_as old new (With (Noted Note w z) (AreRounds driven (length old) k)) (With (Noted Note w z) (RestsAs driven (length old) false)) (λ heard p. (subst (λ (j : ℕ). AreRounds driven (length old) j old heard new) e p.0, p.1)) h

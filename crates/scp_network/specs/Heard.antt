@@ -5,6 +5,7 @@ use Rattle.scp_core.specs.declared.event.Reply.{Reply}
 use Rattle.scp_core.specs.History.{Exchange}
 use Rattle.scp_core.specs.Node.{NodeView, Step}
 use Rattle.scp_core.specs.Theorem.{LedgerTheorem}
+use Rattle.scp_turn.specs.Watch.{Noting}
 
 -- the nodes, node 1 first
 abbrev pub Nodes : Type 0
@@ -59,3 +60,16 @@ IsOne h old heard new = (heard ≡ h ∷ []) × IsHeard old h new
 abbrev pub InOrder : (ℕ → Nodes → List Heard → Nodes → Type 0) → ℕ → Nodes → List Heard → Nodes → Type 0
 InOrder Is zero old heard new = IsNothing old heard new
 InOrder Is (suc n) old heard new = Then (InOrder Is n) (Is (suc n)) old heard new
+
+-- both hold of what was heard
+abbrev pub With : (Nodes → List Heard → Nodes → Type 0) → (Nodes → List Heard → Nodes → Type 0) → Nodes → List Heard → Nodes → Type 0
+With Also Is old heard new = Is old heard new × Also old heard new
+
+-- nothing more is said
+abbrev pub Anything : Nodes → List Heard → Nodes → Type 0
+Anything old heard new = Unit {0}
+
+-- a watch noted each step, in order, with the nodes that stood between them
+abbrev pub Noted : {W : Type 0} → Noting W → W → W → Nodes → List Heard → Nodes → Type 0
+Noted {W} Note w z old [] new = (new ≡ old) × (z ≡ w)
+Noted {W} Note w z old (h ∷ heard) new = (mid : Nodes) × (v : W) × (s : IsHeard old h mid) × Note w h.node h.event h.reply s.before s.after' v × Noted Note v z mid heard new

@@ -2,8 +2,8 @@
 use Rattle.std.specs.Prelude.{ℕ, ◌≡◌, ◌⊎◌, ◌<◌, Bool, true, List, ◌++◌, Option, Some, None, Result, Ok, Err, length, slice_set, ◌&&◌, nat_le, if◌then◌else◌}
 use Rattle.scp_core.specs.declared.event.Event.{Event}
 use Rattle.scp_core.specs.declared.event.Reply.{Reply}
-use Rattle.scp_network.specs.Heard.{Nodes, Heard, HaveHeard, IsOne}
-use Rattle.scp_network.specs.Rounds.{Rests, Breaks, AllRun, place_of}
+use Rattle.scp_network.specs.Heard.{Nodes, Heard, HaveHeard, IsOne, With}
+use Rattle.scp_network.specs.Rounds.{RestsAs, Breaks, AllRun, place_of}
 
 -- more was heard, of which this holds; what was heard before and this together are what the ledger theorem holds for
 pub record Hear (old new : Nodes) (Is : Nodes → List Heard → Nodes → Type 0) : Type 0 where
@@ -12,24 +12,24 @@ pub record Hear (old new : Nodes) (Is : Nodes → List Heard → Nodes → Type 
   pub count : length new ≡ length old
   pub have : (past : List Heard) → HaveHeard past old → HaveHeard (past ++ heard) new
 
--- a node of a number did one step
-abbrev pub IsAnswered : Nodes → ℕ → Event → Reply → Nodes → Type 0
-IsAnswered old number event reply new = Hear old new (IsOne (record { node = number; event = event; reply = reply }))
+-- a node of a number did one step, of which this holds also
+abbrev pub IsAnswered : (Nodes → List Heard → Nodes → Type 0) → Nodes → ℕ → Event → Reply → Nodes → Type 0
+IsAnswered Also old number event reply new = Hear old new (With Also (IsOne (record { node = number; event = event; reply = reply })))
 
--- the nodes came to rest and none failed, or one failed
-abbrev pub Settled : List Bool → Nodes → Result (Unit {0}) ℕ → Nodes → Type 0
-Settled driven old (Ok done) new = Hear old new (Rests driven (length old)) × AllRun new
-Settled driven old (Err number) new = Hear old new (Breaks driven (length old) number)
+-- the nodes came to rest, or went on to the last round, and none failed; or one failed; and this holds also
+abbrev pub Settled : (Nodes → List Heard → Nodes → Type 0) → List Bool → Nodes → Result Bool ℕ → Nodes → Type 0
+Settled Also driven old (Ok calm) new = Hear old new (With Also (RestsAs driven (length old) calm)) × AllRun new
+Settled Also driven old (Err number) new = Hear old new (With Also (Breaks driven (length old) number))
 
 -- what contracts see of a network: its nodes, and the links that are driven
 pub record NetworkView : Type 0 where
   pub nodes : Nodes
   pub driven : List Bool  -- by place_of: whether the caller alone sends on that link
 
--- an event was offered to the node of a number, which isn't there where nothing is answered
-abbrev pub Offered : NetworkView → ℕ → Event → Option Reply → NetworkView → Type 0
-Offered old number event (Some reply) new = IsAnswered old.nodes number event reply new.nodes × (new.driven ≡ old.driven)
-Offered old number event None new = ((number ≡ 0) ⊎ (length old.nodes < number)) × (new ≡ old)
+-- an event was offered to the node of a number, which isn't there where nothing is answered; of its step this holds also
+abbrev pub Offered : (Nodes → List Heard → Nodes → Type 0) → NetworkView → ℕ → Event → Option Reply → NetworkView → Type 0
+Offered Also old number event (Some reply) new = IsAnswered Also old.nodes number event reply new.nodes × (new.driven ≡ old.driven)
+Offered Also old number event None new = ((number ≡ 0) ⊎ (length old.nodes < number)) × (new ≡ old)
 
 -- a node of this number can be there: it is from 1 to 8
 abbrev pub is_number : ℕ → Bool

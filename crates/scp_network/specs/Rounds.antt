@@ -1,5 +1,5 @@
 -- How nodes come to rest: rounds, in which each node's stages do one step each, and then send what their outboxes hold.
-use Rattle.std.specs.Prelude.{ℕ, ◌+◌, ◌-◌, ◌*◌, ◌<◌, ◌≤◌, ◌≡◌, ◌≢◌, ◌⊎◌, Bool, true, false, List, [], ◌∷◌, ◌++◌, Option, Some, None, zero, suc, get_or, slice_get, nat_lt, if◌then◌else◌}
+use Rattle.std.specs.Prelude.{ℕ, ◌+◌, ◌-◌, ◌*◌, ◌<◌, ◌≤◌, ◌≡◌, ◌≢◌, ◌⊎◌, Bool, true, false, List, [], ◌∷◌, Option, Some, None, get_or, slice_get, nat_lt, if◌then◌else◌}
 use Rattle.std.specs.List.{AllByRecursion}
 use Rattle.scp_wire.specs.declared.link.Bytes.{Bytes}
 use Rattle.scp_core.specs.declared.event.Event.{Event}
@@ -7,13 +7,8 @@ use Rattle.scp_core.specs.declared.event.Event.TheVariants as event
 use Rattle.scp_core.specs.declared.event.Reply.{Reply}
 use Rattle.scp_core.specs.declared.event.Reply.TheVariants as reply
 use Rattle.scp_core.specs.Node.{NodeView, accepts_at}
+use Rattle.scp_turn.specs.Turn.{IsStillReply, stage_events}
 use Rattle.scp_network.specs.Heard.{Nodes, Heard, Then, IsNothing, IsOne, InOrder}
-
--- nothing moves with this reply, and nothing is sent
-abbrev pub IsStillReply : Reply → Type 0
-IsStillReply reply.Moved = ⊥
-IsStillReply (reply.Sent bytes) = ⊥
-IsStillReply reply = Unit {0}
 
 -- nothing moved, and nothing was sent
 abbrev pub IsStill : List Heard → Type 0
@@ -31,15 +26,6 @@ Hears number event old heard new = (reply : Reply) × IsOne (record { node = num
 abbrev pub HearsAll : ℕ → List Event → Nodes → List Heard → Nodes → Type 0
 HearsAll number [] = IsNothing
 HearsAll number (event ∷ events) = Then (Hears number event) (HearsAll number events)
-
--- what the readers of so many links do in a turn
-abbrev pub reader_events : ℕ → List Event
-reader_events zero = []
-reader_events (suc link) = reader_events link ++ event.ReaderTake link ∷ event.ReaderPut link ∷ []
-
--- what the stages of a node with so many links do in a turn: the reader of each link, and those behind them
-abbrev pub stage_events : ℕ → List Event
-stage_events links = reader_events links ++ event.PendTake ∷ event.PendPut ∷ event.SlotTake ∷ event.SlotPut ∷ event.ApplyTake ∷ []
 
 -- the place of the link from a node to another in a list of eight for each node
 abbrev pub place_of : ℕ → ℕ → ℕ
@@ -87,25 +73,39 @@ IsTurn driven count number = Then (HearsAll number (stage_events (count - 1))) (
 abbrev pub IsRound : List Bool → ℕ → Nodes → List Heard → Nodes → Type 0
 IsRound driven count = InOrder (IsTurn driven count) count
 
--- so many rounds, one after another
+-- a round in which something moved or was sent
+abbrev pub IsMovingRound : List Bool → ℕ → Nodes → List Heard → Nodes → Type 0
+IsMovingRound driven count old heard new = IsRound driven count old heard new × (¬ (IsStill heard))
+
+-- so many rounds, one after another, in each of which something moved or was sent
 abbrev pub AreRounds : List Bool → ℕ → ℕ → Nodes → List Heard → Nodes → Type 0
-AreRounds driven count rounds = InOrder (λ round. IsRound driven count) rounds
+AreRounds driven count rounds = InOrder (λ round. IsMovingRound driven count) rounds
 
 -- a round in which nothing moved and nothing was sent
 abbrev pub IsStillRound : List Bool → ℕ → Nodes → List Heard → Nodes → Type 0
 IsStillRound driven count old heard new = IsRound driven count old heard new × IsStill heard
 
--- the nodes come to rest: fewer than 100,000 rounds and then a still one, or 100,000 rounds
+-- the nodes come to rest: fewer than 100,000 rounds that moved something, and then a still one; or they don't: 100,000 rounds that moved
+-- something
+abbrev pub RestsAs : List Bool → ℕ → Bool → Nodes → List Heard → Nodes → Type 0
+RestsAs driven count true old heard new = (before : ℕ) × (before < 100000) × Then (AreRounds driven count before) (IsStillRound driven count) old heard new
+RestsAs driven count false old heard new = AreRounds driven count 100000 old heard new
+
+-- rounds until a still one, at most 100,000
 abbrev pub Rests : List Bool → ℕ → Nodes → List Heard → Nodes → Type 0
-Rests driven count old heard new = ((before : ℕ) × (before < 100000) × Then (AreRounds driven count before) (IsStillRound driven count) old heard new) ⊎ AreRounds driven count 100000 old heard new
+Rests driven count old heard new = (calm : Bool) × RestsAs driven count calm old heard new
 
 -- no node failed
 abbrev pub AllRun : Nodes → Type 0
 AllRun nodes = (i : ℕ) → (node : NodeView) → slice_get nodes i ≡ Some node → node.failed ≡ false
 
--- the node of this number failed
+-- those before a place run
+abbrev pub RunBefore : Nodes → ℕ → Type 0
+RunBefore nodes place = (i : ℕ) → (node : NodeView) → i < place → slice_get nodes i ≡ Some node → node.failed ≡ false
+
+-- the node of this number failed, and none of a lower one
 abbrev pub HasFailed : Nodes → ℕ → Type 0
-HasFailed nodes number = (node : NodeView) × (1 ≤ number) × (slice_get nodes (number - 1) ≡ Some node) × (node.failed ≡ true)
+HasFailed nodes number = (node : NodeView) × (1 ≤ number) × (slice_get nodes (number - 1) ≡ Some node) × (node.failed ≡ true) × RunBefore nodes (number - 1)
 
 -- so many rounds, and after the last of them, if there was one, no node had failed
 abbrev pub AreWellRounds : List Bool → ℕ → ℕ → Nodes → List Heard → Nodes → Type 0

@@ -1,6 +1,8 @@
 //! The nodes, and the links on which the caller alone sends.
-ghost use Rattle.std.specs.Prelude.{◌≡◌, ◌⊎◌, ◌↔◌, IfOk, OnOk, IfErr, Err, replicate, false};
+ghost use Rattle.std.specs.Prelude.{◌≡◌, ◌⊎◌, ◌↔◌, IfOk, OnOk, IfErr, Err, replicate, false, None};
 ghost use Rattle.scp_types.specs.declared.fault.Fault.{Fault};
+ghost use Rattle.scp_turn.specs.Watch.{notes};
+ghost use Rattle.scp_network.specs.Heard.{Noted, Anything};
 ghost use Rattle.scp_network.specs.Network.{Drives, Offered, Settled};
 ghost use Rattle.scp_network.specs.Linked.{IsNetwork};
 
@@ -8,6 +10,7 @@ use crate::linked::{MOST_NODES, is_network};
 use crate::rounds;
 use crate::turn::hear;
 use scp_core::{Event, Node, Reply};
+use scp_turn::{NoWatch, Watch};
 use scp_types::Fault;
 use std::alloc::Global;
 use std::marker::Model;
@@ -76,22 +79,41 @@ impl Network {
         }
     }
 
-    /// Offers an event to the node of a number, and answers its reply; `None` where it isn't there.
-    pub fn offer(&mut self, number: u8, event: Event) -> Option<Reply>
-        ensures { Offered self.old number event result self.new }
+    /// Offers an event to the node of a number, of which the watch is told, and answers its reply; `None` where it isn't there,
+    /// and then the watch is told of nothing.
+    pub fn offer_with<W: Watch>(&mut self, watch: &mut W, number: u8, event: Event) -> Option<Reply>
+        ensures offered { Offered (Noted (notes W.notes_before W.notes_after) watch.old watch.new) self.old number event result self.new }
+        ensures untold { result ≡ None → watch.new ≡ watch.old }
     {
         if number == 0 || usize::from(number) > self.nodes.len() {
             return None;
         }
-        Some(hear(&mut self.nodes, usize::from(number - 1), event))
+        let index = usize::from(number - 1);
+        Some(hear(&mut self.nodes, watch, index, event))
     }
 
-    /// Brings the nodes to rest: rounds, until one moves nothing and sends nothing, or 100,000. Refused by the number of a
-    /// node that failed.
-    pub fn settle(&mut self) -> Result<(), u8>
-        ensures settled { Settled self.old.driven self.old.nodes result self.new.nodes }
+    /// Offers an event to the node of a number, and answers its reply; `None` where it isn't there.
+    pub fn offer(&mut self, number: u8, event: Event) -> Option<Reply>
+        ensures { Offered Anything self.old number event result self.new }
+    {
+        self.offer_with(&mut NoWatch, number, event)
+    }
+
+    /// Brings the nodes to rest: rounds, until one moves nothing and sends nothing, or 100,000; the watch is told of each step.
+    /// Answers whether they came to rest. Refused by the number of the first node that failed.
+    pub fn settle_with<W: Watch>(&mut self, watch: &mut W) -> Result<bool, u8>
+        ensures settled { Settled (Noted (notes W.notes_before W.notes_after) watch.old watch.new) self.old.driven self.old.nodes result self.new.nodes }
         ensures same { self.new.driven ≡ self.old.driven }
     {
-        rounds::settle(&mut self.nodes, self.driven.as_slice())
+        rounds::settle(&mut self.nodes, watch, self.driven.as_slice())
+    }
+
+    /// Brings the nodes to rest: rounds, until one moves nothing and sends nothing, or 100,000. Answers whether they came to
+    /// rest. Refused by the number of the first node that failed.
+    pub fn settle(&mut self) -> Result<bool, u8>
+        ensures settled { Settled Anything self.old.driven self.old.nodes result self.new.nodes }
+        ensures same { self.new.driven ≡ self.old.driven }
+    {
+        self.settle_with(&mut NoWatch)
     }
 }

@@ -1,12 +1,15 @@
 //! Rounds of all nodes: each one's stages do their steps, and then its messages go out.
 ghost use Rattle.std.specs.Prelude.{◌≡◌, ◌≢◌, ◌<◌, ◌≤◌, ◌+◌, length, IfSome, None};
+ghost use Rattle.scp_turn.specs.Watch.{notes};
 ghost use Rattle.scp_network.specs.Rounds.{link_of, is_driven, Carries, IsTurn, IsRound, HasFailed, AllRun};
 ghost use Rattle.scp_network.specs.Heard.{InOrder};
 ghost use Rattle.scp_network.specs.inside.Acting.{AcceptsAt, Acts, Transmits};
+ghost use Rattle.scp_network.specs.Heard.{Noted};
 ghost use Rattle.scp_network.specs.Network.{Settled};
 
 use crate::turn::{either, hear, work};
 use scp_core::{Event, Node, Reply};
+use scp_turn::Watch;
 
 /// The most rounds of one settle.
 const MOST_ROUNDS: u32 = 100_000;
@@ -37,17 +40,17 @@ fn drives(driven: &[bool], from: usize, to: usize) -> bool
 }
 
 /// What a node sends is drained, and sent where the link goes. Whether anything was sent.
-fn transmit(nodes: &mut Vec<Node>, from: usize, to: usize) -> bool
+fn transmit<W: Watch>(nodes: &mut Vec<Node>, watch: &mut W, from: usize, to: usize) -> bool
     requires few { length nodes.old.items ≤ 8 }
     requires from { from < length nodes.old.items }
     requires to { to < length nodes.old.items }
     requires apart { from ≢ to }
     requires accepts { AcceptsAt nodes.old.items to (link_of (from + 1) (to + 1)) }
-    ensures { Acts nodes.old.items nodes.new.items (Transmits (from + 1) (to + 1)) result }
+    ensures { Acts (Noted (notes W.notes_before W.notes_after) watch.old watch.new) nodes.old.items nodes.new.items (Transmits (from + 1) (to + 1)) result }
 {
-    match hear(nodes, from, Event::Drain(link_at(to, from))) {
+    match hear(nodes, watch, from, Event::Drain(link_at(to, from))) {
         Reply::Sent(bytes) => {
-            let _ = hear(nodes, to, Event::Send(link_at(from, to), bytes));
+            let _ = hear(nodes, watch, to, Event::Send(link_at(from, to), bytes));
             true
         }
         _ => false,
@@ -55,52 +58,58 @@ fn transmit(nodes: &mut Vec<Node>, from: usize, to: usize) -> bool
 }
 
 /// What goes over the link from a node to another in a turn. Whether anything was sent.
-fn carry(nodes: &mut Vec<Node>, driven: &[bool], from: usize, to: usize) -> bool
+fn carry<W: Watch>(
+    nodes: &mut Vec<Node>,
+    watch: &mut W,
+    driven: &[bool],
+    from: usize,
+    to: usize,
+) -> bool
     requires few { length nodes.old.items ≤ 8 }
     requires from { from < length nodes.old.items }
     requires to { to < length nodes.old.items }
-    ensures { Acts nodes.old.items nodes.new.items (Carries driven.now (from + 1) (to + 1)) result }
+    ensures { Acts (Noted (notes W.notes_before W.notes_after) watch.old watch.new) nodes.old.items nodes.new.items (Carries driven.now (from + 1) (to + 1)) result }
 {
     if from == to || drives(driven, from, to) || !nodes[to].accepts(link_at(from, to)) {
         return false;
     }
-    transmit(nodes, from, to)
+    transmit(nodes, watch, from, to)
 }
 
 /// What a node sends in its turn, to each other node in the order of their numbers. Whether anything was sent.
-fn carry_all(nodes: &mut Vec<Node>, driven: &[bool], from: usize) -> bool
+fn carry_all<W: Watch>(nodes: &mut Vec<Node>, watch: &mut W, driven: &[bool], from: usize) -> bool
     requires few { length nodes.old.items ≤ 8 }
     requires from { from < length nodes.old.items }
-    ensures { Acts nodes.old.items nodes.new.items (InOrder (Carries driven.now (from + 1)) (length nodes.old.items)) result }
+    ensures { Acts (Noted (notes W.notes_before W.notes_after) watch.old watch.new) nodes.old.items nodes.new.items (InOrder (Carries driven.now (from + 1)) (length nodes.old.items)) result }
 {
     let mut sent = false;
     for to in 0..nodes.len() {
-        let carried = carry(nodes, driven, from, to);
+        let carried = carry(nodes, watch, driven, from, to);
         sent = either(sent, carried);
     }
     sent
 }
 
 /// A node's turn. Whether anything moved or was sent.
-fn turn(nodes: &mut Vec<Node>, driven: &[bool], index: usize) -> bool
+fn turn<W: Watch>(nodes: &mut Vec<Node>, watch: &mut W, driven: &[bool], index: usize) -> bool
     requires few { length nodes.old.items ≤ 8 }
     requires index { index < length nodes.old.items }
-    ensures { Acts nodes.old.items nodes.new.items (IsTurn driven.now (length nodes.old.items) (index + 1)) result }
+    ensures { Acts (Noted (notes W.notes_before W.notes_after) watch.old watch.new) nodes.old.items nodes.new.items (IsTurn driven.now (length nodes.old.items) (index + 1)) result }
 {
     let links = (nodes.len() - 1) as u8;
-    let moved = work(nodes, index, links);
-    let sent = carry_all(nodes, driven, index);
+    let moved = work(nodes, watch, index, links);
+    let sent = carry_all(nodes, watch, driven, index);
     either(moved, sent)
 }
 
 /// A round of all nodes. Whether anything moved or was sent.
-fn round(nodes: &mut Vec<Node>, driven: &[bool]) -> bool
+fn round<W: Watch>(nodes: &mut Vec<Node>, watch: &mut W, driven: &[bool]) -> bool
     requires few { length nodes.old.items ≤ 8 }
-    ensures { Acts nodes.old.items nodes.new.items (IsRound driven.now (length nodes.old.items)) result }
+    ensures { Acts (Noted (notes W.notes_before W.notes_after) watch.old watch.new) nodes.old.items nodes.new.items (IsRound driven.now (length nodes.old.items)) result }
 {
     let mut moved = false;
     for index in 0..nodes.len() {
-        let goes = turn(nodes, driven, index);
+        let goes = turn(nodes, watch, driven, index);
         moved = either(moved, goes);
     }
     moved
@@ -120,20 +129,20 @@ fn failed(nodes: &[Node]) -> Option<u8>
     None
 }
 
-/// Brings the nodes to rest: rounds, until one moves nothing and sends nothing, or 100,000. Refused by the number of a node
-/// that failed.
-pub fn settle(nodes: &mut Vec<Node>, driven: &[bool]) -> Result<(), u8>
+/// Brings the nodes to rest: rounds, until one moves nothing and sends nothing, or 100,000. Whether they came to rest. Refused
+/// by the number of a node that failed.
+pub fn settle<W: Watch>(nodes: &mut Vec<Node>, watch: &mut W, driven: &[bool]) -> Result<bool, u8>
     requires few { length nodes.old.items ≤ 8 }
-    ensures { Settled driven.now nodes.old.items result nodes.new.items }
+    ensures { Settled (Noted (notes W.notes_before W.notes_after) watch.old watch.new) driven.now nodes.old.items result nodes.new.items }
 {
     for _ in 0..MOST_ROUNDS {
-        let moved = round(nodes, driven);
+        let moved = round(nodes, watch, driven);
         if let Some(number) = failed(nodes.as_slice()) {
             return Err(number);
         }
         if !moved {
-            return Ok(());
+            return Ok(true);
         }
     }
-    Ok(())
+    Ok(false)
 }

@@ -12,6 +12,7 @@ use Rattle.scp_envelope.specs.declared.statement.Pledges.{Pledges}
 use Rattle.scp_envelope.specs.declared.statement.Pledges.TheVariants.{Nominate as Nominating}
 use Rattle.scp_envelope.specs.declared.statement.Envelope.{Envelope}
 use Rattle.scp_vote.specs.declared.claim.Claim.TheVariants.{Nominated as IsNominated}
+use Rattle.scp_vote.specs.declared.board.Board.{Board}
 use Rattle.scp_vote.specs.Board.{Seen, Confirmed, PutsCounted}
 use Rattle.scp_vote.specs.Licence.{Licensed}
 use Rattle.scp_driver.specs.declared.driver.Level.{Level}
@@ -52,6 +53,10 @@ nomination m = nomination_of m.state m.guide.slot.0 m.guide.proposal m.nodes.ite
 -- its driver
 abbrev pub driver_of : {D : Type 0} → Nominator D → D
 driver_of m = m.guide.driver
+
+-- the nominator's board, with the envelopes themselves
+abbrev pub board_of : {D : Type 0} → Nominator D → Board
+board_of m = m.state.board
 
 -- the own NOMINATE on the board
 abbrev pub own : Nomination → Option Pledges

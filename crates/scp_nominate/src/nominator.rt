@@ -38,7 +38,7 @@ impl<D: Driver + Drop> Nominator<D> {
     ghost use Rattle.scp_nominate.specs.Turns.{Leads};
     ghost use Rattle.scp_nominate.specs.State.{IsAtRest};
     ghost use Rattle.scp_nominate.specs.inside.State.{IsSettling, IsOwnOf};
-    ghost use Rattle.scp_nominate.specs.Nomination.{nomination, driver_of, own, Advances, HasOwnLists, SaysItsLists, VotesWell, KeepsMaking, KeepsOthers, Hears, IsSound, IsPaid, Begins, first_of, ComesFrom, ComesFromHearing};
+    ghost use Rattle.scp_nominate.specs.Nomination.{nomination, driver_of, board_of, own, Advances, HasOwnLists, SaysItsLists, VotesWell, KeepsMaking, KeepsOthers, Hears, IsSound, IsPaid, Begins, first_of, ComesFrom, ComesFromHearing};
 
     /// A nominator that has heard nothing, in round 1. The one refusal is `Fault::NoMemory`.
     pub fn new(
@@ -80,7 +80,8 @@ impl<D: Driver + Drop> Nominator<D> {
 
     /// The newest nominations that it heard, and its own.
     pub fn board(&self) -> &Board
-        ensures { heard result.now ≡ (nomination self.now).board }
+        ensures same { result.now ≡ board_of self.now }
+        ensures view { heard result.now ≡ (nomination self.now).board }
     {
         &self.state.board
     }

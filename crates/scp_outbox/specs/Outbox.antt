@@ -1,5 +1,6 @@
 -- What waits for one peer, and how it changes (this project's profile).
 use Rattle.std.specs.Prelude.{◌≡◌, ◌≤◌, ℕ, Bool, true, false, ◌&&◌, List, [], ◌∷◌, ◌++◌, length, Some, MatchOption, nat_eq, if◌then◌else◌, not, position, slice_get, slice_set, All, AllPairs, ◌⊎◌, ◌+◌, ◌-◌, ◌^◌, min}
+use Rattle.scp_outbox.specs.declared.outbox.TheConstants.{MARK_LIMIT, WAITING_LIMIT}
 pub use Rattle.circular_buffer.specs.Buffer.{keep_last}
 use Rattle.scp_envelope.specs.declared.statement.Pledges.{Pledges}
 use Rattle.scp_envelope.specs.declared.statement.Pledges.TheVariants.{Prepare, Confirm, Externalize, Nominate}
@@ -45,7 +46,7 @@ Replaces old place came new lost = (held : Boxed) × (slice_get old place ≡ So
 
 -- it goes last, and what is over 64 is lost: the first
 abbrev pub GoesLast : List Boxed → Boxed → List Boxed → ℕ → Type 0
-GoesLast old came new lost = (new ≡ keep_last 64 (old ++ came ∷ [])) × (lost ≡ length (old ++ came ∷ []) - 64)
+GoesLast old came new lost = (new ≡ keep_last WAITING_LIMIT (old ++ came ∷ [])) × (lost ≡ length (old ++ came ∷ []) - WAITING_LIMIT)
 
 -- a statement comes: one of a slot and kind that is there keeps its place, another goes last, and over 64 the first goes; and
 -- how many of those that waited are lost, one or none
@@ -60,7 +61,7 @@ counted overwritten lost = min (overwritten + lost) (2 ^ 64 - 1)
 
 -- another message goes last in the ring, and over 64 the first goes
 abbrev pub RingTakes : OutboxView → Message → OutboxView → Type 0
-RingTakes old message new = new ≡ record old { ring = keep_last 64 (old.ring ++ message ∷ []) }
+RingTakes old message new = new ≡ record old { ring = keep_last WAITING_LIMIT (old.ring ++ message ∷ []) }
 
 -- a statement goes among the statements, and what is lost by that is counted
 abbrev pub StatementsTake : OutboxView → Boxed → OutboxView → Type 0
@@ -117,9 +118,9 @@ AreOneEach statements = AllPairs (λ (a b : Boxed). are_alike a.value.statement 
 
 -- the limits, one statement of each slot and kind, and each message fits a link
 pub record IsOutbox (v : OutboxView) : Type 0 where
-  pub marks : length v.marks ≤ 16
-  pub ring : length v.ring ≤ 64
-  pub statements : length v.statements ≤ 64
+  pub marks : length v.marks ≤ MARK_LIMIT
+  pub ring : length v.ring ≤ WAITING_LIMIT
+  pub statements : length v.statements ≤ WAITING_LIMIT
   pub one_each : AreOneEach v.statements
   pub ring_fits : All IsFitting v.ring
   pub statements_fit : All (λ (held : Boxed). IsFitting (Envelope held)) v.statements

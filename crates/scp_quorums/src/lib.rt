@@ -19,4 +19,4 @@ mod told;
 pub use finding::{disjoint_quorums, is_quorum, quorums};
 pub use losses::{smallest_halting, survived};
 pub use member::Member;
-pub use told::quorums_text;
+pub use told::{members_of, quorums_text, write_disjoint};

@@ -18,7 +18,7 @@ use std::collections::BTreeSet;
 
 /// The nodes of a script, each with its quorum set.
 #[tactic(auto, using(crate::proofs::Telling::members_more))]
-fn members_of(alloc: Global, commands: &[Command]) -> Result<Vec<Member>, Fault>
+pub fn members_of(alloc: Global, commands: &[Command]) -> Result<Vec<Member>, Fault>
     requires names { All NamesNodes commands.now }
     requires admitted { AreAdmitted [] commands.now }
     ensures members { IfOk result (λ members. members.items ≡ members_in commands.now) }
@@ -71,8 +71,8 @@ fn write_nodes(out: &mut String, nodes: &BTreeSet<NodeId>) -> Result<(), Fault>
     Ok(())
 }
 
-/// Adds a line of two sets of nodes.
-fn write_two(
+/// Adds the line that tells two sets of nodes without a common node.
+pub fn write_disjoint(
     out: &mut String,
     one: &BTreeSet<NodeId>,
     other: &BTreeSet<NodeId>,
@@ -100,7 +100,7 @@ fn found_line(
         None => Ok("intersect yes\n".to_string(alloc)?),
         Some((one, other)) => {
             let mut out = String::new(alloc);
-            write_two(&mut out, one, other)?;
+            write_disjoint(&mut out, one, other)?;
             Ok(out)
         }
     }

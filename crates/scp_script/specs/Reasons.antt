@@ -2,6 +2,7 @@
 use Rattle.std.specs.Prelude.{◌≡◌, ◌⊎◌, ◌==◌, ℕ, ◌+◌, Bool, true, false, not, ◌&&◌, List, [], ◌∷◌, length, Option, Some, None, is_some, if◌then◌else◌, nat_eq, nat_lt, nat_le, codes, slice_get}
 use Rattle.std.specs.Option.{unwrap_or}
 use Rattle.std.specs.List.{slice_split}
+use Rattle.scp_types.specs.declared.limits.TheConstants.{LIFE_LIMIT}
 use Rattle.scp_quorum.specs.QuorumTree.{QuorumTree}
 use Rattle.scp_quorum.specs.Sane.{IsSane}
 use Rattle.scp_script.specs.declared.command.Command.{Command}
@@ -165,7 +166,7 @@ IsKindsFault (kind ∷ others) count words place found =
 
 -- a link is opened where it isn't open, at most 65,535 times, and closed and sent on where it is
 abbrev pub link_fault : Verb → Bool → ℕ → Option Expected
-link_fault verbs.Open opened lives = if opened then Some AClosedLink else if_not (nat_lt lives 65535) FewerLives
+link_fault verbs.Open opened lives = if opened then Some AClosedLink else if_not (nat_lt lives LIFE_LIMIT) FewerLives
 link_fault verbs.Close opened lives = if_not opened AnOpenLink
 link_fault verbs.Send opened lives = if_not opened AnOpenLink
 link_fault verb opened lives = None

@@ -2,6 +2,7 @@
 -- which line is bad.
 use Rattle.std.specs.Prelude.{ℕ, ◌-◌, ◌<◌, ◌≤◌, ◌≡◌, ◌≢◌, Bool, true, false, ◌&&◌, ◌||◌, List, [], ◌∷◌, ◌++◌, length, take, flat_map, fold, count_by, Option, Some, None, is_some, option_map, option_to_list, if◌then◌else◌, nat_eq, nat_le, codes}
 use Rattle.std.specs.List.{list_any, list_all}
+use Rattle.scp_types.specs.declared.limits.TheConstants.{LIFE_LIMIT}
 use Rattle.scp_types.specs.declared.fault.Fault.{Fault}
 use Rattle.scp_types.specs.declared.fault.Fault.TheVariants.{NoMemory, BadScript}
 use Rattle.scp_quorum.specs.QuorumTree.{QuorumTree}
@@ -215,7 +216,7 @@ abbrev pub Admits : List Command → Command → Type 0
 Admits before (Caps capacities) = node_count before ≡ 0
 Admits before (Nodes count quorum) = node_count before ≡ 0
 Admits before (Set node set) = IsNode node before × (has_begun before ≡ false) × IsSane set
-Admits before (Open from to) = IsLink from to before × (is_open from to before ≡ false) × (lives from to before < 65535)
+Admits before (Open from to) = IsLink from to before × (is_open from to before ≡ false) × (lives from to before < LIFE_LIMIT)
 Admits before (Close from to) = is_open from to before ≡ true
 Admits before (Send from to bytes) = is_open from to before ≡ true
 Admits before (Propose node slot value) = IsNode node before

@@ -5,6 +5,7 @@ use Rattle.std.specs.Cmp.Lexicographic.{pointwise}
 use Rattle.std.specs.Fmt.{decimal}
 use Rattle.std.specs.Str.Parse.{digits_value}
 use Rattle.std.specs.List.{slice_split, list_all}
+use Rattle.scp_types.specs.declared.limits.TheConstants.{CAPACITY_LIMIT}
 use Rattle.hex.specs.Hex.{decode_of}
 use Rattle.scp_xdr.specs.Reading.{reading_whole}
 use Rattle.scp_quorum.specs.QuorumTree.{QuorumTree}
@@ -55,7 +56,7 @@ number_in word =
 
 -- a number from 1 to 1,024, where one is said
 abbrev pub capacity_by : Option ℕ → Option ℕ
-capacity_by (Some number) = if nat_le 1 number && nat_le number 1024 then Some number else None
+capacity_by (Some number) = if nat_le 1 number && nat_le number CAPACITY_LIMIT then Some number else None
 capacity_by None = None
 
 -- a queue's capacity, from 1 to 1,024

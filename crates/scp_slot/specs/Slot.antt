@@ -8,10 +8,12 @@ use Rattle.scp_driver.specs.declared.driver.Level.{Level}
 use Rattle.scp_vote.specs.declared.claim.StatementKind.{StatementKind}
 use Rattle.scp_vote.specs.declared.claim.StatementKind.TheVariants.{Nomination as Nominating, Balloting}
 use Rattle.scp_vote.specs.Board.{Seen, counted_of_other}
+use Rattle.scp_nominate.specs.declared.nominator.Nominator.{Nominator}
 use Rattle.scp_nominate.specs.Nomination as nominate
 use Rattle.scp_nominate.specs.Nomination.{Nomination, nomination}
 use Rattle.scp_ballot_rules.specs.Owed.{OwesNothing}
 use Rattle.scp_ballot_rules.specs.Values.{BoardSaysOnly, StateSaysOnly}
+use Rattle.scp_ballot.specs.View.{BalloterView}
 use Rattle.scp_ballot.specs.Balloting as ballot
 use Rattle.scp_ballot.specs.Balloting.{Ballots, ballots, IsDecided, HasBallot}
 use Rattle.scp_ballot.specs.Outcome.{BeginsBlank}
@@ -45,6 +47,14 @@ slot_view m = view_of m.state.value m.failed
 -- the machine's driver
 abbrev pub driver_of : {D : Type 0} → SlotMachine D → D
 driver_of m = nominate.driver_of m.state.value.nominator
+
+-- the machine's nominator
+abbrev pub nominator_of : {D : Type 0} → SlotMachine D → Nominator D
+nominator_of m = m.state.value.nominator
+
+-- what is seen of the machine's balloter
+abbrev pub balloter_of : {D : Type 0} → SlotMachine D → BalloterView
+balloter_of m = m.state.value.balloter
 
 -- the board has the newest fresh statement of each other node, and counts the set that came with it; of an EXTERNALIZE that node
 -- alone is counted

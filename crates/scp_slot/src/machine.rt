@@ -22,7 +22,7 @@ pub struct SlotMachine<D: Driver + Drop> {
 impl<D: Driver + Drop> SlotMachine<D> {
     ghost use Rattle.scp_nominate.specs.Nomination.{nomination, driver_of as driver_of_nominator};
     ghost use Rattle.scp_ballot.specs.Balloting.{ballots};
-    ghost use Rattle.scp_slot.specs.Slot.{slot_view, driver_of, Begins, IsRunning, IsSound, OwesNoVote, VotesWell};
+    ghost use Rattle.scp_slot.specs.Slot.{slot_view, driver_of, nominator_of, balloter_of, Begins, IsRunning, IsSound, OwesNoVote, VotesWell};
     ghost use Rattle.scp_slot.specs.Takes.{Takes, Decides, IsOfSlot, NominatesExactly};
     ghost use Rattle.scp_slot.specs.Limits.{KeepsLimits};
 
@@ -57,6 +57,7 @@ impl<D: Driver + Drop> SlotMachine<D> {
 
     /// What is nominated.
     pub fn nominator(&self) -> &Nominator<D>
+        ensures same { result.now ≡ nominator_of self.now }
         ensures view { nomination result.now ≡ (slot_view self.now).nomination }
         ensures driver { driver_of_nominator result.now ≡ driver_of self.now }
     {
@@ -65,7 +66,8 @@ impl<D: Driver + Drop> SlotMachine<D> {
 
     /// What is balloted.
     pub fn balloter(&self) -> &Balloter
-        ensures { ballots result.now ≡ (slot_view self.now).ballots }
+        ensures same { result.now ≡ balloter_of self.now }
+        ensures view { ballots result.now ≡ (slot_view self.now).ballots }
     {
         &self.state.balloter
     }

@@ -5,6 +5,7 @@
 //!   what was expected there;
 //! - `text_of` gives the text of a message, whose words say just this message; it refuses just what no message can be;
 //! - `message_of_words` does the same for the words of a text, which `words` gives;
+//! - `write_bytes` adds the text of a key, or of the value of a put;
 //! - `value_of`, `text_of_value`, `set_of` and `text_of_set` do the same for values and quorum sets.
 #![tactic(auto)]
 
@@ -22,3 +23,4 @@ pub use message::{message_of, message_of_words, text_of, words};
 pub use refusal::{Expected, Refusal, TextError};
 pub use single::{set_of, text_of_set, text_of_value, value_of};
 pub use term::Term;
+pub use value::write_bytes;

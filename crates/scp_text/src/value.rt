@@ -69,9 +69,10 @@ fn read_bytes(alloc: Global, text: &[u8]) -> Result<Option<Value>, Fault>
     }
 }
 
-/// Adds a key, or the value of a put.
+/// Adds a key, or the value of a put: its own characters where it is a word of them, else its digits as `hex(..)`. The one refusal is
+/// `NoMemory`.
 #[tactic(auto, unfolding(crate::specs::Values::bytes_text))]
-fn write_bytes(out: &mut String, bytes: &[u8]) -> Result<(), Fault>
+pub fn write_bytes(out: &mut String, bytes: &[u8]) -> Result<(), Fault>
     ensures added { OnOk result (string_bytes out.new ≡ string_bytes out.old ++ bytes_text bytes.now) }
     ensures only_memory { IsOkUnless result Fault.NoMemory }
 {

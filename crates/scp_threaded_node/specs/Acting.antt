@@ -1,5 +1,6 @@
 -- What a node is told, and what is done on its links, while it runs.
 use Rattle.std.specs.Prelude.{◌≡◌, ℕ, [], ◌∷◌, ◌++◌, Option, None, Some, slice_get, slice_set, nat_eq, if◌then◌else◌}
+use Rattle.scp_types.specs.declared.limits.TheConstants.{LIFE_LIMIT}
 use Rattle.scp_types.specs.declared.fault.Fault.{Fault}
 use Rattle.scp_types.specs.declared.fault.Fault.TheVariants.{AlreadyOpen, LivesSpent, NotOpen, Refused}
 use Rattle.scp_types.specs.declared.fault.Stage.TheVariants.{Reader}
@@ -49,7 +50,7 @@ pub record IsUnchanged (x y : Node) : Type 0 where
 
 -- a link that is open can't be opened, nor one that was opened as often as it can be
 abbrev pub cannot_open : Standing → Option Fault
-cannot_open t = if t.is_open then Some AlreadyOpen else (if nat_eq t.life 65535 then Some LivesSpent else None)
+cannot_open t = if t.is_open then Some AlreadyOpen else (if nat_eq t.life LIFE_LIMIT then Some LivesSpent else None)
 
 -- over a link that isn't open nothing goes, and it can't be closed
 abbrev pub cannot_send : Standing → Option Fault

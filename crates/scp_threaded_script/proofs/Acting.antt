@@ -23,11 +23,11 @@ use Rattle.scp_threaded_node.specs.declared.node.Tail.{Tail}
 use Rattle.scp_threaded_node.specs.declared.node.Tail.TheVariants.{Script, Courier}
 use Rattle.scp_threaded_node.specs.Acting.{act_on, acted, ActsAt, IsUnchanged}
 use Rattle.scp_threaded_node.specs.Seats.{Each, IsLane, IsDriven, AreDriven, AreRunning, Runs, tail_of}
-use Rattle.scp_threaded_script.specs.Lines.{link_of, peer_at, is_driven, item_by, items_on, command_by, commands_for, driven_to, items_to}
+use Rattle.scp_threaded_script.specs.Lines.{link_of, peer_at, item_by, items_on, command_by, commands_for, driven_to, items_to}
 use Rattle.scp_threaded_script.specs.inside.Played.{AllRun, AreTold, AreItemsSent, HaveDone, AreTwoOf, ActsOn, AreUnchanged}
 use Rattle.scp_threaded_script.specs.Reported.{AllRunSoFar}
 use Rattle.scp_threaded_script.proofs.Changing.{set_length, each_set}
-use Rattle.scp_threaded_script.proofs.Links.{peer_of_place, same_link, to_another, at_another, link_is, peer_there}
+use Rattle.scp_threaded_script.proofs.Links.{peer_of_place, same_link, to_another, at_another, peer_there}
 use Rattle.scp_threaded_script.proofs.Sending.{items_more, life_after}
 use Rattle.scp_threaded_script.proofs.Telling.{none_more}
 

@@ -1,8 +1,8 @@
 -- What each kind of line does to nodes that have done the lines before it, whether it went well or not.
-use Rattle.std.proofs.Common.{◌≡◌, ◌∙◌, ℕ, zero, suc, ◌+◌, ◌-◌, ◌≤◌, ◌<◌, Bool, true, false, ap, sym, refl, subst, List, [], ◌∷◌, ◌++◌, length, Result, Ok, Err, Some, arith}
-use Rattle.std.specs.Prelude.{◌||◌, OnOk, OnErr, slice_get, slice_set, nat_lt}
+use Rattle.std.proofs.Common.{◌≡◌, ◌∙◌, ℕ, ◌+◌, ◌-◌, ◌≤◌, ◌<◌, Bool, true, false, ap, sym, refl, subst, List, [], ◌∷◌, ◌++◌, length, Result, Ok, Err, Some, arith}
+use Rattle.std.specs.Prelude.{OnOk, OnErr, slice_get, slice_set, nat_lt}
 use Rattle.std.proofs.lemmas.Bool.Decides.{nat_tests}
-use Rattle.std.proofs.lemmas.Option.{same_Some, slice_get_within}
+use Rattle.std.proofs.lemmas.Option.{slice_get_within}
 use Rattle.scp_wire.specs.declared.link.Command.{Command as LocalCommand}
 use Rattle.scp_wire.specs.declared.link.Command.TheVariants as local
 use Rattle.scp_wire.specs.declared.link.Inbound.TheVariants as inbound

@@ -1,5 +1,5 @@
 -- Lists whose elements each stand so to their place.
-use Rattle.std.proofs.Common.{◌≡◌, ◌∙◌, ℕ, zero, suc, ◌+◌, ap, sym, refl, subst, List, [], ◌∷◌, ◌++◌, length, Some, None, arith}
+use Rattle.std.proofs.Common.{◌≡◌, ◌∙◌, ℕ, zero, suc, ap, sym, refl, subst, List, [], ◌∷◌, ◌++◌, length, Some, None}
 use Rattle.std.specs.Prelude.{slice_get}
 use Rattle.scp_threaded_node.specs.Seats.{Each}
 

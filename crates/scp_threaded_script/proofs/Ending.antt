@@ -1,5 +1,5 @@
 -- Nodes that have ended, one more at a time: the first of which a stage's fault is told.
-use Rattle.std.proofs.Common.{◌≡◌, ◌∙◌, ℕ, zero, suc, ◌+◌, ◌≤◌, ◌<◌, ap, sym, refl, subst, List, [], ◌∷◌, ◌++◌, length, Option, Some, None, ◌⊎◌, inl, inr, ⊎_elim, Result, Ok, Err, IfErr, arith}
+use Rattle.std.proofs.Common.{◌≡◌, ◌∙◌, ℕ, ◌+◌, ◌≤◌, ◌<◌, ap, sym, refl, subst, List, [], ◌∷◌, ◌++◌, length, Option, Some, None, ◌⊎◌, inl, inr, ⊎_elim, Result, Ok, Err, IfErr, arith}
 use Rattle.std.specs.Prelude.{IfSome, MatchResult, slice_get}
 use Rattle.std.specs.Option.{option_or}
 use Rattle.std.specs.Result.{result_err}

@@ -11,3 +11,4 @@ mod Doing
 mod Standing
 pub mod Ending
 mod Faults
+pub mod Waiting

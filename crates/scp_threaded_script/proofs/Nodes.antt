@@ -1,5 +1,5 @@
 -- The nodes of a script one by one: started, and told of when they have ended.
-use Rattle.std.proofs.Common.{◌≡◌, ◌∙◌, ℕ, ◌+◌, ◌≤◌, ◌<◌, ap, sym, get_or, subst, List, [], ◌∷◌, ◌++◌, length, Some, Result, Ok, Err, refl, arith}
+use Rattle.std.proofs.Common.{◌≡◌, ℕ, ◌+◌, ◌≤◌, ◌<◌, ap, sym, get_or, subst, List, [], ◌∷◌, ◌++◌, length, Result, Ok, refl, arith}
 use Rattle.std.specs.Prelude.{IfOk}
 use Rattle.std.specs.Global.{Vec}
 use Rattle.std.proofs.lemmas.List.{length-append}
@@ -12,7 +12,7 @@ use Rattle.scp_script.specs.Script.{node_count}
 use Rattle.scp_threaded_node.specs.declared.ending.Stood.{Stood}
 use Rattle.scp_threaded_node.specs.declared.node.Node.{Node}
 use Rattle.scp_threaded_node.specs.Ended.{IsEnded}
-use Rattle.scp_threaded_node.specs.Seats.{Each, Runs, AreDriven}
+use Rattle.scp_threaded_node.specs.Seats.{Runs, AreDriven}
 use Rattle.scp_threaded_script.specs.Lines.{driven_to, items_to, commands_for}
 use Rattle.scp_threaded_script.specs.inside.Played.{HaveDoneSoFar}
 use Rattle.scp_threaded_script.specs.Reported.{AllRunSoFar}

@@ -1,3 +1,4 @@
 pub mod Lines
 pub mod Reported
+pub mod Waits
 pub mod inside

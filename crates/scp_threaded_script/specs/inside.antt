@@ -2,3 +2,4 @@ pub mod Ending
 pub mod Outlets
 pub mod Played
 pub mod Reported
+pub mod Waiting

@@ -77,13 +77,14 @@ impl<G: Gate> Counting<G> {
         }
     }
 
-    /// Waits until the applier of the node of this number received so many things, at most 1,000,000 yields.
-    pub fn wait(&self, number: u8, things: u64) {
+    /// Waits until the applier of the node of this number received so many things, at most 1,000,000 yields. Whether it did.
+    pub fn wait(&self, number: u8, things: u64) -> bool {
         for _ in 0..MOST_YIELDS {
             if self.received(number) >= things {
-                return;
+                return true;
             }
             thread::yield_now();
         }
+        false
     }
 }

@@ -6,10 +6,13 @@
 //! - each node's commands are those of the lines, in order;
 //! - each other link was opened and closed as often as the lines say, and all that went over it spells messages.
 //!
+//! And of the lines: which `wait` lines gave up.
+//!
 //! Where they give up, the first stage that failed of the first node of which one did is named; else what a line or a link lacked, or want
 //! of memory.
 //!
-//! Not claimed: that all threads have ended at each way out. A scope of threads gives its result only then, by the library's word.
+//! Not claimed: that all threads have ended at each way out. A scope of threads gives its result only then, by the library's word. When a
+//! `wait` line gives up: only that it is one.
 #![tactic(auto)]
 
 mod gate;
@@ -18,4 +21,4 @@ mod outboxes;
 mod running;
 
 pub use gate::{Counting, MOST_YIELDS};
-pub use running::{NodeFault, run_lines};
+pub use running::{NodeFault, Ran, run_lines};

@@ -1,5 +1,5 @@
 //! What the lines of a script do to nodes that run.
-ghost use Rattle.std.specs.Prelude.{◌≡◌, ◌≤◌, ◌-◌, ◌∷◌, ◌++◌, [], ℕ, List, OnOk, OnErr, All, IfOk, IfErr, IsOkUnless, length};
+ghost use Rattle.std.specs.Prelude.{◌≡◌, ◌≤◌, ◌-◌, ◌∷◌, ◌++◌, [], ℕ, List, OnOk, OnErr, All, IfOk, IfErr, IsOkUnless, length, false};
 ghost use Rattle.scp_wire.specs.declared.link.Inbound.TheVariants as inbound;
 ghost use Rattle.scp_script.specs.declared.command.Command.{Command};
 ghost use Rattle.scp_script.specs.declared.command.Command.TheVariants as script;
@@ -8,6 +8,8 @@ ghost use Rattle.scp_script.specs.Script.{AreAdmitted};
 ghost use Rattle.scp_threaded_script.specs.inside.Outlets.{AreOutboxes};
 ghost use Rattle.scp_threaded_script.specs.inside.Played.{HaveDone, HaveLanes, AllRun, AreTwoOf, IsThere, IsNoLink, TellsAt, ActsOn, AreUnchanged, IsCommandOf};
 ghost use Rattle.scp_threaded_script.specs.Reported.{IsLineFault, IsOneOf};
+ghost use Rattle.scp_threaded_script.specs.Waits.{AreWaits};
+ghost use Rattle.scp_threaded_script.specs.inside.Waiting.{AddsWait, IsWait};
 ghost use Rattle.scp_script.specs.Script.{node_count};
 ghost use Rattle.scp_threaded_node.specs.declared.acting.Act.{Act};
 ghost use Rattle.scp_threaded_node.specs.declared.node.Tail.{Tail};
@@ -209,12 +211,11 @@ fn send<R: Wait>(
     act_on_link(rt, nodes, from, to, Act::Send(bytes))
 }
 
-/// Does what a line says.
-fn act_on_line<R: Wait, G: Gate>(
+/// Does what a line says, but that it waits for nothing.
+fn act_on_line<R: Wait>(
     rt: &R,
     nodes: &mut Vec<Node>,
     all: &[Outboxes],
-    gate: &Counting<G>,
     command: &Command,
 ) -> Result<(), NodeFault>
     requires names { NamesNodes command.now }
@@ -230,22 +231,49 @@ fn act_on_line<R: Wait, G: Gate>(
         Command::Open { from, to } => open(rt, nodes, all, *from, *to),
         Command::Close { from, to } => close(rt, nodes, all, *from, *to),
         Command::Send { from, to, bytes } => send(rt, nodes, *from, *to, bytes),
-        Command::Wait { node, things } => {
-            gate.wait(*node, *things);
-            Ok(())
-        }
+        Command::Wait { node: _, things: _ } => Ok(()),
         _ => tell_line(rt, nodes, command),
     }
 }
 
-/// Does what the lines say, in their order.
+/// Waits, where the line says so. Whether that came for which it waits.
+fn has_come<G: Gate>(gate: &Counting<G>, command: &Command) -> bool
+    ensures { result ≡ false → IsWait command.now }
+{
+    match command {
+        Command::Wait { node, things } => gate.wait(*node, *things),
+        _ => true,
+    }
+}
+
+/// Waits, where the line says so, and adds its place where it gives up. The one refusal is `NoMemory`.
+fn wait_at_line<G: Gate>(
+    gate: &Counting<G>,
+    command: &Command,
+    place: usize,
+    gave_up: &mut Vec<usize>,
+) -> Result<(), Fault>
+    ensures added { AddsWait command.now place gave_up.old.items gave_up.new.items }
+    ensures only_memory { IsOkUnless result Fault.NoMemory }
+{
+    if has_come(gate, command) {
+        return Ok(());
+    }
+    gave_up.reserve(1)?;
+    gave_up.push_reserved(place);
+    Ok(())
+}
+
+/// Does what the lines say, in their order, and adds the places of the `wait` lines that gave up.
 pub fn act_all<R: Wait, G: Gate>(
     rt: &R,
     nodes: &mut Vec<Node>,
     all: &[Outboxes],
     gate: &Counting<G>,
     commands: &[Command],
+    gave_up: &mut Vec<usize>,
 ) -> Result<(), NodeFault>
+    requires none { gave_up.old.items ≡ [] }
     requires names { All NamesNodes commands.now }
     requires admitted { AreAdmitted [] commands.now }
     requires few { length nodes.old.items ≤ 8 }
@@ -254,9 +282,13 @@ pub fn act_all<R: Wait, G: Gate>(
     ensures runs { AllRun commands.now nodes.new.items }
     ensures done { OnOk result (HaveDone commands.now commands.now nodes.new.items) }
     ensures given_up { IfErr result (λ e. IsLineFault (node_count commands.now) e.node e.fault) }
+    ensures waits { AreWaits commands.now 0 gave_up.new.items }
 {
+    let mut place = 0;
     for command in commands {
-        act_on_line(rt, nodes, all, gate, command)?;
+        act_on_line(rt, nodes, all, command)?;
+        wait_at_line(gate, command, place, gave_up)?;
+        place += 1;
     }
     Ok(())
 }

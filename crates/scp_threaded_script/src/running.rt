@@ -12,6 +12,7 @@ ghost use Rattle.scp_threaded_script.specs.Lines.{is_driven, driven_to};
 ghost use Rattle.scp_threaded_script.specs.inside.Outlets.{AreOutboxes};
 ghost use Rattle.scp_threaded_script.specs.inside.Ending.{HaveAllEnded, IsEndFault, IsNumbered, IsWhole};
 ghost use Rattle.scp_threaded_script.specs.inside.Played.{HaveDone, HaveDoneSoFar};
+ghost use Rattle.scp_threaded_script.specs.Waits.{AreWaits};
 ghost use Rattle.scp_threaded_script.specs.Reported.{AllRunSoFar};
 ghost use Rattle.scp_threaded_script.specs.Reported.{AreStood, AreSoReported, AreNodesReported, IsGivenUp, IsLineFault, IsToldOf, refused_at};
 ghost use Rattle.scp_threaded_script.specs.declared.running.NodeFault.{NodeFault};
@@ -197,6 +198,14 @@ fn all_stood(alloc: Global, commands: &[Command], count: u8) -> Result<Vec<Vec<S
     Ok(all)
 }
 
+/// What is told of the nodes of a script that ran in threads, node 1 first, and the places among its commands, from 0 on and ascending, of
+/// the `wait` lines that gave up after 1,000,000 yields.
+#[derive(Drop)]
+pub struct Ran {
+    pub reports: Vec<NodeReport>,
+    pub gave_up: Vec<usize>,
+}
+
 /// What is told of nodes, and why there is less.
 #[derive(Drop)]
 struct Ended {
@@ -303,7 +312,9 @@ fn start_and_act<'s, E, R: Threads + Wait + Sync, G: Gate + Sync>(
     all: &[Outboxes],
     commands: &[Command],
     nodes: &mut Vec<Node>,
+    gave_up: &mut Vec<usize>,
 ) -> Result<(), NodeFault>
+    requires no_wait { gave_up.old.items ≡ [] }
     requires names { All NamesNodes commands.now }
     requires admitted { AreAdmitted [] commands.now }
     requires room { HaveRoom (capacities_in commands.now) }
@@ -313,9 +324,10 @@ fn start_and_act<'s, E, R: Threads + Wait + Sync, G: Gate + Sync>(
     ensures so_far { AllRunSoFar commands.now nodes.new.items }
     ensures done { OnOk result (HaveDone commands.now commands.now nodes.new.items) }
     ensures given_up { IfErr result (λ e. IsLineFault (node_count commands.now) e.node e.fault) }
+    ensures waits { AreWaits commands.now 0 gave_up.new.items }
 {
     start_all(scope, rt, gate, alloc, all, commands, nodes)?;
-    act_all(rt, nodes, all, gate, commands)
+    act_all(rt, nodes, all, gate, commands, gave_up)
 }
 
 /// What is told: where a line wasn't done, the stage that failed, if one did, and else why the line wasn't done.
@@ -344,20 +356,34 @@ fn run_in<'s, E, R: Threads + Wait + Sync, G: Gate + Sync>(
     all: &[Outboxes],
     stood: &[Vec<Stood>],
     commands: &[Command],
-) -> Result<Vec<NodeReport>, NodeFault>
+) -> Result<Ran, NodeFault>
     requires names { All NamesNodes commands.now }
     requires admitted { AreAdmitted [] commands.now }
     requires room { HaveRoom (capacities_in commands.now) }
     requires all { AreOutboxes (node_count commands.now) all.now }
     requires stood { AllStand commands.now stood.now }
-    ensures reported { IfOk result (λ all. AreNodesReported commands.now all.items) }
+    ensures reported { IfOk result (λ ran. AreNodesReported commands.now ran.reports.items) }
+    ensures waits { IfOk result (λ ran. AreWaits commands.now 0 ran.gave_up.items) }
     ensures given_up { IfErr result (IsGivenUp commands.now) }
 {
     let mut nodes = Vec::new(alloc);
-    let done = start_and_act(scope, rt, gate, alloc, all, commands, &mut nodes);
+    let mut gave_up = Vec::new(alloc);
+    let done = start_and_act(
+        scope,
+        rt,
+        gate,
+        alloc,
+        all,
+        commands,
+        &mut nodes,
+        &mut gave_up,
+    );
     stop_all(rt, all, commands, count_of_nodes(commands));
     let told = end_all(rt, alloc, nodes, stood);
-    told_of(done, told)
+    match told_of(done, told) {
+        Ok(reports) => Ok(Ran { reports, gave_up }),
+        Err(fault) => Err(fault),
+    }
 }
 
 /// Runs the nodes, does the lines, and ends the nodes, in a scope of threads.
@@ -368,27 +394,29 @@ fn run_scoped<R: Threads + Wait + Sync, G: Gate + Sync>(
     all: &[Outboxes],
     stood: &[Vec<Stood>],
     commands: &[Command],
-) -> Result<Vec<NodeReport>, NodeFault>
+) -> Result<Ran, NodeFault>
     requires names { All NamesNodes commands.now }
     requires admitted { AreAdmitted [] commands.now }
     requires room { HaveRoom (capacities_in commands.now) }
     requires all { AreOutboxes (node_count commands.now) all.now }
     requires stood { AllStand commands.now stood.now }
-    ensures reported { IfOk result (λ all. AreNodesReported commands.now all.items) }
+    ensures reported { IfOk result (λ ran. AreNodesReported commands.now ran.reports.items) }
+    ensures waits { IfOk result (λ ran. AreWaits commands.now 0 ran.gave_up.items) }
     ensures given_up { IfErr result (IsGivenUp commands.now) }
 {
     thread::scope(
         thread::scope_env(),
         rt,
-        |scope| -> Result<Vec<NodeReport>, NodeFault>
+        |scope| -> Result<Ran, NodeFault>
             requires { All NamesNodes commands.now × AreAdmitted [] commands.now × HaveRoom (capacities_in commands.now) × AreOutboxes (node_count commands.now) all.now × AllStand commands.now stood.now }
-            ensures { IfOk result (λ reports. AreNodesReported commands.entry.now reports.items) × IfErr result (IsGivenUp commands.entry.now) }
+            ensures { IfOk result (λ ran. AreNodesReported commands.entry.now ran.reports.items) × IfOk result (λ ran. AreWaits commands.entry.now 0 ran.gave_up.items) × IfErr result (IsGivenUp commands.entry.now) }
         { run_in(scope, rt, gate, alloc, all, stood, commands) },
     )
 }
 
 /// Runs the nodes of a script, each of whose stages has a thread of its own, does what its lines say, in their order and by one thread, and
-/// ends the nodes: what is told of them. Each worker of a node calls the gate after each receive and before each send. At each way out all
+/// ends the nodes: what is told of them, and which `wait` lines gave up. Each worker of a node calls the gate after each receive and before
+/// each send. At each way out all
 /// threads have ended.
 ///
 /// Refused by `Refused` with the first stage that failed of the first node of which one did, which is named, whatever else was wrong; else by
@@ -399,11 +427,12 @@ pub fn run_lines<R: Threads + Wait + Sync, G: Gate + Sync>(
     gate: &G,
     alloc: Global,
     commands: &[Command],
-) -> Result<Vec<NodeReport>, NodeFault>
+) -> Result<Ran, NodeFault>
     requires names { All NamesNodes commands.now }
     requires admitted { AreAdmitted [] commands.now }
     requires room { HaveRoom (capacities_in commands.now) }
-    ensures reported { IfOk result (λ all. AreNodesReported commands.now all.items) }
+    ensures reported { IfOk result (λ ran. AreNodesReported commands.now ran.reports.items) }
+    ensures waits { IfOk result (λ ran. AreWaits commands.now 0 ran.gave_up.items) }
     ensures given_up { IfErr result (IsGivenUp commands.now) }
 {
     let counting = Counting::new(Lent::new(gate));

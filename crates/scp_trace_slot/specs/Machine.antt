@@ -22,7 +22,8 @@ use Rattle.scp_nominate.specs.Heard.{heard}
 use Rattle.scp_nominate.specs.Turns.{Leads}
 use Rattle.scp_nominate.specs.Nomination.{Nomination}
 use Rattle.scp_slot.specs.declared.machine.SlotMachine.{SlotMachine}
-use Rattle.scp_slot.specs.Slot.{slot_view}
+use Rattle.scp_nominate.specs.Nomination.{board_of}
+use Rattle.scp_slot.specs.Slot.{slot_view, nominator_of, balloter_of}
 use Rattle.scp_text.specs.Values.{value_text}
 use Rattle.scp_text.specs.Messages.{ballot_text}
 use Rattle.scp_trace_needs.specs.Needs.{AreNominationNeeds, AreBallotNeeds}
@@ -208,8 +209,8 @@ machine_lines names number me members slot n f = said_lines names number me slot
 
 -- The facts are those of the machine, in the eyes of a node with these members.
 pub record AreFacts (me : NodeId) (members : List NodeId) (slot : ℕ) (m : SlotMachine KvDriver) (f : Facts) : Type 0 where
-  pub nominations : heard f.nominations ≡ (slot_view m).nomination.board
-  pub ballots : seen Balloting f.ballots ≡ (slot_view m).ballots.board
+  pub nominations : f.nominations ≡ board_of (nominator_of m)
+  pub ballots : f.ballots ≡ (balloter_of m).board
   pub leaders : AreLeaders slot members (slot_view m).nomination.rounds f.leaders
   pub others : AreHeard me (heard f.nominations) (seen Balloting f.ballots) f.others
   pub to_nominate : AreToNominate (slot_view m).nomination.lists.candidates f.nominations members f.to_nominate

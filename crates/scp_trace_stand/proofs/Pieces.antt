@@ -5,6 +5,7 @@ use Rattle.std.proofs.lemmas.List.{length-take-le, take_more, take-append-drop}
 use Rattle.scp_types.specs.declared.fault.Fault.{Fault}
 use Rattle.scp_types.specs.declared.fault.Fault.TheVariants.{NoMemory}
 use Rattle.scp_core.specs.Ledger.{TheoremGivesLedger}
+use Rattle.scp_turn.specs.Watch.{unwatched}
 use Rattle.scp_network.specs.Heard.{Nodes as NodeList, Heard}
 use Rattle.scp_network.specs.Network.{NetworkView}
 use Rattle.scp_script.specs.declared.command.Command.{Command}
@@ -16,7 +17,7 @@ use Rattle.scp_script.proofs.Admitted.{names_at}
 use Rattle.scp_line.specs.declared.playing.PlayFault.{PlayFault}
 use Rattle.scp_line.specs.Laws.{GoesOn, LineIsPlayed, QuietLineIsPlayed, LineIsStopped}
 use Rattle.scp_line.specs.Play.{event_by}
-use Rattle.scp_line.specs.Nodes.{HasPlayed, Acts, IsStoppedAt, brings_to_rest}
+use Rattle.scp_line.specs.Nodes.{HasPlayed, moment, ActsAlone, IsStoppedAt, brings_to_rest}
 use Rattle.scp_trace_lint.specs.declared.warning.Warning.{Warning}
 use Rattle.scp_trace_lint.specs.Warnings.{AreWarnings}
 use Rattle.scp_trace_lint.specs.Texts.{warnings_text}
@@ -52,8 +53,8 @@ pub next_named : (commands before : List Command) (command : Command) → Stands
 next_named commands before command next = names_at before command next.after' (subst (λ (l : List Command). All NamesNodes l) next.split next.names)
 
 -- it was done, or why it wasn't
-pub line_goes : LineIsPlayed → (commands before : List Command) (command : Command) (old new : NetworkView) (r : Result (Unit {0}) PlayFault) → StandsNext commands before command → (far : HasPlayed commands before old) → Acts old command new r → OnOk r (GoesOn commands before command old new far)
-line_goes law commands before command old new (Ok done) next far a = law commands before next.after' command old new next.split next.names next.admitted far a
+pub line_goes : LineIsPlayed unwatched → (commands before : List Command) (command : Command) (old new : NetworkView) (r : Result (Unit {0}) PlayFault) → StandsNext commands before command → (far : HasPlayed commands before old) → ActsAlone old command new r → OnOk r (GoesOn commands before command old new far)
+line_goes law commands before command old new (Ok done) next far a = (law commands before next.after' command a.0 (moment old a.1) (moment new a.2) next.split next.names next.admitted far a.3).goes
 line_goes law commands before command old new (Err e) next far a = tt
 
 quiet : (command : Command) → acts command ≡ false → (brings_to_rest command ≡ false) × (event_by command ≡ None)
@@ -98,9 +99,9 @@ pub quiet_goes : QuietLineIsPlayed → (commands before : List Command) (command
 quiet_goes law commands before command network still next far =
     let q = quiet command still in law commands before next.after' command network next.split next.names next.admitted q.0 q.1 far
 
-pub line_stopped : LineIsStopped → (commands before : List Command) (command : Command) (old new : NetworkView) (r : Result (Unit {0}) PlayFault) → StandsNext commands before command → HasPlayed commands before old → Acts old command new r → IfErr r (λ e. IsStoppedAt commands before e)
+pub line_stopped : LineIsStopped unwatched → (commands before : List Command) (command : Command) (old new : NetworkView) (r : Result (Unit {0}) PlayFault) → StandsNext commands before command → HasPlayed commands before old → ActsAlone old command new r → IfErr r (λ e. IsStoppedAt commands before e)
 line_stopped law commands before command old new (Ok done) next far a = tt
-line_stopped law commands before command old new (Err e) next far a = law commands before next.after' command old new e next.split next.names next.admitted far a
+line_stopped law commands before command old new (Err e) next far a = law commands before next.after' command (moment old a.0) (moment new a.1) e next.split next.names next.admitted far a.2
 
 -- ---- lines
 

@@ -20,6 +20,7 @@ use scp_network::Network;
 use scp_script::{Command, count_of_nodes};
 use scp_trace_lint::{BadLine, LintFault, Script, read, text_of_warnings, warnings};
 use scp_trace_slot::Names;
+use scp_turn::NoWatch;
 use scp_types::Fault;
 use std::alloc::{AllocError, Global};
 
@@ -61,7 +62,7 @@ fn do_line(playing: Playing<'_>, network: &mut Network, command: &Command) -> Re
     ensures stopped { IfErr result (λ e. IsStoppedAt playing.entry.commands.now playing.entry.played.now e) }
     ensures acts { IfErr result (λ e. acts_by command.now ≡ true) }
 {
-    a_line_more_is_played();
+    a_line_more_is_played::<NoWatch>();
     if acts(command) {
         return act(network, command);
     }
@@ -187,7 +188,7 @@ fn played(alloc: Global, script: &Script) -> Result<Told, Fault>
     let count = count_of_nodes(commands);
     let names = Names::of(alloc, commands, count)?;
     let mut network = new_network(alloc, commands)?;
-    a_line_more_is_played();
+    a_line_more_is_played::<NoWatch>();
     let whole = Playing {
         alloc,
         names: &names,

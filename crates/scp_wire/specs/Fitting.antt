@@ -1,5 +1,6 @@
 -- Which messages fit a link, and which do so for certain (this project's profile).
 use Rattle.std.specs.Prelude.{ℕ, ◌≤◌, List, length}
+use Rattle.scp_types.specs.declared.limits.TheConstants.{VALUE_LIMIT}
 use Rattle.scp_types.specs.declared.names.Hash.{Hash}
 use Rattle.scp_types.specs.declared.names.Slot.{Slot}
 use Rattle.scp_xdr.specs.Kind.{Fits}
@@ -26,7 +27,7 @@ SaneSetsFit = (set : QuorumTree) → IsSane set → IsFitting (Set set)
 
 -- a record of at most 4,096 bytes fits
 abbrev pub ShortRecordsFit : Type 0
-ShortRecordsFit = (slot : Slot) (value : List ℕ) → length value ≤ 4096 → IsFitting (Record slot value)
+ShortRecordsFit = (slot : Slot) (value : List ℕ) → length value ≤ VALUE_LIMIT → IsFitting (Record slot value)
 
 -- an envelope with such lists fits where it keeps the limits of its kind: values of at most 4,096 bytes, and a signature of at
 -- most 64

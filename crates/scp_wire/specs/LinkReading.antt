@@ -1,6 +1,7 @@
 -- What a link's items are read as (this project's profile): carried messages numbered 0, 1, 2, .. on each connection, a
 -- batch as its records, side messages, and the connection's end. What follows of a connection that ended is discarded up to the next Opened.
 use Rattle.std.specs.Prelude.{ℕ, ◌+◌, ◌≡◌, refl, Bool, true, false, ◌&&◌, List, [], ◌∷◌, ◌++◌, Option, Some, None, nat_eq, if◌then◌else◌, fold, drop}
+use Rattle.scp_types.specs.declared.limits.TheConstants.{CARRIED_LIMIT}
 use Rattle.scp_types.specs.declared.names.ConnId.{ConnId}
 use Rattle.scp_wire.specs.declared.message.Message.{Message}
 use Rattle.scp_wire.specs.declared.message.Message.TheVariants.{Envelope, GetSet, Set, NoSet, GetRecord, Record, Records}
@@ -54,7 +55,7 @@ singles (Records first values) = records_from first.0 values
 
 -- 1,000,000 messages were carried, and this would be one more
 abbrev pub is_spent : ℕ → Message → Bool
-is_spent n message = is_carried message && nat_eq n 1000000
+is_spent n message = is_carried message && nat_eq n CARRIED_LIMIT
 
 -- the number after a message
 abbrev pub next_of : ℕ → Message → ℕ

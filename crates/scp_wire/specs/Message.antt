@@ -1,6 +1,7 @@
 -- Link messages as values of a kind, and the limit on all of their bytes (this project's profile).
 use Rattle.std.specs.Prelude.{◌≡◌, ℕ, ◌^◌, ◌<◌, ◌≤◌, ◌⊎◌, List, length, Result, Err, nat_lt, if◌then◌else◌}
 use Rattle.std.proofs.Common.{inl, inr}
+use Rattle.scp_types.specs.declared.limits.TheConstants.{VALUE_LIMIT}
 use Rattle.scp_types.specs.declared.fault.Fault.{Fault}
 use Rattle.scp_types.specs.declared.fault.Fault.TheVariants.{TooLong}
 use Rattle.scp_xdr.specs.Kind.{Kind, uint64, numbered, both, union, no_arm, arm, Values, Spells, Fits, spelling}
@@ -65,7 +66,7 @@ BreaksALimit (GetSet hash) = ⊥
 BreaksALimit (Set set) = (¬ (Fits set_kind (set_value set))) ⊎ (65532 < length (set_spelling set))
 BreaksALimit (NoSet hash) = ⊥
 BreaksALimit (GetRecord slot) = ⊥
-BreaksALimit (Record slot value) = 4096 < length value
+BreaksALimit (Record slot value) = VALUE_LIMIT < length value
 BreaksALimit (Records first values) = (¬ (Fits (numbered 32 value_kind) (first.0, values))) ⊎ (65532 < length (spelling (numbered 32 value_kind) (first.0, values)))
 
 -- the limit is tested before anything is read

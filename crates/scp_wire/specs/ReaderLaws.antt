@@ -1,5 +1,6 @@
 -- What readings are, in the words of what was sent and of the shape; and how they grow.
 use Rattle.std.specs.Prelude.{ℕ, ◌≡◌, List, [], ◌∷◌, ◌++◌}
+use Rattle.scp_types.specs.declared.limits.TheConstants.{CARRIED_LIMIT}
 use Rattle.scp_types.specs.declared.names.ConnId.{ConnId}
 use Rattle.scp_types.specs.declared.names.NodeId.{NodeId}
 use Rattle.scp_wire.specs.declared.link.LinkItem.{LinkItem}
@@ -12,8 +13,8 @@ use Rattle.scp_wire.specs.LinkReading.{ReaderView, unread, reading, after, readi
 -- what is read of a connection is what was sent on it: its carried messages, numbered, and then its end; and all of it in its
 -- place, that it was opened, and the side messages between the carried ones
 pub record IsSent (c : ConnId) (items : List LinkItem) : Type 0 where
-  pub messages : messages_in c (readings unread items) ≡ carried_of 1000000 (sent c items)
-  pub line : marks_in c (readings unread items) ≡ line_of_sent 0 1000000 (sent c items) (is_closed c items)
+  pub messages : messages_in c (readings unread items) ≡ carried_of CARRIED_LIMIT (sent c items)
+  pub line : marks_in c (readings unread items) ≡ line_of_sent 0 CARRIED_LIMIT (sent c items) (is_closed c items)
   pub all : of_conn c (readings unread items) ≡ read_of_sent c items
 
 -- what is read of a link's items is of each connection what was sent on it

@@ -1,5 +1,6 @@
 -- What was sent on a connection, by the items that its link took; what of it is carried; and what is to be read of it.
 use Rattle.std.specs.Prelude.{ℕ, ◌+◌, ◌-◌, Bool, true, false, ◌||◌, not, List, [], ◌∷◌, ◌++◌, Option, Some, None, nat_eq, nat_lt, if◌then◌else◌, length, filter, flat_map, take, is_some, option_to_list, map}
+use Rattle.scp_types.specs.declared.limits.TheConstants.{CARRIED_LIMIT}
 use Rattle.scp_types.specs.declared.names.ConnId.{ConnId}
 use Rattle.scp_wire.specs.declared.message.Message.{Message}
 use Rattle.scp_wire.specs.declared.link.LinkItem.{LinkItem}
@@ -95,4 +96,4 @@ in_turn c n (m ∷ ms) = numbered c n m ∷ in_turn c (next_of n m) ms
 
 -- that it was opened, its messages in the order sent, and then its end
 abbrev pub read_of_sent : ConnId → List LinkItem → List Inbound
-read_of_sent c items = opened c items ++ (in_turn c 0 (up_to 1000000 (readable (sent c items))) ++ map (inbound.Closed c) (option_to_list (end_of 1000000 (sent c items) (is_closed c items))))
+read_of_sent c items = opened c items ++ (in_turn c 0 (up_to CARRIED_LIMIT (readable (sent c items))) ++ map (inbound.Closed c) (option_to_list (end_of CARRIED_LIMIT (sent c items) (is_closed c items))))

@@ -78,6 +78,45 @@ fn stages_run_at_once(rt: HostRuntime) {
     assert!(rt; writer.text() == REPORT);
 }
 
+/// Counts what the applier of node 1 tells of: how often it received something, and which time it said it was.
+#[derive(Drop)]
+struct Receives {
+    told: AtomicU64,
+    last: AtomicU64,
+}
+
+impl Gate for Receives {
+    fn at(&self, place: Place) {
+        if place.node == NodeId([1; 32])
+            && matches!(place.stage, Stage::Apply)
+            && matches!(place.moment, Moment::Taken)
+        {
+            self.told.fetch_add(1, Ordering::SeqCst);
+            self.last.store(place.count, Ordering::SeqCst);
+        }
+    }
+}
+
+/// The applier of a node that decides one slot receives that decision and its end, and tells of each.
+#[test]
+fn an_applier_tells_each_receive(rt: HostRuntime) {
+    let gate = Receives {
+        told: AtomicU64::new(0),
+        last: AtomicU64::new(0),
+    };
+    let mut writer = MemoryOut::new(Vec::new(rt.alloc()));
+    let played = play_gated(
+        &rt,
+        &gate,
+        rt.alloc(),
+        &mut MemoryIn::new(SCRIPT),
+        &mut writer,
+    );
+    assert_eq!(rt; played, Ok(()));
+    assert_eq!(rt; gate.told.load(Ordering::SeqCst), 2);
+    assert_eq!(rt; gate.last.load(Ordering::SeqCst), 2);
+}
+
 #[test]
 fn the_same_report_in_threads(rt: HostRuntime) {
     for _ in 0..8u32 {

@@ -17,7 +17,7 @@ returns-in-Ok-clause-reports g c =
     let commands = c.as_slice-commands.result.now in
     let reports = c.as_slice-reports.result.now in
     let same : commands ≡ commands_in c.args.text.now = c.as_slice-commands.ensures.value ∙ c.in_ok-script.ensures.commands in
-    let reported : AreNodesReported commands reports = subst (λ (l : List NodeReport). AreNodesReported commands l) (sym c.as_slice-reports.ensures.value) c.in_ok-nodes.ensures.reported in
+    let reported : AreNodesReported commands reports = subst (λ (l : List NodeReport). AreNodesReported commands l) (sym c.as_slice-reports.ensures.value) c.in_ok-ran.ensures.reported in
     let text : string_bytes c.write_all_gathered.new.text ≡ flat_map (report_gathered_at reports) (reports_in commands) = c.in-Ok.ensures ∙ ap (λ (l : List ℕ). l ++ flat_map (report_gathered_at reports) (reports_in commands)) c.new-printed.ensures.bytes in
     are_gathered_reports c.args.text.now (string_bytes c.write_all_gathered.new.text) commands reports same reported text
 
@@ -26,11 +26,11 @@ returns-in-Ok-clause-headline g c =
     let commands = c.as_slice-commands.result.now in
     let reports = c.as_slice-reports.result.now in
     let same : commands ≡ commands_in c.args.text.now = c.as_slice-commands.ensures.value ∙ c.in_ok-script.ensures.commands in
-    let reported : AreNodesReported commands reports = subst (λ (l : List NodeReport). AreNodesReported commands l) (sym c.as_slice-reports.ensures.value) c.in_ok-nodes.ensures.reported in
+    let reported : AreNodesReported commands reports = subst (λ (l : List NodeReport). AreNodesReported commands l) (sym c.as_slice-reports.ensures.value) c.in_ok-ran.ensures.reported in
     let text : string_bytes c.write_all_gathered.new.text ≡ flat_map (report_gathered_at reports) (reports_in commands) = c.in-Ok.ensures ∙ ap (λ (l : List ℕ). l ++ flat_map (report_gathered_at reports) (reports_in commands)) c.new-printed.ensures.bytes in
     are_gathered_headlined c.what_is_reported_keeps_the_headline.ensures.headline c.args.text.now (string_bytes c.write_all_gathered.new.text) commands reports same reported text
 
-pub returns-in_err-nodes-clause-line : goal.returns-in_err-nodes-clause-line
-returns-in_err-nodes-clause-line g c =
-    let p = err_from_is_err_and c.from_residual-in_err-nodes.result c.from_residual-in_err-nodes.ensures.1 in
-    rw (p.1, p.2) (λ line is. absurd (given_up_not_bad c.as_slice-commands.result.now c.in_err-nodes.field-0.0 c.in_err-nodes.ensures.given_up line is))
+pub returns-in_err-ran-clause-line : goal.returns-in_err-ran-clause-line
+returns-in_err-ran-clause-line g c =
+    let p = err_from_is_err_and c.from_residual-in_err-ran.result c.from_residual-in_err-ran.ensures.1 in
+    rw (p.1, p.2) (λ line is. absurd (given_up_not_bad c.as_slice-commands.result.now c.in_err-ran.field-0.0 c.in_err-ran.ensures.given_up line is))

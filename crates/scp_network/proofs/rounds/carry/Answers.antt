@@ -4,15 +4,16 @@ use Rattle.std.proofs.lemmas.Option.{slice_get-get_or}
 use Rattle.scp_core.specs.Node.{accepts_at}
 use Rattle.scp_network.specs.Rounds.{link_of}
 use Rattle.scp_network.proofs.Acting.{shut_at, carries_nothing}
+use Rattle.scp_turn.specs.Watch.{notes}
 use Rattle.scp_network.proofs.rounds.carry.Goals.{then-from-to-via-then-from-to, then-from-to-via-else-from-to+then-drives, then-from-to-via-else-from-to+else-drives+then-not-accepts}
 use Rattle.scp_network.proofs.rounds.carry.Goals as goal
 
 pub returns-then-from-to : goal.returns-then-from-to
-returns-then-from-to c =
+returns-then-from-to g c =
     let nodes = c.args.nodes.now.items in
     let from = c.args.from in
     let to = c.args.to in
-    carries_nothing nodes c.args.driven.now (from + 1) (to + 1) (elim c.then-from-to.branch [
+    carries_nothing (notes g.W.Watch.notes_before g.W.Watch.notes_after) c.args.watch.now nodes c.args.driven.now (from + 1) (to + 1) (elim c.then-from-to.branch [
       | then-from-to-via-then-from-to w ↦ inl (ap (λ k. k + 1) w.if-from-to.true)
       | then-from-to-via-else-from-to+then-drives w ↦ inr (inl (sym w.drives.ensures ∙ w.if-drives.true))
       | then-from-to-via-else-from-to+else-drives+then-not-accepts w ↦
@@ -22,7 +23,7 @@ returns-then-from-to c =
     ])
 
 pub transmit-requires-clause-accepts : goal.transmit-requires-clause-accepts
-transmit-requires-clause-accepts c =
+transmit-requires-clause-accepts g c =
     let nodes = c.args.nodes.now.items in
     let from = c.args.from in
     let to = c.args.to in

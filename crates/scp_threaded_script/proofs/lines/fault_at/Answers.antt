@@ -1,4 +1,3 @@
-use Rattle.std.proofs.Common.{refl}
 use Rattle.scp_threaded_script.proofs.Faults.{reader_gone}
 use Rattle.scp_threaded_script.proofs.lines.fault_at.Goals as goal
 

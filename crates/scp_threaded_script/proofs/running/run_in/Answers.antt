@@ -1,14 +1,15 @@
-use Rattle.std.proofs.Common.{◌≤◌, ◌∙◌, arith}
+use Rattle.std.proofs.Common.{◌≤◌, arith}
+use Rattle.std.specs.Prelude.{Err}
 use Rattle.scp_script.specs.Script.{node_count}
 use Rattle.scp_threaded_script.proofs.Ending.{all_numbered, all_given_up}
 use Rattle.scp_threaded_script.proofs.running.run_in.Goals as goal
 
-pub returns-clause-given_up : goal.returns-clause-given_up
-returns-clause-given_up g c =
+pub returns-in-Err-clause-given_up : goal.returns-in-Err-clause-given_up
+returns-in-Err-clause-given_up g c =
     let commands = c.args.commands.now in
     let nodes = c.start_and_act-done.new.nodes.items in
     let stood = c.args.stood.now in
     let ended = c.end_all-told.ensures.ended in
     let most : node_count commands ≤ 8 = omega (arith, c.count_of_nodes.ensures.count, c.count_of_nodes.ensures.few) in
-    all_given_up commands nodes stood ended.0 c.told_of.result c.start_and_act-done.ensures.so_far c.start_and_act-done.ensures.few most c.requires.stood ended.1
-    (c.told_of.ensures.given_up (node_count commands) ended.0 (all_numbered nodes stood ended.0 ended.1) c.start_and_act-done.ensures.given_up ended.2)
+    all_given_up {T = Unit {0}} commands nodes stood ended.0 (Err c.in-Err.fault) c.start_and_act-done.ensures.so_far c.start_and_act-done.ensures.few most c.requires.stood ended.1
+    (c.in-Err.ensures.given_up (node_count commands) ended.0 (all_numbered nodes stood ended.0 ended.1) c.start_and_act-done.ensures.given_up ended.2)

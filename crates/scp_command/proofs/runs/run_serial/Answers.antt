@@ -1,0 +1,24 @@
+use Rattle.std.proofs.Common.{◌≡◌, ◌∙◌, ℕ, List, ap, sym, subst, string_bytes}
+use Rattle.std.specs.Prelude.{All, IfOk}
+use Rattle.scp_network.specs.Heard.{Nodes}
+use Rattle.scp_script.specs.declared.command.Command.{Command}
+use Rattle.scp_script.specs.Nodes.{NamesNodes}
+use Rattle.scp_silent.specs.Run.{IsRan, IsRunFault}
+use Rattle.scp_command.specs.Answers.{reports_text}
+use Rattle.scp_command.proofs.Reporting.{run_answer}
+use Rattle.scp_command.proofs.runs.run_serial.Goals as goal
+
+pub returns-in-Err-clause-cause : goal.returns-in-Err-clause-cause
+returns-in-Err-clause-cause c = λ input g. c.of_run.ensures input c.args.shape g (subst (λ (text : List ℕ). IsRunFault text c.in-Err.fault) c.as_slice.ensures.value c.in-Err.ensures.cause)
+
+pub reports_of-reports-requires-clause-names : goal.reports_of-reports-requires-clause-names
+reports_of-reports-requires-clause-names c = subst (λ (l : List Command). All NamesNodes l) (sym c.as_slice-2.ensures.value) c.in-Ok.ensures.names
+
+pub returns-clause-answer : goal.returns-clause-answer
+returns-clause-answer c = λ input g.
+    let ran = c.in-Ok.ran in
+    run_answer string_bytes c.args.shape input c.args.given.now ran.script ran.network ran.notices.items c.reports_of-reports.result c.answer_of.result g
+    (subst (λ (text : List ℕ). IsRan text ran.script ran.network ran.notices.items) c.as_slice.ensures.value c.in-Ok.ensures.ran)
+    c.answer_of.ensures.text c.answer_of.ensures.made c.answer_of.ensures.notices
+    (subst (λ (nodes : Nodes). IfOk c.reports_of-reports.result (λ text. string_bytes text ≡ reports_text c.args.shape nodes ran.script.commands.items)) c.nodes.ensures
+    (subst (λ (l : List Command). IfOk c.reports_of-reports.result (λ text. string_bytes text ≡ reports_text c.args.shape c.nodes.result.now l)) c.as_slice-2.ensures.value c.reports_of-reports.ensures.text))

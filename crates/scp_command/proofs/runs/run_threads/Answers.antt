@@ -1,0 +1,31 @@
+use Rattle.std.proofs.Common.{◌≡◌, ◌≤◌, ℕ, List, length, ap, sym, subst, arith, string_bytes}
+use Rattle.std.specs.Prelude.{All, IfOk}
+use Rattle.scp_gather.specs.declared.gathering.NodeReport.{NodeReport}
+use Rattle.scp_script.specs.declared.command.Command.{Command}
+use Rattle.scp_script.specs.Nodes.{NamesNodes}
+use Rattle.scp_script.specs.Script.{node_count}
+use Rattle.scp_silent.specs.Threads.{IsRanInThreads, IsThreadsFault}
+use Rattle.scp_command.specs.Answers.{gathered_text}
+use Rattle.scp_command.proofs.Reporting.{threads_answer}
+use Rattle.scp_command.proofs.runs.run_threads.Goals as goal
+
+pub returns-in-Err-clause-cause : goal.returns-in-Err-clause-cause
+returns-in-Err-clause-cause g c = λ input h. c.of_threads.ensures input c.args.shape h (subst (λ (text : List ℕ). IsThreadsFault text c.in-Err.fault) c.as_slice.ensures.value c.in-Err.ensures.cause)
+
+pub count_of_nodes-count-requires : goal.count_of_nodes-count-requires
+count_of_nodes-count-requires g c = record { names = subst (λ (l : List Command). All NamesNodes l) (sym c.as_slice-commands.ensures.value) c.in-Ok.ensures.names }
+
+pub reports_gathered-told-requires-clause-names : goal.reports_gathered-told-requires-clause-names
+reports_gathered-told-requires-clause-names g c = subst (λ (l : List Command). All NamesNodes l) (sym c.as_slice-commands.ensures.value) c.in-Ok.ensures.names
+
+pub reports_gathered-told-requires-clause-few : goal.reports_gathered-told-requires-clause-few
+reports_gathered-told-requires-clause-few g c = omega (arith, ap (λ (l : List NodeReport). length l) c.as_slice-2.ensures.value, c.in-Ok.ensures.ran.shows.reported.0, ap (λ (l : List Command). node_count l) c.as_slice-commands.ensures.value, c.count_of_nodes-count.ensures.count, c.count_of_nodes-count.ensures.few)
+
+pub returns-clause-answer : goal.returns-clause-answer
+returns-clause-answer g c = λ input h.
+    let ran = c.in-Ok.ran in
+    threads_answer string_bytes c.args.shape input c.args.given.now ran.script ran.reports.items ran.notices.items c.reports_gathered-told.result c.answer_of.result h
+    (subst (λ (text : List ℕ). IsRanInThreads text ran.script ran.reports.items ran.notices.items) c.as_slice.ensures.value c.in-Ok.ensures.ran)
+    c.answer_of.ensures.text c.answer_of.ensures.made c.answer_of.ensures.notices
+    (subst (λ (nodes : List NodeReport). IfOk c.reports_gathered-told.result (λ text. string_bytes text ≡ gathered_text c.args.shape nodes ran.script.commands.items)) c.as_slice-2.ensures.value
+    (subst (λ (l : List Command). IfOk c.reports_gathered-told.result (λ text. string_bytes text ≡ gathered_text c.args.shape c.as_slice-2.result.now l)) c.as_slice-commands.ensures.value c.reports_gathered-told.ensures.text))

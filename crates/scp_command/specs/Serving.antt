@@ -1,0 +1,80 @@
+-- What is written where, by what a command makes of its input (this project's profile).
+use Rattle.std.specs.Prelude.{ℕ, ◌≡◌, ◌⊎◌, ◌≤◌, ◌<◌, Bool, true, false, List, [], ◌∷◌, ◌++◌, length, Option, Some, None, IfSome, string_bytes}
+use Rattle.scp_device.specs.Device.{Gains, Fails as HasFailed}
+use Rattle.scp_prompt.specs.declared.asked.Task.{Task}
+use Rattle.scp_prompt.specs.declared.asked.Task.TheVariants.{Check, Slot, Hex, Text, Decode, Encode}
+use Rattle.scp_prompt.specs.declared.failure.Failure.{Failure}
+use Rattle.scp_prompt.specs.declared.failure.Failure.TheVariants.{TooLong, NoMemory, Unread, Line}
+use Rattle.scp_prompt.specs.Failing.{IsToldLine, settled_line}
+use Rattle.scp_line.specs.declared.playing.PlayFault.{PlayFault}
+use Rattle.scp_line.specs.Outcome.{fault_line}
+use Rattle.scp_slot_script.specs.declared.script.Script.{Script as SlotScript}
+use Rattle.scp_slot_script.specs.Answers.{IsPlayed}
+use Rattle.scp_trace_lint.specs.declared.fault.BadLine.{BadLine}
+use Rattle.scp_trace_lint.specs.Lines.{IsFirstBad, IsBadAt, MayWant}
+use Rattle.scp_trace_lint.specs.Texts.{IsLinted}
+use Rattle.scp_trace_stand.specs.declared.playing.Told.{Told}
+use Rattle.scp_trace_stand.specs.Told.{IsTold as IsStoodOf}
+use Rattle.scp_command.specs.Given.{IsOfReason}
+use Rattle.scp_command.specs.Answers.{lines_of}
+
+-- the most bytes of a task's input: 16 MiB of what is written in another form, else 1 MiB
+abbrev pub limit_of : Task → ℕ
+limit_of Hex = 16777216
+limit_of Text = 16777216
+limit_of (Decode coding) = 16777216
+limit_of (Encode coding) = 16777216
+limit_of task = 1048576
+
+-- 0 without notices, else 4
+abbrev pub status_of : List ℕ → ℕ
+status_of [] = 0
+status_of (byte ∷ bytes) = 4
+
+-- these notices are to be written, unless they are to be left out
+abbrev pub noticed : Bool → List ℕ → List ℕ
+noticed true notices = []
+noticed false notices = notices
+
+-- this text was written and nothing else, or the writer failed
+abbrev pub IsWritten : {W : Type 0} → (W → Option (List ℕ)) → (W → ℕ) → W → List ℕ → W → Type 0
+IsWritten written failures old text new = (Gains (written old) text (written new) × (failures new ≡ failures old)) ⊎ HasFailed (failures old) (failures new)
+
+-- the line of a failure was written and nothing else, or the writer failed
+abbrev pub IsTold : {W : Type 0} → (W → Option (List ℕ)) → (W → ℕ) → W → List ℕ → List ℕ → List ℕ → Failure → W → Type 0
+IsTold written failures old name text why failure new =
+    ((line : List ℕ) × IsToldLine name text why failure line × Gains (written old) line (written new) × (failures new ≡ failures old)) ⊎ HasFailed (failures old) (failures new)
+
+-- Why an input wasn't read from here, all that was left: it is longer than this, memory ran out, or the reader failed.
+abbrev pub IsUnread : ℕ → Option (List ℕ) → Type 0 → Failure → Type 0
+IsUnread limit left failed failure =
+    ((failure ≡ TooLong limit) × IfSome left (λ all. limit < length all))
+    ⊎ ((failure ≡ NoMemory) ⊎ ((failure ≡ Unread) × failed))
+
+-- ---- the settled words on one stream
+
+-- what is told of a script to the end, by the command
+abbrev pub IsPlain : Task → List ℕ → List ℕ → Type 0
+IsPlain Check script out = IsLinted script out
+IsPlain Slot script out = (read : SlotScript) × IsPlayed read out
+IsPlain task script out = (told : Told) × IsStoodOf script told × (told.fault ≡ None) × (out ≡ string_bytes told.text)
+
+-- a fault stopped the script: this is told of where its nodes stand up to there, and then the fault's line
+abbrev pub IsPlainUpTo : List ℕ → List ℕ → Type 0
+IsPlainUpTo script out = (told : Told) × (fault : PlayFault) × IsStoodOf script told × (told.fault ≡ Some fault) × (out ≡ string_bytes told.text ++ fault_line fault.node fault.fault)
+
+-- why nothing is told of a script: its first bad line, or want of memory where it may be told
+abbrev pub IsNotPlainScript : List ℕ → Failure → Type 0
+IsNotPlainScript script failure =
+    ((failure ≡ NoMemory) × MayWant script)
+    ⊎ (((bad : BadLine) × IsFirstBad script bad × IsOfReason bad.line bad.reason failure)
+    ⊎ ((number : ℕ) × IsBadAt script number × (failure ≡ Line number)))
+
+-- the same, by the command
+abbrev pub IsNotPlain : Task → List ℕ → Failure → Type 0
+IsNotPlain Slot script failure = (failure ≡ NoMemory) ⊎ ((line : ℕ) × (1 ≤ line) × (line ≤ length (lines_of script)) × (failure ≡ Line line))
+IsNotPlain task script failure = IsNotPlainScript script failure
+
+-- the settled line of a failure was written and nothing else, or the writer failed
+abbrev pub IsSettled : {W : Type 0} → (W → Option (List ℕ)) → (W → ℕ) → W → Failure → W → Type 0
+IsSettled written failures old failure new = IsWritten written failures old (settled_line failure) new

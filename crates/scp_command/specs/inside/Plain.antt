@@ -1,0 +1,20 @@
+-- What is told on one stream.
+-- Here stands what no public clause reaches: nothing here need be believed.
+use Rattle.std.specs.Prelude.{ℕ, ◌≡◌, List, ◌++◌, Some, None, string_bytes}
+use Rattle.scp_line.specs.Outcome.{fault_line}
+use Rattle.scp_line.specs.declared.playing.PlayFault.{PlayFault}
+use Rattle.scp_trace_stand.specs.declared.playing.Told.{Told}
+use Rattle.scp_prompt.specs.declared.asked.Task.{Task}
+use Rattle.scp_command.specs.declared.plain.Telling.{Telling}
+use Rattle.scp_command.specs.declared.plain.Telling.TheVariants.{Whole, Part}
+use Rattle.scp_command.specs.Serving.{IsPlain, IsPlainUpTo}
+
+-- what is told of a script, to its end or up to a fault
+abbrev pub IsTelling : Task → List ℕ → Telling → Type 0
+IsTelling task script (Whole text) = IsPlain task script text.items
+IsTelling task script (Part text) = IsPlainUpTo script text.items
+
+-- what was told of where nodes stand, with the line of the fault that ended it
+abbrev pub IsTellingOf : Told → Telling → Type 0
+IsTellingOf told (Whole text) = (told.fault ≡ None) × (text.items ≡ string_bytes told.text)
+IsTellingOf told (Part text) = (fault : PlayFault) × (told.fault ≡ Some fault) × (text.items ≡ string_bytes told.text ++ fault_line fault.node fault.fault)

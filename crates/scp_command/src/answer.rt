@@ -1,0 +1,36 @@
+//! What a command makes of its input.
+ghost use Rattle.std.specs.Prelude.{string_bytes};
+ghost use Rattle.scp_command.specs.Answers.{IsJust};
+
+use std::alloc::Global;
+
+/// What a command makes of its input.
+#[derive(Debug, Drop)]
+pub struct Answer {
+    /// What goes to the output.
+    pub text: Vec<u8>,
+    /// What is to be noticed of a run, a line each.
+    pub notices: String,
+}
+
+impl Answer {
+    /// An answer without notices.
+    pub fn of_text(alloc: Global, text: String) -> Answer
+        ensures { IsJust (string_bytes text) result }
+    {
+        Answer {
+            text: text.into_bytes(),
+            notices: String::new(alloc),
+        }
+    }
+
+    /// An answer of bytes, without notices.
+    pub fn of_bytes(alloc: Global, text: Vec<u8>) -> Answer
+        ensures { IsJust text.items result }
+    {
+        Answer {
+            text,
+            notices: String::new(alloc),
+        }
+    }
+}

@@ -1,0 +1,92 @@
+//! What the commands tell of scripts.
+ghost use Rattle.std.specs.Prelude.{◌≡◌, ◌++◌, ℕ, List, [], All, IfOk, IfErr, IsOkUnless, codes, string_bytes};
+ghost use Rattle.scp_script.specs.Script.{AreAdmitted};
+ghost use Rattle.scp_script.specs.Nodes.{NamesNodes};
+ghost use Rattle.scp_trace_lint.specs.declared.warning.Warning.{Warning};
+ghost use Rattle.scp_trace_lint.specs.Texts.{warnings_text};
+ghost use Rattle.scp_trace_lint.specs.Warnings.{AreWarnings};
+ghost use Rattle.scp_hints.specs.declared.hint.Hint.{Hint};
+ghost use Rattle.scp_hints.specs.Hints.{AreHints};
+ghost use Rattle.scp_hints.specs.Texts.{hints_text};
+ghost use Rattle.scp_trace_stand.specs.Told.{IsStandFault};
+ghost use Rattle.scp_command.specs.Given.{IsGiven};
+ghost use Rattle.scp_command.specs.Answers.{IsCheckAnswer, IsStandAnswer, IsQuorumsAnswer};
+ghost use Rattle.scp_command.specs.Causes.{IsNoScript, Fails};
+
+use crate::answer::Answer;
+use crate::given::{Given, commands_of, given_by, of_bad, of_play, place_of};
+use scp_hints::{hints, text_of_hints};
+use scp_prompt::{Failure, Task};
+use scp_quorums::quorums_text;
+use scp_trace_lint::{Script, text_of_warnings, warnings};
+use scp_trace_stand::{StandFault, stand};
+use scp_types::Fault;
+use std::alloc::Global;
+
+/// The warnings and the hints of a script, a line for each, and `ok`.
+fn told(alloc: Global, script: &Script) -> Result<String, Fault>
+    requires names { All NamesNodes script.now.commands.items }
+    requires admitted { AreAdmitted [] script.now.commands.items }
+    ensures told { IfOk result (λ out. (warnings : List Warning) × (hints : List Hint) × AreWarnings script.now.commands.items script.now.lines.items warnings × AreHints script.now.commands.items script.now.lines.items hints × (string_bytes out ≡ warnings_text warnings ++ hints_text hints ++ codes "ok\n")) }
+    ensures only_memory { IsOkUnless result Fault.NoMemory }
+{
+    let warnings = warnings(alloc, script)?;
+    let mut text = text_of_warnings(alloc, warnings.as_slice())?;
+    let hints = hints(alloc, script.commands.as_slice(), script.lines.as_slice())?;
+    let hinted = text_of_hints(alloc, hints.as_slice())?;
+    text.push_str(hinted.as_str())?;
+    text.push_str("ok\n")?;
+    Ok(text)
+}
+
+/// What is wrong with a script.
+pub fn checked(alloc: Global, text: &[u8]) -> Result<Answer, Failure>
+    ensures answer { IfOk result (IsCheckAnswer text.now) }
+    ensures cause { IfErr result (IsNoScript text.now) }
+{
+    let given = given_by(alloc, text)?;
+    let script = commands_of(alloc, &given)?;
+    match told(alloc, &script) {
+        Ok(told) => Ok(Answer::of_text(alloc, told)),
+        Err(_) => Err(Failure::NoMemory),
+    }
+}
+
+/// Why nothing is told of where nodes stand.
+fn of_stand(given: &Given, fault: StandFault) -> Failure
+    ensures { (input : List ℕ) → IsGiven input given.now → IsStandFault given.now.text.items fault → IsNoScript input result }
+{
+    match fault {
+        StandFault::NoMemory => Failure::NoMemory,
+        StandFault::Bad(bad) => of_bad(&given.expanded, bad),
+        StandFault::BadAt(line) => Failure::Line(place_of(&given.expanded, line)),
+    }
+}
+
+/// Where the nodes of a script stand. Its lines are counted in the settled script.
+pub fn stood(alloc: Global, text: &[u8]) -> Result<Answer, Failure>
+    ensures answer { IfOk result (IsStandAnswer text.now) }
+    ensures cause { IfErr result (Fails Task.Stand text.now) }
+{
+    let given = given_by(alloc, text)?;
+    match stand(alloc, given.text.as_slice()) {
+        Ok(told) => match told.fault {
+            Some(fault) => Err(of_play(None, fault)),
+            None => Ok(Answer::of_text(alloc, told.text)),
+        },
+        Err(fault) => Err(of_stand(&given, fault)),
+    }
+}
+
+/// What the quorum sets of a script come to.
+pub fn quorums(alloc: Global, text: &[u8]) -> Result<Answer, Failure>
+    ensures answer { IfOk result (IsQuorumsAnswer text.now) }
+    ensures cause { IfErr result (IsNoScript text.now) }
+{
+    let given = given_by(alloc, text)?;
+    let script = commands_of(alloc, &given)?;
+    match quorums_text(alloc, script.commands.as_slice()) {
+        Ok(told) => Ok(Answer::of_text(alloc, told)),
+        Err(_) => Err(Failure::NoMemory),
+    }
+}

@@ -1,0 +1,230 @@
+//! Scripts that are played, and their reports.
+ghost use Rattle.std.specs.Prelude.{◌≡◌, ◌≤◌, ◌∷◌, ℕ, List, [], All, IfOk, IfErr, IsOk, IsOkUnless, length, map, string_bytes};
+ghost use Rattle.scp_script.specs.Nodes.{NamesNodes};
+ghost use Rattle.scp_silent.specs.Texts.{notices_text};
+ghost use Rattle.scp_silent.specs.Run.{IsRunFault};
+ghost use Rattle.scp_silent.specs.Threads.{IsThreadsFault};
+ghost use Rattle.scp_command.specs.Given.{IsGiven};
+ghost use Rattle.scp_command.specs.Answers.{reports_text, gathered_text, placed_notice, IsRunAnswer, IsThreadsAnswer, IsRunBy};
+ghost use Rattle.scp_command.specs.Causes.{Fails};
+ghost use Rattle.scp_command.specs.inside.Runs.{IsOfRun};
+
+use crate::answer::Answer;
+use crate::given::{Given, given_by, of_bad, of_play, place_of};
+use scp_core::Node;
+use scp_gather::NodeReport;
+use scp_line::{write_all_gathered, write_reports};
+use scp_prompt::{Failure, Mode, Shape, Task};
+use scp_script::{Command, count_of_nodes};
+use scp_shorthand::Expanded;
+use scp_shown::{json_report, text_report};
+use scp_silent::{
+    Notice, Ran, RanInThreads, RunFault, run as run_script, run_in_threads, text_of_notices,
+};
+use scp_types::Fault;
+use std::alloc::{AllocError, Global};
+use std::sync::Wait;
+use std::thread::Threads;
+
+/// The reports of nodes that were played one step after another.
+fn reports_of(
+    alloc: Global,
+    shape: Shape,
+    nodes: &[Node],
+    commands: &[Command],
+) -> Result<String, Fault>
+    requires names { All NamesNodes commands.now }
+    requires few { length nodes.now ≤ 8 }
+    ensures text { IfOk result (λ text. string_bytes text ≡ reports_text shape nodes.now commands.now) }
+    ensures only_memory { IsOkUnless result Fault.NoMemory }
+{
+    match shape {
+        Shape::Settled => {
+            let mut text = String::new(alloc);
+            write_reports(nodes, &mut text, commands)?;
+            Ok(text)
+        }
+        Shape::Text => text_report(alloc, nodes, commands),
+        Shape::Json => json_report(alloc, nodes, commands),
+    }
+}
+
+/// The reports of nodes that ran in threads.
+fn reports_gathered(
+    alloc: Global,
+    shape: Shape,
+    nodes: &[NodeReport],
+    commands: &[Command],
+) -> Result<String, Fault>
+    requires names { All NamesNodes commands.now }
+    requires few { length nodes.now ≤ 8 }
+    ensures text { IfOk result (λ text. string_bytes text ≡ gathered_text shape nodes.now commands.now) }
+    ensures only_memory { IsOkUnless result Fault.NoMemory }
+{
+    match shape {
+        Shape::Settled => {
+            let mut text = String::new(alloc);
+            write_all_gathered(nodes, &mut text, commands)?;
+            Ok(text)
+        }
+        Shape::Text => text_report(alloc, nodes, commands),
+        Shape::Json => json_report(alloc, nodes, commands),
+    }
+}
+
+/// A notice with the line of the input that it is of.
+fn placed_of(expanded: &Expanded, notice: Notice) -> Notice
+    ensures { result ≡ placed_notice expanded.now.lines notice }
+{
+    match notice {
+        Notice::Unsettled { line, rounds } => Notice::Unsettled {
+            line: place_of(expanded, line),
+            rounds,
+        },
+        Notice::GaveUp { line } => Notice::GaveUp {
+            line: place_of(expanded, line),
+        },
+        Notice::Ignored { line, why } => Notice::Ignored {
+            line: place_of(expanded, line),
+            why,
+        },
+        other => other,
+    }
+}
+
+/// The notices, each with the line of the input that it is of.
+fn placed_notices(
+    alloc: Global,
+    expanded: &Expanded,
+    notices: Vec<Notice>,
+) -> Result<Vec<Notice>, AllocError>
+    ensures { IfOk result (λ out. out.items ≡ map (placed_notice expanded.now.lines) notices.items) }
+{
+    let mut out = Vec::new(alloc);
+    for notice in notices {
+        out.push(placed_of(expanded, notice))?;
+    }
+    Ok(out)
+}
+
+/// The lines of the notices, by the lines of the input.
+fn lines_of_notices(
+    alloc: Global,
+    expanded: &Expanded,
+    notices: Vec<Notice>,
+) -> Result<String, AllocError>
+    ensures { IfOk result (λ text. string_bytes text ≡ notices_text (map (placed_notice expanded.now.lines) notices.items)) }
+{
+    let placed = placed_notices(alloc, expanded, notices)?;
+    let text = text_of_notices(alloc, placed.as_slice())?;
+    Ok(text)
+}
+
+/// The answer of these reports and notices.
+fn answer_of(
+    alloc: Global,
+    expanded: &Expanded,
+    reports: Result<String, Fault>,
+    notices: Vec<Notice>,
+) -> Result<Answer, Failure>
+    ensures text { IfOk result (λ answer. IfOk reports (λ text. answer.text.items ≡ string_bytes text)) }
+    ensures made { IfOk result (λ _. IsOk reports) }
+    ensures notices { IfOk result (λ answer. string_bytes answer.notices ≡ notices_text (map (placed_notice expanded.now.lines) notices.items)) }
+    ensures cause { IfErr result (λ failure. failure ≡ Failure.NoMemory) }
+{
+    match (reports, lines_of_notices(alloc, expanded, notices)) {
+        (Ok(text), Ok(notices)) => Ok(Answer {
+            text: text.into_bytes(),
+            notices,
+        }),
+        _ => Err(Failure::NoMemory),
+    }
+}
+
+/// Why a script wasn't played to its end.
+fn of_fault(expanded: &Expanded, fault: RunFault) -> Failure
+    ensures { IsOfRun expanded.now fault result }
+{
+    match fault {
+        RunFault::NoMemory => Failure::NoMemory,
+        RunFault::Bad(bad) => of_bad(expanded, bad),
+        RunFault::BadAt(line) => Failure::Line(place_of(expanded, line)),
+        RunFault::Stopped { line, fault } => of_play(Some(place_of(expanded, line)), fault),
+        RunFault::GivenUp(fault) => of_play(None, fault),
+    }
+}
+
+/// Why a script wasn't played one step after another.
+fn of_run(given: &Given, fault: RunFault) -> Failure
+    ensures { (input : List ℕ) → (shape : Shape) → IsGiven input given.now → IsRunFault given.now.text.items fault → Fails (Task.Run Mode.Serial shape) input result }
+{
+    of_fault(&given.expanded, fault)
+}
+
+/// Why a script wasn't played in threads.
+fn of_threads(given: &Given, fault: RunFault) -> Failure
+    ensures { (input : List ℕ) → (shape : Shape) → IsGiven input given.now → IsThreadsFault given.now.text.items fault → Fails (Task.Run Mode.Threads shape) input result }
+{
+    of_fault(&given.expanded, fault)
+}
+
+/// The reports of a script that is played one step after another.
+fn run_serial(alloc: Global, shape: Shape, given: &Given) -> Result<Answer, Failure>
+    ensures answer { (input : List ℕ) → IsGiven input given.now → IfOk result (IsRunAnswer shape input) }
+    ensures cause { (input : List ℕ) → IsGiven input given.now → IfErr result (Fails (Task.Run Mode.Serial shape) input) }
+{
+    let ran = match run_script(alloc, given.text.as_slice()) {
+        Ok(ran) => ran,
+        Err(fault) => return Err(of_run(given, fault)),
+    };
+    let Ran {
+        script,
+        network,
+        notices,
+    } = ran;
+    let reports = reports_of(alloc, shape, network.nodes(), script.commands.as_slice());
+    answer_of(alloc, &given.expanded, reports, notices)
+}
+
+/// The reports of a script whose nodes run in threads.
+fn run_threads<T: Threads + Wait + Sync>(
+    rt: &T,
+    alloc: Global,
+    shape: Shape,
+    given: &Given,
+) -> Result<Answer, Failure>
+    ensures answer { (input : List ℕ) → IsGiven input given.now → IfOk result (IsThreadsAnswer shape input) }
+    ensures cause { (input : List ℕ) → IsGiven input given.now → IfErr result (Fails (Task.Run Mode.Threads shape) input) }
+{
+    let ran = match run_in_threads(rt, alloc, given.text.as_slice()) {
+        Ok(ran) => ran,
+        Err(fault) => return Err(of_threads(given, fault)),
+    };
+    let RanInThreads {
+        script,
+        reports,
+        notices,
+    } = ran;
+    let commands = script.commands.as_slice();
+    let _count = count_of_nodes(commands);
+    let told = reports_gathered(alloc, shape, reports.as_slice(), commands);
+    answer_of(alloc, &given.expanded, told, notices)
+}
+
+/// The reports of a script that is played.
+pub fn run<T: Threads + Wait + Sync>(
+    rt: &T,
+    alloc: Global,
+    mode: Mode,
+    shape: Shape,
+    text: &[u8],
+) -> Result<Answer, Failure>
+    ensures answer { IfOk result (IsRunBy mode shape text.now) }
+    ensures cause { IfErr result (Fails (Task.Run mode shape) text.now) }
+{
+    let given = given_by(alloc, text)?;
+    match mode {
+        Mode::Serial => run_serial(alloc, shape, &given),
+        Mode::Threads => run_threads(rt, alloc, shape, &given),
+    }
+}

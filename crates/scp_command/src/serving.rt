@@ -1,0 +1,192 @@
+//! What the words of a command line are answered with.
+ghost use Rattle.std.specs.Prelude.{◌≡◌, ◌≢◌, ◌≤◌, ◌⊎◌, ℕ, List, [], length, IfOk, IfErr, OnErr, string_bytes, codes};
+ghost use Rattle.scp_device.specs.Device.{Gains, Fails as HasFailed, IsAll, IsReadFault};
+ghost use Rattle.scp_prompt.specs.Failing.{status_of as failure_status};
+ghost use Rattle.scp_command.specs.Answers.{Answers};
+ghost use Rattle.scp_command.specs.Causes.{Fails};
+ghost use Rattle.scp_command.specs.inside.Reading.{unread_of};
+ghost use Rattle.scp_command.specs.Serving.{limit_of, status_of as answer_status, noticed, IsWritten, IsTold, IsUnread};
+
+use crate::answer::Answer;
+use crate::forms::{as_text, in_digits, slot};
+use crate::looks::{checked, quorums, stood};
+use crate::messages::{decoded, encoded};
+use crate::runs::run;
+use scp_device::{ReportOut, SCRIPT_LIMIT, ScriptIn, read_script, write_text};
+use scp_prompt::{
+    Cause, Failure, LONG_LIMIT, Task, read_within, status, write_bytes, write_failure,
+};
+use scp_types::Fault;
+use std::alloc::Global;
+use std::sync::Wait;
+use std::thread::Threads;
+
+/// What is asked for.
+#[derive(Clone, Copy)]
+pub struct Order<'a> {
+    pub task: Task,
+    /// The notices of a run are left out.
+    pub quiet: bool,
+    /// The input's name.
+    pub name: &'a str,
+}
+
+/// Why an input isn't read.
+fn unread(limit: usize, fault: Fault) -> Failure
+    ensures { result ≡ unread_of limit fault }
+{
+    match fault {
+        Fault::Device => Failure::Unread,
+        Fault::TooLong => Failure::TooLong(limit),
+        _ => Failure::NoMemory,
+    }
+}
+
+/// A script that is read whole.
+#[tactic(auto, using(crate::proofs::Told::is_unread, crate::proofs::Told::all_left))]
+pub fn read_short<R: ScriptIn>(alloc: Global, reader: &mut R) -> Result<Vec<u8>, Failure>
+    ensures all { IfOk result (λ text. IsAll (R.left reader.old) text.items) }
+    ensures limit { IfOk result (λ text. length text.items ≤ SCRIPT_LIMIT) }
+    ensures cause { IfErr result (IsUnread SCRIPT_LIMIT (R.left reader.old) (HasFailed (R.failures reader.old) (R.failures reader.new))) }
+{
+    match read_script(alloc, reader) {
+        Ok(text) => Ok(text),
+        Err(fault) => Err(unread(SCRIPT_LIMIT, fault)),
+    }
+}
+
+/// A longer input that is read whole.
+#[tactic(auto, using(crate::proofs::Told::is_unread, crate::proofs::Told::all_left))]
+fn read_long<R: ScriptIn>(alloc: Global, reader: &mut R) -> Result<Vec<u8>, Failure>
+    ensures all { IfOk result (λ text. IsAll (R.left reader.old) text.items) }
+    ensures limit { IfOk result (λ text. length text.items ≤ LONG_LIMIT) }
+    ensures cause { IfErr result (IsUnread LONG_LIMIT (R.left reader.old) (HasFailed (R.failures reader.old) (R.failures reader.new))) }
+{
+    match read_within(alloc, reader) {
+        Ok(text) => Ok(text),
+        Err(fault) => Err(unread(LONG_LIMIT, fault)),
+    }
+}
+
+/// The whole input of a task.
+fn read_input<R: ScriptIn>(alloc: Global, task: Task, reader: &mut R) -> Result<Vec<u8>, Failure>
+    ensures all { IfOk result (λ text. IsAll (R.left reader.old) text.items) }
+    ensures limit { IfOk result (λ text. length text.items ≤ limit_of task) }
+    ensures cause { IfErr result (IsUnread (limit_of task) (R.left reader.old) (HasFailed (R.failures reader.old) (R.failures reader.new))) }
+{
+    match task {
+        Task::Hex | Task::Text | Task::Decode(_) | Task::Encode(_) => read_long(alloc, reader),
+        _ => read_short(alloc, reader),
+    }
+}
+
+/// What a task makes of an input.
+fn answer<T: Threads + Wait + Sync>(
+    rt: &T,
+    alloc: Global,
+    task: Task,
+    text: &[u8],
+) -> Result<Answer, Failure>
+    ensures answer { IfOk result (Answers task text.now) }
+    ensures cause { IfErr result (Fails task text.now) }
+{
+    match task {
+        Task::Run(mode, shape) => run(rt, alloc, mode, shape, text),
+        Task::Check => checked(alloc, text),
+        Task::Stand => stood(alloc, text),
+        Task::Slot => slot(alloc, text),
+        Task::Quorums => quorums(alloc, text),
+        Task::Hex => in_digits(alloc, text),
+        Task::Text => as_text(alloc, text),
+        Task::Decode(coding) => decoded(alloc, coding, text),
+        Task::Encode(coding) => encoded(alloc, coding, text),
+    }
+}
+
+/// Tells a failure of an input of this name and these bytes, if the stream of errors takes it, and answers its status.
+#[tactic(auto, using(crate::proofs::Told::told_by))]
+fn tell<E: ReportOut>(
+    alloc: Global,
+    name: &str,
+    text: &[u8],
+    why: &str,
+    failure: &Failure,
+    errors: &mut E,
+) -> u8
+    ensures status { result ≡ failure_status failure.now }
+    ensures told { IsTold E.written E.failures errors.old name.now text.now why.now failure.now errors.new }
+{
+    let _ = write_failure(alloc, errors, name, text, why, failure);
+    status(failure)
+}
+
+/// Writes the notices of a run, if there are any and they aren't to be left out, and answers the status.
+#[tactic(auto, using(crate::proofs::Told::written_by))]
+fn notice<E: ReportOut>(notices: &str, quiet: bool, errors: &mut E) -> u8
+    ensures status { result ≡ answer_status notices.now }
+    ensures told { IsWritten E.written E.failures errors.old (noticed quiet notices.now) errors.new }
+{
+    if notices.is_empty() {
+        return 0;
+    }
+    if !quiet {
+        let _ = write_text(errors, notices);
+    }
+    4
+}
+
+/// Writes an answer, and answers the status.
+fn finish<O: ReportOut + Cause, E: ReportOut>(
+    alloc: Global,
+    answer: &Answer,
+    quiet: bool,
+    output: &mut O,
+    errors: &mut E,
+) -> u8
+    ensures written { result ≢ 3 → (result ≡ answer_status (string_bytes answer.now.notices)) × Gains (O.written output.old) answer.now.text.items (O.written output.new) × IsWritten E.written E.failures errors.old (noticed quiet (string_bytes answer.now.notices)) errors.new }
+    ensures failed { result ≡ 3 → HasFailed (O.failures output.old) (O.failures output.new) × IsTold E.written E.failures errors.old (codes "<stdout>") [] (O.cause output.new) Failure.Unwritten errors.new }
+{
+    match write_bytes(output, answer.text.as_slice()) {
+        Ok(()) => notice(answer.notices.as_str(), quiet, errors),
+        Err(_) => tell(
+            alloc,
+            "<stdout>",
+            &[],
+            output.cause(),
+            &Failure::Unwritten,
+            errors,
+        ),
+    }
+}
+
+/// Does what is asked for: reads the whole input, writes what the task makes of it, and answers the exit status: 0 done, 4 a run with
+/// notices, which are written to the stream of errors. Where it fails nothing is written to the output, the failure is told by its line
+/// on the stream of errors, and its status is answered: 1 of the input, 3 of a node, memory or a stream.
+pub fn serve<T: Threads + Wait + Sync, R: ScriptIn + Cause, O: ReportOut + Cause, E: ReportOut>(
+    rt: &T,
+    alloc: Global,
+    order: Order<'_>,
+    input: &mut R,
+    output: &mut O,
+    errors: &mut E,
+) -> u8
+    ensures few { result ≤ 4 }
+    ensures no_usage { result ≢ 2 }
+    // 0 and 4 are answered only where the whole input was read, what the task makes of it was written to the output and nothing else, and
+    // its notices to the stream of errors: 4 where there are any.
+    ensures done { result ≡ 0 ⊎ result ≡ 4 → (text : List ℕ) × (answer : Answer) × IsAll (R.left input.old) text × (length text ≤ limit_of order.entry.task) × Answers order.entry.task text answer × (result ≡ answer_status (string_bytes answer.notices)) × Gains (O.written output.old) answer.text.items (O.written output.new) × IsWritten E.written E.failures errors.old (noticed order.entry.quiet (string_bytes answer.notices)) errors.new }
+    // 1 and 3 are answered only of a failure: its line was written to the stream of errors and nothing else, and nothing to the output,
+    // unless it was the output that failed.
+    ensures failed { result ≢ 0 → result ≢ 4 →
+        ((failure : Failure) × (result ≡ failure_status failure) × IsUnread (limit_of order.entry.task) (R.left input.old) (HasFailed (R.failures input.old) (R.failures input.new)) failure × IsTold E.written E.failures errors.old order.entry.name.now [] (R.cause input.new) failure errors.new × (output.new ≡ output.old))
+        ⊎ ((failure : Failure) × (text : List ℕ) × (result ≡ failure_status failure) × IsAll (R.left input.old) text × (length text ≤ limit_of order.entry.task) × Fails order.entry.task text failure × IsTold E.written E.failures errors.old order.entry.name.now text [] failure errors.new × (output.new ≡ output.old))
+        ⊎ ((result ≡ 3) × HasFailed (O.failures output.old) (O.failures output.new) × IsTold E.written E.failures errors.old (codes "<stdout>") [] (O.cause output.new) Failure.Unwritten errors.new) }
+{
+    match read_input(alloc, order.task, input) {
+        Err(failure) => tell(alloc, order.name, &[], input.cause(), &failure, errors),
+        Ok(text) => match answer(rt, alloc, order.task, text.as_slice()) {
+            Ok(answer) => finish(alloc, &answer, order.quiet, output, errors),
+            Err(failure) => tell(alloc, order.name, text.as_slice(), "", &failure, errors),
+        },
+    }
+}

@@ -1,0 +1,10 @@
+pub mod Lines
+pub mod Entries
+pub mod Moments
+pub mod Past
+pub mod Keeping
+pub mod Fronts
+pub mod Walking
+pub mod Batches
+pub mod Digests
+pub mod Starts

@@ -1,0 +1,6 @@
+pub mod Disk
+pub mod Log
+pub mod Kept
+pub mod Memory
+pub mod Past
+pub mod inside

@@ -1,0 +1,15 @@
+use Rattle.std.proofs.Common.{◌≡◌, ◌≤◌, ◌-◌, length}
+use Rattle.scp_device.specs.Device.{Loses}
+use Rattle.scp_prompt.proofs.bytes.read_within.Given as goal
+
+abbrev pub invariant-loop-text : goal.invariant-loop-text
+invariant-loop-text g l =
+    let left = g.R.ScriptIn.left in
+    record {
+      read : Loses (left l.initial.reader) l.text.items (left l.reader);
+      limit : length l.text.items ≤ 16777216;
+      failures : g.R.ScriptIn.failures l.reader ≡ g.R.ScriptIn.failures l.initial.reader;
+    }
+
+abbrev pub decreases-loop-text : goal.decreases-loop-text
+decreases-loop-text g l = 16777216 - length l.text.items

@@ -1,0 +1,231 @@
+//! What the words of a command line ask for.
+
+use crate::commands::command_line;
+use clap::error::ErrorKind;
+use clap::{ArgMatches, Error};
+use std::alloc::{AllocError, Global};
+
+/// How a script is played.
+#[derive(Clone, Copy, Debug, PartialEq, Eq)]
+pub enum Mode {
+    /// One step after another.
+    Serial,
+    /// Each stage of each node in a thread of its own.
+    Threads,
+}
+
+/// How reports are written.
+#[derive(Clone, Copy, Debug, PartialEq, Eq)]
+pub enum Shape {
+    /// As they are settled, with values, keys and messages in digits.
+    Settled,
+    /// With these as text that people write.
+    Text,
+    /// As one JSON document.
+    Json,
+}
+
+/// How the bytes of a message are written.
+#[derive(Clone, Copy, Debug, PartialEq, Eq)]
+pub enum Coding {
+    /// In hexadecimal digits.
+    Hex,
+    /// In base64.
+    Base64,
+}
+
+/// What is done with the input.
+#[derive(Clone, Copy, Debug, PartialEq, Eq)]
+pub enum Task {
+    /// A script is played, and its reports are written.
+    Run(Mode, Shape),
+    /// What is wrong with a script is told.
+    Check,
+    /// Where the nodes of a script stand is told.
+    Stand,
+    /// A script of one slot's machine is played.
+    Slot,
+    /// What a script's quorum sets come to is told.
+    Quorums,
+    /// A script is written with digits in place of text.
+    Hex,
+    /// A script is written with text in place of digits.
+    Text,
+    /// Messages are written as text.
+    Decode(Coding),
+    /// Messages are written as bytes.
+    Encode(Coding),
+}
+
+/// Where the input comes from.
+#[derive(Debug, Drop)]
+pub enum Source<'a> {
+    /// The standard input.
+    Input,
+    /// The file of this path.
+    File(&'a str),
+    /// The words themselves: of messages that are decoded, or of one that is encoded.
+    Words(Vec<&'a str>),
+}
+
+/// What the words of a command line ask for.
+#[derive(Debug, Drop)]
+pub struct Asked<'a> {
+    pub task: Task,
+    /// What goes wrong is told on the standard output by its settled line.
+    pub plain: bool,
+    /// The notices of a run are left out.
+    pub quiet: bool,
+    pub source: Source<'a>,
+}
+
+/// What words are answered with that ask for no task.
+#[derive(Debug, Drop)]
+pub enum Unasked {
+    /// The help or the version, which was asked for.
+    Told(String),
+    /// What is wrong with the words.
+    Wrong(String),
+    /// There is no memory.
+    NoMemory,
+}
+
+/// The file of a command, `-` and none of which are the standard input.
+fn file_of<'a>(matches: &ArgMatches<'a>) -> Source<'a> {
+    match matches.get_str("FILE") {
+        None | Some("-") => Source::Input,
+        Some(path) => Source::File(path),
+    }
+}
+
+/// The messages that stand among the words themselves; without any the standard input has them.
+fn messages_of<'a>(
+    alloc: Global,
+    matches: &ArgMatches<'a>,
+    id: &str,
+) -> Result<Source<'a>, AllocError> {
+    match matches.get_strs(id) {
+        None | Some([]) | Some(["-"]) => Ok(Source::Input),
+        Some(words) => Ok(Source::Words(Vec::from_slice(alloc, words)?)),
+    }
+}
+
+fn mode_of(matches: &ArgMatches<'_>) -> Mode {
+    match matches.get_str("mode") {
+        Some("threads") => Mode::Threads,
+        _ => Mode::Serial,
+    }
+}
+
+fn shape_of(matches: &ArgMatches<'_>) -> Shape {
+    if matches.get_flag("json") {
+        return Shape::Json;
+    }
+    if matches.get_flag("text") {
+        return Shape::Text;
+    }
+    Shape::Settled
+}
+
+fn coding_of(matches: &ArgMatches<'_>) -> Coding {
+    if matches.get_flag("base64") {
+        return Coding::Base64;
+    }
+    Coding::Hex
+}
+
+/// A task whose input is a file.
+fn with_file<'a>(task: Task, matches: &ArgMatches<'a>) -> Asked<'a> {
+    Asked {
+        task,
+        plain: matches.get_flag("plain"),
+        quiet: matches.get_flag("quiet"),
+        source: file_of(matches),
+    }
+}
+
+/// A task whose input may stand among the words.
+fn with_messages<'a>(
+    alloc: Global,
+    task: Task,
+    matches: &ArgMatches<'a>,
+    id: &str,
+) -> Result<Asked<'a>, AllocError> {
+    Ok(Asked {
+        task,
+        plain: false,
+        quiet: false,
+        source: messages_of(alloc, matches, id)?,
+    })
+}
+
+/// What a command asks for, by its name and its words.
+fn asked_by<'a>(
+    alloc: Global,
+    name: &str,
+    matches: &ArgMatches<'a>,
+) -> Result<Option<Asked<'a>>, AllocError> {
+    let asked = match name {
+        "run" => with_file(Task::Run(mode_of(matches), shape_of(matches)), matches),
+        "check" => with_file(Task::Check, matches),
+        "stand" => with_file(Task::Stand, matches),
+        "slot" => with_file(Task::Slot, matches),
+        "quorums" => with_file(Task::Quorums, matches),
+        "hex" => with_file(Task::Hex, matches),
+        "text" => with_file(Task::Text, matches),
+        "decode" => with_messages(alloc, Task::Decode(coding_of(matches)), matches, "HEX")?,
+        "encode" => with_messages(alloc, Task::Encode(coding_of(matches)), matches, "TEXT")?,
+        _ => return Ok(None),
+    };
+    Ok(Some(asked))
+}
+
+/// What is told in place of a task, by the parser of the words.
+fn unasked_by(alloc: Global, error: &Error) -> Unasked {
+    if error.kind() == ErrorKind::OutOfMemory {
+        return Unasked::NoMemory;
+    }
+    match error.to_string(alloc) {
+        Err(_) => Unasked::NoMemory,
+        Ok(text) => {
+            if error.use_stderr() {
+                Unasked::Wrong(text)
+            } else {
+                Unasked::Told(text)
+            }
+        }
+    }
+}
+
+fn parsed<'a>(
+    alloc: Global,
+    version: &'a str,
+    words: &'a [&'a str],
+) -> Result<Option<Asked<'a>>, Error> {
+    let matches = command_line(alloc, version)?.try_get_matches_from(words)?;
+    match matches.subcommand() {
+        Some((name, inner)) => Ok(asked_by(alloc, name, inner)?),
+        None => Ok(None),
+    }
+}
+
+/// What is told of words that name no command.
+fn no_command(alloc: Global) -> Unasked {
+    match "error: there is no command; see scp --help\n".to_string(alloc) {
+        Ok(text) => Unasked::Wrong(text),
+        Err(_) => Unasked::NoMemory,
+    }
+}
+
+/// Reads the words of a command line, the program's own name first.
+pub fn read_words<'a>(
+    alloc: Global,
+    version: &'a str,
+    words: &'a [&'a str],
+) -> Result<Asked<'a>, Unasked> {
+    match parsed(alloc, version, words) {
+        Ok(Some(asked)) => Ok(asked),
+        Ok(None) => Err(no_command(alloc)),
+        Err(error) => Err(unasked_by(alloc, &error)),
+    }
+}

@@ -1,0 +1,52 @@
+//! Long inputs, and texts of bytes.
+ghost use Rattle.std.specs.Prelude.{◌≡◌, ◌≢◌, ◌≤◌, ◌<◌, length, OnOk, OnErr, IfOk, IfErr, IfSome, IsErrOf};
+ghost use Rattle.scp_device.specs.Device.{Gains, GainsPart, Fails, IsReadFault};
+
+use scp_device::{ReportOut, ScriptIn};
+use scp_types::Fault;
+use std::alloc::Global;
+
+/// The most bytes of a script that is rewritten: 16 MiB (this project's profile).
+pub const LONG_LIMIT: usize = 16_777_216;
+
+/// Reads all there is, at most 16 MiB: a byte more is `Fault::TooLong`. Else refused by `Fault::Device`, where the reader
+/// failed, or by `Fault::NoMemory`.
+pub fn read_within<R: ScriptIn>(alloc: Global, reader: &mut R) -> Result<Vec<u8>, Fault>
+    ensures whole { IfOk result (λ text. IfSome (R.left reader.old) (λ all. text.items ≡ all)) }
+    ensures limit { IfOk result (λ text. length text.items ≤ LONG_LIMIT) }
+    ensures too_long { IsErrOf result Fault.TooLong → IfSome (R.left reader.old) (λ all. LONG_LIMIT < length all) }
+    ensures device { IsErrOf result Fault.Device → Fails (R.failures reader.old) (R.failures reader.new) }
+    ensures cause { IfErr result IsReadFault }
+    // A read that failed is never told as anything else.
+    ensures hidden { IfErr result (λ fault. fault ≢ Fault.Device → R.failures reader.new ≡ R.failures reader.old) }
+{
+    let mut text = Vec::new(alloc);
+    let mut buffer = [0u8; 4096];
+    loop {
+        let count = reader.read(&mut buffer)?;
+        if count == 0 {
+            return Ok(text);
+        }
+        if count > LONG_LIMIT - text.len() {
+            return Err(Fault::TooLong);
+        }
+        text.extend_from_slice(&buffer[..count])?;
+    }
+}
+
+/// Writes all of the bytes. The one refusal is `Fault::Device`, where the writer failed; what was written then is a part of
+/// them, from the first on. A writer that failed isn't asked again.
+pub fn write_bytes<W: ReportOut>(writer: &mut W, bytes: &[u8]) -> Result<(), Fault>
+    ensures whole { OnOk result (Gains (W.written writer.old) bytes.now (W.written writer.new)) }
+    ensures cause { IfErr result (λ fault. fault ≡ Fault.Device) }
+    ensures raised { OnErr result (Fails (W.failures writer.old) (W.failures writer.new)) }
+    ensures kept { OnOk result (W.failures writer.new ≡ W.failures writer.old) }
+    ensures part { OnErr result (GainsPart (W.written writer.old) bytes.now (W.written writer.new)) }
+{
+    let mut rest = bytes;
+    while !rest.is_empty() {
+        let count = writer.write(rest)?;
+        rest = &rest[count..];
+    }
+    Ok(())
+}

@@ -1,0 +1,161 @@
+//! The commands, their options and their help.
+
+use clap::{Arg, ArgAction, Command};
+use std::alloc::{AllocError, Global};
+
+static MODES: [&str; 2] = ["serial", "threads"];
+
+static ABOUT: &str =
+    "Plays and checks scripts of nodes that agree by the Stellar Consensus Protocol";
+
+static AFTER: &str = "Files:
+  FILE is a script, in hexadecimal digits, as text, or in both, line by line;
+  where it is left out or is -, the standard input is read.
+  What goes wrong is told on the standard error as FILE:LINE:WORD: what stands there, what was expected.
+  Of a command that failed nothing stands on the standard output.
+
+Statuses:
+  0  done
+  1  a script or a message was refused
+  2  the words ask for nothing
+  3  a node failed, memory ran out, or a file, the input or the output failed
+  4  a script was played, and there are notices of it on the standard error";
+
+fn file<'a>(alloc: Global) -> Arg<'a> {
+    Arg::new(alloc, "FILE").help("A script; the standard input where it is left out or is -")
+}
+
+fn flag<'a>(alloc: Global, name: &'a str, help: &'a str) -> Arg<'a> {
+    Arg::new(alloc, name)
+        .long(name)
+        .action(ArgAction::SetTrue)
+        .help(help)
+}
+
+fn plain<'a>(alloc: Global) -> Arg<'a> {
+    flag(
+        alloc,
+        "plain",
+        "All on the standard output, in the settled words",
+    )
+}
+
+fn base64<'a>(alloc: Global) -> Arg<'a> {
+    flag(alloc, "base64", "The bytes of messages in base64")
+}
+
+/// A command whose input is a file.
+fn of_file<'a>(alloc: Global, name: &'a str, about: &'a str) -> Result<Command<'a>, AllocError> {
+    Command::new(alloc, name).about(about).arg(file(alloc))
+}
+
+/// A command whose input is a file, and that can be told in the settled words.
+fn of_plain_file<'a>(
+    alloc: Global,
+    name: &'a str,
+    about: &'a str,
+) -> Result<Command<'a>, AllocError> {
+    of_file(alloc, name, about)?.arg(plain(alloc))
+}
+
+/// A command whose input may stand among the words.
+fn of_messages<'a>(
+    alloc: Global,
+    name: &'a str,
+    about: &'a str,
+    id: &'a str,
+    help: &'a str,
+) -> Result<Command<'a>, AllocError> {
+    let messages = Arg::new(alloc, id)
+        .action(ArgAction::Append)
+        .num_args(0..)
+        .help(help);
+    Command::new(alloc, name)
+        .about(about)
+        .arg(messages)?
+        .arg(base64(alloc))
+}
+
+fn run<'a>(alloc: Global) -> Result<Command<'a>, AllocError> {
+    let mode = Arg::new(alloc, "mode")
+        .long("mode")
+        .value_parser(MODES.as_slice())
+        .default_value("serial")
+        .help("One step after another, or the stages of each node in threads");
+    let text = flag(
+        alloc,
+        "text",
+        "Reports with values, keys and messages as people write them",
+    );
+    let json = flag(alloc, "json", "Reports as one JSON document").conflicts_with("text")?;
+    let quiet = flag(alloc, "quiet", "No notices; the status stays");
+    of_file(alloc, "run", "Plays a script and prints its reports")?
+        .arg(mode)?
+        .arg(text)?
+        .arg(json)?
+        .arg(quiet)
+}
+
+/// The commands that look into scripts.
+fn with_scripts<'a>(alloc: Global, command: Command<'a>) -> Result<Command<'a>, AllocError> {
+    let check = of_plain_file(alloc, "check", "Tells what is wrong with a script")?;
+    let stand = of_plain_file(
+        alloc,
+        "stand",
+        "Plays a script and tells where its nodes stand, and what is missing",
+    )?;
+    let slot = of_plain_file(alloc, "slot", "Plays a script of one slot's machine")?;
+    let quorums = of_file(
+        alloc,
+        "quorums",
+        "Tells whether quorums intersect, whose loss halts a node, and how many may be lost",
+    )?;
+    command
+        .subcommand(run(alloc)?)?
+        .subcommand(check)?
+        .subcommand(stand)?
+        .subcommand(slot)?
+        .subcommand(quorums)
+}
+
+/// The commands that write in another form.
+fn with_forms<'a>(alloc: Global, command: Command<'a>) -> Result<Command<'a>, AllocError> {
+    let hex = of_file(alloc, "hex", "Writes a script with digits in place of text")?;
+    let text = of_file(
+        alloc,
+        "text",
+        "Writes a script with text in place of digits",
+    )?;
+    let decode = of_messages(
+        alloc,
+        "decode",
+        "Writes messages as text",
+        "HEX",
+        "Messages, each a word; where there is none, the lines of the standard input",
+    )?;
+    let encode = of_messages(
+        alloc,
+        "encode",
+        "Writes messages as bytes",
+        "TEXT",
+        "The words of a message; where there is none, the lines of the standard input",
+    )?;
+    command
+        .subcommand(hex)?
+        .subcommand(text)?
+        .subcommand(decode)?
+        .subcommand(encode)
+}
+
+/// All the words that there are.
+pub fn command_line<'a>(alloc: Global, version: &'a str) -> Result<Command<'a>, AllocError> {
+    let command = Command::new(alloc, "scp")
+        .bin_name("scp")?
+        .version(version)
+        .about(ABOUT)
+        .after_help(AFTER)
+        .subcommand_required(true)
+        .arg_required_else_help(true);
+    let command = with_scripts(alloc, command)?;
+    with_forms(alloc, command)
+}

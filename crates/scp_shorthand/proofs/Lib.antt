@@ -1,0 +1,5 @@
+pub mod Clear
+pub mod Hexed
+pub mod Joined
+pub mod Numbers
+pub mod Some

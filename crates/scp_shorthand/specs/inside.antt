@@ -1,0 +1,2 @@
+pub mod Hexing
+pub mod Reading

@@ -1,0 +1,11 @@
+pub mod Queues
+pub mod Watching
+pub mod Runs
+pub mod Order
+pub mod Choices
+pub mod Stops
+pub mod Values
+pub mod Counting
+pub mod Fitting
+pub mod Joining
+mod Naming

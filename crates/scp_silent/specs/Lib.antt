@@ -1,0 +1,7 @@
+pub mod Texts
+pub mod Disagreeing
+pub mod Lost
+pub mod Ignoring
+pub mod Run
+pub mod Threads
+pub mod inside

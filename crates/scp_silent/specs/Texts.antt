@@ -1,0 +1,63 @@
+-- The lines that tell notices (this project's profile).
+use Rattle.std.specs.Prelude.{ℕ, List, [], ◌∷◌, ◌++◌, codes, flat_map}
+use Rattle.std.specs.Fmt.{decimal}
+use Rattle.scp_ledger.specs.declared.took.CommandFate.{CommandFate}
+use Rattle.scp_ledger.specs.declared.took.CommandFate.TheVariants.{OldSlot, FarSlot, Decided, BadValue, ProposedBefore, Proposed, NoRoundLeft, RoundAdded, NoBallot, BallotStays, BallotMoved, AskedBefore, Asked}
+use Rattle.scp_line.specs.Report.{hex_word}
+use Rattle.scp_silent.specs.declared.notice.Side.{Side}
+use Rattle.scp_silent.specs.declared.notice.Notice.{Notice}
+use Rattle.scp_silent.specs.declared.notice.Notice.TheVariants.{Unsettled, GaveUp, Disagree, Ignored, Overwritten, NoWait}
+
+-- the word for what became of a command
+abbrev pub fate_word : CommandFate → List ℕ
+fate_word OldSlot = codes "old-slot"
+fate_word FarSlot = codes "far-slot"
+fate_word Decided = codes "decided"
+fate_word BadValue = codes "bad-value"
+fate_word ProposedBefore = codes "proposed-before"
+fate_word Proposed = codes "proposed"
+fate_word NoRoundLeft = codes "no-round-left"
+fate_word RoundAdded = codes "round-added"
+fate_word NoBallot = codes "no-ballot"
+fate_word BallotStays = codes "ballot-stays"
+fate_word BallotMoved = codes "ballot-moved"
+fate_word AskedBefore = codes "asked-before"
+fate_word Asked = codes "asked"
+
+-- a number behind a comma
+abbrev pub behind_comma : ℕ → List ℕ
+behind_comma number = codes "," ++ decimal number
+
+-- numbers, with commas between them
+abbrev pub numbers_text : List ℕ → List ℕ
+numbers_text [] = []
+numbers_text (number ∷ numbers) = decimal number ++ flat_map behind_comma numbers
+
+-- the numbers of nodes, with commas between them, and the value that they applied, in digits as reports have it, behind a space
+abbrev pub side_text : Side → List ℕ
+side_text side = codes " " ++ numbers_text side.nodes ++ codes ":" ++ hex_word side.value
+
+-- so each of the sides
+abbrev pub sides_text : List Side → List ℕ
+sides_text sides = flat_map side_text sides
+
+-- the words for two nodes of which the first lost own statements for the second
+abbrev pub lost_words : ℕ → ℕ → List ℕ
+lost_words node peer = codes "overwritten " ++ decimal node ++ codes " " ++ decimal peer
+
+-- a count behind a space, and the end of the line
+abbrev pub count_words : ℕ → List ℕ
+count_words count = codes " " ++ decimal count ++ codes "\n"
+
+-- the line of a notice
+abbrev pub notice_text : Notice → List ℕ
+notice_text (Unsettled line rounds) = codes "unsettled " ++ decimal line ++ codes " " ++ decimal rounds ++ codes "\n"
+notice_text (GaveUp line) = codes "gave-up " ++ decimal line ++ codes "\n"
+notice_text (Disagree slot sides) = codes "disagree " ++ decimal slot ++ sides_text sides ++ codes "\n"
+notice_text (Ignored line why) = codes "ignored " ++ decimal line ++ codes " " ++ fate_word why ++ codes "\n"
+notice_text (Overwritten node peer count) = lost_words node peer ++ count_words count
+notice_text NoWait = codes "no-wait\n"
+
+-- the lines of notices, in their order
+abbrev pub notices_text : List Notice → List ℕ
+notices_text notices = flat_map notice_text notices

@@ -1,0 +1,5 @@
+pub mod Choices
+pub mod Queues
+pub mod Watching
+pub mod Playing
+pub mod Threads

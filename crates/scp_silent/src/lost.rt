@@ -1,0 +1,103 @@
+//! Own statements that were replaced or dropped before they were sent.
+ghost use Rattle.std.specs.Prelude.{◌≡◌, ◌≤◌, ◌++◌, ◌||◌, OnOk, flat_map, length};
+ghost use Rattle.std.specs.List.{list_any};
+ghost use Rattle.scp_script.specs.Nodes.{numbers};
+ghost use Rattle.scp_trace_lint.specs.Nodes.{sends_on as sends_it};
+ghost use Rattle.scp_silent.specs.Lost.{is_silent, lost_to, lost_on, lost_of, all_lost};
+
+use crate::notice::Notice;
+use scp_core::Node;
+use scp_network::link_from;
+use scp_script::Command;
+use scp_trace_lint::is_scripted;
+use std::alloc::AllocError;
+
+/// Whether a `send` line names the link from a node to another.
+fn is_driven(commands: &[Command], from: u8, to: u8) -> bool
+    ensures { result ≡ list_any (sends_it from to) commands.now }
+{
+    for command in commands {
+        if let Command::Send {
+            from: sender,
+            to: receiver,
+            ..
+        } = command
+            && *sender == from
+            && *receiver == to
+        {
+            return true;
+        }
+    }
+    false
+}
+
+/// Whether nothing that a node says for another is meant to go out.
+fn is_mute(commands: &[Command], from: u8, to: u8) -> bool
+    ensures { result ≡ is_silent commands.now from to }
+{
+    is_driven(commands, from, to) || is_scripted(commands, to)
+}
+
+/// How many own statements of a node for another were lost, by the numbers of both.
+fn lost(nodes: &[Node], from: u8, to: u8) -> u64
+    requires from { 1 ≤ from }
+    ensures { result ≡ lost_to nodes.now from to }
+{
+    match nodes.get(usize::from(from - 1)) {
+        Some(node) => node.overwritten(link_from(to, from)),
+        None => 0,
+    }
+}
+
+/// Adds a notice, where own statements of a node for another were lost that were to go out.
+fn add_link(
+    out: &mut Vec<Notice>,
+    commands: &[Command],
+    nodes: &[Node],
+    node: u8,
+    peer: u8,
+) -> Result<(), AllocError>
+    requires node { 1 ≤ node }
+    ensures { OnOk result (out.new.items ≡ out.old.items ++ lost_on commands.now nodes.now node peer) }
+{
+    if node == peer || is_mute(commands, node, peer) {
+        return Ok(());
+    }
+    let count = lost(nodes, node, peer);
+    if count > 0 {
+        out.push(Notice::Overwritten { node, peer, count })?;
+    }
+    Ok(())
+}
+
+/// Adds a notice for each other node for which this one lost own statements.
+fn add_node(
+    out: &mut Vec<Notice>,
+    commands: &[Command],
+    nodes: &[Node],
+    node: u8,
+) -> Result<(), AllocError>
+    requires node { 1 ≤ node }
+    requires few { length nodes.now ≤ 8 }
+    ensures { OnOk result (out.new.items ≡ out.old.items ++ lost_of commands.now nodes.now node) }
+{
+    for index in 0..nodes.len() {
+        add_link(out, commands, nodes, node, index as u8 + 1)?;
+    }
+    Ok(())
+}
+
+/// Adds a notice for each two nodes of which the first lost own statements for the second, in the order of their numbers.
+pub fn add_lost(
+    out: &mut Vec<Notice>,
+    commands: &[Command],
+    nodes: &[Node],
+) -> Result<(), AllocError>
+    requires few { length nodes.now ≤ 8 }
+    ensures { OnOk result (out.new.items ≡ out.old.items ++ all_lost commands.now nodes.now) }
+{
+    for index in 0..nodes.len() {
+        add_node(out, commands, nodes, index as u8 + 1)?;
+    }
+    Ok(())
+}

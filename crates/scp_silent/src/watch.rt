@@ -1,0 +1,85 @@
+//! Who notes what the slot stages of nodes tell of commands.
+ghost use Rattle.std.specs.Prelude.{◌≡◌, [], false};
+ghost use Rattle.scp_silent.specs.inside.Watching.{Adds, fates_told};
+
+use crate::commands::Told;
+use scp_core::{CommandFate, Event, Node, Reply};
+use scp_turn::Watch;
+use std::alloc::Global;
+use std::marker::Model;
+
+/// Notes what the slot stages tell of the commands that they take, in the order of the steps.
+#[derive(Drop)]
+pub struct CommandWatch {
+    told: Vec<Told>,
+    /// Whether the step that was told last is one of a slot stage.
+    is_slot_take: bool,
+    /// Whether there was no memory for what was told.
+    lacks_memory: bool,
+}
+
+impl Model for CommandWatch {
+    ghost use Rattle.scp_silent.specs.inside.Watching.{WatchView};
+
+    ghost Value = { WatchView };
+
+    ghost view = { λ w. record { told = w.told.items; is_slot_take = w.is_slot_take; lacks_memory = w.lacks_memory } };
+}
+
+impl CommandWatch {
+    /// A watch that noted nothing.
+    pub fn new(alloc: Global) -> CommandWatch
+        ensures { result ≡ record { told = []; is_slot_take = false; lacks_memory = false } }
+    {
+        CommandWatch {
+            told: Vec::new(alloc),
+            is_slot_take: false,
+            lacks_memory: false,
+        }
+    }
+
+    /// What was told.
+    pub fn told(&self) -> &[Told]
+        ensures { result.now ≡ self.now.told }
+    {
+        self.told.as_slice()
+    }
+
+    /// Whether there was no memory for what was told.
+    pub fn lacks_memory(&self) -> bool
+        ensures { result ≡ self.now.lacks_memory }
+    {
+        self.lacks_memory
+    }
+
+    /// Notes what became of a command that the node of this number took, if it took one.
+    fn note(&mut self, number: u8, fate: Option<CommandFate>)
+        ensures { Adds self.old (fates_told number fate) self.new }
+    {
+        let Some(fate) = fate else {
+            return;
+        };
+        if self.told.push(Told { node: number, fate }).is_err() {
+            self.lacks_memory = true;
+        }
+    }
+}
+
+impl Watch for CommandWatch {
+    ghost use Rattle.std.specs.Prelude.{◌≡◌};
+    ghost use Rattle.scp_silent.specs.inside.Watching.{is_slot_take, notes_step};
+
+    ghost notes_before = { λ old _ event _ new. new ≡ record old { is_slot_take = is_slot_take event } };
+
+    ghost notes_after = { notes_step };
+
+    fn before(&mut self, _number: u8, event: &Event, _node: &Node) {
+        self.is_slot_take = matches!(event, Event::SlotTake);
+    }
+
+    fn after(&mut self, number: u8, reply: &Reply, node: &Node) {
+        if self.is_slot_take && matches!(reply, Reply::Moved) {
+            self.note(number, node.last_command());
+        }
+    }
+}

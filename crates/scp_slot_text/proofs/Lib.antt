@@ -1,0 +1,4 @@
+pub mod Back
+pub mod Ends
+pub mod Marks
+pub mod Writing

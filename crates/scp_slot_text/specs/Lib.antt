@@ -1,0 +1,4 @@
+pub mod Lines
+pub mod Scripts
+pub mod Texts
+pub mod inside

@@ -1,2 +1,0 @@
-pub mod Stood
-pub mod Told

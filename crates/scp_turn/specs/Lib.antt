@@ -1,0 +1,5 @@
+pub mod Watch
+pub mod Turn
+pub mod Rest
+pub mod Laws
+pub mod inside

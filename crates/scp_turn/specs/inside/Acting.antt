@@ -1,0 +1,28 @@
+-- What a node does by its stages, as a watch is told of it.
+-- Here stands what no public clause reaches: nothing here need be believed.
+use Rattle.std.specs.Prelude.{ℕ, ◌≡◌, ◌↔◌, Bool, false, List}
+use Rattle.scp_core.specs.declared.event.Event.{Event}
+use Rattle.scp_core.specs.declared.event.Event.TheVariants as event
+use Rattle.scp_core.specs.Node.{NodeView}
+use Rattle.scp_turn.specs.Watch.{Noting, Watched}
+use Rattle.scp_turn.specs.Turn.{Goes, IsStill, events_of}
+
+-- an event of a stage
+abbrev pub IsStage : Event → Type 0
+IsStage (event.Open l) = ⊥
+IsStage (event.Send l bytes) = ⊥
+IsStage (event.Close l) = ⊥
+IsStage (event.Local command) = ⊥
+IsStage (event.ReaderTake l) = Unit {0}
+IsStage (event.ReaderPut l) = Unit {0}
+IsStage event.PendTake = Unit {0}
+IsStage event.PendPut = Unit {0}
+IsStage event.SlotTake = Unit {0}
+IsStage event.SlotPut = Unit {0}
+IsStage event.ApplyTake = Unit {0}
+IsStage (event.Drain l) = ⊥
+
+-- a node of a number did these steps, of which a watch was told; and nothing moved exactly where nothing is said to have
+abbrev pub Acts : {W : Type 0} → Noting W → ℕ → W → NodeView → List Event → Bool → NodeView → W → Type 0
+Acts {W} Note number w old events moved new z =
+    Goes old new (λ a heard b. (events_of heard ≡ events) × Watched Note number w a heard b z × ((moved ≡ false) ↔ IsStill heard))
