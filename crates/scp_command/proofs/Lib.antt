@@ -6,3 +6,4 @@ pub mod Standing
 pub mod Told
 pub mod Reporting
 pub mod Finishing
+pub mod Headlining

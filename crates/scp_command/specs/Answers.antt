@@ -6,6 +6,7 @@ use Rattle.scp_network.specs.Heard.{Nodes}
 use Rattle.scp_network.specs.Network.{NetworkView}
 use Rattle.scp_script.specs.declared.command.Command.{Command}
 use Rattle.scp_script.specs.Nodes.{reports_in}
+use Rattle.scp_line.specs.Headlines.{AreNodesHeadlined, AreReportsHeadlined}
 use Rattle.scp_line.specs.Play.{report_at, view_of_node}
 use Rattle.scp_line.specs.Threads.{report_gathered_at, view_gathered}
 use Rattle.scp_shown.specs.Reports.{views_in}
@@ -101,6 +102,38 @@ pub record IsThreadsAnswer (shape : Shape) (input : List ℕ) (answer : Answer) 
 abbrev pub IsRunBy : Mode → Shape → List ℕ → Answer → Type 0
 IsRunBy Serial shape input answer = IsRunAnswer shape input answer
 IsRunBy Threads shape input answer = IsThreadsAnswer shape input answer
+
+-- The input is a script, and the answer is the reports of nodes that played just its lines, each of which holds its headline.
+pub record IsHeadlinedRun (shape : Shape) (input : List ℕ) (answer : Answer) : Type 0 where
+  pub given : Given
+  pub is_given : IsGiven input given
+  pub commands : List Command
+  pub lines : List ℕ
+  pub said : IsSaid given.text.items commands lines
+  pub nodes : Nodes
+  pub each : AreNodesHeadlined commands nodes
+  pub reports : answer.text.items ≡ reports_text shape nodes commands
+
+-- The input is a script, and the answer is the reports of what the threads of its nodes left, each of which holds its node's headline.
+pub record IsHeadlinedInThreads (shape : Shape) (input : List ℕ) (answer : Answer) : Type 0 where
+  pub given : Given
+  pub is_given : IsGiven input given
+  pub commands : List Command
+  pub lines : List ℕ
+  pub said : IsSaid given.text.items commands lines
+  pub nodes : List NodeReport
+  pub each : AreReportsHeadlined commands nodes
+  pub reports : answer.text.items ≡ gathered_text shape nodes commands
+
+-- so of a script that is played, by how
+abbrev pub IsHeadlinedBy : Mode → Shape → List ℕ → Answer → Type 0
+IsHeadlinedBy Serial shape input answer = IsHeadlinedRun shape input answer
+IsHeadlinedBy Threads shape input answer = IsHeadlinedInThreads shape input answer
+
+-- what is answered holds the headlines, where a script was to be played
+abbrev pub IsHeadlinedFor : Task → List ℕ → Answer → Type 0
+IsHeadlinedFor (Run mode shape) input answer = IsHeadlinedBy mode shape input answer
+IsHeadlinedFor task input answer = Unit {0}
 
 -- ---- what is told of scripts
 

@@ -2,7 +2,7 @@
 ghost use Rattle.std.specs.Prelude.{◌≡◌, ◌≢◌, ◌≤◌, ◌⊎◌, ℕ, List, [], length, IfOk, IfErr, OnErr, string_bytes, codes};
 ghost use Rattle.scp_device.specs.Device.{Gains, Fails as HasFailed, IsAll, IsReadFault};
 ghost use Rattle.scp_prompt.specs.Failing.{status_of as failure_status};
-ghost use Rattle.scp_command.specs.Answers.{Answers};
+ghost use Rattle.scp_command.specs.Answers.{Answers, IsHeadlinedFor};
 ghost use Rattle.scp_command.specs.Causes.{Fails};
 ghost use Rattle.scp_command.specs.inside.Reading.{unread_of};
 ghost use Rattle.scp_command.specs.Serving.{limit_of, status_of as answer_status, noticed, IsWritten, IsTold, IsUnread};
@@ -13,6 +13,7 @@ use crate::looks::{checked, quorums, stood};
 use crate::messages::{decoded, encoded};
 use crate::runs::run;
 use scp_device::{ReportOut, SCRIPT_LIMIT, ScriptIn, read_script, write_text};
+use scp_line::what_is_played_keeps_the_headlines;
 use scp_prompt::{
     Cause, Failure, LONG_LIMIT, Task, read_within, status, write_bytes, write_failure,
 };
@@ -175,6 +176,8 @@ pub fn serve<T: Threads + Wait + Sync, R: ScriptIn + Cause, O: ReportOut + Cause
     // 0 and 4 are answered only where the whole input was read, what the task makes of it was written to the output and nothing else, and
     // its notices to the stream of errors: 4 where there are any.
     ensures done { result ≡ 0 ⊎ result ≡ 4 → (text : List ℕ) × (answer : Answer) × IsAll (R.left input.old) text × (length text ≤ limit_of order.entry.task) × Answers order.entry.task text answer × (result ≡ answer_status (string_bytes answer.notices)) × Gains (O.written output.old) answer.text.items (O.written output.new) × IsWritten E.written E.failures errors.old (noticed order.entry.quiet (string_bytes answer.notices)) errors.new }
+    // Where a script was played these are the reports of nodes that hold their headlines, which say what matters most.
+    ensures headline { result ≡ 0 ⊎ result ≡ 4 → (text : List ℕ) × (answer : Answer) × IsAll (R.left input.old) text × IsHeadlinedFor order.entry.task text answer × Gains (O.written output.old) answer.text.items (O.written output.new) }
     // 1 and 3 are answered only of a failure: its line was written to the stream of errors and nothing else, and nothing to the output,
     // unless it was the output that failed.
     ensures failed { result ≢ 0 → result ≢ 4 →
@@ -182,6 +185,7 @@ pub fn serve<T: Threads + Wait + Sync, R: ScriptIn + Cause, O: ReportOut + Cause
         ⊎ ((failure : Failure) × (text : List ℕ) × (result ≡ failure_status failure) × IsAll (R.left input.old) text × (length text ≤ limit_of order.entry.task) × Fails order.entry.task text failure × IsTold E.written E.failures errors.old order.entry.name.now text [] failure errors.new × (output.new ≡ output.old))
         ⊎ ((result ≡ 3) × HasFailed (O.failures output.old) (O.failures output.new) × IsTold E.written E.failures errors.old (codes "<stdout>") [] (O.cause output.new) Failure.Unwritten errors.new) }
 {
+    what_is_played_keeps_the_headlines();
     match read_input(alloc, order.task, input) {
         Err(failure) => tell(alloc, order.name, &[], input.cause(), &failure, errors),
         Ok(text) => match answer(rt, alloc, order.task, text.as_slice()) {

@@ -4,6 +4,7 @@ pub mod Entries
 pub mod Coming
 pub mod Parking
 pub mod Joining
+pub mod Commands
 pub mod Headlines
 pub mod Settling
 mod Counting

@@ -9,12 +9,16 @@ use Rattle.scp_quorum.specs.QuorumTree.{QuorumTree}
 use Rattle.scp_kv.specs.Map.{KvMap}
 use Rattle.scp_wire.specs.declared.carried.Carried.{Carried}
 use Rattle.scp_wire.specs.declared.link.Inbound.{Inbound}
+use Rattle.scp_pending.specs.Endings.{commands_in, commands_of}
 use Rattle.scp_pending.specs.Messages.{AreParked, message_cmp}
 use Rattle.scp_ledger.specs.declared.journal.Decision.{Decision}
 use Rattle.scp_ledger.specs.declared.journal.Fate.{Fate}
+use Rattle.scp_ledger.specs.declared.took.CommandFate.{CommandFate}
 use Rattle.scp_ends.specs.Ends.{Line}
 use Rattle.scp_ends.specs.Links.{LinkEnd}
+use Rattle.scp_ends.specs.Order.{values}
 use Rattle.scp_workers.specs.Reading.{ReaderEnd}
+use Rattle.scp_workers.specs.Slot.{HaveFates}
 use Rattle.scp_gather.specs.Left.{Left}
 use Rattle.scp_gather.specs.Gathered.{account_gathered, AreLeftParked, Gathered}
 
@@ -61,3 +65,9 @@ pub record IsReportOf (me : NodeId) (set : QuorumTree) (peers : List NodeId) (e 
   pub ascending : IsStrictlySortedBy message_cmp parked
   pub applied_is : applied ≡ e.apply.view.applied
   pub state_is : Some state ≡ e.apply.view.state
+
+-- This became of the node's own commands but the ticks, one each, in their order: just these commands are among what its ledger took, in that
+-- order, and what it told of each, as it stood then, is this.
+pub record AreFatesOf (me : NodeId) (set : QuorumTree) (peers : List NodeId) (e : Left) (fates : List CommandFate) : Type 0 where
+  pub commands : commands_of (values e.slot.input.got) ≡ commands_in e.local.sent
+  pub told : HaveFates me set peers (values e.slot.input.got) (values e.apply.input.got) fates e.slot.view

@@ -13,9 +13,10 @@ ghost use Rattle.scp_pending.specs.Pends.{Pends};
 ghost use Rattle.scp_ends.specs.Links.{LinkEnd};
 ghost use Rattle.scp_headline.specs.Headline.{Headline};
 ghost use Rattle.scp_workers.specs.Reading.{ReaderEnd};
+ghost use Rattle.scp_workers.specs.Slot.{TellsWell};
 ghost use Rattle.scp_gather.specs.Node.{IsNode, IsReadOut, EndWell};
 ghost use Rattle.scp_gather.specs.Headline.{books_reported};
-ghost use Rattle.scp_gather.specs.Report.{IsJoined, AreJoinedTo, AreJoined, first_failed, IsReportOf};
+ghost use Rattle.scp_gather.specs.Report.{IsJoined, AreJoinedTo, AreJoined, first_failed, IsReportOf, AreFatesOf};
 
 use crate::ends::Ends;
 use crate::laws::{what_ends_well_is_gathered, what_is_reported_keeps_the_headline};
@@ -23,8 +24,8 @@ use scp_apply::Applier;
 use scp_driver::KvDriver;
 use scp_ends::{InboxRx, LinkDone};
 use scp_kv::KvState;
-use scp_ledger::{Fate, Ledger, SharedDecision};
-use scp_pending::Pending;
+use scp_ledger::{CommandFate, Fate, Ledger, SharedDecision};
+use scp_pending::{Pending, each_command_passes_once};
 use scp_types::Fault;
 use scp_wire::Carried;
 use scp_workers::ReaderEnded;
@@ -40,6 +41,8 @@ pub struct NodeReport {
     pub applied: Vec<SharedDecision>,
     /// The state that they make.
     pub state: KvState,
+    /// What became of its own commands but the ticks, in their order.
+    pub commands: Vec<CommandFate>,
 }
 
 /// Takes back what a link and its reader left.
@@ -71,12 +74,13 @@ fn take_each_back(inbox: &mut InboxRx, readers: Vec<ReaderEnded>, links: Vec<Lin
     }
 }
 
-/// Takes all ends back, and gives the stages.
-fn settle(ends: Ends) -> (Pending, Ledger<KvDriver>, Applier)
+/// Takes all ends back, and gives the stages, and what became of the commands.
+fn settle(ends: Ends) -> (Pending, Ledger<KvDriver>, Applier, Vec<CommandFate>)
     requires joined { AreJoined ends }
     requires well { first_failed ends ≡ None }
-    ensures parts { (result.0 ≡ ends.pend.view) × (result.1 ≡ ends.slot.view) × (result.2 ≡ ends.apply.view) }
+    ensures parts { (result.0 ≡ ends.pend.view) × (result.1 ≡ ends.slot.view) × (result.2 ≡ ends.apply.view) × (result.3.items ≡ ends.slot.fates) }
     ensures ended { EndWell ends }
+    ensures tells { TellsWell ends.slot }
 {
     let Ends {
         readers,
@@ -89,22 +93,28 @@ fn settle(ends: Ends) -> (Pending, Ledger<KvDriver>, Applier)
     let (mut inbox, given, pending) = pend.into_parts();
     take_each_back(&mut inbox, readers, links);
     local.return_to(&mut inbox);
-    let (mut ready, onward, ledger) = slot.into_parts();
+    let (mut ready, onward, ledger, commands) = slot.into_parts();
     let Some(given) = given else { unreachable!() };
     ready.take_back(given);
     let (mut decided, applier) = apply.into_parts();
     let Some(onward) = onward else { unreachable!() };
     decided.take_back(onward);
-    (pending, ledger, applier)
+    (pending, ledger, applier, commands)
 }
 
 /// What the stages tell.
-fn told(pending: Pending, ledger: Ledger<KvDriver>, applier: Applier) -> Result<NodeReport, Fault>
+fn told(
+    pending: Pending,
+    ledger: Ledger<KvDriver>,
+    applier: Applier,
+    commands: Vec<CommandFate>,
+) -> Result<NodeReport, Fault>
     requires { IsSome applier.state }
     ensures journal { IfOk result (λ r. r.journal.items ≡ ledger.journal) }
     ensures parked { IfOk result (λ r. (me : NodeId) → (peers : List NodeId) → (taken : List Inbound) → (given : List Ready) → Pends me peers taken given pending → AreParked pending r.parked.items) }
     ensures ascending { IfOk result (λ r. (me : NodeId) → (peers : List NodeId) → (taken : List Inbound) → (given : List Ready) → Pends me peers taken given pending → HasShape me peers taken → IsStrictlySortedBy message_cmp r.parked.items) }
     ensures applied { IfOk result (λ r. (r.applied.items ≡ applier.applied) × (Some r.state ≡ applier.state)) }
+    ensures commands { IfOk result (λ r. r.commands.items ≡ commands.items) }
     ensures only_memory { IsOkUnless result Fault.NoMemory }
 {
     let parked = pending.into_parked()?;
@@ -115,6 +125,7 @@ fn told(pending: Pending, ledger: Ledger<KvDriver>, applier: Applier) -> Result<
         parked,
         applied,
         state,
+        commands,
     })
 }
 
@@ -125,6 +136,8 @@ pub fn gather(ends: Ends) -> Result<NodeReport, Fault>
     ensures theorem { (me : NodeId) → (set : QuorumTree) → (peers : List NodeId) → IsNode me set peers ends → IfOk result (λ r. IsReportOf me set peers ends r.journal.items r.parked.items r.applied.items r.state) }
     // And the headline, which says what matters most of that.
     ensures headline { (me : NodeId) → (set : QuorumTree) → (peers : List NodeId) → IsNode me set peers ends → IfOk result (λ r. Headline (books_reported me set peers ends r.journal.items r.applied.items r.state)) }
+    // And what became of the node's own commands.
+    ensures commands { (me : NodeId) → (set : QuorumTree) → (peers : List NodeId) → IsNode me set peers ends → IfOk result (λ r. AreFatesOf me set peers ends r.commands.items) }
     ensures refused { (s : Stage) → IsErrOf result (Fault.Refused s) ↔ (first_failed ends ≡ Some s) }
     ensures only { IfErr result (λ f. (f ≡ Fault.NoMemory) ⊎ ((s : Stage) × (f ≡ Fault.Refused s))) }
 {
@@ -133,6 +146,7 @@ pub fn gather(ends: Ends) -> Result<NodeReport, Fault>
     }
     what_ends_well_is_gathered();
     what_is_reported_keeps_the_headline();
-    let (pending, ledger, applier) = settle(ends);
-    told(pending, ledger, applier)
+    each_command_passes_once();
+    let (pending, ledger, applier, commands) = settle(ends);
+    told(pending, ledger, applier, commands)
 }

@@ -3,6 +3,7 @@
 //! What it promises, under every schedule, where each worker of a node ended well:
 //! - the ledger theorem, of what was sent over the node's links and what came to it, with nothing left in a queue or a hand;
 //! - what came are the items of each link, as they are read, and the node's own commands, each in its order;
+//! - of each of those commands but the ticks, in order, what its ledger told of it, as it stood when it took it;
 //! - what is parked waits for its quorum set; and the fates of a connection and then its parked messages are what was sent on it.
 //!
 //! Where a worker failed, `gather` tells the first such stage. How much a node holds while it runs is a law of its own, of each channel, each

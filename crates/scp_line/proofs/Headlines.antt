@@ -12,17 +12,24 @@ use Rattle.scp_threaded_script.specs.Reported.{AreNodesReported, AreSoReported}
 use Rattle.scp_script.specs.declared.command.Command.{Command}
 use Rattle.scp_script.specs.Nodes.{id_of, peers_of, reports_in, set_at}
 use Rattle.scp_script.specs.Script.{commands_in, node_count}
-use Rattle.scp_line.specs.Headlines.{AreHeadlined, IsHeadlined, AreGatheredHeadlined}
+use Rattle.scp_line.specs.Headlines.{AreHeadlined, AreNodesHeadlined, AreReportsHeadlined, IsHeadlined, AreGatheredHeadlined, PlayingKeepsHeadlines, ReportingKeepsHeadlines}
 use Rattle.scp_line.specs.inside.Nodes.{IsPlayed}
-use Rattle.scp_line.specs.Play.{ArePlayed, report_at}
+use Rattle.scp_line.specs.Play.{report_at}
 use Rattle.scp_line.specs.Threads.{report_gathered_at}
 
-pub are_headlined : TheoremGivesLedger → LedgerGivesHeadline → (text printed : List ℕ) (commands : List Command) (network : NetworkView) → commands ≡ commands_in text → IsPlayed commands network → printed ≡ flat_map (report_at network.nodes) (reports_in commands) → AreHeadlined text printed
-are_headlined law gives text printed commands network same played is = record {
-  heard = played.heard;
+-- ---- one step after another
+
+pub are_nodes_headlined : TheoremGivesLedger → LedgerGivesHeadline → PlayingKeepsHeadlines
+are_nodes_headlined law gives commands heard nodes played = record {
+  heard = heard;
+  played = played;
+  headlines = λ i d here. gives (past_at (i + 1) heard) (get_or nodes i d) (law (past_at (i + 1) heard) (get_or nodes i d) (played.have i d here));
+}
+
+pub are_headlined : PlayingKeepsHeadlines → (text printed : List ℕ) (commands : List Command) (network : NetworkView) → commands ≡ commands_in text → IsPlayed commands network → printed ≡ flat_map (report_at network.nodes) (reports_in commands) → AreHeadlined text printed
+are_headlined law text printed commands network same played is = record {
   nodes = network.nodes;
-  played = subst (λ (l : List Command). ArePlayed l l played.heard network.nodes) same played.played;
-  headlines = λ i d here. gives (past_at (i + 1) played.heard) (get_or network.nodes i d) (law (past_at (i + 1) played.heard) (get_or network.nodes i d) (played.played.have i d here));
+  each = subst (λ (l : List Command). AreNodesHeadlined l network.nodes) same (law commands played.heard network.nodes played.played);
   reports = is ∙ ap (λ (l : List Command). flat_map (report_at network.nodes) (reports_in l)) same;
 }
 
@@ -41,12 +48,12 @@ headlines_at law commands nodes are = λ i r at.
       headline = law (id_of (i + 1)) (set_at (i + 1) commands) (peers_of (node_count commands) (i + 1)) ended.left r.journal.items r.parked.items r.applied.items r.state ended.report;
     }
 
-pub are_gathered_headlined : ReportsKeepHeadline → (script text : List ℕ) (commands : List Command) (nodes : List NodeReport) → commands ≡ commands_in script → AreNodesReported commands nodes → text ≡ flat_map (report_gathered_at nodes) (reports_in commands) → AreGatheredHeadlined script text
-are_gathered_headlined law script text commands nodes same reported reports =
-    let are : AreNodesReported (commands_in script) nodes = subst (λ (c : List Command). AreNodesReported c nodes) same reported in
-    record {
-      nodes = nodes;
-      count = are.0;
-      headlines = headlines_at law (commands_in script) nodes are.1;
-      reports = subst (λ (c : List Command). text ≡ flat_map (report_gathered_at nodes) (reports_in c)) same reports;
-    }
+pub are_reports_headlined : ReportsKeepHeadline → ReportingKeepsHeadlines
+are_reports_headlined law commands nodes reported = record { count = reported.0; headlines = headlines_at law commands nodes reported.1 }
+
+pub are_gathered_headlined : ReportingKeepsHeadlines → (script text : List ℕ) (commands : List Command) (nodes : List NodeReport) → commands ≡ commands_in script → AreNodesReported commands nodes → text ≡ flat_map (report_gathered_at nodes) (reports_in commands) → AreGatheredHeadlined script text
+are_gathered_headlined law script text commands nodes same reported reports = record {
+  nodes = nodes;
+  each = subst (λ (c : List Command). AreReportsHeadlined c nodes) same (law commands nodes reported);
+  reports = subst (λ (c : List Command). text ≡ flat_map (report_gathered_at nodes) (reports_in c)) same reports;
+}

@@ -11,20 +11,24 @@ use Rattle.scp_threaded_node.specs.declared.ending.Stood.{Stood}
 use Rattle.scp_threaded_node.specs.Ended.{AreSentBy}
 use Rattle.scp_threaded_node.specs.Seats.{Each}
 use Rattle.scp_threaded_script.specs.Lines.{driven_to, items_to}
-use Rattle.scp_threaded_script.specs.Reported.{AreStood}
+use Rattle.scp_threaded_script.specs.Reported.{AreNodesReported, AreStood}
 use Rattle.scp_script.specs.declared.command.Command.{Command}
 use Rattle.scp_script.specs.Script.{commands_in, node_count}
 use Rattle.scp_script.specs.Nodes.{id_of, peers_of, reports_in, set_at}
 use Rattle.scp_line.specs.Play.{ArePlayed, report_at}
 use Rattle.scp_line.specs.Threads.{report_gathered_at}
 
--- The text is the reports that the script asks for, one for each `report` line, in their order, of nodes that played all its lines, each
--- of which holds its headline, by what it heard.
-pub record AreHeadlined (script text : List ℕ) : Type 0 where
+-- The nodes played all these commands, and each of them holds its headline, by what it heard.
+pub record AreNodesHeadlined (commands : List Command) (nodes : Nodes) : Type 0 where
   pub heard : List Heard
-  pub nodes : Nodes
-  pub played : ArePlayed (commands_in script) (commands_in script) heard nodes
+  pub played : ArePlayed commands commands heard nodes
   pub headlines : (i : ℕ) → (d : NodeView) → i < length nodes → HoldsHeadline (past_at (i + 1) heard) (get_or nodes i d)
+
+-- The text is the reports that the script asks for, one for each `report` line, in their order, of nodes that played all its lines, each
+-- of which holds its headline.
+pub record AreHeadlined (script text : List ℕ) : Type 0 where
+  pub nodes : Nodes
+  pub each : AreNodesHeadlined (commands_in script) nodes
   pub reports : text ≡ flat_map (report_at nodes) (reports_in (commands_in script))
 
 -- The headline of the node of this number holds, of books that show what its report shows: over each link that the script drives went what
@@ -37,10 +41,24 @@ pub record IsHeadlined (commands : List Command) (number : ℕ) (r : NodeReport)
   pub links_are : AreSentBy (driven_to commands number) (items_to number commands) stood left.links
   pub headline : Headline (books_reported (id_of number) (set_at number commands) (peers_of (node_count commands) number) left r.journal.items r.applied.items r.state)
 
+-- of each node that a script has what is reported holds its headline, of the first node on
+pub record AreReportsHeadlined (commands : List Command) (nodes : List NodeReport) : Type 0 where
+  pub count : length nodes ≡ node_count commands
+  pub headlines : Each (λ i r. IsHeadlined commands (i + 1) r) nodes
+
 -- The text is the reports that the script asks for, of nodes whose stages ran in threads: of each node that the script has, one that holds
 -- its headline.
 pub record AreGatheredHeadlined (script text : List ℕ) : Type 0 where
   pub nodes : List NodeReport
-  pub count : length nodes ≡ node_count (commands_in script)
-  pub headlines : Each (λ i r. IsHeadlined (commands_in script) (i + 1) r) nodes
+  pub each : AreReportsHeadlined (commands_in script) nodes
   pub reports : text ≡ flat_map (report_gathered_at nodes) (reports_in (commands_in script))
+
+-- ---- the laws of both
+
+-- of what nodes heard that played commands, each holds its headline
+abbrev pub PlayingKeepsHeadlines : Type 0
+PlayingKeepsHeadlines = (commands : List Command) (heard : List Heard) (nodes : Nodes) → ArePlayed commands commands heard nodes → AreNodesHeadlined commands nodes
+
+-- what is told of a script's nodes that ran in threads holds their headlines
+abbrev pub ReportingKeepsHeadlines : Type 0
+ReportingKeepsHeadlines = (commands : List Command) (nodes : List NodeReport) → AreNodesReported commands nodes → AreReportsHeadlined commands nodes

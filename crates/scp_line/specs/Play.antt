@@ -30,7 +30,8 @@ use Rattle.scp_script.specs.Words.{hex_bytes}
 use Rattle.scp_script.specs.Script.{commands_in, node_count}
 use Rattle.scp_script.specs.Nodes.{id_of, numbers, peers_of, set_at, capacities_in, reports_in}
 use Rattle.scp_line.specs.declared.report.Parked.{Parked}
-use Rattle.scp_line.specs.Report.{ReportView, report_of, hex_word}
+use Rattle.scp_words.specs.Words.{hex_word}
+use Rattle.scp_line.specs.Report.{ReportView, report_of}
 use Rattle.scp_line.specs.Parts.{entries_of}
 use Rattle.scp_network.specs.Heard.{Nodes, Heard, HaveHeard, past_at, Then, IsNothing, IsOne}
 use Rattle.scp_network.specs.Rounds.{link_of, Rests, RestsAs, Breaks, AllRun}

@@ -1,67 +1,27 @@
 -- The text of a report (this project's profile).
-use Rattle.std.specs.Prelude.{ℕ, ◌≡◌, List, [], ◌∷◌, ◌++◌, codes, flat_map, filter, fold, slice_index, ◌||◌}
+use Rattle.std.specs.Prelude.{ℕ, ◌≡◌, List, [], ◌++◌, codes, flat_map, filter, fold, slice_index, ◌||◌}
 use Rattle.std.specs.Fmt.{decimal}
 use Rattle.std.specs.List.{list_any}
 use Rattle.std.specs.List.Sorted.{IsStrictlySortedBy}
 use Rattle.std.specs.BTreeSet.{insert_key}
-use Rattle.hex.specs.Hex.{encode_lower}
 use Rattle.scp_types.specs.declared.names.ConnId.{ConnId}
 use Rattle.scp_types.specs.declared.names.NodeId.{NodeId}
-use Rattle.scp_ledger.specs.declared.journal.Verdict.{Verdict}
-use Rattle.scp_ledger.specs.declared.journal.Verdict.TheVariants.{OldSlot, FarSlot, Already, Unasked, Own, BadStatement, BadValue, Stale, Idle, Fresh, Forwarded, Decided}
-use Rattle.scp_wire.specs.declared.link.Cause.{Cause}
-use Rattle.scp_wire.specs.declared.link.Cause.TheVariants.{Malformed, Link, Spent, ParkedFull}
 use Rattle.scp_ledger.specs.declared.journal.Fate.{Fate}
 use Rattle.scp_ledger.specs.declared.journal.Fate.TheVariants.{Taken, Dropped, Closed}
 use Rattle.scp_ledger.specs.declared.journal.Origin.{Origin}
 use Rattle.scp_ledger.specs.declared.journal.Origin.TheVariants.{Machine, Named}
 use Rattle.scp_ledger.specs.declared.journal.Decision.{Decision}
 use Rattle.scp_wire.specs.Connections.{same_conn}
-use Rattle.scp_pending.specs.declared.ready.DropCause.{DropCause}
-use Rattle.scp_pending.specs.declared.ready.DropCause.TheVariants as drop
+use Rattle.scp_words.specs.Words.{verdict_word, cause_word, drop_word, hex_word}
 use Rattle.scp_line.specs.declared.report.Parked.{Parked}
 use Rattle.scp_theorem.specs.Fates.{conn_of}
 use Rattle.scp_types.specs.Order.{conn_cmp}
-
--- the word of a verdict
-abbrev pub verdict_word : Verdict → List ℕ
-verdict_word OldSlot = codes "old-slot"
-verdict_word FarSlot = codes "far-slot"
-verdict_word Already = codes "already"
-verdict_word Unasked = codes "unasked"
-verdict_word Own = codes "own"
-verdict_word BadStatement = codes "bad-statement"
-verdict_word BadValue = codes "bad-value"
-verdict_word Stale = codes "stale"
-verdict_word Idle = codes "idle"
-verdict_word Fresh = codes "fresh"
-verdict_word Forwarded = codes "forwarded"
-verdict_word Decided = codes "decided"
-
--- the word for why a connection ended
-abbrev pub cause_word : Cause → List ℕ
-cause_word Malformed = codes "malformed"
-cause_word Link = codes "link"
-cause_word Spent = codes "spent"
-cause_word ParkedFull = codes "parked-full"
-
--- the word for why a message was dropped
-abbrev pub drop_word : DropCause → List ℕ
-drop_word drop.BadSet = codes "bad-set"
-drop_word drop.GaveUp = codes "gave-up"
-drop_word drop.Closed = codes "closed"
-drop_word drop.ParkedFull = codes "parked-full"
 
 -- an entry's line
 abbrev pub fate_line : Fate → List ℕ
 fate_line (Taken conn seq message set verdict) = decimal seq.0 ++ codes " taken " ++ verdict_word verdict ++ codes "\n"
 fate_line (Dropped conn seq cause) = decimal seq.0 ++ codes " dropped " ++ drop_word cause ++ codes "\n"
 fate_line (Closed conn cause) = codes "closed " ++ cause_word cause ++ codes "\n"
-
--- bytes in lower-case hexadecimal digits, or a dash for none
-abbrev pub hex_word : List ℕ → List ℕ
-hex_word [] = codes "-"
-hex_word (byte ∷ bytes) = encode_lower (byte ∷ bytes)
 
 -- the number of a node whose id is 32 bytes of its number
 abbrev pub node_number : NodeId → ℕ

@@ -1,7 +1,10 @@
 //! Laws of the definitions, each the contract of a function that does nothing.
 ghost use Rattle.scp_turn.specs.Watch.{notes};
+ghost use Rattle.scp_line.specs.Headlines.{PlayingKeepsHeadlines, ReportingKeepsHeadlines};
 ghost use Rattle.scp_line.specs.Laws.{LinesHaveRoom, NothingIsPlayed, LineIsPlayed, QuietLineIsPlayed, LineIsStopped};
 
+use scp_core::{each_node_holds_its_headline, each_node_holds_its_ledger};
+use scp_gather::what_is_reported_keeps_the_headline;
 use scp_turn::Watch;
 
 /// What the lines of a script say of the queues of its nodes is in range.
@@ -17,3 +20,14 @@ pub fn a_line_more_is_played<W: Watch>()
     ensures quiet { QuietLineIsPlayed }
     ensures stopped { LineIsStopped (notes W.notes_before W.notes_after) }
 {}
+
+/// The nodes of a script hold their headlines: those that played its commands, by what they heard, and those that ran in threads, by what
+/// is reported of them.
+pub fn what_is_played_keeps_the_headlines()
+    ensures played { PlayingKeepsHeadlines }
+    ensures reported { ReportingKeepsHeadlines }
+{
+    each_node_holds_its_ledger();
+    each_node_holds_its_headline();
+    what_is_reported_keeps_the_headline();
+}

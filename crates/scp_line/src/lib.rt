@@ -28,14 +28,13 @@ mod threads;
 mod waiting;
 
 pub use gathered::{counts_of, write_all_gathered};
-pub use laws::{a_line_more_is_played, a_script_has_room};
+pub use laws::{a_line_more_is_played, a_script_has_room, what_is_played_keeps_the_headlines};
 pub use nodes::{act, act_with, new_network, write_reports};
 pub use outcome::{line_of_fault, status};
 pub use playing::{PlayFault, check, play, show};
 pub use report::{
     Parked, ReportParts, conn_of_fate, connections_are_those_with_entries, connections_of,
-    number_of, word_of_cause, word_of_drop, word_of_verdict, write_origin, write_report,
-    write_sections,
+    number_of, write_origin, write_report, write_sections,
 };
 pub use scp_device::{
     FailsAt, MemoryIn, MemoryOut, Process, ReportOut, SCRIPT_LIMIT, ScriptIn, read_script,

@@ -6,62 +6,18 @@ ghost use Rattle.scp_types.specs.declared.names.ConnId.{ConnId};
 ghost use Rattle.std.specs.BTreeSet.{insert_key};
 ghost use Rattle.scp_ledger.specs.declared.journal.Fate.{Fate};
 ghost use Rattle.scp_line.specs.declared.report.Parked.{Parked};
-ghost use Rattle.scp_line.specs.Report.{verdict_word, cause_word, drop_word, fate_line, parked_line, parked_lines, hex_word, node_number, origin_words, applied_line, state_line, conns_of, conn_line, fate_lines, section_of, report_of, AreConnections};
+ghost use Rattle.scp_line.specs.Report.{fate_line, parked_line, parked_lines, node_number, origin_words, applied_line, state_line, conns_of, conn_line, fate_lines, section_of, report_of, AreConnections};
 ghost use Rattle.scp_theorem.specs.Fates.{conn_of};
 ghost use Rattle.scp_types.specs.Order.{conn_cmp};
 ghost use Rattle.scp_line.specs.Parts.{view_of};
 ghost use Rattle.scp_line.specs.inside.Parts.{lines_at};
 
-use scp_core::{Cause, Decision, Fate, Origin, SharedDecision, Verdict};
+use scp_core::{Decision, Fate, Origin, SharedDecision};
 use scp_kv::KvState;
-use scp_pending::DropCause;
 use scp_types::{ConnId, NodeId};
+use scp_words::{word_of_cause, word_of_drop, word_of_verdict, write_hex};
 use std::alloc::{AllocError, Global};
 use std::collections::{BTreeMap, BTreeSet};
-
-/// The word of a verdict, as in a report.
-pub fn word_of_verdict(verdict: Verdict) -> &'static str
-    ensures { result.now ≡ verdict_word verdict }
-{
-    match verdict {
-        Verdict::OldSlot => "old-slot",
-        Verdict::FarSlot => "far-slot",
-        Verdict::Already => "already",
-        Verdict::Unasked => "unasked",
-        Verdict::Own => "own",
-        Verdict::BadStatement => "bad-statement",
-        Verdict::BadValue => "bad-value",
-        Verdict::Stale => "stale",
-        Verdict::Idle => "idle",
-        Verdict::Fresh => "fresh",
-        Verdict::Forwarded => "forwarded",
-        Verdict::Decided => "decided",
-    }
-}
-
-/// The word for why a connection ended.
-pub fn word_of_cause(cause: Cause) -> &'static str
-    ensures { result.now ≡ cause_word cause }
-{
-    match cause {
-        Cause::Malformed => "malformed",
-        Cause::Link => "link",
-        Cause::Spent => "spent",
-        Cause::ParkedFull => "parked-full",
-    }
-}
-
-/// The word for why a message was dropped.
-pub fn word_of_drop(cause: DropCause) -> &'static str
-    ensures { result.now ≡ drop_word cause }
-{
-    match cause {
-        DropCause::BadSet => "bad-set",
-        DropCause::GaveUp => "gave-up",
-        DropCause::Closed => "closed",
-        DropCause::ParkedFull => "parked-full",
-    }
-}
 
 /// Adds an entry's line.
 fn write_fate(text: &mut String, fate: &Fate) -> Result<(), AllocError>
@@ -83,19 +39,6 @@ fn write_fate(text: &mut String, fate: &Fate) -> Result<(), AllocError>
             writeln!(text, "closed {word}")
         }
     }
-}
-
-/// Adds bytes in digits, or a dash for none.
-pub fn write_hex(text: &mut String, bytes: &[u8]) -> Result<(), AllocError>
-    ensures { OnOk result (string_bytes text.new ≡ string_bytes text.old ++ hex_word bytes.now) }
-{
-    if bytes.is_empty() {
-        text.push_str("-")?;
-        return Ok(());
-    }
-    let digits = hex::encode(*text.allocator(), bytes)?;
-    text.push_str(digits.as_str())?;
-    Ok(())
 }
 
 /// The number of a node whose id is 32 bytes of its number.

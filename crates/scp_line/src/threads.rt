@@ -3,7 +3,7 @@ ghost use Rattle.std.specs.Prelude.{◌≡◌, ◌≢◌, ◌⊎◌, ◌≤◌, 
 ghost use Rattle.scp_types.specs.declared.fault.Fault.TheVariants.{BadScript};
 ghost use Rattle.scp_types.specs.declared.fault.Stage.{Stage};
 ghost use Rattle.scp_device.specs.Device.{Gains, GainsPart, Fails, IsAll};
-ghost use Rattle.scp_script.specs.Script.{AreAdmitted, IsScript, IsBadLine, HasNoBadLine, HasSetLine};
+ghost use Rattle.scp_script.specs.Script.{AreAdmitted, node_count, IsScript, IsBadLine, HasNoBadLine, HasSetLine};
 ghost use Rattle.scp_script.specs.Nodes.{NamesNodes};
 ghost use Rattle.scp_threaded_script.specs.Reported.{AreNodesReported, IsGivenUp};
 ghost use Rattle.scp_threaded_script.specs.Waits.{AreWaits};
@@ -13,10 +13,10 @@ ghost use Rattle.scp_line.specs.Play.{IsNamed};
 ghost use Rattle.scp_line.specs.Threads.{AreGatheredReports, AreGivenUp, IsOfTheNodes, IsThreadsFault};
 
 use crate::gathered::write_all_gathered;
+use crate::laws::what_is_played_keeps_the_headlines;
 use crate::playing::PlayFault;
 use scp_device::{ReportOut, SCRIPT_LIMIT, ScriptIn, read_script, write_text};
 use scp_gate::{Gate, Open};
-use scp_gather::what_is_reported_keeps_the_headline;
 use scp_script::{Command, parse};
 use scp_threaded_script::{NodeFault, Ran, run_lines};
 use scp_types::Fault;
@@ -36,7 +36,7 @@ impl From<NodeFault> for PlayFault {
 }
 
 /// Runs the nodes of a script, whose stages run in threads of their own, as `play_in_threads` does, and answers what is told of them, node 1
-/// first, and the places among the commands of the `wait` lines that gave up. Refused as `play_in_threads` is, but for what it reads
+/// first, the places among the commands of the `wait` lines that gave up, and how many own statements were lost. Refused as `play_in_threads` is, but for what it reads
 /// and writes.
 pub fn run_in_threads<T: Threads + Wait + Sync>(
     rt: &T,
@@ -48,6 +48,7 @@ pub fn run_in_threads<T: Threads + Wait + Sync>(
     requires room { HaveRoom commands.now }
     ensures reported { IfOk result (λ ran. AreNodesReported commands.now ran.reports.items) }
     ensures waits { IfOk result (λ ran. AreWaits commands.now 0 ran.gave_up.items) }
+    ensures losses { IfOk result (λ ran. length ran.losses.items ≡ node_count commands.now) }
     ensures given_up { IfErr result (λ e. IsGivenUp commands.now (record { fault = e.fault; node = e.node })) }
 {
     match run_lines(rt, &Open, alloc, commands) {
@@ -81,7 +82,7 @@ fn played<T: Threads + Wait + Sync, G: Gate + Sync>(
     let commands = script.as_slice();
     let ran = run_lines(rt, gate, alloc, commands)?;
     let reports = ran.reports.as_slice();
-    what_is_reported_keeps_the_headline();
+    what_is_played_keeps_the_headlines();
     let mut printed = String::new(alloc);
     match write_all_gathered(reports, &mut printed, commands) {
         Ok(()) => Ok(printed),

@@ -67,6 +67,12 @@ impl SharedOutbox {
         unreachable!()
     }
 
+    /// How many own statements were lost since the outbox was made, before they were given, as `Outbox::overwritten` counts them up to this
+    /// turn. What was put by then is the threads' affair, so no clause says how many. Waits for nothing but the lock.
+    pub fn overwritten<R: Wait>(&self, rt: &R) -> u64 {
+        self.turn(rt).overwritten()
+    }
+
     /// A turn under the lock.
     fn turn<R: Wait>(&self, rt: &R) -> MutexGuard<'_, Outbox>
         ensures known { IsOutbox (mutex_guard_value result) }

@@ -8,4 +8,5 @@ pub mod Values
 pub mod Counting
 pub mod Fitting
 pub mod Joining
+pub mod Parts
 mod Naming

@@ -1,5 +1,5 @@
 -- What became of the commands of a script, line by line (this project's profile). A node takes its commands in the order of their lines.
-use Rattle.std.specs.Prelude.{ℕ, ◌≡◌, Bool, true, false, List, [], ◌∷◌, ◌++◌, Option, Some, None, filter, length, map, nat_eq, option_to_list, slice_get, if◌then◌else◌}
+use Rattle.std.specs.Prelude.{ℕ, ◌+◌, ◌≡◌, Bool, true, false, List, [], ◌∷◌, ◌++◌, Option, Some, None, filter, length, map, nat_eq, option_to_list, slice_get, if◌then◌else◌}
 use Rattle.scp_ledger.specs.declared.took.CommandFate.{CommandFate}
 use Rattle.scp_ledger.specs.declared.took.CommandFate.TheVariants as fates
 use Rattle.scp_core.specs.declared.event.Event.{Event}
@@ -24,6 +24,15 @@ told_at number event reply after' = []
 -- the list of what was told so far grows by what a step tells
 abbrev pub Tells : Noting (List Told)
 Tells old number event reply before after' new = new ≡ old ++ told_at number event reply after'
+
+-- what a node of this number told of its commands, one after another
+abbrev pub told_by : ℕ → List CommandFate → List Told
+told_by number fates = map (λ fate. record { node = number; fate = fate }) fates
+
+-- what nodes told of theirs, the first of which has this number
+abbrev pub told_from : ℕ → List (List CommandFate) → List Told
+told_from number [] = []
+told_from number (fates ∷ nodes) = told_by number fates ++ told_from (number + 1) nodes
 
 -- ---- which line that is of
 

@@ -19,7 +19,7 @@ use Rattle.scp_silent.specs.declared.playing.RunFault.{RunFault}
 use Rattle.scp_silent.specs.declared.playing.RunFault.TheVariants.{NoMemory, Bad, BadAt, Stopped, GivenUp}
 use Rattle.scp_silent.specs.Disagreeing.{disagreements}
 use Rattle.scp_silent.specs.Ignoring.{Tells, ignored}
-use Rattle.scp_silent.specs.Lost.{all_lost}
+use Rattle.scp_silent.specs.Lost.{losses_of, all_lost}
 
 -- ---- a run, line by line
 
@@ -74,7 +74,7 @@ run_notices commands lines nodes told cut =
     unsettled cut
     ++ (ignored told lines commands
     ++ (disagreements (map (λ node. node.applier.applied) nodes)
-    ++ all_lost commands nodes))
+    ++ all_lost commands (map losses_of nodes)))
 
 -- the nodes played all commands, and the notices are those of that run
 pub record Shows (commands : List Command) (lines : List ℕ) (network : NetworkView) (notices : List Notice) : Type 0 where

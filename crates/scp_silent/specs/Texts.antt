@@ -3,7 +3,7 @@ use Rattle.std.specs.Prelude.{ℕ, List, [], ◌∷◌, ◌++◌, codes, flat_ma
 use Rattle.std.specs.Fmt.{decimal}
 use Rattle.scp_ledger.specs.declared.took.CommandFate.{CommandFate}
 use Rattle.scp_ledger.specs.declared.took.CommandFate.TheVariants.{OldSlot, FarSlot, Decided, BadValue, ProposedBefore, Proposed, NoRoundLeft, RoundAdded, NoBallot, BallotStays, BallotMoved, AskedBefore, Asked}
-use Rattle.scp_line.specs.Report.{hex_word}
+use Rattle.scp_words.specs.Words.{hex_word}
 use Rattle.scp_silent.specs.declared.notice.Side.{Side}
 use Rattle.scp_silent.specs.declared.notice.Notice.{Notice}
 use Rattle.scp_silent.specs.declared.notice.Notice.TheVariants.{Unsettled, GaveUp, Disagree, Ignored, Overwritten, NoWait}

@@ -1,21 +1,24 @@
 -- The notices of a script whose nodes ran in threads (this project's profile).
-use Rattle.std.specs.Prelude.{ℕ, ◌≡◌, ◌≢◌, Bool, true, false, List, [], ◌∷◌, ◌++◌, flat_map, map, option_to_list, slice_get, if◌then◌else◌}
+use Rattle.std.specs.Prelude.{ℕ, ◌≡◌, ◌≢◌, Bool, true, false, List, [], ◌∷◌, ◌++◌, flat_map, length, map, option_to_list, slice_get, if◌then◌else◌}
 use Rattle.std.specs.List.{list_any}
 use Rattle.scp_types.specs.declared.fault.Fault.TheVariants.{NoMemory as no_memory}
-use Rattle.scp_ledger.specs.declared.journal.Decision.{Decision}
 use Rattle.scp_gather.specs.declared.gathering.NodeReport.{NodeReport}
 use Rattle.scp_threaded_script.specs.Reported.{AreNodesReported, IsGivenUp}
 use Rattle.scp_threaded_script.specs.Waits.{AreWaits}
 use Rattle.scp_script.specs.declared.command.Command.{Command}
 use Rattle.scp_script.specs.declared.command.Command.TheVariants.{Wait}
+use Rattle.scp_script.specs.Script.{node_count}
 use Rattle.scp_line.specs.declared.playing.PlayFault.{PlayFault}
 use Rattle.scp_trace_lint.specs.declared.reading.Script.{Script}
 use Rattle.scp_trace_lint.specs.Lines.{IsSaid, IsBadAt, IsFirstBad, MayWant}
+use Rattle.scp_silent.specs.declared.commands.Told.{Told}
 use Rattle.scp_silent.specs.declared.notice.Notice.{Notice}
 use Rattle.scp_silent.specs.declared.notice.Notice.TheVariants.{GaveUp, NoWait}
 use Rattle.scp_silent.specs.declared.playing.RunFault.{RunFault}
 use Rattle.scp_silent.specs.declared.playing.RunFault.TheVariants.{NoMemory, Bad, BadAt, Stopped, GivenUp}
 use Rattle.scp_silent.specs.Disagreeing.{disagreements}
+use Rattle.scp_silent.specs.Ignoring.{told_from, ignored}
+use Rattle.scp_silent.specs.Lost.{losses_in, all_lost}
 
 -- it is a `wait` line
 abbrev pub is_wait : Command → Bool
@@ -34,18 +37,30 @@ gave_up_at lines place = map (λ line. GaveUp line) (option_to_list (slice_get l
 abbrev pub gave_up : List ℕ → List ℕ → List Notice
 gave_up lines places = flat_map (gave_up_at lines) places
 
--- What is told of nodes that applied these decisions, by the places of the `wait` lines that gave up: those lines, the slots for which nodes
--- applied different values, and that there is no `wait` line.
-abbrev pub threads_notices : List Command → List ℕ → List (List Decision) → List ℕ → List Notice
-threads_notices commands lines applied places = gave_up lines places ++ (disagreements applied ++ no_wait commands)
+-- what nodes told of their commands, by their reports, that of node 1 first
+abbrev pub told_in : List NodeReport → List Told
+told_in reports = told_from 1 (map (λ report. report.commands.items) reports)
+
+-- What is told of nodes, by the places of the `wait` lines that gave up, and by how many own statements each node lost on each of its links:
+-- those lines, the lines whose commands did nothing, the slots for which nodes applied different values, the links whose own statements were
+-- lost, and that there is no `wait` line.
+abbrev pub threads_notices : List Command → List ℕ → List NodeReport → List ℕ → List (List ℕ) → List Notice
+threads_notices commands lines reports places losses =
+    gave_up lines places
+    ++ (ignored (told_in reports) lines commands
+    ++ (disagreements (map (λ report. report.applied.items) reports)
+    ++ (all_lost commands (map losses_in losses)
+    ++ no_wait commands)))
 
 -- The reports are those of a script's nodes, and the notices are of these; of which `wait` lines gave up it is said that they are some of
--- them, in their order.
+-- them, in their order, and of what was lost that it is counted of each node.
 pub record ShowsThreads (commands : List Command) (lines : List ℕ) (reports : List NodeReport) (notices : List Notice) : Type 0 where
   pub reported : AreNodesReported commands reports
   pub places : List ℕ
   pub waits : AreWaits commands 0 places
-  pub notices_are : notices ≡ threads_notices commands lines (map (λ report. report.applied.items) reports) places
+  pub losses : List (List ℕ)
+  pub losses_count : length losses ≡ node_count commands
+  pub notices_are : notices ≡ threads_notices commands lines reports places losses
 
 -- the text is a script without a bad line, and it is so with its nodes
 pub record IsRanInThreads (text : List ℕ) (script : Script) (reports : List NodeReport) (notices : List Notice) : Type 0 where

@@ -8,7 +8,8 @@
 //! - where a line isn't done that line is told, and why.
 //!
 //! And of `run_in_threads`: the reports are those of a script's nodes whose stages ran in threads, and a notice is told for each `wait` line
-//! that gave up, for each slot for which nodes applied different values, and where there is no `wait` line.
+//! that gave up, for each line whose command did nothing, for each slot for which nodes applied different values, and where there is no
+//! `wait` line.
 //!
 //! Not claimed: which `wait` lines give up in threads. What is told is what they answered.
 #![tactic(auto)]

@@ -1,9 +1,9 @@
 //! Own statements that were replaced or dropped before they were sent.
-ghost use Rattle.std.specs.Prelude.{◌≡◌, ◌≤◌, ◌++◌, ◌||◌, OnOk, flat_map, length};
+ghost use Rattle.std.specs.Prelude.{◌≡◌, ◌≤◌, ◌++◌, ◌||◌, ℕ, OnOk, flat_map, length, map};
 ghost use Rattle.std.specs.List.{list_any};
 ghost use Rattle.scp_script.specs.Nodes.{numbers};
 ghost use Rattle.scp_trace_lint.specs.Nodes.{sends_on as sends_it};
-ghost use Rattle.scp_silent.specs.Lost.{is_silent, lost_to, lost_on, lost_of, all_lost};
+ghost use Rattle.scp_silent.specs.Lost.{losses_of, losses_in, is_silent, lost_to, lost_on, lost_of, all_lost};
 
 use crate::notice::Notice;
 use scp_core::Node;
@@ -11,6 +11,36 @@ use scp_network::link_from;
 use scp_script::Command;
 use scp_trace_lint::is_scripted;
 use std::alloc::AllocError;
+
+/// What counts the own statements that a node lost.
+pub trait Loses {
+    /// So many for the peer of each link.
+    ghost losses_at: { Self → ℕ → ℕ };
+
+    /// How many for the peer of a link.
+    fn lost_on(&self, link: u8) -> u64
+        ensures { result ≡ losses_at self.now link };
+}
+
+impl Loses for Node {
+    ghost losses_at = { losses_of };
+
+    fn lost_on(&self, link: u8) -> u64 {
+        self.overwritten(link)
+    }
+}
+
+/// By the places of the links.
+impl Loses for Vec<u64> {
+    ghost losses_at = { λ losses. losses_in losses.items };
+
+    fn lost_on(&self, link: u8) -> u64 {
+        match self.get(usize::from(link)) {
+            Some(count) => *count,
+            None => 0,
+        }
+    }
+}
 
 /// Whether a `send` line names the link from a node to another.
 fn is_driven(commands: &[Command], from: u8, to: u8) -> bool
@@ -39,26 +69,26 @@ fn is_mute(commands: &[Command], from: u8, to: u8) -> bool
 }
 
 /// How many own statements of a node for another were lost, by the numbers of both.
-fn lost(nodes: &[Node], from: u8, to: u8) -> u64
+fn lost<N: Loses>(nodes: &[N], from: u8, to: u8) -> u64
     requires from { 1 ≤ from }
-    ensures { result ≡ lost_to nodes.now from to }
+    ensures { result ≡ lost_to (map N.losses_at nodes.now) from to }
 {
     match nodes.get(usize::from(from - 1)) {
-        Some(node) => node.overwritten(link_from(to, from)),
+        Some(node) => node.lost_on(link_from(to, from)),
         None => 0,
     }
 }
 
 /// Adds a notice, where own statements of a node for another were lost that were to go out.
-fn add_link(
+fn add_link<N: Loses>(
     out: &mut Vec<Notice>,
     commands: &[Command],
-    nodes: &[Node],
+    nodes: &[N],
     node: u8,
     peer: u8,
 ) -> Result<(), AllocError>
     requires node { 1 ≤ node }
-    ensures { OnOk result (out.new.items ≡ out.old.items ++ lost_on commands.now nodes.now node peer) }
+    ensures { OnOk result (out.new.items ≡ out.old.items ++ lost_on commands.now (map N.losses_at nodes.now) node peer) }
 {
     if node == peer || is_mute(commands, node, peer) {
         return Ok(());
@@ -71,15 +101,15 @@ fn add_link(
 }
 
 /// Adds a notice for each other node for which this one lost own statements.
-fn add_node(
+fn add_node<N: Loses>(
     out: &mut Vec<Notice>,
     commands: &[Command],
-    nodes: &[Node],
+    nodes: &[N],
     node: u8,
 ) -> Result<(), AllocError>
     requires node { 1 ≤ node }
     requires few { length nodes.now ≤ 8 }
-    ensures { OnOk result (out.new.items ≡ out.old.items ++ lost_of commands.now nodes.now node) }
+    ensures { OnOk result (out.new.items ≡ out.old.items ++ lost_of commands.now (map N.losses_at nodes.now) node) }
 {
     for index in 0..nodes.len() {
         add_link(out, commands, nodes, node, index as u8 + 1)?;
@@ -88,13 +118,13 @@ fn add_node(
 }
 
 /// Adds a notice for each two nodes of which the first lost own statements for the second, in the order of their numbers.
-pub fn add_lost(
+pub fn add_lost<N: Loses>(
     out: &mut Vec<Notice>,
     commands: &[Command],
-    nodes: &[Node],
+    nodes: &[N],
 ) -> Result<(), AllocError>
     requires few { length nodes.now ≤ 8 }
-    ensures { OnOk result (out.new.items ≡ out.old.items ++ all_lost commands.now nodes.now) }
+    ensures { OnOk result (out.new.items ≡ out.old.items ++ all_lost commands.now (map N.losses_at nodes.now)) }
 {
     for index in 0..nodes.len() {
         add_node(out, commands, nodes, index as u8 + 1)?;

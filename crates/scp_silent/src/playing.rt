@@ -4,6 +4,7 @@ ghost use Rattle.scp_apply.specs.Applied.{AreInOrder};
 ghost use Rattle.scp_script.specs.Script.{AreAdmitted};
 ghost use Rattle.scp_script.specs.Nodes.{NamesNodes};
 ghost use Rattle.scp_script.specs.declared.command.Command.{Command};
+ghost use Rattle.scp_line.specs.Headlines.{AreNodesHeadlined};
 ghost use Rattle.scp_line.specs.Nodes.{HasPlayed, HaveRoom, IsStoppedAt};
 ghost use Rattle.scp_silent.specs.declared.commands.Told.{Told};
 ghost use Rattle.scp_silent.specs.declared.playing.RunFault.TheVariants.{NoMemory};
@@ -16,7 +17,10 @@ use crate::lost::add_lost;
 use crate::notice::Notice;
 use crate::watch::CommandWatch;
 use scp_core::each_node_holds_its_ledger;
-use scp_line::{PlayFault, a_line_more_is_played, a_script_has_room, act_with, new_network};
+use scp_line::{
+    PlayFault, a_line_more_is_played, a_script_has_room, act_with, new_network,
+    what_is_played_keeps_the_headlines,
+};
 use scp_network::Network;
 use scp_script::Command;
 use scp_trace_lint::{BadLine, LintFault, Script, read};
@@ -209,12 +213,14 @@ fn played(alloc: Global, script: Script) -> Result<Ran, RunFault>
     requires room { HaveRoom script.commands.items }
     ensures same { IfOk result (λ ran. ran.script ≡ script) }
     ensures ran { IfOk result (λ ran. Shows script.commands.items script.lines.items ran.network ran.notices.items) }
+    ensures headline { IfOk result (λ ran. AreNodesHeadlined script.commands.items ran.network.nodes) }
     ensures stopped { IfErr result (λ e. e ≢ RunFault.NoMemory → IsStop script.commands.items script.lines.items e) }
 {
     let mut network = new_network(alloc, script.commands.as_slice())?;
     let mut watch = CommandWatch::new(alloc);
     a_line_more_is_played::<CommandWatch>();
     each_node_holds_its_ledger();
+    what_is_played_keeps_the_headlines();
     let cut = play_lines(alloc, &mut network, &mut watch, &script)?;
     let notices = notices_of(alloc, &script, &network, watch.told(), cut.as_slice())?;
     Ok(Ran {
@@ -231,6 +237,8 @@ fn played(alloc: Global, script: Script) -> Result<Ran, RunFault>
 pub fn run(alloc: Global, text: &[u8]) -> Result<Ran, RunFault>
     // No line is bad, and its nodes played just its lines; the notices are those of that run, no less and no more.
     ensures ran { IfOk result (λ ran. IsRan text.now ran.script ran.network ran.notices.items) }
+    // Each of its nodes holds its headline, which says what matters most.
+    ensures headline { IfOk result (λ ran. AreNodesHeadlined ran.script.commands.items ran.network.nodes) }
     // Each of its lines names nodes from 1 to 8.
     ensures names { IfOk result (λ ran. All NamesNodes ran.script.commands.items) }
     // A line is the first bad one, or memory ran out, or a line wasn't done.

@@ -1,11 +1,11 @@
 //! The lines that tell notices.
 ghost use Rattle.std.specs.Prelude.{◌≡◌, ◌++◌, IfOk, OnOk, codes, flat_map, string_bytes};
 ghost use Rattle.std.specs.Fmt.{decimal};
-ghost use Rattle.scp_line.specs.Report.{hex_word};
 ghost use Rattle.scp_silent.specs.Texts.{fate_word, behind_comma, numbers_text, side_text, sides_text, lost_words, count_words, notice_text, notices_text};
 
 use crate::notice::{Notice, Side};
 use scp_core::CommandFate;
+use scp_words::write_hex;
 use std::alloc::{AllocError, Global};
 
 /// The word for what became of a command.
@@ -27,19 +27,6 @@ pub fn word_of_fate(fate: CommandFate) -> &'static str
         CommandFate::AskedBefore => "asked-before",
         CommandFate::Asked => "asked",
     }
-}
-
-/// Adds bytes in digits, or a dash for none.
-fn write_hex(text: &mut String, bytes: &[u8]) -> Result<(), AllocError>
-    ensures { OnOk result (string_bytes text.new ≡ string_bytes text.old ++ hex_word bytes.now) }
-{
-    if bytes.is_empty() {
-        text.push_str("-")?;
-        return Ok(());
-    }
-    let digits = hex::encode(*text.allocator(), bytes)?;
-    text.push_str(digits.as_str())?;
-    Ok(())
 }
 
 /// Adds numbers, a comma before each.

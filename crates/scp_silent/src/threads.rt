@@ -4,15 +4,23 @@ ghost use Rattle.std.specs.List.{list_any};
 ghost use Rattle.scp_apply.specs.Applied.{AreInOrder};
 ghost use Rattle.scp_script.specs.Script.{AreAdmitted};
 ghost use Rattle.scp_script.specs.Nodes.{NamesNodes};
+ghost use Rattle.scp_line.specs.Headlines.{AreReportsHeadlined};
 ghost use Rattle.scp_line.specs.Nodes.{HaveRoom};
-ghost use Rattle.scp_silent.specs.Threads.{is_wait, no_wait, gave_up_at, gave_up, threads_notices, ShowsThreads, IsRanInThreads, IsThreadsFault};
+ghost use Rattle.scp_silent.specs.Ignoring.{told_by};
+ghost use Rattle.scp_silent.specs.Threads.{told_in, is_wait, no_wait, gave_up_at, gave_up, threads_notices, ShowsThreads, IsRanInThreads, IsThreadsFault};
 ghost use Rattle.scp_silent.specs.inside.Threads.{ended_by, IsEnding};
 
+use crate::commands::{Told, add_ignored};
 use crate::disagreeing::add_disagreements;
+use crate::lost::add_lost;
 use crate::notice::Notice;
 use crate::playing::RunFault;
+use scp_core::CommandFate;
 use scp_gather::{NodeReport, what_is_reported_keeps_the_headline};
-use scp_line::{PlayFault, a_script_has_room, run_in_threads as play_in_threads};
+use scp_line::{
+    PlayFault, a_script_has_room, run_in_threads as play_in_threads,
+    what_is_played_keeps_the_headlines,
+};
 use scp_script::{Command, count_of_nodes};
 use scp_trace_lint::{Script, read};
 use scp_types::Fault;
@@ -26,8 +34,8 @@ pub struct RanInThreads {
     pub script: Script,
     /// What is told of the nodes, node 1 first.
     pub reports: Vec<NodeReport>,
-    /// In the order of their kinds: `wait` lines that gave up, slots for which nodes applied different values, and that there is no
-    /// `wait` line.
+    /// In the order of their kinds: `wait` lines that gave up, lines whose commands did nothing, slots for which nodes applied different
+    /// values, links whose own statements were lost, and that there is no `wait` line.
     pub notices: Vec<Notice>,
 }
 
@@ -73,22 +81,54 @@ fn add_gave_up(out: &mut Vec<Notice>, lines: &[usize], places: &[usize]) -> Resu
     Ok(())
 }
 
+/// Adds what a node told of its commands.
+fn add_told(told: &mut Vec<Told>, node: u8, fates: &[CommandFate]) -> Result<(), AllocError>
+    ensures { OnOk result (told.new.items ≡ told.old.items ++ told_by node fates.now) }
+{
+    for fate in fates {
+        told.push(Told { node, fate: *fate })?;
+    }
+    Ok(())
+}
+
+/// What the nodes told of their commands, node 1 first.
+fn told_of(alloc: Global, reports: &[NodeReport]) -> Result<Vec<Told>, AllocError>
+    requires few { length reports.now ≤ 8 }
+    ensures { IfOk result (λ told. told.items ≡ told_in reports.now) }
+{
+    let mut told = Vec::new(alloc);
+    let mut number: u8 = 1;
+    for report in reports {
+        add_told(&mut told, number, report.commands.as_slice())?;
+        number += 1;
+    }
+    Ok(told)
+}
+
 /// What else would pass in silence.
 fn notices_of(
     alloc: Global,
     script: &Script,
     reports: &[NodeReport],
     places: &[usize],
+    losses: &[Vec<u64>],
 ) -> Result<Vec<Notice>, Fault>
+    requires names { All NamesNodes script.now.commands.items }
+    requires count { length script.now.lines.items ≡ length script.now.commands.items }
     requires few { length reports.now ≤ 8 }
+    requires few_too { length losses.now ≤ 8 }
     requires in_order { All (λ report. AreInOrder 1 report.applied.items) reports.now }
-    ensures notices { IfOk result (λ notices. notices.items ≡ threads_notices script.now.commands.items script.now.lines.items (map (λ report. report.applied.items) reports.now) places.now) }
+    ensures notices { IfOk result (λ notices. notices.items ≡ threads_notices script.now.commands.items script.now.lines.items reports.now places.now (map (λ row. row.items) losses.now)) }
     ensures only_memory { IsOkUnless result Fault.NoMemory }
 {
     let commands = script.commands.as_slice();
+    let lines = script.lines.as_slice();
+    let told = told_of(alloc, reports)?;
     let mut notices = Vec::new(alloc);
-    add_gave_up(&mut notices, script.lines.as_slice(), places)?;
+    add_gave_up(&mut notices, lines, places)?;
+    add_ignored(&mut notices, commands, lines, told.as_slice())?;
     add_disagreements(&mut notices, reports)?;
+    add_lost(&mut notices, commands, losses)?;
     add_no_wait(&mut notices, commands)?;
     Ok(notices)
 }
@@ -111,9 +151,11 @@ fn played<T: Threads + Wait + Sync>(
 ) -> Result<RanInThreads, RunFault>
     requires names { All NamesNodes script.commands.items }
     requires admitted { AreAdmitted [] script.commands.items }
+    requires count { length script.lines.items ≡ length script.commands.items }
     requires room { HaveRoom script.commands.items }
     ensures same { IfOk result (λ ran. ran.script ≡ script) }
     ensures ran { IfOk result (λ ran. ShowsThreads script.commands.items script.lines.items ran.reports.items ran.notices.items) }
+    ensures headline { IfOk result (λ ran. AreReportsHeadlined script.commands.items ran.reports.items) }
     ensures ended { IfErr result (λ e. e ≢ RunFault.NoMemory → IsEnding script.commands.items e) }
 {
     let commands = script.commands.as_slice();
@@ -123,11 +165,13 @@ fn played<T: Threads + Wait + Sync>(
         Err(fault) => return Err(ended(fault)),
     };
     what_is_reported_keeps_the_headline();
+    what_is_played_keeps_the_headlines();
     let notices = notices_of(
         alloc,
         &script,
         ran.reports.as_slice(),
         ran.gave_up.as_slice(),
+        ran.losses.as_slice(),
     )?;
     Ok(RanInThreads {
         script,
@@ -137,8 +181,9 @@ fn played<T: Threads + Wait + Sync>(
 }
 
 /// Plays a script, in digits or as text, by nodes whose stages run in threads of their own, as `scp_line::play_in_threads` does, and tells
-/// what else would pass in silence: `wait` lines that gave up, slots for which nodes applied different values, and that there is no
-/// `wait` line. What became of commands and which own statements were lost isn't told here: the stages have no common order.
+/// what else would pass in silence: `wait` lines that gave up, commands that did nothing, slots for which nodes applied different values,
+/// own statements that were lost unsent, and that there is no `wait` line. Of how many were lost no more is claimed than that the outboxes
+/// count them.
 pub fn run_in_threads<T: Threads + Wait + Sync>(
     rt: &T,
     alloc: Global,
@@ -147,6 +192,8 @@ pub fn run_in_threads<T: Threads + Wait + Sync>(
     // No line is bad, and these are the reports of its nodes; the notices are those of these reports and of these lines, no less and no
     // more.
     ensures ran { IfOk result (λ ran. IsRanInThreads text.now ran.script ran.reports.items ran.notices.items) }
+    // What is told of each of its nodes holds its headline, which says what matters most.
+    ensures headline { IfOk result (λ ran. AreReportsHeadlined ran.script.commands.items ran.reports.items) }
     // Each of its lines names nodes from 1 to 8.
     ensures names { IfOk result (λ ran. All NamesNodes ran.script.commands.items) }
     // A line is the first bad one, or memory ran out, or the nodes gave up.

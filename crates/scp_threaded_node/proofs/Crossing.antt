@@ -58,6 +58,7 @@ use Rattle.scp_ledger.proofs.shared.SharedDecision.TheSendSync as decisions
 use Rattle.scp_ledger.proofs.window.Window.TheSendSync as windows
 use Rattle.scp_ledger.proofs.journal.Asking.TheSendSync as askings
 use Rattle.scp_ledger.proofs.journal.Verdict.TheSendSync as verdicts
+use Rattle.scp_ledger.proofs.took.CommandFate.TheSendSync as command_fates
 use Rattle.scp_ledger.specs.contracts.journal.Fate as fate
 use Rattle.scp_ledger.specs.contracts.state.State as ledger_state
 use Rattle.scp_ledger.specs.contracts.ledger.Ledger as ledger
@@ -265,13 +266,13 @@ pub pend_ended_send : IsSend pend_ended.the_row
 pend_ended_send = view_send _ _ _ _ _ (pend_ended_inside_send its_inbound_send its_ready_send its_pending_send)
 
 slot_worker_inside_send : SharedCrosses → IsSend ready.the_row → IsSend (ledger.the_row driver.the_row ghosts) → IsSend sane.the_row → IsSync sane.the_row → IsSend slot_worker_inside.the_row
-slot_worker_inside_send o r l s y = declared_send slot_worker_inside.the_type (search ends depth 20, (search (ends, onwards.the_send) depth 20, (l, ((let send = o.send in let sync = o.sync in search (sendable, crosses) depth 20), (nodes.the_send, (search (sendable, crosses) depth 20, (search (sendable, crosses) depth 20, (counters.the_send, (search sendable depth 20, (search ends depth 20, tt))))))))))
+slot_worker_inside_send o r l s y = declared_send slot_worker_inside.the_type (search ends depth 20, (search (ends, onwards.the_send) depth 20, (l, (search (sendable, crosses, command_fates.the_send) depth 20, ((let send = o.send in let sync = o.sync in search (sendable, crosses) depth 20), (nodes.the_send, (search (sendable, crosses) depth 20, (search (sendable, crosses) depth 20, (counters.the_send, (search sendable depth 20, (search ends depth 20, tt)))))))))))
 
 pub slot_worker_send : SharedCrosses → IsSend slot_worker.the_row
 slot_worker_send o = view_send _ _ _ _ _ (slot_worker_inside_send o its_ready_send its_ledger_send its_sane_send its_sane_sync)
 
 slot_ended_inside_send : IsSend ready.the_row → IsSend (ledger.the_row driver.the_row ghosts) → IsSend slot_ended_inside.the_row
-slot_ended_inside_send r l = declared_send slot_ended_inside.the_type (search ends depth 20, (search (ends, onwards.the_send) depth 20, (l, (search ends depth 20, tt))))
+slot_ended_inside_send r l = declared_send slot_ended_inside.the_type (search ends depth 20, (search (ends, onwards.the_send) depth 20, (l, (search (sendable, crosses, command_fates.the_send) depth 20, (search ends depth 20, tt)))))
 
 pub slot_ended_send : IsSend slot_ended.the_row
 slot_ended_send = view_send _ _ _ _ _ (slot_ended_inside_send its_ready_send its_ledger_send)

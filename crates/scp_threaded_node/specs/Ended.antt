@@ -8,7 +8,7 @@ use Rattle.scp_ends.specs.Links.{LinkEnd}
 use Rattle.scp_courier.specs.Carrying.{IsCarried}
 use Rattle.scp_gather.specs.declared.gathering.NodeReport.{NodeReport}
 use Rattle.scp_gather.specs.Left.{Left}
-use Rattle.scp_gather.specs.Report.{IsReportOf}
+use Rattle.scp_gather.specs.Report.{IsReportOf, AreFatesOf}
 use Rattle.scp_threaded_node.specs.declared.ending.Stood.{Stood}
 use Rattle.scp_threaded_node.specs.Seats.{Each}
 
@@ -22,11 +22,12 @@ IsSentBy false sent stood k = IsCarried stood.lives stood.is_open k
 abbrev pub AreSentBy : (ℕ → Bool) → (ℕ → List LinkItem) → List Stood → List LinkEnd → Type 0
 AreSentBy driven sent stood links = Each (λ i k. (st : Stood) → slice_get stood i ≡ Some st → IsSentBy (driven i) (sent i) st k) links
 
--- It is the report of a node of these peers, gathered from what its threads left, a link for each peer. Its own commands were these, and so
--- was all that went over the links that the script drives.
+-- It is the report of a node of these peers, gathered from what its threads left, a link for each peer. Its own commands were these, of which
+-- became what it tells, and so was all that went over the links that the script drives.
 pub record IsEnded (me : NodeId) (set : QuorumTree) (peers : List NodeId) (commands : List Inbound) (driven : ℕ → Bool) (sent : ℕ → List LinkItem) (stood : List Stood) (r : NodeReport) : Type 0 where
   pub left : Left
   pub report : IsReportOf me set peers left r.journal.items r.parked.items r.applied.items r.state
   pub commands_are : left.local.sent ≡ commands
+  pub fates_are : AreFatesOf me set peers left r.commands.items
   pub links_count : length left.links ≡ length peers
   pub links_are : AreSentBy driven sent stood left.links

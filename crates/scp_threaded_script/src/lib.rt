@@ -6,13 +6,13 @@
 //! - each node's commands are those of the lines, in order;
 //! - each other link was opened and closed as often as the lines say, and all that went over it spells messages.
 //!
-//! And of the lines: which `wait` lines gave up.
+//! And of the lines: which `wait` lines gave up. And of each link how many own statements were lost, as its outbox counts them.
 //!
 //! Where they give up, the first stage that failed of the first node of which one did is named; else what a line or a link lacked, or want
 //! of memory.
 //!
 //! Not claimed: that all threads have ended at each way out. A scope of threads gives its result only then, by the library's word. When a
-//! `wait` line gives up: only that it is one.
+//! `wait` line gives up: only that it is one. How many statements are lost.
 #![tactic(auto)]
 
 mod gate;

@@ -189,3 +189,32 @@ pub fn stop_all<R: Wait>(rt: &R, all: &[Outboxes], commands: &[Command], count: 
         stop_from(rt, all, commands, count, index + 1);
     }
 }
+
+/// How many own statements were lost on each link of a node, as its outboxes count them.
+fn losses_of<R: Wait>(
+    rt: &R,
+    alloc: Global,
+    outboxes: &[Arc<SharedOutbox>],
+) -> Result<Vec<u64>, Fault>
+    ensures count { IfOk result (λ losses. length losses.items ≡ length outboxes.now) }
+    ensures only_memory { IsOkUnless result Fault.NoMemory }
+{
+    let mut losses = Vec::new(alloc);
+    for outbox in outboxes {
+        losses.push(outbox.overwritten(rt))?;
+    }
+    Ok(losses)
+}
+
+/// So of each node.
+pub fn all_losses<R: Wait>(rt: &R, alloc: Global, all: &[Outboxes]) -> Result<Vec<Vec<u64>>, Fault>
+    ensures count { IfOk result (λ losses. length losses.items ≡ length all.now) }
+    ensures only_memory { IsOkUnless result Fault.NoMemory }
+{
+    let mut losses = Vec::new(alloc);
+    for outboxes in all {
+        losses.reserve(1)?;
+        losses.push_reserved(losses_of(rt, alloc, outboxes.as_slice())?);
+    }
+    Ok(losses)
+}

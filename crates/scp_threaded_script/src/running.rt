@@ -20,7 +20,9 @@ ghost use Rattle.scp_threaded_script.specs.inside.Reported.{AllStand};
 
 use crate::gate::{Counting, Lent};
 use crate::lines::act_all;
-use crate::outboxes::{all_outboxes, is_driven, link_of, outbox_of, stood_of, stop_all};
+use crate::outboxes::{
+    all_losses, all_outboxes, is_driven, link_of, outbox_of, stood_of, stop_all,
+};
 use scp_gate::Gate;
 use scp_gather::NodeReport;
 use scp_script::{Command, capacities_of, count_of_nodes, id_from, peers_of_node, set_of_node};
@@ -198,12 +200,14 @@ fn all_stood(alloc: Global, commands: &[Command], count: u8) -> Result<Vec<Vec<S
     Ok(all)
 }
 
-/// What is told of the nodes of a script that ran in threads, node 1 first, and the places among its commands, from 0 on and ascending, of
-/// the `wait` lines that gave up after 1,000,000 yields.
+/// What is told of the nodes of a script that ran in threads, node 1 first.
 #[derive(Drop)]
 pub struct Ran {
     pub reports: Vec<NodeReport>,
+    /// The places among the script's commands, from 0 on and ascending, of the `wait` lines that gave up after 1,000,000 yields.
     pub gave_up: Vec<usize>,
+    /// How many own statements of each node were lost on each of its links, as its outboxes count them.
+    pub losses: Vec<Vec<u64>>,
 }
 
 /// What is told of nodes, and why there is less.
@@ -364,6 +368,7 @@ fn run_in<'s, E, R: Threads + Wait + Sync, G: Gate + Sync>(
     requires stood { AllStand commands.now stood.now }
     ensures reported { IfOk result (λ ran. AreNodesReported commands.now ran.reports.items) }
     ensures waits { IfOk result (λ ran. AreWaits commands.now 0 ran.gave_up.items) }
+    ensures losses { IfOk result (λ ran. length ran.losses.items ≡ node_count commands.now) }
     ensures given_up { IfErr result (IsGivenUp commands.now) }
 {
     let mut nodes = Vec::new(alloc);
@@ -381,7 +386,14 @@ fn run_in<'s, E, R: Threads + Wait + Sync, G: Gate + Sync>(
     stop_all(rt, all, commands, count_of_nodes(commands));
     let told = end_all(rt, alloc, nodes, stood);
     match told_of(done, told) {
-        Ok(reports) => Ok(Ran { reports, gave_up }),
+        Ok(reports) => {
+            let losses = all_losses(rt, alloc, all)?;
+            Ok(Ran {
+                reports,
+                gave_up,
+                losses,
+            })
+        }
         Err(fault) => Err(fault),
     }
 }
@@ -402,6 +414,7 @@ fn run_scoped<R: Threads + Wait + Sync, G: Gate + Sync>(
     requires stood { AllStand commands.now stood.now }
     ensures reported { IfOk result (λ ran. AreNodesReported commands.now ran.reports.items) }
     ensures waits { IfOk result (λ ran. AreWaits commands.now 0 ran.gave_up.items) }
+    ensures losses { IfOk result (λ ran. length ran.losses.items ≡ node_count commands.now) }
     ensures given_up { IfErr result (IsGivenUp commands.now) }
 {
     thread::scope(
@@ -409,7 +422,7 @@ fn run_scoped<R: Threads + Wait + Sync, G: Gate + Sync>(
         rt,
         |scope| -> Result<Ran, NodeFault>
             requires { All NamesNodes commands.now × AreAdmitted [] commands.now × HaveRoom (capacities_in commands.now) × AreOutboxes (node_count commands.now) all.now × AllStand commands.now stood.now }
-            ensures { IfOk result (λ ran. AreNodesReported commands.entry.now ran.reports.items) × IfOk result (λ ran. AreWaits commands.entry.now 0 ran.gave_up.items) × IfErr result (IsGivenUp commands.entry.now) }
+            ensures { IfOk result (λ ran. AreNodesReported commands.entry.now ran.reports.items) × IfOk result (λ ran. AreWaits commands.entry.now 0 ran.gave_up.items) × IfOk result (λ ran. length ran.losses.items ≡ node_count commands.entry.now) × IfErr result (IsGivenUp commands.entry.now) }
         { run_in(scope, rt, gate, alloc, all, stood, commands) },
     )
 }
@@ -433,6 +446,7 @@ pub fn run_lines<R: Threads + Wait + Sync, G: Gate + Sync>(
     requires room { HaveRoom (capacities_in commands.now) }
     ensures reported { IfOk result (λ ran. AreNodesReported commands.now ran.reports.items) }
     ensures waits { IfOk result (λ ran. AreWaits commands.now 0 ran.gave_up.items) }
+    ensures losses { IfOk result (λ ran. length ran.losses.items ≡ node_count commands.now) }
     ensures given_up { IfErr result (IsGivenUp commands.now) }
 {
     let counting = Counting::new(Lent::new(gate));

@@ -1,5 +1,5 @@
 //! The worker of the slot stage.
-ghost use Rattle.std.specs.Prelude.{◌≡◌, true, false, [], ◌∷◌, ◌++◌, List, IsTrue, ◌↔◌, IsSome, IfSome, length, ◌≤◌, option_to_list};
+ghost use Rattle.std.specs.Prelude.{◌≡◌, true, false, [], ◌∷◌, ◌++◌, List, IsTrue, ◌↔◌, IsSome, IfSome, OnOk, length, ◌≤◌, option_to_list};
 ghost use Rattle.scp_types.specs.declared.names.NodeId.{NodeId};
 ghost use Rattle.scp_quorum.specs.QuorumTree.{QuorumTree};
 ghost use Rattle.scp_pending.specs.declared.ready.Ready.{Ready};
@@ -7,8 +7,8 @@ ghost use Rattle.scp_ends.specs.Ends.{HeardAll};
 ghost use Rattle.scp_ledger.specs.Onwards.{KeepsWindow};
 ghost use Rattle.scp_workers.specs.Working.{IsSameEnd};
 ghost use Rattle.scp_ledger.specs.Kv.{KvJournals};
-ghost use Rattle.scp_workers.specs.Slot.{HoldsEnds, EndsWell};
-ghost use Rattle.scp_workers.specs.inside.Slot.{Stands, JournalsOn, MayFollow, SameEnds};
+ghost use Rattle.scp_workers.specs.Slot.{HoldsEnds, EndsWell, HaveFates, TellsWell};
+ghost use Rattle.scp_workers.specs.inside.Slot.{Stands, JournalsOn, FatesOn, MayFollow, SameEnds};
 
 use crate::ending::stop_well;
 use crate::handing::hand_out_all;
@@ -16,14 +16,14 @@ use scp_driver::KvDriver;
 use scp_ends::{DecidedDone, DecidedTx, Gone, Item, Nobody, ReadyRx};
 use scp_gate::{Counter, Gate, Stage};
 use scp_ledger::{
-    Ledger, Onward, Took, what_holds_of_a_ledger_holds_with_one_thing_more,
+    CommandFate, Ledger, Onward, Took, what_holds_of_a_ledger_holds_with_one_thing_more,
     what_is_given_on_keeps_the_window,
 };
 use scp_outbox::SharedOutbox;
 use scp_pending::Ready;
 use scp_quorum::SaneSet;
 use scp_types::NodeId;
-use std::alloc::Global;
+use std::alloc::{AllocError, Global};
 use std::marker::Model;
 use std::snapshot::Snapshot;
 use std::sync::{Arc, Wait};
@@ -35,6 +35,7 @@ pub struct SlotWorker {
     rx: ReadyRx,
     tx: DecidedTx,
     ledger: Ledger<KvDriver>,
+    fates: Vec<CommandFate>,
     outlets: Vec<Arc<SharedOutbox>>,
     node: NodeId,
     local: Snapshot<Arc<SaneSet>>,
@@ -51,7 +52,7 @@ impl Model for SlotWorker {
     ghost use Rattle.scp_quorum.specs.inside.QuorumTree.{coded_level};
     ghost use Rattle.scp_ends.specs.Order.{values};
     ghost use Rattle.scp_ledger.specs.Kv.{KvJournals};
-    ghost use Rattle.scp_workers.specs.Slot.{SlotWorking};
+    ghost use Rattle.scp_workers.specs.Slot.{SlotWorking, HaveFates};
 
     ghost Value = { SlotWorking };
 
@@ -59,16 +60,17 @@ impl Model for SlotWorker {
 
     ghost view = { λ w. record { me = w.node; local = w.local.value.value; peers = w.peers.value.items; input = w.rx; output = w.tx; failed = w.failed; cut_off = is_some w.gone } };
 
-    ghost invariant = { λ w. (w.rx.producers ≡ 1) × (w.failed ≡ false → KvJournals w.node w.local.value.value w.peers.value.items (values w.rx.got) w.tx.sent w.ledger) × (is_some w.gone ≡ true → w.failed ≡ true) };
+    ghost invariant = { λ w. (w.rx.producers ≡ 1) × (w.failed ≡ false → KvJournals w.node w.local.value.value w.peers.value.items (values w.rx.got) w.tx.sent w.ledger) × (is_some w.gone ≡ true → w.failed ≡ true) × (w.failed ≡ false → HaveFates w.node w.local.value.value w.peers.value.items (values w.rx.got) w.tx.sent w.fates.items w.ledger) };
 }
 
 /// What the worker of the slot stage ends with: its receiving end, the ledger, where it ended well what its sending end leaves,
-/// and whether nobody sent to it any more.
+/// what became of the commands that it took, and whether nobody sent to it any more.
 #[derive(Drop)]
 pub struct SlotEnded {
     rx: ReadyRx,
     done: Option<DecidedDone>,
     ledger: Ledger<KvDriver>,
+    fates: Vec<CommandFate>,
     gone: Option<Nobody>,
 }
 
@@ -80,15 +82,15 @@ impl Model for SlotEnded {
     ghost use Rattle.scp_driver.specs.contracts.kv_driver.KvDriver as driver;
     ghost use Rattle.scp_ledger.specs.inside.Coding.{machine_code};
     ghost use Rattle.scp_workers.specs.inside.Working.{HearsToTheEnd};
-    ghost use Rattle.scp_workers.specs.Slot.{SlotEnd, EndsWell};
+    ghost use Rattle.scp_workers.specs.Slot.{SlotEnd, EndsWell, TellsWell};
 
     ghost Value = { SlotEnd };
 
     ghost coded = { Prim.hlevel (codes, machine_code driver.the_row.coded, coded_row coded_level) };
 
-    ghost view = { λ e. record { input = e.rx; output = e.done; view = e.ledger; cut_off = is_some e.gone } };
+    ghost view = { λ e. record { input = e.rx; output = e.done; view = e.ledger; fates = e.fates.items; cut_off = is_some e.gone } };
 
-    ghost invariant = { λ e. EndsWell (record { input = e.rx; output = e.done; view = e.ledger; cut_off = is_some e.gone }) × HearsToTheEnd e.rx (is_some e.gone) };
+    ghost invariant = { λ e. EndsWell (record { input = e.rx; output = e.done; view = e.ledger; fates = e.fates.items; cut_off = is_some e.gone }) × HearsToTheEnd e.rx (is_some e.gone) × TellsWell (record { input = e.rx; output = e.done; view = e.ledger; fates = e.fates.items; cut_off = is_some e.gone }) };
 }
 
 impl SlotEnded {
@@ -106,31 +108,53 @@ impl SlotEnded {
         self.gone.is_some()
     }
 
-    /// Its receiving end, where it ended well what its sending end left, and the ledger.
-    pub fn into_parts(self) -> (ReadyRx, Option<DecidedDone>, Ledger<KvDriver>)
-        ensures parts { (result.0 ≡ self.input) × (result.1 ≡ self.output) × (result.2 ≡ self.view) }
+    /// Its receiving end, where it ended well what its sending end left, the ledger, and what became of the commands that it
+    /// took, in their order.
+    pub fn into_parts(
+        self,
+    ) -> (
+        ReadyRx,
+        Option<DecidedDone>,
+        Ledger<KvDriver>,
+        Vec<CommandFate>,
+    )
+        ensures parts { (result.0 ≡ self.input) × (result.1 ≡ self.output) × (result.2 ≡ self.view) × (result.3.items ≡ self.fates) }
         ensures well { EndsWell self }
+        ensures tells { TellsWell self }
         ensures heard { self.cut_off ≡ false → HeardAll self.input }
     {
         let SlotEnded {
             rx,
             done,
             ledger,
+            fates,
             ..
         } = self;
-        (rx, done, ledger)
+        (rx, done, ledger, fates)
     }
 }
 
-/// Takes a thing into the ledger, and hands out what goes to peers. `None` where either failed.
+/// Keeps what became of a command, if it was one.
+fn keep(fates: &mut Vec<CommandFate>, fate: Option<CommandFate>) -> Result<(), AllocError>
+    ensures { OnOk result (fates.new.items ≡ fates.old.items ++ option_to_list fate) }
+{
+    if let Some(fate) = fate {
+        fates.push(fate)?;
+    }
+    Ok(())
+}
+
+/// Takes a thing into the ledger, keeps what became of it, and hands out what goes to peers. `None` where one of these failed.
 fn take_in<R: Wait>(
     rt: &R,
     outlets: &[Arc<SharedOutbox>],
     ledger: &mut Ledger<KvDriver>,
+    fates: &mut Vec<CommandFate>,
     ready: Ready,
 ) -> Option<Option<Onward>>
     ensures journals { IfSome result (λ onward. JournalsOn ready ledger.old onward ledger.new) }
     ensures window { IfSome result (λ onward. MayFollow ledger.old onward) }
+    ensures fates { IfSome result (λ onward. FatesOn ready ledger.old fates.old.items onward ledger.new fates.new.items) }
 {
     what_holds_of_a_ledger_holds_with_one_thing_more::<KvDriver>();
     what_is_given_on_keeps_the_window::<KvDriver>();
@@ -138,10 +162,14 @@ fn take_in<R: Wait>(
         return None;
     };
     let Took {
+        command,
         onward,
         outgoing,
         ..
     } = took;
+    let Ok(()) = keep(fates, command) else {
+        return None;
+    };
     if hand_out_all(rt, outlets, outgoing).is_err() {
         return None;
     }
@@ -182,21 +210,24 @@ fn send_any<R: Wait, G: Gate>(
     }
 }
 
-/// Takes a thing into the ledger, hands out what goes to peers, and sends on what comes of it. Says whether nothing was lost.
+/// Takes a thing into the ledger, keeps what became of it, hands out what goes to peers, and sends on what comes of it. Says
+/// whether nothing was lost.
 fn take_one<R: Wait, G: Gate>(
     rt: &R,
     gate: &G,
     counter: &mut Counter,
     outlets: &[Arc<SharedOutbox>],
     ledger: &mut Ledger<KvDriver>,
+    fates: &mut Vec<CommandFate>,
     tx: &mut DecidedTx,
     ready: Ready,
 ) -> bool
     requires { Stands ledger.old tx.old.sent }
     ensures same { IsSameEnd tx.old tx.new }
     ensures takes { result ≡ true → (me : NodeId) → (local : QuorumTree) → (peers : List NodeId) → (took : List Ready) → KvJournals me local peers took tx.old.sent ledger.old → KvJournals me local peers (took ++ ready ∷ []) tx.new.sent ledger.new }
+    ensures fates { result ≡ true → (me : NodeId) → (local : QuorumTree) → (peers : List NodeId) → (took : List Ready) → HaveFates me local peers took tx.old.sent fates.old.items ledger.old → HaveFates me local peers (took ++ ready ∷ []) tx.new.sent fates.new.items ledger.new }
 {
-    let Some(onward) = take_in(rt, outlets, ledger, ready) else {
+    let Some(onward) = take_in(rt, outlets, ledger, fates, ready) else {
         return false;
     };
     send_any(rt, gate, counter, tx, onward)
@@ -226,6 +257,7 @@ impl SlotWorker {
             rx,
             tx,
             ledger: Ledger::new(alloc, node, local, KvDriver, peers),
+            fates: Vec::new(alloc),
             outlets,
             node,
             local: set,
@@ -260,6 +292,7 @@ impl SlotWorker {
                 &mut self.counter,
                 self.outlets.as_slice(),
                 &mut self.ledger,
+                &mut self.fates,
                 &mut self.tx,
                 thing,
             )
@@ -290,6 +323,7 @@ impl SlotWorker {
             rx,
             tx,
             ledger,
+            fates,
             failed,
             gone,
             ..
@@ -299,6 +333,7 @@ impl SlotWorker {
             rx,
             done,
             ledger,
+            fates,
             gone,
         }
     }

@@ -10,11 +10,13 @@ use Rattle.scp_pending.specs.Pends.{Pends}
 use Rattle.scp_pending.specs.Rules.{PendingView}
 use Rattle.scp_apply.specs.Applier.{ApplierView}
 use Rattle.scp_ends.specs.Order.{values}
+use Rattle.scp_ledger.specs.declared.took.CommandFate.{CommandFate}
 use Rattle.scp_ledger.specs.Kv.{KvLedger}
 use Rattle.scp_gather.specs.declared.gathering.NodeReport.{NodeReport}
 use Rattle.scp_headline.specs.Headline.{Headline}
 use Rattle.scp_gather.specs.Headline.{books_reported}
-use Rattle.scp_gather.specs.Report.{IsReportOf}
+use Rattle.scp_gather.specs.Report.{IsReportOf, AreFatesOf}
+use Rattle.scp_gather.proofs.Commands.{fates_of_node}
 use Rattle.scp_gather.proofs.Joining.{node_pends}
 use Rattle.scp_gather.proofs.gathering.gather.Goals as goal
 
@@ -60,3 +62,14 @@ returns-clause-headline c = λ me set peers n.
     (λ (r : NodeReport). Headline (books_reported me set peers c.args.ends r.journal.items r.applied.items r.state))
     (λ r is. c.what_is_reported_keeps_the_headline.ensures.headline me set peers c.args.ends r.journal.items r.parked.items r.applied.items r.state is)
     c.told.result (returns-clause-theorem c me set peers n)
+
+pub returns-clause-commands : goal.returns-clause-commands
+returns-clause-commands c = λ me set peers n.
+    let w = c.settle-pending.ensures.ended in
+    let g = c.what_ends_well_is_gathered.ensures me set peers c.args.ends n w in
+    let fates = fates_of_node c.each_command_passes_once.ensures.commands me set peers c.args.ends n w g c.settle-pending.ensures.tells in
+    if_ok_one
+    (λ (r : NodeReport). r.commands.items ≡ c.settle-pending.result.3.items)
+    (λ (r : NodeReport). AreFatesOf me set peers c.args.ends r.commands.items)
+    (λ r is. subst (λ (xs : List CommandFate). AreFatesOf me set peers c.args.ends xs) (sym (is ∙ c.settle-pending.ensures.parts.3)) fates)
+    c.told.result c.told.ensures.commands

@@ -28,7 +28,7 @@ returns-in-Ok-clause-headline g c =
     let same : commands ≡ commands_in c.args.text.now = c.as_slice-commands.ensures.value ∙ c.in_ok-script.ensures.commands in
     let reported : AreNodesReported commands reports = subst (λ (l : List NodeReport). AreNodesReported commands l) (sym c.as_slice-reports.ensures.value) c.in_ok-ran.ensures.reported in
     let text : string_bytes c.write_all_gathered.new.text ≡ flat_map (report_gathered_at reports) (reports_in commands) = c.in-Ok.ensures ∙ ap (λ (l : List ℕ). l ++ flat_map (report_gathered_at reports) (reports_in commands)) c.new-printed.ensures.bytes in
-    are_gathered_headlined c.what_is_reported_keeps_the_headline.ensures.headline c.args.text.now (string_bytes c.write_all_gathered.new.text) commands reports same reported text
+    are_gathered_headlined c.what_is_played_keeps_the_headlines.ensures.reported c.args.text.now (string_bytes c.write_all_gathered.new.text) commands reports same reported text
 
 pub returns-in_err-ran-clause-line : goal.returns-in_err-ran-clause-line
 returns-in_err-ran-clause-line g c =

@@ -9,3 +9,8 @@ play_lines-requires-clause-new c = subst (λ (cs : List Command). HasPlayed cs [
 
 pub returns-clause-ran : goal.returns-clause-ran
 returns-clause-ran c = run_shown c.args.script.commands.items c.args.script.lines.items _ _ _ _ _ _ c.in_ok-cut.ensures.run c.told.ensures c.as_slice-2.ensures.value c.in_ok-notices.ensures.notices
+
+pub returns-clause-headline : goal.returns-clause-headline
+returns-clause-headline c =
+    let shows = run_shown c.args.script.commands.items c.args.script.lines.items _ _ _ _ _ _ c.in_ok-cut.ensures.run c.told.ensures c.as_slice-2.ensures.value c.in_ok-notices.ensures.notices in
+    c.what_is_played_keeps_the_headlines.ensures.played c.args.script.commands.items shows.played.heard _ shows.played.played

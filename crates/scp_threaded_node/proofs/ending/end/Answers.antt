@@ -7,16 +7,16 @@ use Rattle.scp_wire.specs.declared.link.Inbound.{Inbound}
 use Rattle.scp_ends.specs.Ends.{Sender}
 use Rattle.scp_gather.specs.declared.gathering.NodeReport.{NodeReport}
 use Rattle.scp_gather.specs.Node.{IsNode}
-use Rattle.scp_gather.specs.Report.{IsReportOf}
+use Rattle.scp_gather.specs.Report.{IsReportOf, AreFatesOf}
 use Rattle.scp_threaded_node.specs.Ended.{IsEnded}
 use Rattle.scp_threaded_node.specs.Faults.{links_fault, local_fault, stage_failed}
 use Rattle.scp_threaded_node.proofs.Told.{gathered_told}
 use Rattle.scp_threaded_node.proofs.Leaving.{joined, is_node}
 use Rattle.scp_threaded_node.proofs.ending.end.Goals as goal
 
-if_ok : {X Y : Type 0} (P Q : X → Type 0) → ((x : X) → P x → Q x) → (r : Result X Y) → IfOk r P → IfOk r Q
-if_ok P Q f (Ok x) h = f x h
-if_ok P Q f (Err e) h = tt
+if_ok : {X Y : Type 0} (P S Q : X → Type 0) → ((x : X) → P x → S x → Q x) → (r : Result X Y) → IfOk r P → IfOk r S → IfOk r Q
+if_ok P S Q f (Ok x) h s = f x h s
+if_ok P S Q f (Err e) h s = tt
 
 pub gather-requires : goal.gather-requires
 gather-requires g c = let r = c.requires.runs in record { joined = joined r.0 r.1 r.2 c.args.node c.in_ok-stop.field-0 r.3 c.in_ok-stop.ensures.left }
@@ -26,15 +26,17 @@ returns-clause-ended g c = λ me set peers apart runs driven sent all.
     let left = c.in_ok-stop.ensures.left in
     let node : IsNode me set peers c.in_ok-stop.field-0 = is_node me set peers c.args.node c.in_ok-stop.field-0 apart runs left in
     if_ok (λ (r : NodeReport). IsReportOf me set peers c.in_ok-stop.field-0 r.journal.items r.parked.items r.applied.items r.state)
+    (λ (r : NodeReport). AreFatesOf me set peers c.in_ok-stop.field-0 r.commands.items)
     (IsEnded me set peers c.args.node.local.sent driven sent c.args.stood.now)
-    (λ r report. record {
+    (λ r report fates. record {
       left = c.in_ok-stop.field-0;
       report = report;
       commands_are = ap (λ (s : Sender Inbound). s.sent) left.local;
+      fates_are = fates;
       links_count = node.links_count;
       links_are = c.in_ok-stop.ensures.sent driven sent all;
     })
-    c.gather.result (c.gather.ensures.theorem me set peers node)
+    c.gather.result (c.gather.ensures.theorem me set peers node) (c.gather.ensures.commands me set peers node)
 
 pub returns-clause-fault : goal.returns-clause-fault
 returns-clause-fault g c =

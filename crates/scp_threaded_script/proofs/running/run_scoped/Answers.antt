@@ -6,5 +6,8 @@ returns-clause-reported g c = c.scoped.ensures.1.0
 pub returns-clause-waits : goal.returns-clause-waits
 returns-clause-waits g c = c.scoped.ensures.1.1
 
+pub returns-clause-losses : goal.returns-clause-losses
+returns-clause-losses g c = c.scoped.ensures.1.2
+
 pub returns-clause-given_up : goal.returns-clause-given_up
-returns-clause-given_up g c = c.scoped.ensures.1.2
+returns-clause-given_up g c = c.scoped.ensures.1.3

@@ -2,6 +2,7 @@ use Rattle.std.proofs.Common.{rules, ap, ◌∙◌, List, [], ◌∷◌, ◌++�
 use Rattle.scp_pending.specs.declared.ready.Ready.{Ready}
 use Rattle.scp_ends.specs.Order.{number_of, values}
 use Rattle.scp_ledger.specs.Kv.{KvJournals}
+use Rattle.scp_workers.specs.Slot.{HaveFates}
 use Rattle.scp_workers.proofs.Receiving.{heard_end, one_more, no_more}
 use Rattle.scp_workers.proofs.slot.SlotWorker.step.Goals as goal
 
@@ -14,6 +15,7 @@ invariant_of-self-in_default g c =
       ap (λ r. r.producers) c.in-Ok.ensures.received.0 ∙ c.self.invariant.0,
       λ kept. no_more (λ (xs : List Ready). KvJournals c.self.inside.node c.self.inside.local.value.value c.self.inside.peers.value.items xs c.self.inside.tx.sent c.self.inside.ledger) c.self.inside.rx.got _ c.in_default.field-0 now (c.self.invariant.1 kept),
       c.self.invariant.2,
+      λ kept. no_more (λ (xs : List Ready). HaveFates c.self.inside.node c.self.inside.local.value.value c.self.inside.peers.value.items xs c.self.inside.tx.sent c.self.inside.fates.items c.self.inside.ledger) c.self.inside.rx.got _ c.in_default.field-0 now (c.self.invariant.3 kept),
     )
 
 pub returns-in_default-clause-over : goal.returns-in_default-clause-over
@@ -29,4 +31,6 @@ invariant_of-self-else-not-take_one g c =
       λ kept. one_more (λ (xs : List Ready). KvJournals c.self.inside.node c.self.inside.local.value.value c.self.inside.peers.value.items xs c.take_one.new.tx.sent c.take_one.new.ledger) c.self.inside.rx.got _ c.in-One.field-0 c.in-One.thing now
           (c.if-not-take_one.ensures.takes (search rules) c.self.inside.node c.self.inside.local.value.value c.self.inside.peers.value.items (values c.self.inside.rx.got) (c.self.invariant.1 kept)),
       c.self.invariant.2,
+      λ kept. one_more (λ (xs : List Ready). HaveFates c.self.inside.node c.self.inside.local.value.value c.self.inside.peers.value.items xs c.take_one.new.tx.sent c.take_one.new.fates.items c.take_one.new.ledger) c.self.inside.rx.got _ c.in-One.field-0 c.in-One.thing now
+          (c.if-not-take_one.ensures.fates (search rules) c.self.inside.node c.self.inside.local.value.value c.self.inside.peers.value.items (values c.self.inside.rx.got) (c.self.invariant.3 kept)),
     )

@@ -1,0 +1,10 @@
+pub mod Lists
+pub mod Views
+pub mod Numbers
+pub mod Rows
+pub mod Sames
+pub mod Refuting
+pub mod Forms
+pub mod Distinct
+pub mod Telling
+pub mod Lifting

@@ -1,0 +1,39 @@
+-- A node that heard more, and then more again.
+use Rattle.std.proofs.Common.{List, [], ◌∷◌, ◌++◌, refl, sym, subst, append_assoc, append-nil}
+use Rattle.std.specs.List.{AllByRecursion}
+use Rattle.scp_core.specs.declared.event.Event.{Event}
+use Rattle.scp_core.specs.declared.event.Reply.{Reply}
+use Rattle.scp_core.specs.History.{Exchange}
+use Rattle.scp_core.specs.Node.{NodeView, Step}
+use Rattle.scp_core.specs.Theorem.{LedgerTheorem}
+use Rattle.scp_turn.specs.Turn.{Does, Goes}
+
+-- what holds of what was heard
+abbrev pub Saying : Type 1
+Saying = NodeView → List Exchange → NodeView → Type 0
+
+does_on : (a b c : NodeView) (x y : List Exchange) → Does a x b → Does b y c → Does a (x ++ y) c
+does_on a b c [] y p q = subst (λ (v : NodeView). Does v y c) p q
+does_on a b c (e ∷ x) y p q = (p.0, p.1, does_on p.0 b c x y p.2 q)
+
+pub goes_nothing : (a : NodeView) (Is : Saying) → Is a [] a → Goes a a Is
+goes_nothing a Is is = record { heard = []; is = is; does = refl; theorem = λ past h. subst (λ (p : List Exchange). LedgerTheorem p a) (sym (append-nil past)) h }
+
+-- one step
+pub goes_one : (a b : NodeView) (e : Event) (r : Reply) (Is : Saying) → Step a e r b → ((past : List Exchange) → LedgerTheorem past a → LedgerTheorem (past ++ (e, r) ∷ []) b) → Is a ((e, r) ∷ []) b → Goes a b Is
+goes_one a b e r Is step theorem is = record { heard = (e, r) ∷ []; is = is; does = (b, step, refl); theorem = theorem }
+
+pub goes_as : (a b : NodeView) (P Q : Saying) → ((heard : List Exchange) → Does a heard b → P a heard b → Q a heard b) → Goes a b P → Goes a b Q
+goes_as a b P Q f g = record { heard = g.heard; is = f g.heard g.does g.is; does = g.does; theorem = g.theorem }
+
+pub goes_then : (a b c : NodeView) (P Q R : Saying) → ((x y : List Exchange) → Does a x b → Does b y c → P a x b → Q b y c → R a (x ++ y) c) → Goes a b P → Goes b c Q → Goes a c R
+goes_then a b c P Q R both f s = record {
+  heard = f.heard ++ s.heard;
+  is = both f.heard s.heard f.does s.does f.is s.is;
+  does = does_on a b c f.heard s.heard f.does s.does;
+  theorem = λ past h. subst (λ (p : List Exchange). LedgerTheorem p c) (append_assoc past f.heard s.heard) (s.theorem (past ++ f.heard) (f.theorem past h));
+}
+
+pub all_on : {X : Type 0} (P : X → Type 0) (xs ys : List X) → AllByRecursion P xs → AllByRecursion P ys → AllByRecursion P (xs ++ ys)
+all_on P [] ys p q = q
+all_on P (x ∷ xs) ys p q = (p.0, all_on P xs ys p.1 q)

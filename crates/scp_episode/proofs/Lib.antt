@@ -1,0 +1,4 @@
+pub mod Going
+pub mod Draws
+pub mod Quiet
+pub mod Episodes

@@ -1,0 +1,3 @@
+pub mod Episode
+pub mod Laws
+pub mod inside

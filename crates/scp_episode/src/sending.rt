@@ -1,0 +1,10 @@
+//! What goes out.
+
+use scp_core::Bytes;
+
+/// Bytes that go out over a link: they spell a link message.
+#[derive(Debug, Drop)]
+pub struct Sending {
+    pub link: u8,
+    pub bytes: Bytes,
+}

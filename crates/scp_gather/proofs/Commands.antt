@@ -1,0 +1,61 @@
+-- What became of a node's own commands.
+use Rattle.std.proofs.Common.{◌≡◌, List, [], ◌∷◌, ◌++◌, filter, refl, sym, ◌∙◌, ap, subst, append-nil}
+use Rattle.std.specs.Prelude.{Option, IfSome}
+use Rattle.scp_types.specs.declared.names.NodeId.{NodeId}
+use Rattle.scp_quorum.specs.QuorumTree.{QuorumTree}
+use Rattle.scp_wire.specs.declared.link.Command.{Command}
+use Rattle.scp_wire.specs.declared.link.Inbound.{Inbound}
+use Rattle.scp_wire.specs.declared.link.Inbound.TheVariants as inbound
+use Rattle.scp_pending.specs.declared.ready.Ready.{Ready}
+use Rattle.scp_pending.specs.Endings.{passing_command, commands_in, commands_of}
+use Rattle.scp_pending.specs.Laws.{CommandsPass}
+use Rattle.scp_ledger.specs.declared.took.Onward.{Onward}
+use Rattle.scp_ends.specs.Ends.{Sender}
+use Rattle.scp_ends.specs.Order.{values}
+use Rattle.scp_workers.specs.Slot.{IsFor as JournalsFor, HaveFates, TellsWell}
+use Rattle.scp_gather.specs.Left.{Left}
+use Rattle.scp_gather.specs.Node.{IsNode, EndWell}
+use Rattle.scp_gather.specs.Gathered.{is_command, Gathered}
+use Rattle.scp_gather.specs.Report.{AreFatesOf}
+use Rattle.scp_gather.proofs.Hearing.{sole_is}
+use Rattle.scp_gather.proofs.Joining.{node_pends}
+
+-- what is no command passes as none
+commands_alone : (xs : List Inbound) → commands_in (filter is_command xs) ≡ commands_in xs
+commands_alone [] = refl
+commands_alone (inbound.Opened conn ∷ xs) = commands_alone xs
+commands_alone (inbound.Carried x ∷ xs) = commands_alone xs
+commands_alone (inbound.Side conn message ∷ xs) = commands_alone xs
+commands_alone (inbound.Closed conn cause ∷ xs) = commands_alone xs
+commands_alone (inbound.Local command ∷ xs) = ap (λ (cs : List Command). passing_command command ++ cs) (commands_alone xs)
+
+module _ (passes : CommandsPass) (me : NodeId) (set : QuorumTree) (peers : List NodeId) (e : Left) (n : IsNode me set peers e) (w : EndWell e) (g : Gathered me set peers e) where
+  on_way : values e.slot.input.got ≡ w.given.sent
+  on_way = sole_is e.slot.input w.given n.ready w.journals.heard w.ready
+
+  onwards : values e.apply.input.got ≡ w.onward.sent
+  onwards = sole_is e.apply.input w.onward n.decided w.applies.heard w.decided
+
+  -- those that were taken are those that were sent
+  passed : commands_of (values e.slot.input.got) ≡ commands_in e.local.sent
+  passed =
+      ap (λ (rs : List Ready). commands_of rs) (on_way ∙ sym (append-nil w.given.sent) ∙ ap (λ (rs : List Ready). w.given.sent ++ rs) (sym w.pends.nothing_ready))
+      ∙ passes me peers (values e.pend.input.got) w.given.sent e.pend.view (node_pends me set peers e n w)
+      ∙ sym (commands_alone (values e.pend.input.got))
+      ∙ ap (λ (xs : List Inbound). commands_in xs) g.told
+
+  journals_for : JournalsFor me peers set e.slot.view
+  journals_for = subst (λ (o : Option (Sender Onward)). IfSome o (λ _. JournalsFor me peers set e.slot.view)) w.slot_ended n.journals_for
+
+  pub fates_of_node : TellsWell e.slot → AreFatesOf me set peers e e.slot.fates
+  fates_of_node t =
+      let took = values e.slot.input.got in
+      let here : HaveFates e.slot.view.me e.slot.view.local e.slot.view.peers took w.onward.sent e.slot.fates e.slot.view = subst (λ (o : Option (Sender Onward)). IfSome o (λ (s : Sender Onward). HaveFates e.slot.view.me e.slot.view.local e.slot.view.peers took s.sent e.slot.fates e.slot.view)) w.slot_ended t in
+      record {
+        commands = passed;
+        told =
+            subst (λ (ys : List Onward). HaveFates me set peers took ys e.slot.fates e.slot.view) (sym onwards)
+            (subst (λ (q : QuorumTree). HaveFates me q peers took w.onward.sent e.slot.fates e.slot.view) journals_for.local_is
+            (subst (λ (ps : List NodeId). HaveFates me e.slot.view.local ps took w.onward.sent e.slot.fates e.slot.view) journals_for.peers_are
+            (subst (λ (m : NodeId). HaveFates m e.slot.view.local e.slot.view.peers took w.onward.sent e.slot.fates e.slot.view) journals_for.me_is here)));
+      }

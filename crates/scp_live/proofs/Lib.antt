@@ -1,0 +1,4 @@
+pub mod Adding
+pub mod Texts
+pub mod Refusals
+pub mod Reports

@@ -1,0 +1,7 @@
+use Rattle.std.proofs.Common.{◌≡◌, ◌++◌, string_bytes, flat_map}
+use Rattle.scp_told.specs.State.{key_line}
+use Rattle.scp_live.proofs.questions.tell_keys.Given as goal
+
+-- with what is left it is all
+abbrev pub invariant-loop-key : goal.invariant-loop-key
+invariant-loop-key l = string_bytes l.text ++ flat_map key_line l.key-iterator ≡ string_bytes l.initial.text ++ flat_map key_line l.initial.key-iterator

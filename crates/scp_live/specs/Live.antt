@@ -1,0 +1,68 @@
+-- A node with what its host was told of it: what is told of an event.
+use Rattle.std.specs.Prelude.{◌≡◌, ℕ, List, [], ◌++◌, length, drop, flat_map}
+use Rattle.scp_timers.specs.declared.running.Timer.{Timer}
+use Rattle.scp_timers.specs.Timers.{AreTimers}
+use Rattle.sha2.specs.Sha256.{sha256}
+use Rattle.scp_core.specs.declared.event.Event.{Event}
+use Rattle.scp_core.specs.declared.event.Reply.{Reply}
+use Rattle.scp_core.specs.declared.event.Reply.TheVariants as reply
+use Rattle.scp_core.specs.History.{Exchange}
+use Rattle.scp_core.specs.Node.{NodeView}
+use Rattle.scp_episode.specs.declared.sending.Sending.{Sending}
+use Rattle.scp_episode.specs.Episode.{IsEpisode, sent_in}
+use Rattle.scp_told.specs.Names.{name_at}
+use Rattle.scp_told.specs.Sent.{send_line}
+use Rattle.scp_told.specs.Fates.{fate_line}
+use Rattle.scp_told.specs.Decisions.{decided_line, applied_line}
+use Rattle.scp_told.specs.Replies.{refused_line}
+use Rattle.scp_told.specs.Timers.{changes}
+
+-- a node, the names of its peers in the order of the links, and the timers that its host was last told to run
+pub record LiveView : Type 0 where
+  pub node : NodeView
+  pub names : List (List ℕ)
+  pub timers : List Timer
+
+-- the line of what was sent
+abbrev pub sent_line : List (List ℕ) → Sending → List ℕ
+sent_line names s = send_line (name_at names s.link) s.bytes
+
+-- the lines of all that was sent, in order
+abbrev pub sends : List (List ℕ) → List Exchange → List ℕ
+sends names heard = flat_map (sent_line names) (sent_in heard)
+
+-- what is told of the reply to an event: nothing where it was accepted, else why not
+abbrev pub refusal : Reply → List ℕ
+refusal reply.Accepted = []
+refusal other = refused_line other
+
+-- the line of each fate behind the first so many
+abbrev pub new_fates : List (List ℕ) → ℕ → NodeView → List ℕ
+new_fates names before v = flat_map (fate_line names v.config.peers) (drop before v.ledger.journal)
+
+-- the line of each decision behind the first so many
+abbrev pub new_decisions : List (List ℕ) → ℕ → NodeView → List ℕ
+new_decisions names before v = flat_map (decided_line names v.config.peers) (drop before v.ledger.decisions)
+
+-- the line of each applied slot behind the first so many
+abbrev pub newly_applied : ℕ → NodeView → List ℕ
+newly_applied before v = flat_map applied_line (drop before v.applier.applied)
+
+-- What is told of an episode that began with this reply: why it was refused; what was sent; the new fates, decisions and applied slots; and
+-- the timers that run no more or from now on.
+abbrev pub told_of : List (List ℕ) → List Timer → List Timer → Reply → NodeView → List Exchange → NodeView → List ℕ
+told_of names before after' reply old heard new =
+    refusal reply ++ sends names heard
+    ++ new_fates names (length old.ledger.journal) new ++ new_decisions names (length old.ledger.decisions) new ++ newly_applied (length old.applier.applied) new
+    ++ changes before after'
+
+-- the timers that the host of the node should run
+abbrev pub AreTimersOf : NodeView → List Timer → Type 0
+AreTimersOf v timers = AreTimers v.ledger.machines v.ledger.lowest 16 timers
+
+-- What an event did and what was told of it: an episode, behind the text its lines, and the digest of the lines of what was sent.
+pub record IsTold (event : Event) (names : List (List ℕ)) (before after' : List Timer) (old : NodeView) (heard : List Exchange) (new : NodeView) (text longer digest : List ℕ) : Type 0 where
+  pub reply : Reply
+  pub episode : IsEpisode event reply old heard new
+  pub lines : longer ≡ text ++ told_of names before after' reply old heard new
+  pub digest_is : digest ≡ sha256 (sends names heard)

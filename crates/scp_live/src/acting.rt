@@ -1,0 +1,93 @@
+//! An event, and all that is told of it.
+ghost use Rattle.std.specs.Prelude.{◌≡◌, ◌⊎◌, ◌↔◌, ◌++◌, false, true, IfOk, IfErr, OnOk, IsErrOf, IsOkUnless, map, flat_map, string_bytes};
+ghost use Rattle.sha2.specs.Sha256.{sha256};
+ghost use Rattle.scp_types.specs.declared.fault.Fault.{Fault};
+ghost use Rattle.scp_turn.specs.Turn.{Goes};
+ghost use Rattle.scp_episode.specs.Episode.{IsOfHost, finds_full};
+ghost use Rattle.scp_told.specs.Timers.{changes};
+ghost use Rattle.scp_live.specs.Live.{IsTold, AreTimersOf, refusal, sent_line, new_fates, new_decisions, newly_applied};
+
+use crate::telling::{Marks, digest_from, tell_new, tell_refusal, tell_sent};
+use scp_core::{Event, Node};
+use scp_episode::{Played, play};
+use scp_timers::{Timer, timers};
+use scp_told::write_changes;
+use scp_types::{Fault, Hash};
+use std::alloc::Global;
+
+/// Tells the reply and what was sent, and answers the digest of the lines of what was sent.
+fn tell_played(text: &mut String, names: &[String], played: &Played) -> Result<Hash, Fault>
+    ensures told { OnOk result (string_bytes text.new ≡ string_bytes text.old ++ refusal played.now.reply ++ flat_map (sent_line (map string_bytes names.now)) played.now.sent.items) }
+    ensures digest { IfOk result (λ hash. hash.0 ≡ sha256 (flat_map (sent_line (map string_bytes names.now)) played.now.sent.items)) }
+    ensures only_memory { IsOkUnless result Fault.NoMemory }
+{
+    tell_refusal(text, &played.reply)?;
+    let start = text.len();
+    tell_sent(text, names, played.sent.as_slice())?;
+    Ok(digest_from(text, start))
+}
+
+/// Tells what is new of a node since these marks, and which timers run no more or from now on: those that run from now on are kept.
+fn tell_rest(
+    alloc: Global,
+    text: &mut String,
+    names: &[String],
+    node: &Node,
+    marks: Marks,
+    running: &mut Vec<Timer>,
+) -> Result<(), Fault>
+    requires { node.now.failed ≡ false }
+    ensures told { OnOk result (string_bytes text.new ≡ string_bytes text.old ++ (new_fates (map string_bytes names.now) marks.fates node.now ++ new_decisions (map string_bytes names.now) marks.decisions node.now ++ newly_applied marks.applied node.now) ++ changes running.old.items running.new.items) }
+    ensures timers { OnOk result (AreTimersOf node.now running.new.items) }
+    ensures only_memory { IsOkUnless result Fault.NoMemory }
+{
+    tell_new(text, names, node, marks)?;
+    let now = timers(alloc, node.ledger())?;
+    write_changes(text, running.as_slice(), now.as_slice())?;
+    *running = now;
+    Ok(())
+}
+
+/// Tells what an event did, and answers the digest of the lines of what was sent.
+fn tell(
+    alloc: Global,
+    text: &mut String,
+    names: &[String],
+    node: &Node,
+    marks: Marks,
+    played: &Played,
+    running: &mut Vec<Timer>,
+) -> Result<Hash, Fault>
+    requires { node.now.failed ≡ false }
+    ensures told { OnOk result (string_bytes text.new ≡ (string_bytes text.old ++ refusal played.now.reply ++ flat_map (sent_line (map string_bytes names.now)) played.now.sent.items) ++ (new_fates (map string_bytes names.now) marks.fates node.now ++ new_decisions (map string_bytes names.now) marks.decisions node.now ++ newly_applied marks.applied node.now) ++ changes running.old.items running.new.items) }
+    ensures digest { IfOk result (λ hash. hash.0 ≡ sha256 (flat_map (sent_line (map string_bytes names.now)) played.now.sent.items)) }
+    ensures timers { OnOk result (AreTimersOf node.now running.new.items) }
+    ensures only_memory { IsOkUnless result Fault.NoMemory }
+{
+    let hash = tell_played(text, names, played)?;
+    tell_rest(alloc, text, names, node, marks, running)?;
+    Ok(hash)
+}
+
+/// The event, and all that is told of it.
+pub fn act(
+    alloc: Global,
+    node: &mut Node,
+    names: &[String],
+    running: &mut Vec<Timer>,
+    event: Event,
+    text: &mut String,
+) -> Result<Hash, Fault>
+    requires { IsOfHost event }
+    ensures told { Goes node.old node.new (λ a heard b. IfOk result (λ hash. IsTold event (map string_bytes names.now) running.old.items running.new.items a heard b (string_bytes text.old) (string_bytes text.new) hash.0) × (IsErrOf result Fault.JournalFull ↔ (finds_full heard ≡ true))) }
+    ensures timers { OnOk result (AreTimersOf node.new running.new.items) }
+    ensures runs { OnOk result (node.new.failed ≡ false) }
+    ensures failed { IsErrOf result Fault.Failed ↔ (node.old.failed ≡ true) }
+    ensures only { IfErr result (λ f. (f ≡ Fault.NoMemory) ⊎ ((f ≡ Fault.JournalFull) ⊎ (f ≡ Fault.Failed))) }
+{
+    let marks = Marks::of(node);
+    match play(alloc, node, event) {
+        Ok(played) => tell(alloc, text, names, node, marks, &played, running),
+        Err(fault) => Err(fault),
+    }
+}

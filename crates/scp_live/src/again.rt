@@ -1,0 +1,217 @@
+//! What a node says once more to a peer.
+ghost use Rattle.std.specs.Prelude.{◌≡◌, ◌⊎◌, ◌++◌, ◌+◌, [], ◌∷◌, false, IfErr, OnOk, Some, map, string_bytes};
+ghost use Rattle.scp_types.specs.declared.fault.Fault.{Fault};
+ghost use Rattle.scp_ledger.specs.Seen.{machine_at};
+ghost use Rattle.scp_told.specs.Names.{name_at};
+ghost use Rattle.scp_live.specs.Again.{SaysAgain, last_of, enveloped, is_blank, own_on, said_by, asked_for, again_at, slots_again, decided_again, own_of, again_of};
+
+use crate::live::Live;
+use crate::telling::{behind, name_of};
+use scp_core::{Origin, SharedDecision};
+use scp_driver::KvDriver;
+use scp_envelope::{Envelope, Pledges, SharedEnvelope};
+use scp_ledger::Ledger;
+use scp_slot::SlotMachine;
+use scp_told::write_again;
+use scp_types::{Fault, Slot};
+use scp_vote::{Board, StatementKind};
+use scp_wire::{BoxedEnvelope, Message, encode};
+use std::alloc::Global;
+
+/// How many decisions are told of once more, and how many slots are open (this project's profile).
+const WINDOW: u64 = 16;
+
+/// Adds the line of a message.
+fn say(alloc: Global, text: &mut String, name: &str, message: &Message) -> Result<(), Fault>
+    ensures said { OnOk result (SaysAgain name.now (message.now ∷ []) (string_bytes text.old) (string_bytes text.new)) }
+    ensures only { IfErr result (λ f. (f ≡ Fault.NoMemory) ⊎ (f ≡ Fault.TooLong)) }
+{
+    let bytes = encode(alloc, message)?;
+    write_again(text, name, bytes.as_slice())?;
+    Ok(())
+}
+
+/// Adds the line of an own statement.
+fn say_envelope(
+    alloc: Global,
+    text: &mut String,
+    name: &str,
+    envelope: &SharedEnvelope,
+) -> Result<(), Fault>
+    ensures said { OnOk result (SaysAgain name.now (enveloped envelope.now ∷ []) (string_bytes text.old) (string_bytes text.new)) }
+    ensures only { IfErr result (λ f. (f ≡ Fault.NoMemory) ⊎ (f ≡ Fault.TooLong)) }
+{
+    let message = Message::Envelope(BoxedEnvelope::from_shared(envelope.share()?));
+    say(alloc, text, name, &message)
+}
+
+/// Adds the line of the own EXTERNALIZE of a decision, if it has one.
+fn say_origin(alloc: Global, text: &mut String, name: &str, origin: &Origin) -> Result<(), Fault>
+    ensures said { OnOk result (SaysAgain name.now (own_of origin.now) (string_bytes text.old) (string_bytes text.new)) }
+    ensures only { IfErr result (λ f. (f ≡ Fault.NoMemory) ⊎ (f ≡ Fault.TooLong)) }
+{
+    match origin {
+        Origin::Machine { own, .. } => say_envelope(alloc, text, name, own),
+        Origin::Named { .. } => Ok(()),
+    }
+}
+
+/// The last decisions, at most 16.
+fn last(decisions: &[SharedDecision]) -> &[SharedDecision]
+    ensures { result.now ≡ last_of 16 decisions.now }
+{
+    behind(decisions, decisions.len().saturating_sub(WINDOW as usize))
+}
+
+/// Adds the lines of the last decisions.
+fn say_decided(
+    alloc: Global,
+    text: &mut String,
+    name: &str,
+    decisions: &[SharedDecision],
+) -> Result<(), Fault>
+    ensures said { OnOk result (SaysAgain name.now (decided_again decisions.now) (string_bytes text.old) (string_bytes text.new)) }
+    ensures only { IfErr result (λ f. (f ≡ Fault.NoMemory) ⊎ (f ≡ Fault.TooLong)) }
+{
+    for decision in last(decisions) {
+        say_origin(alloc, text, name, &decision.get().origin)?;
+    }
+    Ok(())
+}
+
+/// Whether a statement is a PREPARE of counter 0.
+fn is_without_ballot(envelope: &Envelope) -> bool
+    ensures { result ≡ is_blank envelope.now.statement.pledges }
+{
+    match &envelope.statement.pledges {
+        Pledges::Prepare(prepare) => prepare.ballot.counter == 0,
+        Pledges::Confirm(_) | Pledges::Externalize(_) | Pledges::Nominate(_) => false,
+    }
+}
+
+/// Adds the line of the own statement of a kind, unless there is none or it is blank.
+fn say_own(
+    alloc: Global,
+    text: &mut String,
+    name: &str,
+    board: &Board,
+    kind: StatementKind,
+) -> Result<(), Fault>
+    ensures said { OnOk result (SaysAgain name.now (own_on kind board.now) (string_bytes text.old) (string_bytes text.new)) }
+    ensures only { IfErr result (λ f. (f ≡ Fault.NoMemory) ⊎ (f ≡ Fault.TooLong)) }
+{
+    match board.own(kind) {
+        Some(own) => {
+            if is_without_ballot(own.get()) {
+                return Ok(());
+            }
+            say_envelope(alloc, text, name, own)
+        }
+        None => Ok(()),
+    }
+}
+
+/// Adds the lines of what a machine says.
+fn say_machine(
+    alloc: Global,
+    text: &mut String,
+    name: &str,
+    machine: &SlotMachine<KvDriver>,
+) -> Result<(), Fault>
+    ensures said { OnOk result (SaysAgain name.now (said_by (Some machine.now)) (string_bytes text.old) (string_bytes text.new)) }
+    ensures only { IfErr result (λ f. (f ≡ Fault.NoMemory) ⊎ (f ≡ Fault.TooLong)) }
+{
+    let nominations = machine.nominator().board();
+    say_own(alloc, text, name, nominations, StatementKind::Nomination)?;
+    let ballots = machine.balloter().board();
+    say_own(alloc, text, name, ballots, StatementKind::Balloting)
+}
+
+/// Adds the lines of what the machine of a slot says, if it has one.
+fn say_open(
+    alloc: Global,
+    text: &mut String,
+    name: &str,
+    ledger: &Ledger<KvDriver>,
+    slot: u64,
+) -> Result<(), Fault>
+    ensures said { OnOk result (SaysAgain name.now (said_by (machine_at ledger.now.machines slot)) (string_bytes text.old) (string_bytes text.new)) }
+    ensures only { IfErr result (λ f. (f ≡ Fault.NoMemory) ⊎ (f ≡ Fault.TooLong)) }
+{
+    match ledger.machine(Slot(slot)) {
+        Some(machine) => say_machine(alloc, text, name, machine),
+        None => Ok(()),
+    }
+}
+
+/// Adds the line of the request for a slot's record, where the link was asked for it.
+fn say_asked(
+    alloc: Global,
+    text: &mut String,
+    name: &str,
+    ledger: &Ledger<KvDriver>,
+    link: u8,
+    slot: u64,
+) -> Result<(), Fault>
+    ensures said { OnOk result (SaysAgain name.now (asked_for ledger.now.asked link slot) (string_bytes text.old) (string_bytes text.new)) }
+    ensures only { IfErr result (λ f. (f ≡ Fault.NoMemory) ⊎ (f ≡ Fault.TooLong)) }
+{
+    if ledger.was_asked(link, Slot(slot)) {
+        say(alloc, text, name, &Message::GetRecord(Slot(slot)))
+    } else {
+        Ok(())
+    }
+}
+
+/// Adds what is said of the slot that lies so many ahead of the lowest one.
+fn say_slot(
+    alloc: Global,
+    text: &mut String,
+    name: &str,
+    ledger: &Ledger<KvDriver>,
+    link: u8,
+    ahead: u64,
+) -> Result<(), Fault>
+    ensures said { OnOk result (SaysAgain name.now (again_at ledger.now link (ledger.now.lowest + ahead)) (string_bytes text.old) (string_bytes text.new)) }
+    ensures only { IfErr result (λ f. (f ≡ Fault.NoMemory) ⊎ (f ≡ Fault.TooLong)) }
+{
+    match ledger.lowest().checked_add(ahead) {
+        Some(slot) => {
+            say_asked(alloc, text, name, ledger, link, slot)?;
+            say_open(alloc, text, name, ledger, slot)
+        }
+        None => Ok(()),
+    }
+}
+
+/// Adds what is said of the open slots.
+fn say_slots(
+    alloc: Global,
+    text: &mut String,
+    name: &str,
+    ledger: &Ledger<KvDriver>,
+    link: u8,
+) -> Result<(), Fault>
+    ensures said { OnOk result (SaysAgain name.now (slots_again ledger.now link 16) (string_bytes text.old) (string_bytes text.new)) }
+    ensures only { IfErr result (λ f. (f ≡ Fault.NoMemory) ⊎ (f ≡ Fault.TooLong)) }
+{
+    for ahead in 0..WINDOW {
+        say_slot(alloc, text, name, ledger, link, ahead)?;
+    }
+    Ok(())
+}
+
+impl Live {
+    /// Says the own newest statements once more to the peer of a link, whose connection may have lost them: of the last 16 decisions of the
+    /// node's own machines the EXTERNALIZE, and of the 16 open slots the request for the record, if the link was asked for it, and the
+    /// own newest nomination and ballot statement. Nothing changes. Refused by `TooLong` where one of them doesn't fit a link, and by
+    /// `NoMemory`.
+    pub fn again(&self, link: u8, text: &mut String) -> Result<(), Fault>
+        ensures said { self.now.node.failed ≡ false → OnOk result (SaysAgain (name_at self.now.names link) (again_of self.now.node.ledger link) (string_bytes text.old) (string_bytes text.new)) }
+        ensures only { IfErr result (λ f. (f ≡ Fault.NoMemory) ⊎ (f ≡ Fault.TooLong)) }
+    {
+        let name = name_of(self.names.as_slice(), link);
+        say_decided(self.alloc, text, name, self.node.decisions())?;
+        say_slots(self.alloc, text, name, self.node.ledger(), link)
+    }
+}

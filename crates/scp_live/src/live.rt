@@ -1,0 +1,116 @@
+//! A live node.
+ghost use Rattle.std.specs.Prelude.{◌≡◌, ◌⊎◌, ◌↔◌, [], true, false, map, IfOk, IfErr, OnOk, IsErrOf, Err, string_bytes};
+ghost use Rattle.scp_types.specs.declared.fault.Fault.{Fault};
+ghost use Rattle.scp_core.specs.Config.{IsConfig};
+ghost use Rattle.scp_core.specs.Node.{accepts_at};
+ghost use Rattle.scp_core.specs.Theorem.{LedgerTheorem};
+ghost use Rattle.scp_turn.specs.Turn.{Goes, links_of};
+ghost use Rattle.scp_episode.specs.Episode.{IsOfHost, finds_full};
+ghost use Rattle.scp_live.specs.Live.{IsTold, AreTimersOf};
+
+use crate::acting;
+use scp_core::{Config, Event, Node, PEER_LIMIT};
+use scp_timers::{Timer, timers};
+use scp_types::{Fault, Hash};
+use std::alloc::Global;
+use std::marker::Model;
+
+/// A node, the names of its peers, and the timers that its host was last told to run.
+#[derive(Drop)]
+pub struct Live {
+    pub(crate) alloc: Global,
+    pub(crate) node: Node,
+    pub(crate) names: Vec<String>,
+    pub(crate) timers: Vec<Timer>,
+}
+
+impl Model for Live {
+    ghost use Rattle.std.specs.Prelude.{map, string_bytes};
+    ghost use Rattle.std.specs.Coded.{codes};
+    ghost use Rattle.scp_core.specs.contracts.node.Node as core_node;
+    ghost use Rattle.scp_live.specs.Live.{LiveView};
+
+    ghost Value = { LiveView };
+
+    ghost coded = { Prim.hlevel (codes, core_node.the_row.coded) };
+
+    ghost view = { λ a. record { node = a.node; names = map string_bytes a.names.items; timers = a.timers.items } };
+}
+
+impl Live {
+    /// A node that has heard nothing, and the names of its peers, in their order. Refused by `BadConfig` as `Node::new`, else by
+    /// `NoMemory`.
+    pub fn new(alloc: Global, config: Config, names: Vec<String>) -> Result<Live, Fault>
+        // What holds of a list of events holds of the empty list.
+        ensures theorem { IfOk result (λ live. LedgerTheorem [] live.node) }
+        ensures config { IfOk result (λ live. live.node.config ≡ config) }
+        ensures names { IfOk result (λ live. live.names ≡ map string_bytes names.items) }
+        ensures timers { IfOk result (λ live. AreTimersOf live.node live.timers) }
+        ensures runs { IfOk result (λ live. live.node.failed ≡ false) }
+        ensures refused { result ≡ Err Fault.BadConfig ↔ ¬ (IsConfig config) }
+        ensures only { IfErr result (λ f. (f ≡ Fault.BadConfig) ⊎ (f ≡ Fault.NoMemory)) }
+    {
+        let node = Node::new(alloc, config)?;
+        let timers = timers(alloc, node.ledger())?;
+        Ok(Live {
+            alloc,
+            node,
+            names,
+            timers,
+        })
+    }
+
+    /// The event, and all that follows of it. What is told of it goes behind the text, and the SHA-256 of the lines of what was sent is
+    /// answered. Refused by `Failed` where the node had failed before; by `JournalFull` where a step found its journal full, and by
+    /// `NoMemory` where a step lacked memory, each of which failed it; and by `NoMemory` where there is none for what is told. After a
+    /// refusal not all is told of what the node did.
+    pub fn act(&mut self, event: Event, text: &mut String) -> Result<Hash, Fault>
+        requires { IsOfHost event }
+        // What the node heard is an episode of the event, and its lines are told; also where it is refused, the ledger theorem goes on.
+        ensures told { Goes self.old.node self.new.node (λ a heard b. IfOk result (λ hash. IsTold event self.old.names self.old.timers self.new.timers a heard b (string_bytes text.old) (string_bytes text.new) hash.0) × (IsErrOf result Fault.JournalFull ↔ (finds_full heard ≡ true))) }
+        // The host was told to run just the timers that should run.
+        ensures timers { OnOk result (AreTimersOf self.new.node self.new.timers) }
+        ensures names { self.new.names ≡ self.old.names }
+        // A node that failed isn't told to have played it.
+        ensures runs { OnOk result (self.new.node.failed ≡ false) }
+        ensures failed { IsErrOf result Fault.Failed ↔ (self.old.node.failed ≡ true) }
+        ensures only { IfErr result (λ f. (f ≡ Fault.NoMemory) ⊎ ((f ≡ Fault.JournalFull) ⊎ (f ≡ Fault.Failed))) }
+    {
+        acting::act(
+            self.alloc,
+            &mut self.node,
+            self.names.as_slice(),
+            &mut self.timers,
+            event,
+            text,
+        )
+    }
+
+    /// The node.
+    pub fn node(&self) -> &Node
+        ensures { result.now ≡ self.now.node }
+    {
+        &self.node
+    }
+
+    /// The names of its peers, in the order of the links.
+    pub fn names(&self) -> &[String]
+        ensures { map string_bytes result.now ≡ self.now.names }
+    {
+        self.names.as_slice()
+    }
+
+    /// How many links it has.
+    pub fn links(&self) -> u8
+        ensures { result ≡ links_of self.now.node }
+    {
+        self.node.peers().len().min(PEER_LIMIT) as u8
+    }
+
+    /// Whether a link is open, and has room for what its peer sends.
+    pub fn is_open(&self, link: u8) -> bool
+        ensures { result ≡ accepts_at self.now.node link }
+    {
+        self.node.accepts(link)
+    }
+}

@@ -1,0 +1,87 @@
+//! What a host is answered that asks where a node stands.
+ghost use Rattle.std.specs.Prelude.{◌≡◌, ◌++◌, false, OnOk, map, flat_map, string_bytes};
+ghost use Rattle.std.specs.FinMap as map_of;
+ghost use Rattle.scp_core.specs.Node.{accepts_at, lives_at};
+ghost use Rattle.scp_turn.specs.Turn.{links_of};
+ghost use Rattle.scp_told.specs.Names.{name_at};
+ghost use Rattle.scp_told.specs.State.{key_line, link_line};
+ghost use Rattle.scp_live.specs.Questions.{link_lines, state_of, applied_from, report_of};
+
+use crate::live::Live;
+use crate::telling::{behind, name_of, tell_applied, tell_fates};
+use scp_kv::KvState;
+use scp_told::{
+    write_applied_count, write_journal, write_key, write_link, write_lowest, write_running,
+    write_warning,
+};
+use scp_types::Slot;
+use std::alloc::AllocError;
+
+/// Adds the lines of the keys with their values.
+fn tell_keys(text: &mut String, state: &KvState) -> Result<(), AllocError>
+    ensures { OnOk result (string_bytes text.new ≡ string_bytes text.old ++ flat_map key_line (map_of.entries state.now)) }
+{
+    for (key, value) in state.lines() {
+        write_key(text, key.as_slice(), value.as_slice())?;
+    }
+    Ok(())
+}
+
+impl Live {
+    /// Adds the line of a link.
+    fn tell_link(&self, text: &mut String, link: u8) -> Result<(), AllocError>
+        ensures { OnOk result (string_bytes text.new ≡ string_bytes text.old ++ link_line (name_at self.now.names link) (accepts_at self.now.node link) (lives_at self.now.node link)) }
+    {
+        let name = name_of(self.names.as_slice(), link);
+        write_link(text, name, self.node.accepts(link), self.node.lives(link))
+    }
+
+    /// Adds the lines of the links.
+    fn tell_links(&self, text: &mut String) -> Result<(), AllocError>
+        ensures { OnOk result (string_bytes text.new ≡ string_bytes text.old ++ link_lines self.now (links_of self.now.node)) }
+    {
+        for link in 0..self.links() {
+            self.tell_link(text, link)?;
+        }
+        Ok(())
+    }
+
+    /// Adds where the node stands: the lowest undecided slot, how many slots are applied, how long the journal is, with a warning from
+    /// nine tenths of its limit on, the links, and the timers that run. Of a node that failed the slot says nothing.
+    pub fn state(&self, text: &mut String) -> Result<(), AllocError>
+        ensures { self.now.node.failed ≡ false → OnOk result (string_bytes text.new ≡ string_bytes text.old ++ state_of self.now) }
+    {
+        let entries = self.node.journal().len();
+        write_lowest(text, self.node.ledger().lowest())?;
+        write_applied_count(text, self.node.applied().len())?;
+        write_journal(text, entries)?;
+        write_warning(text, entries)?;
+        self.tell_links(text)?;
+        write_running(text, self.timers.as_slice())
+    }
+
+    /// Adds a line for each applied slot from this one on.
+    pub fn applied(&self, slot: Slot, text: &mut String) -> Result<(), AllocError>
+        ensures { OnOk result (string_bytes text.new ≡ string_bytes text.old ++ applied_from self.now.node slot.0) }
+    {
+        let from = usize::try_from(slot.0.saturating_sub(1)).unwrap_or(usize::MAX);
+        tell_applied(text, behind(self.node.applied(), from))
+    }
+
+    /// Adds all that became of what came, all that was applied, and the keys with their values.
+    pub fn report(&self, text: &mut String) -> Result<(), AllocError>
+        ensures { self.now.node.failed ≡ false → OnOk result (string_bytes text.new ≡ string_bytes text.old ++ report_of self.now) }
+    {
+        tell_fates(
+            text,
+            self.names.as_slice(),
+            self.node.peers(),
+            self.node.journal(),
+        )?;
+        tell_applied(text, self.node.applied())?;
+        match self.node.state() {
+            Some(state) => tell_keys(text, state),
+            None => Ok(()),
+        }
+    }
+}

@@ -1,0 +1,152 @@
+//! What is told of an episode.
+ghost use Rattle.std.specs.Prelude.{◌≡◌, ◌++◌, OnOk, length, drop, map, flat_map, string_bytes};
+ghost use Rattle.sha2.specs.Sha256.{sha256};
+ghost use Rattle.scp_told.specs.Names.{name_at};
+ghost use Rattle.scp_told.specs.Fates.{fate_line};
+ghost use Rattle.scp_told.specs.Decisions.{decided_line, applied_line};
+ghost use Rattle.scp_live.specs.Live.{sent_line, refusal, new_fates, new_decisions, newly_applied};
+
+use scp_core::{Fate, Node, Reply, SharedDecision};
+use scp_episode::Sending;
+use scp_told::{write_applied, write_decided, write_fate, write_refused, write_send};
+use scp_types::{Hash, NodeId};
+use sha2::{Digest, Sha256};
+use std::alloc::AllocError;
+
+/// What stands behind so many elements.
+pub fn behind<T>(all: &[T], count: usize) -> &[T]
+    ensures { result.now ≡ drop count all.now }
+{
+    if count <= all.len() {
+        &all[count..]
+    } else {
+        &[]
+    }
+}
+
+/// The name of the peer of a link; a dash where there is none.
+pub fn name_of<'a>(names: &'a [String], link: u8) -> &'a str
+    ensures { result.now ≡ name_at (map string_bytes names.now) link }
+{
+    match names.get(link as usize) {
+        Some(name) => name.as_str(),
+        None => "-",
+    }
+}
+
+/// Tells why an event was refused, if it was.
+pub fn tell_refusal(text: &mut String, reply: &Reply) -> Result<(), AllocError>
+    ensures { OnOk result (string_bytes text.new ≡ string_bytes text.old ++ refusal reply.now) }
+{
+    match reply {
+        Reply::Accepted => Ok(()),
+        other => write_refused(text, other),
+    }
+}
+
+/// Tells what was sent.
+pub fn tell_sent(text: &mut String, names: &[String], sent: &[Sending]) -> Result<(), AllocError>
+    ensures { OnOk result (string_bytes text.new ≡ string_bytes text.old ++ flat_map (sent_line (map string_bytes names.now)) sent.now) }
+{
+    for sending in sent {
+        tell_one_sent(text, names, sending)?;
+    }
+    Ok(())
+}
+
+/// Tells of one message that it was sent.
+fn tell_one_sent(text: &mut String, names: &[String], sending: &Sending) -> Result<(), AllocError>
+    ensures { OnOk result (string_bytes text.new ≡ string_bytes text.old ++ sent_line (map string_bytes names.now) sending.now) }
+{
+    write_send(text, name_of(names, sending.link), sending.bytes.as_slice())
+}
+
+/// Tells these fates.
+pub fn tell_fates(
+    text: &mut String,
+    names: &[String],
+    peers: &[NodeId],
+    fates: &[Fate],
+) -> Result<(), AllocError>
+    ensures { OnOk result (string_bytes text.new ≡ string_bytes text.old ++ flat_map (fate_line (map string_bytes names.now) peers.now) fates.now) }
+{
+    for fate in fates {
+        write_fate(text, names, peers, fate)?;
+    }
+    Ok(())
+}
+
+/// Tells these decisions.
+pub fn tell_decided(
+    text: &mut String,
+    names: &[String],
+    peers: &[NodeId],
+    decisions: &[SharedDecision],
+) -> Result<(), AllocError>
+    ensures { OnOk result (string_bytes text.new ≡ string_bytes text.old ++ flat_map (decided_line (map string_bytes names.now) peers.now) decisions.now) }
+{
+    for decision in decisions {
+        write_decided(text, names, peers, decision.get())?;
+    }
+    Ok(())
+}
+
+/// Tells of these decisions that they are applied.
+pub fn tell_applied(text: &mut String, applied: &[SharedDecision]) -> Result<(), AllocError>
+    ensures { OnOk result (string_bytes text.new ≡ string_bytes text.old ++ flat_map applied_line applied.now) }
+{
+    for decision in applied {
+        write_applied(text, decision.get())?;
+    }
+    Ok(())
+}
+
+/// How many fates, decisions and applied slots there are.
+#[derive(Clone, Copy, Debug)]
+pub struct Marks {
+    pub fates: usize,
+    pub decisions: usize,
+    pub applied: usize,
+}
+
+impl Marks {
+    /// Those of a node.
+    pub fn of(node: &Node) -> Marks
+        ensures fates { result.fates ≡ length node.now.ledger.journal }
+        ensures decisions { result.decisions ≡ length node.now.ledger.decisions }
+        ensures applied { result.applied ≡ length node.now.applier.applied }
+    {
+        Marks {
+            fates: node.journal().len(),
+            decisions: node.decisions().len(),
+            applied: node.applied().len(),
+        }
+    }
+}
+
+/// Tells what is new of a node since these marks: fates, decisions, applied slots.
+pub fn tell_new(
+    text: &mut String,
+    names: &[String],
+    node: &Node,
+    marks: Marks,
+) -> Result<(), AllocError>
+    ensures { OnOk result (string_bytes text.new ≡ string_bytes text.old ++ new_fates (map string_bytes names.now) marks.fates node.now ++ new_decisions (map string_bytes names.now) marks.decisions node.now ++ newly_applied marks.applied node.now) }
+{
+    let peers = node.peers();
+    tell_fates(text, names, peers, behind(node.journal(), marks.fates))?;
+    tell_decided(
+        text,
+        names,
+        peers,
+        behind(node.decisions(), marks.decisions),
+    )?;
+    tell_applied(text, behind(node.applied(), marks.applied))
+}
+
+/// The digest of the text from this place on.
+pub fn digest_from(text: &String, start: usize) -> Hash
+    ensures { result.0 ≡ sha256 (drop start (string_bytes text.now)) }
+{
+    Hash(Sha256::digest(behind(text.as_bytes(), start)))
+}

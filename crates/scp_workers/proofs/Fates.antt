@@ -1,0 +1,48 @@
+-- What became of commands: of a ledger that took nothing, with one thing more, and of a worker that ended well.
+use Rattle.std.proofs.Common.{◌≡◌, List, [], ◌∷◌, ◌++◌, refl, sym, ap, ◌∙◌, subst, append-nil}
+use Rattle.std.specs.Prelude.{option_to_list}
+use Rattle.std.proofs.lemmas.Grind.{flat_map-append}
+use Rattle.std.proofs.lemmas.List.{map-append}
+use Rattle.scp_types.specs.declared.names.NodeId.{NodeId}
+use Rattle.scp_quorum.specs.QuorumTree.{QuorumTree}
+use Rattle.scp_pending.specs.declared.ready.Ready.{Ready}
+use Rattle.scp_ledger.specs.declared.took.CommandFate.{CommandFate}
+use Rattle.scp_ledger.specs.declared.took.Onward.{Onward}
+use Rattle.scp_ledger.specs.declared.took.Took.{Took}
+use Rattle.scp_ledger.specs.Kv.{KvLedger, KvJournals, KvTakes, KvTells}
+use Rattle.scp_ledger.specs.Runs.{Taking, thing_of, onward_of, nothing_taken}
+use Rattle.scp_ends.specs.Ends.{Sender}
+use Rattle.scp_workers.specs.Slot.{fate_of, TellsEach, HaveFates}
+
+tells_more : (first old new : KvLedger) (takes : List Taking) (t : Taking) → TellsEach first takes old → KvTakes old t.thing t.gave new → KvTells old t.thing t.gave → TellsEach first (takes ++ t ∷ []) new
+tells_more first old new [] t e goes tells = (new, subst (λ (v : KvLedger). KvTakes v t.thing t.gave new) e goes, subst (λ (v : KvLedger). KvTells v t.thing t.gave) e tells, refl)
+tells_more first old new (u ∷ takes) t e goes tells = (e.0, e.1, e.2, tells_more e.0 old new takes t e.3 goes tells)
+
+pub fates_more : (me : NodeId) (local : QuorumTree) (peers : List NodeId) (took : List Ready) (sent : List Onward) (fates more : List CommandFate) (old new : KvLedger) (x : Ready) (t : Took)
+    → KvTakes old x t new → KvTells old x t → more ≡ fates ++ option_to_list t.command → HaveFates me local peers took sent fates old → HaveFates me local peers (took ++ x ∷ []) (sent ++ option_to_list t.onward) more new
+fates_more me local peers took sent fates more old new x t goes tells e h =
+    let last : Taking = record { thing = x; gave = t } in record {
+      takes = h.takes ++ last ∷ [];
+      took_are = map-append thing_of h.takes (last ∷ []) ∙ ap (λ (xs : List Ready). xs ++ x ∷ []) h.took_are;
+      onwards_are = flat_map-append onward_of h.takes (last ∷ []) ∙ ap (λ (ys : List Onward). ys ++ (option_to_list t.onward ++ [])) h.onwards_are ∙ ap (λ (ys : List Onward). sent ++ ys) (append-nil (option_to_list t.onward));
+      fates_are = flat_map-append fate_of h.takes (last ∷ []) ∙ ap (λ (ys : List CommandFate). ys ++ (option_to_list t.command ++ [])) h.fates_are ∙ ap (λ (ys : List CommandFate). fates ++ ys) (append-nil (option_to_list t.command)) ∙ sym e;
+      told = tells_more (nothing_taken me local new.driver peers) old new h.takes last h.told goes tells;
+    }
+
+pub fates_begin : (me : NodeId) (local set : QuorumTree) (peers known : List NodeId) (got : List Ready) (sent : List Onward) (fates : List CommandFate) (v : KvLedger)
+    → got ≡ [] → sent ≡ [] → fates ≡ [] → set ≡ local → known ≡ peers → v ≡ nothing_taken me local v.driver peers → HaveFates me set known got sent fates v
+fates_begin me local set peers known got sent fates v e f g s k is = record {
+  takes = [];
+  took_are = sym e;
+  onwards_are = sym f;
+  fates_are = sym g;
+  told = is ∙ ap (λ (q : QuorumTree). nothing_taken me q v.driver peers) (sym s) ∙ ap (λ (ps : List NodeId). nothing_taken me set v.driver ps) (sym k);
+}
+
+-- of the ledger itself
+pub fates_here : (me : NodeId) (local : QuorumTree) (peers : List NodeId) (took : List Ready) (fates : List CommandFate) (v : KvLedger) (tx d : Sender Onward)
+    → d ≡ tx → KvJournals me local peers took tx.sent v → HaveFates me local peers took tx.sent fates v → HaveFates v.me v.local v.peers took d.sent fates v
+fates_here me local peers took fates v tx d same j h =
+    subst (λ (s : Sender Onward). HaveFates v.me v.local v.peers took s.sent fates v) (sym same)
+    (subst (λ (ps : List NodeId). HaveFates v.me v.local ps took tx.sent fates v) (sym j.peers_are)
+    (subst (λ (q : QuorumTree). HaveFates v.me q peers took tx.sent fates v) (sym j.local_is) (subst (λ (n : NodeId). HaveFates n local peers took tx.sent fates v) (sym j.me_is) h)))
