@@ -1,13 +1,12 @@
 -- What stands at the front of a file.
-use Rattle.std.proofs.Common.{◌≡◌, ◌≤◌, ◌+◌, ℕ, List, [], ◌∷◌, ◌++◌, length, take, drop, sym, ◌∙◌, ap, subst, refl, arith, append_assoc, length-append, length-drop}
+use Rattle.std.proofs.Common.{◌≡◌, ◌≤◌, ◌<◌, ◌+◌, ℕ, List, [], ◌∷◌, ◌++◌, length, take, drop, sym, ◌∙◌, ap, subst, refl, arith, append_assoc, length-append, length-drop}
 use Rattle.std.proofs.lemmas.List.{append_cancel_left, map-append, take_at, drop-drop, length-map}
 use Rattle.sha2.specs.Sha256.{sha256}
 use Rattle.scp_log.specs.declared.kept.Kept.{Kept}
-use Rattle.scp_log.specs.Disk.{Only}
-use Rattle.scp_log.specs.Log.{EntryView, Marked, IsLine, AreEntries, HasNoEntry, HasBatch, log_of, spelled, spelled_entry, chained, last_digest, entries_of}
+use Rattle.scp_log.specs.Disk.{StartsWith, Only}
+use Rattle.scp_log.specs.Log.{EntryView, Marked, AreEntries, HasNoEntry, HasBatch, log_of, spelled, spelled_entry, chained, last_digest, entries_of}
 use Rattle.scp_log.specs.Kept.{IsRecovered, IsAllAndMore, IsDamaged}
-use Rattle.scp_log.specs.inside.Front.{IsFront, IsLogFront, EndsAt}
-use Rattle.scp_log.proofs.Lines.{ended, not_line_more}
+use Rattle.scp_log.specs.inside.Front.{IsFront, IsLogFront}
 use Rattle.scp_log.proofs.Entries.{got_all, spelled_some}
 use Rattle.scp_log.proofs.Keeping.{log_more}
 
@@ -105,14 +104,16 @@ damaged_by header file entries last size begins f batch =
       batch = batch;
     }
 
--- a file without a whole line is no log
-pub no_log_without_a_line : (header bytes : List ℕ) (ms : List Marked) (rest : List ℕ) → (IsLine header → ⊥) → IsLine bytes → bytes ≡ log_of header ms ++ rest → ⊥
-no_log_without_a_line header bytes ms rest none line is =
-    not_line_more header (spelled (sha256 header) ms ++ rest) none (subst IsLine (is ∙ append_assoc header (spelled (sha256 header) ms) rest) line)
+-- a beginning of the first line, and not all of it, is no log
+pub no_log_so_short : (header bytes : List ℕ) (ms : List Marked) (rest : List ℕ) → length bytes < length header → bytes ≡ log_of header ms ++ rest → ⊥
+no_log_so_short header bytes ms rest short is =
+    let long : length bytes ≡ length header + length (spelled (sha256 header) ms ++ rest) = ap length (is ∙ append_assoc header (spelled (sha256 header) ms) rest) ∙ length-append header (spelled (sha256 header) ms ++ rest) in
+    absurd (omega (arith, short, long))
 
--- and a log has one
-pub line_of_it : (n : ℕ) (bytes : List ℕ) → EndsAt n bytes → IsLine bytes → ⊥
-line_of_it n bytes at line = ended (take n bytes) (drop (n + 1) bytes) (subst IsLine at.splits line)
+-- a log begins with its first line
+pub log_starts : (header file : List ℕ) (entries : List EntryView) (last : List ℕ) (size : ℕ) → IsLogFront header file entries last size → StartsWith header file
+log_starts header file entries last size f =
+    (spelled (sha256 header) f.marked ++ drop size file, f.splits ∙ append_assoc header (spelled (sha256 header) f.marked) (drop size file))
 
 pub whole_front_at : (header file rest first : List ℕ) (entries : List EntryView) (last : List ℕ) (size : ℕ) → first ≡ sha256 header → rest ≡ drop (length header) file → length header ≤ length file → file ≡ header ++ drop (length header) file → size ≤ length rest
     → IsFront first rest entries last size → IsLogFront header file entries last (length header + size)

@@ -4,10 +4,11 @@ use Rattle.std.proofs.lemmas.List.{append-nil}
 use Rattle.std.specs.List.{AllByRecursion}
 use Rattle.sha2.specs.Sha256.{sha256}
 use Rattle.scp_log.specs.declared.kept.Kept.{Kept}
-use Rattle.scp_log.specs.Disk.{StartsWith, Only}
+use Rattle.scp_log.specs.Disk.{StartsWith, Only, Elapses}
 use Rattle.scp_log.specs.Log.{EntryView, Marked, IsEntry, log_of, spelled, last_digest, batch_of}
-use Rattle.scp_log.specs.Kept.{IsSettled}
+use Rattle.scp_log.specs.Kept.{IsSettled, IsUntouched}
 use Rattle.scp_log.proofs.Entries.{spelled-append, last_digest-append, are_both, are_marked}
+use Rattle.scp_log.proofs.Moments.{started, goes_on}
 
 -- more entries behind those of a log
 pub log_more : (header : List ℕ) (ms ns : List Marked) → log_of header ms ++ spelled (last_digest (sha256 header) ms) ns ≡ log_of header (ms ++ ns)
@@ -33,3 +34,12 @@ settled_more holds may_leave header ms es bytes old new are s is last added =
       last = last ∙ ap (λ (d : List ℕ). last_digest d (batch_of es)) s.last ∙ sym (last_digest-append (sha256 header) ms (batch_of es));
       durable = subst (λ (l : List ℕ). Only l (may_leave new.log)) whole file.1;
     }
+
+-- a file that is only read
+pub untouched_by : {L : Type 0} (holds may_leave : L → List ℕ → Type 0) (moment : L → ℕ) (left_since : L → ℕ → List ℕ → Type 0) (file : List ℕ) (old new : L) → holds new file → ((f : List ℕ) → left_since old (moment old) f → may_leave old f)
+    → ((f : List ℕ) → may_leave new f → may_leave old f) → Elapses (moment old) (moment new) (left_since old) (left_since new) (may_leave new) → IsUntouched holds may_leave moment left_since file old new
+untouched_by holds may_leave moment left_since file old new there at_once crash time = record {
+  there = there;
+  crash = λ only.
+      goes_on moment left_since old old new (λ f. f ≡ file) (may_leave new) (started moment left_since old (λ f. f ≡ file) (λ f left. only f (at_once f left))) time (λ f now. only f (crash f now));
+}

@@ -26,11 +26,6 @@ pub ended : (a x : List ℕ) → IsLine (a ++ 10 ∷ x) → ⊥
 ended [] x l = l.0 refl
 ended (k ∷ a) x l = ended a x l.1
 
--- a line in front of another text that isn't one
-pub not_line_more : (a x : List ℕ) → (IsLine a → ⊥) → IsLine (a ++ x) → ⊥
-not_line_more [] x h l = h tt
-not_line_more (k ∷ a) x h l = not_line_more a x (λ line. h (l.0, line)) l.1
-
 pub ends_at : (n : ℕ) (bytes : List ℕ) → n < length bytes → get_or bytes n 0 ≡ 10 → ((k : ℕ) → k < n → get_or bytes k 0 ≢ 10) → EndsAt n bytes
 ends_at n bytes lt is before = record {
   within = lt;

@@ -7,7 +7,7 @@ use crate::disk::EventLog;
 use scp_types::Fault;
 use std::alloc::Global;
 use std::fs::File;
-use std::io::{Read, Seek, SeekFrom, Write};
+use std::io::{ErrorKind, Read, Seek, SeekFrom, Write};
 
 /// A log in a file, which is opened for reading and writing. Of its bytes no clause says anything.
 #[derive(Drop)]
@@ -49,6 +49,7 @@ impl FileLog {
         }
         match self.file.read_to_end(&mut bytes) {
             Ok(_) => Ok(bytes),
+            Err(error) if error.kind() == ErrorKind::OutOfMemory => Err(Fault::NoMemory),
             Err(_) => Err(self.fail()),
         }
     }

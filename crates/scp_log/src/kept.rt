@@ -7,11 +7,11 @@ ghost use Rattle.scp_log.specs.Disk.{StartsWith, Only, LeavesOnly};
 ghost use Rattle.scp_log.specs.Log.{Marked, IsLine, IsEntry, AreEntries, HasNoEntry, HasBatch, batch_of, entries_of, log_of, last_digest};
 ghost use Rattle.sha2.specs.Sha256.{sha256};
 ghost use Rattle.scp_log.specs.inside.Front.{IsLogFront};
-ghost use Rattle.scp_log.specs.Kept.{IsSettled, IsRecovered, IsAllAndMore, IsDamaged};
+ghost use Rattle.scp_log.specs.Kept.{IsSettled, IsRecovered, IsAllAndMore, IsAnother, IsUntouched, IsDamaged};
 
 use crate::disk::EventLog;
 use crate::entry::{Entry, batch_bytes};
-use crate::reading::{Front, begins_with, behind, has_batch, has_line, read_entries};
+use crate::reading::{Front, begins_with, behind, has_batch, is_beginning, read_entries};
 use crate::steps::{add, cut_to};
 use scp_device::{ReportOut, write_text};
 use scp_types::{Fault, Hash};
@@ -21,7 +21,7 @@ use std::alloc::{AllocError, Global};
 /// Why a log isn't read.
 #[derive(Clone, Copy, Debug, PartialEq, Eq)]
 pub enum LogFault {
-    /// Its first line is another one.
+    /// It neither begins with the first line, nor is a beginning of it.
     Another,
     /// Behind so many whole entries stands something that doesn't fit, and a batch begins behind that: it isn't a torn end.
     Damaged(usize),
@@ -106,6 +106,7 @@ impl<L: EventLog> Kept<L> {
         // A crash at any moment of the call leaves all that was kept before.
         ensures any_moment { (header : List ℕ) (ms : List Marked) → IsSettled L.holds L.may_leave header ms self.old → LeavesOnly L.moment L.left_since self.old.log self.new.log (StartsWith (log_of header ms)) }
         ensures failed { IsErrOf result Fault.Device → Fails (L.faults self.old.log) (L.faults self.new.log) }
+        ensures quiet { OnOk result (L.faults self.new.log ≡ L.faults self.old.log) }
         ensures only { IfErr result (λ fault. (fault ≡ Fault.Device) ⊎ (fault ≡ Fault.NoMemory)) }
     {
         if !entries.is_empty() {
@@ -120,6 +121,7 @@ impl<L: EventLog> Kept<L> {
         ensures kept { OnOk result ((header : List ℕ) (ms : List Marked) → IsSettled L.holds L.may_leave header ms self.old → IsSettled L.holds L.may_leave header (ms ++ batch_of entries.now) self.new) }
         ensures any_moment { (header : List ℕ) (ms : List Marked) → IsSettled L.holds L.may_leave header ms self.old → LeavesOnly L.moment L.left_since self.old.log self.new.log (StartsWith (log_of header ms)) }
         ensures failed { IsErrOf result Fault.Device → Fails (L.faults self.old.log) (L.faults self.new.log) }
+        ensures quiet { OnOk result (L.faults self.new.log ≡ L.faults self.old.log) }
         ensures only { IfErr result (λ fault. (fault ≡ Fault.Device) ⊎ (fault ≡ Fault.NoMemory)) }
     {
         let (bytes, last) = batch_bytes(alloc, self.last, entries)?;
@@ -140,7 +142,8 @@ impl<L: EventLog> Kept<L> {
         Ok(())
     }
 
-    /// Reads the entries of a file that a crash may have left, and cuts a torn end off.
+    /// Reads the entries of a file that a crash may have left, and cuts a torn end off. A beginning of the first line, as the empty file
+    /// is one, is begun anew. A file that is no log of this first line is refused, and left as it is.
     pub fn recover(&mut self, alloc: Global, header: &[u8]) -> Result<Vec<Entry>, LogFault>
         requires line { ¬ (IsLine header.now) }
         // All that was kept is there, and where there was nothing behind it no more than that.
@@ -150,12 +153,17 @@ impl<L: EventLog> Kept<L> {
         ensures settled { IfOk result (λ entries. (c : List ℕ) → L.holds self.old.log c → IsRecovered L.holds L.may_leave header.now entries.items self.new) }
         // A crash at any moment of the call leaves all that was kept before.
         ensures any_moment { (ms : List Marked) (rest : List ℕ) → AreEntries ms → L.holds self.old.log (log_of header.now ms ++ rest) → Only (log_of header.now ms ++ rest) (L.may_leave self.old.log) → LeavesOnly L.moment L.left_since self.old.log self.new.log (StartsWith (log_of header.now ms)) }
-        ensures another { result ≡ Err LogFault.Another → (c : List ℕ) → L.holds self.old.log c → ¬ (IsLine c) × ¬ (StartsWith header.now c) }
+        ensures another { result ≡ Err LogFault.Another → (c : List ℕ) → L.holds self.old.log c → IsAnother header.now c }
+        // Only a file that begins with the first line, or is a beginning of it, is read.
+        ensures found { OnOk result ((c : List ℕ) → L.holds self.old.log c → StartsWith header.now c ⊎ StartsWith c header.now) }
+        // One that is neither is left as it is, whatever the answer, and by a crash at any moment of the call too.
+        ensures untouched { (c : List ℕ) → L.holds self.old.log c → IsAnother header.now c → IsUntouched L.holds L.may_leave L.moment L.left_since c self.old.log self.new.log }
         ensures damaged { (n : ℕ) → result ≡ Err (LogFault.Damaged n) → (c : List ℕ) → L.holds self.old.log c → IsDamaged header.now n c }
         ensures failed { result ≡ Err (LogFault.Failed Fault.Device) → Fails (L.faults self.old.log) (L.faults self.new.log) }
     {
         let bytes = self.log.read(alloc)?;
-        if !has_line(&bytes) {
+        // (the first line, torn)
+        if is_beginning(&bytes, header) {
             self.begin(header)?;
             return Ok(Vec::new(alloc));
         }

@@ -41,20 +41,20 @@ fn line_end(bytes: &[u8]) -> Option<usize>
     bytes.iter().position(|byte| *byte == b'\n')
 }
 
-/// Whether the first line ends.
-pub(crate) fn has_line(bytes: &[u8]) -> bool
-    ensures some { OnTrue result (¬ (IsLine bytes.now)) }
-    ensures none { OnFalse result (IsLine bytes.now) }
-{
-    line_end(bytes).is_some()
-}
-
 /// Whether the bytes begin with these.
 pub(crate) fn begins_with(bytes: &[u8], front: &[u8]) -> bool
     ensures some { OnTrue result ((length front.now ≤ length bytes.now) × (bytes.now ≡ front.now ++ drop (length front.now) bytes.now)) }
     ensures none { OnFalse result (¬ (StartsWith front.now bytes.now)) }
 {
     bytes.len() >= front.len() && &bytes[..front.len()] == front
+}
+
+/// Whether the bytes are a beginning of these, and not all of them.
+pub(crate) fn is_beginning(bytes: &[u8], whole: &[u8]) -> bool
+    ensures some { OnTrue result ((length bytes.now < length whole.now) × (StartsWith bytes.now whole.now)) }
+    ensures none { OnFalse result (length bytes.now < length whole.now → ¬ (StartsWith bytes.now whole.now)) }
+{
+    bytes.len() < whole.len() && begins_with(whole, bytes)
 }
 
 /// A digest of 64 digits.

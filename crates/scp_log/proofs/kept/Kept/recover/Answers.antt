@@ -1,26 +1,27 @@
-use Rattle.std.proofs.Common.{ℕ, List, sym, ◌∙◌, refl, subst}
+use Rattle.std.proofs.Common.{inl, ℕ, List, sym, ◌∙◌, refl, subst}
 use Rattle.scp_log.specs.declared.kept.Kept.{Kept}
 use Rattle.scp_log.specs.Disk.{StartsWith}
 use Rattle.scp_log.specs.Log.{HasBatch, log_of}
 use Rattle.scp_log.proofs.Moments.{started, goes_on, joins}
-use Rattle.scp_log.proofs.Fronts.{no_log_without_a_line, found_all, found_before, cut_off, recovered_by}
+use Rattle.scp_log.proofs.Keeping.{untouched_by}
+use Rattle.scp_log.proofs.Fronts.{no_log_so_short, log_starts, found_all, found_before, cut_off, recovered_by}
 use Rattle.scp_log.proofs.kept.Kept.recover.Goals as goal
 
 pub returns-in_err-begin-clause-any_moment : goal.returns-in_err-begin-clause-any_moment
 returns-in_err-begin-clause-any_moment g c ms rest are h only =
-    absurd (no_log_without_a_line c.args.header.now c.deref.result.now ms rest c.requires.line c.if-not-has_line.ensures.none (c.deref.ensures.value ∙ c.in_ok-bytes.ensures.bytes _ h))
+    absurd (no_log_so_short c.args.header.now c.deref.result.now ms rest c.if-is_beginning.ensures.some.0 (c.deref.ensures.value ∙ c.in_ok-bytes.ensures.bytes _ h))
 
-pub returns-then-not-has_line-clause-all : goal.returns-then-not-has_line-clause-all
-returns-then-not-has_line-clause-all g c ms rest are h =
-    absurd (no_log_without_a_line c.args.header.now c.deref.result.now ms rest c.requires.line c.if-not-has_line.ensures.none (c.deref.ensures.value ∙ c.in_ok-bytes.ensures.bytes _ h))
+pub returns-then-is_beginning-clause-all : goal.returns-then-is_beginning-clause-all
+returns-then-is_beginning-clause-all g c ms rest are h =
+    absurd (no_log_so_short c.args.header.now c.deref.result.now ms rest c.if-is_beginning.ensures.some.0 (c.deref.ensures.value ∙ c.in_ok-bytes.ensures.bytes _ h))
 
-pub returns-then-not-has_line-clause-torn : goal.returns-then-not-has_line-clause-torn
-returns-then-not-has_line-clause-torn g c ms tail are h none batch =
-    no_log_without_a_line c.args.header.now c.deref.result.now ms tail c.requires.line c.if-not-has_line.ensures.none (c.deref.ensures.value ∙ c.in_ok-bytes.ensures.bytes _ h)
+pub returns-then-is_beginning-clause-torn : goal.returns-then-is_beginning-clause-torn
+returns-then-is_beginning-clause-torn g c ms tail are h none batch =
+    no_log_so_short c.args.header.now c.deref.result.now ms tail c.if-is_beginning.ensures.some.0 (c.deref.ensures.value ∙ c.in_ok-bytes.ensures.bytes _ h)
 
-pub returns-then-not-has_line-clause-any_moment : goal.returns-then-not-has_line-clause-any_moment
-returns-then-not-has_line-clause-any_moment g c ms rest are h only =
-    absurd (no_log_without_a_line c.args.header.now c.deref.result.now ms rest c.requires.line c.if-not-has_line.ensures.none (c.deref.ensures.value ∙ c.in_ok-bytes.ensures.bytes _ h))
+pub returns-then-is_beginning-clause-any_moment : goal.returns-then-is_beginning-clause-any_moment
+returns-then-is_beginning-clause-any_moment g c ms rest are h only =
+    absurd (no_log_so_short c.args.header.now c.deref.result.now ms rest c.if-is_beginning.ensures.some.0 (c.deref.ensures.value ∙ c.in_ok-bytes.ensures.bytes _ h))
 
 pub returns-in_err-cut_to-clause-any_moment : goal.returns-in_err-cut_to-clause-any_moment
 returns-in_err-cut_to-clause-any_moment g c ms rest are h only =
@@ -54,3 +55,34 @@ returns-clause-settled g c file h =
     let there = subst (λ (l : List ℕ). g.L.EventLog.holds c.read.new.self l) (sym (c.deref-2.ensures.value ∙ c.in_ok-bytes.ensures.bytes file h)) (c.read.ensures.stays file h) in
     let cut = c.in_ok-cut_to.ensures.cut c.deref-2.result.now there in
     recovered_by c.args.header.now c.deref-2.result.now c.in_ok-front.front.entries.items c.in_ok-front.front.last.0 c.in_ok-front.front.size c.in_ok-front.ensures.front g.L.EventLog.holds g.L.EventLog.may_leave kept refl cut.0 cut.1
+
+pub returns-clause-found : goal.returns-clause-found
+returns-clause-found g c file h =
+    inl (subst (StartsWith c.args.header.now) (c.deref-2.ensures.value ∙ c.in_ok-bytes.ensures.bytes file h)
+    (log_starts c.args.header.now c.deref-2.result.now c.in_ok-front.front.entries.items c.in_ok-front.front.last.0 c.in_ok-front.front.size c.in_ok-front.ensures.front))
+
+pub returns-in_err-bytes-clause-untouched : goal.returns-in_err-bytes-clause-untouched
+returns-in_err-bytes-clause-untouched g c file h other =
+    untouched_by g.L.EventLog.holds g.L.EventLog.may_leave g.L.EventLog.moment g.L.EventLog.left_since file c.args.self.now.log c.read.new.self (c.read.ensures.stays file h) (g.met.L.EventLog.only_now c.args.self.now.log) c.read.ensures.crash c.read.ensures.time
+
+pub returns-in_err-front-clause-untouched : goal.returns-in_err-front-clause-untouched
+returns-in_err-front-clause-untouched g c file h other =
+    untouched_by g.L.EventLog.holds g.L.EventLog.may_leave g.L.EventLog.moment g.L.EventLog.left_since file c.args.self.now.log c.read.new.self (c.read.ensures.stays file h) (g.met.L.EventLog.only_now c.args.self.now.log) c.read.ensures.crash c.read.ensures.time
+
+pub returns-in_err-begin-clause-untouched : goal.returns-in_err-begin-clause-untouched
+returns-in_err-begin-clause-untouched g c file h other =
+    absurd (other.1 (subst (λ (l : List ℕ). StartsWith l c.args.header.now) (c.deref.ensures.value ∙ c.in_ok-bytes.ensures.bytes file h) c.if-is_beginning.ensures.some.1))
+
+pub returns-then-is_beginning-clause-untouched : goal.returns-then-is_beginning-clause-untouched
+returns-then-is_beginning-clause-untouched g c file h other =
+    absurd (other.1 (subst (λ (l : List ℕ). StartsWith l c.args.header.now) (c.deref.ensures.value ∙ c.in_ok-bytes.ensures.bytes file h) c.if-is_beginning.ensures.some.1))
+
+pub returns-in_err-cut_to-clause-untouched : goal.returns-in_err-cut_to-clause-untouched
+returns-in_err-cut_to-clause-untouched g c file h other =
+    absurd (other.0 (subst (StartsWith c.args.header.now) (c.deref-2.ensures.value ∙ c.in_ok-bytes.ensures.bytes file h)
+    (log_starts c.args.header.now c.deref-2.result.now c.in_ok-front.front.entries.items c.in_ok-front.front.last.0 c.in_ok-front.front.size c.in_ok-front.ensures.front)))
+
+pub returns-clause-untouched : goal.returns-clause-untouched
+returns-clause-untouched g c file h other =
+    absurd (other.0 (subst (StartsWith c.args.header.now) (c.deref-2.ensures.value ∙ c.in_ok-bytes.ensures.bytes file h)
+    (log_starts c.args.header.now c.deref-2.result.now c.in_ok-front.front.entries.items c.in_ok-front.front.last.0 c.in_ok-front.front.size c.in_ok-front.ensures.front)))
