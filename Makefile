@@ -1,7 +1,8 @@
 # What the README names. `rt` is the toolchain's command.
 SCRIPT ?= examples/four_nodes.scp
+KILLS ?= 200
 
-.PHONY: run quick build test check try bench wrong-bodies pages
+.PHONY: run quick build test check try network kills bench wrong-bodies pages
 
 # prints the report of the first script, on an unproved build, within two minutes
 run:
@@ -26,6 +27,14 @@ check:
 # runs a script unproved, or each of a folder: make try SCRIPT=FILE (on what make quick left, where that is newer than the sources)
 try:
 	@scripts/run $(SCRIPT)
+
+# runs four nodes as processes over loopback, kills one and brings it back: on out/scp, or else on an unproved build
+network:
+	@scripts/network show
+
+# kills 200 hosts with their nodes at random moments, in some minutes: make kills KILLS=1000
+kills:
+	@KILLS=$(KILLS) scripts/network kills
 
 # the wrong bodies that the gate doesn't try, of all crates or of some: make wrong-bodies CRATE="scp_kv scp_wire"
 wrong-bodies:

@@ -1,13 +1,21 @@
-//! The program that people run: plays, checks and rewrites scripts, and answers by its exit status.
+//! The program that people run: plays, checks and rewrites scripts, runs a node, and answers by its exit status.
 //!
-//! What it promises: it is safe and returns, and what it writes is what `serve` and `serve_plain` of `scp_command` promise. Which words
-//! ask for what, and the statuses of the whole program, are shown by tests.
+//! What it promises: it is safe and returns, and what it writes is what `serve` and `serve_plain` of `scp_command` promise, and of a node
+//! what `check_config` and `run_node` of `scp_node` promise. Which words ask for what, and the statuses of the whole program, are shown by
+//! tests. Not claimed: that a log's lock keeps other processes out.
 #![tactic(auto)]
 
 use scp_command::{Order, serve, serve_plain};
-use scp_device::{ScriptIn, write_text};
-use scp_prompt::{Asked, Cause, Source, Stream, Task, Unasked, Unopened, read_words};
+use scp_device::{SCRIPT_LIMIT, ScriptIn, read_script, write_text};
+use scp_log::{EventLog, FileLog};
+use scp_node::{NoLog, check_config, run_node};
+use scp_prompt::{
+    Asked, Cause, Failure, NodeAsked, NodeTask, Source, Stream, Task, Unasked, Unopened, Wanted,
+    read_words, status, write_failure, write_settled,
+};
+use scp_types::Fault;
 use std::alloc::{AllocError, Global};
+use std::fs::{File, OpenOptions};
 use std::io::ErrorKind;
 use std::process::ExitCode;
 use std::sync::Wait;
@@ -94,6 +102,113 @@ fn answer<T: Threads + Wait + Sync>(
     }
 }
 
+/// Tells people why a file failed, and answers the exit status.
+fn failed(rt: &HostRuntime, path: &str, why: &str, failure: &Failure) -> u8 {
+    let mut errors = Stream::new(rt.stderr());
+    let _ = write_failure(rt.alloc(), &mut errors, path, &[], why, failure);
+    status(failure)
+}
+
+/// The text of this input, or the exit status of what was told of it.
+fn text_of<R: ScriptIn + Cause>(
+    rt: &HostRuntime,
+    path: &str,
+    input: &mut R,
+) -> Result<Vec<u8>, u8> {
+    let failure = match read_script(rt.alloc(), input) {
+        Ok(text) => return Ok(text),
+        Err(Fault::Device) => Failure::Unread,
+        Err(Fault::TooLong) => Failure::TooLong(SCRIPT_LIMIT),
+        Err(_) => Failure::NoMemory,
+    };
+    Err(failed(rt, path, input.cause(), &failure))
+}
+
+/// The text of the configuration at this path.
+fn config_of(rt: &HostRuntime, path: &str) -> Result<Vec<u8>, u8> {
+    match fs::open(rt, path) {
+        Ok(file) => text_of(rt, path, &mut Stream::new(file)),
+        Err(error) => text_of(rt, path, &mut Unopened::new(error.kind())),
+    }
+}
+
+/// Writes the folder of a file to the disk, so that a crash can't take the file's name.
+fn sync_folder(rt: &HostRuntime, path: &str) -> io::Result<()> {
+    let whole = fs::canonicalize(rt, path)?;
+    match whole.parent() {
+        Some(folder) => fs::open(rt, folder)?.sync_all(),
+        None => Ok(()),
+    }
+}
+
+/// Opens the file of a log, which is made where it isn't there, and locks it. Another process's lock is `WouldBlock`. `None` for what is
+/// no plain file, as a pipe or a device: it isn't read.
+fn open_log(rt: &HostRuntime, path: &str) -> io::Result<Option<File>> {
+    let file = OpenOptions::new()
+        .read(true)
+        .write(true)
+        .create(true)
+        .open(rt, path)?;
+    if !file.metadata()?.is_file() {
+        return Ok(None);
+    }
+    file.try_lock()?;
+    // (where it has anything, its folder was written before)
+    if file.metadata()?.len() == 0 {
+        sync_folder(rt, path)?;
+    }
+    Ok(Some(file))
+}
+
+/// Tells a host, and people, why there is no log, and answers the exit status.
+fn without_log(rt: &HostRuntime, path: &str, why: &str, failure: &Failure) -> u8 {
+    let _ = write_settled(&mut Stream::new(io::writer(rt)), failure);
+    failed(rt, path, why, failure)
+}
+
+/// Tells a host, and people, why a log isn't opened, and answers the exit status.
+fn unopened_log(rt: &HostRuntime, path: &str, kind: ErrorKind) -> u8 {
+    let failure = match kind {
+        ErrorKind::WouldBlock => {
+            let _ = told(rt, "fault 14 log is in use\n");
+            return 3;
+        }
+        ErrorKind::OutOfMemory => Failure::NoMemory,
+        _ => Failure::Unread,
+    };
+    without_log(rt, path, Unopened::new(kind).cause(), &failure)
+}
+
+/// Runs a node of this configuration, with this log.
+fn run_with<L: EventLog + Drop>(rt: &HostRuntime, config: &[u8], log: L) -> u8 {
+    let mut input = Stream::new(rt.reader());
+    let mut output = Stream::new(io::writer(rt));
+    run_node(rt.alloc(), config, log, &mut input, &mut output)
+}
+
+/// Runs a node of this configuration, with the log at this path.
+fn run_with_file(rt: &HostRuntime, config: &[u8], path: &str) -> u8 {
+    match open_log(rt, path) {
+        Ok(Some(file)) => run_with(rt, config, FileLog::new(file)),
+        Ok(None) => without_log(rt, path, "it is no plain file", &Failure::Unread),
+        Err(error) => unopened_log(rt, path, error.kind()),
+    }
+}
+
+/// Does what is asked of a node.
+fn with_node(rt: &HostRuntime, asked: &NodeAsked<'_>) -> u8 {
+    let config = match config_of(rt, asked.config) {
+        Ok(config) => config,
+        Err(status) => return status,
+    };
+    let config = config.as_slice();
+    match asked.task {
+        NodeTask::Check => check_config(rt.alloc(), config, &mut Stream::new(io::writer(rt))),
+        NodeTask::Run { log: None } => run_with(rt, config, NoLog),
+        NodeTask::Run { log: Some(path) } => run_with_file(rt, config, path),
+    }
+}
+
 /// Writes a text to the standard output, and answers 0, or 3 where that failed.
 fn told(rt: &HostRuntime, text: &str) -> u8 {
     match write_text(&mut Stream::new(io::writer(rt)), text) {
@@ -118,7 +233,8 @@ fn served<T: Threads + Wait + Sync>(
     let words: Vec<&str> = words.iter().map(|word| word.as_str()).collect(alloc)?;
     let version = version_of(words.first().copied());
     match read_words(alloc, version, words.as_slice()) {
-        Ok(asked) => answer(rt, threads, &asked),
+        Ok(Wanted::Script(asked)) => answer(rt, threads, &asked),
+        Ok(Wanted::Node(asked)) => Ok(with_node(rt, &asked)),
         Err(Unasked::Told(text)) => Ok(told(rt, text.as_str())),
         Err(Unasked::Wrong(text)) => Ok(wrong(rt, text.as_str(), 2)),
         Err(Unasked::NoMemory) => Err(AllocError),

@@ -68,7 +68,7 @@ pub enum Source<'a> {
     Words(Vec<&'a str>),
 }
 
-/// What the words of a command line ask for.
+/// What is asked of scripts or messages.
 #[derive(Debug, Drop)]
 pub struct Asked<'a> {
     pub task: Task,
@@ -79,7 +79,36 @@ pub struct Asked<'a> {
     pub source: Source<'a>,
 }
 
-/// What words are answered with that ask for no task.
+/// What is done with a node.
+#[derive(Clone, Copy, Debug, PartialEq, Eq)]
+pub enum NodeTask<'a> {
+    /// What is wrong with its configuration is told, or the configuration's digest.
+    Check,
+    /// It runs until the standard input ends.
+    Run {
+        /// The path of its log; without one it keeps nothing.
+        log: Option<&'a str>,
+    },
+}
+
+/// What is asked of a node.
+#[derive(Clone, Copy, Debug, PartialEq, Eq)]
+pub struct NodeAsked<'a> {
+    /// The path of its configuration.
+    pub config: &'a str,
+    pub task: NodeTask<'a>,
+}
+
+/// What the words of a command line ask for.
+#[derive(Debug, Drop)]
+pub enum Wanted<'a> {
+    /// A task on scripts or messages.
+    Script(Asked<'a>),
+    /// A node.
+    Node(NodeAsked<'a>),
+}
+
+/// What words are answered with that ask for nothing.
 #[derive(Debug, Drop)]
 pub enum Unasked {
     /// The help or the version, which was asked for.
@@ -159,8 +188,8 @@ fn with_messages<'a>(
     })
 }
 
-/// What a command asks for, by its name and its words.
-fn asked_by<'a>(
+/// What a command on scripts asks for, by its name and its words.
+fn script_by<'a>(
     alloc: Global,
     name: &str,
     matches: &ArgMatches<'a>,
@@ -178,6 +207,38 @@ fn asked_by<'a>(
         _ => return Ok(None),
     };
     Ok(Some(asked))
+}
+
+/// What a command of a node asks for.
+fn node_by<'a>(matches: &ArgMatches<'a>) -> Option<NodeAsked<'a>> {
+    let (name, inner) = matches.subcommand()?;
+    let config = inner.get_str("CONFIG")?;
+    let task = match name {
+        "check" => NodeTask::Check,
+        "run" => NodeTask::Run {
+            log: inner.get_str("log"),
+        },
+        _ => return None,
+    };
+    Some(NodeAsked { config, task })
+}
+
+/// What a command asks for, by its name and its words.
+fn wanted_by<'a>(
+    alloc: Global,
+    name: &str,
+    matches: &ArgMatches<'a>,
+) -> Result<Option<Wanted<'a>>, AllocError> {
+    if name == "node" {
+        return Ok(match node_by(matches) {
+            Some(asked) => Some(Wanted::Node(asked)),
+            None => None,
+        });
+    }
+    Ok(match script_by(alloc, name, matches)? {
+        Some(asked) => Some(Wanted::Script(asked)),
+        None => None,
+    })
 }
 
 /// What is told in place of a task, by the parser of the words.
@@ -201,10 +262,10 @@ fn parsed<'a>(
     alloc: Global,
     version: &'a str,
     words: &'a [&'a str],
-) -> Result<Option<Asked<'a>>, Error> {
+) -> Result<Option<Wanted<'a>>, Error> {
     let matches = command_line(alloc, version)?.try_get_matches_from(words)?;
     match matches.subcommand() {
-        Some((name, inner)) => Ok(asked_by(alloc, name, inner)?),
+        Some((name, inner)) => Ok(wanted_by(alloc, name, inner)?),
         None => Ok(None),
     }
 }
@@ -222,9 +283,9 @@ pub fn read_words<'a>(
     alloc: Global,
     version: &'a str,
     words: &'a [&'a str],
-) -> Result<Asked<'a>, Unasked> {
+) -> Result<Wanted<'a>, Unasked> {
     match parsed(alloc, version, words) {
-        Ok(Some(asked)) => Ok(asked),
+        Ok(Some(wanted)) => Ok(wanted),
         Ok(None) => Err(no_command(alloc)),
         Err(error) => Err(unasked_by(alloc, &error)),
     }

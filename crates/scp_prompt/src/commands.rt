@@ -6,20 +6,29 @@ use std::alloc::{AllocError, Global};
 static MODES: [&str; 2] = ["serial", "threads"];
 
 static ABOUT: &str =
-    "Plays and checks scripts of nodes that agree by the Stellar Consensus Protocol";
+    "Plays and checks scripts of nodes that agree by the Stellar Consensus Protocol, and runs a node";
 
 static AFTER: &str = "Files:
   FILE is a script, in hexadecimal digits, as text, or in both, line by line;
   where it is left out or is -, the standard input is read.
   What goes wrong is told on the standard error as FILE:LINE:WORD: what stands there, what was expected.
   Of a command that failed nothing stands on the standard output.
+  What a node reads and writes is told by scp node --help.
 
 Statuses:
   0  done
-  1  a script or a message was refused
+  1  a script, a message, a configuration or a log was refused
   2  the words ask for nothing
   3  a node failed, memory ran out, or a file, the input or the output failed
   4  a script was played, and there are notices of it on the standard error";
+
+static AFTER_NODE: &str = "Lines:
+  A line of the standard input is an event or a question; what comes of it is written to the standard output, 'ok' last.
+  A line that is neither is answered by 'bad', and nothing else comes of it.
+  Where the standard input ends, so does the node, with status 0.
+  With --log nothing is written of an event before the file has it, and the node goes on where the file ends.
+  What goes wrong is told on the standard output by a line that begins with 'fault', with status 1 or 3 (scp --help);
+  why a file can't be opened is told on the standard error.";
 
 fn file<'a>(alloc: Global) -> Arg<'a> {
     Arg::new(alloc, "FILE").help("A script; the standard input where it is left out or is -")
@@ -96,6 +105,39 @@ fn run<'a>(alloc: Global) -> Result<Command<'a>, AllocError> {
         .arg(quiet)
 }
 
+/// A command whose input is a configuration.
+fn of_config<'a>(alloc: Global, name: &'a str, about: &'a str) -> Result<Command<'a>, AllocError> {
+    let config = Arg::new(alloc, "CONFIG").required(true).help(
+        "Who the node is, who its peers are, and its quorum set, in TOML",
+    );
+    Command::new(alloc, name).about(about).arg(config)
+}
+
+/// The commands of a node.
+fn node<'a>(alloc: Global) -> Result<Command<'a>, AllocError> {
+    let log = Arg::new(alloc, "log").long("log").value_name("FILE").help(
+        "Keeps each event in this file, which is made where it isn't there",
+    );
+    let run = of_config(
+        alloc,
+        "run",
+        "Runs a node: events in, messages and decisions out, line by line",
+    )?
+    .arg(log)?;
+    let check = of_config(
+        alloc,
+        "check",
+        "Tells what is wrong with a configuration, or its digest",
+    )?;
+    Command::new(alloc, "node")
+        .about("Runs one node as a process, or checks its configuration")
+        .after_help(AFTER_NODE)
+        .subcommand_required(true)
+        .arg_required_else_help(true)
+        .subcommand(run)?
+        .subcommand(check)
+}
+
 /// The commands that look into scripts.
 fn with_scripts<'a>(alloc: Global, command: Command<'a>) -> Result<Command<'a>, AllocError> {
     let check = of_plain_file(alloc, "check", "Tells what is wrong with a script")?;
@@ -157,5 +199,5 @@ pub fn command_line<'a>(alloc: Global, version: &'a str) -> Result<Command<'a>, 
         .subcommand_required(true)
         .arg_required_else_help(true);
     let command = with_scripts(alloc, command)?;
-    with_forms(alloc, command)
+    with_forms(alloc, command)?.subcommand(node(alloc)?)
 }

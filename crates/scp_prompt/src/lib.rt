@@ -15,7 +15,9 @@ mod failure;
 mod places;
 mod stream;
 
-pub use asked::{Asked, Coding, Mode, Shape, Source, Task, Unasked, read_words};
+pub use asked::{
+    Asked, Coding, Mode, NodeAsked, NodeTask, Shape, Source, Task, Unasked, Wanted, read_words,
+};
 pub use bytes::{LONG_LIMIT, read_within, write_bytes};
 pub use failure::{BadWord, Failure, Stop, status, write_failure, write_settled};
 pub use places::{Place, word_at, write_place};

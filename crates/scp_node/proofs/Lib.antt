@@ -1,0 +1,11 @@
+pub mod Going
+pub mod Answering
+pub mod Replaying
+pub mod Configs
+pub mod Served
+pub mod Living
+pub mod Started
+pub mod Acting
+pub mod Standing
+pub mod Begun
+pub mod Same

@@ -1,0 +1,9 @@
+use Rattle.scp_node.proofs.Acting.{asked_quietly, no_event, on_any, one_of_three}
+use Rattle.scp_node.proofs.answer.done.Goals as goal
+
+pub returns-in_default : goal.returns-in_default
+returns-in_default c = record {
+  done = asked_quietly c.reply.result c.args.asked c.args.line.items c.args.live.now c.args.batch.now c.reply.new.self (no_event c.args.asked c.in_default.not-Event) c.reply.ensures.told c.reply.ensures.only;
+  live = on_any c.reply.result c.requires.live;
+  only = one_of_three c.reply.result c.reply.ensures.only;
+}

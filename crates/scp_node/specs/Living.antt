@@ -1,0 +1,11 @@
+-- A node that runs.
+use Rattle.std.specs.Prelude.{◌≡◌, false, List}
+use Rattle.scp_core.specs.History.{Exchange}
+use Rattle.scp_core.specs.Node.{NodeView}
+use Rattle.scp_core.specs.Theorem.{LedgerTheorem}
+
+-- The node runs, and the ledger theorem holds of it for something that it heard.
+pub record IsLive (v : NodeView) : Type 0 where
+  pub past : List Exchange
+  pub theorem : LedgerTheorem past v
+  pub runs : v.failed ≡ false

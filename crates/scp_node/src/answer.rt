@@ -1,0 +1,84 @@
+//! What the lines of a host are answered.
+ghost use Rattle.std.specs.Prelude.{◌≡◌, ◌⊎◌, false, true, IfOk, IfErr, OnOk, IsErrOf};
+ghost use Rattle.scp_log.specs.Log.{IsLine};
+ghost use Rattle.scp_turn.specs.Turn.{Goes};
+ghost use Rattle.scp_episode.specs.Episode.{finds_full};
+ghost use Rattle.scp_asked.specs.Says.{Says};
+ghost use Rattle.scp_node.specs.Answers.{IsDone, IsAnswered, AreAnswered, next_number};
+ghost use Rattle.scp_node.specs.inside.Adding.{Adds};
+ghost use Rattle.scp_node.specs.inside.Batches.{number_behind};
+ghost use Rattle.scp_node.specs.Living.{IsLive};
+
+use crate::batch::Batch;
+use scp_asked::{Asked, BadLine, read_line};
+use scp_batches::Line;
+use scp_live::Live;
+use scp_types::Fault;
+
+/// What was expected in place of a line that is too long.
+const SHORTER: &str = "a line of at most 262144 bytes";
+
+/// Does what a line asks for.
+fn done(batch: &mut Batch, live: &mut Live, asked: Asked, line: Vec<u8>) -> Result<(), Fault>
+    requires live { IsLive live.old.node }
+    requires says { Says live.old.names line.items asked }
+    requires line { IsLine line.items }
+    ensures done { Goes live.old.node live.new.node (λ _ heard _. OnOk result (Adds (IsDone asked line.items) live.old heard live.new batch.old batch.new) × (IsErrOf result Fault.JournalFull → finds_full heard ≡ true)) }
+    ensures live { OnOk result (IsLive live.new.node) }
+    ensures only { IfErr result (λ f. (f ≡ Fault.NoMemory) ⊎ ((f ≡ Fault.JournalFull) ⊎ (f ≡ Fault.TooLong))) }
+{
+    match asked {
+        Asked::Event(event) => batch.play(live, event, line),
+        question => batch.reply(live, &question),
+    }
+}
+
+/// Adds the answer to the line of this number.
+fn answer(batch: &mut Batch, live: &mut Live, number: u64, line: Line) -> Result<(), Fault>
+    requires live { IsLive live.old.node }
+    ensures answered { Goes live.old.node live.new.node (λ _ heard _. OnOk result (Adds (IsAnswered number line) live.old heard live.new batch.old batch.new) × (IsErrOf result Fault.JournalFull → finds_full heard ≡ true)) }
+    ensures live { OnOk result (IsLive live.new.node) }
+    ensures only { IfErr result (λ f. (f ≡ Fault.NoMemory) ⊎ ((f ≡ Fault.JournalFull) ⊎ (f ≡ Fault.TooLong))) }
+{
+    if line.is_too_long() {
+        return batch.bad(number, 1, SHORTER);
+    }
+    match read_line(batch.alloc(), live.names(), line.bytes()) {
+        Ok(asked) => {
+            done(batch, live, asked, line.into_bytes())?;
+            batch.ok(number)
+        }
+        Err(BadLine::At(refusal)) => batch.bad(number, refusal.word, refusal.expected.words()),
+        Err(BadLine::NoMemory) => Err(Fault::NoMemory),
+    }
+}
+
+/// The number of the next line; all lines behind line 2^64 - 1 have that number.
+fn next(number: u64) -> u64
+    ensures { result ≡ next_number number }
+{
+    number.saturating_add(1)
+}
+
+/// Adds the answers to lines, the first of which has this number; answers the number of the next line.
+pub fn answer_all(
+    batch: &mut Batch,
+    live: &mut Live,
+    number: u64,
+    lines: Vec<Line>,
+) -> Result<u64, Fault>
+    requires live { IsLive live.old.node }
+    ensures answered { Goes live.old.node live.new.node (λ _ heard _. OnOk result (Adds (AreAnswered number lines.items) live.old heard live.new batch.old batch.new) × (IsErrOf result Fault.JournalFull → finds_full heard ≡ true)) }
+    ensures next { IfOk result (λ next. next ≡ number_behind number lines.items) }
+    ensures live { OnOk result (IsLive live.new.node) }
+    ensures only { IfErr result (λ f. (f ≡ Fault.NoMemory) ⊎ ((f ≡ Fault.JournalFull) ⊎ (f ≡ Fault.TooLong))) }
+{
+    let mut number = number;
+    for line in lines {
+        match answer(batch, live, number, line) {
+            Ok(()) => number = next(number),
+            Err(fault) => return Err(fault),
+        }
+    }
+    Ok(number)
+}

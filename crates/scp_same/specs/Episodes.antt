@@ -1,0 +1,25 @@
+-- Two lives of a node to which the same events come.
+use Rattle.std.specs.Prelude.{◌≡◌, false, List, [], ◌∷◌}
+use Rattle.scp_core.specs.declared.event.Event.{Event}
+use Rattle.scp_core.specs.declared.event.Reply.{Reply}
+use Rattle.scp_core.specs.History.{Exchange}
+use Rattle.scp_core.specs.Node.{NodeView}
+use Rattle.scp_core.specs.Same.{ShowSameNode}
+use Rattle.scp_core.specs.Theorem.{LedgerTheorem}
+use Rattle.scp_turn.specs.Rest.{Then}
+use Rattle.scp_episode.specs.Episode.{IsEpisode}
+
+-- an episode of this event, whatever its reply
+abbrev pub AnEpisode : Event → NodeView → List Exchange → NodeView → Type 0
+AnEpisode event old heard new = (reply : Reply) × IsEpisode event reply old heard new
+
+-- episodes of these events, one after the other
+abbrev pub AreEpisodes : List Event → NodeView → List Exchange → NodeView → Type 0
+AreEpisodes [] old heard new = (heard ≡ []) × (new ≡ old)
+AreEpisodes (event ∷ events) old heard new = Then (AnEpisode event) (AreEpisodes events) old heard new
+
+-- Two lives of a node of one configuration, each from the node as it is made, are episodes of the same events. Where neither left the
+-- node failed, they are one list of exchanges, and the nodes that they left show the same.
+abbrev pub SameEventsSameEpisodes : Type 0
+SameEventsSameEpisodes =
+    (events : List Event) (a b v w : NodeView) (x y : List Exchange) → LedgerTheorem [] a → LedgerTheorem [] b → a.config ≡ b.config → AreEpisodes events a x v → AreEpisodes events b y w → v.failed ≡ false → w.failed ≡ false → (x ≡ y) × ShowSameNode v w
