@@ -161,7 +161,9 @@ pub fn played(alloc: Global, given: &Given<'_>) -> Result<Ran, Fault> {
 /// Runs a node that has memory. Want of it is the one refusal.
 pub fn run(alloc: Global, given: &Given<'_>) -> Result<Ran, Fault> {
     let ran = played(alloc, given)?;
-    if ran.written.text().ends_with(b"fault 1\n") {
+    let text = ran.written.text();
+    // (a writer may be refused in the middle of that line)
+    if text.ends_with(b"fault 1\n") || text.ends_with(b"fault 1") || text.ends_with(b"fault ") {
         return Err(Fault::NoMemory);
     }
     Ok(ran)
