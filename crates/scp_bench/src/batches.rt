@@ -13,8 +13,8 @@ fn hear_batch(alloc: Global, node: &mut Node, first: u32, records: u32) -> Resul
     for place in 0..records {
         ask(node, 0, u64::from(first.wrapping_add(place)))?;
     }
-    send(node, 1, 0, batch(alloc, first, records)?)?;
-    settle(node, 1)
+    send(node, 0, batch(alloc, first, records)?)?;
+    settle(node)
 }
 
 /// So many records, from slot 1 on; the last batch has what is left.

@@ -25,17 +25,18 @@ fn most_peers(alloc: Global) -> Result<QuorumSet, AllocError> {
 fn hear_slot(alloc: Global, node: &mut Node, slot: u32, hash: &Hash) -> Result<(), Fault> {
     for link in 0..PEERS {
         let bytes = externalize(alloc, &peer(link), slot, hash)?;
-        send(node, PEERS, link, bytes)?;
+        send(node, link, bytes)?;
     }
     Ok(())
 }
 
-/// The EXTERNALIZE of each peer for so many slots.
+/// The EXTERNALIZE of each peer for so many slots. The node settles after each, or the first link would be far ahead of the others.
 fn hear_slots(alloc: Global, node: &mut Node, slots: u32, hash: &Hash) -> Result<(), Fault> {
     for slot in 1..=slots {
         hear_slot(alloc, node, slot, hash)?;
+        settle(node)?;
     }
-    settle(node, PEERS)
+    Ok(())
 }
 
 /// A node hears its peers externalize so many slots, and is counted.

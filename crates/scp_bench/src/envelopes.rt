@@ -25,9 +25,9 @@ fn hear_all(alloc: Global, node: &mut Node, hash: &Hash, envelopes: u32) -> Resu
         let slot = (place % SLOTS) as u64 + 1;
         let counter = place / (SLOTS * ROUNDS) + 1;
         let bytes = prepare(alloc, &peer(0), slot, hash, counter)?;
-        send(node, 1, 0, bytes)?;
+        send(node, 0, bytes)?;
     }
-    settle(node, 1)
+    settle(node)
 }
 
 impl Judged {

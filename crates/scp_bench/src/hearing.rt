@@ -9,9 +9,6 @@ const ME: NodeId = NodeId([1; 32]);
 /// What each queue of a node holds.
 const ROOM: u16 = 64;
 
-/// A node settles in at most so many rounds.
-const MOST: u32 = 100_000;
-
 /// A node hears at most so many messages: its journal is then full, and a connection has carried as many as it may.
 pub const HEARD: u32 = 1_000_000;
 
@@ -82,41 +79,9 @@ pub fn ask(node: &mut Node, link: u8, slot: u64) -> Result<(), Fault> {
     hear(node, Event::Local(Command::Ask(link, Slot(slot))))
 }
 
-/// One event of a stage; whether it did its step.
-fn moves(node: &mut Node, event: Event) -> bool {
-    matches!(node.step(event), Reply::Moved)
-}
-
-/// Each stage does one step, first the reader of the link; whether anything moved.
-fn step_all(node: &mut Node, link: u8) -> bool {
-    let read = moves(node, Event::ReaderTake(link));
-    let heard = moves(node, Event::ReaderPut(link));
-    let taken = moves(node, Event::PendTake);
-    let given = moves(node, Event::PendPut);
-    let judged = moves(node, Event::SlotTake);
-    let sent = moves(node, Event::SlotPut);
-    let applied = moves(node, Event::ApplyTake);
-    read || heard || taken || given || judged || sent || applied
-}
-
-/// Goes once round the links; whether anything moved.
-fn go_round(node: &mut Node, links: u8) -> bool {
-    let mut moved = false;
-    for link in 0..links {
-        if step_all(node, link) {
-            moved = true;
-        }
-    }
-    moved
-}
-
-/// Goes round the links until nothing moves.
-pub fn settle(node: &mut Node, links: u8) -> Result<(), Fault> {
-    for _ in 0..MOST {
-        if !go_round(node, links) {
-            break;
-        }
-    }
+/// The node comes to rest.
+pub fn settle(node: &mut Node) -> Result<(), Fault> {
+    let _is_calm = scp_turn::settle(node);
     match node.state() {
         Some(_) => Ok(()),
         None => Err(Fault::NoMemory),
@@ -124,9 +89,9 @@ pub fn settle(node: &mut Node, links: u8) -> Result<(), Fault> {
 }
 
 /// Sends bytes, and settles first where the link's queue is full.
-pub fn send(node: &mut Node, links: u8, link: u8, bytes: Vec<u8>) -> Result<(), Fault> {
+pub fn send(node: &mut Node, link: u8, bytes: Vec<u8>) -> Result<(), Fault> {
     if node.room(link) == 0 {
-        settle(node, links)?;
+        settle(node)?;
     }
     hear(node, Event::Send(link, Bytes::new(bytes)))
 }

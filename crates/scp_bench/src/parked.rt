@@ -51,7 +51,7 @@ fn wait(
     for (place, answer) in answers.iter().enumerate() {
         let slot = (place as u64).wrapping_add(1);
         let bytes = prepare(alloc, &peer(link), slot, &answer.hash, counter)?;
-        send(ledger, LINKS, link, bytes)?;
+        send(ledger, link, bytes)?;
     }
     Ok(())
 }
@@ -61,12 +61,12 @@ fn park(alloc: Global, ledger: &mut Node, answers: &[Answer], counter: u32) -> R
     for link in 0..WAITING_LINKS {
         wait(alloc, ledger, link, answers, counter)?;
     }
-    settle(ledger, LINKS)?;
+    settle(ledger)?;
     for answer in answers {
         let bytes = Vec::from_slice(alloc, answer.message.as_slice())?;
-        send(ledger, LINKS, 0, bytes)?;
+        send(ledger, 0, bytes)?;
     }
-    settle(ledger, LINKS)
+    settle(ledger)
 }
 
 /// The answers of one round.

@@ -31,7 +31,7 @@ fn hear_record(alloc: Global, node: &mut Node, links: u8, place: u32) -> Result<
     let slot = slot_at(place);
     ask(node, link, slot)?;
     let bytes = Vec::from_slice(alloc, &record(slot))?;
-    send(node, links, link, bytes)
+    send(node, link, bytes)
 }
 
 /// So many records, over the node's links.
@@ -39,10 +39,10 @@ fn hear_all(alloc: Global, node: &mut Node, links: u8, records: u32) -> Result<(
     for place in 0..records {
         hear_record(alloc, node, links, place)?;
         if place % ASKED == ASKED - 1 {
-            settle(node, links)?;
+            settle(node)?;
         }
     }
-    settle(node, links)
+    settle(node)
 }
 
 impl Ledgers {

@@ -69,9 +69,9 @@ fn hear_round(alloc: Global, node: &mut Node, hash: &Hash, round: u32) -> Result
     }
     for place in 0..MESSAGES {
         let bytes = message(alloc, hash, round, place)?;
-        send(node, LINKS, link_at(place), bytes)?;
+        send(node, link_at(place), bytes)?;
     }
-    settle(node, LINKS)
+    settle(node)
 }
 
 /// The lines of a round. It ends once the applier has what its records decide, and so all that came before these on their links is heard.
