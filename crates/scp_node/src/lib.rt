@@ -6,7 +6,7 @@
 //! - nothing is written of an event that isn't kept: of all lines that a read brought the events are kept at once, each with the digest of
 //!   what was sent of it, and then what they were answered is written;
 //! - a node that starts with a log plays each entry again and is refused where one of them sends anything else; then no link is open;
-//! - what is kept of lines that were answered, played again, is what the node did, and makes a node that shows the same;
+//! - what is kept of lines that were answered, played again, is what the node did, and makes nodes that, while they run, show the same;
 //! - the ledger theorem holds of the node for all that it heard.
 //!
 //! Not claimed: that a file is a disk as `EventLog` says, that anything comes in or goes out in time, or that peers agree.
