@@ -1,5 +1,6 @@
 """Four hosts with their nodes, what they were told, and whether that contradicts itself: what test.py, kills.py and show.py share."""
 import argparse
+import json
 import os
 import shutil
 import signal
@@ -9,6 +10,7 @@ import tempfile
 import time
 
 HERE = os.path.dirname(os.path.abspath(__file__))
+AUDITOR = os.path.join(HERE, "../../scripts/auditor")
 NAMES = ["alice", "bob", "carol", "dave"]
 SECONDS = 120  # so long nothing may move
 FINE, CONTRADICTED, STUCK = 0, 1, 2
@@ -20,6 +22,10 @@ class Contradiction(Exception):
 
 class Stuck(Exception):
     """It didn't go on, or a host or a node ended."""
+
+
+class Unaudited(Exception):
+    """The auditor says something else of the nodes' accounts than it should."""
 
 
 # ---- statements, by their bytes
@@ -271,7 +277,55 @@ def judge(network):
     return 3 * len(NAMES)
 
 
-def tried(network, act):
+# ---- accounts
+
+
+def account_of(network, name):
+    """The account of a node that is down, by its log."""
+    words = [network.program, "node", "account", f"{network.folder}/{name}.toml", "--log", f"{network.folder}/{name}.log"]
+    done = subprocess.run(words, capture_output=True, timeout=SECONDS, check=False)
+    if done.returncode != 0:
+        raise Unaudited(f"no account of {name}, status {done.returncode}: {(done.stdout + done.stderr).decode()}")
+    return json.loads(done.stdout)
+
+
+def said_of(network, accounts):
+    """The status of the auditor, and what it says of these accounts, one of each node."""
+    paths = [f"{network.folder}/{name}.account" for name in NAMES]
+    for path, account in zip(paths, accounts):
+        with open(path, "w", encoding="ascii") as file:
+            json.dump(account, file)
+    done = subprocess.run([sys.executable, AUDITOR, *paths], capture_output=True, text=True, check=False)
+    return done.returncode, (done.stdout or done.stderr[-300:]).strip()
+
+
+def audit(network):
+    """The auditor finds the accounts of the four right. How many checks that is."""
+    status, said = said_of(network, [account_of(network, name) for name in NAMES])
+    if status != 0 or not said.startswith("ok "):
+        raise Unaudited(f"the auditor refuses the accounts: {said}")
+    print(f"the auditor of their four accounts: {said}")
+    return 1
+
+
+def audit_changed(network):
+    """The control: it refuses them where one byte is another, of a message that one node sent and the next one heard. How many checks that is."""
+    one, other, *rest = [account_of(network, name) for name in NAMES]
+    link = next(link for link in one["nodes"][0]["links"] if link["peer"] == other["nodes"][0]["id"])
+    came = next(link["came"] for link in other["nodes"][0]["links"] if link["peer"] == one["nodes"][0]["id"])
+    places = [place for place, message in enumerate(link["sent"]) if message in came]
+    place = places[len(places) // 2]
+    data = bytearray.fromhex(link["sent"][place])
+    data[len(data) // 2] ^= 1
+    link["sent"][place] = data.hex()
+    status, said = said_of(network, [one, other, *rest])
+    if status != 1 or not said.startswith("node "):
+        raise Unaudited(f"the auditor finds nothing where one byte of message {place + 1} is another: {said}")
+    print(f"and where one byte is another: {said}")
+    return 1
+
+
+def tried(network, act, checks):
     """How many checks passed, and what ended them, if anything did. What isn't read yet may hold a contradiction."""
     passed, fault = 0, None
     try:
@@ -283,9 +337,11 @@ def tried(network, act):
         network.read()
         if fault is None:
             passed += judge(network)
+            for check in checks:
+                passed += check(network)
     except Contradiction as it:
         fault = fault if isinstance(fault, Contradiction) else it
-    except Stuck as it:
+    except (Stuck, Unaudited) as it:
         fault = it
     return passed, fault
 
@@ -304,8 +360,9 @@ def room():
     return tempfile.TemporaryDirectory(dir=memory)
 
 
-def play(asked, act, unit=0.1):
-    """Plays a test, and ends with its status. `act` is given the network, and answers how many things it did."""
+def play(asked, act, *checks, unit=0.1):
+    """Plays a test, and ends with its status. `act` is given the network, and answers how many things it did; so is each of the checks, once all
+    nodes are down, where they have logs."""
     sys.stdout.reconfigure(line_buffering=True)
     signal.signal(signal.SIGTERM, lambda *_: sys.exit(STUCK))
     kept = None if asked.keep else room()
@@ -313,7 +370,7 @@ def play(asked, act, unit=0.1):
     os.makedirs(folder, exist_ok=True)
     network = Network(os.path.abspath(asked.program), folder, unit, not asked.no_log)
     try:
-        passed, fault = tried(network, act)
+        passed, fault = tried(network, act, () if asked.no_log else checks)
         if fault is not None:
             print(f"FAILED: {str(fault)[:400]}")
             network.show()

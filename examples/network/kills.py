@@ -1,6 +1,6 @@
 #!/usr/bin/env python3
 """Four hosts close slots over loopback, while one to four of them are killed at random moments, with their nodes, and started again, until 200
-were killed. How far they go is counted by slots: on a slow machine it takes longer. It passes where test.py would.
+were killed. How far they go is counted by slots: on a slow machine it takes longer. It passes where test.py would, whose control it leaves out.
 
 usage: kills.py PROGRAM [--no-log] [--keep FOLDER]
 Statuses and last line are those of test.py.
@@ -10,7 +10,7 @@ import os
 import random
 import time
 
-from hosts import NAMES, arguments, play
+from hosts import NAMES, arguments, audit, play
 
 KILLS = int(os.environ.get("KILLS", "200"))
 SEED = int(os.environ.get("SEED", "0")) or random.randrange(1, 1 << 32)
@@ -48,4 +48,4 @@ def act(network):
 
 
 if __name__ == "__main__":
-    play(arguments(__doc__), act)
+    play(arguments(__doc__), act, audit)

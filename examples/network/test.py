@@ -3,7 +3,8 @@
 while; then all four are killed at once, and started again.
 
 It passes where all applied the same, none was told two values of a slot over its lives, and of each node all envelopes that it wrote, in the
-order in which each was written first, are ascending by slot and kind. AWAY=30 keeps the killed one away for more than a window of slots.
+order in which each was written first, are ascending by slot and kind; and where scripts/auditor finds the accounts of the four right, by their
+logs, and not so where one byte of them is another. AWAY=30 keeps the killed one away for more than a window of slots.
 
 usage: test.py PROGRAM [--no-log] [--keep FOLDER]
   --no-log is the control: nodes that forget must be found out, by status 1
@@ -12,7 +13,7 @@ Statuses: 0 passed, 1 a contradiction, 2 anything else, as that nothing was appl
 import os
 import time
 
-from hosts import NAMES, arguments, play
+from hosts import NAMES, arguments, audit, audit_changed, play
 
 AWAY = int(os.environ.get("AWAY", "5"))
 
@@ -51,4 +52,4 @@ def act(network):
 
 
 if __name__ == "__main__":
-    play(arguments(__doc__), act)
+    play(arguments(__doc__), act, audit, audit_changed)

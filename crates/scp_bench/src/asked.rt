@@ -16,7 +16,7 @@ pub enum Asked {
     Usage,
 }
 
-static WORKLOADS: [&str; 20] = [
+static WORKLOADS: [&str; 21] = [
     "decode",
     "records",
     "batches",
@@ -36,6 +36,7 @@ static WORKLOADS: [&str; 20] = [
     "decide",
     "network",
     "threads",
+    "fed",
     "serial",
 ];
 
@@ -77,6 +78,7 @@ fn one(name: &str, size: Option<&str>) -> Asked {
         "decide" => Workload::Decide,
         "network" => Workload::Network,
         "threads" => Workload::Threads,
+        "fed" => Workload::Fed,
         "serial" => Workload::Serial,
         _ => return Asked::Usage,
     };

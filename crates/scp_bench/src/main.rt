@@ -8,6 +8,7 @@ mod asked;
 mod batches;
 mod decide;
 mod envelopes;
+mod fed;
 mod hearing;
 mod network;
 mod parked;
@@ -29,7 +30,7 @@ use std::{env, io};
 
 /// What is printed where no workload is asked for.
 const USAGE: &str =
-    "usage: scp_bench [decode|records|batches|envelopes|flow|parked|script|quorum-shared|quorum-own|quorum-chain|quorum-missing|votes-one|votes-each|consensus-4|consensus-8|consensus-16|decide|network|threads|serial [SIZE]]\n";
+    "usage: scp_bench [decode|records|batches|envelopes|flow|parked|script|quorum-shared|quorum-own|quorum-chain|quorum-missing|votes-one|votes-each|consensus-4|consensus-8|consensus-16|decide|network|threads|fed|serial [SIZE]]\n";
 
 /// What is printed where there is no memory for a fault's line.
 const NO_MEMORY: &str = "out of memory\n";

@@ -1,3 +1,4 @@
+use crate::fed::feed_once;
 use crate::hearing::{ask, peer, send, settle, with_node};
 use scp_bench_parts::{prepare, record};
 use scp_core::Node;
@@ -9,13 +10,13 @@ use std::sync::Wait;
 use std::thread::Threads;
 
 /// The node has a link from each of so many peers.
-const LINKS: u8 = 7;
+pub const LINKS: u8 = 7;
 
 /// In a round each link brings so many envelopes, each twice, and then the record of a slot.
 const ENVELOPES: u32 = 8;
 
 /// The messages of a round.
-const MESSAGES: u32 = (2 * ENVELOPES + 1) * LINKS as u32;
+pub const MESSAGES: u32 = (2 * ENVELOPES + 1) * LINKS as u32;
 
 /// A node hears at most so many rounds here, so that its script keeps its limit of 1,048,576 bytes.
 const ROUNDS: u32 = 36;
@@ -32,7 +33,7 @@ pub struct Rounds {
 }
 
 /// All eight nodes.
-fn all_nodes(alloc: Global) -> Result<QuorumSet, AllocError> {
+pub fn all_nodes(alloc: Global) -> Result<QuorumSet, AllocError> {
     let mut nodes: Vec<NodeId> = Vec::with_capacity(alloc, 8)?;
     nodes.push(NodeId([1; 32]))?;
     for link in 0..LINKS {
@@ -42,17 +43,17 @@ fn all_nodes(alloc: Global) -> Result<QuorumSet, AllocError> {
 }
 
 /// The link over which the message at this place of a round comes: they come over one after the other.
-fn link_at(place: u32) -> u8 {
+pub fn link_at(place: u32) -> u8 {
     (place % 7) as u8
 }
 
 /// The slot of the record that the link brings in a round.
-fn slot_of(round: u32, link: u8) -> u64 {
+pub fn slot_of(round: u32, link: u8) -> u64 {
     u64::from(round) * 7 + u64::from(link) + 1
 }
 
 /// The message at this place of a round: an envelope of one of the eight slots behind those of the round's records, or a record.
-fn message(alloc: Global, hash: &Hash, round: u32, place: u32) -> Result<Vec<u8>, AllocError> {
+pub fn message(alloc: Global, hash: &Hash, round: u32, place: u32) -> Result<Vec<u8>, AllocError> {
     let link = link_at(place);
     let turn = place / 7;
     if turn >= 2 * ENVELOPES {
@@ -181,6 +182,23 @@ pub fn hear_in_threads<T: Threads + Wait + Sync>(
     }
     if size % ROUNDS > 0 {
         heard.play(rt, alloc, &hash, size % ROUNDS)?;
+    }
+    Ok(heard)
+}
+
+/// Brings the same rounds through nodes whose stages run in threads, each of which is handed the messages as they are made.
+pub fn hear_as_fed<T: Threads + Wait + Sync>(
+    rt: &T,
+    alloc: Global,
+    size: u32,
+) -> Result<Rounds, Fault> {
+    let hash = all_nodes(alloc)?.hash()?;
+    let mut heard = Rounds::none();
+    for _ in 0..size / ROUNDS {
+        feed_once(rt, alloc, &hash, ROUNDS, &mut heard)?;
+    }
+    if size % ROUNDS > 0 {
+        feed_once(rt, alloc, &hash, size % ROUNDS, &mut heard)?;
     }
     Ok(heard)
 }

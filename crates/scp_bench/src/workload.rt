@@ -5,7 +5,7 @@ use crate::network::{Networks, close_slots};
 use crate::parked::park_envelopes;
 use crate::records::{Ledgers, hear_records};
 use crate::script::{Played, play_scripts};
-use crate::threads::{Rounds, hear_in_threads, hear_in_turn};
+use crate::threads::{Rounds, hear_as_fed, hear_in_threads, hear_in_turn};
 use scp_bench_parts::{
     Consensus, Decoded, Quorums, Shape, Sharing, Votes, count_votes, decide_slots, decode_records,
     find_quorums,
@@ -51,6 +51,8 @@ pub enum Workload {
     Network,
     /// Records and envelopes go through a node of seven links whose stages run in threads.
     Threads,
+    /// The same, handed to such a node without a script.
+    Fed,
     /// The same, through a node that goes on event by event.
     Serial,
 }
@@ -221,6 +223,7 @@ fn run<T: Threads + Wait + Sync>(
             size,
             &mut text,
         )?,
+        Workload::Fed => tell_rounds("fed", hear_as_fed(rt, alloc, size)?, size, &mut text)?,
         Workload::Serial => { tell_rounds("serial", hear_in_turn(alloc, size)?, size, &mut text)? }
     }
     Ok(text)
@@ -263,6 +266,7 @@ pub fn write_all<T: Threads + Wait + Sync, W: ReportOut>(
     write_one(rt, alloc, Workload::Decide, SMALL, writer)?;
     write_one(rt, alloc, Workload::Network, FEW, writer)?;
     write_one(rt, alloc, Workload::Threads, FEW, writer)?;
+    write_one(rt, alloc, Workload::Fed, FEW, writer)?;
     write_one(rt, alloc, Workload::Serial, FEW, writer)?;
     Ok(())
 }

@@ -7,8 +7,8 @@
 
 use scp_command::{Order, serve, serve_plain};
 use scp_device::{SCRIPT_LIMIT, ScriptIn, read_script, write_text};
-use scp_log::{EventLog, FileLog};
-use scp_node::{NoLog, check_config, run_node};
+use scp_log::{EventLog, FileLog, MemoryLog};
+use scp_node::{NoLog, account_node, check_config, run_node};
 use scp_prompt::{
     Asked, Cause, Failure, NodeAsked, NodeTask, Source, Stream, Task, Unasked, Unopened, Wanted,
     read_words, status, write_failure, write_settled,
@@ -195,6 +195,18 @@ fn run_with_file(rt: &HostRuntime, config: &[u8], path: &str) -> u8 {
     }
 }
 
+/// Writes the account of a node of this configuration, by the log at this path, which is read and left as it is: that of a node which runs is read
+/// as far as it goes.
+fn account_with(rt: &HostRuntime, config: &[u8], path: &str) -> u8 {
+    match fs::read(rt, path) {
+        Ok(bytes) => {
+            let log = MemoryLog::new(rt.alloc(), bytes);
+            account_node(rt.alloc(), config, log, &mut Stream::new(io::writer(rt)))
+        }
+        Err(error) => unopened_log(rt, path, error.kind()),
+    }
+}
+
 /// Does what is asked of a node.
 fn with_node(rt: &HostRuntime, asked: &NodeAsked<'_>) -> u8 {
     let config = match config_of(rt, asked.config) {
@@ -206,6 +218,7 @@ fn with_node(rt: &HostRuntime, asked: &NodeAsked<'_>) -> u8 {
         NodeTask::Check => check_config(rt.alloc(), config, &mut Stream::new(io::writer(rt))),
         NodeTask::Run { log: None } => run_with(rt, config, NoLog),
         NodeTask::Run { log: Some(path) } => run_with_file(rt, config, path),
+        NodeTask::Account { log } => account_with(rt, config, log),
     }
 }
 

@@ -7,3 +7,4 @@ pub mod Told
 pub mod Reporting
 pub mod Finishing
 pub mod Headlining
+pub mod Accounting

@@ -1,6 +1,14 @@
 -- Why commands fail (this project's profile).
-use Rattle.std.specs.Prelude.{ℕ, ◌+◌, ◌≡◌, ◌⊎◌, ◌≤◌, ◌<◌, Bool, true, false, List, [], ◌∷◌, ◌++◌, length, Some, None, codes}
+use Rattle.std.specs.Prelude.{ℕ, ◌+◌, ◌≡◌, ◌⊎◌, ◌≤◌, ◌<◌, Bool, true, false, List, [], ◌∷◌, ◌++◌, All, length, Some, None, codes}
+use Rattle.scp_gather.specs.declared.gathering.NodeReport.{NodeReport}
+use Rattle.scp_network.specs.Network.{NetworkView}
+use Rattle.scp_script.specs.declared.command.Command.{Command}
 use Rattle.scp_line.specs.declared.playing.PlayFault.{PlayFault}
+use Rattle.scp_line.specs.Nodes.{IsStoppedAt}
+use Rattle.scp_threaded_script.specs.Reported.{AreNodesReported}
+use Rattle.scp_kept.specs.declared.happening.Kept.{Kept}
+use Rattle.scp_kept.specs.Kept.{IsKept}
+use Rattle.scp_account.specs.Fits.{FitReports, FitsNode}
 use Rattle.scp_text.specs.declared.refusal.Refusal.{Refusal}
 use Rattle.scp_text.specs.declared.refusal.TextError.TheVariants.{Refused as RefusedText}
 use Rattle.scp_text.specs.Expected.{expected_text}
@@ -22,11 +30,11 @@ use Rattle.scp_decoded.specs.declared.decoding.DecodeError.{DecodeError}
 use Rattle.scp_decoded.specs.declared.decoding.DecodeError.TheVariants as decoding
 use Rattle.scp_decoded.specs.Decoding.{IsUndecoded, IsDecoded, IsEncoded}
 use Rattle.scp_trace_lint.specs.declared.fault.BadLine.{BadLine}
-use Rattle.scp_trace_lint.specs.Lines.{IsFirstBad, IsBadAt}
+use Rattle.scp_trace_lint.specs.Lines.{IsFirstBad, IsBadAt, IsSaid}
 use Rattle.scp_trace_stand.specs.declared.playing.Told.{Told}
 use Rattle.scp_trace_stand.specs.Told.{IsTold}
 use Rattle.scp_prompt.specs.declared.asked.Task.{Task}
-use Rattle.scp_prompt.specs.declared.asked.Task.TheVariants.{Run, Check, Stand, Slot, Quorums, Hex, Text, Decode, Encode}
+use Rattle.scp_prompt.specs.declared.asked.Task.TheVariants.{Run, Account, Check, Stand, Slot, Quorums, Hex, Text, Decode, Encode}
 use Rattle.scp_prompt.specs.declared.asked.Mode.{Mode}
 use Rattle.scp_prompt.specs.declared.asked.Mode.TheVariants.{Serial, Threads}
 use Rattle.scp_prompt.specs.declared.asked.Coding.{Coding}
@@ -82,6 +90,33 @@ pub record IsGivenUpInput (input : List ℕ) (failure : Failure) : Type 0 where
 abbrev pub IsNotRun : Mode → List ℕ → Failure → Type 0
 IsNotRun Serial input failure = IsStoppedInput input failure
 IsNotRun Threads input failure = IsGivenUpInput input failure
+
+-- The script that an input is was played to its end, and a line of it wasn't done when it was played once more.
+pub record IsStoppedAgain (input : List ℕ) (failure : Failure) : Type 0 where
+  pub given : Given
+  pub is_given : IsGiven input given
+  pub commands : List Command
+  pub lines : List ℕ
+  pub said : IsSaid given.text.items commands lines
+  pub before : List Command
+  pub fault : PlayFault
+  pub stopped : IsStoppedAt commands before fault
+  pub of_stop : failure ≡ stop_of None fault
+
+-- The nodes that played the script, or what their threads left, hold what breaks a limit, and so has no bytes.
+pub record IsUnfit (input : List ℕ) (failure : Failure) : Type 0 where
+  pub given : Given
+  pub is_given : IsGiven input given
+  pub commands : List Command
+  pub lines : List ℕ
+  pub said : IsSaid given.text.items commands lines
+  pub fault : PlayFault
+  pub of_stop : failure ≡ stop_of None fault
+  pub unfit : ((network : NetworkView) × (kept : List Kept) × IsKept commands network kept × ¬ (All FitsNode network.nodes)) ⊎ ((nodes : List NodeReport) × AreNodesReported commands nodes × ¬ (FitReports commands 0 nodes))
+
+-- why there is no account, besides what keeps a script from being played
+abbrev pub IsNotTold : List ℕ → Failure → Type 0
+IsNotTold input failure = IsStoppedAgain input failure ⊎ IsUnfit input failure
 
 -- What is told of where nodes stand was ended by a fault.
 pub record IsCutStand (input : List ℕ) (failure : Failure) : Type 0 where
@@ -164,6 +199,7 @@ IsNoneOf Is IsNot lines failure = (failure ≡ NoMemory) ⊎ IsFirstWithout Is I
 -- why a command fails on an input
 abbrev pub Fails : Task → List ℕ → Failure → Type 0
 Fails (Run mode shape) input failure = IsNoScript input failure ⊎ IsNotRun mode input failure
+Fails (Account mode form) input failure = IsNoScript input failure ⊎ (IsNotRun mode input failure ⊎ IsNotTold input failure)
 Fails Check input failure = IsNoScript input failure
 Fails Stand input failure = IsNoScript input failure ⊎ IsCutStand input failure
 Fails Slot input failure = IsNoSlotDigits input failure ⊎ IsSlotLine input failure

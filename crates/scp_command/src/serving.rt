@@ -11,7 +11,7 @@ use crate::answer::Answer;
 use crate::forms::{as_text, in_digits, slot};
 use crate::looks::{checked, quorums, stood};
 use crate::messages::{decoded, encoded};
-use crate::runs::run;
+use crate::runs::{account, run};
 use scp_device::{ReportOut, SCRIPT_LIMIT, ScriptIn, read_script, write_text};
 use scp_line::what_is_played_keeps_the_headlines;
 use scp_prompt::{
@@ -93,6 +93,7 @@ fn answer<T: Threads + Wait + Sync>(
 {
     match task {
         Task::Run(mode, shape) => run(rt, alloc, mode, shape, text),
+        Task::Account(mode, form) => account(rt, alloc, mode, form, text),
         Task::Check => checked(alloc, text),
         Task::Stand => stood(alloc, text),
         Task::Slot => slot(alloc, text),

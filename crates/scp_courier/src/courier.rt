@@ -1,10 +1,10 @@
 //! The worker that carries what waits in an outbox to a link.
-ghost use Rattle.std.specs.Prelude.{◌≡◌, ◌↔◌, [], true, false, IsTrue, IsSome, IfSome, MatchBool};
+ghost use Rattle.std.specs.Prelude.{◌≡◌, ◌↔◌, [], ◌∷◌, ◌++◌, true, false, IsTrue, IsSome, IfSome, MatchBool};
 ghost use Rattle.scp_outbox.specs.declared.mark.Mark.TheVariants as mark;
 ghost use Rattle.scp_outbox.specs.declared.mark.Out.TheVariants as out;
-ghost use Rattle.scp_courier.specs.inside.Carrying.{Carries};
-ghost use Rattle.scp_courier.specs.Carrying.{IsCarried, HoldsLink, IsSameLink};
+ghost use Rattle.scp_courier.specs.Carrying.{Carries, EndAtStop, HasCarried, HaveNoStop, IsCarried, HoldsLink, IsSameLink, is_stop};
 
+use crate::given::Given;
 use scp_ends::{LinkDone, LinkTx};
 use scp_gate::{Counter, Gate, Stage};
 use scp_outbox::{Mark, Out, SharedOutbox};
@@ -14,43 +14,56 @@ use std::alloc::Global;
 use std::marker::Model;
 use std::sync::{Arc, Wait};
 
-/// Carries what waits in an outbox to a link. Contracts see the link's end, and whether it failed.
+/// Carries what waits in an outbox to a link. Contracts see the link's end, what it was given, and whether it failed.
 #[derive(Drop)]
 pub struct Courier {
     alloc: Global,
     outbox: Arc<SharedOutbox>,
     link: LinkTx,
+    given: Given,
     counter: Counter,
     failed: bool,
 }
 
 impl Model for Courier {
-    ghost use Rattle.scp_courier.specs.Carrying.{CourierWorking, AreSpelt};
+    ghost use Rattle.std.specs.Prelude.{◌≡◌, false};
+    ghost use Rattle.scp_courier.specs.Carrying.{CourierWorking, AreSpelt, Carried, unsent};
+    ghost use Rattle.std.specs.Coded.{codes};
+    ghost use Rattle.scp_xdr.specs.inside.TreeModel.{coded_row};
+    ghost use Rattle.scp_quorum.specs.inside.QuorumTree.{coded_level};
 
     ghost Value = { CourierWorking };
 
-    ghost view = { λ w. record { link = w.link; failed = w.failed } };
+    ghost coded = { Prim.hlevel (codes, coded_row coded_level) };
 
-    ghost invariant = { λ w. AreSpelt w.link.tail.sent };
+    ghost view = { λ w. record { link = w.link; given = w.given; failed = w.failed } };
+
+    ghost invariant = { λ w. AreSpelt w.link.tail.sent × (w.failed ≡ false → Carried w.given (unsent w.link) w.link) };
 }
 
-/// What a courier ends with: how its link stands, and where it ended well, what the link's end leaves.
+/// What a courier ends with: what it was given, how its link stands, and where it ended well, what the link's end leaves.
 #[derive(Drop)]
 pub struct CourierEnded {
     done: Option<LinkDone>,
+    given: Given,
     lives: u32,
     is_open: bool,
 }
 
 impl Model for CourierEnded {
-    ghost use Rattle.scp_courier.specs.Carrying.{CourierEnd};
-    ghost use Rattle.scp_courier.specs.inside.Carrying.{EndsWell};
+    ghost use Rattle.std.specs.Prelude.{IfSome};
+    ghost use Rattle.scp_courier.specs.Carrying.{CourierEnd, HasCarried, IsCarried};
+    ghost use Rattle.std.specs.Coded.{codes};
+    ghost use Rattle.scp_xdr.specs.inside.TreeModel.{coded_row};
+    ghost use Rattle.scp_quorum.specs.inside.QuorumTree.{coded_level};
 
     ghost Value = { CourierEnd };
 
-    ghost view = { λ e. record { link = e.done; lives = e.lives; is_open = e.is_open } };
+    ghost coded = { Prim.hlevel (codes, coded_row coded_level) };
 
-    ghost invariant = { λ e. EndsWell (record { link = e.done; lives = e.lives; is_open = e.is_open }) };
+    ghost view = { λ e. record { link = e.done; given = e.given; lives = e.lives; is_open = e.is_open } };
+
+    ghost invariant = { λ e. IfSome e.done (λ k. IsCarried e.lives e.is_open k × HasCarried e.given k) };
 }
 
 impl CourierEnded {
@@ -80,6 +93,8 @@ impl CourierEnded {
         ensures link { result ≡ self.link }
         // So the link stands, and all bytes that were sent spell messages.
         ensures carried { IfSome result (IsCarried self.lives self.is_open) }
+        // It was given all up to Stop, and sent it.
+        ensures given { IfSome result (HasCarried self.given) }
     {
         let CourierEnded { done, .. } = self;
         done
@@ -97,12 +112,13 @@ impl Courier {
         tx: LinkTx,
     ) -> Courier
         requires unused { tx.tail.sent ≡ [] }
-        ensures { result ≡ record { link = tx; failed = false } }
+        ensures { result ≡ record { link = tx; given = []; failed = false } }
     {
         Courier {
             alloc,
             outbox,
             link: tx,
+            given: Given::new(),
             counter: Counter::new(node, Stage::Courier(link)),
             failed: false,
         }
@@ -111,6 +127,7 @@ impl Courier {
     /// Carries what is given until that is the mark Stop, and then ends the link. Where it fails, for want of memory, because
     /// the link refuses or because the receiving end is gone, it goes on taking and gives up what it takes.
     pub fn run<R: Wait, G: Gate>(mut self, rt: &R, gate: &G) -> CourierEnded
+        requires { self.given ≡ [] }
         // It ends with the link that it was given.
         ensures { HoldsLink self.link result }
     {
@@ -122,58 +139,88 @@ impl Courier {
         self.end(rt, gate)
     }
 
-    /// Takes what is next, and carries it. Says whether to go on.
+    /// Takes what is next, and carries it. Says whether to go on. Before it waits for that, the link's reader is told of what was sent.
     fn step<R: Wait, G: Gate>(&mut self, rt: &R, gate: &G) -> bool
+        requires { HaveNoStop self.old.given }
         ensures same { IsSameLink self.old.link self.new.link }
+        ensures on { result ≡ true → HaveNoStop self.new.given }
+        ensures over { result ≡ false → EndAtStop self.new.given }
     {
+        self.link.flush();
         let given = self.outbox.next(rt);
         self.counter.taken(gate);
-        if is_stop(&given) {
-            return false;
-        }
-        if !self.failed && !self.carry(rt, gate, given) {
-            self.failed = true;
-        }
-        true
+        let over = is_stop(&given);
+        self.take(rt, gate, given);
+        !over
     }
 
-    /// Carries what was given. Says whether it was sent.
-    fn carry<R: Wait, G: Gate>(&mut self, rt: &R, gate: &G, given: Out) -> bool
+    /// Writes down what was given, and carries it where nothing was lost before.
+    fn take<R: Wait, G: Gate>(&mut self, rt: &R, gate: &G, given: Out)
         ensures same { IsSameLink self.old.link self.new.link }
-        ensures carries { MatchBool result (Carries given self.old.link self.new.link) (self.new.link ≡ self.old.link) }
+        ensures given { self.new.given ≡ self.old.given ++ given ∷ [] }
     {
-        let Courier {
-            alloc,
-            link,
-            counter,
-            ..
-        } = self;
-        match given {
-            Out::Mark(Mark::Opened) => open(rt, gate, counter, link),
-            Out::Mark(Mark::Closed) => close(rt, gate, counter, link),
-            Out::Message(message) => send(rt, *alloc, gate, counter, link, &message),
-            Out::Mark(Mark::Stop) | Out::Nothing => true,
+        self.given.add(&given);
+        if self.failed
+            || !carry(
+                rt,
+                self.alloc,
+                gate,
+                &mut self.counter,
+                &mut self.link,
+                given,
+            )
+        {
+            self.failed = true;
         }
     }
 
     /// Ends the link.
     fn end<R: Wait, G: Gate>(mut self, rt: &R, gate: &G) -> CourierEnded
+        requires { EndAtStop self.given }
         ensures { HoldsLink self.link result }
     {
         self.counter.putting(gate);
-        let Courier { link, failed, .. } = self;
+        let Courier {
+            link,
+            given,
+            failed,
+            ..
+        } = self;
         let lives = link.lives();
         let is_open = link.is_open();
         CourierEnded {
             done: stop_well(rt, link, !failed),
+            given,
             lives,
             is_open,
         }
     }
 }
 
+/// Carries what was given. Says whether it was sent.
+fn carry<R: Wait, G: Gate>(
+    rt: &R,
+    alloc: Global,
+    gate: &G,
+    counter: &mut Counter,
+    link: &mut LinkTx,
+    given: Out,
+) -> bool
+    ensures same { IsSameLink link.old link.new }
+    ensures carries { MatchBool result (Carries given link.old link.new) (link.new ≡ link.old) }
+{
+    match given {
+        Out::Mark(Mark::Opened) => open(rt, gate, counter, link),
+        Out::Mark(Mark::Closed) => close(rt, gate, counter, link),
+        Out::Message(message) => send(rt, alloc, gate, counter, link, &message),
+        Out::Mark(Mark::Stop) | Out::Nothing => true,
+    }
+}
+
 /// Whether it is the mark Stop.
-fn is_stop(given: &Out) -> bool {
+fn is_stop(given: &Out) -> bool
+    ensures { result ≡ is_stop given.now }
+{
     matches!(given, Out::Mark(Mark::Stop))
 }
 

@@ -2,16 +2,19 @@
 //!
 //! What it promises, under every schedule:
 //! - all bytes that a courier sent spell messages;
-//! - where a courier ends well its link's end is handed on, and it opened the link as often as it says, and left it open or not.
+//! - a courier ends well only after it was given the mark Stop, once, as the last; and what it sent is all that it was given before, in order:
+//!   each mark as an opening or a close, each message by its spelling;
+//! - its link's end is handed on then, and it opened the link as often as it says, and left it open or not.
 //!
-//! What no clause says, and the tests and the sweeps in threads show: it takes what its outbox gives until that is the mark Stop, and
-//! ends its link then; one that failed doesn't end well, but goes on taking and gives up what it takes.
+//! What no clause says, and the tests and the sweeps in threads show: that what it writes down as given is what its outbox gave; and that one
+//! which failed goes on taking, and gives up what it takes.
 //!
-//! Not claimed: that a call returns; that each message which stood in an outbox is carried, or in which order. Behind the lock of a
-//! shared outbox others put what they say.
+//! Not claimed: that a call returns; that each message which stood in an outbox is given, or in which order. Behind the lock of a shared outbox
+//! others put what they say.
 #![tactic(auto)]
 
 mod courier;
+mod given;
 #[cfg(test)]
 mod tests;
 

@@ -1,8 +1,7 @@
 -- Each move keeps the rule of a channel.
-use Rattle.std.proofs.Common.{◌≡◌, ◌≢◌, ℕ, ◌+◌, ◌≤◌, ◌==◌, cond, true, false, true≢false, List, [], ◌∷◌, ◌++◌, length, length-append, set, filter, sym, refl, ap, ◌∙◌, subst, append_assoc, eq-eqb, ne_eqb, arith, inl, inr, ◌⊎◌, ⊎_elim, if◌then◌else◌, ◌<◌, Bool, lt_of_not-le}
+use Rattle.std.proofs.Common.{◌≡◌, ◌≢◌, ℕ, ◌+◌, ◌≤◌, ◌==◌, cond, true, false, true≢false, List, [], ◌∷◌, ◌++◌, length, length-append, set, sym, refl, ap, ◌∙◌, subst, append_assoc, eq-eqb, ne_eqb, arith, ⊎_elim, ◌<◌, lt_of_not-le}
 use mathlib.Core.Option.{some, some-ne-none}
 use lib.ListN.{get_elem?}
-use Rattle.std.proofs.Math.ListN.{length-set}
 use Rattle.std.proofs.lemmas.List.{append-nil}
 use Rattle.std.proofs.lemmas.List.Elements.{filter-append}
 use Rattle.atomic_table.proofs.Lists.{at_set}

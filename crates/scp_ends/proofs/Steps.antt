@@ -8,7 +8,7 @@ use Rattle.scp_ends.specs.declared.item.Item.{Item}
 use Rattle.scp_ends.specs.declared.item.Item.TheVariants.{One, Stop}
 use Rattle.scp_ends.specs.declared.item.View.{View}
 use Rattle.scp_ends.specs.Order.{values}
-use Rattle.scp_ends.specs.Ends.{Line, Sender, ones, ended}
+use Rattle.scp_ends.specs.Ends.{Sender, ones, ended}
 use Rattle.scp_ends.specs.inside.Passes.{line_of, IsSending, IsEnded, sender_of}
 
 module _ {T : Type 0} where

@@ -1,5 +1,5 @@
 -- Where a producer's end was received, all that it sent was received.
-use Rattle.std.proofs.Common.{◌≡◌, ◌≢◌, ℕ, zero, suc, ◌<◌, ◌≤◌, arith, ◌==◌, ◌||◌, Bool, cond, length, true, false, true≢false, List, [], ◌∷◌, ◌++◌, filter, sym, refl, ap, ◌∙◌, subst}
+use Rattle.std.proofs.Common.{◌≡◌, ℕ, ◌<◌, ◌≤◌, arith, ◌==◌, ◌||◌, cond, length, true, false, true≢false, List, [], ◌∷◌, ◌++◌, sym, refl, ap, ◌∙◌, subst}
 use Rattle.std.proofs.lemmas.List.Elements.{filter-append}
 use Rattle.scp_ends.specs.declared.item.Item.{Item}
 use Rattle.scp_ends.specs.declared.item.Item.TheVariants.{One, Stop}

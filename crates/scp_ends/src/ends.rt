@@ -1,5 +1,5 @@
 //! The ends of a channel, each with its pass.
-ghost use Rattle.std.specs.Prelude.{◌≡◌, ℕ, ◌+◌, ◌<◌, ◌≤◌, List, [], ◌∷◌, ◌++◌, true, length, IfOk, MatchResult};
+ghost use Rattle.std.specs.Prelude.{◌≡◌, ℕ, ◌+◌, ◌<◌, ◌≤◌, List, [], ◌∷◌, ◌++◌, true, length, IfOk, IfSome, MatchOption, MatchResult};
 ghost use Rattle.crossbeam_channel.specs.Claims.{IsSeatAt};
 ghost use Rattle.crossbeam_channel.specs.Claims as claims;
 ghost use Rattle.scp_ends.specs.declared.item.Item.{Item};
@@ -10,6 +10,7 @@ ghost use Rattle.scp_ends.specs.inside.Passes as passes;
 
 use crate::item::{Item, View};
 use crate::rule::{InOrder, Law, Receives, Sends, Takes, Told};
+use crate::waiting::{Ringer, look, recv_late, send_late};
 use crossbeam_channel::{Pass, RuledReceiver, RuledSender};
 use std::marker::Model;
 use std::sync::Wait;
@@ -28,6 +29,7 @@ pub struct Tx<T: Drop, L: Law<T>> {
     sender: RuledSender<Item<T>, View<T>, InOrder<L>>,
     pass: Pass<Item<T>, View<T>>,
     number: u8,
+    ringer: Ringer,
 }
 
 impl<T: Drop, L: Law<T>> Model for Tx<T, L> {
@@ -38,12 +40,35 @@ impl<T: Drop, L: Law<T>> Model for Tx<T, L> {
     ghost invariant = { λ s. IsSeatAt (sends_on s.sender) s.pass × passes.IsSending s.number s.pass × passes.HasRoom (ruled_capacity (sends_on s.sender)) s.pass };
 }
 
+/// A producer's end that couldn't be ended, since the consumer is gone; only `stop` makes one.
+#[derive(Drop)]
+pub struct Unheard<T: Drop, L: Law<T>> {
+    end: Tx<T, L>,
+}
+
+impl<T: Drop, L: Law<T>> Model for Unheard<T, L> {
+    ghost Value = { ends.Sender T };
+
+    ghost view = { λ u. u.end };
+}
+
+impl<T: Drop, L: Law<T>> Unheard<T, L> {
+    /// The end.
+    pub fn into_end(self) -> Tx<T, L>
+        ensures { result ≡ self }
+    {
+        let Unheard { end } = self;
+        end
+    }
+}
+
 /// What a producer that has ended leaves.
 #[derive(Drop)]
 pub struct Done<T: Drop, L: Law<T>> {
     sender: RuledSender<Item<T>, View<T>, InOrder<L>>,
     pass: Pass<Item<T>, View<T>>,
     number: u8,
+    ringer: Ringer,
 }
 
 impl<T: Drop, L: Law<T>> Model for Done<T, L> {
@@ -59,6 +84,7 @@ impl<T: Drop, L: Law<T>> Model for Done<T, L> {
 pub struct Rx<T: Drop, L: Law<T>> {
     receiver: RuledReceiver<Item<T>, View<T>, InOrder<L>>,
     pass: Pass<Item<T>, View<T>>,
+    ringer: Ringer,
 }
 
 impl<T: Drop, L: Law<T>> Model for Rx<T, L> {
@@ -74,6 +100,7 @@ impl<T: Drop, L: Law<T>> Tx<T, L> {
         sender: RuledSender<Item<T>, View<T>, InOrder<L>>,
         pass: Pass<Item<T>, View<T>>,
         number: u8,
+        ringer: Ringer,
     ) -> Tx<T, L>
         requires seat { IsSeatAt (sends_on sender) pass }
         requires fresh { claims.view pass ≡ passes.sender (ruled_capacity (sends_on sender)) number [] }
@@ -83,6 +110,7 @@ impl<T: Drop, L: Law<T>> Tx<T, L> {
             sender,
             pass,
             number,
+            ringer,
         }
     }
 
@@ -91,32 +119,49 @@ impl<T: Drop, L: Law<T>> Tx<T, L> {
         requires { L.fits (self.old.sent ++ thing ∷ []) }
         ensures { MatchResult result (λ _. self.new ≡ record self.old { sent = self.old.sent ++ thing ∷ [] }) (λ e. (e.0 ≡ thing) × (self.new ≡ self.old)) }
     {
-        match self
-            .sender
-            .send_as::<Sends, R>(rt, &mut self.pass, Item::One(self.number, thing))
-        {
+        match send_late::<Item<T>, View<T>, InOrder<L>, Sends, R>(
+            rt,
+            &self.sender,
+            &mut self.ringer,
+            &mut self.pass,
+            Item::One(self.number, thing),
+        ) {
             Ok(()) => Ok(()),
-            Err(e) => match e.into_inner() {
+            Err(e) => match e {
                 Item::One(_, back) => Err(Gone(back)),
                 Item::Stop(_) => unreachable!(),
             },
         }
     }
 
-    /// Ends the producer. Where the other end is gone, hands the end back.
-    pub fn stop<R: Wait>(mut self, rt: &R) -> Result<Done<T, L>, Gone<Tx<T, L>>>
-        ensures { MatchResult result (λ d. d ≡ self) (λ e. e.0 ≡ self) }
+    /// Wakes the consumer, where it wasn't told of all that was put. To be called before this thread waits for something else.
+    pub fn flush(&mut self)
+        ensures { self.new ≡ self.old }
     {
-        match self
-            .sender
-            .send_as::<Sends, R>(rt, &mut self.pass, Item::Stop(self.number))
-        {
-            Ok(()) => Ok(Done {
-                sender: self.sender,
-                pass: self.pass,
-                number: self.number,
-            }),
-            Err(_) => Err(Gone(self)),
+        self.ringer.tell_receiver();
+    }
+
+    /// Ends the producer. Where the other end is gone, hands the end back.
+    pub fn stop<R: Wait>(mut self, rt: &R) -> Result<Done<T, L>, Unheard<T, L>>
+        ensures { MatchResult result (λ d. d ≡ self) (λ e. e ≡ self) }
+    {
+        match send_late::<Item<T>, View<T>, InOrder<L>, Sends, R>(
+            rt,
+            &self.sender,
+            &mut self.ringer,
+            &mut self.pass,
+            Item::Stop(self.number),
+        ) {
+            Ok(()) => {
+                self.ringer.call_receiver();
+                Ok(Done {
+                    sender: self.sender,
+                    pass: self.pass,
+                    number: self.number,
+                    ringer: self.ringer,
+                })
+            }
+            Err(_) => Err(Unheard { end: self }),
         }
     }
 }
@@ -125,12 +170,17 @@ impl<T: Drop, L: Law<T>> Rx<T, L> {
     pub(crate) fn made(
         receiver: RuledReceiver<Item<T>, View<T>, InOrder<L>>,
         pass: Pass<Item<T>, View<T>>,
+        ringer: Ringer,
     ) -> Rx<T, L>
         requires seat { IsSeatAt (receives_on receiver) pass }
         requires gets { (claims.view pass).gets ≡ true }
         ensures { result ≡ passes.receiver_of pass }
     {
-        Rx { receiver, pass }
+        Rx {
+            receiver,
+            pass,
+            ringer,
+        }
     }
 
     /// Receives the next item, of any producer.
@@ -139,10 +189,50 @@ impl<T: Drop, L: Law<T>> Rx<T, L> {
         ensures fits { IfOk result (λ x. (p : ℕ) → L.fits (order.values (order.of p (self.old.got ++ x ∷ [])))) }
         ensures alone { self.old.producers ≡ 1 → IfOk result (λ x. L.fits (order.values (self.old.got ++ x ∷ []))) }
     {
-        match self.receiver.recv_as::<Receives<L>, R>(rt, &mut self.pass) {
+        match recv_late::<Item<T>, View<T>, InOrder<L>, Receives<L>, R>(
+            rt,
+            &self.receiver,
+            &mut self.ringer,
+            &mut self.pass,
+        ) {
             Ok(item) => Ok(item),
-            Err(_) => Err(Gone(Nobody(()))),
+            Err(()) => Err(Gone(Nobody(()))),
         }
+    }
+
+    /// Receives the next item, of any producer, where one is there; `None` where none is.
+    pub fn try_recv_as<R: Wait>(&mut self, rt: &R) -> Result<Option<Item<T>>, Gone<Nobody>>
+        ensures received { MatchResult result (λ found. MatchOption found (self.new ≡ self.old) (λ x. (self.new ≡ record self.old { got = self.old.got ++ x ∷ [] }) × (order.number_of x < self.old.producers))) (λ _. self.new ≡ self.old) }
+        ensures fits { IfOk result (λ found. IfSome found (λ x. (p : ℕ) → L.fits (order.values (order.of p (self.old.got ++ x ∷ []))))) }
+        ensures alone { self.old.producers ≡ 1 → IfOk result (λ found. IfSome found (λ x. L.fits (order.values (self.old.got ++ x ∷ [])))) }
+    {
+        match look::<Item<T>, View<T>, InOrder<L>, Receives<L>, R>(
+            rt,
+            &self.receiver,
+            &mut self.ringer,
+            &mut self.pass,
+        ) {
+            Ok(found) => Ok(found),
+            Err(()) => Err(Gone(Nobody(()))),
+        }
+    }
+
+    /// Receives the next item, of any producer. Before it waits, it wakes the consumer behind `out`.
+    pub fn recv_before<R: Wait, U: Drop, M: Law<U>>(
+        &mut self,
+        rt: &R,
+        out: &mut Tx<U, M>,
+    ) -> Result<Item<T>, Gone<Nobody>>
+        ensures same { out.new ≡ out.old }
+        ensures received { MatchResult result (λ x. (self.new ≡ record self.old { got = self.old.got ++ x ∷ [] }) × (order.number_of x < self.old.producers)) (λ _. self.new ≡ self.old) }
+        ensures fits { IfOk result (λ x. (p : ℕ) → L.fits (order.values (order.of p (self.old.got ++ x ∷ [])))) }
+        ensures alone { self.old.producers ≡ 1 → IfOk result (λ x. L.fits (order.values (self.old.got ++ x ∷ []))) }
+    {
+        if let Some(item) = self.try_recv_as(rt)? {
+            return Ok(item);
+        }
+        out.flush();
+        self.recv_as(rt)
     }
 
     /// Takes a producer's pass back: what it sent is what was received of it, and then what the channel holds of it.
@@ -157,6 +247,7 @@ impl<T: Drop, L: Law<T>> Rx<T, L> {
             sender,
             pass,
             number: _,
+            ringer: _ringer,
         } = done;
         sender.absorb::<Takes>(&mut self.pass, pass);
         sender.learn_as::<Told>(&mut self.pass);

@@ -3,11 +3,13 @@
 //! What it promises, under every schedule:
 //! - what each producer sent comes out in its order, each thing once, its end last, and nothing else comes;
 //! - a channel holds no more items than its capacity;
-//! - a send that is handed back changes nothing;
+//! - a send that is handed back changes nothing, and an end whose stop found nobody says so;
 //! - over a link goes what a link's tail may send: lives 1, 2, .., each opened once and closed at most once;
 //! - the decisions that go on to the applier are each of one of the 16 slots from the lowest undecided one on.
 //!
-//! Not claimed: that a call returns, or when it is found that the other end is gone.
+//! What is put is there at once; who sleeps is woken late, so that few things cost a switch between threads.
+//!
+//! Not claimed: that a call returns, when who sleeps is woken, or when it is found that the other end is gone.
 #![tactic(auto)]
 
 mod channels;
@@ -19,6 +21,7 @@ mod rule;
 mod tail;
 #[cfg(test)]
 mod tests;
+mod waiting;
 mod window;
 
 pub use channels::{
@@ -26,7 +29,7 @@ pub use channels::{
     ReadyTx, decided, inbox, link, ready,
 };
 pub use commands::{LocalDone, LocalTx};
-pub use ends::{Done, Gone, Nobody, Rx, Tx};
+pub use ends::{Done, Gone, Nobody, Rx, Tx, Unheard};
 pub use item::{Item, View};
 pub use rule::{Any, InOrder, Law};
 pub use tail::{LinkDone, LinkTx, NotSent};

@@ -9,10 +9,12 @@ ghost use Rattle.scp_ends.specs.Ends.{fresh, AreFresh, IsOfSize};
 use crate::ends::{Rx, Tx};
 use crate::item::{Item, View};
 use crate::rule::{InOrder, Law, Makes, Room, Sizes};
+use crate::waiting::{Bells, Ringer};
 use crossbeam_channel::{Pass, RuledSender, bounded_with};
 use scp_types::{CAPACITY_LIMIT, Fault, PEER_LIMIT};
 use std::alloc::{AllocError, Global};
 use std::marker::Brand;
+use std::sync::Arc;
 
 /// The most producers of a channel: a node's links and its own commands.
 const PRODUCER_LIMIT: u8 = PEER_LIMIT as u8 + 1;
@@ -35,13 +37,16 @@ fn hand_out<T: Drop, L: Law<T>>(
     sender: &RuledSender<Item<T>, View<T>, InOrder<L>>,
     pass: &mut Pass<Item<T>, View<T>>,
     number: u8,
+    bells: &Arc<Bells>,
+    capacity: usize,
 ) -> Result<Tx<T, L>, AllocError>
     requires { IsSeatAt (sends_on sender.now) pass.old × (view pass.old ≡ receiver (ruled_capacity (sends_on sender.now)) number []) }
     ensures { IfOk result (λ t. (t ≡ fresh (line_of pass.new) number) × IsSeatAt (sends_on sender.now) pass.new × (view pass.new ≡ receiver (ruled_capacity (sends_on sender.now)) (number + 1) []) × (line_of pass.new ≡ line_of pass.old)) }
 {
+    let ringer = Ringer::of_sender(Arc::try_clone(bells)?, capacity);
     let sender_of_its_own = sender.try_clone()?;
     let mine = sender.another::<Makes>(pass);
-    Ok(Tx::made(sender_of_its_own, mine, number))
+    Ok(Tx::made(sender_of_its_own, mine, number, ringer))
 }
 
 fn is_room(capacity: usize) -> bool
@@ -67,6 +72,26 @@ pub(crate) fn channel<T: Drop, L: Law<T>>(
     Ok(made)
 }
 
+/// The ends of all producers, in their order.
+fn hand_out_all<T: Drop, L: Law<T>>(
+    alloc: Global,
+    sender: &RuledSender<Item<T>, View<T>, InOrder<L>>,
+    pass: &mut Pass<Item<T>, View<T>>,
+    producers: u8,
+    bells: &Arc<Bells>,
+    capacity: usize,
+) -> Result<Vec<Tx<T, L>>, AllocError>
+    requires { IsSeatAt (sends_on sender.now) pass.old × (view pass.old ≡ receiver (ruled_capacity (sends_on sender.now)) 0 []) }
+    ensures { IfOk result (λ ends. AreFresh (line_of pass.new) ends.items × (length ends.items ≡ producers) × IsSeatAt (sends_on sender.now) pass.new × (view pass.new ≡ receiver (ruled_capacity (sends_on sender.now)) producers [])) }
+{
+    let mut ends = Vec::new(alloc);
+    for number in 0..producers {
+        ends.reserve(1)?;
+        ends.push_reserved(hand_out(sender, pass, number, bells, capacity)?);
+    }
+    Ok(ends)
+}
+
 /// The ends of a channel of this size.
 fn ends_of<T: Drop, L: Law<T>>(
     alloc: Global,
@@ -80,12 +105,12 @@ fn ends_of<T: Drop, L: Law<T>>(
         alloc, capacity,
     )?;
     size::<T, L, Brand>(&sender, &mut pass, capacity);
-    let mut ends = Vec::new(alloc);
-    for number in 0..producers {
-        ends.reserve(1)?;
-        ends.push_reserved(hand_out(&sender, &mut pass, number)?);
-    }
-    Ok((ends, Rx::made(receiver, pass)))
+    let bells = Arc::new(alloc, Bells::new())?;
+    let ends = hand_out_all(alloc, &sender, &mut pass, producers, &bells, capacity)?;
+    Ok((
+        ends,
+        Rx::made(receiver, pass, Ringer::of_receiver(bells, capacity)),
+    ))
 }
 
 /// The ends of a channel of one producer.
@@ -115,6 +140,10 @@ fn lone_ends<T: Drop, L: Law<T>>(
         alloc, capacity,
     )?;
     size::<T, L, Brand>(&sender, &mut pass, capacity);
-    let end = hand_out(&sender, &mut pass, 0)?;
-    Ok((end, Rx::made(receiver, pass)))
+    let bells = Arc::new(alloc, Bells::new())?;
+    let end = hand_out(&sender, &mut pass, 0, &bells, capacity)?;
+    Ok((
+        end,
+        Rx::made(receiver, pass, Ringer::of_receiver(bells, capacity)),
+    ))
 }

@@ -154,6 +154,13 @@ impl LinkTx {
         }
     }
 
+    /// Wakes the reader, where it wasn't told of all that was sent. To be called before this thread waits for something else.
+    pub fn flush(&mut self)
+        ensures { self.new ≡ self.old }
+    {
+        self.tail.flush();
+    }
+
     /// Ends the link. Where the receiving end is gone, hands the end back.
     pub fn stop<R: Wait>(self, rt: &R) -> Result<LinkDone, Gone<LinkTx>>
         ensures { MatchResult result (λ d. d ≡ self) (λ e. e.0 ≡ self) }
@@ -167,10 +174,10 @@ impl LinkTx {
         } = self;
         match tail.stop(rt) {
             Ok(tail) => Ok(LinkDone { from, to, tail }),
-            Err(Gone(tail)) => Err(Gone(LinkTx {
+            Err(unheard) => Err(Gone(LinkTx {
                 from,
                 to,
-                tail,
+                tail: unheard.into_end(),
                 life,
                 is_open,
             })),

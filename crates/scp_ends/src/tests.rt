@@ -1,10 +1,12 @@
 use crate::{InboxRx, InboxTx, Item, LinkRx, LinkTx, NotSent, inbox, link};
 use scp_types::{ConnId, Fault, NodeId};
 use scp_wire::{Bytes, Cause, Inbound, LinkItem};
+use std::alloc::Global;
 use std::process::Abort;
 use std::sync::Wait;
 use std::test::*;
 use std::thread;
+use std::thread::{JoinHandle, Threads};
 
 const ME: NodeId = NodeId([1; 32]);
 
@@ -36,6 +38,14 @@ fn put_all<R: Wait>(rt: &R, mut end: InboxTx) -> bool {
     }
 }
 
+/// A thread that puts all.
+fn putting<R: Threads + Wait + Copy + Send + 'static>(
+    rt: R,
+    end: InboxTx,
+) -> Result<JoinHandle<bool>, Fail> {
+    Ok(thread::spawn(&rt, move || put_all(&rt, end))?)
+}
+
 /// The producer of the next item, and the life that it names; no life at its end.
 fn next<R: Wait + Abort>(rt: &R, rx: &mut InboxRx) -> (usize, Option<u32>) {
     match rx.recv_as(rt) {
@@ -48,14 +58,84 @@ fn next<R: Wait + Abort>(rt: &R, rx: &mut InboxRx) -> (usize, Option<u32>) {
     }
 }
 
+/// Hands on what comes, and ends behind its producer. Whether all went.
+fn hand_on<R: Wait>(rt: &R, mut rx: InboxRx, mut end: InboxTx) -> bool {
+    for _ in rt.forever() {
+        match rx.recv_before(rt, &mut end) {
+            Ok(Item::One(_, thing)) => {
+                if end.send_as(rt, thing).is_err() {
+                    return false;
+                }
+            }
+            Ok(Item::Stop(_)) => return end.stop(rt).is_ok(),
+            Err(_) => return false,
+        }
+    }
+    false
+}
+
+/// The end of the one producer of an inbox of so much room, and the inbox.
+fn lone<R: Abort>(rt: &R, alloc: Global, room: usize) -> (InboxTx, InboxRx) {
+    let (mut ends, rx) = inbox(alloc, 1, room).ok().expect(rt, "an inbox");
+    (ends.pop().expect(rt, "an end"), rx)
+}
+
+/// Puts three lives and tells of them, and receives each, so often; then ends. Each time who hands them on has gone to sleep, and has told of
+/// them before.
+fn send_and_wait<R: Wait + Abort>(rt: &R, mut end: InboxTx, rx: &mut InboxRx) {
+    for _ in 0..200u32 {
+        for life in 0..3u32 {
+            assert!(rt; end.send_as(rt, end_of(life)).is_ok());
+        }
+        end.flush();
+        for life in 0..3u32 {
+            assert!(rt; next(rt, rx).1 == Some(life));
+        }
+    }
+    assert!(rt; end.stop(rt).is_ok());
+    assert!(rt; next(rt, rx).1.is_none());
+}
+
+#[test]
+fn who_waits_has_told_of_what_it_put(rt: HostRuntime) -> Result<(), Fail> {
+    for room in [1usize, 2, 64] {
+        let (end, between) = lone(&rt, rt.alloc(), room);
+        let (onward, mut rx) = lone(&rt, rt.alloc(), room);
+        let handing = thread::spawn(&rt, move || hand_on(&rt, between, onward))?;
+        send_and_wait(&rt, end, &mut rx);
+        assert!(rt; handing.join(&rt));
+    }
+    Ok(())
+}
+
+#[test]
+fn a_look_finds_what_is_there(rt: HostRuntime) {
+    let (mut end, mut rx) = lone(&rt, rt.alloc(), 64);
+    assert!(rt; matches!(rx.try_recv_as(&rt), Ok(None)));
+    assert!(rt; end.send_as(&rt, end_of(7)).is_ok());
+    assert!(rt;
+        matches!(
+            rx.try_recv_as(&rt),
+            Ok(Some(Item::One(0, Inbound::Closed { .. })))
+        )
+    );
+    assert!(rt; matches!(rx.try_recv_as(&rt), Ok(None)));
+    drop(end);
+    assert!(rt; rx.try_recv_as(&rt).is_err());
+}
+
+/// The ends of the two producers of an inbox with room for one, and the inbox.
+fn two_to_one<R: Abort>(rt: &R, alloc: Global) -> (InboxTx, InboxTx, InboxRx) {
+    let (mut ends, rx) = inbox(alloc, 2, 1).ok().expect(rt, "an inbox");
+    let second = ends.pop().expect(rt, "an end");
+    (ends.pop().expect(rt, "an end"), second, rx)
+}
+
 #[test]
 fn each_producers_items_come_out_in_its_order(rt: HostRuntime) -> Result<(), Fail> {
-    let (ends, mut rx) = inbox(rt.alloc(), 2, 1).ok().expect(&rt, "an inbox");
-    let mut handles = Vec::new(rt.alloc());
-    for end in ends {
-        handles.reserve(1)?;
-        handles.push_reserved(thread::spawn(&rt, move || put_all(&rt, end))?);
-    }
+    let (first, second, mut rx) = two_to_one(&rt, rt.alloc());
+    let one = putting(rt, first)?;
+    let other = putting(rt, second)?;
     let mut seen = [0u32; 2];
     let mut stops = 0u32;
     for _ in 0..2002 {
@@ -72,9 +152,8 @@ fn each_producers_items_come_out_in_its_order(rt: HostRuntime) -> Result<(), Fai
         }
     }
     assert_eq!(rt; (seen[0], seen[1], stops), (1000, 1000, 2));
-    for handle in handles {
-        assert!(rt; handle.join(&rt));
-    }
+    assert!(rt; one.join(&rt));
+    assert!(rt; other.join(&rt));
     Ok(())
 }
 

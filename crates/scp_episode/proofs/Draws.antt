@@ -1,8 +1,7 @@
 -- What waits goes out, link by link.
-use Rattle.std.proofs.Common.{◌≡◌, ◌≢◌, ◌+◌, ℕ, zero, suc, Bool, false, List, [], ◌∷◌, ◌++◌, refl, sym, ◌∙◌, ap, subst, append_assoc, append-nil, arith}
-use Rattle.std.specs.Prelude.{slice_get, slice_set, replicate, if◌then◌else◌, nat_eq, ◌||◌, Result, Ok, Err, OnOk}
+use Rattle.std.proofs.Common.{◌≡◌, ◌≢◌, ◌+◌, ℕ, zero, suc, List, [], ◌∷◌, ◌++◌, refl, sym, ◌∙◌, ap, subst, append_assoc, append-nil, arith}
+use Rattle.std.specs.Prelude.{slice_get, slice_set, replicate, if◌then◌else◌, nat_eq, Result, Ok, Err, OnOk}
 use Rattle.std.proofs.lemmas.Result.{on_ok_weaker}
-use Rattle.std.proofs.lemmas.List.Folds.{list_any-append}
 use Rattle.scp_types.specs.declared.fault.Fault.{Fault}
 use Rattle.std.proofs.lemmas.List.{map-append}
 use Rattle.std.proofs.lemmas.Grind.{flat_map-append}
@@ -17,12 +16,13 @@ use Rattle.scp_core.specs.History.{Exchange}
 use Rattle.scp_core.specs.Node.{NodeView, Step, accepts_at}
 use Rattle.scp_core.specs.Sent.{sent_by as bytes_by}
 use Rattle.scp_core.specs.Theorem.{LedgerTheorem}
-use Rattle.scp_turn.specs.Turn.{Goes, events_of}
+use Rattle.scp_turn.specs.Watch.{Noting, Watched}
+use Rattle.scp_turn.specs.Turn.{events_of}
 use Rattle.scp_episode.specs.declared.sending.Sending.{Sending}
-use Rattle.scp_episode.specs.Episode.{IsSentReply, drains_of, leaving_at, sent_by, sent_in, is_full_reply, finds_full}
+use Rattle.scp_episode.specs.Episode.{IsSentReply, drains_of, leaving_at, sent_by, sent_in}
 use Rattle.scp_episode.specs.Laws.{SendingsAreSent, bytes_over}
-use Rattle.scp_episode.specs.inside.Draining.{Drained, Draws, OthersStay, RestStay}
-use Rattle.scp_episode.proofs.Going.{goes_nothing, goes_one, goes_then, all_on}
+use Rattle.scp_episode.specs.inside.Draining.{Drained, GoesDraws, OthersStay, RestStay}
+use Rattle.scp_episode.proofs.Going.{goes_nothing, goes_one, goes_then, all_on, watched_one, watched_on}
 
 -- ---- other links stay
 
@@ -64,65 +64,36 @@ drained_on es fs before mid after' x y p q = record {
 pub drained_one : (l : ℕ) (bytes : Bytes) (before after' : List Sending) → after' ≡ before ++ record { link = l; bytes = bytes } ∷ [] → Drained (event.Drain l ∷ []) before after' ((event.Drain l, reply.Sent bytes) ∷ [])
 drained_one l bytes before after' is = record { events_are = refl; sent = (tt, tt); added = is }
 
--- ---- none of it finds the journal full
-
-drain_not_full : (v w : NodeView) (l : ℕ) (r : Reply) → Step v (event.Drain l) r w → is_full_reply r ≡ false
-drain_not_full v w l reply.Accepted s = refl
-drain_not_full v w l reply.Moved s = refl
-drain_not_full v w l (reply.Sent bytes) s = refl
-drain_not_full v w l reply.Idle s = refl
-drain_not_full v w l reply.Blocked s = refl
-drain_not_full v w l reply.Full s = refl
-drain_not_full v w l reply.NotOpen s = refl
-drain_not_full v w l reply.AlreadyOpen s = refl
-drain_not_full v w l reply.LivesSpent s = refl
-drain_not_full v w l reply.NoLink s = refl
-drain_not_full v w l reply.Failed s = refl
-drain_not_full v w l reply.JournalFull s = absurd s.1
-drain_not_full v w l reply.NoMemory s = refl
-
-pub one_not_full : (v w : NodeView) (l : ℕ) (r : Reply) → Step v (event.Drain l) r w → finds_full ((event.Drain l, r) ∷ []) ≡ false
-one_not_full v w l r s = ap (λ (b : Bool). b || false) (drain_not_full v w l r s)
-
-both_not : (a b : Bool) → a ≡ false → b ≡ false → (a || b) ≡ false
-both_not a b p q = cc (p, q)
-
-pub neither_full : (x y : List Exchange) → finds_full x ≡ false → finds_full y ≡ false → finds_full (x ++ y) ≡ false
-neither_full x y p q = list_any-append (λ (e : Exchange). is_full_reply e.1) x y ∙ both_not (finds_full x) (finds_full y) p q
-
+-- a node runs on that sent
 pub sent_runs : (v w : NodeView) (l : ℕ) (bytes : Bytes) → Step v (event.Drain l) (reply.Sent bytes) w → w.failed ≡ v.failed
 sent_runs v w l bytes s = ap (λ (u : NodeView). u.failed) s.1.is
 
 -- ---- what was drained, unless it was refused
 
--- what a node heard, of which this holds unless it was refused
-abbrev pub GoesDraws : {T : Type 0} → Result T Fault → NodeView → NodeView → (List Exchange → Type 0) → Type 0
-GoesDraws r a b P = Goes a b (λ o heard n. Draws r heard (P heard))
-
 -- it wasn't refused
 abbrev pub done : Result (Unit {0}) Fault
 done = Ok tt
 
-pub draws_none : (a : NodeView) (sent : List Sending) → GoesDraws done a a (λ heard. Drained [] sent sent heard)
-draws_none a sent = goes_nothing a (λ o heard n. Draws done heard (Drained [] sent sent heard)) (refl, drained_none sent)
+pub draws_none : {W : Type 0} (Note : Noting W) (w : W) (a : NodeView) (sent : List Sending) → GoesDraws Note done w a a (λ heard. Drained [] sent sent heard) w
+draws_none Note w a sent = goes_nothing a (λ o heard n. OnOk done (Drained [] sent sent heard) × Watched Note 1 w o heard n w) (drained_none sent, (refl, refl))
 
 -- so much, and then more, or a refusal
-pub draws_then : (s : Result (Unit {0}) Fault) (a b c : NodeView) (es fs : List Event) (before mid after' : List Sending) → GoesDraws done a b (λ heard. Drained es before mid heard) → GoesDraws s b c (λ heard. Drained fs mid after' heard) → GoesDraws s a c (λ heard. Drained (es ++ fs) before after' heard)
-draws_then s a b c es fs before mid after' f g =
-    goes_then a b c (λ o heard n. Draws done heard (Drained es before mid heard)) (λ o heard n. Draws s heard (Drained fs mid after' heard)) (λ o heard n. Draws s heard (Drained (es ++ fs) before after' heard))
+pub draws_then : {W : Type 0} (Note : Noting W) (s : Result (Unit {0}) Fault) (w v z : W) (a b c : NodeView) (es fs : List Event) (before mid after' : List Sending) → GoesDraws Note done w a b (λ heard. Drained es before mid heard) v → GoesDraws Note s v b c (λ heard. Drained fs mid after' heard) z → GoesDraws Note s w a c (λ heard. Drained (es ++ fs) before after' heard) z
+draws_then Note s w v z a b c es fs before mid after' f g =
+    goes_then a b c (λ o heard n. OnOk done (Drained es before mid heard) × Watched Note 1 w o heard n v) (λ o heard n. OnOk s (Drained fs mid after' heard) × Watched Note 1 v o heard n z) (λ o heard n. OnOk s (Drained (es ++ fs) before after' heard) × Watched Note 1 w o heard n z)
     (λ h k dh dk p q. (
-      neither_full h k p.0 q.0,
-      on_ok_weaker s (λ (d : Drained fs mid after' k). drained_on es fs before mid after' h k p.1 d) q.1,
+      on_ok_weaker s (λ (d : Drained fs mid after' k). drained_on es fs before mid after' h k p.0 d) q.0,
+      watched_on Note w v z a b c h k p.1 q.1,
     )) f g
 
 -- and then a refusal that is handed on
-pub draws_err : (y : Fault) (r s : Result (Unit {0}) Fault) (a b c : NodeView) (P Q R : List Exchange → Type 0) → GoesDraws r a b P → GoesDraws s b c Q → GoesDraws {T = Unit {0}} (Err y) a c R
-draws_err y r s a b c P Q R f g =
-    goes_then a b c (λ o heard n. Draws r heard (P heard)) (λ o heard n. Draws s heard (Q heard)) (λ o heard n. Draws {T = Unit {0}} (Err y) heard (R heard))
-    (λ h k dh dk p q. (neither_full h k p.0 q.0, tt)) f g
+pub draws_err : {W : Type 0} (Note : Noting W) (y : Fault) (r s : Result (Unit {0}) Fault) (w v z : W) (a b c : NodeView) (P Q R : List Exchange → Type 0) → GoesDraws Note r w a b P v → GoesDraws Note s v b c Q z → GoesDraws {T = Unit {0}} Note (Err y) w a c R z
+draws_err Note y r s w v z a b c P Q R f g =
+    goes_then a b c (λ o heard n. OnOk r (P heard) × Watched Note 1 w o heard n v) (λ o heard n. OnOk s (Q heard) × Watched Note 1 v o heard n z) (λ o heard n. OnOk {T = Unit {0}} {E = Fault} (Err y) (R heard) × Watched Note 1 w o heard n z)
+    (λ h k dh dk p q. (tt, watched_on Note w v z a b c h k p.1 q.1)) f g
 
-pub draws_as : {T : Type 0} (r : Result T Fault) (a b : NodeView) (es fs : List Event) (before after' : List Sending) → es ≡ fs → GoesDraws r a b (λ heard. Drained es before after' heard) → GoesDraws r a b (λ heard. Drained fs before after' heard)
-draws_as r a b es fs before after' is g = subst (λ (l : List Event). GoesDraws r a b (λ heard. Drained l before after' heard)) is g
+pub draws_as : {W : Type 0} (Note : Noting W) (r : Result (Unit {0}) Fault) (w z : W) (a b : NodeView) (es fs : List Event) (before after' : List Sending) → es ≡ fs → GoesDraws Note r w a b (λ heard. Drained es before after' heard) z → GoesDraws Note r w a b (λ heard. Drained fs before after' heard) z
+draws_as Note r w z a b es fs before after' is g = subst (λ (l : List Event). GoesDraws Note r w a b (λ heard. Drained l before after' heard) z) is g
 
 -- the drains of a link more
 pub all_with : (a b : NodeView) (l count : ℕ) → count ≡ leaving_at b l → RestStay l a b → drains_of a l ++ replicate count (event.Drain l) ≡ drains_of a (l + 1)
@@ -131,15 +102,15 @@ all_with a b l count is stay =
     ap (λ (k : ℕ). drains_of a l ++ replicate k (event.Drain l)) (is ∙ stay l (omega arith)) ∙ ap (λ (k : ℕ). drains_of a k) (sym e)
 
 -- a message of a link was sent, and added unless there was no memory
-pub draw_sent : (r : Result (Unit {0}) Fault) (a b : NodeView) (l : ℕ) (bytes : Bytes) (before after' : List Sending) → Step a (event.Drain l) (reply.Sent bytes) b → ((past : List Exchange) → LedgerTheorem past a → LedgerTheorem (past ++ (event.Drain l, reply.Sent bytes) ∷ []) b) → OnOk r (after' ≡ before ++ record { link = l; bytes = bytes } ∷ []) → GoesDraws r a b (λ heard. Drained (event.Drain l ∷ []) before after' heard)
-draw_sent r a b l bytes before after' step theorem added =
-    goes_one a b (event.Drain l) (reply.Sent bytes) (λ o heard n. Draws r heard (Drained (event.Drain l ∷ []) before after' heard)) step theorem
-    (one_not_full a b l (reply.Sent bytes) step, on_ok_weaker r (λ (is : after' ≡ before ++ record { link = l; bytes = bytes } ∷ []). drained_one l bytes before after' is) added)
+pub draw_sent : {W : Type 0} (Note : Noting W) (r : Result (Unit {0}) Fault) (w z : W) (a b : NodeView) (l : ℕ) (bytes : Bytes) (before after' : List Sending) → Step a (event.Drain l) (reply.Sent bytes) b → ((past : List Exchange) → LedgerTheorem past a → LedgerTheorem (past ++ (event.Drain l, reply.Sent bytes) ∷ []) b) → Note w 1 (event.Drain l) (reply.Sent bytes) a b z → OnOk r (after' ≡ before ++ record { link = l; bytes = bytes } ∷ []) → GoesDraws Note r w a b (λ heard. Drained (event.Drain l ∷ []) before after' heard) z
+draw_sent Note r w z a b l bytes before after' step theorem note added =
+    goes_one a b (event.Drain l) (reply.Sent bytes) (λ o heard n. OnOk r (Drained (event.Drain l ∷ []) before after' heard) × Watched Note 1 w o heard n z) step theorem
+    (on_ok_weaker r (λ (is : after' ≡ before ++ record { link = l; bytes = bytes } ∷ []). drained_one l bytes before after' is) added, watched_one Note w z a b (event.Drain l) (reply.Sent bytes) step note)
 
 -- none was sent
-pub draw_refused : (a b : NodeView) (l : ℕ) (r : Reply) (y : Fault) (P : List Exchange → Type 0) → Step a (event.Drain l) r b → ((past : List Exchange) → LedgerTheorem past a → LedgerTheorem (past ++ (event.Drain l, r) ∷ []) b) → GoesDraws {T = Unit {0}} (Err y) a b P
-draw_refused a b l r y P step theorem =
-    goes_one a b (event.Drain l) r (λ o heard n. Draws {T = Unit {0}} (Err y) heard (P heard)) step theorem (one_not_full a b l r step, tt)
+pub draw_refused : {W : Type 0} (Note : Noting W) (w z : W) (a b : NodeView) (l : ℕ) (r : Reply) (y : Fault) (P : List Exchange → Type 0) → Step a (event.Drain l) r b → ((past : List Exchange) → LedgerTheorem past a → LedgerTheorem (past ++ (event.Drain l, r) ∷ []) b) → Note w 1 (event.Drain l) r a b z → GoesDraws {T = Unit {0}} Note (Err y) w a b P z
+draw_refused Note w z a b l r y P step theorem note =
+    goes_one a b (event.Drain l) r (λ o heard n. OnOk {T = Unit {0}} {E = Fault} (Err y) (P heard) × Watched Note 1 w o heard n z) step theorem (tt, watched_one Note w z a b (event.Drain l) r step note)
 
 pub on_ok_any : {P : Type 0} (r : Result (Unit {0}) Fault) → P → OnOk r P
 on_ok_any (Ok x) p = p

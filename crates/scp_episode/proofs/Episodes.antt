@@ -1,10 +1,10 @@
 -- An episode is the event's step, and what follows.
 use Rattle.std.proofs.Common.{◌≡◌, ◌≢◌, Bool, true, false, List, [], ◌∷◌, ◌++◌, refl, sym, ◌∙◌, ap, subst, append-nil, arith}
-use Rattle.std.specs.Prelude.{Result, Ok, Err, IfOk, IsErrOf, IsOkUnless, ◌↔◌, ◌||◌}
+use Rattle.std.specs.Prelude.{Result, Ok, Err, IfOk, OnOk, IsErrOf, ◌↔◌, ◌||◌}
 use Rattle.std.proofs.lemmas.Result.{on_ok_weaker}
 use Rattle.std.proofs.lemmas.Grind.{flat_map-append}
 use Rattle.scp_types.specs.declared.fault.Fault.{Fault}
-use Rattle.scp_types.specs.declared.fault.Fault.TheVariants.{JournalFull, NoMemory, Failed}
+use Rattle.scp_types.specs.declared.fault.Fault.TheVariants.{JournalFull, Failed}
 use Rattle.scp_core.specs.declared.event.Event.{Event}
 use Rattle.scp_core.specs.declared.event.Event.TheVariants as event
 use Rattle.scp_core.specs.declared.event.Reply.{Reply}
@@ -14,16 +14,15 @@ use Rattle.scp_wire.specs.declared.link.Bytes.{Bytes}
 use Rattle.scp_core.specs.Node.{NodeView, SendsOut, Step, TakesMemory}
 use Rattle.scp_core.specs.Theorem.{LedgerTheorem}
 use Rattle.scp_turn.specs.Turn.{Goes, Does, links_of}
-use Rattle.scp_turn.specs.Watch.{Watched}
+use Rattle.scp_turn.specs.Watch.{Noting, Watched}
 use Rattle.scp_turn.specs.Rest.{Rests}
 use Rattle.scp_episode.specs.declared.resting.Fullness.{Fullness}
 use Rattle.scp_episode.specs.declared.playing.Played.{Played}
 use Rattle.scp_episode.specs.inside.Fullness.{notes_full}
 use Rattle.scp_episode.specs.declared.sending.Sending.{Sending}
 use Rattle.scp_episode.specs.Episode.{IsOfHost, IsEpisode, FollowsOn, drains_of, sent_by, sent_in, is_full_reply, finds_full}
-use Rattle.scp_episode.specs.inside.Draining.{Drained, Draws, FollowedOn}
-use Rattle.scp_episode.proofs.Going.{Saying, goes_nothing, goes_one, goes_as, goes_then}
-use Rattle.scp_episode.proofs.Draws.{GoesDraws, neither_full}
+use Rattle.scp_episode.specs.inside.Draining.{Drained, GoesDraws, GoesFollowed}
+use Rattle.scp_episode.proofs.Going.{Saying, goes_nothing, goes_one, goes_as, goes_then, watched_one, watched_on}
 use Rattle.scp_episode.proofs.Quiet.{RestsWatched, remembers, rest_sends_none, host_sends_none}
 
 -- what follows of an event with this reply, with what was sent
@@ -44,30 +43,21 @@ full_of heard w z a b start p = remembers heard w z a b p ∙ ap (λ (c : Bool).
     or_false true = refl
     or_false false = refl
 
--- a full journal was found, and that is told
-pub found_full : (calm : Bool) (a b : NodeView) (w z : Fullness) (before after' : List Sending) → w.is_full ≡ false → z.is_full ≡ true → RestsWatched notes_full (Rests calm) w a b z → Goes a b (λ o heard n. FollowedOn (Err JournalFull) reply.Accepted o heard n before after')
-found_full calm a b w z before after' start full g =
-    goes_as a b (λ o heard n. Rests calm o heard n × Watched notes_full 1 w o heard n z) (λ o heard n. FollowedOn (Err JournalFull) reply.Accepted o heard n before after')
-    (λ heard does p. ((λ is. sym (full_of heard w z a b start p.1) ∙ full, λ found. refl), tt)) g
+-- what follows, as a watch was told
+abbrev pub Follow : {W : Type 0} → Noting W → Result (Unit {0}) Fault → Reply → W → List Sending → List Sending → W → Saying
+Follow {W} Note s r w before after' z o heard n = OnOk s (FollowsOn r o heard n × (after' ≡ before ++ sent_in heard)) × Watched Note 1 w o heard n z
 
--- the node failed for another reason, and that is told
-pub found_failed : (calm : Bool) (a b : NodeView) (w z : Fullness) (before after' : List Sending) → w.is_full ≡ false → z.is_full ≡ false → RestsWatched notes_full (Rests calm) w a b z → Goes a b (λ o heard n. FollowedOn (Err NoMemory) reply.Accepted o heard n before after')
-found_failed calm a b w z before after' start full g =
-    goes_as a b (λ o heard n. Rests calm o heard n × Watched notes_full 1 w o heard n z) (λ o heard n. FollowedOn (Err NoMemory) reply.Accepted o heard n before after')
-    (λ heard does p. ((λ is. absurd cc, λ found. let e : true ≡ false = sym found ∙ sym (full_of heard w z a b start p.1) ∙ full in absurd cc), tt)) g
-
-not_full_err : (r : Result (Unit {0}) Fault) → IsOkUnless r NoMemory → IsErrOf r JournalFull → ⊥
-not_full_err r only is = grind arith
+-- a step of the turns failed the node
+pub rests_and_fails : {W : Type 0} (Note : Noting W) (f : Fault) (calm : Bool) (w z : W) (a b : NodeView) (before after' : List Sending) → RestsWatched Note (Rests calm) w a b z → GoesFollowed Note (Err f) reply.Accepted w a b before after' z
+rests_and_fails Note f calm w z a b before after' g =
+    goes_as a b (λ o heard n. Rests calm o heard n × Watched Note 1 w o heard n z) (Follow Note (Err f) reply.Accepted w before after' z)
+    (λ heard does p. (tt, p.1)) g
 
 -- the node came to rest, and what waits went out, unless that was refused
-pub rests_and_drains : (r : Result (Unit {0}) Fault) (calm : Bool) (a m b : NodeView) (w z : Fullness) (before after' : List Sending) → IsOkUnless r NoMemory → w.is_full ≡ false → z.is_full ≡ false → RestsWatched notes_full (Rests calm) w a m z → GoesDraws r m b (λ heard. Drained (drains_of m (links_of m)) before after' heard) → Goes a b (λ o heard n. FollowedOn r reply.Accepted o heard n before after')
-rests_and_drains r calm a m b w z before after' only start full f g =
-    goes_then a m b (λ o heard n. Rests calm o heard n × Watched notes_full 1 w o heard n z) (λ o heard n. Draws r heard (Drained (drains_of m (links_of m)) before after' heard)) (λ o heard n. FollowedOn r reply.Accepted o heard n before after')
-    (λ x y dx dy p q.
-    let none : finds_full (x ++ y) ≡ false = neither_full x y (sym (full_of x w z a m start p.1) ∙ full) q.0 in (
-      (λ is. absurd (not_full_err r only is), λ found. let e : true ≡ false = sym found ∙ none in absurd cc),
-      on_ok_weaker r (followed calm a m b x y before after' dy p.0) q.1,
-    )) f g
+pub rests_and_drains : {W : Type 0} (Note : Noting W) (r : Result (Unit {0}) Fault) (calm : Bool) (w v z : W) (a m b : NodeView) (before after' : List Sending) → RestsWatched Note (Rests calm) w a m v → GoesDraws Note r v m b (λ heard. Drained (drains_of m (links_of m)) before after' heard) z → GoesFollowed Note r reply.Accepted w a b before after' z
+rests_and_drains Note r calm w v z a m b before after' f g =
+    goes_then a m b (λ o heard n. Rests calm o heard n × Watched Note 1 w o heard n v) (λ o heard n. OnOk r (Drained (drains_of m (links_of m)) before after' heard) × Watched Note 1 v o heard n z) (Follow Note r reply.Accepted w before after' z)
+    (λ x y dx dy p q. (on_ok_weaker r (followed calm a m b x y before after' dy p.0) q.0, watched_on Note w v z a m b x y p.1 q.1)) f g
 
 nothing_follows : (r : Reply) (v : NodeView) → r ≢ reply.Accepted → FollowsOn r v [] v
 nothing_follows reply.Accepted v other = absurd (other refl)
@@ -85,8 +75,8 @@ nothing_follows reply.JournalFull v other = (refl, refl)
 nothing_follows reply.NoMemory v other = (refl, refl)
 
 -- nothing follows of an event that was refused
-pub none_follows : (r : Reply) (v : NodeView) (sent : List Sending) → r ≢ reply.Accepted → Goes v v (λ o heard n. FollowedOn (Ok tt) r o heard n sent sent)
-none_follows r v sent other = goes_nothing v (λ o heard n. FollowedOn (Ok tt) r o heard n sent sent) ((λ is. absurd cc, λ found. absurd cc), (nothing_follows r v other, sym (append-nil sent)))
+pub none_follows : {W : Type 0} (Note : Noting W) (r : Reply) (w : W) (v : NodeView) (sent : List Sending) → r ≢ reply.Accepted → GoesFollowed Note (Ok tt) r w v v sent sent w
+none_follows Note r w v sent other = goes_nothing v (Follow Note (Ok tt) r w sent sent w) ((nothing_follows r v other, sym (append-nil sent)), (refl, refl))
 
 host_not_full : (v w : NodeView) (e : Event) (r : Reply) → IsOfHost e → Step v e r w → is_full_reply r ≡ false
 host_not_full v w e reply.Accepted h s = refl
@@ -182,48 +172,59 @@ host_runs v w e reply.NoMemory h run s = takes_none e h s.1
 
 -- ---- the whole
 
--- what a node heard is an episode, unless it was refused; and it is told as a full journal exactly where one was found
+-- what a node heard is an episode, unless it was refused
+abbrev pub IsPlayed : Result Played Fault → Event → Saying
+IsPlayed r e a heard b = IfOk r (λ played. IsEpisode e played.reply a heard b × (played.sent.items ≡ sent_in heard))
+
+-- and a watch was told of it
+abbrev pub GoesWatched : {W : Type 0} → Noting W → Result Played Fault → Event → W → NodeView → NodeView → W → Type 0
+GoesWatched {W} Note r e w old new z = Goes old new (λ a heard b. IsPlayed r e a heard b × Watched Note 1 w a heard b z)
+
+-- and it is told as a full journal exactly where one was found
 abbrev pub GoesPlayed : Result Played Fault → Event → NodeView → NodeView → Type 0
-GoesPlayed r e old new = Goes old new (λ a heard b. IfOk r (λ played. IsEpisode e played.reply a heard b × (played.sent.items ≡ sent_in heard)) × (IsErrOf r JournalFull ↔ (finds_full heard ≡ true)))
+GoesPlayed r e old new = Goes old new (λ a heard b. IsPlayed r e a heard b × (IsErrOf r JournalFull ↔ (finds_full heard ≡ true)))
 
 -- a node that had failed hears nothing
-pub had_failed : (e : Event) (a : NodeView) → GoesPlayed (Err Failed) e a a
-had_failed e a = goes_nothing a (λ o heard n. IfOk {T = Played} {E = Fault} (Err Failed) (λ played. IsEpisode e played.reply o heard n × (played.sent.items ≡ sent_in heard)) × (IsErrOf {T = Played} {E = Fault} (Err Failed) JournalFull ↔ (finds_full heard ≡ true))) (tt, (λ is. absurd cc, λ found. absurd cc))
+pub had_failed : {W : Type 0} (Note : Noting W) (e : Event) (w : W) (a : NodeView) → GoesWatched Note (Err Failed) e w a a w
+had_failed Note e w a = goes_nothing a (λ o heard n. IsPlayed (Err Failed) e o heard n × Watched Note 1 w o heard n w) (tt, (refl, refl))
+
+pub nothing_played : (e : Event) (a : NodeView) → GoesPlayed (Err Failed) e a a
+nothing_played e a = goes_nothing a (λ o heard n. IsPlayed (Err Failed) e o heard n × (IsErrOf {T = Played} {E = Fault} (Err Failed) JournalFull ↔ (finds_full heard ≡ true))) (tt, (λ is. absurd cc, λ found. absurd cc))
 
 -- the event's step, and then what follows
-steps_then : (e : Event) (r : Reply) (a m b : NodeView) (Q P : Saying) → Step a e r m → ((past : List Exchange) → LedgerTheorem past a → LedgerTheorem (past ++ (e, r) ∷ []) m) → ((y : List Exchange) → Q m y b → P a ((e, r) ∷ y) b) → Goes m b Q → Goes a b P
-steps_then e r a m b Q P step theorem all g =
-    goes_then a m b (λ o heard n. heard ≡ (e, r) ∷ []) Q P
-    (λ x y dx dy p q. subst (λ (l : List Exchange). P a (l ++ y) b) (sym p) (all y q))
-    (goes_one a m e r (λ o heard n. heard ≡ (e, r) ∷ []) step theorem refl) g
-
-same_full : (e : Event) (r : Reply) (v w : NodeView) (y : List Exchange) → IsOfHost e → Step v e r w → finds_full ((e, r) ∷ y) ≡ finds_full y
-same_full e r v w y host step = ap (λ (c : Bool). c || finds_full y) (host_not_full v w e r host step)
+steps_then : {W : Type 0} (Note : Noting W) (s : Result (Unit {0}) Fault) (t : Result Played Fault) (e : Event) (r : Reply) (w v z : W) (a m b : NodeView) (before after' : List Sending) → Step a e r m → ((past : List Exchange) → LedgerTheorem past a → LedgerTheorem (past ++ (e, r) ∷ []) m) → Note w 1 e r a m v → ((y : List Exchange) → OnOk s (FollowsOn r m y b × (after' ≡ before ++ sent_in y)) → IsPlayed t e a ((e, r) ∷ y) b) → GoesFollowed Note s r v m b before after' z → GoesWatched Note t e w a b z
+steps_then Note s t e r w v z a m b before after' step theorem note all g =
+    goes_then a m b (λ o heard n. (heard ≡ (e, r) ∷ []) × Watched Note 1 w o heard n v) (Follow Note s r v before after' z) (λ o heard n. IsPlayed t e o heard n × Watched Note 1 w o heard n z)
+    (λ x y dx dy p q. (subst (λ (l : List Exchange). IsPlayed t e a (l ++ y) b) (sym p.0) (all y q.0), watched_on Note w v z a m b x y p.1 q.1))
+    (goes_one a m e r (λ o heard n. (heard ≡ (e, r) ∷ []) × Watched Note 1 w o heard n v) step theorem (refl, watched_one Note w v a m e r step note)) g
 
 -- it was refused after the event's step
-pub refused : (e : Event) (r : Reply) (a m b : NodeView) (f : Fault) (before after' : List Sending) → IsOfHost e → Step a e r m → ((past : List Exchange) → LedgerTheorem past a → LedgerTheorem (past ++ (e, r) ∷ []) m) → Goes m b (λ o heard n. FollowedOn (Err f) r o heard n before after') → GoesPlayed (Err f) e a b
-refused e r a m b f before after' host step theorem g =
-    steps_then e r a m b (λ o heard n. FollowedOn (Err f) r o heard n before after')
-    (λ o heard n. IfOk {T = Played} {E = Fault} (Err f) (λ played. IsEpisode e played.reply o heard n × (played.sent.items ≡ sent_in heard)) × (IsErrOf {T = Played} {E = Fault} (Err f) JournalFull ↔ (finds_full heard ≡ true)))
-    step theorem
-    (λ y q. (
-      tt,
-      (
-        λ is. let same : f ≡ JournalFull = cc in same_full e r a m y host step ∙ q.0.0 (ap (λ (x : Fault). Err x) same),
-        λ found. let is : IsErrOf {T = Unit {0}} {E = Fault} (Err f) JournalFull = q.0.1 (sym (same_full e r a m y host step) ∙ found) in let same : f ≡ JournalFull = cc in ap (λ (x : Fault). Err x) same,
-      ),
-    )) g
+pub refused : {W : Type 0} (Note : Noting W) (e : Event) (r : Reply) (w v z : W) (a m b : NodeView) (f : Fault) (before after' : List Sending) → Step a e r m → ((past : List Exchange) → LedgerTheorem past a → LedgerTheorem (past ++ (e, r) ∷ []) m) → Note w 1 e r a m v → GoesFollowed Note (Err f) r v m b before after' z → GoesWatched Note (Err f) e w a b z
+refused Note e r w v z a m b f before after' step theorem note g = steps_then Note (Err f) (Err f) e r w v z a m b before after' step theorem note (λ y q. tt) g
 
 -- the event's step and what follows are an episode
-pub plays : (e : Event) (r : Reply) (a m b : NodeView) (played : Played) → played.reply ≡ r → IsOfHost e → Step a e r m → ((past : List Exchange) → LedgerTheorem past a → LedgerTheorem (past ++ (e, r) ∷ []) m) → Goes m b (λ o heard n. FollowedOn (Ok tt) r o heard n [] played.sent.items) → GoesPlayed (Ok played) e a b
-plays e r a m b played same host step theorem g =
-    steps_then e r a m b (λ o heard n. FollowedOn (Ok tt) r o heard n [] played.sent.items)
-    (λ o heard n. IfOk {T = Played} {E = Fault} (Ok played) (λ p. IsEpisode e p.reply o heard n × (p.sent.items ≡ sent_in heard)) × (IsErrOf {T = Played} {E = Fault} (Ok played) JournalFull ↔ (finds_full heard ≡ true)))
-    step theorem
+pub plays : {W : Type 0} (Note : Noting W) (e : Event) (r : Reply) (w v z : W) (a m b : NodeView) (played : Played) → played.reply ≡ r → IsOfHost e → Step a e r m → ((past : List Exchange) → LedgerTheorem past a → LedgerTheorem (past ++ (e, r) ∷ []) m) → Note w 1 e r a m v → GoesFollowed Note (Ok tt) r v m b [] played.sent.items z → GoesWatched Note (Ok played) e w a b z
+plays Note e r w v z a m b played same host step theorem note g =
+    steps_then Note (Ok tt) (Ok played) e r w v z a m b [] played.sent.items step theorem note
     (λ y q. (
-      (
-        subst (λ (x : Reply). IsEpisode e x a ((e, r) ∷ y) b) (sym same) (record { stepped = m; rest = y; is = refl; step = step; follows = q.1.0 }),
-        q.1.1 ∙ ap (λ (l : List Sending). l ++ sent_in y) (sym (host_sends_none e r host)),
-      ),
-      (λ is. absurd cc, λ found. let is : IsErrOf {T = Unit {0}} {E = Fault} (Ok tt) JournalFull = q.0.1 (sym (same_full e r a m y host step) ∙ found) in absurd cc),
+      subst (λ (x : Reply). IsEpisode e x a ((e, r) ∷ y) b) (sym same) (record { stepped = m; rest = y; is = refl; step = step; follows = q.0 }),
+      q.1 ∙ ap (λ (l : List Sending). l ++ sent_in y) (sym (host_sends_none e r host)),
     )) g
+
+-- a full journal was found, and that is told
+pub found_full : (r : Result Played Fault) (e : Event) (a b : NodeView) (w z : Fullness) → w.is_full ≡ false → z.is_full ≡ true → GoesWatched notes_full r e w a b z → GoesPlayed (Err JournalFull) e a b
+found_full r e a b w z start full g =
+    goes_as a b (λ o heard n. IsPlayed r e o heard n × Watched notes_full 1 w o heard n z) (λ o heard n. IsPlayed (Err JournalFull) e o heard n × (IsErrOf {T = Played} {E = Fault} (Err JournalFull) JournalFull ↔ (finds_full heard ≡ true)))
+    (λ heard does p. (tt, (λ is. sym (full_of heard w z a b start p.1) ∙ full, λ found. refl))) g
+
+-- no full journal was found, and none is told
+pub full_nowhere : (r : Result Played Fault) (e : Event) (a b : NodeView) (w z : Fullness) → w.is_full ≡ false → z.is_full ≡ false → (IsErrOf r JournalFull → ⊥) → GoesWatched notes_full r e w a b z → GoesPlayed r e a b
+full_nowhere r e a b w z start full none g =
+    goes_as a b (λ o heard n. IsPlayed r e o heard n × Watched notes_full 1 w o heard n z) (λ o heard n. IsPlayed r e o heard n × (IsErrOf r JournalFull ↔ (finds_full heard ≡ true)))
+    (λ heard does p. (p.0, (λ is. absurd (none is), λ found. let q : true ≡ false = sym found ∙ sym (full_of heard w z a b start p.1) ∙ full in absurd cc))) g
+
+-- it was refused for another reason
+pub told_as : (f : Fault) (r : Result Played Fault) (e : Event) (a b : NodeView) (w z : Fullness) → w.is_full ≡ false → z.is_full ≡ false → (f ≡ JournalFull → ⊥) → GoesWatched notes_full r e w a b z → GoesPlayed (Err f) e a b
+told_as f r e a b w z start full other g =
+    goes_as a b (λ o heard n. IsPlayed r e o heard n × Watched notes_full 1 w o heard n z) (λ o heard n. IsPlayed (Err f) e o heard n × (IsErrOf {T = Played} {E = Fault} (Err f) JournalFull ↔ (finds_full heard ≡ true)))
+    (λ heard does p. (tt, (λ is. let same : f ≡ JournalFull = cc in absurd (other same), λ found. let q : true ≡ false = sym found ∙ sym (full_of heard w z a b start p.1) ∙ full in absurd cc))) g

@@ -6,6 +6,7 @@ use Rattle.scp_core.specs.declared.event.Reply.{Reply}
 use Rattle.scp_core.specs.History.{Exchange}
 use Rattle.scp_core.specs.Node.{NodeView, Step}
 use Rattle.scp_core.specs.Theorem.{LedgerTheorem}
+use Rattle.scp_turn.specs.Watch.{Noting, Watched}
 use Rattle.scp_turn.specs.Turn.{Does, Goes}
 
 -- what holds of what was heard
@@ -37,3 +38,12 @@ goes_then a b c P Q R both f s = record {
 pub all_on : {X : Type 0} (P : X → Type 0) (xs ys : List X) → AllByRecursion P xs → AllByRecursion P ys → AllByRecursion P (xs ++ ys)
 all_on P [] ys p q = q
 all_on P (x ∷ xs) ys p q = (p.0, all_on P xs ys p.1 q)
+
+-- a watch was told of one step
+pub watched_one : {W : Type 0} (Note : Noting W) (w z : W) (a b : NodeView) (e : Event) (r : Reply) → Step a e r b → Note w 1 e r a b z → Watched Note 1 w a ((e, r) ∷ []) b z
+watched_one Note w z a b e r step note = (b, z, step, note, (refl, refl))
+
+-- and then of more
+pub watched_on : {W : Type 0} (Note : Noting W) (w v z : W) (a b c : NodeView) (x y : List Exchange) → Watched Note 1 w a x b v → Watched Note 1 v b y c z → Watched Note 1 w a (x ++ y) c z
+watched_on Note w v z a b c [] y p q = subst (λ u. Watched Note 1 u a y c z) p.1 (subst (λ (n : NodeView). Watched Note 1 v n y c z) p.0 q)
+watched_on Note w v z a b c (e ∷ x) y p q = (p.0, p.1, p.2, p.3, watched_on Note p.1 v z p.0 b c x y p.4 q)

@@ -16,7 +16,7 @@ use Rattle.scp_episode.specs.declared.sending.Sending.{Sending}
 use Rattle.scp_episode.specs.Episode.{IsOfHost, sent_by, sent_in, is_full_reply, finds_full}
 use Rattle.scp_episode.specs.declared.resting.Fullness.{Fullness}
 use Rattle.scp_episode.specs.inside.Fullness.{full_after, notes_full}
-use Rattle.scp_episode.proofs.Going.{Saying, goes_nothing, goes_then, all_on}
+use Rattle.scp_episode.proofs.Going.{Saying, goes_nothing, goes_then, all_on, watched_on}
 
 -- no drain
 abbrev pub IsNoDrain : Event → Type 0
@@ -91,10 +91,6 @@ Turns {W} Note w moved old new z = Goes old new (λ a heard b. IsTurn a heard b 
 -- it rested so, and a watch was told of it
 abbrev pub RestsWatched : {W : Type 0} → Noting W → Saying → W → NodeView → NodeView → W → Type 0
 RestsWatched {W} Note Is w old new z = Goes old new (λ a heard b. Is a heard b × Watched Note 1 w a heard b z)
-
-watched_on : {W : Type 0} (Note : Noting W) (w v z : W) (a b c : NodeView) (x y : List Exchange) → Watched Note 1 w a x b v → Watched Note 1 v b y c z → Watched Note 1 w a (x ++ y) c z
-watched_on Note w v z a b c [] y p q = subst (λ u. Watched Note 1 u a y c z) p.1 (subst (λ (n : NodeView). Watched Note 1 v n y c z) p.0 q)
-watched_on Note w v z a b c (e ∷ x) y p q = (p.0, p.1, p.2, p.3, watched_on Note p.1 v z p.0 b c x y p.4 q)
 
 pub none_yet : {W : Type 0} (Note : Noting W) (w : W) (a : NodeView) → RestsWatched Note (AreMovingTurns 0) w a a w
 none_yet Note w a = goes_nothing a (λ o heard n. AreMovingTurns 0 o heard n × Watched Note 1 w o heard n w) ((refl, refl), (refl, refl))

@@ -17,5 +17,5 @@ mod resting;
 mod sending;
 
 pub use laws::what_went_out_was_sent;
-pub use playing::{Played, play};
+pub use playing::{Played, play, play_with};
 pub use sending::Sending;

@@ -1,13 +1,15 @@
 //! An episode.
 ghost use Rattle.std.specs.Prelude.{◌≡◌, ◌⊎◌, ◌↔◌, true, false, IfOk, IfErr, OnOk, IsErrOf};
+ghost use Rattle.scp_turn.specs.Watch.{notes, Watched};
 ghost use Rattle.scp_turn.specs.Turn.{Goes};
 ghost use Rattle.scp_episode.specs.Episode.{IsOfHost, IsEpisode, finds_full, sent_in};
-ghost use Rattle.scp_episode.specs.inside.Draining.{FollowedOn};
+ghost use Rattle.scp_episode.specs.inside.Draining.{GoesFollowed};
 
 use crate::draining::drain;
 use crate::resting::{Fullness, rest};
 use crate::sending::Sending;
 use scp_core::{Event, Node, Reply};
+use scp_turn::{Watch, step_with};
 use scp_types::Fault;
 use std::alloc::Global;
 
@@ -18,34 +20,60 @@ pub struct Played {
     pub sent: Vec<Sending>,
 }
 
-/// The node comes to rest, and what waits goes out.
-fn follow(node: &mut Node, sent: &mut Vec<Sending>) -> Result<(), Fault>
-    ensures followed { Goes node.old node.new (λ a heard b. FollowedOn result Reply.Accepted a heard b sent.old.items sent.new.items) }
+/// The node comes to rest, and what waits goes out. Refused by `Failed` where a step failed the node.
+fn follow<W: Watch>(node: &mut Node, sent: &mut Vec<Sending>, watch: &mut W) -> Result<(), Fault>
+    ensures followed { GoesFollowed (notes W.notes_before W.notes_after) result Reply.Accepted watch.old node.old node.new sent.old.items sent.new.items watch.new }
     ensures runs { OnOk result (node.new.failed ≡ false) }
-    ensures only { IfErr result (λ f. (f ≡ Fault.NoMemory) ⊎ (f ≡ Fault.JournalFull)) }
+    ensures only { IfErr result (λ f. (f ≡ Fault.NoMemory) ⊎ (f ≡ Fault.Failed)) }
 {
-    let mut fullness = Fullness { is_full: false };
-    let _calm = rest(node, &mut fullness);
-    if fullness.is_full {
-        return Err(Fault::JournalFull);
-    }
+    let _calm = rest(node, watch);
     if node.has_failed() {
-        return Err(Fault::NoMemory);
+        return Err(Fault::Failed);
     }
-    drain(node, sent)
+    drain(node, sent, watch)
 }
 
 /// What follows of an event with this reply, of a node that ran.
-fn follow_on(node: &mut Node, reply: &Reply, sent: &mut Vec<Sending>) -> Result<(), Fault>
+fn follow_on<W: Watch>(
+    node: &mut Node,
+    reply: &Reply,
+    sent: &mut Vec<Sending>,
+    watch: &mut W,
+) -> Result<(), Fault>
     requires runs { node.old.failed ≡ false }
-    ensures followed { Goes node.old node.new (λ a heard b. FollowedOn result reply.now a heard b sent.old.items sent.new.items) }
+    ensures followed { GoesFollowed (notes W.notes_before W.notes_after) result reply.now watch.old node.old node.new sent.old.items sent.new.items watch.new }
     ensures runs { OnOk result (node.new.failed ≡ false) }
-    ensures only { IfErr result (λ f. (f ≡ Fault.NoMemory) ⊎ (f ≡ Fault.JournalFull)) }
+    ensures only { IfErr result (λ f. (f ≡ Fault.NoMemory) ⊎ (f ≡ Fault.Failed)) }
 {
     match reply {
-        Reply::Accepted => follow(node, sent),
+        Reply::Accepted => follow(node, sent, watch),
         _ => Ok(()),
     }
+}
+
+/// The event, and all that follows of it; the watch is told of each step. Refused by `Failed` where the node had failed before, or a step
+/// failed it; and by `NoMemory` where there is none for what went out: then that isn't answered, but the watch was told of it.
+pub fn play_with<W: Watch>(
+    alloc: Global,
+    node: &mut Node,
+    event: Event,
+    watch: &mut W,
+) -> Result<Played, Fault>
+    requires { IsOfHost event }
+    // What the node heard is an episode of the event, and what went out is what is answered. Also where it is refused the watch was told of each
+    // step, and the ledger theorem goes on.
+    ensures episode { Goes node.old node.new (λ a heard b. IfOk result (λ played. IsEpisode event played.reply a heard b × (played.sent.items ≡ sent_in heard)) × Watched (notes W.notes_before W.notes_after) 1 watch.old a heard b watch.new) }
+    // A node that failed isn't told to have played it.
+    ensures runs { OnOk result (node.new.failed ≡ false) }
+    ensures only { IfErr result (λ f. (f ≡ Fault.NoMemory) ⊎ (f ≡ Fault.Failed)) }
+{
+    if node.has_failed() {
+        return Err(Fault::Failed);
+    }
+    let reply = step_with(node, 1, watch, event);
+    let mut sent = Vec::new(alloc);
+    follow_on(node, &reply, &mut sent, watch)?;
+    Ok(Played { reply, sent })
 }
 
 /// The event, and all that follows of it. Refused by `Failed` where the node had failed before; by `JournalFull` where a step found its
@@ -63,8 +91,13 @@ pub fn play(alloc: Global, node: &mut Node, event: Event) -> Result<Played, Faul
     if node.has_failed() {
         return Err(Fault::Failed);
     }
-    let reply = node.step(event);
-    let mut sent = Vec::new(alloc);
-    follow_on(node, &reply, &mut sent)?;
-    Ok(Played { reply, sent })
+    let mut fullness = Fullness { is_full: false };
+    let result = play_with(alloc, node, event, &mut fullness);
+    if fullness.is_full {
+        return Err(Fault::JournalFull);
+    }
+    match result {
+        Ok(played) => Ok(played),
+        Err(_) => Err(Fault::NoMemory),
+    }
 }

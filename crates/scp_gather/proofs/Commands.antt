@@ -1,6 +1,6 @@
 -- What became of a node's own commands.
 use Rattle.std.proofs.Common.{◌≡◌, List, [], ◌∷◌, ◌++◌, filter, refl, sym, ◌∙◌, ap, subst, append-nil}
-use Rattle.std.specs.Prelude.{Option, IfSome}
+use Rattle.std.specs.Prelude.{Option}
 use Rattle.scp_types.specs.declared.names.NodeId.{NodeId}
 use Rattle.scp_quorum.specs.QuorumTree.{QuorumTree}
 use Rattle.scp_wire.specs.declared.link.Command.{Command}
@@ -12,7 +12,8 @@ use Rattle.scp_pending.specs.Laws.{CommandsPass}
 use Rattle.scp_ledger.specs.declared.took.Onward.{Onward}
 use Rattle.scp_ends.specs.Ends.{Sender}
 use Rattle.scp_ends.specs.Order.{values}
-use Rattle.scp_workers.specs.Slot.{IsFor as JournalsFor, HaveFates, TellsWell}
+use Rattle.scp_workers.specs.Working.{sent_by}
+use Rattle.scp_workers.specs.Slot.{IsFor as JournalsFor, HaveFates}
 use Rattle.scp_gather.specs.Left.{Left}
 use Rattle.scp_gather.specs.Node.{IsNode, EndWell}
 use Rattle.scp_gather.specs.Gathered.{is_command, Gathered}
@@ -39,23 +40,24 @@ module _ (passes : CommandsPass) (me : NodeId) (set : QuorumTree) (peers : List 
   -- those that were taken are those that were sent
   passed : commands_of (values e.slot.input.got) ≡ commands_in e.local.sent
   passed =
-      ap (λ (rs : List Ready). commands_of rs) (on_way ∙ sym (append-nil w.given.sent) ∙ ap (λ (rs : List Ready). w.given.sent ++ rs) (sym w.pends.nothing_ready))
-      ∙ passes me peers (values e.pend.input.got) w.given.sent e.pend.view (node_pends me set peers e n w)
+      ap (λ (rs : List Ready). commands_of rs) (on_way ∙ sym (append-nil w.given.sent) ∙ ap (λ (rs : List Ready). w.given.sent ++ rs) (sym w.pends.nothing_left))
+      ∙ passes me peers (values e.pend.input.got) w.given.sent e.pend.stage (node_pends me set peers e n w)
       ∙ sym (commands_alone (values e.pend.input.got))
       ∙ ap (λ (xs : List Inbound). commands_in xs) g.told
 
-  journals_for : JournalsFor me peers set e.slot.view
-  journals_for = subst (λ (o : Option (Sender Onward)). IfSome o (λ _. JournalsFor me peers set e.slot.view)) w.slot_ended n.journals_for
-
-  pub fates_of_node : TellsWell e.slot → AreFatesOf me set peers e e.slot.fates
-  fates_of_node t =
+  pub fates_of_node : AreFatesOf me set peers e e.slot.stage.fates.items
+  fates_of_node =
       let took = values e.slot.input.got in
-      let here : HaveFates e.slot.view.me e.slot.view.local e.slot.view.peers took w.onward.sent e.slot.fates e.slot.view = subst (λ (o : Option (Sender Onward)). IfSome o (λ (s : Sender Onward). HaveFates e.slot.view.me e.slot.view.local e.slot.view.peers took s.sent e.slot.fates e.slot.view)) w.slot_ended t in
+      let fates = e.slot.stage.fates.items in
+      let first = e.slot.first.ledger in
+      let f : JournalsFor me peers set first = n.journals_for in
+      let here : HaveFates first.me first.local first.peers took w.onward.sent fates e.slot.stage.ledger =
+      subst (λ (o : Option (Sender Onward)). HaveFates first.me first.local first.peers took (sent_by o) fates e.slot.stage.ledger) w.slot_ended w.journals.all.told in
       record {
         commands = passed;
         told =
-            subst (λ (ys : List Onward). HaveFates me set peers took ys e.slot.fates e.slot.view) (sym onwards)
-            (subst (λ (q : QuorumTree). HaveFates me q peers took w.onward.sent e.slot.fates e.slot.view) journals_for.local_is
-            (subst (λ (ps : List NodeId). HaveFates me e.slot.view.local ps took w.onward.sent e.slot.fates e.slot.view) journals_for.peers_are
-            (subst (λ (m : NodeId). HaveFates m e.slot.view.local e.slot.view.peers took w.onward.sent e.slot.fates e.slot.view) journals_for.me_is here)));
+            subst (λ (ys : List Onward). HaveFates me set peers took ys fates e.slot.stage.ledger) (sym onwards)
+            (subst (λ (q : QuorumTree). HaveFates me q peers took w.onward.sent fates e.slot.stage.ledger) f.local_is
+            (subst (λ (ps : List NodeId). HaveFates me first.local ps took w.onward.sent fates e.slot.stage.ledger) f.peers_are
+            (subst (λ (m : NodeId). HaveFates m first.local first.peers took w.onward.sent fates e.slot.stage.ledger) f.me_is here)));
       }

@@ -1,5 +1,5 @@
 -- What a node holds, added up.
-use Rattle.std.proofs.Common.{◌≡◌, ℕ, ◌+◌, ◌*◌, ◌≤◌, List, [], ◌∷◌, ◌++◌, length, Option, Some, None, ap, subst, arith}
+use Rattle.std.proofs.Common.{◌+◌, ◌*◌, ◌≤◌, List, [], ◌∷◌, length, Option, Some, None, ap, arith}
 use Rattle.std.specs.Prelude.{All, sum_by, count_by, option_to_list}
 use Rattle.std.proofs.lemmas.List.{length-append}
 use Rattle.std.proofs.lemmas.List.Elements.{All-head, All-tail}
@@ -7,8 +7,8 @@ use Rattle.std.proofs.lemmas.List.Sums.{sum_by-cons}
 use Rattle.scp_wire.specs.declared.link.Inbound.{Inbound}
 use Rattle.scp_wire.specs.Reading.{ReadingIsSpelt}
 use Rattle.scp_pending.specs.declared.ready.Ready.{Ready}
-use Rattle.scp_pending.specs.Rules.{PendingView, Settled, rules, releases}
-use Rattle.scp_gather.specs.Count.{FilledLink, Holding, IsInHand, IsLinkWithin, TookOne, is_message, parked_in_all, messages_held, link_held, link_room, HoldsAtMost}
+use Rattle.scp_pending.specs.Rules.{PendingView, Settled}
+use Rattle.scp_gather.specs.Count.{FilledLink, IsInHand, IsLinkWithin, TookOne, is_message, parked_in_all, messages_held, link_held, link_room, HoldsAtMost}
 use Rattle.scp_gather.proofs.Hand.{few_in_hand}
 use Rattle.scp_gather.proofs.Small.{few_held}
 use Rattle.scp_gather.proofs.Taking.{append_messages, one_take}

@@ -1,5 +1,5 @@
 -- How much of one item a reader has in hand.
-use Rattle.std.proofs.Common.{◌≡◌, ◌∙◌, ℕ, ◌+◌, ◌≤◌, Bool, true, false, cond, ap, sym, refl, subst, List, [], ◌∷◌, ◌++◌, length, Option, Some, None, arith}
+use Rattle.std.proofs.Common.{◌≡◌, ℕ, ◌+◌, ◌≤◌, Bool, true, false, cond, refl, List, [], ◌∷◌, length, Option, Some, None, arith}
 use Rattle.scp_types.specs.declared.names.ConnId.{ConnId}
 use Rattle.scp_wire.specs.declared.link.LinkItem.{LinkItem}
 use Rattle.scp_wire.specs.declared.link.LinkItem.TheVariants as item
@@ -8,7 +8,6 @@ use Rattle.scp_wire.specs.declared.link.Cause.TheVariants.{Link}
 use Rattle.scp_wire.specs.declared.message.Message.{Message}
 use Rattle.scp_wire.specs.declared.message.Message.TheVariants.{Envelope, GetSet, Set, NoSet, GetRecord, Record, Records}
 use Rattle.scp_wire.specs.LinkReading.{ReaderView, records_from, singles, is_spent, next_of, brought_one, brought_each, brought, reading}
-use Rattle.scp_wire.specs.Message.{message_value}
 use Rattle.scp_wire.specs.Reading.{reading_of, ReadingIsSpelt}
 use Rattle.scp_gather.specs.Count.{HasBytes}
 

@@ -59,6 +59,7 @@ module _ {T : Type 0} where
 
   pub emptied : (r : Receiver T) (s : Sender T) → HeardAll r → IsQueued r s → IsEmptied r s
   emptied r s heard_all q = record {
+    queued = q;
     all = whole s.number s.sent r.got q.queue q.order (heard_all s.number q.number);
     left = λ k. none_left s.number s.sent r.got k.queue k.order (heard_all s.number q.number);
   }

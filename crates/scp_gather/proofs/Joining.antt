@@ -35,7 +35,8 @@ use Rattle.scp_ends.specs.Commands.{IsCommand}
 use Rattle.scp_ends.specs.Ends.{Sender, heard}
 use Rattle.scp_ends.specs.Links.{LinkEnd}
 use Rattle.scp_ends.specs.Order.{of, values}
-use Rattle.scp_workers.specs.Reading.{ReaderEnd}
+use Rattle.scp_workers.specs.Working.{sent_by}
+use Rattle.scp_workers.specs.Reading.{ReaderEnd, HasReadAll}
 use Rattle.scp_workers.specs.Pending.{IsFor as PendsFor}
 use Rattle.scp_ledger.specs.Kv.{KvJournals}
 use Rattle.scp_workers.specs.Slot.{IsFor as JournalsFor}
@@ -60,14 +61,20 @@ pub record Laws : Type 0 where
   pub parked : ParkedStandFor
 
 -- the stage of the node stands to what it took and gave
-pub node_pends_for : (me : NodeId) (set : QuorumTree) (peers : List NodeId) (e : Left) → IsNode me set peers e → EndWell e → PendsFor me peers set e.pend.view
-node_pends_for me set peers e n w = subst (λ (o : Option (Sender Ready)). IfSome o (λ _. PendsFor me peers set e.pend.view)) w.pend_ended n.pends_for
-
-pub node_pends : (me : NodeId) (set : QuorumTree) (peers : List NodeId) (e : Left) → IsNode me set peers e → (w : EndWell e) → Pends me peers (values e.pend.input.got) w.given.sent e.pend.view
+pub node_pends : (me : NodeId) (set : QuorumTree) (peers : List NodeId) (e : Left) → IsNode me set peers e → (w : EndWell e) → Pends me peers (values e.pend.input.got) w.given.sent e.pend.stage
 node_pends me set peers e n w =
-    let f : PendsFor me peers set e.pend.view = node_pends_for me set peers e n w in
-    subst (λ (ps : List NodeId). Pends me ps (values e.pend.input.got) w.given.sent e.pend.view) f.peers_are
-    (subst (λ (m : NodeId). Pends m e.pend.view.settled.peers (values e.pend.input.got) w.given.sent e.pend.view) f.me_is w.pends.pends)
+    let f : PendsFor me peers set e.pend.first = n.pends_for in
+    subst (λ (o : Option (Sender Ready)). Pends me peers (values e.pend.input.got) (sent_by o) e.pend.stage) w.pend_ended
+    (subst (λ (ps : List NodeId). Pends me ps (values e.pend.input.got) (sent_by e.pend.output) e.pend.stage) f.peers_are
+    (subst (λ (m : NodeId). Pends m e.pend.first.settled.peers (values e.pend.input.got) (sent_by e.pend.output) e.pend.stage) f.me_is w.pends.all.pends))
+
+-- what a reader sent is all that its items are read as
+reads_all : (r : ReaderEnd) (output : Sender Inbound) → HasReadAll r → r.output ≡ Some output → output.sent ≡ readings unread (values r.input.got)
+reads_all r output h e =
+    ap (λ (o : Option (Sender Inbound)). sent_by o) (sym e)
+    ∙ sym (append-nil (sent_by r.output))
+    ∙ ap (λ (xs : List Inbound). sent_by r.output ++ xs) (sym h.nothing_left)
+    ∙ h.all.given_is
 
 module _ (laws : Laws) (me : NodeId) (set : QuorumTree) (peers : List NodeId) (e : Left) (n : IsNode me set peers e) (w : EndWell e) where
   abbrev came : List Inbound
@@ -98,7 +105,7 @@ module _ (laws : Laws) (me : NodeId) (set : QuorumTree) (peers : List NodeId) (e
       let out = w.lanes l k there r.0 r.1 in
       ap (λ m. heard m e.pend.input.got) (sym (output_number l peer k r.0 is out))
       ∙ (emptied e.pend.input out.output w.pends.heard out.brings).all
-      ∙ out.reads.reads
+      ∙ reads_all r.0 out.output out.reads out.ended
       ∙ ap (readings unread) (sole_is r.0.input k.tail is.alone out.reads.heard out.queued)
 
   link_of_node : (l : ℕ) (peer : NodeId) → slice_get peers l ≡ Some peer → (k : LinkEnd) → slice_get e.links l ≡ Some k → AreOfLink peer me never_open k.tail.sent
@@ -170,32 +177,31 @@ module _ (laws : Laws) (me : NodeId) (set : QuorumTree) (peers : List NodeId) (e
   onwards : values e.apply.input.got ≡ w.onward.sent
   onwards = sole_is e.apply.input w.onward n.decided w.applies.heard w.decided
 
-  pends_for : PendsFor me peers set e.pend.view
-  pends_for = node_pends_for me set peers e n w
+  local_is_set : e.pend.stage.settled.store.local ≡ set
+  local_is_set = w.pends.all.local_is ∙ n.pends_for.local_is
 
-  journals_for : JournalsFor me peers set e.slot.view
-  journals_for = subst (λ (o : Option (Sender Onward)). IfSome o (λ _. JournalsFor me peers set e.slot.view)) w.slot_ended n.journals_for
+  pends_is : Pends me peers came took e.pend.stage
+  pends_is = subst (λ (rs : List Ready). Pends me peers came rs e.pend.stage) (sym on_way) (node_pends me set peers e n w)
 
-  pends_is : Pends me peers came took e.pend.view
-  pends_is = subst (λ (rs : List Ready). Pends me peers came rs e.pend.view) (sym on_way) (node_pends me set peers e n w)
-
-  journals_is : KvJournals me set peers took w.onward.sent e.slot.view
+  journals_is : KvJournals me set peers took w.onward.sent e.slot.stage.ledger
   journals_is =
-      subst (λ (q : QuorumTree). KvJournals me q peers took w.onward.sent e.slot.view) journals_for.local_is
-      (subst (λ (ps : List NodeId). KvJournals me e.slot.view.local ps took w.onward.sent e.slot.view) journals_for.peers_are
-      (subst (λ (m : NodeId). KvJournals m e.slot.view.local e.slot.view.peers took w.onward.sent e.slot.view) journals_for.me_is w.journals.journals))
+      let f : JournalsFor me peers set e.slot.first.ledger = n.journals_for in
+      subst (λ (o : Option (Sender Onward)). KvJournals me set peers took (sent_by o) e.slot.stage.ledger) w.slot_ended
+      (subst (λ (q : QuorumTree). KvJournals me q peers took (sent_by e.slot.output) e.slot.stage.ledger) f.local_is
+      (subst (λ (ps : List NodeId). KvJournals me e.slot.first.ledger.local ps took (sent_by e.slot.output) e.slot.stage.ledger) f.peers_are
+      (subst (λ (m : NodeId). KvJournals m e.slot.first.ledger.local e.slot.first.ledger.peers took (sent_by e.slot.output) e.slot.stage.ledger) f.me_is w.journals.all.journals)))
 
-  start_is : start_of me peers e.pend.view ≡ fresh me peers set
-  start_is = ap (λ (q : QuorumTree). fresh me peers q) pends_for.local_is
+  start_is : start_of me peers e.pend.stage ≡ fresh me peers set
+  start_is = ap (λ (q : QuorumTree). fresh me peers q) local_is_set
 
-  settled_is : IsSettledBy (fresh me peers set) came e.pend.view
-  settled_is = subst (λ (s : Settled). IsSettledBy s came e.pend.view) start_is (laws.settled me peers came took e.pend.view w.pends.nothing_ready pends_is)
+  settled_is : IsSettledBy (fresh me peers set) came e.pend.stage
+  settled_is = subst (λ (s : Settled). IsSettledBy s came e.pend.stage) start_is (laws.settled me peers came took e.pend.stage w.pends.nothing_left pends_is)
 
   ran : Ran (λ driver slot value. kv_level value) (λ driver slot value. None) (λ driver slot values. greatest values) (λ driver slot round n. leader_place slot round n) account
   ran = record {
     links = links_are;
     read = λ l peer at. sym (read_is l peer at) ∙ ap (of_peer peer) (sym (append-nil came)) ∙ sym (append-nil (of_peer peer (came ++ [])));
-    local = pends_for.local_is;
+    local = local_is_set;
     given = took;
     pends = pends_is;
     took = took;
@@ -204,7 +210,7 @@ module _ (laws : Laws) (me : NodeId) (set : QuorumTree) (peers : List NodeId) (e
     journals = journals_is;
     applied = values e.apply.input.got;
     decided = sym onwards ∙ sym (append-nil (values e.apply.input.got));
-    applies = w.applies.applies;
+    applies = w.applies.all;
   }
 
   keeps_is : KeepsLedger (λ driver slot value. kv_level value) (λ driver slot value. None) (λ driver slot values. greatest values) (λ driver slot round n. leader_place slot round n) account
@@ -227,12 +233,12 @@ module _ (laws : Laws) (me : NodeId) (set : QuorumTree) (peers : List NodeId) (e
 
   -- ---- what is parked
 
-  stand_for : (parked : List Carried) → AreParked e.pend.view parked → StandFor (start_of me peers e.pend.view) came e.pend.view parked
-  stand_for parked are = laws.parked me peers came took e.pend.view parked pends_is are
+  stand_for : (parked : List Carried) → AreParked e.pend.stage parked → StandFor (start_of me peers e.pend.stage) came e.pend.stage parked
+  stand_for parked are = laws.parked me peers came took e.pend.stage parked pends_is are
 
-  held_is : (c : ConnId) (parked : List Carried) → AreParked e.pend.view parked → held c e.pend.view ≡ marks_of_messages c parked
+  held_is : (c : ConnId) (parked : List Carried) → AreParked e.pend.stage parked → held c e.pend.stage ≡ marks_of_messages c parked
   held_is c parked are =
-      ap (λ (rs : List Ready). marks_of c rs ++ marks_parked c e.pend.view.settled.queues) w.pends.nothing_ready
+      ap (λ (rs : List Ready). marks_of c rs ++ marks_parked c e.pend.stage.settled.queues) w.pends.nothing_left
       ∙ sym ((stand_for parked are).numbers c)
 
   messages_are : (l : ℕ) (peer : NodeId) → slice_get peers l ≡ Some peer → (life : ℕ) → messages_in (conn_at peer me life) came ≡ carried_of 1000000 (sent (conn_at peer me life) (sent_over e.links l))
@@ -250,28 +256,28 @@ module _ (laws : Laws) (me : NodeId) (set : QuorumTree) (peers : List NodeId) (e
   slots_fit : (l : ℕ) (peer : NodeId) → slice_get peers l ≡ Some peer → (life : ℕ) → HaveSlots (conn_at peer me life) (slots_sent account l (conn_at peer me life)) came
   slots_fit l peer at life = subst (λ (ms : List Message). HaveSlots (conn_at peer me life) (slots_of ms) came) (all_came l peer at life) (laws.numbers peer me came (shape_is l peer at) life []).slots
 
-  accounts_is : (l : ℕ) (peer : NodeId) → slice_get peers l ≡ Some peer → (life : ℕ) → Accounts (conn_at peer me life) (slots_sent account l (conn_at peer me life)) came took (held (conn_at peer me life) e.pend.view)
+  accounts_is : (l : ℕ) (peer : NodeId) → slice_get peers l ≡ Some peer → (life : ℕ) → Accounts (conn_at peer me life) (slots_sent account l (conn_at peer me life)) came took (held (conn_at peer me life) e.pend.stage)
   accounts_is l peer at life =
       let c = conn_at peer me life in
-      laws.accounts me peers came took e.pend.view pends_is shape_is l peer at life (slots_sent account l c) (slots_fit l peer at life)
+      laws.accounts me peers came took e.pend.stage pends_is shape_is l peer at life (slots_sent account l c) (slots_fit l peer at life)
 
-  line_held_is : (l : ℕ) (c : ConnId) (parked : List Carried) → AreParked e.pend.view parked → line_held account l c ≡ marks_of_messages c parked
-  line_held_is l c parked are = append-nil (held c e.pend.view) ∙ held_is c parked are
+  line_held_is : (l : ℕ) (c : ConnId) (parked : List Carried) → AreParked e.pend.stage parked → line_held account l c ≡ marks_of_messages c parked
+  line_held_is l c parked are = append-nil (held c e.pend.stage) ∙ held_is c parked are
 
-  line_is : (l : ℕ) (peer : NodeId) → slice_get peers l ≡ Some peer → (life : ℕ) → (parked : List Carried) → AreParked e.pend.view parked → HasItsLine account l (conn_at peer me life) parked
+  line_is : (l : ℕ) (peer : NodeId) → slice_get peers l ≡ Some peer → (life : ℕ) → (parked : List Carried) → AreParked e.pend.stage parked → HasItsLine account l (conn_at peer me life) parked
   line_is l peer at life parked are =
       let c = conn_at peer me life in
       let slots = slots_sent account l c in
       record {
-        whole = λ s. subst (λ (ms : List Mark). IsWhole (in_lane slots s (line_sent account l c)) (in_lane slots s (marks_on c e.slot.view.journal ++ ms))) (line_held_is l c parked are) ((keeps_is.fates l peer at life).whole s);
-        ends = λ s. subst (λ (ms : List Mark). EndsLast (in_lane slots s ms)) (ap (λ (ms : List Mark). ms ++ held c e.pend.view) (sym (same_marks c took e.slot.view.journal journals_is.entries)) ∙ ap (λ (ms : List Mark). marks_on c e.slot.view.journal ++ ms) (held_is c parked are)) ((accounts_is l peer at life).ends s);
-        messages_are = parked_right c (carried_of 1000000 (sent c (sent_over e.links l))) (start_of me peers e.pend.view) came parked (numbered_is l peer at life) (stand_for parked are).came;
+        whole = λ s. subst (λ (ms : List Mark). IsWhole (in_lane slots s (line_sent account l c)) (in_lane slots s (marks_on c e.slot.stage.ledger.journal ++ ms))) (line_held_is l c parked are) ((keeps_is.fates l peer at life).whole s);
+        ends = λ s. subst (λ (ms : List Mark). EndsLast (in_lane slots s ms)) (ap (λ (ms : List Mark). ms ++ held c e.pend.stage) (sym (same_marks c took e.slot.stage.ledger.journal journals_is.entries)) ∙ ap (λ (ms : List Mark). marks_on c e.slot.stage.ledger.journal ++ ms) (held_is c parked are)) ((accounts_is l peer at life).ends s);
+        messages_are = parked_right c (carried_of 1000000 (sent c (sent_over e.links l))) (start_of me peers e.pend.stage) came parked (numbered_is l peer at life) (stand_for parked are).came;
       }
 
-  parked_is : (parked : List Carried) → AreParked e.pend.view parked → AreLeftParked account parked
+  parked_is : (parked : List Carried) → AreParked e.pend.stage parked → AreLeftParked account parked
   parked_is parked are = record {
     lines = λ l peer at life. line_is l peer at life parked are;
-    of_links = parked_of_links me peers (start_of me peers e.pend.view) came parked carried_is (stand_for parked are).came;
+    of_links = parked_of_links me peers (start_of me peers e.pend.stage) came parked carried_is (stand_for parked are).came;
   }
 
   gathered_is : Gathered me set peers e

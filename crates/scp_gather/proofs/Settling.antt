@@ -1,6 +1,6 @@
 -- Where no stage failed.
-use Rattle.std.proofs.Common.{◌≡◌, Bool, true, false, ◌||◌, not, List, [], ◌∷◌, refl, sym, ◌∙◌, subst}
-use Rattle.std.specs.Prelude.{Option, Some, None, IsSome, is_none}
+use Rattle.std.proofs.Common.{◌≡◌, Bool, true, false, ◌||◌, not, List, [], ◌∷◌, refl}
+use Rattle.std.specs.Prelude.{None}
 use Rattle.std.specs.List.{list_any, AllByRecursion}
 use Rattle.scp_workers.specs.Reading.{ReaderEnd}
 use Rattle.scp_gather.specs.Left.{Left}
@@ -13,34 +13,30 @@ none_so false false true a e = absurd cc
 none_so false false false true e = absurd cc
 none_so false false false false e = (refl, refl, refl, refl)
 
-is_there : {X : Type 0} (o : Option X) → is_none o ≡ false → IsSome o
-is_there None e = absurd cc
-is_there (Some x) e = refl
-
 no_first : (a b : Bool) → (a || b) ≡ false → (a ≡ false) × (b ≡ false)
 no_first true b e = absurd cc
 no_first false b e = (refl, e)
-
-all_there : (rs : List ReaderEnd) → list_any has_failed rs ≡ false → AllByRecursion (λ r. IsSome r.output) rs
-all_there [] e = tt
-all_there (r ∷ rs) e = let h = no_first (has_failed r) (list_any has_failed rs) e in (is_there r.output h.0, all_there rs h.1)
 
 is_well : (b : Bool) → not b ≡ false → b ≡ true
 is_well true e = refl
 is_well false e = absurd cc
 
-pub record AllThere (e : Left) : Type 0 where
-  pub readers : AllByRecursion (λ r. IsSome r.output) e.readers
-  pub pend : IsSome e.pend.output
-  pub slot : IsSome e.slot.output
+all_well : (rs : List ReaderEnd) → list_any has_failed rs ≡ false → AllByRecursion (λ r. r.well ≡ true) rs
+all_well [] e = tt
+all_well (r ∷ rs) e = let h = no_first (has_failed r) (list_any has_failed rs) e in (is_well r.well h.0, all_well rs h.1)
+
+pub record AllWell (e : Left) : Type 0 where
+  pub readers : AllByRecursion (λ r. r.well ≡ true) e.readers
+  pub pend : e.pend.well ≡ true
+  pub slot : e.slot.well ≡ true
   pub apply : e.apply.well ≡ true
 
-pub none_failed : (e : Left) → first_failed e ≡ None → AllThere e
+pub none_failed : (e : Left) → first_failed e ≡ None → AllWell e
 none_failed e n =
-    let h = none_so (list_any has_failed e.readers) (is_none e.pend.output) (is_none e.slot.output) (not e.apply.well) n in
+    let h = none_so (list_any has_failed e.readers) (has_failed e.pend) (has_failed e.slot) (has_failed e.apply) n in
     record {
-      readers = all_there e.readers h.0;
-      pend = is_there e.pend.output h.1;
-      slot = is_there e.slot.output h.2;
+      readers = all_well e.readers h.0;
+      pend = is_well e.pend.well h.1;
+      slot = is_well e.slot.well h.2;
       apply = is_well e.apply.well h.3;
     }

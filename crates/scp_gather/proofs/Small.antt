@@ -1,6 +1,6 @@
 -- Each queue of the pending stage holds at most 64 messages between two takes.
-use Rattle.std.proofs.Common.{◌≡◌, ℕ, ◌+◌, ◌*◌, ◌≤◌, Bool, true, false, cond, sym, refl, subst, List, [], ◌∷◌, ◌++◌, length, Option, arith}
-use Rattle.std.specs.Prelude.{not, ◌&&◌, map, filter, nat_lt}
+use Rattle.std.proofs.Common.{◌≡◌, ◌*◌, ◌≤◌, Bool, true, false, cond, sym, refl, subst, List, [], ◌∷◌, ◌++◌, length, Option, arith}
+use Rattle.std.specs.Prelude.{not, ◌&&◌, map, filter}
 use Rattle.std.specs.List.{AllByRecursion}
 use Rattle.std.proofs.lemmas.Bool.Decides.{nat_tests}
 use Rattle.std.proofs.lemmas.List.{length-append}
@@ -19,8 +19,8 @@ use Rattle.scp_pending.specs.declared.parked.Parked.{Parked}
 use Rattle.scp_pending.specs.declared.ready.DropCause.TheVariants.{GaveUp}
 use Rattle.scp_pending.specs.declared.ready.Ready.{Ready}
 use Rattle.scp_pending.specs.Pends.{Pends, start_of}
-use Rattle.scp_pending.specs.Queues.{QueueView, is_of, is_open, is_head_waiting, is_hash, hash_of, parked_of, others, changed, is_empty, served, stays_in, with_first, in_order_of, resolved_one, resolved_in, resolved, lost_by, with_parked, parked_in}
-use Rattle.scp_pending.specs.Rules.{PendingView, Settled, opens, opened, closed_off, is_full, goes_through, overflows, entering, enters, parks, brings, is_answer, answered, by_answer, is_given_up, gives_up_one, missed_all, hears, rules, settled_by}
+use Rattle.scp_pending.specs.Queues.{QueueView, is_of, is_open, is_head_waiting, is_hash, hash_of, parked_of, others, changed, is_empty, served, stays_in, in_order_of, resolved_one, resolved_in, resolved, lost_by, with_parked, parked_in}
+use Rattle.scp_pending.specs.Rules.{PendingView, Settled, opens, opened, closed_off, is_full, goes_through, entering, parks, brings, is_answer, answered, by_answer, is_given_up, gives_up_one, hears, rules, settled_by}
 use Rattle.scp_gather.specs.Count.{parked_in_all}
 use Rattle.scp_gather.proofs.Taking.{cons_parked, leave_or_stay}
 

@@ -44,17 +44,19 @@ account_gathered me set peers e = record {
   upcoming = λ l. [];
   inbox = [];
   came = values e.pend.input.got;
-  pending = e.pend.view;
+  pending = e.pend.stage;
   on_way = [];
-  ledger = e.slot.view;
+  ledger = e.slot.stage.ledger;
   onward = [];
-  applier = e.apply.view;
+  applier = e.apply.stage;
 }
 
 -- ---- channels
 
--- all that the producer sent was received, and whatever the channel holds, it holds nothing of the producer any more
+-- the channel kept its producer's order, and holds no more than its room; all that the producer sent was received, and whatever the channel
+-- holds, it holds nothing of the producer any more
 pub record IsEmptied {T : Type 0} (r : Receiver T) (s : Sender T) : Type 0 where
+  pub queued : IsQueued r s
   pub all : heard s.number r.got ≡ s.sent
   pub left : (q : IsQueued r s) → of s.number q.queue ≡ []
 
@@ -105,8 +107,8 @@ pub record Gathered (me : NodeId) (set : QuorumTree) (peers : List NodeId) (e : 
   -- nothing is left in a channel
   pub emptied : AreEmptied peers e
   -- what is parked waits for its quorum set, and is what was sent and has no entry
-  pub settled : IsSettledBy (fresh me peers set) (values e.pend.input.got) e.pend.view
-  pub parked : (parked : List Carried) → AreParked e.pend.view parked → AreLeftParked (account_gathered me set peers e) parked
+  pub settled : IsSettledBy (fresh me peers set) (values e.pend.input.got) e.pend.stage
+  pub parked : (parked : List Carried) → AreParked e.pend.stage parked → AreLeftParked (account_gathered me set peers e) parked
 
 -- where the ends are those of one node, and each worker ended well, `Gathered` holds
 abbrev pub WhatEndsWellIsGathered : Type 0

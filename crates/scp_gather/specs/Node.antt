@@ -1,5 +1,5 @@
 -- What was left is of the channels of one node, and each worker ended well.
-use Rattle.std.specs.Prelude.{◌≡◌, ℕ, ◌+◌, true, List, length, Some, IfSome, slice_get}
+use Rattle.std.specs.Prelude.{◌≡◌, ℕ, ◌+◌, List, length, Some, IfSome, slice_get}
 use Rattle.scp_types.specs.declared.names.NodeId.{NodeId}
 use Rattle.scp_quorum.specs.QuorumTree.{QuorumTree}
 use Rattle.scp_wire.specs.declared.link.Inbound.{Inbound}
@@ -35,8 +35,8 @@ pub record IsNode (me : NodeId) (set : QuorumTree) (peers : List NodeId) (e : Le
   pub inbox : e.pend.input.producers ≡ length peers + 1
   pub ready : e.slot.input.producers ≡ 1
   pub decided : e.apply.input.producers ≡ 1
-  pub pends_for : IfSome e.pend.output (λ _. PendsFor me peers set e.pend.view)
-  pub journals_for : IfSome e.slot.output (λ _. JournalsFor me peers set e.slot.view)
+  pub pends_for : PendsFor me peers set e.pend.first
+  pub journals_for : JournalsFor me peers set e.slot.first.ledger
 
 -- ---- each ended well
 
@@ -46,7 +46,7 @@ pub record IsReadOut (inbox : Receiver Inbound) (k : LinkEnd) (e : ReaderEnd) : 
   pub ended : e.output ≡ Some output
   pub link : IsLink k
   pub queued : IsQueued e.input k.tail
-  pub reads : HasReadAll e.input output
+  pub reads : HasReadAll e
   pub brings : IsQueued inbox output
 
 -- every worker ended well, and each channel kept the order of each of its producers
@@ -56,11 +56,10 @@ pub record EndWell (e : Left) : Type 0 where
   pub told : IsQueued e.pend.input e.local
   pub given : Sender Ready
   pub pend_ended : e.pend.output ≡ Some given
-  pub pends : HasPendedAll e.pend.input e.pend.view given
+  pub pends : HasPendedAll e.pend
   pub ready : IsQueued e.slot.input given
   pub onward : Sender Onward
   pub slot_ended : e.slot.output ≡ Some onward
-  pub journals : HasJournaledAll e.slot.input e.slot.view onward
+  pub journals : HasJournaledAll e.slot
   pub decided : IsQueued e.apply.input onward
-  pub apply_ended : e.apply.well ≡ true
-  pub applies : HasAppliedAll e.apply.input e.apply.view
+  pub applies : HasAppliedAll e.apply

@@ -1,5 +1,5 @@
 -- What is asked of what is gathered, and what is told then.
-use Rattle.std.specs.Prelude.{◌≡◌, ℕ, Bool, not, List, Option, Some, None, is_none, IfSome, slice_get, if◌then◌else◌}
+use Rattle.std.specs.Prelude.{◌≡◌, ℕ, Bool, false, not, List, Option, Some, None, slice_get, if◌then◌else◌}
 use Rattle.std.specs.List.{list_any}
 use Rattle.std.specs.List.Sorted.{IsStrictlySortedBy}
 use Rattle.scp_types.specs.declared.fault.Stage.{Stage}
@@ -14,9 +14,10 @@ use Rattle.scp_pending.specs.Messages.{AreParked, message_cmp}
 use Rattle.scp_ledger.specs.declared.journal.Decision.{Decision}
 use Rattle.scp_ledger.specs.declared.journal.Fate.{Fate}
 use Rattle.scp_ledger.specs.declared.took.CommandFate.{CommandFate}
-use Rattle.scp_ends.specs.Ends.{Line}
+use Rattle.scp_ends.specs.Ends.{Line, Sender}
 use Rattle.scp_ends.specs.Links.{LinkEnd}
 use Rattle.scp_ends.specs.Order.{values}
+use Rattle.scp_workers.specs.Working.{End}
 use Rattle.scp_workers.specs.Reading.{ReaderEnd}
 use Rattle.scp_workers.specs.Slot.{HaveFates}
 use Rattle.scp_gather.specs.Left.{Left}
@@ -24,9 +25,13 @@ use Rattle.scp_gather.specs.Gathered.{account_gathered, AreLeftParked, Gathered}
 
 -- ---- whose ends they are
 
+-- where the worker's end was received it left a sending end, of this channel
+abbrev pub SendsTo : {T U S : Type 0} → Line U → End T U S → Type 0
+SendsTo {T} {U} {S} line e = e.unheard ≡ false → (s : Sender U) × (e.output ≡ Some s) × (s.line ≡ line)
+
 -- the reader reads this link, and sends to this inbox
 abbrev pub IsJoined : Line Inbound → LinkEnd → ReaderEnd → Type 0
-IsJoined inbox k r = (k.tail.line ≡ r.input.line) × IfSome r.output (λ s. s.line ≡ inbox)
+IsJoined inbox k r = (k.tail.line ≡ r.input.line) × SendsTo inbox r
 
 -- each at its place
 abbrev pub AreJoinedTo : Line Inbound → List LinkEnd → List ReaderEnd → Type 0
@@ -36,14 +41,14 @@ AreJoinedTo inbox links readers = (l : ℕ) → (k : LinkEnd) → slice_get link
 pub record AreJoined (e : Left) : Type 0 where
   pub links : AreJoinedTo e.pend.input.line e.links e.readers
   pub local : e.local.line ≡ e.pend.input.line
-  pub ready : IfSome e.pend.output (λ s. s.line ≡ e.slot.input.line)
-  pub decided : IfSome e.slot.output (λ s. s.line ≡ e.apply.input.line)
+  pub ready : SendsTo e.slot.input.line e.pend
+  pub decided : SendsTo e.apply.input.line e.slot
 
 -- ---- who failed
 
--- the reader's worker failed: it gave no sending end back
-abbrev pub has_failed : ReaderEnd → Bool
-has_failed r = is_none r.output
+-- the worker failed: it didn't end well
+abbrev pub has_failed : {T U S : Type 0} → End T U S → Bool
+has_failed e = not e.well
 
 -- the first stage, in the order of the pipeline, of which a worker failed
 abbrev pub first_so : Bool → Bool → Bool → Bool → Option Stage
@@ -51,23 +56,23 @@ first_so reader pend slot apply = if reader then Some Reader else (if pend then 
 
 -- the first stage of which a worker failed, in the order reader, pend, slot, apply
 abbrev pub first_failed : Left → Option Stage
-first_failed e = first_so (list_any has_failed e.readers) (is_none e.pend.output) (is_none e.slot.output) (not e.apply.well)
+first_failed e = first_so (list_any has_failed e.readers) (has_failed e.pend) (has_failed e.slot) (has_failed e.apply)
 
 -- ---- what is told
 
 -- the journal, what is parked, what is applied and the state are those of the node that was gathered
 pub record IsReportOf (me : NodeId) (set : QuorumTree) (peers : List NodeId) (e : Left) (journal : List Fate) (parked : List Carried) (applied : List Decision) (state : KvMap) : Type 0 where
   pub gathered : Gathered me set peers e
-  pub journal_is : journal ≡ e.slot.view.journal
+  pub journal_is : journal ≡ e.slot.stage.ledger.journal
   -- of each connection the parked messages are what was sent on it and has no entry, ascending by senders, lives and numbers
-  pub parked_is : AreParked e.pend.view parked
+  pub parked_is : AreParked e.pend.stage parked
   pub left : AreLeftParked (account_gathered me set peers e) parked
   pub ascending : IsStrictlySortedBy message_cmp parked
-  pub applied_is : applied ≡ e.apply.view.applied
-  pub state_is : Some state ≡ e.apply.view.state
+  pub applied_is : applied ≡ e.apply.stage.applied
+  pub state_is : Some state ≡ e.apply.stage.state
 
 -- This became of the node's own commands but the ticks, one each, in their order: just these commands are among what its ledger took, in that
 -- order, and what it told of each, as it stood then, is this.
 pub record AreFatesOf (me : NodeId) (set : QuorumTree) (peers : List NodeId) (e : Left) (fates : List CommandFate) : Type 0 where
   pub commands : commands_of (values e.slot.input.got) ≡ commands_in e.local.sent
-  pub told : HaveFates me set peers (values e.slot.input.got) (values e.apply.input.got) fates e.slot.view
+  pub told : HaveFates me set peers (values e.slot.input.got) (values e.apply.input.got) fates e.slot.stage.ledger

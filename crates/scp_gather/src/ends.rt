@@ -1,5 +1,5 @@
 //! What the threads of a node left.
-ghost use Rattle.std.specs.Prelude.{◌≡◌, is_none, not};
+ghost use Rattle.std.specs.Prelude.{◌≡◌};
 ghost use Rattle.std.specs.List.{list_any};
 ghost use Rattle.scp_gather.specs.Report.{first_failed as first_failed_of, first_so, has_failed as failed};
 
@@ -59,15 +59,15 @@ pub fn first_failed(
     slot: &SlotEnded,
     apply: &ApplyEnded,
 ) -> Option<Stage>
-    ensures exact { result ≡ first_so reader (is_none pend.now.output) (is_none slot.now.output) (not apply.now.well) }
+    ensures exact { result ≡ first_so reader (failed pend.now) (failed slot.now) (failed apply.now) }
 {
     if reader {
         return Some(Stage::Reader);
     }
-    if pend_failed(pend) {
+    if !pend.well() {
         return Some(Stage::Pend);
     }
-    if slot_failed(slot) {
+    if !slot.well() {
         return Some(Stage::Slot);
     }
     if !apply.well() {
@@ -88,18 +88,4 @@ pub fn has_failed(reader: &ReaderEnded) -> bool
     ensures { result ≡ failed reader.now }
 {
     !reader.well()
-}
-
-/// Whether the worker of the pending stage failed.
-fn pend_failed(pend: &PendEnded) -> bool
-    ensures { result ≡ is_none pend.now.output }
-{
-    !pend.well()
-}
-
-/// Whether the worker of the slot stage failed.
-fn slot_failed(slot: &SlotEnded) -> bool
-    ensures { result ≡ is_none slot.now.output }
-{
-    !slot.well()
 }

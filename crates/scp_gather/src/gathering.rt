@@ -1,5 +1,5 @@
 //! What is concluded when every thread of a node has ended.
-ghost use Rattle.std.specs.Prelude.{◌≡◌, ◌↔◌, ◌⊎◌, ℕ, List, None, Some, IsSome, IfOk, IfErr, IsErrOf, IsOkUnless, slice_get};
+ghost use Rattle.std.specs.Prelude.{◌≡◌, ◌↔◌, ◌⊎◌, ℕ, List, None, Some, true, IsSome, IfOk, IfErr, IsErrOf, IsOkUnless, slice_get};
 ghost use Rattle.std.specs.List.{AllByRecursion};
 ghost use Rattle.std.specs.List.Sorted.{IsStrictlySortedBy};
 ghost use Rattle.scp_types.specs.declared.fault.Stage.{Stage};
@@ -13,7 +13,6 @@ ghost use Rattle.scp_pending.specs.Pends.{Pends};
 ghost use Rattle.scp_ends.specs.Links.{LinkEnd};
 ghost use Rattle.scp_headline.specs.Headline.{Headline};
 ghost use Rattle.scp_workers.specs.Reading.{ReaderEnd};
-ghost use Rattle.scp_workers.specs.Slot.{TellsWell};
 ghost use Rattle.scp_gather.specs.Node.{IsNode, IsReadOut, EndWell};
 ghost use Rattle.scp_gather.specs.Headline.{books_reported};
 ghost use Rattle.scp_gather.specs.Report.{IsJoined, AreJoinedTo, AreJoined, first_failed, IsReportOf, AreFatesOf};
@@ -28,7 +27,7 @@ use scp_ledger::{CommandFate, Fate, Ledger, SharedDecision};
 use scp_pending::{Pending, each_command_passes_once};
 use scp_types::Fault;
 use scp_wire::Carried;
-use scp_workers::ReaderEnded;
+use scp_workers::{ReaderEnded, SlotStage};
 
 /// What became of all that was sent to a node, and what it did.
 #[derive(Drop)]
@@ -48,11 +47,11 @@ pub struct NodeReport {
 /// Takes back what a link and its reader left.
 fn take_back(inbox: &mut InboxRx, reader: ReaderEnded, link: LinkDone)
     requires joined { IsJoined inbox.old.line link reader }
-    requires well { IsSome reader.output }
+    requires well { reader.well ≡ true }
     ensures same { inbox.new ≡ inbox.old }
     ensures read_out { IsReadOut inbox.old link reader }
 {
-    let (mut rx, done) = reader.into_parts();
+    let (mut rx, done, _) = reader.into_parts();
     let Some(done) = done else { unreachable!() };
     link.return_to(&mut rx);
     inbox.take_back(done);
@@ -61,7 +60,7 @@ fn take_back(inbox: &mut InboxRx, reader: ReaderEnded, link: LinkDone)
 /// Takes back what each link and its reader left.
 fn take_each_back(inbox: &mut InboxRx, readers: Vec<ReaderEnded>, links: Vec<LinkDone>)
     requires joined { AreJoinedTo inbox.old.line links.items readers.items }
-    requires well { AllByRecursion (λ r. IsSome r.output) readers.items }
+    requires well { AllByRecursion (λ r. r.well ≡ true) readers.items }
     ensures same { inbox.new ≡ inbox.old }
     ensures read_out { (l : ℕ) → (k : LinkEnd) → slice_get links.items l ≡ Some k → (r : ReaderEnd) → slice_get readers.items l ≡ Some r → IsReadOut inbox.old k r }
 {
@@ -78,9 +77,8 @@ fn take_each_back(inbox: &mut InboxRx, readers: Vec<ReaderEnded>, links: Vec<Lin
 fn settle(ends: Ends) -> (Pending, Ledger<KvDriver>, Applier, Vec<CommandFate>)
     requires joined { AreJoined ends }
     requires well { first_failed ends ≡ None }
-    ensures parts { (result.0 ≡ ends.pend.view) × (result.1 ≡ ends.slot.view) × (result.2 ≡ ends.apply.view) × (result.3.items ≡ ends.slot.fates) }
+    ensures parts { (result.0 ≡ ends.pend.stage) × (result.1 ≡ ends.slot.stage.ledger) × (result.2 ≡ ends.apply.stage) × (result.3.items ≡ ends.slot.stage.fates.items) }
     ensures ended { EndWell ends }
-    ensures tells { TellsWell ends.slot }
 {
     let Ends {
         readers,
@@ -93,13 +91,14 @@ fn settle(ends: Ends) -> (Pending, Ledger<KvDriver>, Applier, Vec<CommandFate>)
     let (mut inbox, given, pending) = pend.into_parts();
     take_each_back(&mut inbox, readers, links);
     local.return_to(&mut inbox);
-    let (mut ready, onward, ledger, commands) = slot.into_parts();
+    let (mut ready, onward, slots) = slot.into_parts();
     let Some(given) = given else { unreachable!() };
     ready.take_back(given);
-    let (mut decided, applier) = apply.into_parts();
+    let (mut decided, _, applier) = apply.into_parts();
     let Some(onward) = onward else { unreachable!() };
     decided.take_back(onward);
-    (pending, ledger, applier, commands)
+    let SlotStage { ledger, fates } = slots;
+    (pending, ledger, applier, fates)
 }
 
 /// What the stages tell.

@@ -1,9 +1,10 @@
 //! The nodes of a certificate.
-ghost use Rattle.std.specs.Prelude.{◌≡◌, length};
+ghost use Rattle.std.specs.Prelude.{◌≡◌, IfOk, length};
 ghost use Rattle.std.specs.BTreeSet.{keys};
 ghost use Rattle.scp_ledger.specs.Certificate.{has_node};
 
 use scp_types::NodeId;
+use std::alloc::{AllocError, Global};
 use std::collections::BTreeSet;
 use std::marker::Model;
 
@@ -40,5 +41,16 @@ impl Quorum {
         ensures { result ≡ length self.now }
     {
         self.0.len()
+    }
+
+    /// The nodes, ascending.
+    pub fn nodes(&self, alloc: Global) -> Result<Vec<NodeId>, AllocError>
+        ensures { IfOk result (λ nodes. nodes.items ≡ self.now) }
+    {
+        let mut nodes = Vec::new(alloc);
+        for node in &self.0 {
+            nodes.push(*node)?;
+        }
+        Ok(nodes)
     }
 }

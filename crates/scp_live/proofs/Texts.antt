@@ -52,23 +52,25 @@ no_err r x is err = cc
 memory_not_full : {T : Type 0} (r : Result T Fault) → IsOkUnless r NoMemory → IsErrOf r JournalFull → ⊥
 memory_not_full r only err = grind arith
 
+-- what was told of an episode, where all of it was
+told_so : (s : Result Hash Fault) (played : Played) (event : Event) (names : List (List ℕ)) (before after' : List Timer) (old new : NodeView) (heard : List Exchange) (f d a : ℕ) (text longer : List ℕ) → f ≡ length old.ledger.journal → d ≡ length old.ledger.decisions → a ≡ length old.applier.applied → IsEpisode event played.reply old heard new × (played.sent.items ≡ sent_in heard)
+    → IfOk s (λ hash. longer ≡ longer_by names before after' played.reply played.sent.items f d a new text) → IfOk s (λ hash. hash.0 ≡ sha256 (flat_map (sent_line names) played.sent.items)) → IfOk s (λ hash. IsTold event names before after' old heard new text longer hash.0)
+told_so (Ok hash) played event names before after' old new heard f d a text longer p q t e l h = record {
+  reply = played.reply;
+  episode = e.0;
+  lines = lines_are names before after' played.reply old new heard played.sent.items f d a text longer e.1 p q t l;
+  digest_is = h ∙ ap (λ (x : List Sending). sha256 (flat_map (sent_line names) x)) e.1;
+}
+told_so (Err fault) played event names before after' old new heard f d a text longer p q t e l h = tt
+
 -- all of it was told, or there was no memory to tell it
 pub acts : (r : Result Played Fault) (s : Result Hash Fault) (played : Played) (event : Event) (names : List (List ℕ)) (before after' : List Timer) (old new : NodeView) (f d a : ℕ) (text longer : List ℕ) → r ≡ Ok played → IsOkUnless s NoMemory → f ≡ length old.ledger.journal → d ≡ length old.ledger.decisions → a ≡ length old.applier.applied
     → IfOk s (λ hash. longer ≡ longer_by names before after' played.reply played.sent.items f d a new text) → IfOk s (λ hash. hash.0 ≡ sha256 (flat_map (sent_line names) played.sent.items))
     → GoesTold r old new (λ p o heard n. IsEpisode event p.reply o heard n × (p.sent.items ≡ sent_in heard)) → GoesTold s old new (λ hash o heard n. IsTold event names before after' o heard n text longer hash.0)
 acts r s played event names before after' old new f d a text longer is only p q t lines digest g =
     told_as r s old new (λ p o heard n. IsEpisode event p.reply o heard n × (p.sent.items ≡ sent_in heard)) (λ hash o heard n. IsTold event names before after' o heard n text longer hash.0)
-    (λ heard e. both heard (IfOk-at_ok (λ (x : Played). IsEpisode event x.reply old heard new × (x.sent.items ≡ sent_in heard)) is e) s lines digest)
+    (λ heard e. told_so s played event names before after' old new heard f d a text longer p q t (IfOk-at_ok (λ (x : Played). IsEpisode event x.reply old heard new × (x.sent.items ≡ sent_in heard)) is e) lines digest)
     (λ e. absurd (memory_not_full s only e), λ e. absurd (no_err r played is e)) g
-  where
-    both : (heard : List Exchange) → IsEpisode event played.reply old heard new × (played.sent.items ≡ sent_in heard) → (s : Result Hash Fault) → IfOk s (λ hash. longer ≡ longer_by names before after' played.reply played.sent.items f d a new text) → IfOk s (λ hash. hash.0 ≡ sha256 (flat_map (sent_line names) played.sent.items)) → IfOk s (λ hash. IsTold event names before after' old heard new text longer hash.0)
-    both heard e (Ok hash) l h = record {
-      reply = played.reply;
-      episode = e.0;
-      lines = lines_are names before after' played.reply old new heard played.sent.items f d a text longer e.1 p q t l;
-      digest_is = h ∙ ap (λ (x : List Sending). sha256 (flat_map (sent_line names) x)) e.1;
-    }
-    both heard e (Err fault) l h = tt
 
 -- it was refused
 pub refuses : (r : Result Played Fault) (fault : Fault) (event : Event) (names : List (List ℕ)) (before after' : List Timer) (old new : NodeView) (text longer : List ℕ) → r ≡ Err fault → GoesTold r old new (λ p o heard n. IsEpisode event p.reply o heard n × (p.sent.items ≡ sent_in heard)) → GoesTold {T = Hash} (Err fault) old new (λ hash o heard n. IsTold event names before after' o heard n text longer hash.0)
@@ -82,3 +84,32 @@ acts_as r event names names' before before' after' old old' new text longer p q 
     subst (λ (m : NodeView). GoesTold r m new (λ hash o heard n. IsTold event names' before' after' o heard n text longer hash.0)) s
     (subst (λ (ts : List Timer). GoesTold r old new (λ hash o heard n. IsTold event names' ts after' o heard n text longer hash.0)) q
     (subst (λ (ns : List (List ℕ)). GoesTold r old new (λ hash o heard n. IsTold event ns before after' o heard n text longer hash.0)) p g))
+
+-- ---- a node that is watched
+
+-- what a node heard, of which this holds where it isn't refused; and of all of it this holds besides
+abbrev pub GoesBeside : {T : Type 0} → Result T Fault → NodeView → NodeView → (T → NodeView → List Exchange → NodeView → Type 0) → (NodeView → List Exchange → NodeView → Type 0) → Type 0
+GoesBeside r old new P E = Goes old new (λ a heard b. IfOk r (λ x. P x a heard b) × E a heard b)
+
+-- all of it was told, or there was no memory to tell it
+pub acts_beside : (r : Result Played Fault) (s : Result Hash Fault) (played : Played) (event : Event) (names : List (List ℕ)) (before after' : List Timer) (old new : NodeView) (f d a : ℕ) (text longer : List ℕ) (E : NodeView → List Exchange → NodeView → Type 0) → r ≡ Ok played → f ≡ length old.ledger.journal → d ≡ length old.ledger.decisions → a ≡ length old.applier.applied
+    → IfOk s (λ hash. longer ≡ longer_by names before after' played.reply played.sent.items f d a new text) → IfOk s (λ hash. hash.0 ≡ sha256 (flat_map (sent_line names) played.sent.items))
+    → GoesBeside r old new (λ p o heard n. IsEpisode event p.reply o heard n × (p.sent.items ≡ sent_in heard)) E → GoesBeside s old new (λ hash o heard n. IsTold event names before after' o heard n text longer hash.0) E
+acts_beside r s played event names before after' old new f d a text longer E is p q t lines digest g = record {
+  heard = g.heard;
+  is = (told_so s played event names before after' old new g.heard f d a text longer p q t (IfOk-at_ok (λ (x : Played). IsEpisode event x.reply old g.heard new × (x.sent.items ≡ sent_in g.heard)) is g.is.0) lines digest, g.is.1);
+  does = g.does;
+  theorem = g.theorem;
+}
+
+-- it was refused
+pub refuses_beside : (r : Result Played Fault) (fault : Fault) (event : Event) (names : List (List ℕ)) (before after' : List Timer) (old new : NodeView) (text longer : List ℕ) (E : NodeView → List Exchange → NodeView → Type 0)
+    → GoesBeside r old new (λ p o heard n. IsEpisode event p.reply o heard n × (p.sent.items ≡ sent_in heard)) E → GoesBeside {T = Hash} (Err fault) old new (λ hash o heard n. IsTold event names before after' o heard n text longer hash.0) E
+refuses_beside r fault event names before after' old new text longer E g = record { heard = g.heard; is = (tt, g.is.1); does = g.does; theorem = g.theorem }
+
+-- the same of equal names, timers and nodes
+pub acts_beside_as : (r : Result Hash Fault) (event : Event) (names names' : List (List ℕ)) (before before' after' : List Timer) (old old' new : NodeView) (text longer : List ℕ) (E : NodeView → List Exchange → NodeView → Type 0) → names ≡ names' → before ≡ before' → old ≡ old' → GoesBeside r old new (λ hash o heard n. IsTold event names before after' o heard n text longer hash.0) E → GoesBeside r old' new (λ hash o heard n. IsTold event names' before' after' o heard n text longer hash.0) E
+acts_beside_as r event names names' before before' after' old old' new text longer E p q s g =
+    subst (λ (m : NodeView). GoesBeside r m new (λ hash o heard n. IsTold event names' before' after' o heard n text longer hash.0) E) s
+    (subst (λ (ts : List Timer). GoesBeside r old new (λ hash o heard n. IsTold event names' ts after' o heard n text longer hash.0) E) q
+    (subst (λ (ns : List (List ℕ)). GoesBeside r old new (λ hash o heard n. IsTold event ns before after' o heard n text longer hash.0) E) p g))

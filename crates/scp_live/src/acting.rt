@@ -3,15 +3,17 @@ ghost use Rattle.std.specs.Prelude.{◌≡◌, ◌⊎◌, ◌↔◌, ◌++◌, f
 ghost use Rattle.sha2.specs.Sha256.{sha256};
 ghost use Rattle.scp_types.specs.declared.fault.Fault.{Fault};
 ghost use Rattle.scp_turn.specs.Turn.{Goes};
+ghost use Rattle.scp_turn.specs.Watch.{notes, Watched};
 ghost use Rattle.scp_episode.specs.Episode.{IsOfHost, finds_full};
 ghost use Rattle.scp_told.specs.Timers.{changes};
 ghost use Rattle.scp_live.specs.Live.{IsTold, AreTimersOf, refusal, sent_line, new_fates, new_decisions, newly_applied};
 
 use crate::telling::{Marks, digest_from, tell_new, tell_refusal, tell_sent};
 use scp_core::{Event, Node};
-use scp_episode::{Played, play};
+use scp_episode::{Played, play, play_with};
 use scp_timers::{Timer, timers};
 use scp_told::write_changes;
+use scp_turn::Watch;
 use scp_types::{Fault, Hash};
 use std::alloc::Global;
 
@@ -67,6 +69,28 @@ fn tell(
     let hash = tell_played(text, names, played)?;
     tell_rest(alloc, text, names, node, marks, running)?;
     Ok(hash)
+}
+
+/// The event, and all that is told of it; the watch is told of each step. A full journal is told as want of memory.
+pub fn act_with<W: Watch>(
+    alloc: Global,
+    node: &mut Node,
+    names: &[String],
+    running: &mut Vec<Timer>,
+    event: Event,
+    text: &mut String,
+    watch: &mut W,
+) -> Result<Hash, Fault>
+    requires { IsOfHost event }
+    ensures told { Goes node.old node.new (λ a heard b. IfOk result (λ hash. IsTold event (map string_bytes names.now) running.old.items running.new.items a heard b (string_bytes text.old) (string_bytes text.new) hash.0) × Watched (notes W.notes_before W.notes_after) 1 watch.old a heard b watch.new) }
+    ensures timers { OnOk result (AreTimersOf node.new running.new.items) }
+    ensures runs { OnOk result (node.new.failed ≡ false) }
+{
+    let marks = Marks::of(node);
+    match play_with(alloc, node, event, watch) {
+        Ok(played) => tell(alloc, text, names, node, marks, &played, running),
+        Err(fault) => Err(fault),
+    }
 }
 
 /// The event, and all that is told of it.

@@ -5,12 +5,14 @@ ghost use Rattle.scp_core.specs.Config.{IsConfig};
 ghost use Rattle.scp_core.specs.Node.{accepts_at};
 ghost use Rattle.scp_core.specs.Theorem.{LedgerTheorem};
 ghost use Rattle.scp_turn.specs.Turn.{Goes, links_of};
+ghost use Rattle.scp_turn.specs.Watch.{notes, Watched};
 ghost use Rattle.scp_episode.specs.Episode.{IsOfHost, finds_full};
 ghost use Rattle.scp_live.specs.Live.{IsTold, AreTimersOf};
 
 use crate::acting;
 use scp_core::{Config, Event, Node, PEER_LIMIT};
 use scp_timers::{Timer, timers};
+use scp_turn::Watch;
 use scp_types::{Fault, Hash};
 use std::alloc::Global;
 use std::marker::Model;
@@ -83,6 +85,34 @@ impl Live {
             &mut self.timers,
             event,
             text,
+        )
+    }
+
+    /// The event, and all that follows of it, as `act` plays it; the watch is told of each step. A full journal is told as want of memory.
+    pub fn act_with<W: Watch>(
+        &mut self,
+        event: Event,
+        text: &mut String,
+        watch: &mut W,
+    ) -> Result<Hash, Fault>
+        requires { IsOfHost event }
+        // What the node heard is an episode of the event, and its lines are told. Also where it is refused the watch was told of each step, and the
+        // ledger theorem goes on.
+        ensures told { Goes self.old.node self.new.node (λ a heard b. IfOk result (λ hash. IsTold event self.old.names self.old.timers self.new.timers a heard b (string_bytes text.old) (string_bytes text.new) hash.0) × Watched (notes W.notes_before W.notes_after) 1 watch.old a heard b watch.new) }
+        // The host was told to run just the timers that should run.
+        ensures timers { OnOk result (AreTimersOf self.new.node self.new.timers) }
+        ensures names { self.new.names ≡ self.old.names }
+        // A node that failed isn't told to have played it.
+        ensures runs { OnOk result (self.new.node.failed ≡ false) }
+    {
+        acting::act_with(
+            self.alloc,
+            &mut self.node,
+            self.names.as_slice(),
+            &mut self.timers,
+            event,
+            text,
+            watch,
         )
     }
 

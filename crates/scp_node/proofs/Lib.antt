@@ -8,4 +8,5 @@ pub mod Started
 pub mod Acting
 pub mod Standing
 pub mod Begun
+pub mod Accounted
 pub mod Same

@@ -4,5 +4,6 @@ pub mod Answers
 pub mod Replays
 pub mod Serving
 pub mod Starting
+pub mod Accounts
 pub mod Laws
 pub mod inside

@@ -7,11 +7,13 @@
 //!   what was sent of it, and then what they were answered is written;
 //! - a node that starts with a log plays each entry again and is refused where one of them sends anything else; then no link is open;
 //! - what is kept of lines that were answered, played again, is what the node did, and makes nodes that, while they run, show the same;
+//! - the account of a node by its log is a function of a node that played what the log says, and of what happened in its steps;
 //! - the ledger theorem holds of the node for all that it heard.
 //!
 //! Not claimed: that a file is a disk as `EventLog` says, that anything comes in or goes out in time, or that peers agree.
 #![tactic(auto)]
 
+mod accounting;
 mod answer;
 mod batch;
 mod laws;
@@ -23,6 +25,7 @@ mod stand;
 mod starting;
 mod telling;
 
+pub use accounting::account_node;
 pub use laws::{what_a_log_says_makes_one_node, what_is_kept_is_what_was_played};
 pub use nolog::NoLog;
 pub use process::{check_config, run_node};

@@ -24,7 +24,7 @@ use std::alloc::{AllocError, Global};
 use std::str;
 
 /// What a text configures.
-fn settings_of(alloc: Global, config: &[u8]) -> Result<Settings, ConfigFault>
+pub fn settings_of(alloc: Global, config: &[u8]) -> Result<Settings, ConfigFault>
     ensures { IfOk result (Configures config.now) }
 {
     match str::from_utf8(config) {
@@ -55,7 +55,7 @@ fn config_of(alloc: Global, settings: &Settings) -> Result<Config, Fault>
 }
 
 /// A node of a configuration that has heard nothing.
-fn begun(alloc: Global, settings: &Settings) -> Result<Live, Fault>
+pub fn begun(alloc: Global, settings: &Settings) -> Result<Live, Fault>
     ensures new { IfOk result (IsNew settings.now) }
     ensures live { IfOk result (λ live. IsLive live.node) }
 {
@@ -64,7 +64,7 @@ fn begun(alloc: Global, settings: &Settings) -> Result<Live, Fault>
 }
 
 /// The first line of the log of a configuration.
-fn header(alloc: Global, digest: &Hash) -> Result<Vec<u8>, AllocError>
+pub fn header(alloc: Global, digest: &Hash) -> Result<Vec<u8>, AllocError>
     ensures { IfOk result (λ line. line.items ≡ header_of digest.now.0) }
 {
     let mut line = Vec::from_slice(alloc, b"scp_node 1 ")?;
@@ -120,7 +120,7 @@ fn fault_line(alloc: Global, fault: &ConfigFault) -> Result<String, AllocError> 
 }
 
 /// Writes why a configuration isn't read. Answers the status.
-fn refuse<W: ReportOut>(alloc: Global, fault: &ConfigFault, writer: &mut W) -> u8
+pub fn refuse<W: ReportOut>(alloc: Global, fault: &ConfigFault, writer: &mut W) -> u8
     ensures { result ≢ 0 }
 {
     match fault_line(alloc, fault) {
@@ -133,7 +133,7 @@ fn refuse<W: ReportOut>(alloc: Global, fault: &ConfigFault, writer: &mut W) -> u
 }
 
 /// Writes why a node didn't start, or didn't serve its host to the end. Answers the status.
-fn fail<W: ReportOut>(fault: LogFault, writer: &mut W) -> u8
+pub fn fail<W: ReportOut>(fault: LogFault, writer: &mut W) -> u8
     ensures { result ≢ 0 }
 {
     let (told, status) = match fault {

@@ -19,6 +19,7 @@ use scp_asked::{Asked, BadLine, read_line};
 use scp_core::Event;
 use scp_live::Live;
 use scp_log::{EventLog, Kept, LogFault};
+use scp_turn::NoWatch;
 use scp_types::Fault;
 use std::alloc::{AllocError, Global};
 
@@ -111,7 +112,7 @@ pub fn restart<L: EventLog>(
     ensures another { result ≡ Err Another → (c : List ℕ) → L.holds kept.old.log c → IsAnother header.now c }
 {
     let entries = kept.recover(alloc, header)?;
-    replay(alloc, live, entries.as_slice())?;
+    replay(alloc, live, entries.as_slice(), &mut NoWatch)?;
     let mut batch = Batch::new(alloc);
     close_all(&mut batch, live)?;
     let (text, closes) = batch.into_parts();

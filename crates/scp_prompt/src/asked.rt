@@ -25,6 +25,15 @@ pub enum Shape {
     Json,
 }
 
+/// How an account is written.
+#[derive(Clone, Copy, Debug, PartialEq, Eq)]
+pub enum Form {
+    /// As one JSON document.
+    Document,
+    /// As lines that people read, with messages, values and keys as text.
+    Lines,
+}
+
 /// How the bytes of a message are written.
 #[derive(Clone, Copy, Debug, PartialEq, Eq)]
 pub enum Coding {
@@ -39,6 +48,8 @@ pub enum Coding {
 pub enum Task {
     /// A script is played, and its reports are written.
     Run(Mode, Shape),
+    /// A script is played, and the account of its nodes is written.
+    Account(Mode, Form),
     /// What is wrong with a script is told.
     Check,
     /// Where the nodes of a script stand is told.
@@ -88,6 +99,11 @@ pub enum NodeTask<'a> {
     Run {
         /// The path of its log; without one it keeps nothing.
         log: Option<&'a str>,
+    },
+    /// The account of what its log says is written.
+    Account {
+        /// The path of its log.
+        log: &'a str,
     },
 }
 
@@ -156,6 +172,18 @@ fn shape_of(matches: &ArgMatches<'_>) -> Shape {
     Shape::Settled
 }
 
+/// What is made of a script that is played.
+fn run_of(matches: &ArgMatches<'_>) -> Task {
+    let mode = mode_of(matches);
+    if matches.get_flag("account") {
+        return Task::Account(mode, Form::Document);
+    }
+    if matches.get_flag("full") {
+        return Task::Account(mode, Form::Lines);
+    }
+    Task::Run(mode, shape_of(matches))
+}
+
 fn coding_of(matches: &ArgMatches<'_>) -> Coding {
     if matches.get_flag("base64") {
         return Coding::Base64;
@@ -195,7 +223,7 @@ fn script_by<'a>(
     matches: &ArgMatches<'a>,
 ) -> Result<Option<Asked<'a>>, AllocError> {
     let asked = match name {
-        "run" => with_file(Task::Run(mode_of(matches), shape_of(matches)), matches),
+        "run" => with_file(run_of(matches), matches),
         "check" => with_file(Task::Check, matches),
         "stand" => with_file(Task::Stand, matches),
         "slot" => with_file(Task::Slot, matches),
@@ -217,6 +245,9 @@ fn node_by<'a>(matches: &ArgMatches<'a>) -> Option<NodeAsked<'a>> {
         "check" => NodeTask::Check,
         "run" => NodeTask::Run {
             log: inner.get_str("log"),
+        },
+        "account" => NodeTask::Account {
+            log: inner.get_str("log")?,
         },
         _ => return None,
     };

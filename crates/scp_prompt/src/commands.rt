@@ -97,11 +97,28 @@ fn run<'a>(alloc: Global) -> Result<Command<'a>, AllocError> {
         "Reports with values, keys and messages as people write them",
     );
     let json = flag(alloc, "json", "Reports as one JSON document").conflicts_with("text")?;
+    let account = flag(
+        alloc,
+        "account",
+        "In place of reports all that happened at each node, as one JSON document",
+    )
+    .conflicts_with("text")?
+    .conflicts_with("json")?;
+    let full = flag(
+        alloc,
+        "full",
+        "In place of reports all that happened at each node, as lines",
+    )
+    .conflicts_with("text")?
+    .conflicts_with("json")?
+    .conflicts_with("account")?;
     let quiet = flag(alloc, "quiet", "No notices; the status stays");
     of_file(alloc, "run", "Plays a script and prints its reports")?
         .arg(mode)?
         .arg(text)?
         .arg(json)?
+        .arg(account)?
+        .arg(full)?
         .arg(quiet)
 }
 
@@ -129,12 +146,24 @@ fn node<'a>(alloc: Global) -> Result<Command<'a>, AllocError> {
         "check",
         "Tells what is wrong with a configuration, or its digest",
     )?;
+    let log = Arg::new(alloc, "log")
+        .long("log")
+        .value_name("FILE")
+        .required(true)
+        .help("The log that the node keeps; it is read and left as it is");
+    let account = of_config(
+        alloc,
+        "account",
+        "Writes all that happened at a node by its log, as one JSON document",
+    )?
+    .arg(log)?;
     Command::new(alloc, "node")
-        .about("Runs one node as a process, or checks its configuration")
+        .about("Runs one node as a process, checks its configuration, or writes its account")
         .after_help(AFTER_NODE)
         .subcommand_required(true)
         .arg_required_else_help(true)
         .subcommand(run)?
+        .subcommand(account)?
         .subcommand(check)
 }
 

@@ -16,7 +16,8 @@ mod places;
 mod stream;
 
 pub use asked::{
-    Asked, Coding, Mode, NodeAsked, NodeTask, Shape, Source, Task, Unasked, Wanted, read_words,
+    Asked, Coding, Form, Mode, NodeAsked, NodeTask, Shape, Source, Task, Unasked, Wanted,
+    read_words,
 };
 pub use bytes::{LONG_LIMIT, read_within, write_bytes};
 pub use failure::{BadWord, Failure, Stop, status, write_failure, write_settled};

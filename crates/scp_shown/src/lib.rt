@@ -19,4 +19,4 @@ mod text;
 pub use document::json_of_parts;
 pub use reported::Reported;
 pub use reports::{json_report, text_report};
-pub use text::write_text_report;
+pub use text::{write_applied_list, write_state, write_text_report};

@@ -61,8 +61,8 @@ fn write_applied(out: &mut String, applied: &Decision) -> Result<(), Fault>
     Ok(())
 }
 
-/// Adds the lines of the applied slots.
-fn write_applied_list(out: &mut String, applied: &[SharedDecision]) -> Result<(), Fault>
+/// Adds the lines of the applied slots, with their values as text. The one refusal is `NoMemory`.
+pub fn write_applied_list(out: &mut String, applied: &[SharedDecision]) -> Result<(), Fault>
     ensures added { OnOk result (string_bytes out.new ≡ string_bytes out.old ++ flat_map applied_text_line applied.now) }
     ensures only_memory { IsOkUnless result Fault.NoMemory }
 {
@@ -85,8 +85,8 @@ fn write_entry(out: &mut String, key: &Value, value: &Value) -> Result<(), Fault
     Ok(())
 }
 
-/// Adds the lines of the state, ascending by key.
-fn write_state(out: &mut String, state: &KvState) -> Result<(), Fault>
+/// Adds the lines of a state, ascending by key, with keys and values as text. The one refusal is `NoMemory`.
+pub fn write_state(out: &mut String, state: &KvState) -> Result<(), Fault>
     ensures added { OnOk result (string_bytes out.new ≡ string_bytes out.old ++ flat_map state_text_line (map.entries state.now)) }
     ensures only_memory { IsOkUnless result Fault.NoMemory }
 {

@@ -26,5 +26,5 @@ mod watch;
 
 pub use notice::{Notice, Numbers, Side, Sides};
 pub use playing::{Ran, RunFault, run};
-pub use text::text_of_notices;
+pub use text::{text_of_notices, word_of_fate};
 pub use threads::{RanInThreads, run_in_threads};

@@ -241,6 +241,9 @@ pub fn run(alloc: Global, text: &[u8]) -> Result<Ran, RunFault>
     ensures headline { IfOk result (λ ran. AreNodesHeadlined ran.script.commands.items ran.network.nodes) }
     // Each of its lines names nodes from 1 to 8.
     ensures names { IfOk result (λ ran. All NamesNodes ran.script.commands.items) }
+    // Each may stand behind those before it, and what they say of queues is in range.
+    ensures admitted { IfOk result (λ ran. AreAdmitted [] ran.script.commands.items) }
+    ensures room { IfOk result (λ ran. HaveRoom ran.script.commands.items) }
     // A line is the first bad one, or memory ran out, or a line wasn't done.
     ensures cause { IfErr result (IsRunFault text.now) }
 {

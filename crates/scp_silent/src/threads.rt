@@ -196,6 +196,8 @@ pub fn run_in_threads<T: Threads + Wait + Sync>(
     ensures headline { IfOk result (λ ran. AreReportsHeadlined ran.script.commands.items ran.reports.items) }
     // Each of its lines names nodes from 1 to 8.
     ensures names { IfOk result (λ ran. All NamesNodes ran.script.commands.items) }
+    // Each may stand behind those before it.
+    ensures admitted { IfOk result (λ ran. AreAdmitted [] ran.script.commands.items) }
     // A line is the first bad one, or memory ran out, or the nodes gave up.
     ensures cause { IfErr result (IsThreadsFault text.now) }
 {

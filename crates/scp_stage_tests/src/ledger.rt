@@ -351,16 +351,20 @@ fn is_externalize(outgoing: &[Outgoing]) -> bool {
 }
 
 /// Whether it is by nodes 1 and 2, of the commit of number 1.
-fn is_by_both(decision: &SharedDecision) -> bool {
+fn is_by_both(alloc: Global, decision: &SharedDecision) -> Result<bool, Fault> {
     match &decision.origin {
         Origin::Machine { n, quorum, own } => {
-            *n == 1
-                && quorum.count() == 2
-                && quorum.contains(ME)
-                && quorum.contains(TWO)
-                && own.statement.node == ME
+            let nodes = quorum.nodes(alloc)?;
+            Ok(
+                *n == 1
+                    && nodes.as_slice() == [ME, TWO].as_slice()
+                    && quorum.count() == 2
+                    && quorum.contains(ME)
+                    && quorum.contains(TWO)
+                    && own.statement.node == ME,
+            )
         }
-        Origin::Named { .. } => false,
+        Origin::Named { .. } => Ok(false),
     }
 }
 
@@ -418,7 +422,10 @@ fn decides_by_both(alloc: Global) -> Result<bool, Fault> {
     };
     let is_right = took.verdict == Some(Fresh) && is_externalize(took.outgoing.as_slice());
     let is_one = ledger.decisions().len() == 1 && ledger.lowest() == 2;
-    Ok(is_right && is_one && ledger.decisions().iter().all(is_by_both))
+    match ledger.decisions().first() {
+        Some(decision) => Ok(is_right && is_one && is_by_both(alloc, decision)?),
+        None => Ok(false),
+    }
 }
 
 #[test]

@@ -64,34 +64,11 @@ use Rattle.scp_ledger.specs.contracts.state.State as ledger_state
 use Rattle.scp_ledger.specs.contracts.ledger.Ledger as ledger
 use Rattle.scp_ledger.specs.contracts.ledger.Ledger.TheInside as ledger_inside
 use Rattle.scp_outbox.specs.Crossing.{SharedCrosses}
-use Rattle.scp_apply.proofs.applier.Applier.TheSendSync as appliers
-use Rattle.scp_wire.proofs.link.LinkItem.TheSendSync as items
-use Rattle.scp_ledger.proofs.took.Onward.TheSendSync as onwards
 use Rattle.scp_gate.proofs.Counter.TheSendSync as counters
-use Rattle.scp_ends.proofs.ends.Tx.TheSendSync as txs
-use Rattle.scp_ends.proofs.ends.Rx.TheSendSync as rxs
-use Rattle.scp_ends.proofs.ends.Done.TheSendSync as dones
-use Rattle.scp_ends.proofs.ends.Nobody.TheSendSync as nobodies
-use Rattle.scp_ends.proofs.rule.Any.TheSendSync as anys
-use Rattle.scp_ends.proofs.window.InWindow.TheSendSync as in_windows
 use Rattle.scp_ends.proofs.tail.LinkTx.TheSendSync as tails
 use Rattle.scp_ends.proofs.tail.LinkDone.TheSendSync as tails_done
-use Rattle.scp_workers.specs.contracts.reading.ReaderWorker as reader_worker
-use Rattle.scp_workers.specs.contracts.reading.ReaderWorker.TheInside as reader_worker_inside
-use Rattle.scp_workers.specs.contracts.reading.ReaderEnded as reader_ended
-use Rattle.scp_workers.specs.contracts.reading.ReaderEnded.TheInside as reader_ended_inside
-use Rattle.scp_workers.specs.contracts.pend.PendWorker as pend_worker
-use Rattle.scp_workers.specs.contracts.pend.PendWorker.TheInside as pend_worker_inside
-use Rattle.scp_workers.specs.contracts.pend.PendEnded as pend_ended
-use Rattle.scp_workers.specs.contracts.pend.PendEnded.TheInside as pend_ended_inside
-use Rattle.scp_workers.specs.contracts.slot.SlotWorker as slot_worker
-use Rattle.scp_workers.specs.contracts.slot.SlotWorker.TheInside as slot_worker_inside
-use Rattle.scp_workers.specs.contracts.slot.SlotEnded as slot_ended
-use Rattle.scp_workers.specs.contracts.slot.SlotEnded.TheInside as slot_ended_inside
-use Rattle.scp_workers.specs.contracts.apply.ApplyWorker as apply_worker
-use Rattle.scp_workers.specs.contracts.apply.ApplyWorker.TheInside as apply_worker_inside
-use Rattle.scp_workers.specs.contracts.apply.ApplyEnded as apply_ended
-use Rattle.scp_workers.specs.contracts.apply.ApplyEnded.TheInside as apply_ended_inside
+use Rattle.scp_workers.specs.contracts.reading.ReadingStage as reading
+use Rattle.scp_workers.specs.contracts.slot.SlotStage as slots_stage
 use Rattle.scp_courier.specs.contracts.courier.Courier as courier
 use Rattle.scp_courier.specs.contracts.courier.Courier.TheInside as courier_inside
 use Rattle.scp_courier.specs.contracts.courier.CourierEnded as courier_ended
@@ -237,66 +214,28 @@ its_machine_send = machine_send (slot_state_send (nominator_send (nominating_sen
 pub its_ledger_send : IsSend (ledger.the_row driver.the_row ghosts)
 its_ledger_send = ledger_send (ledger_state_send its_sane_send its_sane_sync (fate_send its_message_send its_sane_send its_sane_sync) its_machine_send)
 
--- ---- the ends of channels, and the workers
+-- ---- the stages, and the couriers
 
-ruleset ends = (sendable, crosses, txs.the_send, rxs.the_send, dones.the_send, nobodies.the_send, anys.the_send, in_windows.the_send)
+reading_send : IsSend link_reader.the_row → IsSend reading.the_row
+reading_send l = declared_send reading.the_type (search sendable depth 20, (search sendable depth 20, tt))
 
-reader_worker_inside_send : IsSend inbound.the_row → IsSend link_reader.the_row → IsSend reader_worker_inside.the_row
-reader_worker_inside_send i l = declared_send reader_worker_inside.the_type (search (sendable, crosses) depth 20, (search (ends, items.the_send) depth 20, (search ends depth 20, (l, (counters.the_send, (search sendable depth 20, (search ends depth 20, tt)))))))
+pub its_reading_send : IsSend reading.the_row
+its_reading_send = reading_send its_link_reader_send
 
-pub reader_worker_send : IsSend reader_worker.the_row
-reader_worker_send = view_send _ _ _ _ _ (reader_worker_inside_send its_inbound_send its_link_reader_send)
+slots_send : IsSend (ledger.the_row driver.the_row ghosts) → IsSend slots_stage.the_row
+slots_send l = declared_send slots_stage.the_type (search sendable depth 20, (search (sendable, crosses, command_fates.the_send) depth 20, tt))
 
-reader_ended_inside_send : IsSend inbound.the_row → IsSend reader_ended_inside.the_row
-reader_ended_inside_send i = declared_send reader_ended_inside.the_type (search (ends, items.the_send) depth 20, (search ends depth 20, (search ends depth 20, tt)))
-
-pub reader_ended_send : IsSend reader_ended.the_row
-reader_ended_send = view_send _ _ _ _ _ (reader_ended_inside_send its_inbound_send)
-
-pend_worker_inside_send : SharedCrosses → IsSend inbound.the_row → IsSend ready.the_row → IsSend pending.the_row → IsSend sane.the_row → IsSync sane.the_row → IsSend pend_worker_inside.the_row
-pend_worker_inside_send o i r p s y = declared_send pend_worker_inside.the_type (search ends depth 20, (search ends depth 20, (p, ((let send = o.send in let sync = o.sync in search (sendable, crosses) depth 20), (nodes.the_send, (search (sendable, crosses) depth 20, (search (sendable, crosses) depth 20, (search sendable depth 20, (search sendable depth 20, (counters.the_send, (search sendable depth 20, (search ends depth 20, tt))))))))))))
-
-pub pend_worker_send : SharedCrosses → IsSend pend_worker.the_row
-pend_worker_send o = view_send _ _ _ _ _ (pend_worker_inside_send o its_inbound_send its_ready_send its_pending_send its_sane_send its_sane_sync)
-
-pend_ended_inside_send : IsSend inbound.the_row → IsSend ready.the_row → IsSend pending.the_row → IsSend pend_ended_inside.the_row
-pend_ended_inside_send i r p = declared_send pend_ended_inside.the_type (search ends depth 20, (search ends depth 20, (p, (search ends depth 20, tt))))
-
-pub pend_ended_send : IsSend pend_ended.the_row
-pend_ended_send = view_send _ _ _ _ _ (pend_ended_inside_send its_inbound_send its_ready_send its_pending_send)
-
-slot_worker_inside_send : SharedCrosses → IsSend ready.the_row → IsSend (ledger.the_row driver.the_row ghosts) → IsSend sane.the_row → IsSync sane.the_row → IsSend slot_worker_inside.the_row
-slot_worker_inside_send o r l s y = declared_send slot_worker_inside.the_type (search ends depth 20, (search (ends, onwards.the_send) depth 20, (l, (search (sendable, crosses, command_fates.the_send) depth 20, ((let send = o.send in let sync = o.sync in search (sendable, crosses) depth 20), (nodes.the_send, (search (sendable, crosses) depth 20, (search (sendable, crosses) depth 20, (counters.the_send, (search sendable depth 20, (search ends depth 20, tt)))))))))))
-
-pub slot_worker_send : SharedCrosses → IsSend slot_worker.the_row
-slot_worker_send o = view_send _ _ _ _ _ (slot_worker_inside_send o its_ready_send its_ledger_send its_sane_send its_sane_sync)
-
-slot_ended_inside_send : IsSend ready.the_row → IsSend (ledger.the_row driver.the_row ghosts) → IsSend slot_ended_inside.the_row
-slot_ended_inside_send r l = declared_send slot_ended_inside.the_type (search ends depth 20, (search (ends, onwards.the_send) depth 20, (l, (search (sendable, crosses, command_fates.the_send) depth 20, (search ends depth 20, tt)))))
-
-pub slot_ended_send : IsSend slot_ended.the_row
-slot_ended_send = view_send _ _ _ _ _ (slot_ended_inside_send its_ready_send its_ledger_send)
-
-apply_worker_inside_send : SharedCrosses → IsSend apply_worker_inside.the_row
-apply_worker_inside_send o = declared_send apply_worker_inside.the_type (search (ends, onwards.the_send) depth 20, (appliers.the_send, ((let send = o.send in let sync = o.sync in search (sendable, crosses) depth 20), (counters.the_send, (search sendable depth 20, (search ends depth 20, tt))))))
-
-pub apply_worker_send : SharedCrosses → IsSend apply_worker.the_row
-apply_worker_send o = view_send _ _ _ _ _ (apply_worker_inside_send o)
-
-apply_ended_inside_send : IsSend apply_ended_inside.the_row
-apply_ended_inside_send = declared_send apply_ended_inside.the_type (search (ends, onwards.the_send) depth 20, (appliers.the_send, (search sendable depth 20, (search ends depth 20, tt))))
-
-pub apply_ended_send : IsSend apply_ended.the_row
-apply_ended_send = view_send _ _ _ _ _ apply_ended_inside_send
+pub its_slots_send : IsSend slots_stage.the_row
+its_slots_send = slots_send its_ledger_send
 
 courier_inside_send : SharedCrosses → IsSend courier_inside.the_row
-courier_inside_send o = declared_send courier_inside.the_type (search (sendable, crosses) depth 20, ((let send = o.send in let sync = o.sync in search (sendable, crosses) depth 20), (tails.the_send, (counters.the_send, (search sendable depth 20, tt)))))
+courier_inside_send o = declared_send courier_inside.the_type (search (sendable, crosses) depth 20, ((let send = o.send in let sync = o.sync in search (sendable, crosses) depth 20), (tails.the_send, (search (sendable, crosses) depth 20, (counters.the_send, (search sendable depth 20, tt))))))
 
 pub courier_send : SharedCrosses → IsSend courier.the_row
 courier_send o = view_send _ _ _ _ _ (courier_inside_send o)
 
 courier_ended_inside_send : IsSend courier_ended_inside.the_row
-courier_ended_inside_send = declared_send courier_ended_inside.the_type (search (sendable, crosses, tails_done.the_send) depth 20, (search sendable depth 20, (search sendable depth 20, tt)))
+courier_ended_inside_send = declared_send courier_ended_inside.the_type (search (sendable, crosses, tails_done.the_send) depth 20, (search (sendable, crosses) depth 20, (search sendable depth 20, (search sendable depth 20, tt))))
 
 pub courier_ended_send : IsSend courier_ended.the_row
 courier_ended_send = view_send _ _ _ _ _ courier_ended_inside_send

@@ -1,5 +1,5 @@
 -- The links of a node, one more at a time.
-use Rattle.std.proofs.Common.{◌≡◌, ◌∙◌, ℕ, Bool, ap, sym, refl, subst, List, [], ◌∷◌, ◌++◌, length, Option, Some, is_none}
+use Rattle.std.proofs.Common.{◌≡◌, ◌∙◌, ℕ, Bool, ap, sym, subst, List, [], ◌∷◌, ◌++◌, length, Option, Some, is_none}
 use Rattle.std.specs.Prelude.{slice_get}
 use Rattle.scp_types.specs.declared.names.NodeId.{NodeId}
 use Rattle.scp_wire.specs.declared.link.Inbound.{Inbound}
@@ -11,8 +11,8 @@ use Rattle.scp_threaded_node.specs.Seats.{IsLane, AreLanes, AreUnused, AreRunnin
 use Rattle.scp_threaded_node.specs.Sources.{AreSources}
 use Rattle.scp_threaded_node.proofs.Lists.{some_is, each_front, each_last, each_push}
 
-pub lanes_more : (me : NodeId) (peers : List NodeId) (inbox : Line Inbound) (xs new : List Lane) (x : Lane) (peer : NodeId) → new ≡ xs ++ x ∷ [] → slice_get peers (length xs) ≡ Some peer → IsLane me peer inbox (length xs) x.tail x.reader → AreLanes me peers inbox xs → AreLanes me peers inbox new
-lanes_more me peers inbox xs new x peer is at lane all = each_push _ xs new x is all (λ p h. subst (λ q. IsLane me q inbox (length xs) x.tail x.reader) (some_is peer p (sym at ∙ h)) lane)
+pub lanes_more : (me : NodeId) (peers : List NodeId) (inbox : Line Inbound) (room : ℕ) (xs new : List Lane) (x : Lane) (peer : NodeId) → new ≡ xs ++ x ∷ [] → slice_get peers (length xs) ≡ Some peer → IsLane me peer inbox room (length xs) x.tail x.reader → AreLanes me peers inbox room xs → AreLanes me peers inbox room new
+lanes_more me peers inbox room xs new x peer is at lane all = each_push _ xs new x is all (λ p h. subst (λ q. IsLane me q inbox room (length xs) x.tail x.reader) (some_is peer p (sym at ∙ h)) lane)
 
 pub unused_more : (xs new : List Lane) (x : Lane) → new ≡ xs ++ x ∷ [] → x.tail.tail.sent ≡ [] → AreUnused xs → AreUnused new
 unused_more xs new x is unused all = each_push _ xs new x is all unused
@@ -23,13 +23,13 @@ unused_front front whole last is all = each_front _ front whole last is all
 pub unused_last : (front whole : List Lane) (last : Lane) → whole ≡ front ++ last ∷ [] → AreUnused whole → last.tail.tail.sent ≡ []
 unused_last front whole last is all = each_last _ front whole last is all
 
-pub lanes_front : (me : NodeId) (peers : List NodeId) (inbox : Line Inbound) (front whole : List Lane) (last : Lane) → whole ≡ front ++ last ∷ [] → AreLanes me peers inbox whole → AreLanes me peers inbox front
-lanes_front me peers inbox front whole last is all = each_front _ front whole last is all
+pub lanes_front : (me : NodeId) (peers : List NodeId) (inbox : Line Inbound) (room : ℕ) (front whole : List Lane) (last : Lane) → whole ≡ front ++ last ∷ [] → AreLanes me peers inbox room whole → AreLanes me peers inbox room front
+lanes_front me peers inbox room front whole last is all = each_front _ front whole last is all
 
-pub running_more : (me : NodeId) (peers : List NodeId) (inbox : Line Inbound) (front whole : List Lane) (last : Lane) (xs new : List Running) (x : Running)
+pub running_more : (me : NodeId) (peers : List NodeId) (inbox : Line Inbound) (room : ℕ) (front whole : List Lane) (last : Lane) (xs new : List Running) (x : Running)
     → whole ≡ front ++ last ∷ [] → new ≡ xs ++ x ∷ [] → length xs ≡ length front → tail_of x.tail ≡ last.tail → x.reader.promise.0.value ≡ last.reader
-    → AreLanes me peers inbox whole → AreRunning me peers inbox xs → AreRunning me peers inbox new
-running_more me peers inbox front whole last xs new x is_lanes is_new len tail reader lanes running =
+    → AreLanes me peers inbox room whole → AreRunning me peers inbox room xs → AreRunning me peers inbox room new
+running_more me peers inbox room front whole last xs new x is_lanes is_new len tail reader lanes running =
     each_push _ xs new x is_new running (λ peer at. rw (len, tail, reader) (each_last _ front whole last is_lanes lanes peer (ap (slice_get peers) (sym len) ∙ at)))
 
 pub sources_front : (driven : ℕ → Bool) (front whole : List (Option Source)) (last : Option Source) → whole ≡ front ++ last ∷ [] → AreSources driven whole → AreSources driven front

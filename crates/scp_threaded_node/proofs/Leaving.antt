@@ -1,6 +1,7 @@
 -- What the threads of a node left is of its channels.
-use Rattle.std.proofs.Common.{◌≡◌, ◌∙◌, ℕ, ◌+◌, Bool, ap, sym, refl, subst, List, [], ◌∷◌, ◌++◌, length, ◌⊎◌, inl, inr, arith}
-use Rattle.std.specs.Prelude.{Option, Some, None, Result, Ok, IfOk, IfSome, slice_get}
+use Rattle.std.proofs.Common.{◌≡◌, ◌∙◌, ℕ, suc, ◌+◌, Bool, true, false, ap, sym, refl, subst, List, [], ◌∷◌, ◌++◌, length, ◌⊎◌, inl, inr, arith}
+use Rattle.std.specs.Prelude.{Option, Some, Result, Ok, IfOk, IfSome, slice_get}
+use Rattle.std.specs.List.{AllByRecursion}
 use Rattle.std.proofs.lemmas.List.{length-append}
 use Rattle.std.proofs.lemmas.Option.{slice_get_within}
 use Rattle.scp_types.specs.declared.fault.Fault.{Fault}
@@ -10,69 +11,110 @@ use Rattle.scp_wire.specs.declared.link.Inbound.{Inbound}
 use Rattle.scp_wire.specs.declared.link.LinkItem.{LinkItem}
 use Rattle.scp_ends.specs.Ends.{Line, Sender}
 use Rattle.scp_ends.specs.Links.{LinkEnd}
+use Rattle.scp_pending.specs.declared.ready.Ready.{Ready}
+use Rattle.scp_pending.specs.Rules.{PendingView}
+use Rattle.scp_ledger.specs.declared.took.Onward.{Onward}
+use Rattle.scp_workers.specs.declared.slot.SlotStage.{SlotStage}
 use Rattle.scp_workers.specs.Reading.{ReaderEnd}
-use Rattle.scp_workers.specs.Reading as reading
+use Rattle.scp_workers.specs.Pending.{IsFor as PendsFor}
+use Rattle.scp_workers.specs.Slot.{IsFor as JournalsFor}
+use Rattle.scp_workers.specs.Working.{End, Work, Holds, IsLeftOf}
 use Rattle.scp_courier.specs.Carrying.{IsSameLink}
 use Rattle.scp_gather.specs.Left.{Left}
 use Rattle.scp_pending.specs.Peers.{AreApart}
 use Rattle.scp_gather.specs.Node.{IsLinkAt, IsNode}
-use Rattle.scp_gather.specs.Report.{IsJoined, AreJoined}
+use Rattle.scp_gather.specs.Report.{IsJoined, AreJoined, SendsTo}
 use Rattle.scp_threaded_node.specs.declared.ending.Stood.{Stood}
 use Rattle.scp_threaded_node.specs.declared.node.Node.{Node}
 use Rattle.scp_threaded_node.specs.declared.node.Running.{Running}
-use Rattle.scp_threaded_node.specs.Seats.{IsLane, IsDriven, AreDriven, Runs, tail_of}
-use Rattle.scp_threaded_node.specs.Ended.{IsSentBy, AreSentBy}
+use Rattle.scp_script.specs.declared.command.Capacities.{Capacities}
+use Rattle.scp_threaded_node.specs.Seats.{IsLane, IsDriven, AreDriven, Runs, SendsAs, tail_of}
+use Rattle.scp_threaded_node.specs.Ended.{IsSentBy, AreSentBy, AreSized}
 use Rattle.scp_threaded_node.specs.inside.Left.{IsLaneOf, AreEndsOf, IsLeft}
 use Rattle.scp_threaded_node.proofs.Lists.{each_front, each_last, each_push, push_cases, some_is, there_is}
 
-if_some : {T : Type 0} {P Q : T → Type 0} (o : Option T) → ((x : T) → P x → Q x) → IfSome o P → IfSome o Q
-if_some None f h = tt
-if_some (Some x) f h = f x h
+-- ---- a worker's sending end
+
+module _ {T U S : Type 0} (line : Line U) (n : ℕ) (w : Work T U S) (e : End T U S) where
+  -- where its end was heard, what it left sends as it sent
+  left_one : (unheard : Bool) → unheard ≡ false → SendsAs line n w → IsLeftOf unheard w.output e.output → (t : Sender U) × (e.output ≡ Some t) × (t.line ≡ line) × (t.number ≡ n)
+  left_one true heard sends left = cc
+  left_one false heard sends left =
+      let same = subst (λ (o : Option (Sender U)). IsLeftOf false o e.output) sends.1 left in
+      (same.0, same.1, same.2.0 ∙ sends.2, same.2.1 ∙ sends.3)
+
+  -- whatever it left has that number
+  number_of : (unheard : Bool) → SendsAs line n w → IsLeftOf unheard w.output e.output → IfSome e.output (λ s. s.number ≡ n)
+  number_of true sends left = subst (λ (o : Option (Sender U)). IfSome o (λ s. s.number ≡ n)) (sym left) tt
+  number_of false sends left =
+      let same = subst (λ (o : Option (Sender U)). IsLeftOf false o e.output) sends.1 left in
+      subst (λ (o : Option (Sender U)). IfSome o (λ s. s.number ≡ n)) (sym same.1) (same.2.1 ∙ sends.3)
+
+  sends_to : SendsAs line n w → Holds w e → SendsTo line e
+  sends_to sends holds = λ heard. let t = left_one e.unheard heard sends holds.output in (t.0, t.1, t.2)
 
 -- ---- a node that ran, and what its threads left
 
-module _ (me peer : NodeId) (inbox : Line Inbound) (place : ℕ) (x : Running) (r : ReaderEnd) (k : LinkEnd) where
-  lane_joined : IsLaneOf x r k → IsLane me peer inbox place (tail_of x.tail) x.reader.promise.0.value → IsJoined inbox k r
-  lane_joined of lane = (of.link.line ∙ (lane.line ∙ sym of.reader.input), if_some r.output (λ s h. h.0 ∙ lane.goes_to) of.reader.output)
+module _ (me peer : NodeId) (inbox : Line Inbound) (room place : ℕ) (x : Running) (r : ReaderEnd) (k : LinkEnd) where
+  lane_joined : IsLaneOf x r k → IsLane me peer inbox room place (tail_of x.tail) x.reader.promise.0.value → IsJoined inbox k r
+  lane_joined of lane = (of.link.line ∙ (lane.line ∙ sym of.reader.input.line), sends_to inbox place x.reader.promise.0.value r lane.goes_to of.reader)
 
-  lane_at : IsLaneOf x r k → IsLane me peer inbox place (tail_of x.tail) x.reader.promise.0.value → IsLinkAt me peer place k r
+  lane_at : IsLaneOf x r k → IsLane me peer inbox room place (tail_of x.tail) x.reader.promise.0.value → IsLinkAt me peer place k r
   lane_at of lane = record {
     from = of.link.from ∙ lane.from;
     to = of.link.to ∙ lane.to;
-    alone = of.reader.producers ∙ lane.alone;
-    number = if_some r.output (λ s h. h.1 ∙ lane.number) of.reader.output;
+    alone = of.reader.input.producers ∙ lane.alone;
+    number = number_of inbox place x.reader.promise.0.value r r.unheard lane.goes_to of.reader.output;
   }
 
-module _ (me : NodeId) (set : QuorumTree) (peers : List NodeId) (node : Node) (e : Left) where
+all_by : {X : Type 0} (P : X → Type 0) (xs : List X) → ((i : ℕ) (x : X) → slice_get xs i ≡ Some x → P x) → AllByRecursion P xs
+all_by P [] f = tt
+all_by P (x ∷ xs) f = (f 0 x refl, all_by P xs (λ i y h. f (suc i) y h))
+
+module _ (me : NodeId) (set : QuorumTree) (peers : List NodeId) (caps : Capacities) (node : Node) (e : Left) where
   -- what sends is of the channel of what receives
-  pub joined : Runs me set peers node → IsLeft node e → AreJoined e
+  pub joined : Runs me set peers caps node → IsLeft node e → AreJoined e
   joined runs left = record {
     links = λ l k hk r hr.
         let within = slice_get_within e.links l k hk in
         let lane = there_is node.lanes.items l (omega (arith, within, left.lanes.links_count)) in
         let peer = there_is peers l (omega (arith, within, left.lanes.links_count, runs.count)) in
-        subst (λ (line : Line Inbound). IsJoined line k r) (sym left.pend.input)
-        (lane_joined me peer.0 node.pend.promise.0.value.input.line l lane.0 r k (left.lanes.each l lane.0 lane.1 r hr k hk) (runs.lanes l lane.0 lane.1 peer.0 peer.1));
-    local = ap (λ (s : Sender Inbound). s.line) left.local ∙ (runs.local.0 ∙ sym left.pend.input);
-    ready = if_some e.pend.output (λ s h. h.0 ∙ (runs.stages.ready.0 ∙ sym left.slot.input)) left.pend.output;
-    decided = if_some e.slot.output (λ s h. h.0 ∙ (runs.stages.decided.0 ∙ sym left.apply.input)) left.slot.output;
+        subst (λ (line : Line Inbound). IsJoined line k r) (sym left.pend.input.line)
+        (lane_joined me peer.0 node.pend.promise.0.value.input.line caps.link l lane.0 r k (left.lanes.each l lane.0 lane.1 r hr k hk) (runs.lanes l lane.0 lane.1 peer.0 peer.1));
+    local = ap (λ (s : Sender Inbound). s.line) left.local ∙ (runs.local.0 ∙ sym left.pend.input.line);
+    ready = subst (λ (line : Line Ready). SendsTo line e.pend) (sym left.slot.input.line) (sends_to node.slot.promise.0.value.input.line 0 node.pend.promise.0.value e.pend runs.stages.ready.0 left.pend);
+    decided = subst (λ (line : Line Onward). SendsTo line e.slot) (sym left.apply.input.line) (sends_to node.apply.promise.0.value.input.line 0 node.slot.promise.0.value e.slot runs.stages.decided.0 left.slot);
   }
 
   -- what was left is of the channels of the node
-  pub is_node : AreApart peers → Runs me set peers node → IsLeft node e → IsNode me set peers e
+  pub is_node : AreApart peers → Runs me set peers caps node → IsLeft node e → IsNode me set peers e
   is_node apart runs left = record {
     apart = apart;
     links_count = left.lanes.links_count ∙ runs.count;
     readers_count = left.lanes.readers_count ∙ runs.count;
     lanes = λ l peer hp k hk r hr.
         let lane = there_is node.lanes.items l (omega (arith, slice_get_within e.links l k hk, left.lanes.links_count)) in
-        lane_at me peer node.pend.promise.0.value.input.line l lane.0 r k (left.lanes.each l lane.0 lane.1 r hr k hk) (runs.lanes l lane.0 lane.1 peer hp);
+        lane_at me peer node.pend.promise.0.value.input.line caps.link l lane.0 r k (left.lanes.each l lane.0 lane.1 r hr k hk) (runs.lanes l lane.0 lane.1 peer hp);
     local_number = ap (λ (s : Sender Inbound). s.number) left.local ∙ runs.local.1;
-    inbox = left.pend.producers ∙ runs.stages.producers;
-    ready = left.slot.producers ∙ runs.stages.ready.2;
-    decided = left.apply.producers ∙ runs.stages.decided.2;
-    pends_for = if_some e.pend.output (λ s h. record { me_is = h.me_is ∙ runs.stages.pend_of.0; peers_are = h.peers_are ∙ runs.stages.pend_of.1; local_is = h.local_is ∙ runs.stages.pend_of.2 }) left.pend.node;
-    journals_for = if_some e.slot.output (λ s h. record { me_is = h.me_is ∙ runs.stages.slot_of.0; peers_are = h.peers_are ∙ runs.stages.slot_of.1; local_is = h.local_is ∙ runs.stages.slot_of.2 }) left.slot.node;
+    inbox = left.pend.input.producers ∙ runs.stages.producers;
+    ready = left.slot.input.producers ∙ runs.stages.ready.1;
+    decided = left.apply.input.producers ∙ runs.stages.decided.1;
+    pends_for = subst (λ (v : PendingView). PendsFor me peers set v) (sym left.pend.first) runs.stages.pend_of;
+    journals_for = subst (λ (s : SlotStage). JournalsFor me peers set s.ledger) (sym left.slot.first) runs.stages.slot_of;
+  }
+
+  -- and each has the room of its channel
+  pub sized : Runs me set peers caps node → IsLeft node e → AreSized caps e
+  sized runs left = record {
+    links = all_by (λ (r : ReaderEnd). r.input.room ≡ caps.link) e.readers (λ l r hr.
+        let within = slice_get_within e.readers l r hr in
+        let lane = there_is node.lanes.items l (omega (arith, within, left.lanes.readers_count)) in
+        let k = there_is e.links l (omega (arith, within, left.lanes.readers_count, left.lanes.links_count)) in
+        let peer = there_is peers l (omega (arith, within, left.lanes.readers_count, runs.count)) in
+        (left.lanes.each l lane.0 lane.1 r hr k.0 k.1).reader.input.room ∙ (runs.lanes l lane.0 lane.1 peer.0 peer.1).room_is);
+    inbox = left.pend.input.room ∙ runs.stages.rooms.0;
+    ready = left.slot.input.room ∙ runs.stages.rooms.1;
+    decided = left.apply.input.room ∙ runs.stages.rooms.2;
   }
 
 -- ---- one link more
@@ -116,7 +158,7 @@ module _ (lanes front : List Running) (last : Running) (is : lanes ≡ front ++ 
 
   -- the same where the last link's sending end may be lost, but isn't
   pub left_more : (r : ReaderEnd) (link : Result LinkEnd Fault) (k : LinkEnd) → link ≡ Ok k → (readers2 : List ReaderEnd) → readers2 ≡ readers ++ r ∷ [] → (links2 : List LinkEnd) → links2 ≡ links ++ k ∷ []
-      → AreEndsOf front readers links → reading.HoldsEnds last.reader.promise.0.value r → IfOk link (IsSameLink (tail_of last.tail)) → AreEndsOf lanes readers2 links2
+      → AreEndsOf front readers links → Holds last.reader.promise.0.value r → IfOk link (IsSameLink (tail_of last.tail)) → AreEndsOf lanes readers2 links2
   left_more r link k there readers2 e links2 f ends holds same =
       subst (λ (rs : List ReaderEnd). AreEndsOf lanes rs links2) (sym e)
       (subst (λ (ks : List LinkEnd). AreEndsOf lanes (readers ++ r ∷ []) ks) (sym f)

@@ -4,3 +4,5 @@ mod Crossing
 mod Lanes
 mod Rooms
 mod Told
+pub mod Changing
+pub mod Staying

@@ -1,6 +1,6 @@
 -- What the links of a node ended with, one more at a time, and what is told of it.
-use Rattle.std.proofs.Common.{◌≡◌, ◌∙◌, ℕ, zero, suc, ◌+◌, ◌≤◌, Bool, true, false, ap, sym, refl, subst, List, [], ◌∷◌, ◌++◌, length, Option, Some, None, ◌⊎◌, inl, inr, ⊎_elim, Result, Ok, Err, IfErr, IsOkUnless, arith}
-use Rattle.std.specs.Prelude.{◌||◌, ◌↔◌, IsErrOf, IfOk, IfSome, MatchResult, is_none, not, slice_get, option_map}
+use Rattle.std.proofs.Common.{◌≡◌, ◌∙◌, ℕ, ◌+◌, Bool, true, false, ap, sym, refl, subst, List, [], ◌∷◌, ◌++◌, length, Option, Some, None, ◌⊎◌, inl, inr, ⊎_elim, Result, Ok, Err, IfErr, IsOkUnless, arith}
+use Rattle.std.specs.Prelude.{◌||◌, ◌↔◌, IsErrOf, IfOk, IfSome, MatchResult, slice_get, option_map}
 use Rattle.std.specs.List.{list_any}
 use Rattle.std.specs.Option.{option_or}
 use Rattle.std.specs.Result.{result_err}
@@ -12,13 +12,10 @@ use Rattle.scp_types.specs.declared.fault.Stage.{Stage}
 use Rattle.scp_types.specs.declared.fault.Stage.TheVariants.{Reader}
 use Rattle.scp_ends.specs.Links.{LinkEnd}
 use Rattle.scp_workers.specs.Reading.{ReaderEnd}
-use Rattle.scp_workers.specs.Reading as reading
+use Rattle.scp_workers.specs.Working.{Holds}
 use Rattle.scp_workers.specs.Pending.{PendEnd}
-use Rattle.scp_workers.specs.Pending as pending
 use Rattle.scp_workers.specs.Slot.{SlotEnd}
-use Rattle.scp_workers.specs.Slot as slotting
 use Rattle.scp_workers.specs.Apply.{ApplyEnd}
-use Rattle.scp_workers.specs.Apply as applying
 use Rattle.scp_wire.specs.declared.link.Inbound.{Inbound}
 use Rattle.scp_ends.specs.Ends.{Sender}
 use Rattle.scp_gather.specs.Left.{Left}
@@ -27,7 +24,7 @@ use Rattle.scp_gather.specs.Report.{has_failed, first_so}
 use Rattle.scp_threaded_node.specs.declared.ending.Stood.{Stood}
 use Rattle.scp_threaded_node.specs.declared.node.Running.{Running}
 use Rattle.scp_threaded_node.specs.declared.node.Tail.TheVariants.{Script}
-use Rattle.scp_threaded_node.specs.Faults.{driven, LaneEnd, NodeEnd, IsLaneEnd, AreLaneEnds, IsNodeEnd, IsTold, is_unread, tail_fault, links_fault, local_fault, stage_failed, fault_by, fault_of}
+use Rattle.scp_threaded_node.specs.Faults.{driven, LaneEnd, NodeEnd, IsLaneEnd, IsNodeEnd, IsTold, is_unread, tail_fault, links_fault, local_fault, fault_by, fault_of}
 use Rattle.scp_threaded_node.specs.inside.Ending.{HasTailFault, HaveEnded, IsLeftOf}
 use Rattle.scp_threaded_node.proofs.Lists.{push_cases}
 
@@ -74,7 +71,7 @@ readers_more readers readers2 r failed failed2 is told before =
     ∙ sym told
 
 pub ended_more : (lanes front : List Running) (last : Running) (stood : List Stood) (st : Stood) (r : ReaderEnd) (failed failed2 : Bool) (why why2 link : Option Fault)
-    → lanes ≡ front ++ last ∷ [] → slice_get stood (length front) ≡ Some st → reading.HoldsEnds last.reader.promise.0.value r → HasTailFault last.tail st link
+    → lanes ≡ front ++ last ∷ [] → slice_get stood (length front) ≡ Some st → Holds last.reader.promise.0.value r → HasTailFault last.tail st link
     → failed2 ≡ (failed || has_failed r) → why2 ≡ option_or why link → HaveEnded front stood failed why → HaveEnded lanes stood failed2 why2
 ended_more lanes front last stood st r failed failed2 why why2 link is at holds tail told_failed told_why have = record {
   ends = have.ends ++ e ∷ [];
@@ -140,10 +137,10 @@ same_first a a2 b b2 c c2 d d2 p q r s = ap (λ (x : Bool). first_so x b c d) p 
 
 -- what is left of a node that was stopped, and what is told of it
 pub stopped_told : (node : Node) (stood : List Stood) (failed lost : Bool) (why : Option Fault) (readers : List ReaderEnd) (links : List LinkEnd) (own : Option (Sender Inbound)) (pend : PendEnd) (slot : SlotEnd) (apply : ApplyEnd) (r : Result Left Fault)
-    → HaveEnded node.lanes.items stood failed why → IfSome own (λ s. s ≡ node.local) → pending.HoldsEnds node.pend.promise.0.value pend → slotting.HoldsEnds node.slot.promise.0.value slot → applying.HoldsEnds node.apply.promise.0.value apply
+    → HaveEnded node.lanes.items stood failed why → IfSome own (λ s. s ≡ node.local) → Holds node.pend.promise.0.value pend → Holds node.slot.promise.0.value slot → Holds node.apply.promise.0.value apply
     → (lost ≡ false → why ≡ None → list_any has_failed readers ≡ failed)
     → IfOk r (λ e. (lost ≡ false) × (own ≡ Some e.local) × (e.readers ≡ readers) × (e.links ≡ links) × (e.pend ≡ pend) × (e.slot ≡ slot) × (e.apply ≡ apply))
-    → MatchResult r (λ _. why ≡ None) (IsTold (fault_by (first_so failed (is_none pend.output) (is_none slot.output) (not apply.well)) why (local_fault own)))
+    → MatchResult r (λ _. why ≡ None) (IsTold (fault_by (first_so failed (has_failed pend) (has_failed slot) (has_failed apply)) why (local_fault own)))
     → (x : NodeEnd) × IsNodeEnd node stood x × MatchResult r (IsLeftOf x) (IsTold (fault_of x))
 stopped_told node stood failed lost why readers links own pend slot apply r have local_is pend_is slot_is apply_is same all told =
     (x, record { lanes = have.are; local = local_is; pend = pend_is; slot = slot_is; apply = apply_is }, by r all told)
@@ -152,16 +149,16 @@ stopped_told node stood failed lost why readers links own pend slot apply r have
     x = record { lanes = have.ends; local = own; pend = pend; slot = slot; apply = apply }
 
     by : (r : Result Left Fault) → IfOk r (λ e. (lost ≡ false) × (own ≡ Some e.local) × (e.readers ≡ readers) × (e.links ≡ links) × (e.pend ≡ pend) × (e.slot ≡ slot) × (e.apply ≡ apply))
-        → MatchResult r (λ _. why ≡ None) (IsTold (fault_by (first_so failed (is_none pend.output) (is_none slot.output) (not apply.well)) why (local_fault own)))
+        → MatchResult r (λ _. why ≡ None) (IsTold (fault_by (first_so failed (has_failed pend) (has_failed slot) (has_failed apply)) why (local_fault own)))
         → MatchResult r (IsLeftOf x) (IsTold (fault_of x))
     by (Ok e) kept none = (
-      same_first (list_any has_failed e.readers) (list_any is_unread have.ends) (is_none e.pend.output) (is_none pend.output) (is_none e.slot.output) (is_none slot.output) (not e.apply.well) (not apply.well)
+      same_first (list_any has_failed e.readers) (list_any is_unread have.ends) (has_failed e.pend) (has_failed pend) (has_failed e.slot) (has_failed slot) (has_failed e.apply) (has_failed apply)
           (ap (λ (rs : List ReaderEnd). list_any has_failed rs) kept.2 ∙ same kept.0 none ∙ have.failed_is)
-          (ap (λ (p : PendEnd). is_none p.output) kept.4)
-          (ap (λ (s : SlotEnd). is_none s.output) kept.5)
-          (ap (λ (a : ApplyEnd). not a.well) kept.6),
+          (ap (λ (p : PendEnd). has_failed p) kept.4)
+          (ap (λ (s : SlotEnd). has_failed s) kept.5)
+          (ap (λ (a : ApplyEnd). has_failed a) kept.6),
       ap (λ (o : Option Fault). fault_by None o (local_fault own)) (sym have.why_is ∙ none) ∙ ap (λ (l : Option (Sender Inbound)). fault_by None None (local_fault l)) kept.1,
     )
     by (Err f) kept told2 =
-        subst (λ (b : Bool). IsTold (fault_by (first_so b (is_none pend.output) (is_none slot.output) (not apply.well)) (links_fault have.ends) (local_fault own)) f) have.failed_is
-        (subst (λ (o : Option Fault). IsTold (fault_by (first_so failed (is_none pend.output) (is_none slot.output) (not apply.well)) o (local_fault own)) f) have.why_is told2)
+        subst (λ (b : Bool). IsTold (fault_by (first_so b (has_failed pend) (has_failed slot) (has_failed apply)) (links_fault have.ends) (local_fault own)) f) have.failed_is
+        (subst (λ (o : Option Fault). IsTold (fault_by (first_so failed (has_failed pend) (has_failed slot) (has_failed apply)) o (local_fault own)) f) have.why_is told2)

@@ -1,5 +1,6 @@
 -- What is told of a node when it has ended.
 use Rattle.std.specs.Prelude.{◌≡◌, ℕ, Bool, true, false, List, length, slice_get, Some}
+use Rattle.std.specs.List.{AllByRecursion}
 use Rattle.scp_types.specs.declared.names.NodeId.{NodeId}
 use Rattle.scp_quorum.specs.QuorumTree.{QuorumTree}
 use Rattle.scp_wire.specs.declared.link.Inbound.{Inbound}
@@ -9,6 +10,7 @@ use Rattle.scp_courier.specs.Carrying.{IsCarried}
 use Rattle.scp_gather.specs.declared.gathering.NodeReport.{NodeReport}
 use Rattle.scp_gather.specs.Left.{Left}
 use Rattle.scp_gather.specs.Report.{IsReportOf, AreFatesOf}
+use Rattle.scp_script.specs.declared.command.Capacities.{Capacities}
 use Rattle.scp_threaded_node.specs.declared.ending.Stood.{Stood}
 use Rattle.scp_threaded_node.specs.Seats.{Each}
 
@@ -22,11 +24,20 @@ IsSentBy false sent stood k = IsCarried stood.lives stood.is_open k
 abbrev pub AreSentBy : (ℕ → Bool) → (ℕ → List LinkItem) → List Stood → List LinkEnd → Type 0
 AreSentBy driven sent stood links = Each (λ i k. (st : Stood) → slice_get stood i ≡ Some st → IsSentBy (driven i) (sent i) st k) links
 
--- It is the report of a node of these peers, gathered from what its threads left, a link for each peer. Its own commands were these, of which
--- became what it tells, and so was all that went over the links that the script drives.
-pub record IsEnded (me : NodeId) (set : QuorumTree) (peers : List NodeId) (commands : List Inbound) (driven : ℕ → Bool) (sent : ℕ → List LinkItem) (stood : List Stood) (r : NodeReport) : Type 0 where
+-- each channel of the node has as much room as the capacities say
+pub record AreSized (caps : Capacities) (e : Left) : Type 0 where
+  pub links : AllByRecursion (λ r. r.input.room ≡ caps.link) e.readers
+  pub inbox : e.pend.input.room ≡ caps.inbox
+  pub ready : e.slot.input.room ≡ caps.ready
+  pub decided : e.apply.input.room ≡ caps.decided
+
+-- It is the report of a node of these peers, gathered from what its threads left, a link for each peer, and channels of these capacities, each of
+-- which held no more than that. Its own commands were these, of which became what it tells, and so was all that went over the links that
+-- the script drives.
+pub record IsEnded (me : NodeId) (set : QuorumTree) (peers : List NodeId) (caps : Capacities) (commands : List Inbound) (driven : ℕ → Bool) (sent : ℕ → List LinkItem) (stood : List Stood) (r : NodeReport) : Type 0 where
   pub left : Left
   pub report : IsReportOf me set peers left r.journal.items r.parked.items r.applied.items r.state
+  pub sized : AreSized caps left
   pub commands_are : left.local.sent ≡ commands
   pub fates_are : AreFatesOf me set peers left r.commands.items
   pub links_count : length left.links ≡ length peers

@@ -9,14 +9,11 @@ use Rattle.scp_types.specs.declared.fault.Stage.TheVariants.{Reader, Pend}
 use Rattle.scp_wire.specs.declared.link.Inbound.{Inbound}
 use Rattle.scp_ends.specs.Ends.{Sender}
 use Rattle.scp_ends.specs.Links.{LinkEnd}
+use Rattle.scp_workers.specs.Working.{Holds}
 use Rattle.scp_workers.specs.Reading.{ReaderEnd}
-use Rattle.scp_workers.specs.Reading as reading
 use Rattle.scp_workers.specs.Pending.{PendEnd}
-use Rattle.scp_workers.specs.Pending as pending
 use Rattle.scp_workers.specs.Slot.{SlotEnd}
-use Rattle.scp_workers.specs.Slot as slotting
 use Rattle.scp_workers.specs.Apply.{ApplyEnd}
-use Rattle.scp_workers.specs.Apply as applying
 use Rattle.scp_courier.specs.Carrying.{CourierEnd, HoldsLink}
 use Rattle.scp_gather.specs.Report.{has_failed, first_so}
 use Rattle.scp_threaded_node.specs.declared.ending.Stood.{Stood}
@@ -55,7 +52,7 @@ IsTailEnd (Courier thread) (carried e) = HoldsLink thread.promise.0.value.link e
 
 -- the link was to stand so, and its reader and its sending end ended so
 pub record IsLaneEnd (stood : Option Stood) (x : Running) (e : LaneEnd) : Type 0 where
-  pub reader : reading.HoldsEnds x.reader.promise.0.value e.reader
+  pub reader : Holds x.reader.promise.0.value e.reader
   pub tail : IsTailEnd x.tail e.tail
   pub stood_is : stood ≡ Some e.stood
 
@@ -68,9 +65,9 @@ pub record AreLaneEnds (lanes : List Running) (stood : List Stood) (ends : List 
 pub record IsNodeEnd (node : Node) (stood : List Stood) (e : NodeEnd) : Type 0 where
   pub lanes : AreLaneEnds node.lanes.items stood e.lanes
   pub local : IfSome e.local (λ s. s ≡ node.local)
-  pub pend : pending.HoldsEnds node.pend.promise.0.value e.pend
-  pub slot : slotting.HoldsEnds node.slot.promise.0.value e.slot
-  pub apply : applying.HoldsEnds node.apply.promise.0.value e.apply
+  pub pend : Holds node.pend.promise.0.value e.pend
+  pub slot : Holds node.slot.promise.0.value e.slot
+  pub apply : Holds node.apply.promise.0.value e.apply
 
 -- ---- which fault that is
 
@@ -80,7 +77,7 @@ is_unread e = has_failed e.reader
 
 -- the first stage, in the order of the pipeline, of which a worker failed
 abbrev pub stage_failed : NodeEnd → Option Stage
-stage_failed e = first_so (list_any is_unread e.lanes) (is_none e.pend.output) (is_none e.slot.output) (not e.apply.well)
+stage_failed e = first_so (list_any is_unread e.lanes) (has_failed e.pend) (has_failed e.slot) (has_failed e.apply)
 
 -- both are open, or neither is
 abbrev pub same_open : Bool → Bool → Bool

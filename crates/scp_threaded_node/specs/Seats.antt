@@ -6,10 +6,12 @@ use Rattle.scp_wire.specs.declared.link.Inbound.{Inbound}
 use Rattle.scp_wire.specs.declared.link.LinkItem.{LinkItem}
 use Rattle.scp_ends.specs.Ends.{Line, Sender}
 use Rattle.scp_ends.specs.Links.{LinkEnd}
-use Rattle.scp_workers.specs.Reading.{ReaderWorking}
-use Rattle.scp_workers.specs.Pending.{PendWorking}
-use Rattle.scp_workers.specs.Slot.{SlotWorking}
-use Rattle.scp_workers.specs.Apply.{ApplyWorking}
+use Rattle.scp_script.specs.declared.command.Capacities.{Capacities}
+use Rattle.scp_workers.specs.Working.{Work}
+use Rattle.scp_workers.specs.Reading.{ReaderWork}
+use Rattle.scp_workers.specs.Pending.{PendWork, IsFor as PendsFor}
+use Rattle.scp_workers.specs.Slot.{SlotWork, IsFor as JournalsFor}
+use Rattle.scp_workers.specs.Apply.{ApplyWork}
 use Rattle.scp_threaded_node.specs.declared.make.Lane.{Lane}
 use Rattle.scp_threaded_node.specs.declared.node.Tail.{Tail}
 use Rattle.scp_threaded_node.specs.declared.node.Tail.TheVariants.{Script, Courier}
@@ -22,19 +24,23 @@ Each P xs = (i : ℕ) → (x : _) → slice_get xs i ≡ Some x → P i x
 
 -- ---- as they were started
 
--- the link from this peer, and its reader, which stands at this place of the inbox
-pub record IsLane (me peer : NodeId) (inbox : Line Inbound) (place : ℕ) (k : LinkEnd) (r : ReaderWorking) : Type 0 where
+-- the worker sends to this channel, as its producer of this number
+abbrev pub SendsAs : {T U S : Type 0} → Line U → ℕ → Work T U S → Type 0
+SendsAs {T} {U} {S} line n w = (s : Sender U) × (w.output ≡ Some s) × (s.line ≡ line) × (s.number ≡ n)
+
+-- the link from this peer, which holds so many items at most, and its reader, which stands at this place of the inbox
+pub record IsLane (me peer : NodeId) (inbox : Line Inbound) (room place : ℕ) (k : LinkEnd) (r : ReaderWork) : Type 0 where
   pub from : k.from ≡ peer
   pub to : k.to ≡ me
   pub line : k.tail.line ≡ r.input.line
   pub tail : k.tail.number ≡ 0
   pub alone : r.input.producers ≡ 1
-  pub goes_to : r.output.line ≡ inbox
-  pub number : r.output.number ≡ place
+  pub room_is : r.input.room ≡ room
+  pub goes_to : SendsAs inbox place r
 
 -- the links of a node, before their threads are started, by the places of the peers
-abbrev pub AreLanes : NodeId → List NodeId → Line Inbound → List Lane → Type 0
-AreLanes me peers inbox lanes = Each (λ i x. (peer : NodeId) → slice_get peers i ≡ Some peer → IsLane me peer inbox i x.tail x.reader) lanes
+abbrev pub AreLanes : NodeId → List NodeId → Line Inbound → ℕ → List Lane → Type 0
+AreLanes me peers inbox room lanes = Each (λ i x. (peer : NodeId) → slice_get peers i ≡ Some peer → IsLane me peer inbox room i x.tail x.reader) lanes
 
 -- nothing was sent over them
 abbrev pub AreUnused : List Lane → Type 0
@@ -60,24 +66,25 @@ abbrev pub AreDriven : (ℕ → Bool) → (ℕ → List LinkItem) → List Runni
 AreDriven driven sent lanes = Each (λ i x. IsDriven (driven i) (sent i) x.tail) lanes
 
 -- the links of a node whose threads run, by the places of the peers
-abbrev pub AreRunning : NodeId → List NodeId → Line Inbound → List Running → Type 0
-AreRunning me peers inbox lanes = Each (λ i x. (peer : NodeId) → slice_get peers i ≡ Some peer → IsLane me peer inbox i (tail_of x.tail) x.reader.promise.0.value) lanes
+abbrev pub AreRunning : NodeId → List NodeId → Line Inbound → ℕ → List Running → Type 0
+AreRunning me peers inbox room lanes = Each (λ i x. (peer : NodeId) → slice_get peers i ≡ Some peer → IsLane me peer inbox room i (tail_of x.tail) x.reader.promise.0.value) lanes
 
--- the stages of a node of these peers, one behind the other
-pub record AreStages (me : NodeId) (set : QuorumTree) (peers : List NodeId) (pend : PendWorking) (slot : SlotWorking) (apply : ApplyWorking) : Type 0 where
-  pub pend_of : (pend.me ≡ me) × (pend.peers ≡ peers) × (pend.local ≡ set)
-  pub slot_of : (slot.me ≡ me) × (slot.peers ≡ peers) × (slot.local ≡ set)
+-- the stages of a node of these peers, one behind the other, each behind a channel that holds as many items as the capacities say
+pub record AreStages (me : NodeId) (set : QuorumTree) (peers : List NodeId) (caps : Capacities) (pend : PendWork) (slot : SlotWork) (apply : ApplyWork) : Type 0 where
+  pub pend_of : PendsFor me peers set pend.first
+  pub slot_of : JournalsFor me peers set slot.first.ledger
   pub producers : pend.input.producers ≡ length peers + 1
-  pub ready : (pend.output.line ≡ slot.input.line) × (pend.output.number ≡ 0) × (slot.input.producers ≡ 1)
-  pub decided : (slot.output.line ≡ apply.input.line) × (slot.output.number ≡ 0) × (apply.input.producers ≡ 1)
+  pub ready : SendsAs slot.input.line 0 pend × (slot.input.producers ≡ 1)
+  pub decided : SendsAs apply.input.line 0 slot × (apply.input.producers ≡ 1)
+  pub rooms : (pend.input.room ≡ caps.inbox) × (slot.input.room ≡ caps.ready) × (apply.input.room ≡ caps.decided)
 
 -- the end of the node's own commands stands behind the links'
-abbrev pub IsLocal : List NodeId → PendWorking → Sender Inbound → Type 0
+abbrev pub IsLocal : List NodeId → PendWork → Sender Inbound → Type 0
 IsLocal peers pend local = (local.line ≡ pend.input.line) × (local.number ≡ length peers)
 
--- a node of these peers that runs: each of its workers is one of its channels
-pub record Runs (me : NodeId) (set : QuorumTree) (peers : List NodeId) (node : Node) : Type 0 where
+-- a node of these peers that runs: each of its workers is one of its channels, of these capacities
+pub record Runs (me : NodeId) (set : QuorumTree) (peers : List NodeId) (caps : Capacities) (node : Node) : Type 0 where
   pub count : length node.lanes.items ≡ length peers
-  pub lanes : AreRunning me peers node.pend.promise.0.value.input.line node.lanes.items
+  pub lanes : AreRunning me peers node.pend.promise.0.value.input.line caps.link node.lanes.items
   pub local : IsLocal peers node.pend.promise.0.value node.local
-  pub stages : AreStages me set peers node.pend.promise.0.value node.slot.promise.0.value node.apply.promise.0.value
+  pub stages : AreStages me set peers caps node.pend.promise.0.value node.slot.promise.0.value node.apply.promise.0.value

@@ -1,11 +1,14 @@
 //! What is done with a node while it runs.
-ghost use Rattle.std.specs.Prelude.{◌≡◌, ◌<◌, None, Some, OnOk, OnErr, IsOkUnless, MatchResult, length, slice_get};
+ghost use Rattle.std.specs.Prelude.{◌≡◌, ◌<◌, List, None, Some, OnOk, OnErr, IsOkUnless, MatchResult, length, slice_get};
+ghost use Rattle.scp_types.specs.declared.names.NodeId.{NodeId};
+ghost use Rattle.scp_quorum.specs.QuorumTree.{QuorumTree};
+ghost use Rattle.scp_script.specs.declared.command.Capacities.{Capacities};
 ghost use Rattle.scp_types.specs.declared.fault.Stage.TheVariants.{Pend};
 ghost use Rattle.scp_wire.specs.declared.link.Inbound.TheVariants as inbound;
 ghost use Rattle.scp_threaded_node.specs.Acting.{act_on, acted, cannot, with_command, ActsAt, CanAct, IsActFault, IsRefusedFor, IsUnchanged};
 ghost use Rattle.scp_threaded_node.specs.declared.node.Running.{Running};
 ghost use Rattle.scp_threaded_node.specs.inside.NotSent.{IsNotSentFor};
-ghost use Rattle.scp_threaded_node.specs.Seats.{is_carried};
+ghost use Rattle.scp_threaded_node.specs.Seats.{is_carried, Runs};
 
 use crate::node::{Node, Running, Tail};
 use scp_ends::{LinkTx, NotSent};
@@ -68,6 +71,8 @@ pub fn act_at<R: Wait>(rt: &R, node: &mut Node, place: usize, act: Act) -> Resul
     requires place { place < length node.old.lanes.items }
     ensures acted { OnOk result (ActsAt act place node.old node.new) }
     ensures same { OnErr result (IsUnchanged node.old node.new) }
+    // A node that runs goes on.
+    ensures runs { (me : NodeId) → (set : QuorumTree) → (peers : List NodeId) → (caps : Capacities) → Runs me set peers caps node.old → Runs me set peers caps node.new }
     ensures why { (lane : Running) → slice_get node.old.lanes.items place ≡ Some lane → MatchResult result (λ _. CanAct act lane.tail) (IsActFault act lane.tail) }
 {
     act_on_lane(rt, &mut node.lanes[place], act)
@@ -94,10 +99,42 @@ fn is_carried(tail: &Tail) -> bool
 pub fn tell<R: Wait>(rt: &R, node: &mut Node, command: Command) -> Result<(), Fault>
     ensures told { OnOk result (node.new ≡ with_command node.old (inbound.Local command)) }
     ensures same { OnErr result (node.new ≡ node.old) }
+    // A node that runs goes on.
+    ensures runs { (me : NodeId) → (set : QuorumTree) → (peers : List NodeId) → (caps : Capacities) → Runs me set peers caps node.old → Runs me set peers caps node.new }
     ensures only { IsOkUnless result (Fault.Refused Pend) }
 {
     match node.local.send_as(rt, command) {
         Ok(()) => Ok(()),
         Err(_) => Err(Fault::Refused(Stage::Pend)),
     }
+}
+
+/// Wakes a link's reader, where the script sends on the link.
+fn flush_lane(lane: &mut Running)
+    ensures { lane.new ≡ lane.old }
+{
+    match &mut lane.tail {
+        Tail::Script(tail) => tail.flush(),
+        Tail::Courier(_) => {}
+    }
+}
+
+/// Wakes who waits for what was done on the node's links and told to it.
+fn flush_all(node: &mut Node)
+    ensures { IsUnchanged node.old node.new }
+{
+    node.local.flush();
+    for lane in node.lanes.iter_mut() {
+        flush_lane(lane);
+    }
+}
+
+/// Wakes who waits for what was done on the node's links and told to it. To be called before this thread waits for something else than room
+/// for what it sends.
+pub fn flush(node: &mut Node)
+    ensures same { IsUnchanged node.old node.new }
+    // A node that runs goes on.
+    ensures runs { (me : NodeId) → (set : QuorumTree) → (peers : List NodeId) → (caps : Capacities) → Runs me set peers caps node.old → Runs me set peers caps node.new }
+{
+    flush_all(node);
 }

@@ -1,5 +1,5 @@
 //! The end of a node: all is stopped, every thread joined, and what they left is gathered.
-ghost use Rattle.std.specs.Prelude.{◌≡◌, ◌≤◌, ◌||◌, ◌++◌, ◌∷◌, ℕ, Bool, true, false, not, List, [], length, IfOk, IfSome, IsOkUnless, MatchResult, None, Ok, Some, is_none};
+ghost use Rattle.std.specs.Prelude.{◌≡◌, ◌≤◌, ◌||◌, ◌++◌, ◌∷◌, ℕ, Bool, true, false, List, [], length, IfOk, IfSome, IsOkUnless, MatchResult, None, Ok, Some};
 ghost use Rattle.std.specs.List.{list_any};
 ghost use Rattle.std.specs.Option.{option_or};
 ghost use Rattle.std.specs.Result.{result_err};
@@ -8,7 +8,8 @@ ghost use Rattle.scp_types.specs.declared.names.NodeId.{NodeId};
 ghost use Rattle.scp_quorum.specs.QuorumTree.{QuorumTree};
 ghost use Rattle.scp_wire.specs.declared.link.LinkItem.{LinkItem};
 ghost use Rattle.scp_ends.specs.Links.{LinkEnd};
-ghost use Rattle.scp_workers.specs.Reading as reading;
+ghost use Rattle.scp_script.specs.declared.command.Capacities.{Capacities};
+ghost use Rattle.scp_workers.specs.Working.{Holds};
 ghost use Rattle.scp_courier.specs.Carrying.{IsSameLink, IsCarried};
 ghost use Rattle.scp_pending.specs.Peers.{AreApart};
 ghost use Rattle.scp_gather.specs.Report.{has_failed as failed, first_so};
@@ -79,7 +80,7 @@ fn end_lane<R: Threads + Wait>(
     lane: Running,
     stood: Stood,
 ) -> (ReaderEnded, Result<LinkDone, Fault>)
-    ensures reader { reading.HoldsEnds lane.reader.promise.0.value result.0 }
+    ensures reader { Holds lane.reader.promise.0.value result.0 }
     ensures same { IfOk result.1 (IsSameLink (tail_of lane.tail)) }
     ensures sent { (driven : Bool) → (sent : List LinkItem) → IsDriven driven sent lane.tail → IfOk result.1 (IsSentBy driven sent stood) }
     ensures why { HasTailFault lane.tail stood (result_err result.1) }
@@ -206,7 +207,7 @@ fn collect(
     apply: ApplyEnded,
 ) -> Result<Ends, Fault>
     ensures all { IfOk result (λ e. (lanes.lost ≡ false) × (local ≡ Some e.local) × (e.readers ≡ lanes.readers.items) × (e.links ≡ lanes.links.items) × (e.pend ≡ pend) × (e.slot ≡ slot) × (e.apply ≡ apply)) }
-    ensures why { MatchResult result (λ _. lanes.fault ≡ None) (IsTold (fault_by (first_so lanes.failed (is_none pend.output) (is_none slot.output) (not apply.well)) lanes.fault (local_fault local))) }
+    ensures why { MatchResult result (λ _. lanes.fault ≡ None) (IsTold (fault_by (first_so lanes.failed (failed pend) (failed slot) (failed apply)) lanes.fault (local_fault local))) }
 {
     let Lanes {
         readers,
@@ -278,11 +279,11 @@ pub fn end<R: Threads + Wait>(
     node: Node,
     stood: &[Stood],
 ) -> Result<NodeReport, Fault>
-    requires runs { (me : NodeId) × (set : QuorumTree) × (peers : List NodeId) × Runs me set peers node }
+    requires runs { (me : NodeId) × (set : QuorumTree) × (peers : List NodeId) × (caps : Capacities) × Runs me set peers caps node }
     requires stood { length node.lanes.items ≤ length stood.now }
-    ensures ended { (me : NodeId) → (set : QuorumTree) → (peers : List NodeId) → AreApart peers → Runs me set peers node
+    ensures ended { (me : NodeId) → (set : QuorumTree) → (peers : List NodeId) → (caps : Capacities) → AreApart peers → Runs me set peers caps node
         → (driven : ℕ → Bool) → (sent : ℕ → List LinkItem) → AreDriven driven sent node.lanes.items
-        → IfOk result (IsEnded me set peers node.local.sent driven sent stood.now) }
+        → IfOk result (IsEnded me set peers caps node.local.sent driven sent stood.now) }
     ensures fault { (x : NodeEnd) × IsNodeEnd node stood.now x × MatchResult result (λ _. fault_of x ≡ None) (IsTold (fault_of x)) }
 {
     gather(stop(rt, alloc, node, stood)?)

@@ -15,11 +15,10 @@ mod make;
 mod node;
 mod starting;
 
-pub use acting::{Act, act_at, is_carried_at, tell};
+pub use acting::{Act, act_at, flush, is_carried_at, tell};
 pub use ending::{Stood, end};
 pub use make::{Lane, Outboxes, Parts, make_parts};
 pub use node::{Node, Running, Source, Tail, start};
 pub use starting::{
-    ApplyThread, CourierThread, HoldsApply, HoldsCourier, HoldsPend, HoldsReader, HoldsSlot,
-    PendThread, ReaderThread, SlotThread,
+    ApplyThread, CourierThread, HoldsCourier, HoldsEnds, PendThread, ReaderThread, SlotThread,
 };

@@ -1,9 +1,11 @@
 //! The channels and workers of a node, before any thread is started.
-ghost use Rattle.std.specs.Prelude.{◌≡◌, ◌≤◌, ◌+◌, [], false, length, IfOk, IsOkUnless};
+ghost use Rattle.std.specs.Prelude.{◌≡◌, ◌≤◌, ◌+◌, [], Some, None, length, IfOk, IsOkUnless};
 ghost use Rattle.scp_quorum.specs.Sane.{IsSane};
 ghost use Rattle.scp_ends.specs.Ends.{AreFresh, fresh};
 ghost use Rattle.scp_ends.specs.Links.{new_link};
-ghost use Rattle.scp_threaded_node.specs.Seats.{IsLane, AreLanes, AreUnused, AreStages, IsLocal};
+ghost use Rattle.scp_workers.specs.Pending.{IsFor as PendsFor};
+ghost use Rattle.scp_workers.specs.Slot.{IsFor as JournalsFor};
+ghost use Rattle.scp_threaded_node.specs.Seats.{IsLane, AreLanes, AreUnused, AreStages, IsLocal, SendsAs};
 ghost use Rattle.scp_types.specs.Range.{IsInRange};
 ghost use Rattle.scp_threaded_node.specs.Sources.{HaveRoom};
 
@@ -15,7 +17,9 @@ use scp_outbox::SharedOutbox;
 use scp_quorum::{QuorumSet, SaneSet};
 use scp_script::Capacities;
 use scp_types::{Fault, NodeId};
-use scp_workers::{ApplyWorker, PendWorker, ReaderWorker, SlotWorker};
+use scp_workers::{
+    ApplyWorker, PendWorker, ReaderWorker, SlotWorker, applier, pending, reader, slots,
+};
 use std::alloc::{AllocError, Global};
 use std::sync::Arc;
 
@@ -102,14 +106,14 @@ fn make_lane(
 ) -> Result<Lane, Fault>
     requires unused { (tx.sent ≡ []) × (tx.number ≡ place) }
     requires room { IsInRange capacity }
-    ensures lane { IfOk result (λ x. IsLane me peer tx.line place x.tail x.reader) }
+    ensures lane { IfOk result (λ x. IsLane me peer tx.line capacity place x.tail x.reader) }
     ensures unused { IfOk result (λ x. x.tail.tail.sent ≡ []) }
     ensures only_memory { IsOkUnless result Fault.NoMemory }
 {
     let (tail, rx) = link_of(alloc, me, peer, capacity)?;
     Ok(Lane {
         tail,
-        reader: ReaderWorker::new(alloc, me, place, rx, tx),
+        reader: reader(alloc, me, place, rx, tx),
     })
 }
 
@@ -126,7 +130,7 @@ fn lanes(
     requires fresh { AreFresh rx.now.line ends.items }
     requires room { IsInRange capacity }
     ensures count { IfOk result (λ xs. length xs.items ≡ length ends.items) }
-    ensures lanes { IfOk result (λ xs. AreLanes me peers.now rx.now.line xs.items) }
+    ensures lanes { IfOk result (λ xs. AreLanes me peers.now rx.now.line capacity xs.items) }
     ensures unused { IfOk result (λ xs. AreUnused xs.items) }
     ensures only_memory { IsOkUnless result Fault.NoMemory }
 {
@@ -163,16 +167,18 @@ fn make_pend(
     outboxes: &[Arc<SharedOutbox>],
     rx: InboxRx,
     tx: ReadyTx,
-) -> Result<PendWorker, AllocError>
+) -> Result<PendWorker, Fault>
     requires few { length peers.now ≤ 7 }
     requires unused { (rx.got ≡ []) × (tx.sent ≡ []) }
     requires producers { rx.producers ≡ length peers.now + 1 }
-    ensures { IfOk result (λ w. w ≡ record { me = me; peers = peers.now; local = set.value; input = rx; output = tx; failed = false; cut_off = false }) }
+    ensures ends { IfOk result (λ w. (w.input ≡ rx) × (w.output ≡ Some tx)) }
+    ensures stage { IfOk result (λ w. PendsFor me peers.now set.value w.first) }
+    ensures only_memory { IsOkUnless result Fault.NoMemory }
 {
     let known = Vec::from_slice(alloc, peers)?;
     let outlets = again(alloc, outboxes)?;
     let producers = peers.len() as u8 + 1;
-    Ok(PendWorker::new(alloc, me, known, set, outlets, rx, producers, tx))
+    Ok(pending(alloc, me, known, set, outlets, rx, producers, tx))
 }
 
 /// The worker of the slot stage, between the pending stage and the applier.
@@ -188,11 +194,12 @@ fn make_slot(
     requires few { length peers.now ≤ 7 }
     requires unused { (rx.got ≡ []) × (tx.sent ≡ []) }
     requires one { rx.producers ≡ 1 }
-    ensures { IfOk result (λ w. w ≡ record { me = me; peers = peers.now; local = set.value; input = rx; output = tx; failed = false; cut_off = false }) }
+    ensures ends { IfOk result (λ w. (w.input ≡ rx) × (w.output ≡ Some tx)) }
+    ensures stage { IfOk result (λ w. JournalsFor me peers.now set.value w.first.ledger) }
 {
     let known = Vec::from_slice(alloc, peers)?;
     let outlets = again(alloc, outboxes)?;
-    Ok(SlotWorker::new(alloc, me, known, set, outlets, rx, tx))
+    Ok(slots(alloc, me, known, set, outlets, rx, tx))
 }
 
 /// The worker of the applier, behind the slot stage.
@@ -204,9 +211,9 @@ fn make_apply(
 ) -> Result<ApplyWorker, AllocError>
     requires unused { rx.got ≡ [] }
     requires one { rx.producers ≡ 1 }
-    ensures { IfOk result (λ w. w ≡ record { input = rx; failed = false; cut_off = false }) }
+    ensures { IfOk result (λ w. w.input ≡ rx) }
 {
-    Ok(ApplyWorker::new(alloc, me, again(alloc, outboxes)?, rx))
+    Ok(applier(alloc, me, again(alloc, outboxes)?, rx))
 }
 
 /// The slot stage and the applier, and the end that sends to them.
@@ -220,9 +227,10 @@ fn make_last(
 ) -> Result<(ReadyTx, SlotWorker, ApplyWorker), Fault>
     requires few { length peers.now ≤ 7 }
     requires room { HaveRoom capacities }
-    ensures ready { IfOk result (λ r. r.0 ≡ fresh r.1.input.line 0) }
-    ensures slot_of { IfOk result (λ r. (r.1.me ≡ me) × (r.1.peers ≡ peers.now) × (r.1.local ≡ set.value) × (r.1.input.producers ≡ 1)) }
-    ensures decided { IfOk result (λ r. (r.1.output.line ≡ r.2.input.line) × (r.1.output.number ≡ 0) × (r.2.input.producers ≡ 1)) }
+    ensures ready { IfOk result (λ r. (r.0 ≡ fresh r.1.input.line 0) × (r.1.input.producers ≡ 1)) }
+    ensures slot_of { IfOk result (λ r. JournalsFor me peers.now set.value r.1.first.ledger) }
+    ensures decided { IfOk result (λ r. SendsAs r.2.input.line 0 r.1 × (r.2.input.producers ≡ 1)) }
+    ensures rooms { IfOk result (λ r. (r.1.input.room ≡ capacities.ready) × (r.2.input.room ≡ capacities.decided)) }
     ensures only_memory { IsOkUnless result Fault.NoMemory }
 {
     let (tx, ready) = ready_of(alloc, usize::from(capacities.ready))?;
@@ -245,8 +253,8 @@ fn make_stages(
     requires few { length peers.now ≤ 7 }
     requires sane { IsSane set }
     requires room { HaveRoom capacities }
-    requires inbox { (rx.got ≡ []) × (rx.producers ≡ length peers.now + 1) }
-    ensures stages { IfOk result (λ r. AreStages me set peers.now r.0 r.1 r.2) }
+    requires inbox { (rx.got ≡ []) × (rx.producers ≡ length peers.now + 1) × (rx.room ≡ capacities.inbox) }
+    ensures stages { IfOk result (λ r. AreStages me set peers.now capacities r.0 r.1 r.2) }
     ensures inbox { IfOk result (λ r. r.0.input ≡ rx) }
     ensures only_memory { IsOkUnless result Fault.NoMemory }
 {
@@ -267,9 +275,9 @@ fn make_lanes(
     requires few { length peers.now ≤ 7 }
     requires room { HaveRoom capacities }
     ensures count { IfOk result (λ r. length r.0.items ≡ length peers.now) }
-    ensures lanes { IfOk result (λ r. AreLanes me peers.now r.2.line r.0.items × AreUnused r.0.items) }
+    ensures lanes { IfOk result (λ r. AreLanes me peers.now r.2.line capacities.link r.0.items × AreUnused r.0.items) }
     ensures local { IfOk result (λ r. r.1 ≡ fresh r.2.line (length peers.now)) }
-    ensures inbox { IfOk result (λ r. (r.2.got ≡ []) × (r.2.producers ≡ length peers.now + 1)) }
+    ensures inbox { IfOk result (λ r. (r.2.got ≡ []) × (r.2.producers ≡ length peers.now + 1) × (r.2.room ≡ capacities.inbox)) }
     ensures only_memory { IsOkUnless result Fault.NoMemory }
 {
     let (mut ends, rx) = inbox_of(alloc, peers.len() as u8, usize::from(capacities.inbox))?;
@@ -293,9 +301,9 @@ pub fn make_parts(
     requires sane { IsSane set }
     requires room { HaveRoom capacities }
     ensures count { IfOk result (λ p. length p.lanes.items ≡ length peers.now) }
-    ensures lanes { IfOk result (λ p. AreLanes me peers.now p.pend.input.line p.lanes.items) }
+    ensures lanes { IfOk result (λ p. AreLanes me peers.now p.pend.input.line capacities.link p.lanes.items) }
     ensures local { IfOk result (λ p. IsLocal peers.now p.pend p.local) }
-    ensures stages { IfOk result (λ p. AreStages me set peers.now p.pend p.slot p.apply) }
+    ensures stages { IfOk result (λ p. AreStages me set peers.now capacities p.pend p.slot p.apply) }
     ensures unused { IfOk result (λ p. AreUnused p.lanes.items × (p.local.sent ≡ [])) }
     ensures only_memory { IsOkUnless result Fault.NoMemory }
 {

@@ -3,6 +3,7 @@ ghost use Rattle.std.specs.Prelude.{◌≡◌, ◌<◌, ◌+◌, ◌∷◌, ◌+
 ghost use Rattle.std.specs.Thread.{IsSync};
 ghost use Rattle.scp_types.specs.declared.names.NodeId.{NodeId};
 ghost use Rattle.scp_quorum.specs.QuorumTree.{QuorumTree};
+ghost use Rattle.scp_script.specs.declared.command.Capacities.{Capacities};
 ghost use Rattle.scp_wire.specs.declared.link.Inbound.{Inbound};
 ghost use Rattle.scp_ends.specs.Ends.{Line};
 ghost use Rattle.scp_threaded_node.specs.Seats.{AreLanes, AreRunning, AreUnused, IsDriven, AreDriven, AreStages, IsLocal, Runs, tail_of};
@@ -10,8 +11,7 @@ ghost use Rattle.scp_threaded_node.specs.Sources.{AreSources};
 
 use crate::make::{Lane, Parts};
 use crate::starting::{
-    ApplyThread, CourierThread, PendThread, ReaderThread, SlotThread, start_apply, start_courier,
-    start_pend, start_reader, start_slot,
+    ApplyThread, CourierThread, PendThread, ReaderThread, SlotThread, start_courier, start_worker,
 };
 use scp_courier::Courier;
 use scp_ends::{LinkTx, LocalTx};
@@ -96,7 +96,7 @@ fn start_lane<'s, E, R: Threads + Wait + Sync, G: Gate + Sync>(
     ensures only_memory { IsOkUnless result Fault.NoMemory }
 {
     let Lane { tail, reader } = lane;
-    let reader = start_reader(scope, rt, gate, reader)?;
+    let reader = start_worker(scope, rt, gate, reader)?;
     let tail = start_tail(scope, rt, gate, alloc, tail, source)?;
     Ok(Running { tail, reader })
 }
@@ -126,7 +126,7 @@ fn start_lanes<'s, E, R: Threads + Wait + Sync, G: Gate + Sync>(
     requires sources { length sources.items ≡ length lanes.items }
     requires unused { AreUnused lanes.items }
     ensures count { IfOk result (λ xs. length xs.items ≡ length lanes.items) }
-    ensures lanes { (me : NodeId) → (peers : List NodeId) → (inbox : Line Inbound) → AreLanes me peers inbox lanes.items → IfOk result (λ xs. AreRunning me peers inbox xs.items) }
+    ensures lanes { (me : NodeId) → (peers : List NodeId) → (inbox : Line Inbound) → (room : ℕ) → AreLanes me peers inbox room lanes.items → IfOk result (λ xs. AreRunning me peers inbox room xs.items) }
     ensures driven { (driven : ℕ → Bool) → AreSources driven sources.items → IfOk result (λ xs. AreDriven driven (λ i. []) xs.items) }
     ensures only_memory { IsOkUnless result Fault.NoMemory }
 {
@@ -155,8 +155,8 @@ fn start_last<'s, E, R: Threads + Wait + Sync, G: Gate + Sync>(
     ensures apply { IfOk result (λ t. t.1.promise.0.value ≡ apply) }
     ensures only_memory { IsOkUnless result Fault.NoMemory }
 {
-    let slot = start_slot(scope, rt, gate, slot)?;
-    let apply = start_apply(scope, rt, gate, apply)?;
+    let slot = start_worker(scope, rt, gate, slot)?;
+    let apply = start_worker(scope, rt, gate, apply)?;
     Ok((slot, apply))
 }
 
@@ -171,7 +171,7 @@ pub fn start<'s, E, R: Threads + Wait + Sync, G: Gate + Sync>(
 ) -> Result<Node, Fault>
     requires sources { length sources.items ≡ length parts.lanes.items }
     requires unused { AreUnused parts.lanes.items }
-    ensures runs { (me : NodeId) → (set : QuorumTree) → (peers : List NodeId) → length parts.lanes.items ≡ length peers → AreLanes me peers parts.pend.input.line parts.lanes.items → IsLocal peers parts.pend parts.local → AreStages me set peers parts.pend parts.slot parts.apply → IfOk result (Runs me set peers) }
+    ensures runs { (me : NodeId) → (set : QuorumTree) → (peers : List NodeId) → (caps : Capacities) → length parts.lanes.items ≡ length peers → AreLanes me peers parts.pend.input.line caps.link parts.lanes.items → IsLocal peers parts.pend parts.local → AreStages me set peers caps parts.pend parts.slot parts.apply → IfOk result (Runs me set peers caps) }
     ensures local { IfOk result (λ node. node.local ≡ parts.local) }
     ensures driven { (driven : ℕ → Bool) → AreSources driven sources.items → IfOk result (λ node. AreDriven driven (λ i. []) node.lanes.items) }
     ensures only_memory { IsOkUnless result Fault.NoMemory }
@@ -184,7 +184,7 @@ pub fn start<'s, E, R: Threads + Wait + Sync, G: Gate + Sync>(
         apply,
     } = parts;
     let lanes = start_lanes(scope, rt, gate, alloc, lanes, sources)?;
-    let pend = start_pend(scope, rt, gate, pend)?;
+    let pend = start_worker(scope, rt, gate, pend)?;
     match start_last(scope, rt, gate, slot, apply) {
         Ok((slot, apply)) => Ok(Node {
             lanes,

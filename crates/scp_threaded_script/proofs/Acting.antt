@@ -1,19 +1,15 @@
 -- What something done on a link does to nodes that run.
 use Rattle.std.proofs.Common.{◌≡◌, ◌≢◌, ◌∙◌, ℕ, ◌+◌, ◌-◌, ◌≤◌, Bool, true, false, ap, sym, refl, subst, List, [], ◌∷◌, ◌++◌, length, Some, append-nil, arith}
-use Rattle.std.specs.Prelude.{slice_get, fold, if◌then◌else◌}
+use Rattle.std.specs.Prelude.{slice_get, slice_set, fold, if◌then◌else◌}
 use Rattle.scp_types.specs.declared.names.NodeId.{NodeId}
-use Rattle.scp_quorum.specs.QuorumTree.{QuorumTree}
-use Rattle.scp_wire.specs.declared.link.Inbound.{Inbound}
 use Rattle.scp_wire.specs.declared.link.LinkItem.{LinkItem}
 use Rattle.scp_wire.specs.declared.link.LinkItem.TheVariants as item
 use Rattle.scp_wire.specs.Connections.{conn_at}
 use Rattle.scp_wire.specs.Shape.{never_open, goes}
-use Rattle.scp_ends.specs.Ends.{Line}
-use Rattle.scp_ends.specs.Links.{LinkEnd, stands, with_item}
-use Rattle.scp_workers.specs.Reading.{ReaderWorking}
+use Rattle.scp_ends.specs.Links.{LinkEnd, stands}
 use Rattle.scp_script.specs.declared.command.Command.{Command}
 use Rattle.scp_script.specs.declared.command.Command.TheVariants as script
-use Rattle.scp_script.specs.Nodes.{id_of, peers_of, set_at}
+use Rattle.scp_script.specs.Nodes.{capacities_in, id_of, peers_of, set_at}
 use Rattle.scp_script.specs.Script.{is_link, lives, node_count}
 use Rattle.scp_threaded_node.specs.declared.acting.Act.{Act}
 use Rattle.scp_threaded_node.specs.declared.acting.Act.TheVariants.{Open, Close, Send}
@@ -22,40 +18,15 @@ use Rattle.scp_threaded_node.specs.declared.node.Running.{Running}
 use Rattle.scp_threaded_node.specs.declared.node.Tail.{Tail}
 use Rattle.scp_threaded_node.specs.declared.node.Tail.TheVariants.{Script, Courier}
 use Rattle.scp_threaded_node.specs.Acting.{act_on, acted, ActsAt, IsUnchanged}
-use Rattle.scp_threaded_node.specs.Seats.{Each, IsLane, IsDriven, AreDriven, AreRunning, Runs, tail_of}
+use Rattle.scp_threaded_node.specs.Seats.{Each, IsDriven, AreDriven, Runs, tail_of}
 use Rattle.scp_threaded_script.specs.Lines.{link_of, peer_at, item_by, items_on, command_by, commands_for, driven_to, items_to}
 use Rattle.scp_threaded_script.specs.inside.Played.{AllRun, AreTold, AreItemsSent, HaveDone, AreTwoOf, ActsOn, AreUnchanged}
 use Rattle.scp_threaded_script.specs.Reported.{AllRunSoFar}
-use Rattle.scp_threaded_script.proofs.Changing.{set_length, each_set}
+use Rattle.scp_threaded_node.proofs.Staying.{acts_runs, unchanged_runs}
+use Rattle.scp_threaded_node.proofs.Changing.{set_length, each_set}
 use Rattle.scp_threaded_script.proofs.Links.{peer_of_place, same_link, to_another, at_another, peer_there}
 use Rattle.scp_threaded_script.proofs.Sending.{items_more, life_after}
 use Rattle.scp_threaded_script.proofs.Telling.{none_more}
-
--- ---- one node runs on
-
-with_item_lane : (me peer : NodeId) (inbox : Line Inbound) (place : ℕ) (k : LinkEnd) (x : LinkItem) (r : ReaderWorking) → IsLane me peer inbox place k r → IsLane me peer inbox place (with_item k x) r
-with_item_lane me peer inbox place k x r l = record { from = l.from; to = l.to; line = l.line; tail = l.tail; alone = l.alone; goes_to = l.goes_to; number = l.number }
-
-act_on_lane : (me peer : NodeId) (inbox : Line Inbound) (place : ℕ) (a : Act) (k : LinkEnd) (r : ReaderWorking) → IsLane me peer inbox place k r → IsLane me peer inbox place (act_on a k) r
-act_on_lane me peer inbox place Open k r l = with_item_lane me peer inbox place k _ r l
-act_on_lane me peer inbox place Close k r l = with_item_lane me peer inbox place k _ r l
-act_on_lane me peer inbox place (Send bytes) k r l = with_item_lane me peer inbox place k _ r l
-
-acted_lane : (me peer : NodeId) (inbox : Line Inbound) (place : ℕ) (a : Act) (t : Tail) (r : ReaderWorking) → IsLane me peer inbox place (tail_of t) r → IsLane me peer inbox place (tail_of (acted a t)) r
-acted_lane me peer inbox place a (Script k) r l = act_on_lane me peer inbox place a k r l
-acted_lane me peer inbox place a (Courier thread) r l = l
-
-acts_runs : (me : NodeId) (set : QuorumTree) (peers : List NodeId) (a : Act) (place : ℕ) (x y : Node) → ActsAt a place x y → Runs me set peers x → Runs me set peers y
-acts_runs me set peers a place x y acts r =
-    let inbox = x.pend.promise.0.value.input.line in
-    let lane = acts.lane in
-    let after = record lane { tail = acted a lane.tail } in
-    let P = λ (i : ℕ) (z : Running). (peer : NodeId) → slice_get peers i ≡ Some peer → IsLane me peer inbox i (tail_of z.tail) z.reader.promise.0.value in
-    let count : length y.lanes.items ≡ length peers = ap (λ (xs : List Running). length xs) acts.is ∙ set_length x.lanes.items place after ∙ r.count in
-    let lanes : AreRunning me peers inbox y.lanes.items =
-    subst (λ (xs : List Running). AreRunning me peers inbox xs) (sym acts.is)
-    (each_set P P x.lanes.items place lane after acts.was (λ f peer at. acted_lane me peer inbox place a lane.tail lane.reader.promise.0.value (f peer at)) (λ i z apart f. f) r.lanes) in
-    subst (λ (n : Node). Runs me set peers n) (sym acts.same) (record { count = count; lanes = lanes; local = r.local; stages = r.stages })
 
 -- ---- what one node's links sent
 
@@ -129,9 +100,9 @@ sends_line from to bytes done = record {
 
 acts_on_runs : (commands : List Command) (old new : List Node) (from to : ℕ) (a : Act) → ActsOn old from to a new → AllRunSoFar commands old → AllRunSoFar commands new
 acts_on_runs commands old new from to a t all =
-    let P = λ (i : ℕ) (node : Node). Runs (id_of (i + 1)) (set_at (i + 1) commands) (peers_of (node_count commands) (i + 1)) node in
+    let P = λ (i : ℕ) (node : Node). Runs (id_of (i + 1)) (set_at (i + 1) commands) (peers_of (node_count commands) (i + 1)) (capacities_in commands) node in
     let i = to - 1 in
-    subst (Each P) (sym t.is) (each_set P P old i t.node t.after t.was (acts_runs (id_of (i + 1)) (set_at (i + 1) commands) (peers_of (node_count commands) (i + 1)) a (link_of from to) t.node t.after t.acts) (λ j z apart p. p) all)
+    subst (Each P) (sym t.is) (each_set P P old i t.node t.after t.was (acts_runs (id_of (i + 1)) (set_at (i + 1) commands) (peers_of (node_count commands) (i + 1)) (capacities_in commands) a (link_of from to) t.node t.after t.acts) (λ j z apart p. p) all)
 
 acts_on_count : (old new : List Node) (from to : ℕ) (a : Act) → ActsOn old from to a new → length new ≡ length old
 acts_on_count old new from to a t = ap (λ (xs : List Node). length xs) t.is ∙ set_length old (to - 1) t.after
@@ -150,7 +121,7 @@ same_items : (f t : ℕ) (done : List Command) (command : Command) → item_by f
 same_items f t done command none = items_more f t done command ∙ ap (λ (xs : List LinkItem). items_on f t done ++ xs) none ∙ append-nil (items_on f t done)
 
 -- the links of the node at which it was done
-acts_there : (commands done : List Command) (command : Command) (from to : ℕ) (a : Act) (x y : Node) → 1 ≤ from → from ≤ node_count commands → 1 ≤ to → from ≢ to → IsLineOn a from to done command → ActsAt a (link_of from to) x y → Runs (id_of to) (set_at to commands) (peers_of (node_count commands) to) x → AreDriven (driven_to commands to) (items_to to done) x.lanes.items → AreDriven (driven_to commands to) (items_to to (done ++ command ∷ [])) y.lanes.items
+acts_there : (commands done : List Command) (command : Command) (from to : ℕ) (a : Act) (x y : Node) → 1 ≤ from → from ≤ node_count commands → 1 ≤ to → from ≢ to → IsLineOn a from to done command → ActsAt a (link_of from to) x y → Runs (id_of to) (set_at to commands) (peers_of (node_count commands) to) (capacities_in commands) x → AreDriven (driven_to commands to) (items_to to done) x.lanes.items → AreDriven (driven_to commands to) (items_to to (done ++ command ∷ [])) y.lanes.items
 acts_there commands done command from to a x y one most some apart line acts r d =
     let place = link_of from to in
     let l = r.lanes place acts.lane acts.was (id_of from) (peer_there (node_count commands) from to one most some apart) in
@@ -164,7 +135,7 @@ acts_on_sent : (commands done : List Command) (command : Command) (old new : Lis
 acts_on_sent commands done command old new from to a two line t runs all =
     let P = λ (i : ℕ) (node : Node). AreDriven (driven_to commands (i + 1)) (items_to (i + 1) done) node.lanes.items in
     let Q = λ (i : ℕ) (node : Node). AreDriven (driven_to commands (i + 1)) (items_to (i + 1) (done ++ command ∷ [])) node.lanes.items in
-    let R = λ (n : ℕ). Runs (id_of n) (set_at n commands) (peers_of (node_count commands) n) t.node in
+    let R = λ (n : ℕ). Runs (id_of n) (set_at n commands) (peers_of (node_count commands) n) (capacities_in commands) t.node in
     let at : to - 1 + 1 ≡ to = omega (arith, two.1.0) in
     subst (Each Q) (sym t.is) (each_set P Q old (to - 1) t.node t.after t.was
     (λ p. subst (λ (n : ℕ). AreDriven (driven_to commands n) (items_to n (done ++ command ∷ [])) t.after.lanes.items) (sym at)
@@ -186,14 +157,33 @@ acts_done commands done command old new from to a two line t all =
 
 -- ---- nothing was done
 
-unchanged_runs : (me : NodeId) (set : QuorumTree) (peers : List NodeId) (x y : Node) → IsUnchanged x y → Runs me set peers x → Runs me set peers y
-unchanged_runs me set peers x y u r =
-    let count : length y.lanes.items ≡ length peers = ap (λ (xs : List Running). length xs) u.lanes ∙ r.count in
-    let lanes : AreRunning me peers x.pend.promise.0.value.input.line y.lanes.items = subst (λ (xs : List Running). AreRunning me peers x.pend.promise.0.value.input.line xs) (sym u.lanes) r.lanes in
-    subst (λ (n : Node). Runs me set peers n) (sym u.same) (record { count = count; lanes = lanes; local = r.local; stages = r.stages })
-
 pub unchanged_run : (commands : List Command) (old new : List Node) → AreUnchanged old new → AllRun commands old → AllRun commands new
-unchanged_run commands old new u all = (u.count ∙ all.0, λ i y at. let was = u.each i y at in unchanged_runs (id_of (i + 1)) (set_at (i + 1) commands) (peers_of (node_count commands) (i + 1)) was.0 y was.2 (all.1 i was.0 was.1))
+unchanged_run commands old new u all = (u.count ∙ all.0, λ i y at. let was = u.each i y at in unchanged_runs (id_of (i + 1)) (set_at (i + 1) commands) (peers_of (node_count commands) (i + 1)) (capacities_in commands) was.0 y was.2 (all.1 i was.0 was.1))
 
 pub all_unchanged : (nodes : List Node) → AreUnchanged nodes nodes
 all_unchanged nodes = record { count = refl; each = λ i y at. (y, at, record { same = refl; lanes = refl }) }
+
+twice_unchanged : (x y z : Node) → IsUnchanged x y → IsUnchanged y z → IsUnchanged x z
+twice_unchanged x y z u v = record {
+  same = v.same ∙ ap (λ (n : Node). record n { lanes = z.lanes }) u.same;
+  lanes = v.lanes ∙ u.lanes;
+}
+
+-- nor to one of them more
+pub one_more_unchanged : (old nodes : List Node) (i : ℕ) (y z : Node) → slice_get nodes i ≡ Some y → IsUnchanged y z → AreUnchanged old nodes → AreUnchanged old (slice_set nodes i z)
+one_more_unchanged old nodes i y z was u all =
+    let P = λ (j : ℕ) (w : Node). (x : Node) × (slice_get old j ≡ Some x) × IsUnchanged x w in
+    record {
+      count = set_length nodes i z ∙ all.count;
+      each = each_set P P nodes i y z was (λ p. (p.0, p.1, twice_unchanged p.0 y z p.2 u)) (λ j w apart p. p) all.each;
+    }
+
+pub unchanged_done : (commands done : List Command) (old new : List Node) → AreUnchanged old new → HaveDone commands done old → HaveDone commands done new
+unchanged_done commands done old new u all = (
+  u.count ∙ all.0,
+  record {
+    run = (unchanged_run commands old new u (all.0, all.1.run)).1;
+    told = λ i y at. let was = u.each i y at in ap (λ (n : Node). n.local.sent) was.2.same ∙ all.1.told i was.0 was.1;
+    sent = λ i y at. let was = u.each i y at in subst (λ (xs : List Running). AreDriven (driven_to commands (i + 1)) (items_to (i + 1) done) xs) (sym was.2.lanes) (all.1.sent i was.0 was.1);
+  },
+)

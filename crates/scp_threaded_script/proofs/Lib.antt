@@ -2,7 +2,6 @@ mod Each
 mod Nodes
 mod Peers
 mod Places
-mod Changing
 mod Links
 mod Sending
 mod Telling

@@ -3,15 +3,13 @@ use Rattle.std.proofs.Common.{◌≡◌, ◌∙◌, ℕ, ◌+◌, ◌-◌, ◌�
 use Rattle.std.specs.Prelude.{if◌then◌else◌}
 use Rattle.std.proofs.lemmas.Bool.Decides.{nat_tests}
 use Rattle.std.proofs.lemmas.Grind.{flat_map-append}
-use Rattle.scp_types.specs.declared.names.NodeId.{NodeId}
-use Rattle.scp_quorum.specs.QuorumTree.{QuorumTree}
 use Rattle.scp_wire.specs.declared.link.Command.{Command as LocalCommand}
 use Rattle.scp_wire.specs.declared.link.Inbound.{Inbound}
 use Rattle.scp_wire.specs.declared.link.Inbound.TheVariants as inbound
 use Rattle.scp_wire.specs.declared.link.LinkItem.{LinkItem}
 use Rattle.scp_script.specs.declared.command.Command.{Command}
 use Rattle.scp_script.specs.declared.command.Command.TheVariants as script
-use Rattle.scp_script.specs.Nodes.{id_of, peers_of, set_at}
+use Rattle.scp_script.specs.Nodes.{capacities_in, id_of, peers_of, set_at}
 use Rattle.scp_script.specs.Script.{node_count}
 use Rattle.scp_threaded_node.specs.declared.node.Node.{Node}
 use Rattle.scp_threaded_node.specs.Acting.{with_command}
@@ -19,7 +17,8 @@ use Rattle.scp_threaded_node.specs.Seats.{Each, Runs, IsDriven, AreDriven}
 use Rattle.scp_threaded_script.specs.Lines.{peer_at, item_by, items_on, command_by, commands_for, driven_to, items_to}
 use Rattle.scp_threaded_script.specs.inside.Played.{AllRun, AreTold, AreItemsSent, HaveDone, IsNoLink, TellsAt, IsCommandOf}
 use Rattle.scp_threaded_script.specs.Reported.{AllRunSoFar}
-use Rattle.scp_threaded_script.proofs.Changing.{set_length, each_set}
+use Rattle.scp_threaded_node.proofs.Staying.{told_runs}
+use Rattle.scp_threaded_node.proofs.Changing.{set_length, each_set}
 use Rattle.scp_threaded_script.proofs.Sending.{items_more}
 
 commands_more : (node : ℕ) (done : List Command) (command : Command) → commands_for node (done ++ command ∷ []) ≡ commands_for node done ++ command_by node command
@@ -56,14 +55,11 @@ still_sent commands done command nodes silent all i node at l x there =
 
 -- ---- a command
 
-told_runs : (me : NodeId) (set : QuorumTree) (peers : List NodeId) (node : Node) (x : Inbound) → Runs me set peers node → Runs me set peers (with_command node x)
-told_runs me set peers node x r = record { count = r.count; lanes = r.lanes; local = r.local; stages = r.stages }
-
 tells_runs : (commands : List Command) (old new : List Node) (number : ℕ) (x : Inbound) → TellsAt old number x new → AllRunSoFar commands old → AllRunSoFar commands new
 tells_runs commands old new number x t all =
-    let P = λ (i : ℕ) (node : Node). Runs (id_of (i + 1)) (set_at (i + 1) commands) (peers_of (node_count commands) (i + 1)) node in
+    let P = λ (i : ℕ) (node : Node). Runs (id_of (i + 1)) (set_at (i + 1) commands) (peers_of (node_count commands) (i + 1)) (capacities_in commands) node in
     let i = number - 1 in
-    subst (Each P) (sym t.is) (each_set P P old i t.node (with_command t.node x) t.was (told_runs (id_of (i + 1)) (set_at (i + 1) commands) (peers_of (node_count commands) (i + 1)) t.node x) (λ j z apart p. p) all)
+    subst (Each P) (sym t.is) (each_set P P old i t.node (with_command t.node x) t.was (told_runs (id_of (i + 1)) (set_at (i + 1) commands) (peers_of (node_count commands) (i + 1)) (capacities_in commands) t.node x) (λ j z apart p. p) all)
 
 tells_count : (old new : List Node) (number : ℕ) (x : Inbound) → TellsAt old number x new → length new ≡ length old
 tells_count old new number x t = ap (λ (xs : List Node). length xs) t.is ∙ set_length old (number - 1) (with_command t.node x)

@@ -6,7 +6,7 @@ use Rattle.scp_types.specs.declared.fault.Fault.TheVariants.{NoMemory, Full, Not
 use Rattle.scp_types.specs.declared.fault.Stage.TheVariants.{Reader, Pend}
 use Rattle.scp_gather.specs.declared.gathering.NodeReport.{NodeReport}
 use Rattle.scp_script.specs.declared.command.Command.{Command}
-use Rattle.scp_script.specs.Nodes.{id_of, peers_of, set_at}
+use Rattle.scp_script.specs.Nodes.{capacities_in, id_of, peers_of, set_at}
 use Rattle.scp_script.specs.Script.{node_count, lives, is_open}
 use Rattle.scp_threaded_node.specs.declared.ending.Stood.{Stood}
 use Rattle.scp_threaded_node.specs.declared.node.Node.{Node}
@@ -30,7 +30,7 @@ AreStood commands to stood = (length stood + 1 ≡ node_count commands) × Each 
 pub record IsNodeReported (commands : List Command) (number : ℕ) (r : NodeReport) : Type 0 where
   pub stood : List Stood
   pub stood_are : AreStood commands number stood
-  pub ended : IsEnded (id_of number) (set_at number commands) (peers_of (node_count commands) number) (commands_for number commands) (driven_to commands number) (items_to number commands) stood r
+  pub ended : IsEnded (id_of number) (set_at number commands) (peers_of (node_count commands) number) (capacities_in commands) (commands_for number commands) (driven_to commands number) (items_to number commands) stood r
 
 -- of nodes from the first on, and of all of them
 abbrev pub AreSoReported : List Command → List NodeReport → Type 0
@@ -48,7 +48,7 @@ IsOneOf count node = (1 ≤ node) × (node ≤ count)
 
 -- nodes of a script from the first on, each with all others as its peers
 abbrev pub AllRunSoFar : List Command → List Node → Type 0
-AllRunSoFar commands nodes = Each (λ i node. Runs (id_of (i + 1)) (set_at (i + 1) commands) (peers_of (node_count commands) (i + 1)) node) nodes
+AllRunSoFar commands nodes = Each (λ i node. Runs (id_of (i + 1)) (set_at (i + 1) commands) (peers_of (node_count commands) (i + 1)) (capacities_in commands) node) nodes
 
 -- each node's threads ended with this, as they had promised; its links were to stand as the lines leave them
 pub record AreNodeEnds (commands : List Command) (nodes : List Node) (ends : List NodeEnd) : Type 0 where

@@ -1,11 +1,19 @@
 //! The gate that counts what the appliers receive.
 use scp_gate::{Gate, Moment, Place, Stage};
 use scp_types::{NODE_LIMIT, NodeId};
+use std::sync::Wait;
 use std::sync::atomic::{AtomicU64, Ordering};
 use std::thread;
+use std::time::Duration;
 
 /// The most yields of a wait.
 pub const MOST_YIELDS: u32 = 1_000_000;
+
+/// A wait yields only after so many sleeps in a row in which the applier received nothing.
+const MOST_SLEEPS: u32 = 250;
+
+/// How long it sleeps at a time, where the applier receives nothing.
+const SLEEP_MILLIS: u64 = 1;
 
 /// A gate that is lent.
 #[derive(Drop)]
@@ -22,13 +30,20 @@ impl<'g, G: Gate> Gate for Lent<'g, G> {
     fn at(&self, place: Place) {
         self.0.at(place);
     }
+
+    fn may_hold(&self) -> bool {
+        self.0.may_hold()
+    }
 }
 
-/// A gate around another one: it counts how often the applier of each node received something, and then calls the other.
+/// A gate around another one: it counts how often the applier of each node received something, and then calls the other. Who waits for
+/// such a receive sleeps on the count.
 #[derive(Drop)]
 pub struct Counting<G> {
     inner: G,
     received: [AtomicU64; NODE_LIMIT],
+    /// How many wait.
+    waiting: AtomicU64,
 }
 
 impl<G: Gate> Gate for Counting<G> {
@@ -37,6 +52,10 @@ impl<G: Gate> Gate for Counting<G> {
             self.count(place.node);
         }
         self.inner.at(place);
+    }
+
+    fn may_hold(&self) -> bool {
+        self.inner.may_hold()
     }
 }
 
@@ -55,6 +74,7 @@ impl<G: Gate> Counting<G> {
                 AtomicU64::new(0),
                 AtomicU64::new(0),
             ],
+            waiting: AtomicU64::new(0),
         }
     }
 
@@ -62,6 +82,9 @@ impl<G: Gate> Counting<G> {
     fn count(&self, node: NodeId) {
         if let Some(received) = self.of(node.0[0]) {
             received.fetch_add(1, Ordering::SeqCst);
+            if self.waiting.load(Ordering::SeqCst) != 0 {
+                received.wake_all();
+            }
         }
     }
 
@@ -77,8 +100,37 @@ impl<G: Gate> Counting<G> {
         }
     }
 
-    /// Waits until the applier of the node of this number received so many things, at most 1,000,000 yields. Whether it did.
-    pub fn wait(&self, number: u8, things: u64) -> bool {
+    /// Waits until the applier of the node of this number received so many things: it sleeps until that one has received nothing for a
+    /// quarter of a second, and then yields at most 1,000,000 times. Whether it did.
+    pub fn wait<R: Wait>(&self, rt: &R, number: u8, things: u64) -> bool {
+        self.waiting.fetch_add(1, Ordering::SeqCst);
+        let slept = self.sleeps_until(rt, number, things);
+        self.waiting.fetch_sub(1, Ordering::SeqCst);
+        slept || self.yields_until(number, things)
+    }
+
+    /// Sleeps until it is so, or the applier has received nothing for that long.
+    fn sleeps_until<R: Wait>(&self, rt: &R, number: u8, things: u64) -> bool {
+        let Some(received) = self.of(number) else {
+            return things == 0;
+        };
+        let mut seen = 0;
+        let mut quiet = 0;
+        for _ in rt.forever() {
+            let now = received.load(Ordering::SeqCst);
+            if now >= things || quiet >= MOST_SLEEPS {
+                return now >= things;
+            }
+            quiet = if now == seen { quiet + 1 } else { 0 };
+            seen = now;
+            let most = Duration::from_millis(SLEEP_MILLIS);
+            received.park_timeout(rt, (now & 0xffff_ffff) as u32, most);
+        }
+        false
+    }
+
+    /// Yields until it is so, at most 1,000,000 times.
+    fn yields_until(&self, number: u8, things: u64) -> bool {
         for _ in 0..MOST_YIELDS {
             if self.received(number) >= things {
                 return true;

@@ -21,7 +21,7 @@ use crate::running::NodeFault;
 use scp_gate::Gate;
 use scp_outbox::Mark;
 use scp_script::Command;
-use scp_threaded_node::{Act, Node, Outboxes, act_at, is_carried_at, tell};
+use scp_threaded_node::{Act, Node, Outboxes, act_at, flush, is_carried_at, tell};
 use scp_types::{Fault, Slot};
 use scp_wire::{Bytes, Command as LocalCommand};
 use std::sync::Wait;
@@ -236,18 +236,45 @@ fn act_on_line<R: Wait>(
     }
 }
 
+/// Wakes who waits for what the lines so far did.
+fn flush_all(nodes: &mut Vec<Node>)
+    ensures { AreUnchanged nodes.old.items nodes.new.items }
+{
+    for node in nodes.iter_mut() {
+        flush(node);
+    }
+}
+
+/// Whether a line may wait for something else than room for what it sends.
+fn may_wait(command: &Command) -> bool {
+    matches!(
+        command,
+        Command::Wait { .. } | Command::Open { .. } | Command::Close { .. }
+    )
+}
+
+/// Wakes who waits for what the lines so far did, where the next line may wait, or the gate may hold a worker.
+fn flush_before<G: Gate>(nodes: &mut Vec<Node>, gate: &Counting<G>, command: &Command)
+    ensures { AreUnchanged nodes.old.items nodes.new.items }
+{
+    if gate.may_hold() || may_wait(command) {
+        flush_all(nodes);
+    }
+}
+
 /// Waits, where the line says so. Whether that came for which it waits.
-fn has_come<G: Gate>(gate: &Counting<G>, command: &Command) -> bool
+fn has_come<R: Wait, G: Gate>(rt: &R, gate: &Counting<G>, command: &Command) -> bool
     ensures { result ≡ false → IsWait command.now }
 {
     match command {
-        Command::Wait { node, things } => gate.wait(*node, *things),
+        Command::Wait { node, things } => gate.wait(rt, *node, *things),
         _ => true,
     }
 }
 
 /// Waits, where the line says so, and adds its place where it gives up. The one refusal is `NoMemory`.
-fn wait_at_line<G: Gate>(
+fn wait_at_line<R: Wait, G: Gate>(
+    rt: &R,
     gate: &Counting<G>,
     command: &Command,
     place: usize,
@@ -256,7 +283,7 @@ fn wait_at_line<G: Gate>(
     ensures added { AddsWait command.now place gave_up.old.items gave_up.new.items }
     ensures only_memory { IsOkUnless result Fault.NoMemory }
 {
-    if has_come(gate, command) {
+    if has_come(rt, gate, command) {
         return Ok(());
     }
     gave_up.reserve(1)?;
@@ -286,9 +313,11 @@ pub fn act_all<R: Wait, G: Gate>(
 {
     let mut place = 0;
     for command in commands {
+        flush_before(nodes, gate, command);
         act_on_line(rt, nodes, all, command)?;
-        wait_at_line(gate, command, place, gave_up)?;
+        wait_at_line(rt, gate, command, place, gave_up)?;
         place += 1;
     }
+    flush_all(nodes);
     Ok(())
 }

@@ -117,7 +117,7 @@ fn start_node<'s, E, R: Threads + Wait + Sync, G: Gate + Sync>(
     requires few { count ≤ 8 }
     requires all { AreOutboxes count all.now }
     requires number { (1 ≤ number) × (number ≤ count) }
-    ensures runs { IfOk result (Runs (id_of number) (set_at number commands.now) (peers_of count number)) }
+    ensures runs { IfOk result (Runs (id_of number) (set_at number commands.now) (peers_of count number) (capacities_in commands.now)) }
     ensures local { IfOk result (λ node. node.local.sent ≡ []) }
     ensures driven { IfOk result (λ node. AreDriven (driven_to commands.now number) (λ l. []) node.lanes.items) }
     ensures only_memory { IsOkUnless result Fault.NoMemory }

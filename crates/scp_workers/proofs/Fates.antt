@@ -9,9 +9,8 @@ use Rattle.scp_pending.specs.declared.ready.Ready.{Ready}
 use Rattle.scp_ledger.specs.declared.took.CommandFate.{CommandFate}
 use Rattle.scp_ledger.specs.declared.took.Onward.{Onward}
 use Rattle.scp_ledger.specs.declared.took.Took.{Took}
-use Rattle.scp_ledger.specs.Kv.{KvLedger, KvJournals, KvTakes, KvTells}
+use Rattle.scp_ledger.specs.Kv.{KvLedger, KvTakes, KvTells}
 use Rattle.scp_ledger.specs.Runs.{Taking, thing_of, onward_of, nothing_taken}
-use Rattle.scp_ends.specs.Ends.{Sender}
 use Rattle.scp_workers.specs.Slot.{fate_of, TellsEach, HaveFates}
 
 tells_more : (first old new : KvLedger) (takes : List Taking) (t : Taking) → TellsEach first takes old → KvTakes old t.thing t.gave new → KvTells old t.thing t.gave → TellsEach first (takes ++ t ∷ []) new
@@ -38,11 +37,3 @@ fates_begin me local set peers known got sent fates v e f g s k is = record {
   fates_are = sym g;
   told = is ∙ ap (λ (q : QuorumTree). nothing_taken me q v.driver peers) (sym s) ∙ ap (λ (ps : List NodeId). nothing_taken me set v.driver ps) (sym k);
 }
-
--- of the ledger itself
-pub fates_here : (me : NodeId) (local : QuorumTree) (peers : List NodeId) (took : List Ready) (fates : List CommandFate) (v : KvLedger) (tx d : Sender Onward)
-    → d ≡ tx → KvJournals me local peers took tx.sent v → HaveFates me local peers took tx.sent fates v → HaveFates v.me v.local v.peers took d.sent fates v
-fates_here me local peers took fates v tx d same j h =
-    subst (λ (s : Sender Onward). HaveFates v.me v.local v.peers took s.sent fates v) (sym same)
-    (subst (λ (ps : List NodeId). HaveFates v.me v.local ps took tx.sent fates v) (sym j.peers_are)
-    (subst (λ (q : QuorumTree). HaveFates v.me q peers took tx.sent fates v) (sym j.local_is) (subst (λ (n : NodeId). HaveFates n local peers took tx.sent fates v) (sym j.me_is) h)))

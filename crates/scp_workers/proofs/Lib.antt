@@ -1,6 +1,5 @@
 pub mod Receiving
-pub mod Batches
 pub mod Stopping
+pub mod Running
 pub mod Waiting
 pub mod Fates
-pub mod Journaling

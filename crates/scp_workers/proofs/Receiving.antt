@@ -1,10 +1,9 @@
 -- What one receive adds.
-use Rattle.std.specs.Prelude.{Option, Some, None, IfSome}
-use Rattle.std.proofs.Common.{◌≡◌, ℕ, ◌<◌, ◌==◌, ◌||◌, Bool, true, false, not, List, [], ◌∷◌, ◌++◌, sym, refl, ap, ◌∙◌, subst, eq-eqb, arith}
+use Rattle.std.proofs.Common.{◌≡◌, ℕ, ◌==◌, ◌||◌, true, false, List, [], ◌∷◌, ◌++◌, sym, refl, ap, ◌∙◌, subst, eq-eqb}
 use Rattle.scp_ends.specs.declared.item.Item.{Item}
 use Rattle.scp_ends.specs.declared.item.Item.TheVariants.{One, Stop}
 use Rattle.scp_ends.specs.Order.{values}
-use Rattle.scp_ends.specs.Ends.{Receiver, stopped, HeardAll}
+use Rattle.scp_ends.specs.Ends.{stopped}
 use Rattle.scp_ends.proofs.Steps.{values_append, values_stop}
 
 module _ {T : Type 0} where
@@ -12,11 +11,6 @@ module _ {T : Type 0} where
   stopped_here p [] = ap (λ b. b || false) (eq-eqb p p refl)
   stopped_here p (One m y ∷ got) = stopped_here p got
   stopped_here p (Stop m ∷ got) = elim (m == p) as (λ b. (b || stopped p (got ++ Stop p ∷ [])) ≡ true) [ true ↦ refl | false ↦ stopped_here p got ]
-
-  -- the end of a lone producer was received
-  pub heard_end : (r : Receiver T) (got : List (Item T)) (n : ℕ) → r.producers ≡ 1 → n < 1 → r.got ≡ got ++ Stop n ∷ [] → HeardAll r
-  heard_end r got n one lt e p below =
-      let same : n ≡ p = omega arith in ap (stopped p) (e ∙ ap (λ k. got ++ Stop k ∷ []) same) ∙ stopped_here p got
 
   -- what holds of the things that were received, after one item more
   pub one_more : (P : List T → Type 0) (got now : List (Item T)) (n : ℕ) (x : T) → now ≡ got ++ One n x ∷ [] → P (values got ++ x ∷ []) → P (values now)
@@ -27,16 +21,3 @@ module _ {T : Type 0} where
 
   pub fits_one : (P : List T → Type 0) (got : List (Item T)) (n : ℕ) (x : T) (item : Item T) → item ≡ One n x → P (values (got ++ item ∷ [])) → P (values got ++ x ∷ [])
   fits_one P got n x item e h = subst P (values_append got (One n x ∷ [])) (subst (λ (i : Item T). P (values (got ++ i ∷ []))) e h)
-
-pub if_some : {A : Type 0} (P Q : A → Type 0) (o : Option A) → ((x : A) → P x → Q x) → IfSome o P → IfSome o Q
-if_some P Q (Some x) f h = f x h
-if_some P Q None f h = tt
-
-pub not_lost : (b : Bool) → not b ≡ false → b ≡ true
-not_lost true e = refl
-not_lost false e = cc
-
--- one that didn't fail was not cut off
-pub not_cut_off : (cut failed : Bool) → (cut ≡ true → failed ≡ true) → failed ≡ false → cut ≡ false
-not_cut_off false failed f kept = refl
-not_cut_off true failed f kept = let lost = f refl in cc

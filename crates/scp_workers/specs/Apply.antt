@@ -1,34 +1,27 @@
--- What contracts see of the worker of the applier, and of what it ends with.
-use Rattle.std.specs.Prelude.{◌≡◌, Bool, true}
+-- The stage that applies.
+use Rattle.std.specs.Prelude.{List}
 use Rattle.scp_ledger.specs.declared.took.Onward.{Onward}
 use Rattle.scp_apply.specs.Applier.{ApplierView}
 use Rattle.scp_apply.specs.Applies.{Applies}
-use Rattle.scp_ends.specs.Order.{values}
-use Rattle.scp_ends.specs.Ends.{Receiver, HeardAll}
+use Rattle.scp_workers.specs.declared.apply.Nothing.{Nothing}
+use Rattle.scp_workers.specs.Working.{Work, End, HasRun}
 
--- what contracts see of the applier's worker that works: its receiving end, whether it failed, and whether it was cut off
-pub record ApplyWorking : Type 0 where
-  pub input : Receiver Onward
-  pub failed : Bool
-  pub cut_off : Bool  -- nobody sends to it any more
+-- what contracts see of the worker of the applier
+abbrev pub ApplyWork : Type 0
+ApplyWork = Work Onward Nothing ApplierView
 
--- what it ends with
-pub record ApplyEnd : Type 0 where
-  pub input : Receiver Onward
-  pub view : ApplierView
-  pub well : Bool
-  pub cut_off : Bool  -- nobody sends to it any more
+-- and of what it ends with
+abbrev pub ApplyEnd : Type 0
+ApplyEnd = End Onward Nothing ApplierView
 
--- its producer ended, and the applier took what was received
-pub record HasAppliedAll (input : Receiver Onward) (v : ApplierView) : Type 0 where
-  pub heard : HeardAll input
-  pub applies : Applies (values input.got) v
+-- the applier took these; it gives nothing on
+abbrev pub AppliesFrom : ApplierView → List Onward → List Nothing → ApplierView → Type 0
+AppliesFrom first took gave now = Applies took now
 
--- a worker that ended well has applied all that it received
-abbrev pub EndsWell : ApplyEnd → Type 0
-EndsWell e = e.well ≡ true → HasAppliedAll e.input e.view
+-- nothing is ever left to give
+abbrev pub GivesNothing : ApplierView → Type 0
+GivesNothing now = Unit {0}
 
--- it has the end that the worker was given
-pub record HoldsEnds (w : ApplyWorking) (e : ApplyEnd) : Type 0 where
-  pub input : e.input.line ≡ w.input.line
-  pub producers : e.input.producers ≡ w.input.producers
+-- the slot stage ended, and the applier took what was received
+abbrev pub HasAppliedAll : ApplyEnd → Type 0
+HasAppliedAll e = HasRun AppliesFrom GivesNothing e

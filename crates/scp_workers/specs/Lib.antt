@@ -3,4 +3,5 @@ pub mod Reading
 pub mod Pending
 pub mod Slot
 pub mod Apply
+pub mod Handing
 pub mod inside

@@ -1,36 +1,27 @@
--- What contracts see of the worker that reads a link, and of what it ends with.
-use Rattle.std.specs.Prelude.{◌≡◌, Bool, Option, IfSome}
+-- The stage that reads a link.
+use Rattle.std.specs.Prelude.{◌≡◌, List, []}
 use Rattle.scp_wire.specs.declared.link.LinkItem.{LinkItem}
 use Rattle.scp_wire.specs.declared.link.Inbound.{Inbound}
-use Rattle.scp_wire.specs.LinkReading.{unread, readings}
-use Rattle.scp_ends.specs.Order.{values}
-use Rattle.scp_ends.specs.Ends.{Sender, Receiver, HeardAll}
-use Rattle.scp_workers.specs.Working.{IsSameEnd}
+use Rattle.scp_wire.specs.LinkReading.{HasRead}
+use Rattle.scp_workers.specs.declared.reading.ReadingStage.{ReadingStage}
+use Rattle.scp_workers.specs.Working.{Work, End, HasRun}
 
--- what contracts see of a reader's worker that works: its ends, whether it failed, and whether it was cut off
-pub record ReaderWorking : Type 0 where
-  pub input : Receiver LinkItem
-  pub output : Sender Inbound
-  pub failed : Bool
-  pub cut_off : Bool  -- nobody sends to it any more
+-- what contracts see of the worker that reads a link
+abbrev pub ReaderWork : Type 0
+ReaderWork = Work LinkItem Inbound ReadingStage
 
--- what it ends with: its sending end is there where it ended well
-pub record ReaderEnd : Type 0 where
-  pub input : Receiver LinkItem
-  pub output : Option (Sender Inbound)
-  pub cut_off : Bool  -- nobody sends to it any more
+-- and of what it ends with
+abbrev pub ReaderEnd : Type 0
+ReaderEnd = End LinkItem Inbound ReadingStage
 
--- the link ended, and what was sent is what the items that were received are read as
-pub record HasReadAll (input : Receiver LinkItem) (output : Sender Inbound) : Type 0 where
-  pub heard : HeardAll input
-  pub reads : output.sent ≡ readings unread (values input.got)
+-- its reader took these items of the link from the first on, gave these, and has the rest of what they are read as
+abbrev pub Reads : ReadingStage → List LinkItem → List Inbound → ReadingStage → Type 0
+Reads first took gave now = HasRead took gave now.reader
 
--- a worker that ended well has sent on all that it received is read as
-abbrev pub EndsWell : ReaderEnd → Type 0
-EndsWell e = IfSome e.output (HasReadAll e.input)
+-- nothing is left of a batch
+abbrev pub HasNoRest : ReadingStage → Type 0
+HasNoRest now = now.reader.rest ≡ []
 
--- it has the ends that the worker was given
-pub record HoldsEnds (w : ReaderWorking) (e : ReaderEnd) : Type 0 where
-  pub input : e.input.line ≡ w.input.line
-  pub producers : e.input.producers ≡ w.input.producers
-  pub output : IfSome e.output (IsSameEnd w.output)
+-- the link ended, and what was sent is all that the items which were received are read as
+abbrev pub HasReadAll : ReaderEnd → Type 0
+HasReadAll e = HasRun Reads HasNoRest e

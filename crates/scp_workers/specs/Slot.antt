@@ -1,42 +1,22 @@
--- What contracts see of the worker of the slot stage, and of what it ends with.
-use Rattle.std.specs.Prelude.{◌≡◌, Bool, List, [], ◌∷◌, Option, IfSome, flat_map, option_to_list}
+-- The stage that runs the slots.
+use Rattle.std.specs.Prelude.{◌≡◌, List, [], ◌∷◌, flat_map, option_to_list}
 use Rattle.scp_types.specs.declared.names.NodeId.{NodeId}
 use Rattle.scp_quorum.specs.QuorumTree.{QuorumTree}
 use Rattle.scp_pending.specs.declared.ready.Ready.{Ready}
 use Rattle.scp_ledger.specs.declared.took.CommandFate.{CommandFate}
 use Rattle.scp_ledger.specs.declared.took.Onward.{Onward}
 use Rattle.scp_ledger.specs.Runs.{Taking, things, onwards_of, nothing_taken}
-use Rattle.scp_ends.specs.Order.{values}
-use Rattle.scp_ends.specs.Ends.{Sender, Receiver, HeardAll}
-use Rattle.scp_workers.specs.Working.{IsSameEnd}
 use Rattle.scp_ledger.specs.Kv.{KvLedger, KvJournals, KvTakes, KvTells}
+use Rattle.scp_workers.specs.declared.slot.SlotStage.{SlotStage}
+use Rattle.scp_workers.specs.Working.{Work, End, HasRun}
 
--- what contracts see of the slot stage's worker that works: its node, its ends, whether it failed, and whether it was cut off
-pub record SlotWorking : Type 0 where
-  pub me : NodeId
-  pub peers : List NodeId  -- the sender of each link
-  pub local : QuorumTree  -- this node's quorum set
-  pub input : Receiver Ready
-  pub output : Sender Onward
-  pub failed : Bool
-  pub cut_off : Bool  -- nobody sends to it any more
+-- what contracts see of the worker of the slot stage
+abbrev pub SlotWork : Type 0
+SlotWork = Work Ready Onward SlotStage
 
--- what it ends with: the ledger, its sending end where it ended well, and what became of the commands that it took
-pub record SlotEnd : Type 0 where
-  pub input : Receiver Ready
-  pub output : Option (Sender Onward)
-  pub view : KvLedger
-  pub fates : List CommandFate
-  pub cut_off : Bool  -- nobody sends to it any more
-
--- its producer ended, and the ledger took what was received and gave what was sent
-pub record HasJournaledAll (input : Receiver Ready) (v : KvLedger) (output : Sender Onward) : Type 0 where
-  pub heard : HeardAll input
-  pub journals : KvJournals v.me v.local v.peers (values input.got) output.sent v
-
--- a worker that ended well has taken all that it received, and sent on what goes on
-abbrev pub EndsWell : SlotEnd → Type 0
-EndsWell e = IfSome e.output (HasJournaledAll e.input e.view)
+-- and of what it ends with
+abbrev pub SlotEnd : Type 0
+SlotEnd = End Ready Onward SlotStage
 
 -- ---- what became of commands
 
@@ -62,9 +42,20 @@ pub record HaveFates (me : NodeId) (local : QuorumTree) (peers : List NodeId) (t
   pub fates_are : fates_of takes ≡ fates
   pub told : TellsEach (nothing_taken me local v.driver peers) takes v
 
--- a worker that ended well has the fates of the commands among all that it received
-abbrev pub TellsWell : SlotEnd → Type 0
-TellsWell e = IfSome e.output (λ output. HaveFates e.view.me e.view.local e.view.peers (values e.input.got) output.sent e.fates e.view)
+-- ---- all that it did
+
+-- a ledger of the first one's node took these and gave these on, and the fates of the commands among them are those that are kept
+pub record JournalsFrom (first : SlotStage) (took : List Ready) (gave : List Onward) (now : SlotStage) : Type 0 where
+  pub journals : KvJournals first.ledger.me first.ledger.local first.ledger.peers took gave now.ledger
+  pub told : HaveFates first.ledger.me first.ledger.local first.ledger.peers took gave now.fates.items now.ledger
+
+-- what it gives it gives at once
+abbrev pub HasNoneLeft : SlotStage → Type 0
+HasNoneLeft now = Unit {0}
+
+-- the pending stage ended; the ledger took what was received, and gave what was sent
+abbrev pub HasJournaledAll : SlotEnd → Type 0
+HasJournaledAll e = HasRun JournalsFrom HasNoneLeft e
 
 -- ---- whose it is
 
@@ -73,10 +64,3 @@ pub record IsFor (me : NodeId) (peers : List NodeId) (local : QuorumTree) (v : K
   pub me_is : v.me ≡ me
   pub peers_are : v.peers ≡ peers
   pub local_is : v.local ≡ local
-
--- it has the ends that the worker was given; and where it ended well, the ledger is that of the worker's node
-pub record HoldsEnds (w : SlotWorking) (e : SlotEnd) : Type 0 where
-  pub input : e.input.line ≡ w.input.line
-  pub producers : e.input.producers ≡ w.input.producers
-  pub output : IfSome e.output (IsSameEnd w.output)
-  pub node : IfSome e.output (λ _. IsFor w.me w.peers w.local e.view)

@@ -1,7 +1,75 @@
--- What the workers have in common.
-use Rattle.std.specs.Prelude.{◌≡◌}
-use Rattle.scp_ends.specs.Ends.{Sender}
+-- What contracts see of a worker that works, and of what it ends with.
+use Rattle.std.specs.Prelude.{◌≡◌, ◌⊎◌, Bool, true, false, List, [], Option, Some, None}
+use Rattle.scp_ends.specs.Order.{values}
+use Rattle.scp_ends.specs.Ends.{Sender, Receiver, HeardAll}
+
+-- ---- what it is
+
+-- what contracts see of a worker that works: its ends, the stage that it was made of, whether it failed, and whether it was cut off
+pub record Work (T U S : Type 0) : Type 0 where
+  pub input : Receiver T
+  pub output : Option (Sender U)  -- None where it sends nowhere
+  pub first : S
+  pub failed : Bool
+  pub cut_off : Bool  -- nobody sends to it any more
+
+-- what it ends with: its receiving end, what its sending end left, the stage as it was at first and as it is, and how it ended
+pub record End (T U S : Type 0) : Type 0 where
+  pub input : Receiver T
+  pub output : Option (Sender U)
+  pub first : S
+  pub stage : S
+  pub well : Bool
+  pub cut_off : Bool  -- nobody sends to it any more
+  pub unheard : Bool  -- nobody received its end any more
+
+-- what was sent; nothing where there is no sending end
+abbrev pub sent_by : {U : Type 0} → Option (Sender U) → List U
+sent_by None = []
+sent_by (Some s) = s.sent
+
+-- ---- whose ends they are
+
+-- the same receiving end: of the same channel, with as many producers and as much room
+pub record IsSameInput {T : Type 0} (r s : Receiver T) : Type 0 where
+  pub line : s.line ≡ r.line
+  pub producers : s.producers ≡ r.producers
+  pub room : s.room ≡ r.room
+
+-- what comes of all producers fits: of the one that there is, it does; of more, whatever comes does
+abbrev pub FitsAlone : {T : Type 0} → (List T → Type 0) → Receiver T → Type 0
+FitsAlone {T} fits r = (r.producers ≡ 1) ⊎ ((xs : List T) → fits xs)
 
 -- the same producer's end
-abbrev pub IsSameEnd : {T : Type 0} → Sender T → Sender T → Type 0
+abbrev pub IsSameEnd : {U : Type 0} → Sender U → Sender U → Type 0
 IsSameEnd s t = (t.line ≡ s.line) × (t.number ≡ s.number)
+
+-- the same sending end, or none
+abbrev pub IsSameOutput : {U : Type 0} → Option (Sender U) → Option (Sender U) → Type 0
+IsSameOutput {U} (Some s) o = (t : Sender U) × (o ≡ Some t) × IsSameEnd s t
+IsSameOutput None o = o ≡ None
+
+-- what is left of a sending end: that end, ended, if there was one; nothing, where nobody received its end any more
+abbrev pub IsLeftOf : {U : Type 0} → Bool → Option (Sender U) → Option (Sender U) → Type 0
+IsLeftOf false o left = IsSameOutput o left
+IsLeftOf true o left = left ≡ None
+
+-- It has the receiving end and the stage that the worker was given, and its sending end is ended, whether the worker failed or not: but where
+-- nobody received its end any more.
+pub record Holds {T U S : Type 0} (w : Work T U S) (e : End T U S) : Type 0 where
+  pub input : IsSameInput w.input e.input
+  pub first : e.first ≡ w.first
+  pub output : IsLeftOf e.unheard w.output e.output
+
+-- ---- what it did
+
+-- each producer ended; what was sent is what the stage gives of what was received, and the end behind it; and nothing is left to give
+pub record HasRun {T U S : Type 0} (runs : S → List T → List U → S → Type 0) (rests : S → Type 0) (e : End T U S) : Type 0 where
+  pub heard : HeardAll e.input
+  pub all : runs e.first (values e.input.got) (sent_by e.output) e.stage
+  pub nothing_left : rests e.stage
+  pub ended : e.unheard ≡ false
+
+-- a worker that ended well has given on all that its stage gives of what it received
+abbrev pub EndsWell : {T U S : Type 0} → (S → List T → List U → S → Type 0) → (S → Type 0) → End T U S → Type 0
+EndsWell runs rests e = e.well ≡ true → HasRun runs rests e

@@ -1,5 +1,1 @@
-pub mod Apply
-pub mod Pending
-pub mod Reading
-pub mod Slot
 pub mod Working

@@ -2,7 +2,9 @@
 ghost use Rattle.std.specs.Prelude.{IfSome};
 ghost use Rattle.scp_wire.specs.Fitting.{IsFitting};
 ghost use Rattle.scp_ledger.specs.Fitting.{FitsOut};
+ghost use Rattle.scp_workers.specs.Handing.{FitsOuts};
 
+use crate::stage::Outs;
 use scp_envelope::SharedEnvelope;
 use scp_ledger::{Outgoing, OutgoingList};
 use scp_outbox::SharedOutbox;
@@ -10,17 +12,33 @@ use scp_types::Fault;
 use scp_wire::{BoxedEnvelope, FittingMessage, Message};
 use std::sync::{Arc, Wait};
 
-/// Puts a stage's answer for a link into that link's outbox. What is for a link that isn't there is given up.
+/// An answer for a link, or none.
+pub(crate) fn answered(answer: Option<(u8, Message)>) -> Outs
+    requires { IfSome answer (λ sent. IsFitting sent.1) }
+    ensures { FitsOuts result }
+{
+    match answer {
+        Some((link, message)) => Outs::Answer(link, message),
+        None => Outs::Nothing,
+    }
+}
+
+/// Puts what a stage hands out into the outboxes of the links, in its order: a message into that of its link, and what is for all into
+/// each. What is for a link that isn't there is given up.
 pub(crate) fn hand_out<R: Wait>(
     rt: &R,
     outlets: &[Arc<SharedOutbox>],
-    answer: Option<(u8, Message)>,
-)
-    requires fits { IfSome answer (λ sent. IsFitting sent.1) }
+    outs: Outs,
+) -> Result<(), Fault>
+    requires fits { FitsOuts outs }
 {
-    match answer {
-        Some((link, message)) => hand(rt, outlets, link, message),
-        None => {}
+    match outs {
+        Outs::Nothing => Ok(()),
+        Outs::Answer(link, message) => {
+            hand(rt, outlets, link, message);
+            Ok(())
+        }
+        Outs::All(outgoing) => hand_out_all(rt, outlets, outgoing),
     }
 }
 
@@ -39,8 +57,7 @@ fn put<R: Wait>(rt: &R, outlet: &SharedOutbox, message: Message)
     outlet.put(rt, FittingMessage::of(message));
 }
 
-/// Puts all that goes out into the outboxes, in its order: a message into that of its link, and what is for all into each.
-pub(crate) fn hand_out_all<R: Wait>(
+fn hand_out_all<R: Wait>(
     rt: &R,
     outlets: &[Arc<SharedOutbox>],
     outgoing: OutgoingList,

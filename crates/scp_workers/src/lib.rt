@@ -1,14 +1,16 @@
-//! The workers of a node: each runs in a thread of its own, between the channels.
+//! The workers of a node: each runs a stage in a thread of its own, between the channels.
 //!
 //! What it promises, under every schedule:
-//! - what a link's reader sent is what the link's items are read as, those that it received, each record of a batch by itself;
+//! - what a worker sent is what its stage gives of what it received: a link's items as they are read, each record of a batch by itself; what is
+//!   ready by the rules; what the ledger gives on;
 //! - a worker ends well only after the end of each of its producers, and its own end is the last that it sends;
-//! - a worker that failed goes on receiving too: it ends only after the end of each of its producers, or once it found them gone.
+//! - a worker that failed goes on receiving too: it ends only after the end of each of its producers, or once it found them gone; and it sends
+//!   its end, unless nobody receives from it any more.
 //!
 //! Before each send and after each receive a worker calls a gate, which may hold it up: so tests choose a schedule.
+//! Before a worker waits, and before a gate that may hold it, it wakes who waits for what it sent.
 //!
-//! Not claimed: that a call returns; that a worker which failed sends its end; what a gate is told; and what becomes of what a worker puts
-//! into an outbox.
+//! Not claimed: that a call returns; what a gate is told; when who waits is woken; and what becomes of what a worker puts into an outbox.
 #![tactic(auto)]
 
 mod apply;
@@ -16,11 +18,17 @@ mod ending;
 mod handing;
 mod pend;
 mod reading;
+mod sending;
 mod slot;
+mod stage;
+mod telling;
 #[cfg(test)]
 mod tests;
+mod worker;
 
-pub use apply::{ApplyEnded, ApplyWorker};
-pub use pend::{PendEnded, PendWorker};
-pub use reading::{ReaderEnded, ReaderWorker};
-pub use slot::{SlotEnded, SlotWorker};
+pub use apply::{ApplyEnded, ApplyWorker, Nothing, applier};
+pub use pend::{PendEnded, PendWorker, pending};
+pub use reading::{ReaderEnded, ReaderWorker, ReadingStage, reader};
+pub use slot::{SlotEnded, SlotStage, SlotWorker, slots};
+pub use stage::{Given, Outs, Stage};
+pub use worker::{Ended, Worker};

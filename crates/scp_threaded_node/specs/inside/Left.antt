@@ -2,11 +2,8 @@
 -- No public clause reaches this: nothing here need be believed.
 use Rattle.std.specs.Prelude.{◌≡◌, ℕ, List, length, Some, slice_get}
 use Rattle.scp_ends.specs.Links.{LinkEnd}
+use Rattle.scp_workers.specs.Working.{Holds}
 use Rattle.scp_workers.specs.Reading.{ReaderEnd}
-use Rattle.scp_workers.specs.Reading as reading
-use Rattle.scp_workers.specs.Pending as pending
-use Rattle.scp_workers.specs.Slot as slotting
-use Rattle.scp_workers.specs.Apply as applying
 use Rattle.scp_courier.specs.Carrying.{IsSameLink}
 use Rattle.scp_gather.specs.Left.{Left}
 use Rattle.scp_threaded_node.specs.declared.node.Node.{Node}
@@ -15,7 +12,7 @@ use Rattle.scp_threaded_node.specs.Seats.{tail_of}
 
 -- a link's sending end, and what its reader ended with
 pub record IsLaneOf (x : Running) (r : ReaderEnd) (k : LinkEnd) : Type 0 where
-  pub reader : reading.HoldsEnds x.reader.promise.0.value r
+  pub reader : Holds x.reader.promise.0.value r
   pub link : IsSameLink (tail_of x.tail) k
 
 -- one of each for each link, in their order
@@ -28,6 +25,6 @@ pub record AreEndsOf (lanes : List Running) (readers : List ReaderEnd) (links : 
 pub record IsLeft (node : Node) (e : Left) : Type 0 where
   pub lanes : AreEndsOf node.lanes.items e.readers e.links
   pub local : e.local ≡ node.local
-  pub pend : pending.HoldsEnds node.pend.promise.0.value e.pend
-  pub slot : slotting.HoldsEnds node.slot.promise.0.value e.slot
-  pub apply : applying.HoldsEnds node.apply.promise.0.value e.apply
+  pub pend : Holds node.pend.promise.0.value e.pend
+  pub slot : Holds node.slot.promise.0.value e.slot
+  pub apply : Holds node.apply.promise.0.value e.apply

@@ -5,27 +5,31 @@ use Rattle.scp_core.specs.declared.event.Reply.{Reply}
 use Rattle.scp_core.specs.History.{Exchange}
 use Rattle.scp_core.specs.Node.{Step}
 use Rattle.scp_core.specs.Theorem.{LedgerTheorem}
+use Rattle.scp_turn.specs.Watch.{notes}
 use Rattle.scp_episode.specs.inside.Draining.{Drained}
 use Rattle.scp_episode.proofs.Draws.{draw_sent, draw_refused, others_stay, on_ok_any}
 use Rattle.scp_episode.proofs.draining.draw.Goals as goal
 
 pub returns-in-Sent-clause-drawn : goal.returns-in-Sent-clause-drawn
-returns-in-Sent-clause-drawn c =
+returns-in-Sent-clause-drawn g c =
     let a = c.args.node.now in
-    let b = c.step.new.self in
+    let b = c.step_with.new.node in
     let l = c.args.link in
-    draw_sent c.add.result a b l c.in-Sent.bytes c.args.sent.now.items c.add.new.sent.items
-    (subst (λ (r : Reply). Step a (Drain l) r b) c.in-Sent.is c.step.ensures.step)
-    (subst (λ (r : Reply). (past : List Exchange) → LedgerTheorem past a → LedgerTheorem (past ++ (Drain l, r) ∷ []) b) c.in-Sent.is c.step.ensures.theorem)
+    let w = c.args.watch.now in
+    let z = c.step_with.new.watch in
+    draw_sent (notes g.W.Watch.notes_before g.W.Watch.notes_after) c.add.result w z a b l c.in-Sent.bytes c.args.sent.now.items c.add.new.sent.items
+    (subst (λ (r : Reply). Step a (Drain l) r b) c.in-Sent.is c.step_with.ensures.step)
+    (subst (λ (r : Reply). (past : List Exchange) → LedgerTheorem past a → LedgerTheorem (past ++ (Drain l, r) ∷ []) b) c.in-Sent.is c.step_with.ensures.theorem)
+    (subst (λ (r : Reply). notes g.W.Watch.notes_before g.W.Watch.notes_after w 1 (Drain l) r a b z) c.in-Sent.is c.step_with.ensures.noted)
     c.add.ensures.added
 
 pub returns-in-Sent-clause-others : goal.returns-in-Sent-clause-others
-returns-in-Sent-clause-others c =
-    on_ok_any c.add.result (others_stay c.args.node.now c.step.new.self c.args.link c.in-Sent.bytes (subst (λ (r : Reply). Step c.args.node.now (Drain c.args.link) r c.step.new.self) c.in-Sent.is c.step.ensures.step))
+returns-in-Sent-clause-others g c =
+    on_ok_any c.add.result (others_stay c.args.node.now c.step_with.new.node c.args.link c.in-Sent.bytes (subst (λ (r : Reply). Step c.args.node.now (Drain c.args.link) r c.step_with.new.node) c.in-Sent.is c.step_with.ensures.step))
 
 pub returns-in_default : goal.returns-in_default
-returns-in_default c = record {
-  drawn = draw_refused c.args.node.now c.step.new.self c.args.link c.step.result NoMemory (λ heard. Drained (Drain c.args.link ∷ []) c.args.sent.now.items c.args.sent.now.items heard) c.step.ensures.step c.step.ensures.theorem;
+returns-in_default g c = record {
+  drawn = draw_refused (notes g.W.Watch.notes_before g.W.Watch.notes_after) c.args.watch.now c.step_with.new.watch c.args.node.now c.step_with.new.node c.args.link c.step_with.result NoMemory (λ heard. Drained (Drain c.args.link ∷ []) c.args.sent.now.items c.args.sent.now.items heard) c.step_with.ensures.step c.step_with.ensures.theorem c.step_with.ensures.noted;
   others = tt;
   runs = tt;
   only_memory = refl;

@@ -1,17 +1,13 @@
-use Rattle.std.proofs.Common.{false, refl}
-use Rattle.scp_episode.proofs.Episodes.{found_full, found_failed, rests_and_drains}
+use Rattle.scp_types.specs.declared.fault.Fault.TheVariants.{Failed}
+use Rattle.scp_turn.specs.Watch.{notes}
+use Rattle.scp_episode.proofs.Episodes.{rests_and_fails, rests_and_drains}
 use Rattle.scp_episode.proofs.playing.follow.Goals as goal
 
-pub returns-then-fullness-clause-followed : goal.returns-then-fullness-clause-followed
-returns-then-fullness-clause-followed c =
-    found_full c.rest-calm.result c.args.node.now c.rest-calm.new.node (record { is_full = false }) c.rest-calm.new.watch c.args.sent.now.items c.args.sent.now.items refl c.if-fullness.true c.rest-calm.ensures
-
 pub returns-then-has_failed-clause-followed : goal.returns-then-has_failed-clause-followed
-returns-then-has_failed-clause-followed c =
-    found_failed c.rest-calm.result c.args.node.now c.rest-calm.new.node (record { is_full = false }) c.rest-calm.new.watch c.args.sent.now.items c.args.sent.now.items refl c.if-fullness.false c.rest-calm.ensures
+returns-then-has_failed-clause-followed g c =
+    rests_and_fails (notes g.W.Watch.notes_before g.W.Watch.notes_after) Failed c.rest-calm.result c.args.watch.now c.rest-calm.new.watch c.args.node.now c.rest-calm.new.node c.args.sent.now.items c.args.sent.now.items c.rest-calm.ensures
 
 pub returns-clause-followed : goal.returns-clause-followed
-returns-clause-followed c =
-    let g = c.drain.ensures.drained in
-    rests_and_drains c.drain.result c.rest-calm.result c.args.node.now c.rest-calm.new.node c.drain.new.node (record { is_full = false }) c.rest-calm.new.watch c.args.sent.now.items c.drain.new.sent.items
-    c.drain.ensures.only_memory refl c.if-fullness.false c.rest-calm.ensures (record { heard = g.heard; is = g.is; does = g.does; theorem = g.theorem })
+returns-clause-followed g c =
+    rests_and_drains (notes g.W.Watch.notes_before g.W.Watch.notes_after) c.drain.result c.rest-calm.result c.args.watch.now c.rest-calm.new.watch c.drain.new.watch c.args.node.now c.rest-calm.new.node c.drain.new.node c.args.sent.now.items c.drain.new.sent.items
+    c.rest-calm.ensures c.drain.ensures.drained

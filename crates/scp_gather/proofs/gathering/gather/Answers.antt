@@ -39,7 +39,7 @@ returns-clause-theorem c = λ me set peers n.
     (λ (r : NodeReport). (r.applied.items ≡ c.settle-pending.result.2.applied) × (Some r.state ≡ c.settle-pending.result.2.state))
     (λ (r : NodeReport). IsReportOf me set peers c.args.ends r.journal.items r.parked.items r.applied.items r.state)
     (λ r journal parked ascending applied.
-    let here : AreParked c.args.ends.pend.view r.parked.items = subst (λ (v : PendingView). AreParked v r.parked.items) parts.0 (parked me peers came w.given.sent pends) in
+    let here : AreParked c.args.ends.pend.stage r.parked.items = subst (λ (v : PendingView). AreParked v r.parked.items) parts.0 (parked me peers came w.given.sent pends) in
     record {
       gathered = g;
       journal_is = journal ∙ ap (λ (v : KvLedger). v.journal) parts.1;
@@ -67,7 +67,7 @@ pub returns-clause-commands : goal.returns-clause-commands
 returns-clause-commands c = λ me set peers n.
     let w = c.settle-pending.ensures.ended in
     let g = c.what_ends_well_is_gathered.ensures me set peers c.args.ends n w in
-    let fates = fates_of_node c.each_command_passes_once.ensures.commands me set peers c.args.ends n w g c.settle-pending.ensures.tells in
+    let fates = fates_of_node c.each_command_passes_once.ensures.commands me set peers c.args.ends n w g in
     if_ok_one
     (λ (r : NodeReport). r.commands.items ≡ c.settle-pending.result.3.items)
     (λ (r : NodeReport). AreFatesOf me set peers c.args.ends r.commands.items)

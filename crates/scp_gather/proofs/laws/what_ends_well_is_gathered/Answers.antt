@@ -1,4 +1,4 @@
-use Rattle.scp_gather.proofs.Joining.{Laws, gathered}
+use Rattle.scp_gather.proofs.Joining.{gathered}
 use Rattle.scp_gather.proofs.laws.what_ends_well_is_gathered.Goals as goal
 
 pub returns : goal.returns

@@ -4,7 +4,7 @@ use Rattle.scp_log.specs.Kept.{IsSettled}
 use Rattle.scp_log.specs.Log.{EntryView, batch_of}
 use Rattle.scp_node.specs.Replays.{AreReplayed}
 use Rattle.scp_node.proofs.Started.{restarted}
-use Rattle.scp_node.proofs.Going.{Heard, heard_nothing, heard_then, then_unsaid}
+use Rattle.scp_node.proofs.Going.{Heard, heard_as, heard_nothing, heard_then, then_unsaid}
 use Rattle.scp_node.proofs.starting.restart.Goals as goal
 
 pub returns-in_err-entries-clause-restarted : goal.returns-in_err-entries-clause-restarted
@@ -28,7 +28,7 @@ returns-clause-restarted g c =
     let holds = g.L.EventLog.holds in
     let may_leave = g.L.EventLog.may_leave in
     let entries = c.in_ok-entries.entries.items in
-    let replayed = subst (λ (l : List EntryView). Heard c.args.live.now.node c.replay.new.live.node (λ heard. AreReplayed l c.args.live.now heard c.replay.new.live)) c.as_slice.ensures.value c.in_ok-replay.ensures.replayed in
+    let replayed = subst (λ (l : List EntryView). Heard c.args.live.now.node c.replay.new.live.node (λ heard. AreReplayed l c.args.live.now heard c.replay.new.live)) c.as_slice.ensures.value (heard_as c.args.live.now.node c.replay.new.live.node _ (λ heard. AreReplayed c.as_slice.result.now c.args.live.now heard c.replay.new.live) (λ heard p. p.0) c.in_ok-replay.ensures.replayed) in
     let count : c.len.result ≡ length entries = omega (arith, c.len.ensures, c.in_ok-entries.entries.ok) in
     let counts : c.len-2.result ≡ length c.into_parts-text.result.1.items = omega (arith, c.len-2.ensures, c.into_parts-text.result.1.ok) in
     heard_then c.args.live.now.node c.replay.new.live.node c.close_all.new.live.node _ _ _

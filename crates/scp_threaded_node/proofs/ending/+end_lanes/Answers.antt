@@ -4,7 +4,7 @@ use Rattle.std.proofs.lemmas.List.{length-append}
 use Rattle.std.proofs.lemmas.Option.{slice_get-get_or}
 use Rattle.scp_threaded_node.proofs.Leaving.{left_more, sent_left, driven_front, driven_last}
 use Rattle.std.specs.Result.{result_err}
-use Rattle.scp_threaded_node.proofs.Told.{first_none, readers_more, ended_more, none_ended}
+use Rattle.scp_threaded_node.proofs.Told.{first_none, readers_more, ended_more}
 use Rattle.scp_threaded_node.proofs.ending.+end_lanes.Goals as goal
 
 pub returns-clause-left : goal.returns-clause-left

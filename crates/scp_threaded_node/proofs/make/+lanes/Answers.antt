@@ -28,10 +28,10 @@ returns-clause-lanes t c =
     let few = ap (λ (l : List (Sender Inbound)). length l) c.in-Some.ensures.items in
     let one = length-append c.pop.new.self.items (c.in-Some.last ∷ []) in
     let peer = get_or c.args.peers.now c.len-place.result (record { 0 = [] }) in
-    lanes_more c.args.me c.args.peers.now c.args.rx.now.line c.in_ok-lanes.lanes.items c.push_reserved.new.self.items c.in_ok-next.next peer grown
+    lanes_more c.args.me c.args.peers.now c.args.rx.now.line c.args.capacity c.in_ok-lanes.lanes.items c.push_reserved.new.self.items c.in_ok-next.next peer grown
     (ap (slice_get c.args.peers.now) count ∙ slice_get-get_or c.args.peers.now c.len-place.result (record { 0 = [] }) (omega (arith, few, one, c.requires.few.0)))
-    (subst (λ (n : ℕ). IsLane c.args.me peer c.args.rx.now.line n c.in_ok-next.next.tail c.in_ok-next.next.reader) (sym count)
-    (subst (λ (line : Line Inbound). IsLane c.args.me peer line c.len-place.result c.in_ok-next.next.tail c.in_ok-next.next.reader) (ap (λ (s : Sender Inbound). s.line) is) c.in_ok-next.ensures.lane))
+    (subst (λ (n : ℕ). IsLane c.args.me peer c.args.rx.now.line c.args.capacity n c.in_ok-next.next.tail c.in_ok-next.next.reader) (sym count)
+    (subst (λ (line : Line Inbound). IsLane c.args.me peer line c.args.capacity c.len-place.result c.in_ok-next.next.tail c.in_ok-next.next.reader) (ap (λ (s : Sender Inbound). s.line) is) c.in_ok-next.ensures.lane))
     c.in_ok-lanes.ensures.lanes
 
 pub returns-clause-unused : goal.returns-clause-unused

@@ -12,11 +12,11 @@ pub start_lane-requires : goal.start_lane-requires
 start_lane-requires g t c = (c.requires.sync.0, (c.requires.sync.1, unused_last c.pop.new.self.items c.args.lanes.items c.in-Some.last c.in-Some.ensures.items c.requires.unused))
 
 pub returns-clause-lanes : goal.returns-clause-lanes
-returns-clause-lanes g t c = λ me peers inbox lanes.
+returns-clause-lanes g t c = λ me peers inbox room lanes.
     let grown = c.push_reserved.ensures.items ∙ ap (λ l. l ++ c.in_ok-next.next ∷ []) c.reserve.ensures.items in
-    running_more me peers inbox c.pop.new.self.items c.args.lanes.items c.in-Some.last c.in_ok-running.running.items c.push_reserved.new.self.items c.in_ok-next.next
+    running_more me peers inbox room c.pop.new.self.items c.args.lanes.items c.in-Some.last c.in_ok-running.running.items c.push_reserved.new.self.items c.in_ok-next.next
     c.in-Some.ensures.items grown c.in_ok-running.ensures.count c.in_ok-next.ensures.tail c.in_ok-next.ensures.reader lanes
-    (c.in_ok-running.ensures.lanes me peers inbox (lanes_front me peers inbox c.pop.new.self.items c.args.lanes.items c.in-Some.last c.in-Some.ensures.items lanes))
+    (c.in_ok-running.ensures.lanes me peers inbox room (lanes_front me peers inbox room c.pop.new.self.items c.args.lanes.items c.in-Some.last c.in-Some.ensures.items lanes))
 
 pub returns-clause-driven : goal.returns-clause-driven
 returns-clause-driven g t c = λ driven sources.

@@ -11,4 +11,4 @@ spawn_with-requires g c κs =
     let t = c.type_bounds.sync-G in
     let w = courier_send c.a_shared_outbox_crosses_threads.ensures.crosses in
     let e = courier_ended_send in
-    (search (sendable, crosses) depth 40, (search (sendable, crosses) depth 40, (tt, λ left holds. subst (λ (worker : CourierWorking). HoldsLink worker.link left) (sym c.of.ensures) holds)))
+    (search (sendable, crosses) depth 40, (search (sendable, crosses) depth 40, (c.requires.unused, λ left holds. subst (λ (worker : CourierWorking). HoldsLink worker.link left) (sym c.of.ensures) holds)))

@@ -12,7 +12,7 @@ use Rattle.scp_threaded_node.specs.Faults.{IsNodeEnd, fault_of}
 use Rattle.scp_threaded_script.proofs.Ending.{ended_more, nil_of, none_ended, told_refused}
 use Rattle.std.proofs.lemmas.List.{length-append}
 use Rattle.scp_script.specs.Script.{node_count}
-use Rattle.scp_script.specs.Nodes.{id_of, peers_of, set_at}
+use Rattle.scp_script.specs.Nodes.{capacities_in, id_of, peers_of, set_at}
 use Rattle.scp_threaded_script.specs.Lines.{driven_to, items_to}
 use Rattle.scp_threaded_script.proofs.Nodes.{runs_front, runs_last, done_front, last_sent, last_reported, reported_more, stands_at, lanes_fit}
 use Rattle.scp_threaded_script.proofs.Peers.{peers_apart}
@@ -31,7 +31,7 @@ pub end-told-requires-clause-runs : goal.end-told-requires-clause-runs
 end-told-requires-clause-runs g t c =
     let h = c.requires.nodes in
     let n = length c.pop.new.self.items + 1 in
-    (id_of n, set_at n h.0, peers_of (node_count h.0) n, runs_last h.0 c.pop.new.self.items c.args.nodes.items c.in-Some.last c.in-Some.ensures.items h.1)
+    (id_of n, set_at n h.0, peers_of (node_count h.0) n, capacities_in h.0, runs_last h.0 c.pop.new.self.items c.args.nodes.items c.in-Some.last c.in-Some.ensures.items h.1)
 
 pub end-told-requires-clause-stood : goal.end-told-requires-clause-stood
 end-told-requires-clause-stood g t c =
@@ -61,7 +61,7 @@ returns-clause-reported g t c = λ commands done standing whole.
     let at : c.len-place.result ≡ length rest = omega (arith, c.len-place.ensures, c.pop.new.self.ok.0) in
     let before = c.end_nodes-ended.ensures.reported commands (done_front commands commands rest nodes last is done) standing told.0 in
     let stands = stands_at commands stood (length rest) c.index-stood-place.result c.as_slice.result.now standing (omega (arith, one, count, h.2.0, h.3)) (c.index-stood-place.is ∙ ap (λ k. get_or stood k c.index-stood-place.result) at) c.as_slice.ensures.value in
-    let ended = c.end-told.ensures.ended (id_of n) (set_at n commands) (peers_of (node_count commands) n) (peers_apart (node_count commands) n (omega arith)) (runs_last commands rest nodes last is done.run) (driven_to commands n) (items_to n commands) (last_sent commands commands rest nodes last is done) in
+    let ended = c.end-told.ensures.ended (id_of n) (set_at n commands) (peers_of (node_count commands) n) (capacities_in commands) (peers_apart (node_count commands) n (omega arith)) (runs_last commands rest nodes last is done.run) (driven_to commands n) (items_to n commands) (last_sent commands commands rest nodes last is done) in
     let here = last_reported commands rest nodes last c.as_slice.result.now c.end-told.result told.1 is done stands told.2 ended in
     let more = reported_more commands (length rest) c.end_nodes-ended.result.all.items c.add.new.ended.all.items told.1 before.0 told.3 before.1 here in
     (omega (arith, one, count, more.0), more.1)

@@ -1,6 +1,6 @@
 use Rattle.std.proofs.Common.{◌∙◌, ap, sym, subst, ◌+◌, List, [], ◌∷◌, ◌++◌, length, arith}
 use Rattle.std.proofs.lemmas.List.{length-append}
-use Rattle.scp_script.specs.Nodes.{id_of, peers_of, set_at}
+use Rattle.scp_script.specs.Nodes.{capacities_in, id_of, peers_of, set_at}
 use Rattle.scp_threaded_node.specs.declared.node.Node.{Node}
 use Rattle.scp_threaded_node.specs.Seats.{Runs}
 use Rattle.scp_threaded_script.specs.Reported.{AllRunSoFar}
@@ -24,5 +24,5 @@ loop-index-preserved g c =
     record {
       count = omega (arith, ap length is, length-append nodes (node ∷ []), c.loop-index.invariant.count);
       done = done_more commands number nodes new node (ap (λ n. n + 1) (sym c.loop-index.invariant.count)) is c.loop-index.invariant.done
-          (subst (λ k. Runs (id_of number) (set_at number commands) (peers_of k number) node) c.count_of_nodes-count.ensures.count c.in_ok-node.ensures.runs) c.in_ok-node.ensures.local c.in_ok-node.ensures.driven;
+          (subst (λ k. Runs (id_of number) (set_at number commands) (peers_of k number) (capacities_in commands) node) c.count_of_nodes-count.ensures.count c.in_ok-node.ensures.runs) c.in_ok-node.ensures.local c.in_ok-node.ensures.driven;
     }

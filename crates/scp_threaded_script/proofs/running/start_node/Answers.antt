@@ -1,6 +1,7 @@
 use Rattle.std.proofs.Common.{◌∙◌, ap, subst, length, arith}
 use Rattle.std.proofs.lemmas.Result.{err_from_is_err_and}
-use Rattle.scp_script.specs.Nodes.{id_of, peers_of, set_at}
+use Rattle.scp_script.specs.declared.command.Capacities.{Capacities}
+use Rattle.scp_script.specs.Nodes.{capacities_in, id_of, peers_of, set_at}
 use Rattle.scp_threaded_node.specs.Seats.{AreLanes, IsLocal, AreStages}
 use Rattle.scp_threaded_script.specs.Lines.{driven_to}
 use Rattle.scp_threaded_script.proofs.Peers.{peer_count}
@@ -22,13 +23,15 @@ returns-clause-runs g c =
     let peers = peers_of c.args.count c.args.number in
     let parts = c.in_ok-parts.parts in
     let e = c.as_slice.ensures.value ∙ c.in_ok-peers.ensures in
-    c.start.ensures.runs me (set_at c.args.number c.args.commands.now) peers
+    c.start.ensures.runs me (set_at c.args.number c.args.commands.now) peers (capacities_in c.args.commands.now)
     (c.in_ok-parts.ensures.count ∙ ap length e)
-    (subst (λ x. AreLanes x peers parts.pend.input.line parts.lanes.items) c.id_from.ensures (subst (λ xs. AreLanes c.id_from.result xs parts.pend.input.line parts.lanes.items) e c.in_ok-parts.ensures.lanes))
+    (subst (λ (caps : Capacities). AreLanes me peers parts.pend.input.line caps.link parts.lanes.items) c.capacities_of.ensures
+    (subst (λ x. AreLanes x peers parts.pend.input.line c.capacities_of.result.link parts.lanes.items) c.id_from.ensures (subst (λ xs. AreLanes c.id_from.result xs parts.pend.input.line c.capacities_of.result.link parts.lanes.items) e c.in_ok-parts.ensures.lanes)))
     (subst (λ xs. IsLocal xs parts.pend parts.local) e c.in_ok-parts.ensures.local)
-    (subst (λ x. AreStages x (set_at c.args.number c.args.commands.now) peers parts.pend parts.slot parts.apply) c.id_from.ensures
-    (subst (λ x. AreStages c.id_from.result x peers parts.pend parts.slot parts.apply) c.in_ok-set.ensures.set
-    (subst (λ xs. AreStages c.id_from.result c.in_ok-set.set xs parts.pend parts.slot parts.apply) e c.in_ok-parts.ensures.stages)))
+    (subst (λ (caps : Capacities). AreStages me (set_at c.args.number c.args.commands.now) peers caps parts.pend parts.slot parts.apply) c.capacities_of.ensures
+    (subst (λ x. AreStages x (set_at c.args.number c.args.commands.now) peers c.capacities_of.result parts.pend parts.slot parts.apply) c.id_from.ensures
+    (subst (λ x. AreStages c.id_from.result x peers c.capacities_of.result parts.pend parts.slot parts.apply) c.in_ok-set.ensures.set
+    (subst (λ xs. AreStages c.id_from.result c.in_ok-set.set xs c.capacities_of.result parts.pend parts.slot parts.apply) e c.in_ok-parts.ensures.stages))))
 
 pub returns-clause-driven : goal.returns-clause-driven
 returns-clause-driven g c = c.start.ensures.driven (driven_to c.args.commands.now c.args.number) c.in_ok-sources.ensures.driven

@@ -1,0 +1,12 @@
+use Rattle.std.proofs.Common.{◌≡◌, ◌++◌, map, drop}
+use Rattle.serde_json.specs.View.{view}
+use Rattle.scp_account.specs.Links.{links_json}
+use Rattle.scp_account.specs.inside.Happened.{happened}
+use Rattle.scp_account.proofs.links.link_values.Given as goal
+
+-- with what is left it is all
+abbrev pub invariant-loop-peer : goal.invariant-loop-peer
+invariant-loop-peer l = record {
+  at : l.link ≡ l.peer-index;
+  so_far : map view l.values.items ++ links_json l.node.outboxes (happened l.happenings) l.link (drop l.peer-index l.peers) ≡ links_json l.node.outboxes (happened l.happenings) 0 l.peers;
+}

@@ -1,0 +1,14 @@
+pub mod Pieces
+pub mod Entries
+pub mod Commands
+pub mod Taken
+pub mod Links
+pub mod Parked
+pub mod Spoken
+pub mod Decisions
+pub mod Node
+pub mod Account
+pub mod Gathered
+pub mod Fits
+pub mod Laws
+pub mod inside

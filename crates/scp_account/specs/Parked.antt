@@ -1,0 +1,28 @@
+-- What waits at a node for quorum sets (this project's profile).
+use Rattle.std.specs.Prelude.{Option, Some, None, codes}
+use Rattle.serde_json.specs.Data.{Data, null, object, member, no_members}
+use Rattle.scp_types.specs.declared.names.Hash.{Hash}
+use Rattle.scp_types.specs.declared.names.Seq.{Seq}
+use Rattle.scp_pending.specs.Rules.{PendingView}
+use Rattle.scp_pending.specs.Queues.{parked_of, first_waiting as first_that_waits}
+use Rattle.scp_line.specs.declared.report.Parked.{Parked}
+use Rattle.scp_account.specs.Pieces.{count, digits, id_json}
+
+-- the number of the first message that waits, if one does
+abbrev pub number_json : Option (Seq × Hash) → Data
+number_json None = null
+number_json (Some first) = count first.0.0
+
+-- the hash of the quorum set that it waits for
+abbrev pub hash_json : Option (Seq × Hash) → Data
+hash_json None = null
+hash_json (Some first) = digits first.1.0
+
+-- how many messages of a connection a node holds, the first that waits for a quorum set, and for which
+abbrev pub parked_json : PendingView → Parked → Data
+parked_json pending held =
+    object (member (codes "count") (count held.count)
+    (member (codes "first") (number_json (first_that_waits (parked_of held.conn pending.settled.queues)))
+    (member (codes "from") (id_json held.conn.from)
+    (member (codes "hash") (hash_json (first_that_waits (parked_of held.conn pending.settled.queues)))
+    (member (codes "life") (count held.conn.life) no_members)))))

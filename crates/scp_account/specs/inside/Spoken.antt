@@ -1,0 +1,59 @@
+-- The ballot statements of slots, in a map.
+-- Here stands what no public clause reaches: nothing here need be believed.
+use Rattle.std.specs.Prelude.{ℕ, ◌≡◌, Bool, false, List, [], Option, Some, None, map, filter, nat_eq, if◌then◌else◌}
+use Rattle.std.specs.Ordering.{nat_cmp}
+use Rattle.std.specs.BTreeMap.{BTreeMap, get, is_at}
+use Rattle.std.proofs.Common.{Bor, Vec}
+use Rattle.scp_types.specs.declared.names.NodeId.{NodeId}
+use Rattle.scp_quorum.specs.NodeSet.{node_cmp}
+use Rattle.scp_envelope.specs.declared.statement.Statement.{Statement}
+use Rattle.scp_vote.specs.Board.{kind_of_pledges}
+use Rattle.scp_vote.specs.declared.claim.StatementKind.TheVariants.{Balloting}
+use Rattle.scp_ledger.specs.declared.journal.Fate.{Fate}
+use Rattle.scp_ledger.specs.Journal.{Heard, fresh_heard, same_kind}
+use Rattle.scp_account.specs.Fits.{FitsEntry}
+
+-- the ballot statement that was heard, if it is one
+abbrev pub ballot_in : Option Heard → Option Statement
+ballot_in None = None
+ballot_in (Some h) = if same_kind (kind_of_pledges h.statement.pledges) Balloting then Some h.statement else None
+
+-- the statement, if there is one, is of this slot
+abbrev pub is_slots : ℕ → Option Statement → Bool
+is_slots slot None = false
+is_slots slot (Some s) = nat_eq s.slot.0 slot
+
+-- what was heard is a ballot statement of this slot
+abbrev pub is_in_slot : ℕ → Option Heard → Bool
+is_in_slot slot heard = is_slots slot (ballot_in heard)
+
+-- the statement, if there is one, is of this node
+abbrev pub is_nodes : NodeId → Option Statement → Bool
+is_nodes node None = false
+is_nodes node (Some s) = is_at (node_cmp s.node) node
+
+-- what was heard is a ballot statement of this node
+abbrev pub is_its : NodeId → Option Heard → Bool
+is_its node heard = is_nodes node (ballot_in heard)
+
+-- the ballot statements of a slot among entries
+abbrev pub spoken : List Fate → ℕ → List Fate
+spoken journal slot = filter (λ fate. is_in_slot slot (fresh_heard fate)) journal
+
+-- entries that may be there, as definitions see them
+abbrev pub entries_or_none : {Z : Type 0} → Option (Vec (Bor Fate) Z) → List Fate
+entries_or_none {Z} None = []
+entries_or_none {Z} (Some entries) = map (λ fate. fate.now) entries.items
+
+-- the entries of a slot
+abbrev pub spoken_at : {Z : Type 0} → BTreeMap ℕ (Vec (Bor Fate) Z) → ℕ → List Fate
+spoken_at spoken slot = entries_or_none (get nat_cmp spoken slot)
+
+-- these are the ballot statements of a slot among the entries of a journal
+abbrev pub AreSpoken : List (Bor Fate) → List Fate → ℕ → Type 0
+AreSpoken entries journal slot = map (λ fate. fate.now) entries ≡ spoken journal slot
+
+-- what may be there breaks no limit
+abbrev pub FitsIf : Option Fate → Type 0
+FitsIf None = Unit {0}
+FitsIf (Some fate) = FitsEntry fate

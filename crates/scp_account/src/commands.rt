@@ -1,0 +1,63 @@
+//! Commands, and what became of them, as JSON.
+ghost use Rattle.std.specs.Prelude.{◌≡◌, codes, IfOk};
+ghost use Rattle.serde_json.specs.Data.{string, object, member, no_members};
+ghost use Rattle.serde_json.specs.View.{view};
+ghost use Rattle.scp_account.specs.Pieces.{count, digits};
+ghost use Rattle.scp_account.specs.Commands.{fate_json, command_json};
+
+use crate::digits::digits_of;
+use scp_core::{Command, CommandFate};
+use scp_silent::word_of_fate;
+use scp_types::{Slot, Value as Bytes};
+use serde_json::{Value, json};
+use std::alloc::{AllocError, Global};
+
+/// What became of a command.
+pub fn fate_value(alloc: Global, fate: CommandFate) -> Result<Value, AllocError>
+    ensures { IfOk result (λ v. view v ≡ fate_json fate) }
+{
+    Ok(Value::from(String::from_str(alloc, word_of_fate(fate))?))
+}
+
+/// A proposal.
+fn proposal(alloc: Global, slot: Slot, value: &Bytes, fate: Value) -> Result<Value, AllocError>
+    ensures { IfOk result (λ v. view v ≡ object (member (codes "command") (string (codes "propose")) (member (codes "fate") (view fate) (member (codes "slot") (count slot.0) (member (codes "value") (digits value.now) no_members))))) }
+{
+    let number = slot.0;
+    let digits = digits_of(alloc, value.as_slice())?;
+    json!(in alloc; {"command": "propose", "fate": fate, "slot": number, "value": digits})
+}
+
+/// A command for a slot that says no more.
+fn plain(alloc: Global, word: &'static str, slot: Slot, fate: Value) -> Result<Value, AllocError>
+    ensures { IfOk result (λ v. view v ≡ object (member (codes "command") (string word.now) (member (codes "fate") (view fate) (member (codes "slot") (count slot.0) no_members)))) }
+{
+    let number = slot.0;
+    json!(in alloc; {"command": word, "fate": fate, "slot": number})
+}
+
+/// A request for a record.
+fn request(alloc: Global, link: u8, slot: Slot, fate: Value) -> Result<Value, AllocError>
+    ensures { IfOk result (λ v. view v ≡ object (member (codes "command") (string (codes "ask")) (member (codes "fate") (view fate) (member (codes "link") (count link) (member (codes "slot") (count slot.0) no_members))))) }
+{
+    let number = slot.0;
+    json!(in alloc; {"command": "ask", "fate": fate, "link": link, "slot": number})
+}
+
+/// A command, and what became of it.
+pub fn command_value(
+    alloc: Global,
+    command: &Command,
+    fate: CommandFate,
+) -> Result<Value, AllocError>
+    ensures { IfOk result (λ v. view v ≡ command_json command.now fate) }
+{
+    let fate = fate_value(alloc, fate)?;
+    match command {
+        Command::Tick => json!(in alloc; {"command": "tick", "fate": fate}),
+        Command::Propose(slot, value) => proposal(alloc, *slot, value, fate),
+        Command::Round(slot) => plain(alloc, "round", *slot, fate),
+        Command::Timer(slot) => plain(alloc, "timer", *slot, fate),
+        Command::Ask(link, slot) => request(alloc, *link, *slot, fate),
+    }
+}

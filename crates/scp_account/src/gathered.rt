@@ -1,0 +1,198 @@
+//! The account of nodes whose stages ran in threads.
+ghost use Rattle.std.specs.Prelude.{◌≡◌, ◌≤◌, [], All, codes, IfOk, IsOkUnless, length, map, string_bytes};
+ghost use Rattle.serde_json.specs.Data.{array, object, member, no_members, string};
+ghost use Rattle.serde_json.specs.View.{view, items_of};
+ghost use Rattle.scp_script.specs.Script.{AreAdmitted};
+ghost use Rattle.scp_script.specs.Nodes.{NamesNodes, set_at};
+ghost use Rattle.scp_account.specs.Pieces.{count, set_json};
+ghost use Rattle.scp_account.specs.Commands.{fate_json};
+ghost use Rattle.scp_account.specs.Decisions.{decision_json};
+ghost use Rattle.scp_account.specs.Entries.{entry_json};
+ghost use Rattle.scp_account.specs.Gathered.{all_gathered, gathered_json, gathered_text as text_of, waiting_json};
+ghost use Rattle.scp_account.specs.Fits.{FitReports, FitsEntry, FitsOrigin, FitsReport, FitsSet};
+
+use crate::applied::keys_of;
+use crate::commands::fate_value;
+use crate::decisions::decision_values;
+use crate::digits::{id_value, message_value, set_value};
+use crate::document::line_of;
+use crate::entries::entry_value;
+use crate::spoken::spoken_in;
+use scp_core::CommandFate;
+use scp_gather::NodeReport;
+use scp_ledger::{Fate, SharedDecision};
+use scp_script::{Command, id_from, set_of_node};
+use scp_types::{Fault, NodeId};
+use scp_wire::Carried;
+use serde_json::{Value, json};
+use std::alloc::{AllocError, Global};
+
+/// A message that waits, by its parts.
+fn waiting_with(
+    alloc: Global,
+    bytes: Value,
+    from: Value,
+    life: u32,
+    number: u64,
+) -> Result<Value, AllocError>
+    ensures { IfOk result (λ v. view v ≡ object (member (codes "bytes") (view bytes) (member (codes "from") (view from) (member (codes "life") (count life) (member (codes "message") (count number) no_members))))) }
+{
+    json!(in alloc; {"bytes": bytes, "from": from, "life": life, "message": number})
+}
+
+/// A message that waits.
+fn waiting_value(alloc: Global, carried: &Carried) -> Result<Value, Fault>
+    ensures value { IfOk result (λ v. view v ≡ waiting_json carried.now) }
+    ensures only_memory { IsOkUnless result Fault.NoMemory }
+{
+    let bytes = message_value(alloc, carried.message.get())?;
+    let from = id_value(alloc, &carried.conn.from)?;
+    let value = waiting_with(alloc, bytes, from, carried.conn.life, carried.seq.0)?;
+    Ok(value)
+}
+
+/// The messages that wait.
+fn waiting_values(alloc: Global, parked: &[Carried]) -> Result<Value, Fault>
+    ensures value { IfOk result (λ v. view v ≡ array (items_of (map waiting_json parked.now))) }
+    ensures only_memory { IsOkUnless result Fault.NoMemory }
+{
+    let mut values = Vec::new(alloc);
+    for carried in parked {
+        values.push(waiting_value(alloc, carried)?)?;
+    }
+    Ok(Value::from(values))
+}
+
+/// What became of commands.
+fn fate_values(alloc: Global, fates: &[CommandFate]) -> Result<Value, AllocError>
+    ensures { IfOk result (λ v. view v ≡ array (items_of (map fate_json fates.now))) }
+{
+    let mut values = Vec::new(alloc);
+    for fate in fates {
+        values.push(fate_value(alloc, *fate)?)?;
+    }
+    Ok(Value::from(values))
+}
+
+/// The entries of a journal.
+fn entry_values(alloc: Global, journal: &[Fate]) -> Result<Value, Fault>
+    ensures value { IfOk result (λ v. view v ≡ array (items_of (map entry_json journal.now))) }
+    ensures only_memory { All FitsEntry journal.now → IsOkUnless result Fault.NoMemory }
+{
+    let mut values = Vec::new(alloc);
+    for fate in journal {
+        values.push(entry_value(alloc, fate)?)?;
+    }
+    Ok(Value::from(values))
+}
+
+/// Decisions, by a journal.
+fn decided_values(
+    alloc: Global,
+    me: &NodeId,
+    journal: &[Fate],
+    applied: &[SharedDecision],
+) -> Result<Value, Fault>
+    ensures value { IfOk result (λ v. view v ≡ array (items_of (map (decision_json me.now journal.now) applied.now))) }
+    ensures only_memory { All FitsEntry journal.now → All (λ d. FitsOrigin d.origin) applied.now → IsOkUnless result Fault.NoMemory }
+{
+    let spoken = spoken_in(alloc, journal)?;
+    decision_values(alloc, me, &spoken, applied)
+}
+
+/// What the threads of a node left, by its parts.
+fn gathered_with(
+    alloc: Global,
+    applied: Value,
+    commands: Value,
+    id: Value,
+    number: u8,
+    parked: Value,
+    set: Value,
+    state: Value,
+    taken: Value,
+) -> Result<Value, AllocError>
+    ensures { IfOk result (λ v. view v ≡ object (member (codes "applied") (view applied) (member (codes "commands") (view commands) (member (codes "id") (view id) (member (codes "node") (count number) (member (codes "parked") (view parked) (member (codes "set") (view set) (member (codes "state") (view state) (member (codes "taken") (view taken) no_members))))))))) }
+{
+    json!(in alloc; {"applied": applied, "commands": commands, "id": id, "node": number, "parked": parked, "set": set, "state": state, "taken": taken})
+}
+
+/// The own quorum set of the node of this number.
+fn own_set(alloc: Global, commands: &[Command], number: u8) -> Result<Value, Fault>
+    requires names { All NamesNodes commands.now }
+    requires admitted { AreAdmitted [] commands.now }
+    ensures value { IfOk result (λ v. view v ≡ set_json (set_at number commands.now)) }
+    ensures only_memory { FitsSet (set_at number commands.now) → IsOkUnless result Fault.NoMemory }
+{
+    let set = set_of_node(alloc, commands, number)?;
+    set_value(alloc, &set)
+}
+
+/// What the threads of the node of this number left.
+fn gathered_value(
+    alloc: Global,
+    commands: &[Command],
+    number: u8,
+    report: &NodeReport,
+) -> Result<Value, Fault>
+    requires names { All NamesNodes commands.now }
+    requires admitted { AreAdmitted [] commands.now }
+    ensures value { IfOk result (λ v. view v ≡ gathered_json commands.now number report.now) }
+    ensures only_memory { FitsReport commands.now number report.now → IsOkUnless result Fault.NoMemory }
+{
+    let me = id_from(number);
+    let journal = report.journal.as_slice();
+    let applied = decided_values(alloc, &me, journal, report.applied.as_slice())?;
+    let fates = fate_values(alloc, report.commands.as_slice())?;
+    let id = id_value(alloc, &me)?;
+    let parked = waiting_values(alloc, report.parked.as_slice())?;
+    let set = own_set(alloc, commands, number)?;
+    let state = keys_of(alloc, &report.state)?;
+    let taken = entry_values(alloc, journal)?;
+    let value = gathered_with(alloc, applied, fates, id, number, parked, set, state, taken)?;
+    Ok(value)
+}
+
+/// What the threads of all nodes left.
+fn all_values(alloc: Global, commands: &[Command], reports: &[NodeReport]) -> Result<Value, Fault>
+    requires names { All NamesNodes commands.now }
+    requires admitted { AreAdmitted [] commands.now }
+    requires few { length reports.now ≤ 8 }
+    ensures value { IfOk result (λ v. view v ≡ array (items_of (all_gathered commands.now 0 reports.now))) }
+    ensures only_memory { FitReports commands.now 0 reports.now → IsOkUnless result Fault.NoMemory }
+{
+    let mut values = Vec::new(alloc);
+    let mut number = 0;
+    for report in reports {
+        number += 1;
+        values.push(gathered_value(alloc, commands, number, report)?)?;
+    }
+    Ok(Value::from(values))
+}
+
+/// The document.
+fn document(alloc: Global, nodes: Value) -> Result<Value, AllocError>
+    ensures { IfOk result (λ v. view v ≡ object (member (codes "mode") (string (codes "threads")) (member (codes "nodes") (view nodes) no_members))) }
+{
+    json!(in alloc; {"mode": "threads", "nodes": nodes})
+}
+
+/// The account of the nodes of a script whose stages ran in threads, as one JSON document in a line: what their threads left. It takes time in
+/// proportion to the entries.
+pub fn account_gathered(
+    alloc: Global,
+    commands: &[Command],
+    reports: &[NodeReport],
+) -> Result<String, Fault>
+    requires names { All NamesNodes commands.now }
+    requires admitted { AreAdmitted [] commands.now }
+    requires few { length reports.now ≤ 8 }
+    // It is the text of a document that the reports determine.
+    ensures text { IfOk result (λ text. string_bytes text ≡ text_of commands.now reports.now) }
+    // Memory is the one reason to refuse, where no message, set or own statement of a node breaks a limit.
+    ensures only_memory { FitReports commands.now 0 reports.now → IsOkUnless result Fault.NoMemory }
+{
+    let nodes = all_values(alloc, commands, reports)?;
+    let document = document(alloc, nodes)?;
+    Ok(line_of(alloc, &document)?)
+}

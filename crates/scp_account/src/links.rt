@@ -1,0 +1,136 @@
+//! What went over the links of a node, as JSON.
+ghost use Rattle.std.specs.Prelude.{◌≡◌, ◌++◌, IfOk, OnOk, codes, flat_map, map, take};
+ghost use Rattle.serde_json.specs.Data.{array, object, member, no_members, string};
+ghost use Rattle.serde_json.specs.View.{view, items_of};
+ghost use Rattle.scp_types.specs.declared.limits.TheConstants.{PEER_LIMIT};
+ghost use Rattle.scp_account.specs.Pieces.{count, id_json};
+ghost use Rattle.scp_account.specs.Links.{came as came_in, sent as sent_in, link_json, links_json};
+ghost use Rattle.scp_account.specs.inside.Happened.{happened};
+
+use crate::digits::{digits_of, id_value};
+use scp_core::Node;
+use scp_kept::{Happening, first_peers};
+use scp_types::NodeId;
+use serde_json::{Value, json};
+use std::alloc::{AllocError, Global};
+
+/// A word.
+fn word(alloc: Global, word: &str) -> Result<Value, AllocError>
+    ensures { IfOk result (λ v. view v ≡ string word.now) }
+{
+    Ok(Value::from(String::from_str(alloc, word)?))
+}
+
+/// Adds what came over the link, if it is that.
+fn add_came(
+    alloc: Global,
+    values: &mut Vec<Value>,
+    link: u8,
+    happening: &Happening,
+) -> Result<(), AllocError>
+    ensures { OnOk result (map view values.new.items ≡ map view values.old.items ++ came_in link happening.now) }
+{
+    match happening {
+        Happening::Opened(at) if *at == link => values.push(word(alloc, "open")?)?,
+        Happening::Came(at, bytes) if *at == link => {
+            values.push(digits_of(alloc, bytes.as_slice())?)?
+        }
+        Happening::Closed(at) if *at == link => values.push(word(alloc, "close")?)?,
+        _ => {}
+    }
+    Ok(())
+}
+
+/// What came over a link, in order.
+fn came(alloc: Global, link: u8, happenings: &[&Happening]) -> Result<Value, AllocError>
+    ensures { IfOk result (λ v. view v ≡ array (items_of (flat_map (came_in link) (happened happenings.now)))) }
+{
+    let mut values = Vec::new(alloc);
+    for happening in happenings {
+        add_came(alloc, &mut values, link, *happening)?;
+    }
+    Ok(Value::from(values))
+}
+
+/// Adds what was sent over the link, if it is that.
+fn add_sent(
+    alloc: Global,
+    values: &mut Vec<Value>,
+    link: u8,
+    happening: &Happening,
+) -> Result<(), AllocError>
+    ensures { OnOk result (map view values.new.items ≡ map view values.old.items ++ sent_in link happening.now) }
+{
+    if let Happening::Sent(at, bytes) = happening
+        && *at == link
+    {
+        values.push(digits_of(alloc, bytes.as_slice())?)?;
+    }
+    Ok(())
+}
+
+/// What was sent over a link, in order.
+fn sent(alloc: Global, link: u8, happenings: &[&Happening]) -> Result<Value, AllocError>
+    ensures { IfOk result (λ v. view v ≡ array (items_of (flat_map (sent_in link) (happened happenings.now)))) }
+{
+    let mut values = Vec::new(alloc);
+    for happening in happenings {
+        add_sent(alloc, &mut values, link, *happening)?;
+    }
+    Ok(Value::from(values))
+}
+
+/// A link, by what went over it.
+fn link_with(
+    alloc: Global,
+    came: Value,
+    overwritten: u64,
+    peer: Value,
+    sent: Value,
+    waiting: usize,
+) -> Result<Value, AllocError>
+    ensures { IfOk result (λ v. view v ≡ object (member (codes "came") (view came) (member (codes "overwritten") (count overwritten) (member (codes "peer") (view peer) (member (codes "sent") (view sent) (member (codes "waiting") (count waiting) no_members)))))) }
+{
+    json!(in alloc; {"came": came, "overwritten": overwritten, "peer": peer, "sent": sent, "waiting": waiting})
+}
+
+/// A link.
+fn link_value(
+    alloc: Global,
+    node: &Node,
+    link: u8,
+    peer: &NodeId,
+    happenings: &[&Happening],
+) -> Result<Value, AllocError>
+    ensures { IfOk result (λ v. view v ≡ link_json node.now.outboxes (happened happenings.now) link peer.now) }
+{
+    let came = came(alloc, link, happenings)?;
+    let peer = id_value(alloc, peer)?;
+    let sent = sent(alloc, link, happenings)?;
+    link_with(
+        alloc,
+        came,
+        node.overwritten(link),
+        peer,
+        sent,
+        node.waiting(link),
+    )
+}
+
+/// The links of a node, in their order.
+pub fn link_values(
+    alloc: Global,
+    node: &Node,
+    happenings: &[&Happening],
+) -> Result<Value, AllocError>
+    ensures { IfOk result (λ v. view v ≡ array (items_of (links_json node.now.outboxes (happened happenings.now) 0 (take PEER_LIMIT node.now.config.peers)))) }
+{
+    let peers = first_peers(node.peers());
+    let mut values = Vec::new(alloc);
+    let mut link = 0;
+    for peer in peers {
+        values.push(link_value(alloc, node, link, peer, happenings)?)?;
+        link += 1;
+    }
+    Ok(Value::from(values))
+}

@@ -1,0 +1,5 @@
+pub mod Turns
+pub mod Ends
+pub mod Laws
+pub mod Crossing
+pub mod inside

@@ -1,0 +1,20 @@
+//! Laws of the ends, and of what an outbox gives, each the contract of a function that does nothing.
+ghost use Rattle.scp_desk.specs.Crossing.{EndsCross};
+ghost use Rattle.scp_desk.specs.Laws.{GivenWasPut, MarksComeInOrder};
+
+/// Each end of an outbox may be moved to another thread.
+pub fn ends_cross_threads()
+    ensures crosses { EndsCross }
+{}
+
+/// Each message that was given was put by a producer.
+pub fn what_is_given_was_put()
+    ensures put { GivenWasPut }
+{
+    scp_outbox::what_is_given_was_put();
+}
+
+/// The marks that were given are the first that were left, in their order.
+pub fn marks_are_given_in_order()
+    ensures order { MarksComeInOrder }
+{}

@@ -1,0 +1,4 @@
+pub mod Joining
+pub mod Limits
+pub mod Rows
+pub mod Taking

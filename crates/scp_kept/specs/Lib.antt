@@ -1,0 +1,5 @@
+pub mod Kept
+pub mod Taken
+pub mod Waiting
+pub mod Watching
+pub mod inside

@@ -1,0 +1,22 @@
+-- What a node holds, connection by connection (this project's profile).
+use Rattle.std.specs.Prelude.{ℕ, ◌+◌, List, [], ◌∷◌, ◌++◌, flat_map, take}
+use Rattle.scp_types.specs.declared.limits.TheConstants.{PEER_LIMIT}
+use Rattle.scp_types.specs.declared.names.NodeId.{NodeId}
+use Rattle.scp_wire.specs.Connections.{conn_at}
+use Rattle.scp_core.specs.Node.{NodeView, lives_at}
+use Rattle.scp_script.specs.Nodes.{numbers}
+use Rattle.scp_line.specs.declared.report.Parked.{Parked}
+use Rattle.scp_line.specs.Play.{parked_of}
+
+-- the connections over this link, on which this peer sends, of which messages are held, in the order of their lives
+abbrev pub parked_over : NodeView → ℕ → NodeId → List Parked
+parked_over v link peer = flat_map (λ life. parked_of v (conn_at peer v.config.me life)) (numbers (lives_at v link))
+
+-- those over the links of these peers, the first of which has this number
+abbrev pub parked_behind : NodeView → ℕ → List NodeId → List Parked
+parked_behind v link [] = []
+parked_behind v link (peer ∷ peers) = parked_over v link peer ++ parked_behind v (link + 1) peers
+
+-- those of all links of a node, of which there are at most seven, link by link
+abbrev pub parked_in : NodeView → List Parked
+parked_in v = parked_behind v 0 (take PEER_LIMIT v.config.peers)

@@ -1,0 +1,53 @@
+-- What a watch knows of a step before it is done, and keeps of it then; and that this is what happened in it.
+use Rattle.std.specs.Prelude.{ℕ, ◌≡◌, ◌⊎◌, Bool, true, false, List, [], ◌++◌, Option, None, length}
+use Rattle.scp_core.specs.declared.event.Event.{Event}
+use Rattle.scp_core.specs.declared.event.Event.TheVariants as event
+use Rattle.scp_core.specs.declared.event.Reply.{Reply}
+use Rattle.scp_core.specs.History.{Exchange}
+use Rattle.scp_core.specs.Node.{NodeView}
+use Rattle.scp_turn.specs.Watch.{Noting, notes, Watched}
+use Rattle.scp_kept.specs.declared.happening.Happening.{Happening}
+use Rattle.scp_kept.specs.declared.happening.Happening.TheVariants.{Opened, Came, Closed, Given}
+use Rattle.scp_kept.specs.declared.happening.Kept.{Kept}
+use Rattle.scp_kept.specs.declared.watch.Awaited.{Awaited}
+use Rattle.scp_kept.specs.declared.watch.Awaited.TheVariants.{Nothing, AtTail, Drain, Take}
+use Rattle.scp_kept.specs.Kept.{Keeps, accepted, drained, moved, kept_of}
+
+-- what contracts see of a watch
+pub record WatchView : Type 0 where
+  pub kept : List Kept
+  pub awaited : Awaited
+  pub lacks_memory : Bool
+
+-- what is known of a step before it is done
+abbrev pub awaited : Event → NodeView → Awaited
+awaited (event.Open link) node = AtTail (Opened link)
+awaited (event.Send link bytes) node = AtTail (Came link bytes)
+awaited (event.Close link) node = AtTail (Closed link)
+awaited (event.Local command) node = AtTail (Given command)
+awaited (event.Drain link) node = Drain link
+awaited event.SlotTake node = Take (length node.ledger.journal)
+awaited event node = Nothing
+
+-- what happened in it
+abbrev pub happens : Awaited → Reply → NodeView → Option Happening
+happens (AtTail happening) reply node = accepted happening reply
+happens (Drain link) reply node = drained link reply
+happens (Take entries) reply node = moved entries node reply
+happens Nothing reply node = None
+
+-- what it knows before a step, unless there was no memory for it
+abbrev pub Awaits : WatchView → ℕ → Event → NodeView → WatchView → Type 0
+Awaits old number event node new = (new.lacks_memory ≡ true) ⊎ (new ≡ record old { awaited = awaited event node })
+
+-- what it keeps behind a step
+abbrev pub KeepsStep : WatchView → ℕ → Reply → NodeView → WatchView → Type 0
+KeepsStep old number reply node new = (new.lacks_memory ≡ true) ⊎ (new ≡ record old { awaited = Nothing; kept = old.kept ++ kept_of number (happens old.awaited reply node) })
+
+-- what it notes of a step
+abbrev pub noting : Noting WatchView
+noting = notes Awaits KeepsStep
+
+-- What a watch that never lacked memory kept of the steps of a node is what happened in them.
+abbrev pub KeptIsWhatHappened : Type 0
+KeptIsWhatHappened = (number : ℕ) (old new : NodeView) (heard : List Exchange) (first last : WatchView) → last.lacks_memory ≡ false → Watched noting number first old heard new last → Watched Keeps number first.kept old heard new last.kept

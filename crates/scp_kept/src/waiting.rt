@@ -1,0 +1,67 @@
+//! What a node holds, connection by connection.
+ghost use Rattle.std.specs.Prelude.{◌≡◌, ◌≤◌, ◌++◌, IfOk, OnOk, length, take};
+ghost use Rattle.scp_types.specs.declared.limits.TheConstants.{PEER_LIMIT};
+ghost use Rattle.scp_line.specs.Play.{parked_of};
+ghost use Rattle.scp_kept.specs.Waiting.{parked_in, parked_over};
+
+use scp_core::{Node, PEER_LIMIT};
+use scp_line::Parked;
+use scp_types::{ConnId, NodeId};
+use std::alloc::{AllocError, Global};
+
+/// Adds how many messages of a connection the node holds, if any.
+fn add(parked: &mut Vec<Parked>, node: &Node, conn: ConnId) -> Result<(), AllocError>
+    ensures { OnOk result (parked.new.items ≡ parked.old.items ++ parked_of node.now conn) }
+{
+    let count = node.parked(&conn);
+    if count > 0 {
+        parked.push(Parked { conn, count })?;
+    }
+    Ok(())
+}
+
+/// Adds the connections over a link.
+fn add_link(
+    parked: &mut Vec<Parked>,
+    node: &Node,
+    link: u8,
+    peer: &NodeId,
+) -> Result<(), AllocError>
+    ensures { OnOk result (parked.new.items ≡ parked.old.items ++ parked_over node.now link peer.now) }
+{
+    let me = node.me();
+    for index in 0..node.lives(link) {
+        let conn = ConnId {
+            from: *peer,
+            to: me,
+            life: index + 1,
+        };
+        add(parked, node, conn)?;
+    }
+    Ok(())
+}
+
+/// The peers of a node's links, of which there are at most seven.
+pub fn first_peers(peers: &[NodeId]) -> &[NodeId]
+    ensures first { result.now ≡ take PEER_LIMIT peers.now }
+    ensures few { length result.now ≤ PEER_LIMIT }
+{
+    match peers.get(..PEER_LIMIT) {
+        Some(first) => first,
+        None => peers,
+    }
+}
+
+/// The connections of which a node holds messages, link by link and by their lives, and how many it holds.
+pub fn parked_at(alloc: Global, node: &Node) -> Result<Vec<Parked>, AllocError>
+    ensures { IfOk result (λ parked. parked.items ≡ parked_in node.now) }
+{
+    let peers = first_peers(node.peers());
+    let mut parked = Vec::new(alloc);
+    let mut link = 0;
+    for peer in peers {
+        add_link(&mut parked, node, link, peer)?;
+        link += 1;
+    }
+    Ok(parked)
+}

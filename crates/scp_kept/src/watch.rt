@@ -1,0 +1,145 @@
+//! Who keeps what happens at nodes.
+ghost use Rattle.std.specs.Prelude.{◌≡◌, [], false, true, IfOk, OnOk};
+ghost use Rattle.scp_kept.specs.Kept.{taken_by};
+ghost use Rattle.scp_kept.specs.Watching.{awaited, happens};
+ghost use Rattle.scp_kept.specs.inside.Adding.{Adds};
+
+use crate::happening::{Happening, Kept};
+use scp_core::{Event, Node, Reply};
+use scp_turn::Watch;
+use scp_types::Fault;
+use std::alloc::Global;
+use std::marker::Model;
+
+/// What is known of a step before it is done.
+#[derive(Debug, Drop)]
+pub enum Awaited {
+    /// It tells nothing.
+    Nothing,
+    /// This happens where it is accepted.
+    AtTail(Happening),
+    /// It drains this link.
+    Drain(u8),
+    /// The slot stage takes something; the journal has so many entries.
+    Take(usize),
+}
+
+/// Keeps what happens at nodes, in the order of the steps.
+#[derive(Drop)]
+pub struct KeepingWatch {
+    kept: Vec<Kept>,
+    awaited: Awaited,
+    /// Whether there was no memory for what happened.
+    lacks_memory: bool,
+}
+
+impl Model for KeepingWatch {
+    ghost use Rattle.scp_kept.specs.Watching.{WatchView};
+
+    ghost Value = { WatchView };
+
+    ghost view = { λ w. record { kept = w.kept.items; awaited = w.awaited; lacks_memory = w.lacks_memory } };
+}
+
+/// What is known of a step before it is done. The one refusal is want of memory.
+fn awaited_of(event: &Event, node: &Node) -> Result<Awaited, Fault>
+    ensures { IfOk result (λ found. found ≡ awaited event.now node.now) }
+{
+    Ok(match event {
+        Event::Open(link) => Awaited::AtTail(Happening::Opened(*link)),
+        Event::Send(link, bytes) => Awaited::AtTail(Happening::Came(*link, bytes.copy()?)),
+        Event::Close(link) => Awaited::AtTail(Happening::Closed(*link)),
+        Event::Local(command) => Awaited::AtTail(Happening::Given(command.copy()?)),
+        Event::Drain(link) => Awaited::Drain(*link),
+        Event::SlotTake => Awaited::Take(node.journal().len()),
+        _ => Awaited::Nothing,
+    })
+}
+
+/// What the slot stage took: the journal had so many entries before.
+fn taken(entries: usize, node: &Node) -> Option<Happening>
+    ensures { result ≡ taken_by entries node.now }
+{
+    if entries < node.journal().len() {
+        return Some(Happening::Entered);
+    }
+    match node.last_command() {
+        Some(fate) => Some(Happening::Obeyed(fate)),
+        None => None,
+    }
+}
+
+/// What happened in a step. The one refusal is want of memory.
+fn happening_of(awaited: Awaited, reply: &Reply, node: &Node) -> Result<Option<Happening>, Fault>
+    ensures { IfOk result (λ found. found ≡ happens awaited reply.now node.now) }
+{
+    Ok(match (awaited, reply) {
+        (Awaited::AtTail(happening), Reply::Accepted) => Some(happening),
+        (Awaited::Drain(link), Reply::Sent(bytes)) => Some(Happening::Sent(link, bytes.copy()?)),
+        (Awaited::Take(entries), Reply::Moved) => taken(entries, node),
+        _ => None,
+    })
+}
+
+impl KeepingWatch {
+    /// A watch that kept nothing.
+    pub fn new(alloc: Global) -> KeepingWatch
+        ensures { result ≡ record { kept = []; awaited = Awaited.Nothing; lacks_memory = false } }
+    {
+        KeepingWatch {
+            kept: Vec::new(alloc),
+            awaited: Awaited::Nothing,
+            lacks_memory: false,
+        }
+    }
+
+    /// Whether there was no memory for what happened.
+    pub fn lacks_memory(&self) -> bool
+        ensures { result ≡ self.now.lacks_memory }
+    {
+        self.lacks_memory
+    }
+
+    /// What was kept.
+    pub fn into_kept(self) -> Vec<Kept>
+        ensures { result.items ≡ self.kept }
+    {
+        self.kept
+    }
+
+    /// Keeps what happened at the node of this number, if anything did.
+    fn keep(&mut self, number: u8, happening: Option<Happening>)
+        ensures { Adds self.old number happening self.new }
+    {
+        let Some(happening) = happening else {
+            return;
+        };
+        let node = number;
+        if self.kept.push(Kept { node, happening }).is_err() {
+            self.lacks_memory = true;
+        }
+    }
+}
+
+impl Watch for KeepingWatch {
+    ghost use Rattle.scp_kept.specs.Watching.{Awaits, KeepsStep};
+
+    ghost notes_before = { Awaits };
+
+    ghost notes_after = { KeepsStep };
+
+    fn before(&mut self, _number: u8, event: &Event, node: &Node) {
+        match awaited_of(event, node) {
+            Ok(awaited) => self.awaited = awaited,
+            Err(_) => self.lacks_memory = true,
+        }
+    }
+
+    fn after(&mut self, number: u8, reply: &Reply, node: &Node) {
+        let awaited = std::mem::replace(&mut self.awaited, Awaited::Nothing);
+        match happening_of(awaited, reply, node) {
+            Ok(happening) => self.keep(number, happening),
+            Err(_) => self.lacks_memory = true,
+        }
+    }
+}

@@ -1,0 +1,10 @@
+-- What a stage hands out for its node's links.
+use Rattle.scp_wire.specs.Fitting.{IsFitting}
+use Rattle.scp_workers.specs.declared.stage.Outs.{Outs}
+use Rattle.scp_workers.specs.declared.stage.Outs.TheVariants.{Nothing, Answer, All}
+
+-- a lone message fits a link; what a list holds does by its type
+abbrev pub FitsOuts : Outs → Type 0
+FitsOuts Nothing = Unit {0}
+FitsOuts (Answer link message) = IsFitting message
+FitsOuts (All outgoing) = Unit {0}

@@ -1,0 +1,156 @@
+//! What a worker does with a thing: it takes it into its stage, and sends what that gives.
+ghost use Rattle.std.specs.Prelude.{◌≡◌, true, false, [], ◌∷◌, ◌++◌, option_to_list};
+ghost use Rattle.scp_workers.specs.Working.{IsSameOutput, sent_by};
+ghost use Rattle.scp_workers.specs.inside.Working.{GivesOn, TakesOn, RanTo, MayTake};
+
+use crate::handing::hand_out;
+use crate::stage::{Given, Stage};
+use crate::telling::about_to_send;
+use scp_ends::{Law, Tx};
+use scp_gate::{Counter, Gate};
+use scp_outbox::SharedOutbox;
+use std::sync::{Arc, Wait};
+
+/// Sends a thing. Says whether it went.
+fn send<U: Drop, M: Law<U>, R: Wait, G: Gate>(
+    rt: &R,
+    gate: &G,
+    counter: &mut Counter,
+    tx: &mut Option<Tx<U, M>>,
+    thing: U,
+) -> bool
+    requires { M.fits (sent_by tx.old ++ thing ∷ []) }
+    ensures same { IsSameOutput tx.old tx.new }
+    ensures sent { result ≡ true → sent_by tx.new ≡ sent_by tx.old ++ thing ∷ [] }
+{
+    about_to_send(gate, counter, tx);
+    match tx {
+        Some(tx) => tx.send_as(rt, thing).is_ok(),
+        None => false,
+    }
+}
+
+/// Sends a thing, if there is one. Says whether nothing was lost.
+fn send_any<U: Drop, M: Law<U>, R: Wait, G: Gate>(
+    rt: &R,
+    gate: &G,
+    counter: &mut Counter,
+    tx: &mut Option<Tx<U, M>>,
+    thing: Option<U>,
+) -> bool
+    requires { M.fits (sent_by tx.old ++ option_to_list thing) }
+    ensures same { IsSameOutput tx.old tx.new }
+    ensures sent { result ≡ true → sent_by tx.new ≡ sent_by tx.old ++ option_to_list thing }
+{
+    match thing {
+        Some(thing) => send(rt, gate, counter, tx, thing),
+        None => true,
+    }
+}
+
+/// What became of the next thing that a stage gives.
+#[derive(Clone, Copy, PartialEq, Eq)]
+enum Gave {
+    Sent,
+    Nothing,
+    Lost,
+}
+
+/// Sends the next thing that the stage gives.
+fn give_one<T: Drop, L: Law<T>, U: Drop, M: Law<U>, S: Stage<T, L, U, M>, R: Wait, G: Gate>(
+    rt: &R,
+    gate: &G,
+    counter: &mut Counter,
+    stage: &mut S,
+    tx: &mut Option<Tx<U, M>>,
+) -> Gave
+    requires { RanTo S.runs (sent_by tx.old) stage.old }
+    ensures same { IsSameOutput tx.old tx.new }
+    ensures gives { (result ≡ Gave.Lost → ⊥) → GivesOn S.runs stage.old (sent_by tx.old) stage.new (sent_by tx.new) }
+    ensures nothing { result ≡ Gave.Nothing → S.rests stage.new }
+{
+    let Some(thing) = stage.give() else {
+        return Gave::Nothing;
+    };
+    if send(rt, gate, counter, tx, thing) {
+        Gave::Sent
+    } else {
+        Gave::Lost
+    }
+}
+
+/// Sends all that the stage gives. Says whether nothing was lost.
+fn give_all<T: Drop, L: Law<T>, U: Drop, M: Law<U>, S: Stage<T, L, U, M>, R: Wait, G: Gate>(
+    rt: &R,
+    gate: &G,
+    counter: &mut Counter,
+    stage: &mut S,
+    tx: &mut Option<Tx<U, M>>,
+) -> bool
+    requires { RanTo S.runs (sent_by tx.old) stage.old }
+    ensures same { IsSameOutput tx.old tx.new }
+    ensures gives { result ≡ true → GivesOn S.runs stage.old (sent_by tx.old) stage.new (sent_by tx.new) × S.rests stage.new }
+{
+    for _ in rt.forever() {
+        match give_one::<T, L, U, M, S, R, G>(rt, gate, counter, stage, tx) {
+            Gave::Sent => {}
+            Gave::Nothing => return true,
+            Gave::Lost => return false,
+        }
+    }
+    false
+}
+
+/// Takes a thing into the stage, hands out what goes to peers, and sends all that the stage gives then. Says whether nothing was lost.
+fn take_one<T: Drop, L: Law<T>, U: Drop, M: Law<U>, S: Stage<T, L, U, M>, R: Wait, G: Gate>(
+    rt: &R,
+    gate: &G,
+    counter: &mut Counter,
+    outlets: &[Arc<SharedOutbox>],
+    stage: &mut S,
+    tx: &mut Option<Tx<U, M>>,
+    thing: T,
+) -> bool
+    requires rests { S.rests stage.old }
+    requires may { MayTake S.runs L.fits thing (sent_by tx.old) stage.old }
+    ensures same { IsSameOutput tx.old tx.new }
+    ensures takes { result ≡ true → TakesOn S.runs thing stage.old (sent_by tx.old) stage.new (sent_by tx.new) × S.rests stage.new }
+{
+    let Some(given) = stage.take(thing) else {
+        return false;
+    };
+    let Given { onward, outs } = given;
+    if hand_out(rt, outlets, outs).is_err() {
+        return false;
+    }
+    send_any(rt, gate, counter, tx, onward)
+        && give_all::<T, L, U, M, S, R, G>(rt, gate, counter, stage, tx)
+}
+
+/// The same, where nothing was lost before. Says whether something is lost.
+pub(crate) fn take_or_lose<
+    T: Drop,
+    L: Law<T>,
+    U: Drop,
+    M: Law<U>,
+    S: Stage<T, L, U, M>,
+    R: Wait,
+    G: Gate,
+>(
+    rt: &R,
+    gate: &G,
+    counter: &mut Counter,
+    outlets: &[Arc<SharedOutbox>],
+    stage: &mut S,
+    tx: &mut Option<Tx<U, M>>,
+    failed: bool,
+    thing: T,
+) -> bool
+    requires rests { failed ≡ false → S.rests stage.old }
+    requires may { failed ≡ false → MayTake S.runs L.fits thing (sent_by tx.old) stage.old }
+    ensures same { IsSameOutput tx.old tx.new }
+    ensures lost { failed ≡ true → result ≡ true }
+    ensures takes { result ≡ false → (failed ≡ false) × TakesOn S.runs thing stage.old (sent_by tx.old) stage.new (sent_by tx.new) × S.rests stage.new }
+{
+    failed || !take_one::<T, L, U, M, S, R, G>(rt, gate, counter, outlets, stage, tx, thing)
+}
