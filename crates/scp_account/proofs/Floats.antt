@@ -1,6 +1,7 @@
 -- No part of an account is a float.
 use Rattle.std.proofs.Common.{◌≡◌, ◌+◌, ℕ, Bool, true, false, List, [], ◌∷◌, ◌++◌, ◌∙◌, ap, codes, length, map, Option, Some, None, refl}
-use Rattle.std.specs.Prelude.{◌||◌, flat_map, nat_eq, take, if◌then◌else◌}
+use Rattle.std.specs.Prelude.{◌||◌, flat_map, nat_eq, slice_get, take, if◌then◌else◌}
+use Rattle.std.specs.Global.{Vec}
 use Rattle.std.specs.FinMap as finite
 use Rattle.serde_json.specs.Data.{Data}
 use Rattle.serde_json.specs.View.{items_of}
@@ -13,6 +14,8 @@ use Rattle.scp_types.specs.Same.{same_node}
 use Rattle.scp_quorum.specs.SharedSet.{SharedSet}
 use Rattle.scp_wire.specs.declared.link.Command.{Command}
 use Rattle.scp_wire.specs.declared.link.Command.TheVariants.{Tick, Propose, Round, Timer, Ask}
+use Rattle.scp_wire.specs.declared.link.LinkItem.{LinkItem}
+use Rattle.scp_wire.specs.declared.link.LinkItem.TheVariants as item
 use Rattle.scp_pending.specs.Rules.{PendingView}
 use Rattle.scp_pending.specs.Queues.{parked_of, first_waiting}
 use Rattle.scp_outbox.specs.Outbox.{OutboxView}
@@ -26,7 +29,8 @@ use Rattle.scp_core.specs.Node.{NodeView}
 use Rattle.scp_network.specs.Heard.{Nodes}
 use Rattle.scp_gather.specs.declared.gathering.NodeReport.{NodeReport}
 use Rattle.scp_script.specs.declared.command.Command.{Command as Line}
-use Rattle.scp_script.specs.Nodes.{id_of}
+use Rattle.scp_script.specs.Script.{node_count}
+use Rattle.scp_script.specs.Nodes.{id_of, peers_of}
 use Rattle.scp_line.specs.declared.report.Parked.{Parked}
 use Rattle.scp_line.specs.Parts.{entries_of}
 use Rattle.scp_line.specs.Play.{running_state}
@@ -36,6 +40,7 @@ use Rattle.scp_kept.specs.declared.happening.Kept.{Kept}
 use Rattle.scp_kept.specs.Taken.{given, happenings_at, in_order}
 use Rattle.scp_kept.specs.Waiting.{parked_in}
 use Rattle.scp_account.specs.Account.{accounts_behind, account_of, account_text}
+use Rattle.scp_account.specs.Arrived.{arrival_json, arrivals_json, arrived_json, item_json}
 use Rattle.scp_account.specs.Commands.{command_json, fate_json}
 use Rattle.scp_account.specs.Decisions.{decision_json, entry_ground, ground, ground_of, origin_json}
 use Rattle.scp_account.specs.Entries.{entry_json}
@@ -192,11 +197,29 @@ account_none kept nodes = rw (accounts_none kept 0 nodes) refl
 
 -- ---- in threads
 
+item_none : (i : LinkItem) → has_float (item_json i) ≡ false
+item_none (item.Opened conn) = refl
+item_none (item.Bytes conn bytes) = refl
+item_none (item.Closed conn) = refl
+
+arrived_none : (kept : Option (Option (Vec LinkItem))) → has_float (arrived_json kept) ≡ false
+arrived_none None = refl
+arrived_none (Some None) = refl
+arrived_none (Some (Some items)) = rw (none_each item_json items.items item_none) refl
+
+arrival_none : (came : List (Option (Vec LinkItem))) (link : ℕ) (peer : NodeId) → has_float (arrival_json came link peer) ≡ false
+arrival_none came link peer = rw (arrived_none (slice_get came link)) refl
+
+arrivals_none : (came : List (Option (Vec LinkItem))) (link : ℕ) (peers : List NodeId) → NoFloats (arrivals_json came link peers)
+arrivals_none came link [] = refl
+arrivals_none came link (peer ∷ peers) = none_more (arrival_json came link peer) (arrivals_json came (link + 1) peers) (arrival_none came link peer) (arrivals_none came (link + 1) peers)
+
 gathered_none : (commands : List Line) (number : ℕ) (r : NodeReport) → has_float (gathered_json commands number r) ≡ false
 gathered_none commands number r =
     rw (
       none_each (decision_json (id_of number) r.journal.items) r.applied.items (decision_none (id_of number) r.journal.items),
       none_each fate_json r.commands.items (λ fate. refl),
+      arrivals_none r.came.items 0 (peers_of (node_count commands) number),
       none_each waiting_json r.parked.items (λ carried. refl),
       none_each key_json (finite.entries r.state) (λ entry. refl),
       none_each entry_json r.journal.items entry_none,

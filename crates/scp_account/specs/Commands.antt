@@ -4,7 +4,7 @@ use Rattle.serde_json.specs.Data.{Data, string, object, member, no_members}
 use Rattle.scp_wire.specs.declared.link.Command.{Command}
 use Rattle.scp_wire.specs.declared.link.Command.TheVariants.{Tick, Propose, Round, Timer, Ask}
 use Rattle.scp_ledger.specs.declared.took.CommandFate.{CommandFate}
-use Rattle.scp_silent.specs.Texts.{fate_word}
+use Rattle.scp_words.specs.Words.{fate_word}
 use Rattle.scp_account.specs.Pieces.{count, digits}
 
 -- what became of a command, by the words of notices

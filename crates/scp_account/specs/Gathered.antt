@@ -7,8 +7,10 @@ use Rattle.serde_json.specs.Written.{compact_text}
 use Rattle.scp_wire.specs.declared.carried.Carried.{Carried}
 use Rattle.scp_gather.specs.declared.gathering.NodeReport.{NodeReport}
 use Rattle.scp_script.specs.declared.command.Command.{Command}
-use Rattle.scp_script.specs.Nodes.{id_of, set_at}
+use Rattle.scp_script.specs.Script.{node_count}
+use Rattle.scp_script.specs.Nodes.{id_of, peers_of, set_at}
 use Rattle.scp_account.specs.Pieces.{count, id_json, message_json, set_json}
+use Rattle.scp_account.specs.Arrived.{arrivals_json}
 use Rattle.scp_account.specs.Commands.{fate_json}
 use Rattle.scp_account.specs.Decisions.{decision_json}
 use Rattle.scp_account.specs.Entries.{entry_json}
@@ -23,18 +25,19 @@ waiting_json carried =
     (member (codes "message") (count carried.seq.0) no_members))))
 
 -- What the threads of the node of this number left, in a script of these commands: the decisions that were applied, from slot 1 on, with their
--- grounds; what became of its commands but the ticks, in their order; who it is; what waits, ascending by sender, life and number; its own quorum
--- set; its state, ascending by key; and its journal. How its commands stood among the entries isn't known.
+-- grounds; what became of its commands but the ticks, in their order; who it is; its links, by what came over each; what waits, ascending by sender,
+-- life and number; its own quorum set; its state, ascending by key; and its journal. How its commands stood among the entries isn't known.
 abbrev pub gathered_json : List Command → ℕ → NodeReport → Data
 gathered_json commands number r =
     object (member (codes "applied") (array (items_of (map (decision_json (id_of number) r.journal.items) r.applied.items)))
     (member (codes "commands") (array (items_of (map fate_json r.commands.items)))
     (member (codes "id") (id_json (id_of number))
+    (member (codes "links") (array (items_of (arrivals_json r.came.items 0 (peers_of (node_count commands) number))))
     (member (codes "node") (count number)
     (member (codes "parked") (array (items_of (map waiting_json r.parked.items)))
     (member (codes "set") (set_json (set_at number commands))
     (member (codes "state") (array (items_of (map key_json (finite.entries r.state))))
-    (member (codes "taken") (array (items_of (map entry_json r.journal.items))) no_members))))))))
+    (member (codes "taken") (array (items_of (map entry_json r.journal.items))) no_members)))))))))
 
 -- so of nodes, the first of which comes behind the one of this number
 abbrev pub all_gathered : List Command → ℕ → List NodeReport → List Data

@@ -8,6 +8,7 @@ pub mod Spoken
 pub mod Decisions
 pub mod Node
 pub mod Account
+pub mod Arrived
 pub mod Gathered
 pub mod Fits
 pub mod Laws

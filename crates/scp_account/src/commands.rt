@@ -7,8 +7,8 @@ ghost use Rattle.scp_account.specs.Commands.{fate_json, command_json};
 
 use crate::digits::digits_of;
 use scp_core::{Command, CommandFate};
-use scp_silent::word_of_fate;
 use scp_types::{Slot, Value as Bytes};
+use scp_words::word_of_fate;
 use serde_json::{Value, json};
 use std::alloc::{AllocError, Global};
 

@@ -2,9 +2,10 @@
 ghost use Rattle.std.specs.Prelude.{◌≡◌, ◌≤◌, [], All, codes, IfOk, IsOkUnless, length, map, string_bytes};
 ghost use Rattle.serde_json.specs.Data.{array, object, member, no_members, string};
 ghost use Rattle.serde_json.specs.View.{view, items_of};
-ghost use Rattle.scp_script.specs.Script.{AreAdmitted};
-ghost use Rattle.scp_script.specs.Nodes.{NamesNodes, set_at};
+ghost use Rattle.scp_script.specs.Script.{AreAdmitted, node_count};
+ghost use Rattle.scp_script.specs.Nodes.{NamesNodes, peers_of, set_at};
 ghost use Rattle.scp_account.specs.Pieces.{count, set_json};
+ghost use Rattle.scp_account.specs.Arrived.{arrivals_json};
 ghost use Rattle.scp_account.specs.Commands.{fate_json};
 ghost use Rattle.scp_account.specs.Decisions.{decision_json};
 ghost use Rattle.scp_account.specs.Entries.{entry_json};
@@ -12,6 +13,7 @@ ghost use Rattle.scp_account.specs.Gathered.{all_gathered, gathered_json, gather
 ghost use Rattle.scp_account.specs.Fits.{FitReports, FitsEntry, FitsOrigin, FitsReport, FitsSet};
 
 use crate::applied::keys_of;
+use crate::arrived::arrival_values;
 use crate::commands::fate_value;
 use crate::decisions::decision_values;
 use crate::digits::{id_value, message_value, set_value};
@@ -21,9 +23,9 @@ use crate::spoken::spoken_in;
 use scp_core::CommandFate;
 use scp_gather::NodeReport;
 use scp_ledger::{Fate, SharedDecision};
-use scp_script::{Command, id_from, set_of_node};
+use scp_script::{Command, count_of_nodes, id_from, peers_of_node, set_of_node};
 use scp_types::{Fault, NodeId};
-use scp_wire::Carried;
+use scp_wire::{Carried, LinkItem};
 use serde_json::{Value, json};
 use std::alloc::{AllocError, Global};
 
@@ -106,15 +108,16 @@ fn gathered_with(
     applied: Value,
     commands: Value,
     id: Value,
+    links: Value,
     number: u8,
     parked: Value,
     set: Value,
     state: Value,
     taken: Value,
 ) -> Result<Value, AllocError>
-    ensures { IfOk result (λ v. view v ≡ object (member (codes "applied") (view applied) (member (codes "commands") (view commands) (member (codes "id") (view id) (member (codes "node") (count number) (member (codes "parked") (view parked) (member (codes "set") (view set) (member (codes "state") (view state) (member (codes "taken") (view taken) no_members))))))))) }
+    ensures { IfOk result (λ v. view v ≡ object (member (codes "applied") (view applied) (member (codes "commands") (view commands) (member (codes "id") (view id) (member (codes "links") (view links) (member (codes "node") (count number) (member (codes "parked") (view parked) (member (codes "set") (view set) (member (codes "state") (view state) (member (codes "taken") (view taken) no_members)))))))))) }
 {
-    json!(in alloc; {"applied": applied, "commands": commands, "id": id, "node": number, "parked": parked, "set": set, "state": state, "taken": taken})
+    json!(in alloc; {"applied": applied, "commands": commands, "id": id, "links": links, "node": number, "parked": parked, "set": set, "state": state, "taken": taken})
 }
 
 /// The own quorum set of the node of this number.
@@ -126,6 +129,20 @@ fn own_set(alloc: Global, commands: &[Command], number: u8) -> Result<Value, Fau
 {
     let set = set_of_node(alloc, commands, number)?;
     set_value(alloc, &set)
+}
+
+/// The links of the node of this number, by what was kept of each.
+fn links_of(
+    alloc: Global,
+    commands: &[Command],
+    number: u8,
+    came: &[Option<Vec<LinkItem>>],
+) -> Result<Value, AllocError>
+    requires names { All NamesNodes commands.now }
+    ensures { IfOk result (λ v. view v ≡ array (items_of (arrivals_json came.now 0 (peers_of (node_count commands.now) number)))) }
+{
+    let peers = peers_of_node(alloc, count_of_nodes(commands), number)?;
+    arrival_values(alloc, came, peers.as_slice())
 }
 
 /// What the threads of the node of this number left.
@@ -145,11 +162,14 @@ fn gathered_value(
     let applied = decided_values(alloc, &me, journal, report.applied.as_slice())?;
     let fates = fate_values(alloc, report.commands.as_slice())?;
     let id = id_value(alloc, &me)?;
+    let links = links_of(alloc, commands, number, report.came.as_slice())?;
     let parked = waiting_values(alloc, report.parked.as_slice())?;
     let set = own_set(alloc, commands, number)?;
     let state = keys_of(alloc, &report.state)?;
     let taken = entry_values(alloc, journal)?;
-    let value = gathered_with(alloc, applied, fates, id, number, parked, set, state, taken)?;
+    let value = gathered_with(
+        alloc, applied, fates, id, links, number, parked, set, state, taken,
+    )?;
     Ok(value)
 }
 

@@ -7,6 +7,7 @@
 #![tactic(auto)]
 
 mod applied;
+mod arrived;
 mod commands;
 mod decisions;
 mod digits;

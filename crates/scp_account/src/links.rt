@@ -15,7 +15,7 @@ use serde_json::{Value, json};
 use std::alloc::{AllocError, Global};
 
 /// A word.
-fn word(alloc: Global, word: &str) -> Result<Value, AllocError>
+pub fn word(alloc: Global, word: &str) -> Result<Value, AllocError>
     ensures { IfOk result (λ v. view v ≡ string word.now) }
 {
     Ok(Value::from(String::from_str(alloc, word)?))

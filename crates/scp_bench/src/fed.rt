@@ -1,23 +1,22 @@
 ghost use Rattle.std.specs.Prelude.{◌≡◌, ◌≤◌, length, IfOk};
 ghost use Rattle.scp_quorum.specs.Sane.{IsSane};
-ghost use Rattle.scp_threaded_node.specs.Sources.{HaveRoom};
+ghost use Rattle.scp_desks.specs.Table.{HavePutNothing};
+ghost use Rattle.scp_threaded_node.specs.Sources.{AreFresh, HaveRoom};
 ghost use Rattle.scp_bench.specs.inside.Feeding.{GoesOn, RunsAsOne};
 
 use crate::hearing::peer;
 use crate::threads::{LINKS, MESSAGES, Rounds, all_nodes, link_at, message, slot_of};
+use scp_desks::{Made, Outlets, make_all};
 use scp_gate::{Gate, Moment, Place, Stage};
 use scp_gather::NodeReport;
-use scp_outbox::SharedOutbox;
 use scp_quorum::QuorumSet;
 use scp_script::Capacities;
-use scp_threaded_node::{
-    Act, Node, Outboxes, Source, Stood, act_at, end, flush, make_parts, start, tell,
-};
+use scp_threaded_node::{Act, Node, Source, Stood, act_at, end, flush, make_parts, start, tell};
 use scp_types::{Fault, Hash, NodeId, Slot};
 use scp_wire::{Bytes, Command};
 use std::alloc::{AllocError, Global};
+use std::sync::Wait;
 use std::sync::atomic::{AtomicU64, Ordering};
-use std::sync::{Arc, Wait};
 use std::thread;
 use std::thread::{Scope, Threads};
 
@@ -160,13 +159,20 @@ fn feed<R: Wait>(
     Ok(())
 }
 
-fn outboxes_of(alloc: Global) -> Result<Outboxes, Fault> {
-    let mut outboxes = Vec::new(alloc);
-    for _ in 0..LINKS {
-        outboxes.reserve(1)?;
-        outboxes.push_reserved(Arc::new(alloc, SharedOutbox::new(alloc)?)?);
+/// The ends by which the node's stages put into the outboxes of its links.
+fn outlets_of(alloc: Global) -> Result<Outlets, Fault>
+    ensures unused { IfOk result (λ o. HavePutNothing o.pend.items × HavePutNothing o.slot.items × HavePutNothing o.apply.items) }
+{
+    let Made {
+        outlets,
+        markers: _markers,
+        takers: _takers,
+    } = make_all(alloc, LINKS + 1)?;
+    let mut outlets = outlets;
+    match outlets.pop() {
+        Some(last) => Ok(last),
+        None => Err(Fault::Failed),
     }
-    Ok(outboxes)
 }
 
 fn peers_of(alloc: Global) -> Result<Vec<NodeId>, AllocError>
@@ -181,7 +187,8 @@ fn peers_of(alloc: Global) -> Result<Vec<NodeId>, AllocError>
 
 /// The script alone sends on each link.
 fn sources_of(alloc: Global, count: usize) -> Result<Vec<Option<Source>>, AllocError>
-    ensures { IfOk result (λ sources. length sources.items ≡ count) }
+    ensures count { IfOk result (λ sources. length sources.items ≡ count) }
+    ensures fresh { IfOk result (λ sources. AreFresh sources.items) }
 {
     let mut sources = Vec::new(alloc);
     for _ in 0..count {
@@ -237,14 +244,15 @@ fn started<'s, E, R: Threads + Wait + Sync>(
 {
     let set = sane_set(alloc)?;
     let peers = peers_of(alloc)?;
-    let outboxes = outboxes_of(alloc)?;
+    let outlets = outlets_of(alloc)?;
     let parts = make_parts(
         alloc,
         me(),
         set,
         peers.as_slice(),
         capacities(),
-        outboxes.as_slice(),
+        outlets,
+        false,
     )?;
     let sources = sources_of(alloc, parts.lanes.len())?;
     start(scope, rt, gate, alloc, parts, sources)
@@ -264,7 +272,10 @@ fn run_in<'s, E, R: Threads + Wait + Sync>(
     let fed = feed(rt, alloc, gate, &mut node, hash, rounds);
     let told = end(rt, alloc, node, stood.as_slice());
     fed?;
-    told
+    match told {
+        Ok(over) => Ok(over.report),
+        Err(fault) => Err(fault),
+    }
 }
 
 /// A node of threads hears so many rounds, and is counted.

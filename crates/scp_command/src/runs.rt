@@ -202,7 +202,7 @@ fn run_threads<T: Threads + Wait + Sync>(
     ensures answer { (input : List ℕ) → IsGiven input given.now → IfOk result (IsThreadsAnswer shape input) }
     ensures cause { (input : List ℕ) → IsGiven input given.now → IfErr result (Fails (Task.Run Mode.Threads shape) input) }
 {
-    let ran = match run_in_threads(rt, alloc, given.text.as_slice()) {
+    let ran = match run_in_threads(rt, alloc, given.text.as_slice(), false) {
         Ok(ran) => ran,
         Err(fault) => return Err(of_threads(given, fault)),
     };
@@ -333,7 +333,7 @@ fn account_threads<T: Threads + Wait + Sync>(
     ensures answer { (input : List ℕ) → IsGiven input given.now → IfOk result (IsThreadsAccount form input) }
     ensures cause { (input : List ℕ) → IsGiven input given.now → IfErr result (Fails (Task.Account Mode.Threads form) input) }
 {
-    let ran = match run_in_threads(rt, alloc, given.text.as_slice()) {
+    let ran = match run_in_threads(rt, alloc, given.text.as_slice(), true) {
         Ok(ran) => ran,
         Err(fault) => return Err(of_threads(given, fault)),
     };

@@ -16,7 +16,8 @@ use Rattle.scp_core.specs.Node.{LinkView, NodeView}
 use Rattle.scp_core.proofs.Deciding.{level_by, extracted_by, combined_by, place_by}
 use Rattle.scp_core.proofs.Below.{ReadLaws, Laws}
 use Rattle.scp_core.proofs.Links.{whole, front}
-use Rattle.scp_core.proofs.Queues.{within, there_is}
+use Rattle.scp_grounds.proofs.Basics.{there_is}
+use Rattle.scp_core.proofs.Queues.{within}
 
 abbrev pub account_at : Past → NodeView → List Inbound → Account KvDriver
 account_at p v came = record {

@@ -22,7 +22,8 @@ use Rattle.scp_apply.specs.Applier.{ApplierView}
 use Rattle.scp_apply.specs.Applier.{Takes as ApplierTakes}
 use Rattle.scp_core.specs.inside.Decider.{DeciderView, Decides, AppliesNext, Applies, Keeps}
 use Rattle.scp_core.specs.inside.Draining.{Draws, IsSpelt, empty_reply}
-use Rattle.scp_core.proofs.Queues.{within, there_is}
+use Rattle.scp_grounds.proofs.Basics.{there_is}
+use Rattle.scp_core.proofs.Queues.{within}
 use Rattle.scp_core.specs.inside.Links.{Opens, Sends, Closes, Reads, Gives, OnLinks, Puts}
 
 set_same : {X : Type 0} (xs : List X) (l : ℕ) (x : X) → slice_get xs l ≡ Some x → slice_set xs l x ≡ xs

@@ -3,18 +3,20 @@ use Rattle.std.proofs.Common.{◌≡◌, ◌++◌, ◌∙◌, ap, subst}
 use Rattle.std.proofs.lemmas.List.{append-nil}
 use Rattle.scp_quorum.specs.QuorumTree.{QuorumTree}
 use Rattle.scp_pending.specs.Causes.{IsSettledBy}
-use Rattle.scp_pending.specs.Pends.{IsSettled, start_of}
+use Rattle.scp_pending.specs.Pends.{IsSettled, start_of as started}
 use Rattle.scp_pending.specs.Rules.{Settled, fresh, settled_by}
+use Rattle.scp_grounds.specs.Grounds.{start_of}
 use Rattle.scp_core.specs.declared.config.Config.{Config}
 use Rattle.scp_core.specs.declared.event.Event.TheVariants.{PendTake}
 use Rattle.scp_core.specs.declared.event.Reply.TheVariants.{Idle}
 use Rattle.scp_core.specs.Flow.{Flows}
 use Rattle.scp_core.specs.History.{Past}
 use Rattle.scp_core.specs.Node.{NodeView, Step}
-use Rattle.scp_core.specs.Settled.{start_at, IsSettledAt, IdleIsSettled}
+use Rattle.scp_core.specs.Sent.{who_of}
+use Rattle.scp_core.specs.Settled.{IsSettledAt, IdleIsSettled}
 
 -- the pending stage is of the node's own quorum set
-pub start_is : (p : Past) (v : NodeView) → Flows p v → start_of v.config.me v.config.peers v.pending ≡ start_at v.config
+pub start_is : (p : Past) (v : NodeView) → Flows p v → started v.config.me v.config.peers v.pending ≡ start_of (who_of v.config)
 start_is p v f = ap (λ (set : QuorumTree). fresh v.config.me v.config.peers set) f.local
 
 settled_at : (p : Past) (v w : NodeView) → Flows p v → Step v PendTake Idle w → IsSettledAt v.config p v.pending

@@ -3,12 +3,13 @@ use Rattle.std.proofs.Common.{◌≡◌, ℕ, true, false, List, ◌++◌, refl,
 use Rattle.scp_driver.specs.Kv.{kv_level, greatest, leader_place}
 use Rattle.scp_wire.specs.declared.link.Inbound.{Inbound}
 use Rattle.scp_theorem.specs.Kept.{KeepsLedger}
+use Rattle.scp_grounds.specs.Grounds.{IsSentOut}
 use Rattle.scp_core.specs.declared.config.Config.{Config}
 use Rattle.scp_core.specs.Flow.{Flows}
 use Rattle.scp_core.specs.History.{Exchange, past_of, nothing_heard}
 use Rattle.scp_core.specs.Ledger.{account_of, HoldsLedger, TheoremGivesLedger}
 use Rattle.scp_core.specs.Node.{NodeView}
-use Rattle.scp_core.specs.Sent.{IsSentOut, grounds_of, sent_to}
+use Rattle.scp_core.specs.Sent.{grounds_of, sent_to}
 use Rattle.scp_core.specs.Theorem.{made, AreSteps, LedgerTheorem}
 use Rattle.scp_core.proofs.Accounting.{kept_at}
 use Rattle.scp_core.proofs.Below.{Laws}

@@ -11,12 +11,13 @@ use Rattle.scp_wire.specs.Fitting.{IsFitting}
 use Rattle.scp_outboxes.specs.Handing.{PutsAll, HandsOut, to_link, to_each}
 use Rattle.scp_ledger.specs.declared.took.Outgoing.{Outgoing}
 use Rattle.scp_ledger.specs.declared.took.Outgoing.TheVariants.{ToAll, To}
+use Rattle.scp_grounds.specs.Handed.{handed_by, out_of}
 use Rattle.scp_core.specs.declared.event.Event.{Event}
 use Rattle.scp_core.specs.declared.event.Event.TheVariants.{ReaderTake, ReaderPut, PendTake, PendPut, SlotTake, SlotPut, ApplyTake, Drain}
 use Rattle.scp_core.specs.declared.event.Reply.{Reply}
 use Rattle.scp_core.specs.declared.event.Reply.TheVariants.{Failed, Accepted, Moved, Sent, Idle, NoLink, JournalFull, NoMemory}
-use Rattle.scp_core.specs.Node.{NodeView, Step, Hands, HandsOne, HandsEach, Moves, handed_by}
-use Rattle.scp_core.specs.Handed.{out_of, HandedAt, StepsPutAll, IsDrained, DrainsGiveNext}
+use Rattle.scp_core.specs.Node.{NodeView, Step, Hands, HandsOne, HandsEach, Moves}
+use Rattle.scp_core.specs.Handed.{HandedAt, StepsPutAll, IsDrained, DrainsGiveNext}
 use Rattle.scp_pending.specs.Rules.{reply as reply_to}
 
 -- ---- one answer, one message for all
@@ -44,7 +45,7 @@ all_put_out old new e b m same is h =
 pub box_fits : (e : Enveloped) (b : Boxed) → b.value ≡ e → IsFitting (Envelope (record { value = e })) → IsFitting (Envelope b)
 box_fits e b same fits = subst IsFitting (ap (λ (x : Enveloped). Envelope (record { value = x })) (sym same)) fits
 
-hands_each : (old new : List OutboxView) (answer : Option (ℕ × Message)) → Hands old answer new → HandsEach old (out_of answer) new
+pub hands_each : (old new : List OutboxView) (answer : Option (ℕ × Message)) → Hands old answer new → HandsEach old (out_of answer) new
 hands_each old new None h = h
 hands_each old new (Some answer) h = (new, h, refl)
 

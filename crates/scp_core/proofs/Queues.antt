@@ -1,9 +1,9 @@
 -- Queues, hands and lists of links.
 use Rattle.std.proofs.Common.{◌≡◌, ◌≢◌, ℕ, ◌<◌, ◌≤◌, Bool, true, false, List, [], ◌∷◌, ◌++◌, refl, sym, ◌∙◌, ap, nat_eq, arith, append_assoc, length, zero, suc, take, drop, inl, inr, ◌⊎◌}
-use Rattle.std.specs.Prelude.{Option, Some, None, slice_get, slice_set, slice_index_or, option_to_list, if◌then◌else◌}
+use Rattle.std.specs.Prelude.{Option, Some, None, slice_get, slice_set, option_to_list, if◌then◌else◌}
 use Rattle.std.proofs.lemmas.List.{append-nil}
 use Rattle.std.proofs.lemmas.Bool.{eqb-true, eqb-false}
-use Rattle.std.proofs.lemmas.Option.{get_or_from_slice_get, slice_get_within}
+use Rattle.std.proofs.lemmas.Option.{slice_get_within}
 use Rattle.scp_core.specs.Flow.{IsOnWay}
 use Rattle.scp_core.specs.History.{OnLink, changed}
 
@@ -43,16 +43,8 @@ at_changed Q links l o m same other = by_test (nat_eq m l) refl
     by_test true e = same (eqb-true m l e)
     by_test false e = other (eqb-false m l e)
 
-pub peer_is : {X : Type 0} (peers : List X) (l : ℕ) (me peer : X) → slice_get peers l ≡ Some peer → slice_index_or peers l me ≡ peer
-peer_is peers l me peer e = get_or_from_slice_get peers l peer me e
-
 pub some_len : {X : Type 0} (o : Option X) (x : X) → o ≡ Some x → length (option_to_list o) ≡ 1
 some_len o x e = ap (λ p. length (option_to_list p)) e
 
 pub within : {X : Type 0} (xs : List X) (l : ℕ) (x : X) → slice_get xs l ≡ Some x → l < length xs
 within xs l x e = slice_get_within xs l x e
-
-pub there_is : {X : Type 0} (xs : List X) (l : ℕ) → l < length xs → (x : X) × (slice_get xs l ≡ Some x)
-there_is [] l lt = absurd (omega (arith, lt))
-there_is (x ∷ xs) zero lt = (x, refl)
-there_is (x ∷ xs) (suc l) lt = there_is xs l (omega (arith, lt))

@@ -5,7 +5,6 @@ use Rattle.std.proofs.lemmas.List.{append-nil, length-set, take-append-drop}
 use Rattle.scp_pending.specs.Passes.{Passes}
 use Rattle.std.proofs.lemmas.List.Elements.{filter-append}
 use Rattle.std.proofs.lemmas.Cmp.{nat_list_eq_equiv}
-use Rattle.std.specs.Cmp.Lexicographic.{same_text}
 use Rattle.scp_types.specs.declared.names.NodeId.{NodeId}
 use Rattle.scp_types.specs.declared.names.ConnId.{ConnId}
 use Rattle.scp_wire.specs.declared.link.LinkItem.{LinkItem}
@@ -24,6 +23,8 @@ use Rattle.scp_wire.specs.declared.message.Message.{Message}
 use Rattle.scp_apply.specs.Applier.{ApplierView, IsApplier, IsRunning}
 use Rattle.scp_apply.specs.Applier.{Takes as ApplierTakes}
 use Rattle.scp_ledger.specs.declared.took.Onward.{Onward}
+use Rattle.scp_grounds.proofs.Basics.{there_is, peer_is}
+use Rattle.scp_grounds.proofs.Places.{same_node-is}
 use Rattle.scp_core.specs.declared.event.Event.{Event}
 use Rattle.scp_core.specs.declared.event.Event.TheVariants.{Open, Send, Close, Local, ReaderTake, ReaderPut, PendTake, PendPut, SlotTake, SlotPut, ApplyTake, Drain}
 use Rattle.scp_core.proofs.Deciding.{journals_step, applies_step}
@@ -33,7 +34,7 @@ use Rattle.scp_ledger.specs.Kv.{KvLedger, KvTakes, KvRuns}
 use Rattle.scp_outbox.specs.Outbox.{OutboxView}
 use Rattle.scp_core.specs.Node.{SendsOut, LinkView, NodeView, with_link, Accepts, Moves}
 use Rattle.scp_core.specs.Flow.{LinkFlows, Flows}
-use Rattle.scp_core.proofs.Queues.{way-fill, way-put, way-take, get_set, at_changed, peer_is, within, there_is}
+use Rattle.scp_core.proofs.Queues.{way-fill, way-put, way-take, get_set, at_changed, within}
 use Rattle.scp_core.proofs.Links.{link-put, put_same, link-take, link-give, give_more, hand_cut, in_order, more}
 
 -- ---- which link an item is of
@@ -51,9 +52,6 @@ from_is peer me q h (y ∷ ys) x rest a = from_is peer me q (comes h y) ys x res
 
 pub same_node-refl : (p : NodeId) → same_node p p ≡ true
 same_node-refl p = nat_list_eq_equiv.refl p.0
-
-pub same_node-is : (p q : NodeId) → same_node p q ≡ true → p ≡ q
-same_node-is p q e = ap (λ (bytes : List ℕ). record { 0 = bytes }) (same_text p.0 q.0 (sym e))
 
 not_same : (p q : NodeId) → p ≢ q → same_node p q ≡ false
 not_same p q ne = by_test (same_node p q) refl

@@ -1,12 +1,4 @@
-pub mod Basics
-pub mod Growing
 pub mod Handing
-pub mod Places
-pub mod Replies
-pub mod Emitted
-pub mod Machines
-pub mod Ledgers
 pub mod Answers
-pub mod Putting
 pub mod Stepping
 pub mod All

@@ -1,5 +1,5 @@
 -- What each step hands out for the links, and what a drain gives.
-use Rattle.std.specs.Prelude.{ℕ, ◌≡◌, ◌≢◌, ◌⊎◌, false, List, [], ◌∷◌, Option, Some, None, IfSome, slice_get}
+use Rattle.std.specs.Prelude.{ℕ, ◌≡◌, ◌≢◌, ◌⊎◌, false, List, [], Some, None, IfSome, slice_get}
 use Rattle.scp_types.specs.declared.names.NodeId.{NodeId}
 use Rattle.scp_wire.specs.declared.link.Inbound.{Inbound}
 use Rattle.scp_wire.specs.declared.message.Message.{Message}
@@ -8,10 +8,10 @@ use Rattle.scp_wire.specs.Fitting.{IsFitting}
 use Rattle.scp_outbox.specs.Outbox.{OutboxView}
 use Rattle.scp_outboxes.specs.Handing.{GivesThere}
 use Rattle.scp_ledger.specs.declared.took.Outgoing.{Outgoing}
-use Rattle.scp_ledger.specs.declared.took.Outgoing.TheVariants.{To}
 use Rattle.scp_pending.specs.declared.ready.Ready.{Ready}
 use Rattle.scp_pending.specs.Pends.{Pends}
 use Rattle.scp_pending.specs.Rules.{PendingView, reply as reply_to}
+use Rattle.scp_grounds.specs.Handed.{out_of}
 use Rattle.scp_core.specs.declared.event.Event.{Event}
 use Rattle.scp_core.specs.declared.event.Event.TheVariants.{PendTake, SlotTake, ApplyTake, Drain}
 use Rattle.scp_core.specs.declared.event.Reply.{Reply}
@@ -19,11 +19,6 @@ use Rattle.scp_core.specs.declared.event.Reply.TheVariants.{Moved, Idle, Sent, N
 use Rattle.scp_core.specs.Node.{NodeView, Step, HandsEach, PendBrings, PendTakes, SlotTakes, ApplyTakes}
 
 -- ---- what a step hands out
-
--- an answer goes to its link
-abbrev pub out_of : Option (ℕ × Message) → List Outgoing
-out_of None = []
-out_of (Some answer) = To answer.0 answer.1 ∷ []
 
 -- the pending stage hands out its reply to the item that it takes, and nothing where it brings what is ready
 abbrev pub PendHands : NodeView → List Outgoing → NodeView → Type 0

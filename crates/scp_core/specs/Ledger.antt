@@ -7,12 +7,13 @@ use Rattle.scp_wire.specs.declared.link.Inbound.{Inbound}
 use Rattle.scp_wire.specs.LinkReading.{readings}
 use Rattle.scp_theorem.specs.Account.{Account}
 use Rattle.scp_theorem.specs.Kept.{KeepsLedger}
+use Rattle.scp_grounds.specs.Grounds.{IsSentOut}
 use Rattle.scp_core.specs.declared.event.Event.{Event}
 use Rattle.scp_core.specs.declared.event.Reply.{Reply}
 use Rattle.scp_core.specs.declared.event.Reply.TheVariants.{Failed, JournalFull, NoMemory}
 use Rattle.scp_core.specs.History.{Exchange, past_of, nothing_heard}
 use Rattle.scp_core.specs.Node.{LinkView, NodeView, Step, Keeps}
-use Rattle.scp_core.specs.Sent.{IsSentOut, grounds_of, sent_to}
+use Rattle.scp_core.specs.Sent.{grounds_of, sent_to}
 use Rattle.scp_core.specs.Theorem.{made, AreSteps, LedgerTheorem}
 
 -- ---- where everything is

@@ -1,10 +1,9 @@
 -- What clients see of a node, and what one event does to it: the table of replies.
-use Rattle.std.specs.Prelude.{ℕ, ◌+◌, ◌-◌, ◌<◌, ◌≡◌, ◌≢◌, Bool, true, false, List, [], ◌∷◌, ◌++◌, ◌⊎◌, Option, Some, None, IsSome, length, map, slice_get, slice_set, option_to_list, flat_map, ◌&&◌, nat_lt, if◌then◌else◌}
+use Rattle.std.specs.Prelude.{ℕ, ◌+◌, ◌-◌, ◌<◌, ◌≡◌, ◌≢◌, Bool, true, false, List, [], ◌∷◌, ◌++◌, ◌⊎◌, Option, Some, None, IsSome, length, map, slice_get, slice_set, option_to_list, ◌&&◌, nat_lt, if◌then◌else◌}
 use Rattle.scp_ledger.specs.declared.journal.TheConstants.{JOURNAL_LIMIT}
 use Rattle.scp_types.specs.declared.limits.TheConstants.{LIFE_LIMIT}
 use Rattle.scp_types.specs.declared.names.NodeId.{NodeId}
 use Rattle.scp_wire.specs.declared.message.Message.{Message}
-use Rattle.scp_wire.specs.declared.message.Message.TheVariants.{Envelope}
 use Rattle.scp_wire.specs.declared.link.LinkItem.{LinkItem}
 use Rattle.scp_wire.specs.declared.link.LinkItem.TheVariants as item
 use Rattle.scp_wire.specs.declared.link.Inbound.{Inbound}
@@ -15,7 +14,7 @@ use Rattle.scp_wire.specs.Message.{message_value, SpellsMessage}
 use Rattle.scp_wire.specs.LinkReading.{ReaderView, unread, reading, after}
 use Rattle.scp_wire.specs.Connections.{conn_at}
 use Rattle.scp_outbox.specs.Outbox.{OutboxView}
-use Rattle.scp_outboxes.specs.Handing.{HandsOut, to_link, GivesNext, GivesThere}
+use Rattle.scp_outboxes.specs.Handing.{HandsOut, GivesNext, GivesThere}
 use Rattle.scp_pending.specs.declared.ready.Ready.{Ready}
 use Rattle.scp_pending.specs.Passes.{Passes}
 use Rattle.scp_pending.specs.Rules.{PendingView, taken_in, reply as reply_to}
@@ -23,12 +22,13 @@ use Rattle.scp_pending.specs.Pends.{Pends, IsIdle}
 use Rattle.scp_ledger.specs.declared.took.CommandFate.{CommandFate}
 use Rattle.scp_ledger.specs.declared.took.Onward.{Onward}
 use Rattle.scp_ledger.specs.declared.took.Outgoing.{Outgoing}
-use Rattle.scp_ledger.specs.declared.took.Outgoing.TheVariants.{ToAll, To}
+use Rattle.scp_ledger.specs.declared.took.Outgoing.TheVariants.{To}
 use Rattle.scp_ledger.specs.declared.took.Took.{Took}
 use Rattle.scp_ledger.specs.Ledger.{IsLedger}
 use Rattle.scp_ledger.specs.Takes.{adds_entry}
 use Rattle.scp_apply.specs.Applier.{ApplierView, IsApplier, IsRunning}
 use Rattle.scp_apply.specs.Applier.{Takes as Applies}
+use Rattle.scp_grounds.specs.Handed.{handed_by}
 use Rattle.scp_core.specs.declared.config.Config.{Config}
 use Rattle.scp_core.specs.declared.event.Event.{Event}
 use Rattle.scp_core.specs.declared.event.Event.TheVariants.{Open, Send, Close, Local, ReaderTake, ReaderPut, PendTake, PendPut, SlotTake, SlotPut, ApplyTake, Drain}
@@ -95,15 +95,6 @@ Accepts old (Send l bytes) new = AtLink old l (λ k. (k.is_open ≡ true) × (le
 Accepts old (Close l) new = AtLink old l (λ k. (k.is_open ≡ true) × (length k.queue ≢ k.room) × (new ≡ with_link old l (record k { is_open = false; queue = k.queue ++ item.Closed (conn_at (peer_at old.config l) old.config.me k.life) ∷ [] })))
 Accepts old (Local command) new = HasLink old command × (length old.inbox ≢ old.inbox_room) × (new ≡ record old { inbox = old.inbox ++ inbound.Local command ∷ [] })
 Accepts old event new = ⊥
-
--- what goes out to all peers is for each link
-abbrev pub messages_for : ℕ → Outgoing → List Message
-messages_for link (ToAll envelope) = Envelope (record { value = envelope }) ∷ []
-messages_for link (To l message) = to_link l message link
-
--- all that goes out, for each link
-abbrev pub handed_by : List Outgoing → ℕ → List Message
-handed_by outgoing link = flat_map (messages_for link) outgoing
 
 -- one thing that goes out is put into the outboxes of its links
 abbrev pub HandsOne : List OutboxView → Outgoing → List OutboxView → Type 0

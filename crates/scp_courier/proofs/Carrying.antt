@@ -5,6 +5,7 @@ use Rattle.scp_outbox.specs.declared.mark.Mark.TheVariants.{Opened, Closed, Stop
 use Rattle.scp_outbox.specs.declared.mark.Out.{Out}
 use Rattle.scp_outbox.specs.declared.mark.Out.TheVariants as out
 use Rattle.scp_ends.specs.Links.{LinkEnd}
+use Rattle.scp_desk.specs.Ends.{TakerView}
 use Rattle.scp_courier.specs.Carrying.{IsSpelt, AreSpelt, Carries, Carried, HaveNoStop, IsSameLink, is_stop, unsent}
 
 pub carried_more : (xs : List Out) (x : Out) (first old new : LinkEnd) → Carried xs first old → Carries x old new → Carried (xs ++ x ∷ []) first new
@@ -15,9 +16,9 @@ same_unsent : (k now : LinkEnd) → IsSameLink k now → unsent now ≡ unsent k
 same_unsent k now same = rw (same.from, same.to, same.line, same.number) refl
 
 -- so it is from the same link with nothing sent
-pub carried_then : (all xs : List Out) (x : Out) (old new : LinkEnd) → all ≡ xs ++ x ∷ [] → IsSameLink old new → Carried xs (unsent old) old → Carries x old new → Carried all (unsent new) new
-carried_then all xs x old new is same e c =
-    subst (λ (outs : List Out). Carried outs (unsent new) new) (sym is) (subst (λ (k : LinkEnd). Carried (xs ++ x ∷ []) k new) (sym (same_unsent old new same)) (carried_more xs x (unsent old) old new e c))
+pub carried_then : (t now : TakerView) (x : Out) (old new : LinkEnd) → now ≡ record t { gave = t.gave ++ x ∷ [] } → IsSameLink old new → Carried t.gave (unsent old) old → Carries x old new → Carried now.gave (unsent new) new
+carried_then t now x old new is same e c =
+    rw is (subst (λ (k : LinkEnd). Carried (t.gave ++ x ∷ []) k new) (sym (same_unsent old new same)) (carried_more t.gave x (unsent old) old new e c))
 
 pub no_stop_more : (xs : List Out) (x : Out) → HaveNoStop xs → is_stop x ≡ false → HaveNoStop (xs ++ x ∷ [])
 no_stop_more [] x h e = (e, tt)

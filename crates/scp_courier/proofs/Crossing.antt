@@ -1,7 +1,7 @@
 -- A courier may cross threads.
 use denote.Param.Send.{IsSend, sendable}
 use Rattle.std.proofs.Crossing.{crosses}
-use Rattle.scp_outbox.specs.Crossing.{SharedCrosses}
+use Rattle.scp_desk.specs.Crossing.{EndsCross}
 use Rattle.scp_ends.specs.contracts.tail.LinkTx as tail
 use Rattle.scp_ends.proofs.tail.LinkTx.TheSendSync.{the_send}
 use Rattle.scp_courier.specs.contracts.courier.Courier as courier
@@ -9,8 +9,8 @@ use Rattle.scp_courier.specs.contracts.courier.Courier as courier
 tail_send : IsSend tail.the_row
 tail_send = search (sendable, crosses, the_send) depth 40
 
-of_tail_send : SharedCrosses → IsSend tail.the_row → IsSend courier.the_row
-of_tail_send o t = (let send = o.send in let sync = o.sync in search (sendable, crosses) depth 40)
+of_tail_send : EndsCross → IsSend tail.the_row → IsSend courier.the_row
+of_tail_send ends t = (let taker = ends.taker in search (sendable, crosses) depth 40)
 
-pub courier_send : SharedCrosses → IsSend courier.the_row
-courier_send o = of_tail_send o tail_send
+pub courier_send : EndsCross → IsSend courier.the_row
+courier_send ends = of_tail_send ends tail_send

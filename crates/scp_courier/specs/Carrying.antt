@@ -10,6 +10,7 @@ use Rattle.scp_outbox.specs.declared.mark.Mark.TheVariants.{Opened, Closed, Stop
 use Rattle.scp_outbox.specs.declared.mark.Out.{Out}
 use Rattle.scp_outbox.specs.declared.mark.Out.TheVariants as out
 use Rattle.scp_ends.specs.Links.{LinkEnd, stands, conn_now, conn_next, with_item}
+use Rattle.scp_desk.specs.Ends.{TakerView}
 
 -- ---- what goes over a link
 
@@ -66,17 +67,18 @@ pub record EndAtStop (outs : List Out) : Type 0 where
 
 -- ---- a courier
 
--- what contracts see of a courier that works: the sending end of its link, what it was given, and whether it failed
+-- what contracts see of a courier that works: the sending end of its link, the end of the outbox by which it is given what waits, and
+-- whether it failed
 pub record CourierWorking : Type 0 where
   pub link : LinkEnd
-  pub given : List Out
+  pub taker : TakerView
   pub failed : Bool
 
--- what it ends with: its link's end is there where it ended well; what it was given; how often it opened the link, and whether it left it
--- open
+-- what it ends with: its link's end is there where it ended well; the end of the outbox; how often it opened the link, and whether it left
+-- it open
 pub record CourierEnd : Type 0 where
   pub link : Option LinkEnd
-  pub given : List Out
+  pub taker : TakerView
   pub lives : ℕ
   pub is_open : Bool
 
@@ -98,6 +100,12 @@ pub record IsSameLink (k now : LinkEnd) : Type 0 where
   pub line : now.tail.line ≡ k.tail.line
   pub number : now.tail.number ≡ k.tail.number
 
--- it has the link that the courier was given
-abbrev pub HoldsLink : LinkEnd → CourierEnd → Type 0
-HoldsLink k e = IfSome e.link (IsSameLink k)
+-- it is the same end of an outbox
+pub record IsSameTaker (t now : TakerView) : Type 0 where
+  pub desk : now.desk ≡ t.desk
+  pub producers : now.producers ≡ t.producers
+
+-- it has the link and the end of the outbox that the courier was given
+pub record Holds (w : CourierWorking) (e : CourierEnd) : Type 0 where
+  pub link : IfSome e.link (IsSameLink w.link)
+  pub taker : IsSameTaker w.taker e.taker

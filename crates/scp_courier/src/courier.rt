@@ -2,25 +2,24 @@
 ghost use Rattle.std.specs.Prelude.{◌≡◌, ◌↔◌, [], ◌∷◌, ◌++◌, true, false, IsTrue, IsSome, IfSome, MatchBool};
 ghost use Rattle.scp_outbox.specs.declared.mark.Mark.TheVariants as mark;
 ghost use Rattle.scp_outbox.specs.declared.mark.Out.TheVariants as out;
-ghost use Rattle.scp_courier.specs.Carrying.{Carries, EndAtStop, HasCarried, HaveNoStop, IsCarried, HoldsLink, IsSameLink, is_stop};
+ghost use Rattle.scp_courier.specs.Carrying.{Carries, EndAtStop, HasCarried, HaveNoStop, Holds, IsCarried, IsSameLink, IsSameTaker, is_stop};
 
-use crate::given::Given;
+use scp_desk::Taker;
 use scp_ends::{LinkDone, LinkTx};
 use scp_gate::{Counter, Gate, Stage};
-use scp_outbox::{Mark, Out, SharedOutbox};
+use scp_outbox::{Mark, Out};
 use scp_types::NodeId;
 use scp_wire::{Bytes, Message, encode};
 use std::alloc::Global;
 use std::marker::Model;
-use std::sync::{Arc, Wait};
+use std::sync::Wait;
 
-/// Carries what waits in an outbox to a link. Contracts see the link's end, what it was given, and whether it failed.
+/// Carries what waits in an outbox to a link. Contracts see the link's end, the end of the outbox, and whether it failed.
 #[derive(Drop)]
 pub struct Courier {
     alloc: Global,
-    outbox: Arc<SharedOutbox>,
+    taker: Taker,
     link: LinkTx,
-    given: Given,
     counter: Counter,
     failed: bool,
 }
@@ -36,16 +35,16 @@ impl Model for Courier {
 
     ghost coded = { Prim.hlevel (codes, coded_row coded_level) };
 
-    ghost view = { λ w. record { link = w.link; given = w.given; failed = w.failed } };
+    ghost view = { λ w. record { link = w.link; taker = w.taker; failed = w.failed } };
 
-    ghost invariant = { λ w. AreSpelt w.link.tail.sent × (w.failed ≡ false → Carried w.given (unsent w.link) w.link) };
+    ghost invariant = { λ w. AreSpelt w.link.tail.sent × (w.failed ≡ false → Carried w.taker.gave (unsent w.link) w.link) };
 }
 
-/// What a courier ends with: what it was given, how its link stands, and where it ended well, what the link's end leaves.
+/// What a courier ends with: the end of the outbox, how its link stands, and where it ended well, what the link's end leaves.
 #[derive(Drop)]
 pub struct CourierEnded {
     done: Option<LinkDone>,
-    given: Given,
+    taker: Taker,
     lives: u32,
     is_open: bool,
 }
@@ -61,9 +60,9 @@ impl Model for CourierEnded {
 
     ghost coded = { Prim.hlevel (codes, coded_row coded_level) };
 
-    ghost view = { λ e. record { link = e.done; given = e.given; lives = e.lives; is_open = e.is_open } };
+    ghost view = { λ e. record { link = e.done; taker = e.taker; lives = e.lives; is_open = e.is_open } };
 
-    ghost invariant = { λ e. IfSome e.done (λ k. IsCarried e.lives e.is_open k × HasCarried e.given k) };
+    ghost invariant = { λ e. IfSome e.done (λ k. IsCarried e.lives e.is_open k × HasCarried e.taker.gave k) };
 }
 
 impl CourierEnded {
@@ -88,37 +87,33 @@ impl CourierEnded {
         self.is_open
     }
 
-    /// What the link's end leaves, where the courier ended well.
-    pub fn into_link(self) -> Option<LinkDone>
-        ensures link { result ≡ self.link }
+    /// What the link's end leaves, where the courier ended well; and the end of the outbox.
+    pub fn into_parts(self) -> (Option<LinkDone>, Taker)
+        ensures link { result.0 ≡ self.link }
+        // By this end the courier was given all that it carried.
+        ensures taker { result.1 ≡ self.taker }
         // So the link stands, and all bytes that were sent spell messages.
-        ensures carried { IfSome result (IsCarried self.lives self.is_open) }
+        ensures carried { IfSome result.0 (IsCarried self.lives self.is_open) }
         // It was given all up to Stop, and sent it.
-        ensures given { IfSome result (HasCarried self.given) }
+        ensures given { IfSome result.0 (HasCarried self.taker.gave) }
     {
-        let CourierEnded { done, .. } = self;
-        done
+        let CourierEnded { done, taker, .. } = self;
+        (done, taker)
     }
 }
 
 impl Courier {
-    /// A courier of this node for the link of this number, between an outbox and a link over which nothing was sent yet.
-    /// Takes no memory.
-    pub fn new(
-        alloc: Global,
-        node: NodeId,
-        link: u8,
-        outbox: Arc<SharedOutbox>,
-        tx: LinkTx,
-    ) -> Courier
+    /// A courier of this node for the link of this number, between an outbox of which nothing was given yet and a link over which
+    /// nothing was sent yet. Takes no memory.
+    pub fn new(alloc: Global, node: NodeId, link: u8, taker: Taker, tx: LinkTx) -> Courier
         requires unused { tx.tail.sent ≡ [] }
-        ensures { result ≡ record { link = tx; given = []; failed = false } }
+        requires fresh { taker.gave ≡ [] }
+        ensures { result ≡ record { link = tx; taker = taker; failed = false } }
     {
         Courier {
             alloc,
-            outbox,
+            taker,
             link: tx,
-            given: Given::new(),
             counter: Counter::new(node, Stage::Courier(link)),
             failed: false,
         }
@@ -127,9 +122,9 @@ impl Courier {
     /// Carries what is given until that is the mark Stop, and then ends the link. Where it fails, for want of memory, because
     /// the link refuses or because the receiving end is gone, it goes on taking and gives up what it takes.
     pub fn run<R: Wait, G: Gate>(mut self, rt: &R, gate: &G) -> CourierEnded
-        requires { self.given ≡ [] }
-        // It ends with the link that it was given.
-        ensures { HoldsLink self.link result }
+        requires { self.taker.gave ≡ [] }
+        // It ends with the link and the end of the outbox that it was given.
+        ensures { Holds self result }
     {
         for _ in rt.forever() {
             if !self.step(rt, gate) {
@@ -141,25 +136,25 @@ impl Courier {
 
     /// Takes what is next, and carries it. Says whether to go on. Before it waits for that, the link's reader is told of what was sent.
     fn step<R: Wait, G: Gate>(&mut self, rt: &R, gate: &G) -> bool
-        requires { HaveNoStop self.old.given }
+        requires { HaveNoStop self.old.taker.gave }
         ensures same { IsSameLink self.old.link self.new.link }
-        ensures on { result ≡ true → HaveNoStop self.new.given }
-        ensures over { result ≡ false → EndAtStop self.new.given }
+        ensures taker { IsSameTaker self.old.taker self.new.taker }
+        ensures on { result ≡ true → HaveNoStop self.new.taker.gave }
+        ensures over { result ≡ false → EndAtStop self.new.taker.gave }
     {
         self.link.flush();
-        let given = self.outbox.next(rt);
-        self.counter.taken(gate);
+        let given = self.take(rt, gate);
         let over = is_stop(&given);
-        self.take(rt, gate, given);
         !over
     }
 
-    /// Writes down what was given, and carries it where nothing was lost before.
-    fn take<R: Wait, G: Gate>(&mut self, rt: &R, gate: &G, given: Out)
+    /// Takes what is next, and carries it where nothing was lost before. Gives what it took.
+    fn take<R: Wait, G: Gate>(&mut self, rt: &R, gate: &G) -> Out
         ensures same { IsSameLink self.old.link self.new.link }
-        ensures given { self.new.given ≡ self.old.given ++ given ∷ [] }
+        ensures given { self.new.taker ≡ record self.old.taker { gave = self.old.taker.gave ++ result ∷ [] } }
     {
-        self.given.add(&given);
+        let given = self.taker.next(rt);
+        self.counter.taken(gate);
         if self.failed
             || !carry(
                 rt,
@@ -167,22 +162,23 @@ impl Courier {
                 gate,
                 &mut self.counter,
                 &mut self.link,
-                given,
+                &given,
             )
         {
             self.failed = true;
         }
+        given
     }
 
     /// Ends the link.
     fn end<R: Wait, G: Gate>(mut self, rt: &R, gate: &G) -> CourierEnded
-        requires { EndAtStop self.given }
-        ensures { HoldsLink self.link result }
+        requires { EndAtStop self.taker.gave }
+        ensures { Holds self result }
     {
         self.counter.putting(gate);
         let Courier {
             link,
-            given,
+            taker,
             failed,
             ..
         } = self;
@@ -190,7 +186,7 @@ impl Courier {
         let is_open = link.is_open();
         CourierEnded {
             done: stop_well(rt, link, !failed),
-            given,
+            taker,
             lives,
             is_open,
         }
@@ -204,15 +200,15 @@ fn carry<R: Wait, G: Gate>(
     gate: &G,
     counter: &mut Counter,
     link: &mut LinkTx,
-    given: Out,
+    given: &Out,
 ) -> bool
     ensures same { IsSameLink link.old link.new }
-    ensures carries { MatchBool result (Carries given link.old link.new) (link.new ≡ link.old) }
+    ensures carries { MatchBool result (Carries given.now link.old link.new) (link.new ≡ link.old) }
 {
     match given {
         Out::Mark(Mark::Opened) => open(rt, gate, counter, link),
         Out::Mark(Mark::Closed) => close(rt, gate, counter, link),
-        Out::Message(message) => send(rt, alloc, gate, counter, link, &message),
+        Out::Message(message) => send(rt, alloc, gate, counter, link, message),
         Out::Mark(Mark::Stop) | Out::Nothing => true,
     }
 }

@@ -1,13 +1,16 @@
+ghost use Rattle.std.specs.Prelude.{◌≡◌, [], IfOk, IfSome};
+
 use crate::Courier;
+use scp_desk::{Marker, Putter, Taker, ends_cross_threads, make};
 use scp_ends::{Item, LinkRx, link};
 use scp_envelope::{Envelope, Nominate, Pledges, Signature, Statement, ValueList};
 use scp_gate::{Gate, Moment, Open, Place};
-use scp_outbox::{Mark, SharedOutbox, a_shared_outbox_crosses_threads};
+use scp_outbox::Mark;
 use scp_types::{Fault, Hash, NodeId, Slot, Value};
 use scp_wire::{BoxedEnvelope, FittingMessage, LinkItem, Message, decode};
 use std::alloc::Global;
 use std::sync::atomic::{AtomicBool, Ordering};
-use std::sync::{Arc, Wait};
+use std::sync::{Arc, Mutex, Wait};
 use std::test::*;
 use std::thread;
 
@@ -37,10 +40,10 @@ fn nomination(alloc: Global, slot: u64) -> Result<Message, Fault> {
 }
 
 /// Puts a message that fits; whether it fits.
-fn put<R: Wait>(rt: &R, outbox: &SharedOutbox, message: Message) -> bool {
+fn put<R: Wait>(rt: &R, putter: &mut Putter, message: Message) -> bool {
     match FittingMessage::new(message) {
         Ok(fitting) => {
-            outbox.put(rt, fitting);
+            putter.put(rt, fitting);
             true
         }
         Err(_) => false,
@@ -48,29 +51,34 @@ fn put<R: Wait>(rt: &R, outbox: &SharedOutbox, message: Message) -> bool {
 }
 
 /// Puts requests for the sets of hashes 5 and 6, and NOMINATEs of slots 1 to 64. Whether all fit.
-fn fill<R: Wait>(rt: &R, alloc: Global, outbox: &SharedOutbox) -> Result<bool, Fault> {
+fn fill<R: Wait>(rt: &R, alloc: Global, putter: &mut Putter) -> Result<bool, Fault> {
     let mut all = true;
     for byte in 5..7u8 {
-        if !put(rt, outbox, Message::GetSet(Hash([byte; 32]))) {
+        if !put(rt, putter, Message::GetSet(Hash([byte; 32]))) {
             all = false;
         }
     }
     for slot in 1..65u64 {
-        if !put(rt, outbox, nomination(alloc, slot)?) {
+        if !put(rt, putter, nomination(alloc, slot)?) {
             all = false;
         }
     }
     Ok(all)
 }
 
-/// An outbox whose link isn't live, which holds the mark Opened and what `fill` puts.
-fn filled<R: Wait>(rt: &R, alloc: Global) -> Result<Option<Arc<SharedOutbox>>, Fault> {
-    let outbox = SharedOutbox::new(alloc)?;
-    outbox.mark(rt, Mark::Opened)?;
-    if !fill(rt, alloc, &outbox)? {
+/// The ends of an outbox that holds the mark Opened and what `fill` puts, and of which nothing was given.
+fn filled<R: Wait>(rt: &R, alloc: Global) -> Result<Option<(Marker, Taker)>, Fault>
+    ensures { IfOk result (λ made. IfSome made (λ ends. ends.1.gave ≡ [])) }
+{
+    let (mut putters, mut marker, taker) = make(alloc, 1)?;
+    marker.mark(rt, Mark::Opened)?;
+    let Some(mut putter) = putters.pop() else {
+        return Ok(None);
+    };
+    if !fill(rt, alloc, &mut putter)? {
         return Ok(None);
     }
-    Ok(Some(Arc::new(alloc, outbox)?))
+    Ok(Some((marker, taker)))
 }
 
 /// At the send of this number, marks that the link closes and the courier stops.
@@ -78,15 +86,16 @@ fn filled<R: Wait>(rt: &R, alloc: Global) -> Result<Option<Arc<SharedOutbox>>, F
 struct ClosesAt<R: Wait> {
     rt: R,
     count: u64,
-    outbox: Arc<SharedOutbox>,
+    marker: Arc<Mutex<Marker>>,
     there: Arc<AtomicBool>,
 }
 
 impl<R: Wait> Gate for ClosesAt<R> {
     fn at(&self, place: Place) {
         if place.moment == Moment::Putting && place.count == self.count {
-            let closed = self.outbox.mark(&self.rt, Mark::Closed).is_ok();
-            let stopped = self.outbox.mark(&self.rt, Mark::Stop).is_ok();
+            let mut marker = self.marker.lock(&self.rt);
+            let closed = marker.mark(&self.rt, Mark::Closed).is_ok();
+            let stopped = marker.mark(&self.rt, Mark::Stop).is_ok();
             self.there.store(closed && stopped, Ordering::SeqCst);
         }
     }
@@ -158,22 +167,23 @@ fn came_whole<R: Wait>(rt: &R, alloc: Global, rx: &mut LinkRx) -> bool {
 
 #[test]
 fn a_courier_carries_all_in_order(rt: HostRuntime) -> Result<(), Fail> {
-    a_shared_outbox_crosses_threads();
+    ends_cross_threads();
     let alloc = rt.alloc();
     let (tx, mut rx) = link(alloc, ME, PEER, 128).ok().expect(&rt, "a link");
-    let outbox = filled(&rt, alloc)?.expect(&rt, "messages that fit");
+    let (marker, taker) = filled(&rt, alloc)?.expect(&rt, "messages that fit");
+    let marker = Arc::new(alloc, Mutex::new(marker))?;
     let there = Arc::new(alloc, AtomicBool::new(false))?;
     let gate = ClosesAt {
         rt,
         count: 67,
-        outbox: Arc::try_clone(&outbox)?,
+        marker: Arc::try_clone(&marker)?,
         there: Arc::try_clone(&there)?,
     };
-    let courier = Courier::new(alloc, ME, 0, Arc::try_clone(&outbox)?, tx);
+    let courier = Courier::new(alloc, ME, 0, taker, tx);
     let ended = thread::spawn(&rt, move || courier.run(&rt, &gate).well())?;
     let came_there = is_there(&there);
     if !came_there {
-        outbox.mark(&rt, Mark::Stop)?;
+        marker.lock(&rt).mark(&rt, Mark::Stop)?;
     }
     assert!(rt; ended.join(&rt) && came_there);
     assert!(rt; came_whole(&rt, alloc, &mut rx));
@@ -182,14 +192,14 @@ fn a_courier_carries_all_in_order(rt: HostRuntime) -> Result<(), Fail> {
 
 #[test]
 fn a_courier_whose_link_is_gone_goes_on_to_the_stop(rt: HostRuntime) -> Result<(), Fail> {
-    a_shared_outbox_crosses_threads();
+    ends_cross_threads();
     let alloc = rt.alloc();
     let (tx, rx) = link(alloc, ME, PEER, 1).ok().expect(&rt, "a link");
     drop(rx);
-    let outbox = filled(&rt, alloc)?.expect(&rt, "messages that fit");
-    let courier = Courier::new(alloc, ME, 0, Arc::try_clone(&outbox)?, tx);
+    let (mut marker, taker) = filled(&rt, alloc)?.expect(&rt, "messages that fit");
+    let courier = Courier::new(alloc, ME, 0, taker, tx);
     let ended = thread::spawn(&rt, move || courier.run(&rt, &Open).well())?;
-    outbox.mark(&rt, Mark::Stop)?;
+    marker.mark(&rt, Mark::Stop)?;
     assert!(rt; !ended.join(&rt));
     Ok(())
 }

@@ -72,8 +72,8 @@ module _ (adds : PutsAddTheMessage) (gives : GivesAreOfWhatWaits) (keeps : Gives
       )
 
   pub given_was_put : GivenWasPut
-  given_was_put puts marks gave is message was =
-      let put = (all_put is.turns is.stands.0 is.stands.1).1 message (subst (λ (l : List Out). Contains l (out.Message message)) (sym is.gave_is) was) in
+  given_was_put puts marks gave left is message was =
+      let put = (all_put is.turns left is.stands).1 message (subst (λ (l : List Out). Contains l (out.Message message)) (sym is.gave_is) was) in
       (put.0, subst (λ (l : List Message). Contains l message) (is.each put.0) put.1)
 
 marks_append : (xs ys : List Out) → marks_of (xs ++ ys) ≡ marks_of xs ++ marks_of ys
@@ -115,5 +115,5 @@ in_order (Gives given_out ∷ turns) o stands =
     ∙ in_order turns stands.0 stands.1
 
 pub marks_come_in_order : MarksComeInOrder
-marks_come_in_order puts marks gave is =
-    (is.stands.0.marks, sym is.marked_is ∙ sym (in_order is.turns is.stands.0 is.stands.1) ∙ ap (λ (l : List Out). marks_of l ++ is.stands.0.marks) is.gave_is)
+marks_come_in_order puts marks gave left is =
+    (left.marks, sym is.marked_is ∙ sym (in_order is.turns left is.stands) ∙ ap (λ (l : List Out). marks_of l ++ left.marks) is.gave_is)

@@ -4,3 +4,4 @@ pub mod Lists
 pub mod Crossing
 pub mod Marked
 pub mod Given
+pub mod InOrder

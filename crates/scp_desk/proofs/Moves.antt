@@ -51,7 +51,7 @@ leaves n pass v x may stands items views short h at =
       refl,
     )
 
-put_here : (n : ℕ) (message : Message) (turns : List Turn) → put_by n (Puts n message ∷ turns) ≡ put_by n turns ++ message ∷ []
+pub put_here : (n : ℕ) (message : Message) (turns : List Turn) → put_by n (Puts n message ∷ turns) ≡ put_by n turns ++ message ∷ []
 put_here n message turns = ap (λ b. cond b (put_by n turns ++ message ∷ []) (put_by n turns)) (eq-eqb n n refl)
 
 put_else : (n p : ℕ) (message : Message) (turns : List Turn) → n ≢ p → put_by p turns ≡ put_by p (Puts n message ∷ turns)

@@ -40,10 +40,10 @@ given (Puts p message ∷ turns) = given turns
 given (Marks mark ∷ turns) = given turns
 given (Gives out ∷ turns) = given turns ++ out ∷ []
 
--- what was given is what an outbox gives, of one order of what its producers put and of what was marked
-pub record IsOutOf (puts : ℕ → List Message) (marks : List Mark) (gave : List Out) : Type 0 where
+-- what was given is what an outbox gives, of one order of what its producers put and of what was marked, and this is left
+pub record IsOutOf (puts : ℕ → List Message) (marks : List Mark) (gave : List Out) (left : OutboxView) : Type 0 where
   pub turns : List Turn
-  pub stands : (o : OutboxView) × Stands turns o
+  pub stands : Stands turns left
   pub each : (p : ℕ) → put_by p turns ≡ puts p
   pub marked_is : marked turns ≡ marks
   pub gave_is : given turns ≡ gave

@@ -1,6 +1,6 @@
 //! Laws of the ends, and of what an outbox gives, each the contract of a function that does nothing.
 ghost use Rattle.scp_desk.specs.Crossing.{EndsCross};
-ghost use Rattle.scp_desk.specs.Laws.{GivenWasPut, MarksComeInOrder};
+ghost use Rattle.scp_desk.specs.Laws.{GivenWasPut, MarksComeInOrder, StatementsGoInOrder};
 
 /// Each end of an outbox may be moved to another thread.
 pub fn ends_cross_threads()
@@ -18,3 +18,10 @@ pub fn what_is_given_was_put()
 pub fn marks_are_given_in_order()
     ensures order { MarksComeInOrder }
 {}
+
+/// Where one producer alone puts statements, each newer than those of its slot and kind before it, those that are given are so too.
+pub fn statements_are_given_in_order()
+    ensures order { StatementsGoInOrder }
+{
+    scp_outboxes::what_is_given_was_handed_out();
+}

@@ -9,19 +9,21 @@ ghost use Rattle.scp_desk.specs.inside.Passes.{HavePut};
 use crate::desk::take_out;
 use crate::ends::{Marker, Putter, Taker};
 use crate::rule::{Hears, HearsMarks, Pass, Place, ToldPuts, ToldRest};
+use scp_outbox::Outbox;
 use std::sync::Wait;
 
-/// Takes all ends of an outbox back. What was given is what an outbox gives, of one order of what the producers put and of what was
-/// marked.
-pub fn take_back<R: Wait>(rt: &R, putters: Vec<Putter>, marker: Marker, taker: Taker)
+/// Takes all ends of an outbox back, and gives the outbox. What was given is what an outbox gives, of one order of what the producers
+/// put and of what was marked, and the outbox is what is left.
+pub fn take_back<R: Wait>(rt: &R, putters: Vec<Putter>, marker: Marker, taker: Taker) -> Outbox
     // They are all ends of one outbox, those of the producers in the order of their numbers.
     requires all { AreAll putters.items marker taker }
-    ensures { IsOutOf (puts_of putters.items) marker.marked taker.gave }
+    ensures { IsOutOf (puts_of putters.items) marker.marked taker.gave result }
 {
     let (desk, mut pass) = taker.apart();
-    let _outbox = take_out(rt, &desk.place, &mut pass);
+    let outbox = take_out(rt, &desk.place, &mut pass);
     hear_marks(&desk.place, &mut pass, marker);
     hear_all(&desk.place, &mut pass, putters);
+    outbox
 }
 
 /// Takes the passes of all producers in, in the order of their numbers.

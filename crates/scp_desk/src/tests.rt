@@ -97,7 +97,8 @@ fn unused_ends_are_taken_back(rt: HostRuntime) -> Result<(), Fail> {
     let (putters, mut marker, mut taker) = make(rt.alloc(), 3)?;
     assert!(rt; marker.mark(&rt, Mark::Stop).is_ok());
     assert!(rt; matches!(taker.next(&rt), Out::Mark(Mark::Stop)));
-    take_back(&rt, putters, marker, taker);
+    let left = take_back(&rt, putters, marker, taker);
+    assert!(rt; left.len() == 0);
     Ok(())
 }
 
@@ -136,8 +137,8 @@ fn is_taken_back<R: Threads + Wait + Sync>(
         { ask_all(rt, second, 101, 131) },
     );
     let whole = are_both_whole(rt, &mut taker);
-    take_back(rt, both(alloc, low.0, high.0)?, marker, taker);
-    Ok(whole && low.1 && high.1)
+    let left = take_back(rt, both(alloc, low.0, high.0)?, marker, taker);
+    Ok(whole && low.1 && high.1 && left.len() == 0)
 }
 
 #[test]

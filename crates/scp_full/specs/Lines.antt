@@ -21,7 +21,7 @@ use Rattle.scp_line.specs.declared.report.Parked.{Parked}
 use Rattle.scp_line.specs.Parts.{entries_of}
 use Rattle.scp_line.specs.Play.{running_state}
 use Rattle.scp_line.specs.Report.{node_number}
-use Rattle.scp_silent.specs.Texts.{numbers_text}
+use Rattle.scp_words.specs.Words.{numbers_text}
 use Rattle.scp_shown.specs.Text.{applied_text_line, state_text_line}
 use Rattle.scp_kept.specs.declared.happening.Happening.{Happening}
 use Rattle.scp_kept.specs.declared.happening.Happening.TheVariants.{Opened, Came, Closed, Sent}
@@ -55,9 +55,13 @@ held_line pending held =
     codes "from " ++ conn_words held.conn ++ codes " holds " ++ decimal held.count
     ++ first_words (first_that_waits (parked_of held.conn pending.settled.queues)) ++ codes "\n"
 
--- the line of something at the link of this peer, where it is this one
+-- the line of something at the link of this peer
+abbrev pub link_line : NodeId → List ℕ → List ℕ
+link_line peer words = codes "link " ++ node_word peer ++ codes " " ++ words ++ codes "\n"
+
+-- the same, where it is this link
 abbrev pub at_link : ℕ → ℕ → NodeId → List ℕ → List ℕ
-at_link at link peer words = if nat_eq at link then codes "link " ++ node_word peer ++ codes " " ++ words ++ codes "\n" else []
+at_link at link peer words = if nat_eq at link then link_line peer words else []
 
 -- what came over the link of this peer or went over it
 abbrev pub crossed_line : ℕ → NodeId → Happening → List ℕ

@@ -14,12 +14,11 @@ use Rattle.scp_wire.specs.Lanes.{slot_of}
 use Rattle.scp_ledger.specs.declared.journal.Fate.{Fate}
 use Rattle.scp_ledger.specs.declared.journal.Fate.TheVariants.{Taken, Dropped, Closed}
 use Rattle.scp_ledger.specs.declared.took.CommandFate.{CommandFate}
-use Rattle.scp_words.specs.Words.{verdict_word, cause_word, drop_word, hex_word}
+use Rattle.scp_words.specs.Words.{verdict_word, cause_word, drop_word, fate_word, hex_word}
 use Rattle.scp_text.specs.Messages.{message_text}
 use Rattle.scp_text.specs.Sets.{set_text}
 use Rattle.scp_text.specs.Values.{value_text}
 use Rattle.scp_line.specs.Report.{node_number}
-use Rattle.scp_silent.specs.Texts.{fate_word}
 
 -- a node, by its number
 abbrev pub node_word : NodeId → List ℕ

@@ -6,9 +6,9 @@ ghost use Rattle.scp_full.specs.Words.{asked_word, command_words};
 
 use crate::names::write_node;
 use scp_core::{Command, CommandFate};
-use scp_silent::word_of_fate;
 use scp_text::Term;
 use scp_types::{Fault, NodeId, Slot, Value};
+use scp_words::word_of_fate;
 use std::alloc::AllocError;
 
 /// Adds a command for a slot that says no more, by its word.

@@ -2,7 +2,7 @@
 ghost use Rattle.std.specs.Prelude.{◌≡◌, ◌++◌, IsOkUnless, OnOk, codes, flat_map, map, string_bytes};
 ghost use Rattle.std.specs.Fmt.{decimal};
 ghost use Rattle.scp_line.specs.Report.{node_number};
-ghost use Rattle.scp_silent.specs.Texts.{behind_comma, numbers_text};
+ghost use Rattle.scp_words.specs.Words.{behind_comma, numbers_text};
 ghost use Rattle.scp_full.specs.Lines.{decided_line, ground_words};
 
 use crate::names::{write_node, write_place};

@@ -1,13 +1,15 @@
 //! What the threads of nodes left, in lines.
 ghost use Rattle.std.specs.Prelude.{◌≡◌, ◌≤◌, ◌++◌, [], All, IfOk, IsOkUnless, OnOk, flat_map, length, map, string_bytes};
 ghost use Rattle.scp_text.specs.Sets.{set_text};
-ghost use Rattle.scp_script.specs.Script.{AreAdmitted};
-ghost use Rattle.scp_script.specs.Nodes.{NamesNodes, set_at};
+ghost use Rattle.scp_script.specs.Script.{AreAdmitted, node_count};
+ghost use Rattle.scp_script.specs.Nodes.{NamesNodes, peers_of, set_at};
 ghost use Rattle.scp_account.specs.Fits.{FitReports, FitsEntry, FitsReport};
 ghost use Rattle.scp_full.specs.Words.{entry_words};
 ghost use Rattle.scp_full.specs.Lines.{node_line, numbered};
+ghost use Rattle.scp_full.specs.Arrived.{arrivals_lines};
 ghost use Rattle.scp_full.specs.Gathered.{fate_line, full_gathered_text, gathered_lines, waiting_line};
 
+use crate::arrived::write_arrivals;
 use crate::decided::write_decisions;
 use crate::messages::write_message;
 use crate::names::write_place;
@@ -15,11 +17,11 @@ use crate::node::write_head;
 use crate::taken::write_entries;
 use scp_core::CommandFate;
 use scp_gather::NodeReport;
-use scp_script::{Command, set_of_node};
+use scp_script::{Command, count_of_nodes, peers_of_node, set_of_node};
 use scp_shown::write_state;
-use scp_silent::word_of_fate;
 use scp_types::Fault;
-use scp_wire::Carried;
+use scp_wire::{Carried, LinkItem};
+use scp_words::word_of_fate;
 use std::alloc::{AllocError, Global};
 
 /// Adds the first line of the node of this number, whose quorum set the commands say.
@@ -68,6 +70,22 @@ fn write_waiting(out: &mut String, parked: &[Carried]) -> Result<(), Fault>
     Ok(())
 }
 
+/// Adds what came over the links of the node of this number, where it was kept.
+fn write_links_of(
+    out: &mut String,
+    commands: &[Command],
+    number: u8,
+    came: &[Option<Vec<LinkItem>>],
+) -> Result<(), Fault>
+    requires names { All NamesNodes commands.now }
+    ensures added { OnOk result (string_bytes out.new ≡ string_bytes out.old ++ arrivals_lines came.now 0 (peers_of (node_count commands.now) number)) }
+    ensures only_memory { IsOkUnless result Fault.NoMemory }
+{
+    let count = count_of_nodes(commands);
+    let peers = peers_of_node(*out.allocator(), count, number)?;
+    write_arrivals(out, came, peers.as_slice())
+}
+
 /// Adds the first line of the node of this number, the entries of its journal, and what became of its commands.
 fn write_front(
     out: &mut String,
@@ -102,6 +120,7 @@ fn write_report(
     write_decisions(out, report.applied.as_slice())?;
     write_state(out, &report.state)?;
     write_waiting(out, report.parked.as_slice())?;
+    write_links_of(out, commands, number, report.came.as_slice())?;
     out.push_str("end\n")?;
     Ok(())
 }

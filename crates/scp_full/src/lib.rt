@@ -8,6 +8,7 @@
 //! - `full_gathered` does the same for nodes whose stages ran in threads, as far as their threads left it.
 #![tactic(auto)]
 
+mod arrived;
 mod commands;
 mod decided;
 mod document;

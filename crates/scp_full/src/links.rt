@@ -4,7 +4,7 @@ ghost use Rattle.std.specs.Fmt.{decimal};
 ghost use Rattle.scp_types.specs.declared.limits.TheConstants.{PEER_LIMIT};
 ghost use Rattle.scp_account.specs.inside.Happened.{happened};
 ghost use Rattle.scp_full.specs.Words.{bytes_words, node_word};
-ghost use Rattle.scp_full.specs.Lines.{at_link, crossed_line, link_lines, links_lines};
+ghost use Rattle.scp_full.specs.Lines.{at_link, crossed_line, link_line, link_lines, links_lines};
 
 use crate::messages::write_bytes;
 use crate::names::write_node;
@@ -22,6 +22,32 @@ fn write_front(out: &mut String, peer: &NodeId) -> Result<(), AllocError>
     out.push_str(" ")
 }
 
+/// Adds the line of an event of the link of this peer.
+pub fn write_event_line(out: &mut String, peer: &NodeId, event: &str) -> Result<(), AllocError>
+    ensures { OnOk result (string_bytes out.new ≡ string_bytes out.old ++ link_line peer.now event.now) }
+{
+    write_front(out, peer)?;
+    out.push_str(event)?;
+    out.push_str("\n")
+}
+
+/// Adds the line of bytes that crossed the link of this peer.
+pub fn write_bytes_line(
+    out: &mut String,
+    peer: &NodeId,
+    verb: &str,
+    bytes: &[u8],
+) -> Result<(), Fault>
+    ensures added { OnOk result (string_bytes out.new ≡ string_bytes out.old ++ link_line peer.now (verb.now ++ bytes_words bytes.now)) }
+    ensures only_memory { IsOkUnless result Fault.NoMemory }
+{
+    write_front(out, peer)?;
+    out.push_str(verb)?;
+    write_bytes(out, bytes)?;
+    out.push_str("\n")?;
+    Ok(())
+}
+
 /// Adds the line of an event of the link of this peer, where it is that one.
 fn write_event(
     out: &mut String,
@@ -35,9 +61,7 @@ fn write_event(
     if at != link {
         return Ok(());
     }
-    write_front(out, peer)?;
-    out.push_str(event)?;
-    out.push_str("\n")
+    write_event_line(out, peer, event)
 }
 
 /// Adds the line of bytes that crossed the link of this peer, where it is that one.
@@ -55,11 +79,7 @@ fn write_crossing(
     if at != link {
         return Ok(());
     }
-    write_front(out, peer)?;
-    out.push_str(verb)?;
-    write_bytes(out, bytes)?;
-    out.push_str("\n")?;
-    Ok(())
+    write_bytes_line(out, peer, verb, bytes)
 }
 
 /// Adds the line of what came over the link of this peer or went over it, if it is that.

@@ -74,7 +74,7 @@ reads_all r output h e =
     ap (λ (o : Option (Sender Inbound)). sent_by o) (sym e)
     ∙ sym (append-nil (sent_by r.output))
     ∙ ap (λ (xs : List Inbound). sent_by r.output ++ xs) (sym h.nothing_left)
-    ∙ h.all.given_is
+    ∙ h.all.read.given_is
 
 module _ (laws : Laws) (me : NodeId) (set : QuorumTree) (peers : List NodeId) (e : Left) (n : IsNode me set peers e) (w : EndWell e) where
   abbrev came : List Inbound
@@ -210,7 +210,7 @@ module _ (laws : Laws) (me : NodeId) (set : QuorumTree) (peers : List NodeId) (e
     journals = journals_is;
     applied = values e.apply.input.got;
     decided = sym onwards ∙ sym (append-nil (values e.apply.input.got));
-    applies = w.applies.all;
+    applies = w.applies.all.applies;
   }
 
   keeps_is : KeepsLedger (λ driver slot value. kv_level value) (λ driver slot value. None) (λ driver slot values. greatest values) (λ driver slot round n. leader_place slot round n) account

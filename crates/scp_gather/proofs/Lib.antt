@@ -5,8 +5,10 @@ pub mod Coming
 pub mod Parking
 pub mod Joining
 pub mod Commands
+pub mod Putting
 pub mod Headlines
 pub mod Settling
+pub mod Keeping
 mod Counting
 mod Hand
 mod Taking

@@ -4,3 +4,5 @@ pub mod Gathered
 pub mod Report
 pub mod Headline
 pub mod Count
+pub mod Sending
+pub mod inside

@@ -1,5 +1,6 @@
 -- What is asked of what is gathered, and what is told then.
-use Rattle.std.specs.Prelude.{◌≡◌, ℕ, Bool, false, not, List, Option, Some, None, slice_get, if◌then◌else◌}
+use Rattle.std.specs.Prelude.{◌≡◌, ℕ, Bool, false, not, List, length, map, Option, Some, None, is_some, slice_get, if◌then◌else◌}
+use Rattle.std.specs.Global.{Vec}
 use Rattle.std.specs.List.{list_any}
 use Rattle.std.specs.List.Sorted.{IsStrictlySortedBy}
 use Rattle.scp_types.specs.declared.fault.Stage.{Stage}
@@ -9,18 +10,20 @@ use Rattle.scp_quorum.specs.QuorumTree.{QuorumTree}
 use Rattle.scp_kv.specs.Map.{KvMap}
 use Rattle.scp_wire.specs.declared.carried.Carried.{Carried}
 use Rattle.scp_wire.specs.declared.link.Inbound.{Inbound}
+use Rattle.scp_wire.specs.declared.link.LinkItem.{LinkItem}
 use Rattle.scp_pending.specs.Endings.{commands_in, commands_of}
 use Rattle.scp_pending.specs.Messages.{AreParked, message_cmp}
 use Rattle.scp_ledger.specs.declared.journal.Decision.{Decision}
 use Rattle.scp_ledger.specs.declared.journal.Fate.{Fate}
 use Rattle.scp_ledger.specs.declared.took.CommandFate.{CommandFate}
+use Rattle.scp_ledger.specs.declared.took.Outgoing.{Outgoing}
 use Rattle.scp_ends.specs.Ends.{Line, Sender}
 use Rattle.scp_ends.specs.Links.{LinkEnd}
 use Rattle.scp_ends.specs.Order.{values}
 use Rattle.scp_workers.specs.Working.{End}
 use Rattle.scp_workers.specs.Reading.{ReaderEnd}
 use Rattle.scp_workers.specs.Slot.{HaveFates}
-use Rattle.scp_gather.specs.Left.{Left}
+use Rattle.scp_gather.specs.Left.{Left, sent_over}
 use Rattle.scp_gather.specs.Gathered.{account_gathered, AreLeftParked, Gathered}
 
 -- ---- whose ends they are
@@ -75,4 +78,20 @@ pub record IsReportOf (me : NodeId) (set : QuorumTree) (peers : List NodeId) (e 
 -- order, and what it told of each, as it stood then, is this.
 pub record AreFatesOf (me : NodeId) (set : QuorumTree) (peers : List NodeId) (e : Left) (fates : List CommandFate) : Type 0 where
   pub commands : commands_of (values e.slot.input.got) ≡ commands_in e.local.sent
-  pub told : HaveFates me set peers (values e.slot.input.got) (values e.apply.input.got) fates e.slot.stage.ledger
+  pub out : List Outgoing  -- what it handed out
+  pub told : HaveFates me set peers (values e.slot.input.got) (values e.apply.input.got) out fates e.slot.stage.ledger
+
+-- ---- what came over its links
+
+-- the link's reader was to keep what it receives
+abbrev pub keeps_by : ReaderEnd → Bool
+keeps_by r = is_some r.first.kept
+
+-- One row of each link, in their order; each row that is there is all that was sent over its link, in order.
+pub record AreCame (e : Left) (came : List (Option (Vec LinkItem))) : Type 0 where
+  pub count : length came ≡ length e.links
+  pub each : (l : ℕ) → (row : Vec LinkItem) → slice_get came l ≡ Some (Some row) → row.items ≡ sent_over e.links l
+
+-- the row of a link is there just where this says that it was to be kept
+abbrev pub AreKept : List Bool → List (Option (Vec LinkItem)) → Type 0
+AreKept keeps came = map is_some came ≡ keeps

@@ -1,5 +1,5 @@
 //! What is concluded when every thread of a node has ended.
-ghost use Rattle.std.specs.Prelude.{◌≡◌, ◌↔◌, ◌⊎◌, ℕ, List, None, Some, true, IsSome, IfOk, IfErr, IsErrOf, IsOkUnless, slice_get};
+ghost use Rattle.std.specs.Prelude.{◌≡◌, ◌↔◌, ◌⊎◌, ℕ, List, None, Some, true, IsSome, IfOk, IfErr, IsErrOf, IsOkUnless, OnOk, length, map, slice_get};
 ghost use Rattle.std.specs.List.{AllByRecursion};
 ghost use Rattle.std.specs.List.Sorted.{IsStrictlySortedBy};
 ghost use Rattle.scp_types.specs.declared.fault.Stage.{Stage};
@@ -15,19 +15,22 @@ ghost use Rattle.scp_headline.specs.Headline.{Headline};
 ghost use Rattle.scp_workers.specs.Reading.{ReaderEnd};
 ghost use Rattle.scp_gather.specs.Node.{IsNode, IsReadOut, EndWell};
 ghost use Rattle.scp_gather.specs.Headline.{books_reported};
-ghost use Rattle.scp_gather.specs.Report.{IsJoined, AreJoinedTo, AreJoined, first_failed, IsReportOf, AreFatesOf};
+ghost use Rattle.scp_gather.specs.Sending.{ArePutOut};
+ghost use Rattle.scp_gather.specs.Report.{IsJoined, AreJoinedTo, AreJoined, first_failed, IsReportOf, AreFatesOf, AreCame, AreKept, keeps_by};
+ghost use Rattle.scp_gather.specs.inside.Kept.{kept_by};
 
 use crate::ends::Ends;
 use crate::laws::{what_ends_well_is_gathered, what_is_reported_keeps_the_headline};
 use scp_apply::Applier;
+use scp_desks::Outlets;
 use scp_driver::KvDriver;
 use scp_ends::{InboxRx, LinkDone};
 use scp_kv::KvState;
 use scp_ledger::{CommandFate, Fate, Ledger, SharedDecision};
 use scp_pending::{Pending, each_command_passes_once};
 use scp_types::Fault;
-use scp_wire::Carried;
-use scp_workers::{ReaderEnded, SlotStage};
+use scp_wire::{Carried, LinkItem};
+use scp_workers::{ReaderEnded, ReadingStage, SlotStage};
 
 /// What became of all that was sent to a node, and what it did.
 #[derive(Drop)]
@@ -42,43 +45,78 @@ pub struct NodeReport {
     pub state: KvState,
     /// What became of its own commands but the ticks, in their order.
     pub commands: Vec<CommandFate>,
+    /// What came over each of its links, in the order of its peers, where that was to be kept.
+    pub came: Vec<Option<Vec<LinkItem>>>,
 }
 
-/// Takes back what a link and its reader left.
-fn take_back(inbox: &mut InboxRx, reader: ReaderEnded, link: LinkDone)
+/// What is told of a node, and the ends by which its stages put into the outboxes of its links.
+#[derive(Drop)]
+pub struct Gathering {
+    pub report: NodeReport,
+    pub outlets: Outlets,
+}
+
+/// Takes back what a link and its reader left, and gives what the reader kept.
+fn take_back(inbox: &mut InboxRx, reader: ReaderEnded, link: LinkDone) -> Option<Vec<LinkItem>>
     requires joined { IsJoined inbox.old.line link reader }
     requires well { reader.well ≡ true }
     ensures same { inbox.new ≡ inbox.old }
     ensures read_out { IsReadOut inbox.old link reader }
+    ensures kept { result ≡ kept_by reader }
 {
-    let (mut rx, done, _) = reader.into_parts();
+    let (mut rx, done, _, stage) = reader.into_parts();
     let Some(done) = done else { unreachable!() };
     link.return_to(&mut rx);
     inbox.take_back(done);
+    let ReadingStage { kept, .. } = stage;
+    kept
 }
 
-/// Takes back what each link and its reader left.
-fn take_each_back(inbox: &mut InboxRx, readers: Vec<ReaderEnded>, links: Vec<LinkDone>)
+/// Takes back what each link and its reader left, and gives what each reader kept, in their order.
+fn take_each_back(
+    inbox: &mut InboxRx,
+    readers: Vec<ReaderEnded>,
+    links: Vec<LinkDone>,
+) -> Result<Vec<Option<Vec<LinkItem>>>, Fault>
     requires joined { AreJoinedTo inbox.old.line links.items readers.items }
     requires well { AllByRecursion (λ r. r.well ≡ true) readers.items }
     ensures same { inbox.new ≡ inbox.old }
-    ensures read_out { (l : ℕ) → (k : LinkEnd) → slice_get links.items l ≡ Some k → (r : ReaderEnd) → slice_get readers.items l ≡ Some r → IsReadOut inbox.old k r }
+    ensures read_out { OnOk result ((l : ℕ) → (k : LinkEnd) → slice_get links.items l ≡ Some k → (r : ReaderEnd) → slice_get readers.items l ≡ Some r → IsReadOut inbox.old k r) }
+    ensures kept { IfOk result (λ came. length links.items ≡ length readers.items → came.items ≡ map kept_by readers.items) }
+    ensures only_memory { IsOkUnless result Fault.NoMemory }
 {
+    let mut came = Vec::new(*readers.allocator());
     let mut tails = links.into_iter();
     for reader in readers {
-        match tails.next() {
-            Some(link) => take_back(inbox, reader, link),
-            None => return,
-        }
+        let Some(link) = tails.next() else {
+            return Ok(came);
+        };
+        came.push(take_back(inbox, reader, link))?;
     }
+    Ok(came)
 }
 
-/// Takes all ends back, and gives the stages, and what became of the commands.
-fn settle(ends: Ends) -> (Pending, Ledger<KvDriver>, Applier, Vec<CommandFate>)
+/// What the stages of a node left: each stage, what became of the commands, what the readers kept, and the ends by which they put into the
+/// outboxes.
+#[derive(Drop)]
+struct Stages {
+    pending: Pending,
+    ledger: Ledger<KvDriver>,
+    applier: Applier,
+    commands: Vec<CommandFate>,
+    came: Vec<Option<Vec<LinkItem>>>,
+    outlets: Outlets,
+}
+
+/// Takes all ends back, and gives what the stages left.
+fn settle(ends: Ends) -> Result<Stages, Fault>
     requires joined { AreJoined ends }
     requires well { first_failed ends ≡ None }
-    ensures parts { (result.0 ≡ ends.pend.stage) × (result.1 ≡ ends.slot.stage.ledger) × (result.2 ≡ ends.apply.stage) × (result.3.items ≡ ends.slot.stage.fates.items) }
-    ensures ended { EndWell ends }
+    ensures parts { IfOk result (λ s. (s.pending ≡ ends.pend.stage) × (s.ledger ≡ ends.slot.stage.ledger) × (s.applier ≡ ends.apply.stage) × (s.commands.items ≡ ends.slot.stage.fates.items)) }
+    ensures outlets { IfOk result (λ s. (s.outlets.pend.items ≡ ends.pend.outlets) × (s.outlets.slot.items ≡ ends.slot.outlets) × (s.outlets.apply.items ≡ ends.apply.outlets)) }
+    ensures ended { OnOk result (EndWell ends) }
+    ensures kept { IfOk result (λ s. length ends.links ≡ length ends.readers → s.came.items ≡ map kept_by ends.readers) }
+    ensures only_memory { IsOkUnless result Fault.NoMemory }
 {
     let Ends {
         readers,
@@ -88,17 +126,28 @@ fn settle(ends: Ends) -> (Pending, Ledger<KvDriver>, Applier, Vec<CommandFate>)
         slot,
         apply,
     } = ends;
-    let (mut inbox, given, pending) = pend.into_parts();
-    take_each_back(&mut inbox, readers, links);
+    let (mut inbox, given, replies, pending) = pend.into_parts();
+    let came = take_each_back(&mut inbox, readers, links)?;
     local.return_to(&mut inbox);
-    let (mut ready, onward, slots) = slot.into_parts();
+    let (mut ready, onward, said, slots) = slot.into_parts();
     let Some(given) = given else { unreachable!() };
     ready.take_back(given);
-    let (mut decided, _, applier) = apply.into_parts();
+    let (mut decided, _, answers, applier) = apply.into_parts();
     let Some(onward) = onward else { unreachable!() };
     decided.take_back(onward);
     let SlotStage { ledger, fates } = slots;
-    (pending, ledger, applier, fates)
+    Ok(Stages {
+        pending,
+        ledger,
+        applier,
+        commands: fates,
+        came,
+        outlets: Outlets {
+            pend: replies,
+            slot: said,
+            apply: answers,
+        },
+    })
 }
 
 /// What the stages tell.
@@ -107,6 +156,7 @@ fn told(
     ledger: Ledger<KvDriver>,
     applier: Applier,
     commands: Vec<CommandFate>,
+    came: Vec<Option<Vec<LinkItem>>>,
 ) -> Result<NodeReport, Fault>
     requires { IsSome applier.state }
     ensures journal { IfOk result (λ r. r.journal.items ≡ ledger.journal) }
@@ -114,6 +164,7 @@ fn told(
     ensures ascending { IfOk result (λ r. (me : NodeId) → (peers : List NodeId) → (taken : List Inbound) → (given : List Ready) → Pends me peers taken given pending → HasShape me peers taken → IsStrictlySortedBy message_cmp r.parked.items) }
     ensures applied { IfOk result (λ r. (r.applied.items ≡ applier.applied) × (Some r.state ≡ applier.state)) }
     ensures commands { IfOk result (λ r. r.commands.items ≡ commands.items) }
+    ensures came { IfOk result (λ r. r.came.items ≡ came.items) }
     ensures only_memory { IsOkUnless result Fault.NoMemory }
 {
     let parked = pending.into_parked()?;
@@ -125,18 +176,25 @@ fn told(
         applied,
         state,
         commands,
+        came,
     })
 }
 
 /// What became of all that was sent to a node over its links, and what it did, where each of its workers ended well. Refused by
 /// `Refused` with the first stage, in the order of the pipeline, of which a worker failed; else by `NoMemory`.
-pub fn gather(ends: Ends) -> Result<NodeReport, Fault>
+pub fn gather(ends: Ends) -> Result<Gathering, Fault>
     requires joined { AreJoined ends }
-    ensures theorem { (me : NodeId) → (set : QuorumTree) → (peers : List NodeId) → IsNode me set peers ends → IfOk result (λ r. IsReportOf me set peers ends r.journal.items r.parked.items r.applied.items r.state) }
+    ensures theorem { (me : NodeId) → (set : QuorumTree) → (peers : List NodeId) → IsNode me set peers ends → IfOk result (λ r. IsReportOf me set peers ends r.report.journal.items r.report.parked.items r.report.applied.items r.report.state) }
     // And the headline, which says what matters most of that.
-    ensures headline { (me : NodeId) → (set : QuorumTree) → (peers : List NodeId) → IsNode me set peers ends → IfOk result (λ r. Headline (books_reported me set peers ends r.journal.items r.applied.items r.state)) }
+    ensures headline { (me : NodeId) → (set : QuorumTree) → (peers : List NodeId) → IsNode me set peers ends → IfOk result (λ r. Headline (books_reported me set peers ends r.report.journal.items r.report.applied.items r.report.state)) }
     // And what became of the node's own commands.
-    ensures commands { (me : NodeId) → (set : QuorumTree) → (peers : List NodeId) → IsNode me set peers ends → IfOk result (λ r. AreFatesOf me set peers ends r.commands.items) }
+    ensures commands { (me : NodeId) → (set : QuorumTree) → (peers : List NodeId) → IsNode me set peers ends → IfOk result (λ r. AreFatesOf me set peers ends r.report.commands.items) }
+    // And what came over each of its links, where that was to be kept.
+    ensures came { (me : NodeId) → (set : QuorumTree) → (peers : List NodeId) → IsNode me set peers ends → IfOk result (λ r. AreCame ends r.report.came.items) }
+    ensures kept { (me : NodeId) → (set : QuorumTree) → (peers : List NodeId) → IsNode me set peers ends → IfOk result (λ r. AreKept (map keeps_by ends.readers) r.report.came.items) }
+    // And what its stages put into the outboxes of its links, by ends that are given back.
+    ensures put { (me : NodeId) → (set : QuorumTree) → (peers : List NodeId) → IsNode me set peers ends → IfOk result (λ r. ArePutOut me set peers ends) }
+    ensures outlets { IfOk result (λ r. (r.outlets.pend.items ≡ ends.pend.outlets) × (r.outlets.slot.items ≡ ends.slot.outlets) × (r.outlets.apply.items ≡ ends.apply.outlets)) }
     ensures refused { (s : Stage) → IsErrOf result (Fault.Refused s) ↔ (first_failed ends ≡ Some s) }
     ensures only { IfErr result (λ f. (f ≡ Fault.NoMemory) ⊎ ((s : Stage) × (f ≡ Fault.Refused s))) }
 {
@@ -146,6 +204,14 @@ pub fn gather(ends: Ends) -> Result<NodeReport, Fault>
     what_ends_well_is_gathered();
     what_is_reported_keeps_the_headline();
     each_command_passes_once();
-    let (pending, ledger, applier, commands) = settle(ends);
-    told(pending, ledger, applier, commands)
+    let Stages {
+        pending,
+        ledger,
+        applier,
+        commands,
+        came,
+        outlets,
+    } = settle(ends)?;
+    let report = told(pending, ledger, applier, commands, came)?;
+    Ok(Gathering { report, outlets })
 }

@@ -7,6 +7,7 @@ use Rattle.scp_network.specs.Heard.{past_at}
 use Rattle.scp_network.specs.Network.{NetworkView}
 use Rattle.scp_gather.specs.declared.gathering.NodeReport.{NodeReport}
 use Rattle.scp_gather.specs.Headline.{ReportsKeepHeadline}
+use Rattle.scp_gather.specs.Left.{Left}
 use Rattle.scp_threaded_node.specs.Seats.{Each}
 use Rattle.scp_threaded_script.specs.Reported.{AreNodesReported, AreSoReported}
 use Rattle.scp_script.specs.declared.command.Command.{Command}
@@ -35,21 +36,22 @@ are_headlined law text printed commands network same played is = record {
 
 -- ---- in threads
 
-headlines_at : ReportsKeepHeadline → (commands : List Command) (nodes : List NodeReport) → AreSoReported commands nodes → Each (λ i r. IsHeadlined commands (i + 1) r) nodes
-headlines_at law commands nodes are = λ i r at.
-    let is = are i r at in
+headlines_at : ReportsKeepHeadline → (commands : List Command) (lefts : List Left) (nodes : List NodeReport) → AreSoReported commands lefts nodes → Each (λ i r. IsHeadlined commands (i + 1) r) nodes
+headlines_at law commands lefts nodes are = λ i r at.
+    let one = are i r at in
+    let is = one.2 in
     let ended = is.ended in
     record {
-      left = ended.left;
+      left = one.0;
       stood = is.stood;
       stood_are = is.stood_are;
       links_count = ended.links_count;
       links_are = ended.links_are;
-      headline = law (id_of (i + 1)) (set_at (i + 1) commands) (peers_of (node_count commands) (i + 1)) ended.left r.journal.items r.parked.items r.applied.items r.state ended.report;
+      headline = law (id_of (i + 1)) (set_at (i + 1) commands) (peers_of (node_count commands) (i + 1)) one.0 r.journal.items r.parked.items r.applied.items r.state ended.report;
     }
 
 pub are_reports_headlined : ReportsKeepHeadline → ReportingKeepsHeadlines
-are_reports_headlined law commands nodes reported = record { count = reported.0; headlines = headlines_at law commands nodes reported.1 }
+are_reports_headlined law commands nodes reported = record { count = reported.count; headlines = headlines_at law commands reported.lefts nodes reported.reported }
 
 pub are_gathered_headlined : ReportingKeepsHeadlines → (script text : List ℕ) (commands : List Command) (nodes : List NodeReport) → commands ≡ commands_in script → AreNodesReported commands nodes → text ≡ flat_map (report_gathered_at nodes) (reports_in commands) → AreGatheredHeadlined script text
 are_gathered_headlined law script text commands nodes same reported reports = record {

@@ -50,7 +50,8 @@ abbrev pub report_gathered_at : List NodeReport → ℕ → List ℕ
 report_gathered_at nodes number = flat_map (report_gathered number) (option_to_list (slice_get nodes (number - 1)))
 
 -- The text is the reports that the script asks for, one for each `report` line, in their order, of nodes whose stages ran in threads: each
--- holds its ledger of what was sent to it, its commands are the script's, and so is all that went over the links that the script drives.
+-- holds its ledger of what was sent to it, its commands are the script's, so is all that went over the links that the script drives, and over
+-- each link between nodes went what the sender's outbox gave of what its stages handed out.
 pub record AreGatheredReports (script text : List ℕ) : Type 0 where
   pub nodes : List NodeReport
   pub reported : AreNodesReported (commands_in script) nodes

@@ -6,8 +6,8 @@
 //!   all is made before the first byte is written;
 //! - at each `settle`, and where a line's event finds no room, each node does whole rounds until one moves nothing, or 100,000;
 //! - `play_in_threads` and `play_gated` write the reports of nodes whose stages ran in threads of their own, of which the ledger theorem
-//!   holds for what was sent to them, with nothing left in a channel: the script's commands, and on the links that a `send` line
-//!   names just the script's items;
+//!   holds for what was sent to them, with nothing left in a channel: the script's commands, on the links that a `send` line
+//!   names just the script's items, and on the links between nodes just what the sender's outboxes gave;
 //! - `Failed` names a node that failed at a line, and `Full` comes only where a line's queue was full also after a settle;
 //! - `check` refuses the scripts that `play` can't read, at the same line, and `show` writes the line of the message that
 //!   the digits spell;

@@ -5,7 +5,7 @@ ghost use Rattle.scp_types.specs.declared.fault.Stage.{Stage};
 ghost use Rattle.scp_device.specs.Device.{Gains, GainsPart, Fails, IsAll};
 ghost use Rattle.scp_script.specs.Script.{AreAdmitted, node_count, IsScript, IsBadLine, HasNoBadLine, HasSetLine};
 ghost use Rattle.scp_script.specs.Nodes.{NamesNodes};
-ghost use Rattle.scp_threaded_script.specs.Reported.{AreNodesReported, IsGivenUp};
+ghost use Rattle.scp_threaded_script.specs.Reported.{AreNodesReported, AreAllKept, IsGivenUp};
 ghost use Rattle.scp_threaded_script.specs.Waits.{AreWaits};
 ghost use Rattle.scp_line.specs.Headlines.{AreGatheredHeadlined};
 ghost use Rattle.scp_line.specs.Nodes.{HaveRoom};
@@ -36,12 +36,13 @@ impl From<NodeFault> for PlayFault {
 }
 
 /// Runs the nodes of a script, whose stages run in threads of their own, as `play_in_threads` does, and answers what is told of them, node 1
-/// first, the places among the commands of the `wait` lines that gave up, and how many own statements were lost. Refused as `play_in_threads` is, but for what it reads
-/// and writes.
+/// first, the places among the commands of the `wait` lines that gave up, and how many own statements were lost. Where `keeps` is set each
+/// report tells what came over each of its node's links. Refused as `play_in_threads` is, but for what it reads and writes.
 pub fn run_in_threads<T: Threads + Wait + Sync>(
     rt: &T,
     alloc: Global,
     commands: &[Command],
+    keeps: bool,
 ) -> Result<Ran, PlayFault>
     requires names { All NamesNodes commands.now }
     requires admitted { AreAdmitted [] commands.now }
@@ -49,9 +50,10 @@ pub fn run_in_threads<T: Threads + Wait + Sync>(
     ensures reported { IfOk result (λ ran. AreNodesReported commands.now ran.reports.items) }
     ensures waits { IfOk result (λ ran. AreWaits commands.now 0 ran.gave_up.items) }
     ensures losses { IfOk result (λ ran. length ran.losses.items ≡ node_count commands.now) }
+    ensures kept { IfOk result (λ ran. AreAllKept keeps ran.reports.items) }
     ensures given_up { IfErr result (λ e. IsGivenUp commands.now (record { fault = e.fault; node = e.node })) }
 {
-    match run_lines(rt, &Open, alloc, commands) {
+    match run_lines(rt, &Open, alloc, commands, keeps) {
         Ok(ran) => Ok(ran),
         Err(fault) => Err(PlayFault::from(fault)),
     }
@@ -80,7 +82,7 @@ fn played<T: Threads + Wait + Sync, G: Gate + Sync>(
 {
     let script = parse(alloc, text)?;
     let commands = script.as_slice();
-    let ran = run_lines(rt, gate, alloc, commands)?;
+    let ran = run_lines(rt, gate, alloc, commands, false)?;
     let reports = ran.reports.as_slice();
     what_is_played_keeps_the_headlines();
     let mut printed = String::new(alloc);

@@ -1,3 +1,4 @@
+mod OneEach
 pub mod Kept
 pub mod Waiting
 pub mod Giving

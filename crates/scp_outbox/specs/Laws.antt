@@ -1,12 +1,12 @@
 -- Laws of puts and gives.
-use Rattle.std.specs.Prelude.{◌≡◌, ◌⊎◌, ℕ, ◌+◌, true, [], length, Contains}
+use Rattle.std.specs.Prelude.{◌≡◌, ◌⊎◌, ℕ, ◌+◌, true, List, [], length, Contains}
 use Rattle.scp_wire.specs.Boxed.{Boxed}
 use Rattle.scp_wire.specs.declared.message.Message.{Message}
 use Rattle.scp_wire.specs.declared.message.Message.TheVariants.{Envelope}
 use Rattle.scp_outbox.specs.declared.mark.Out.{Out}
 use Rattle.scp_outbox.specs.declared.mark.Out.TheVariants.{Nothing}
 use Rattle.scp_wire.specs.Fitting.{IsFitting}
-use Rattle.scp_outbox.specs.Outbox.{OutboxView, Puts, Gives, IfMessage, IsOutbox}
+use Rattle.scp_outbox.specs.Outbox.{OutboxView, Puts, Gives, IfMessage, IsOutbox, AreOneEach, Takes}
 
 -- the message waits: among the requests and answers, or as a statement
 abbrev pub Waits : OutboxView → Message → Type 0
@@ -23,6 +23,10 @@ GivesAreOfWhatWaits = (old : OutboxView) (result : Out) (new : OutboxView) → G
 -- what waits after something was given waited before
 abbrev pub GivesAddNothing : Type 0
 GivesAddNothing = (old : OutboxView) (result : Out) (new : OutboxView) → Gives old result new → (message : Message) → Waits new message → Waits old message
+
+-- whatever statement comes, at most one of each slot and kind waits
+abbrev pub StatementsKeepOneEach : Type 0
+StatementsKeepOneEach = (old : List Boxed) (e : Boxed) (new : List Boxed) (lost : ℕ) → AreOneEach old → Takes old e new lost → AreOneEach new
 
 -- a put of what fits keeps the limits, and one statement of each slot and kind
 abbrev pub PutsKeepOneEach : Type 0

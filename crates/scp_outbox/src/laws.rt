@@ -1,6 +1,6 @@
 //! Laws of the definitions, each the contract of a function that does nothing.
 ghost use Rattle.scp_outbox.specs.Crossing.{SharedCrosses};
-ghost use Rattle.scp_outbox.specs.Laws.{PutsAddTheMessage, GivesAreOfWhatWaits, GivesAddNothing, PutsKeepOneEach, GivesKeepOneEach, GivesTakeOne, GivesMessagesWhileLive};
+ghost use Rattle.scp_outbox.specs.Laws.{PutsAddTheMessage, GivesAreOfWhatWaits, GivesAddNothing, StatementsKeepOneEach, PutsKeepOneEach, GivesKeepOneEach, GivesTakeOne, GivesMessagesWhileLive};
 
 /// What waits after a put waited before or was put, what is given waited, and what waits then waited before: so each
 /// message that is given was put.
@@ -12,6 +12,7 @@ pub fn what_is_given_was_put()
 
 /// Whatever comes or goes, at most one statement of each slot and kind waits, and nothing is over its limit.
 pub fn one_statement_waits_of_each_slot_and_kind()
+    ensures takes { StatementsKeepOneEach }
     ensures put { PutsKeepOneEach }
     ensures given { GivesKeepOneEach }
 {}

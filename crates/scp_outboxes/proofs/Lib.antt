@@ -1,4 +1,3 @@
 pub mod Waiting
 pub mod Giving
 pub mod Putting
-pub mod Live

@@ -1,12 +1,30 @@
 -- What is kept, whatever is put and given.
-use Rattle.std.specs.Prelude.{ℕ, List, [], ◌∷◌, ◌++◌}
+use Rattle.std.specs.Prelude.{◌≡◌, ℕ, List, [], ◌∷◌, ◌++◌, All}
 use Rattle.scp_wire.specs.Message.{message_value, SpellsMessage}
 use Rattle.scp_wire.specs.declared.message.Message.{Message}
-use Rattle.scp_outbox.specs.Outbox.{OutboxView, Gives}
+use Rattle.scp_outbox.specs.Outbox.{OutboxView, Puts, Gives}
+use Rattle.scp_outbox.specs.declared.mark.Mark.{Mark}
+use Rattle.scp_outbox.specs.declared.mark.Out.{Out}
 use Rattle.scp_outbox.specs.declared.mark.Out.TheVariants as out
 use Rattle.scp_outboxes.specs.Handing.{PutsAll, HandsOut, empty_outbox}
-use Rattle.scp_outboxes.specs.Sent.{AreNewer, AreSent}
-use Rattle.scp_outboxes.specs.Waiting.{Sends}
+use Rattle.scp_outboxes.specs.Sent.{statement_of, IsStep, AreNewer, AreSent}
+use Rattle.scp_outboxes.specs.Waiting.{Owes, and_given, Sends}
+
+-- at first nothing was handed out and nothing was given, and nothing waits
+abbrev pub EmptyOwes : Type 0
+EmptyOwes = (o : OutboxView) → o.ring ≡ [] → o.statements ≡ [] → Owes [] [] o
+
+-- a message more is handed out, its statement newer than all of its slot and kind before it, and it is put
+abbrev pub PutsKeepOwes : Type 0
+PutsKeepOwes = (handed messages : List Message) (old : OutboxView) (put : Message) (new : OutboxView) → All (λ m. IsStep (statement_of m) (statement_of put)) handed → Puts old put new → Owes handed messages old → Owes (handed ++ put ∷ []) messages new
+
+-- what is next is given
+abbrev pub GivesKeepOwes : Type 0
+GivesKeepOwes = (handed messages : List Message) (old : OutboxView) (result : Out) (new : OutboxView) → Gives old result new → Owes handed messages old → Owes handed (and_given messages result) new
+
+-- one mark more waits
+abbrev pub MarksKeepOwes : Type 0
+MarksKeepOwes = (handed messages : List Message) (old : OutboxView) (mark : Mark) → Owes handed messages old → Owes handed messages (record old { marks = old.marks ++ mark ∷ [] })
 
 -- at first nothing was handed out, nothing was sent, and nothing waits
 abbrev pub EmptySends : Type 0
@@ -19,6 +37,10 @@ PutsKeepSends = (handed more : List Message) (sent : List (List ℕ)) (old new :
 -- what is next is sent
 abbrev pub GivesKeepSends : Type 0
 GivesKeepSends = (handed : List Message) (sent : List (List ℕ)) (old new : OutboxView) (message : Message) (bytes : List ℕ) → Gives old (out.Message message) new → SpellsMessage bytes (message_value message) → Sends handed sent old → Sends handed (sent ++ bytes ∷ []) new
+
+-- a mark is given, or one more waits: of what is sent nothing changes
+abbrev pub MarksKeepSends : Type 0
+MarksKeepSends = (handed : List Message) (sent : List (List ℕ)) (old : OutboxView) (mark : Mark) → Sends handed sent old → ((new : OutboxView) → Gives old (out.Mark mark) new → Sends handed sent new) × Sends handed sent (record old { marks = old.marks ++ mark ∷ [] })
 
 -- so all that was sent was handed out, and each statement is newer than those of its slot and kind sent before
 abbrev pub SendsAreSent : Type 0

@@ -1,19 +1,28 @@
--- What was sent and what waits, together; nothing here need be believed.
-use Rattle.std.specs.Prelude.{◌≡◌, ℕ, true, List, [], Some, None, All, Contains}
+-- What was given or sent and what waits, together; nothing here need be believed.
+use Rattle.std.specs.Prelude.{◌≡◌, ℕ, List, [], ◌∷◌, ◌++◌, Some, None, All, Contains}
 use Rattle.scp_wire.specs.Boxed.{Boxed}
 use Rattle.scp_wire.specs.declared.message.Message.{Message}
 use Rattle.scp_wire.specs.declared.message.Message.TheVariants.{Envelope}
-use Rattle.scp_outbox.specs.Outbox.{OutboxView, IsOutbox}
-use Rattle.scp_outboxes.specs.Sent.{statement_of, IsStep, AreSent}
+use Rattle.scp_outbox.specs.declared.mark.Out.{Out}
+use Rattle.scp_outbox.specs.declared.mark.Out.TheVariants as out
+use Rattle.scp_outbox.specs.Outbox.{OutboxView, AreOneEach}
+use Rattle.scp_outboxes.specs.Sent.{statement_of, IsStep, AreNewer, AreSent}
 
--- what waits was handed out, and its statements are newer than those of these messages
+-- the messages were given, of those that were handed out, each statement newer than all of its slot and kind before it; and what
+-- waits was handed out too, at most one statement of each slot and kind, and newer than those that were given
 pub record Owes (handed : List Message) (messages : List Message) (o : OutboxView) : Type 0 where
-  pub known : IsOutbox o
-  pub live : o.live ≡ true
-  pub no_marks : o.marks ≡ []
+  pub were_handed : All (Contains handed) messages
+  pub newer : AreNewer messages
   pub ring : All (λ m. (statement_of m ≡ None) × Contains handed m) o.ring
   pub statements : All (λ (e : Boxed). Contains handed (Envelope e)) o.statements
+  pub one_each : AreOneEach o.statements
   pub ahead : All (λ m. All (λ (e : Boxed). IsStep (statement_of m) (Some e.value.statement)) o.statements) messages
+
+-- the messages that were given, once this was given too
+abbrev pub and_given : List Message → Out → List Message
+and_given messages (out.Mark mark) = messages
+and_given messages (out.Message message) = messages ++ message ∷ []
+and_given messages out.Nothing = messages
 
 -- all that was sent to a link, and what waits for it, of all that was handed out for it
 pub record Sends (handed : List Message) (bytes : List (List ℕ)) (o : OutboxView) : Type 0 where

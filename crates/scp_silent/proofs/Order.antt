@@ -32,5 +32,6 @@ nodes_in_order law commands done network far = λ k d within.
 pub reports_in_order : ReportsKeepHeadline → (commands : List Command) (reports : List NodeReport) → AreNodesReported commands reports → All (λ (report : NodeReport). AreInOrder 1 report.applied.items) reports
 reports_in_order law commands reports reported = λ k d within.
     let r = get_or reports k d in
-    let ended = (reported.1 k r (slice_get-get_or reports k d within)).ended in
-    (law (id_of (k + 1)) (set_at (k + 1) commands) (peers_of (node_count commands) (k + 1)) ended.left r.journal.items r.parked.items r.applied.items r.state ended.report).in_order
+    let one = reported.reported k r (slice_get-get_or reports k d within) in
+    let ended = one.2.ended in
+    (law (id_of (k + 1)) (set_at (k + 1) commands) (peers_of (node_count commands) (k + 1)) one.0 r.journal.items r.parked.items r.applied.items r.state ended.report).in_order

@@ -1,37 +1,10 @@
 -- The lines that tell notices (this project's profile).
-use Rattle.std.specs.Prelude.{ℕ, List, [], ◌∷◌, ◌++◌, codes, flat_map}
+use Rattle.std.specs.Prelude.{ℕ, List, ◌++◌, codes, flat_map}
 use Rattle.std.specs.Fmt.{decimal}
-use Rattle.scp_ledger.specs.declared.took.CommandFate.{CommandFate}
-use Rattle.scp_ledger.specs.declared.took.CommandFate.TheVariants.{OldSlot, FarSlot, Decided, BadValue, ProposedBefore, Proposed, NoRoundLeft, RoundAdded, NoBallot, BallotStays, BallotMoved, AskedBefore, Asked}
-use Rattle.scp_words.specs.Words.{hex_word}
+use Rattle.scp_words.specs.Words.{fate_word, hex_word, numbers_text}
 use Rattle.scp_silent.specs.declared.notice.Side.{Side}
 use Rattle.scp_silent.specs.declared.notice.Notice.{Notice}
 use Rattle.scp_silent.specs.declared.notice.Notice.TheVariants.{Unsettled, GaveUp, Disagree, Ignored, Overwritten, NoWait}
-
--- the word for what became of a command
-abbrev pub fate_word : CommandFate → List ℕ
-fate_word OldSlot = codes "old-slot"
-fate_word FarSlot = codes "far-slot"
-fate_word Decided = codes "decided"
-fate_word BadValue = codes "bad-value"
-fate_word ProposedBefore = codes "proposed-before"
-fate_word Proposed = codes "proposed"
-fate_word NoRoundLeft = codes "no-round-left"
-fate_word RoundAdded = codes "round-added"
-fate_word NoBallot = codes "no-ballot"
-fate_word BallotStays = codes "ballot-stays"
-fate_word BallotMoved = codes "ballot-moved"
-fate_word AskedBefore = codes "asked-before"
-fate_word Asked = codes "asked"
-
--- a number behind a comma
-abbrev pub behind_comma : ℕ → List ℕ
-behind_comma number = codes "," ++ decimal number
-
--- numbers, with commas between them
-abbrev pub numbers_text : List ℕ → List ℕ
-numbers_text [] = []
-numbers_text (number ∷ numbers) = decimal number ++ flat_map behind_comma numbers
 
 -- the numbers of nodes, with commas between them, and the value that they applied, in digits as reports have it, behind a space
 abbrev pub side_text : Side → List ℕ

@@ -9,7 +9,7 @@
 //!
 //! And of `run_in_threads`: the reports are those of a script's nodes whose stages ran in threads, and a notice is told for each `wait` line
 //! that gave up, for each line whose command did nothing, for each slot for which nodes applied different values, and where there is no
-//! `wait` line.
+//! `wait` line. Where they are to, the reports tell what came over each link.
 //!
 //! Not claimed: which `wait` lines give up in threads. What is told is what they answered.
 #![tactic(auto)]
@@ -26,5 +26,5 @@ mod watch;
 
 pub use notice::{Notice, Numbers, Side, Sides};
 pub use playing::{Ran, RunFault, run};
-pub use text::{text_of_notices, word_of_fate};
+pub use text::text_of_notices;
 pub use threads::{RanInThreads, run_in_threads};

@@ -1,56 +1,11 @@
 //! The lines that tell notices.
 ghost use Rattle.std.specs.Prelude.{◌≡◌, ◌++◌, IfOk, OnOk, codes, flat_map, string_bytes};
 ghost use Rattle.std.specs.Fmt.{decimal};
-ghost use Rattle.scp_silent.specs.Texts.{fate_word, behind_comma, numbers_text, side_text, sides_text, lost_words, count_words, notice_text, notices_text};
+ghost use Rattle.scp_silent.specs.Texts.{side_text, sides_text, lost_words, count_words, notice_text, notices_text};
 
 use crate::notice::{Notice, Side};
-use scp_core::CommandFate;
-use scp_words::write_hex;
+use scp_words::{word_of_fate, write_hex, write_numbers};
 use std::alloc::{AllocError, Global};
-
-/// The word for what became of a command.
-pub fn word_of_fate(fate: CommandFate) -> &'static str
-    ensures { result.now ≡ fate_word fate }
-{
-    match fate {
-        CommandFate::OldSlot => "old-slot",
-        CommandFate::FarSlot => "far-slot",
-        CommandFate::Decided => "decided",
-        CommandFate::BadValue => "bad-value",
-        CommandFate::ProposedBefore => "proposed-before",
-        CommandFate::Proposed => "proposed",
-        CommandFate::NoRoundLeft => "no-round-left",
-        CommandFate::RoundAdded => "round-added",
-        CommandFate::NoBallot => "no-ballot",
-        CommandFate::BallotStays => "ballot-stays",
-        CommandFate::BallotMoved => "ballot-moved",
-        CommandFate::AskedBefore => "asked-before",
-        CommandFate::Asked => "asked",
-    }
-}
-
-/// Adds numbers, a comma before each.
-fn write_more(text: &mut String, numbers: &[u8]) -> Result<(), AllocError>
-    ensures { OnOk result (string_bytes text.new ≡ string_bytes text.old ++ flat_map behind_comma numbers.now) }
-{
-    for number in numbers {
-        write!(text, ",{number}")?;
-    }
-    Ok(())
-}
-
-/// Adds numbers, with commas between them.
-fn write_numbers(text: &mut String, numbers: &[u8]) -> Result<(), AllocError>
-    ensures { OnOk result (string_bytes text.new ≡ string_bytes text.old ++ numbers_text numbers.now) }
-{
-    match numbers.split_first() {
-        None => Ok(()),
-        Some((first, rest)) => {
-            write!(text, "{first}")?;
-            write_more(text, rest)
-        }
-    }
-}
 
 /// Adds nodes and the value that they applied, behind a space.
 fn write_side(text: &mut String, side: &Side) -> Result<(), AllocError>

@@ -6,6 +6,7 @@ ghost use Rattle.scp_script.specs.Script.{AreAdmitted};
 ghost use Rattle.scp_script.specs.Nodes.{NamesNodes};
 ghost use Rattle.scp_line.specs.Headlines.{AreReportsHeadlined};
 ghost use Rattle.scp_line.specs.Nodes.{HaveRoom};
+ghost use Rattle.scp_threaded_script.specs.Reported.{AreAllKept};
 ghost use Rattle.scp_silent.specs.Ignoring.{told_by};
 ghost use Rattle.scp_silent.specs.Threads.{told_in, is_wait, no_wait, gave_up_at, gave_up, threads_notices, ShowsThreads, IsRanInThreads, IsThreadsFault};
 ghost use Rattle.scp_silent.specs.inside.Threads.{ended_by, IsEnding};
@@ -148,6 +149,7 @@ fn played<T: Threads + Wait + Sync>(
     rt: &T,
     alloc: Global,
     script: Script,
+    keeps: bool,
 ) -> Result<RanInThreads, RunFault>
     requires names { All NamesNodes script.commands.items }
     requires admitted { AreAdmitted [] script.commands.items }
@@ -156,11 +158,12 @@ fn played<T: Threads + Wait + Sync>(
     ensures same { IfOk result (λ ran. ran.script ≡ script) }
     ensures ran { IfOk result (λ ran. ShowsThreads script.commands.items script.lines.items ran.reports.items ran.notices.items) }
     ensures headline { IfOk result (λ ran. AreReportsHeadlined script.commands.items ran.reports.items) }
+    ensures kept { IfOk result (λ ran. AreAllKept keeps ran.reports.items) }
     ensures ended { IfErr result (λ e. e ≢ RunFault.NoMemory → IsEnding script.commands.items e) }
 {
     let commands = script.commands.as_slice();
     let _count = count_of_nodes(commands);
-    let ran = match play_in_threads(rt, alloc, commands) {
+    let ran = match play_in_threads(rt, alloc, commands, keeps) {
         Ok(ran) => ran,
         Err(fault) => return Err(ended(fault)),
     };
@@ -183,17 +186,20 @@ fn played<T: Threads + Wait + Sync>(
 /// Plays a script, in digits or as text, by nodes whose stages run in threads of their own, as `scp_line::play_in_threads` does, and tells
 /// what else would pass in silence: `wait` lines that gave up, commands that did nothing, slots for which nodes applied different values,
 /// own statements that were lost unsent, and that there is no `wait` line. Of how many were lost no more is claimed than that the outboxes
-/// count them.
+/// count them. Where `keeps` is set each report tells what came over each of its node's links.
 pub fn run_in_threads<T: Threads + Wait + Sync>(
     rt: &T,
     alloc: Global,
     text: &[u8],
+    keeps: bool,
 ) -> Result<RanInThreads, RunFault>
     // No line is bad, and these are the reports of its nodes; the notices are those of these reports and of these lines, no less and no
     // more.
     ensures ran { IfOk result (λ ran. IsRanInThreads text.now ran.script ran.reports.items ran.notices.items) }
     // What is told of each of its nodes holds its headline, which says what matters most.
     ensures headline { IfOk result (λ ran. AreReportsHeadlined ran.script.commands.items ran.reports.items) }
+    // Each report tells what came over each of its node's links, or over none.
+    ensures kept { IfOk result (λ ran. AreAllKept keeps ran.reports.items) }
     // Each of its lines names nodes from 1 to 8.
     ensures names { IfOk result (λ ran. All NamesNodes ran.script.commands.items) }
     // Each may stand behind those before it.
@@ -206,5 +212,5 @@ pub fn run_in_threads<T: Threads + Wait + Sync>(
         Err(fault) => return Err(RunFault::from(fault)),
     };
     a_script_has_room();
-    played(rt, alloc, script)
+    played(rt, alloc, script, keeps)
 }

@@ -1,27 +1,16 @@
 -- One element of a list is changed.
-use Rattle.std.proofs.Common.{◌≡◌, ◌≢◌, ◌∙◌, ℕ, zero, suc, ap, sym, refl, subst, List, [], ◌∷◌, length, Some, arith, ⊎_elim}
+use Rattle.std.proofs.Common.{◌≡◌, ◌≢◌, ◌∙◌, ℕ, zero, suc, ap, sym, refl, subst, List, [], ◌∷◌, Some, ⊎_elim}
 use Rattle.std.specs.Prelude.{slice_get, slice_set}
 use Rattle.std.proofs.lemmas.Bool.{cases_eq}
 use Rattle.std.proofs.lemmas.Option.{same_Some}
 use Rattle.scp_threaded_node.specs.Seats.{Each}
+use Rattle.scp_desks.proofs.Lists.{set_other}
 
 module _ {T : Type 0} where
   pub set_here : (xs : List T) (i : ℕ) (x y : T) → slice_get xs i ≡ Some x → slice_get (slice_set xs i y) i ≡ Some y
   set_here [] i x y h = absurd cc
   set_here (z ∷ xs) zero x y h = refl
   set_here (z ∷ xs) (suc i) x y h = set_here xs i x y h
-
-  pub set_other : (xs : List T) (i j : ℕ) (y : T) → j ≢ i → slice_get (slice_set xs i y) j ≡ slice_get xs j
-  set_other [] i j y h = refl
-  set_other (x ∷ xs) zero zero y h = absurd (h refl)
-  set_other (x ∷ xs) zero (suc j) y h = refl
-  set_other (x ∷ xs) (suc i) zero y h = refl
-  set_other (x ∷ xs) (suc i) (suc j) y h = set_other xs i j y (λ e. h (ap suc e))
-
-  pub set_length : (xs : List T) (i : ℕ) (y : T) → length (slice_set xs i y) ≡ length xs
-  set_length [] i y = refl
-  set_length (x ∷ xs) zero y = refl
-  set_length (x ∷ xs) (suc i) y = omega (arith, set_length xs i y)
 
   -- what held of each and its place holds again
   pub each_set : (P Q : ℕ → T → Type 0) (xs : List T) (place : ℕ) (x y : T) → slice_get xs place ≡ Some x → (P place x → Q place y) → ((i : ℕ) (z : T) → i ≢ place → P i z → Q i z) → Each P xs → Each Q (slice_set xs place y)

@@ -17,6 +17,7 @@ use Rattle.scp_envelope.proofs.shared.SharedStatement.TheSendSync as statements
 use Rattle.scp_wire.proofs.boxed.BoxedEnvelope.TheSendSync as boxes
 use Rattle.scp_wire.proofs.link.Cause.TheSendSync as causes
 use Rattle.scp_wire.proofs.link.Command.TheSendSync as commands
+use Rattle.scp_wire.proofs.link.LinkItem.TheSendSync as items
 use Rattle.scp_wire.specs.contracts.message.Message as message
 use Rattle.scp_wire.specs.contracts.side.SideMessage as side
 use Rattle.scp_wire.specs.contracts.fitting.FittingMessage as fitting
@@ -63,7 +64,7 @@ use Rattle.scp_ledger.specs.contracts.journal.Fate as fate
 use Rattle.scp_ledger.specs.contracts.state.State as ledger_state
 use Rattle.scp_ledger.specs.contracts.ledger.Ledger as ledger
 use Rattle.scp_ledger.specs.contracts.ledger.Ledger.TheInside as ledger_inside
-use Rattle.scp_outbox.specs.Crossing.{SharedCrosses}
+use Rattle.scp_desk.specs.Crossing.{EndsCross}
 use Rattle.scp_gate.proofs.Counter.TheSendSync as counters
 use Rattle.scp_ends.proofs.tail.LinkTx.TheSendSync as tails
 use Rattle.scp_ends.proofs.tail.LinkDone.TheSendSync as tails_done
@@ -217,7 +218,7 @@ its_ledger_send = ledger_send (ledger_state_send its_sane_send its_sane_sync (fa
 -- ---- the stages, and the couriers
 
 reading_send : IsSend link_reader.the_row → IsSend reading.the_row
-reading_send l = declared_send reading.the_type (search sendable depth 20, (search sendable depth 20, tt))
+reading_send l = declared_send reading.the_type (search sendable depth 20, (search sendable depth 20, (search (sendable, crosses, items.the_send) depth 20, tt)))
 
 pub its_reading_send : IsSend reading.the_row
 its_reading_send = reading_send its_link_reader_send
@@ -228,14 +229,14 @@ slots_send l = declared_send slots_stage.the_type (search sendable depth 20, (se
 pub its_slots_send : IsSend slots_stage.the_row
 its_slots_send = slots_send its_ledger_send
 
-courier_inside_send : SharedCrosses → IsSend courier_inside.the_row
-courier_inside_send o = declared_send courier_inside.the_type (search (sendable, crosses) depth 20, ((let send = o.send in let sync = o.sync in search (sendable, crosses) depth 20), (tails.the_send, (search (sendable, crosses) depth 20, (counters.the_send, (search sendable depth 20, tt))))))
+courier_inside_send : EndsCross → IsSend courier_inside.the_row
+courier_inside_send o = declared_send courier_inside.the_type (search (sendable, crosses) depth 20, (o.taker, (tails.the_send, (counters.the_send, (search sendable depth 20, tt)))))
 
-pub courier_send : SharedCrosses → IsSend courier.the_row
+pub courier_send : EndsCross → IsSend courier.the_row
 courier_send o = view_send _ _ _ _ _ (courier_inside_send o)
 
-courier_ended_inside_send : IsSend courier_ended_inside.the_row
-courier_ended_inside_send = declared_send courier_ended_inside.the_type (search (sendable, crosses, tails_done.the_send) depth 20, (search (sendable, crosses) depth 20, (search sendable depth 20, (search sendable depth 20, tt))))
+courier_ended_inside_send : EndsCross → IsSend courier_ended_inside.the_row
+courier_ended_inside_send o = declared_send courier_ended_inside.the_type (search (sendable, crosses, tails_done.the_send) depth 20, (o.taker, (search sendable depth 20, (search sendable depth 20, tt))))
 
-pub courier_ended_send : IsSend courier_ended.the_row
-courier_ended_send = view_send _ _ _ _ _ courier_ended_inside_send
+pub courier_ended_send : EndsCross → IsSend courier_ended.the_row
+courier_ended_send o = view_send _ _ _ _ _ (courier_ended_inside_send o)

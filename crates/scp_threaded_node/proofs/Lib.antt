@@ -6,3 +6,4 @@ mod Rooms
 mod Told
 pub mod Changing
 pub mod Staying
+pub mod Given

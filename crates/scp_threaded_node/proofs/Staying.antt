@@ -17,7 +17,8 @@ use Rattle.scp_threaded_node.specs.declared.node.Tail.{Tail}
 use Rattle.scp_threaded_node.specs.declared.node.Tail.TheVariants.{Script, Courier}
 use Rattle.scp_threaded_node.specs.Acting.{act_on, acted, with_command, ActsAt, IsUnchanged}
 use Rattle.scp_threaded_node.specs.Seats.{IsLane, AreRunning, Runs, tail_of}
-use Rattle.scp_threaded_node.proofs.Changing.{set_length, each_set}
+use Rattle.scp_desks.proofs.Lists.{set_length}
+use Rattle.scp_threaded_node.proofs.Changing.{each_set}
 
 with_item_lane : (me peer : NodeId) (inbox : Line Inbound) (room place : ℕ) (k : LinkEnd) (x : LinkItem) (r : ReaderWork) → IsLane me peer inbox room place k r → IsLane me peer inbox room place (with_item k x) r
 with_item_lane me peer inbox room place k x r l = record { from = l.from; to = l.to; line = l.line; tail = l.tail; alone = l.alone; room_is = l.room_is; goes_to = l.goes_to }

@@ -14,7 +14,8 @@ use Rattle.scp_workers.specs.Reading.{ReaderEnd}
 use Rattle.scp_workers.specs.Pending.{PendEnd}
 use Rattle.scp_workers.specs.Slot.{SlotEnd}
 use Rattle.scp_workers.specs.Apply.{ApplyEnd}
-use Rattle.scp_courier.specs.Carrying.{CourierEnd, HoldsLink}
+use Rattle.scp_courier.specs.Carrying.{CourierEnd}
+use Rattle.scp_courier.specs.Carrying.{Holds as HoldsCourier}
 use Rattle.scp_gather.specs.Report.{has_failed, first_so}
 use Rattle.scp_threaded_node.specs.declared.ending.Stood.{Stood}
 use Rattle.scp_threaded_node.specs.declared.node.Node.{Node}
@@ -48,7 +49,7 @@ abbrev pub IsTailEnd : Tail → TailEnd → Type 0
 IsTailEnd (Script k) (driven left) = IfSome left (λ d. d ≡ k)
 IsTailEnd (Script k) (carried e) = ⊥
 IsTailEnd (Courier thread) (driven left) = ⊥
-IsTailEnd (Courier thread) (carried e) = HoldsLink thread.promise.0.value.link e
+IsTailEnd (Courier thread) (carried e) = HoldsCourier thread.promise.0.value e
 
 -- the link was to stand so, and its reader and its sending end ended so
 pub record IsLaneEnd (stood : Option Stood) (x : Running) (e : LaneEnd) : Type 0 where

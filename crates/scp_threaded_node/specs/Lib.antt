@@ -1,5 +1,6 @@
 pub mod Seats
 pub mod Sources
+pub mod Outlets
 pub mod Acting
 pub mod Ended
 pub mod Faults

@@ -4,6 +4,7 @@ use Rattle.scp_types.specs.declared.names.NodeId.{NodeId}
 use Rattle.scp_quorum.specs.QuorumTree.{QuorumTree}
 use Rattle.scp_wire.specs.declared.link.Inbound.{Inbound}
 use Rattle.scp_wire.specs.declared.link.LinkItem.{LinkItem}
+pub use Rattle.scp_desks.specs.Places.{Each}
 use Rattle.scp_ends.specs.Ends.{Line, Sender}
 use Rattle.scp_ends.specs.Links.{LinkEnd}
 use Rattle.scp_script.specs.declared.command.Capacities.{Capacities}
@@ -17,10 +18,6 @@ use Rattle.scp_threaded_node.specs.declared.node.Tail.{Tail}
 use Rattle.scp_threaded_node.specs.declared.node.Tail.TheVariants.{Script, Courier}
 use Rattle.scp_threaded_node.specs.declared.node.Running.{Running}
 use Rattle.scp_threaded_node.specs.declared.node.Node.{Node}
-
--- each element stands so to its place
-abbrev pub Each : {T : Type 0} → (ℕ → T → Type 0) → List T → Type 0
-Each P xs = (i : ℕ) → (x : _) → slice_get xs i ≡ Some x → P i x
 
 -- ---- as they were started
 

@@ -8,6 +8,7 @@ ghost use Rattle.scp_wire.specs.declared.link.Inbound.TheVariants as inbound;
 ghost use Rattle.scp_threaded_node.specs.Acting.{act_on, acted, cannot, with_command, ActsAt, CanAct, IsActFault, IsRefusedFor, IsUnchanged};
 ghost use Rattle.scp_threaded_node.specs.declared.node.Running.{Running};
 ghost use Rattle.scp_threaded_node.specs.inside.NotSent.{IsNotSentFor};
+ghost use Rattle.scp_threaded_node.specs.Outlets.{given_to};
 ghost use Rattle.scp_threaded_node.specs.Seats.{is_carried, Runs};
 
 use crate::node::{Node, Running, Tail};
@@ -73,6 +74,7 @@ pub fn act_at<R: Wait>(rt: &R, node: &mut Node, place: usize, act: Act) -> Resul
     ensures same { OnErr result (IsUnchanged node.old node.new) }
     // A node that runs goes on.
     ensures runs { (me : NodeId) → (set : QuorumTree) → (peers : List NodeId) → (caps : Capacities) → Runs me set peers caps node.old → Runs me set peers caps node.new }
+    ensures given { given_to node.new ≡ given_to node.old }
     ensures why { (lane : Running) → slice_get node.old.lanes.items place ≡ Some lane → MatchResult result (λ _. CanAct act lane.tail) (IsActFault act lane.tail) }
 {
     act_on_lane(rt, &mut node.lanes[place], act)
@@ -101,6 +103,7 @@ pub fn tell<R: Wait>(rt: &R, node: &mut Node, command: Command) -> Result<(), Fa
     ensures same { OnErr result (node.new ≡ node.old) }
     // A node that runs goes on.
     ensures runs { (me : NodeId) → (set : QuorumTree) → (peers : List NodeId) → (caps : Capacities) → Runs me set peers caps node.old → Runs me set peers caps node.new }
+    ensures given { given_to node.new ≡ given_to node.old }
     ensures only { IsOkUnless result (Fault.Refused Pend) }
 {
     match node.local.send_as(rt, command) {
@@ -133,6 +136,7 @@ fn flush_all(node: &mut Node)
 /// for what it sends.
 pub fn flush(node: &mut Node)
     ensures same { IsUnchanged node.old node.new }
+    ensures given { given_to node.new ≡ given_to node.old }
     // A node that runs goes on.
     ensures runs { (me : NodeId) → (set : QuorumTree) → (peers : List NodeId) → (caps : Capacities) → Runs me set peers caps node.old → Runs me set peers caps node.new }
 {

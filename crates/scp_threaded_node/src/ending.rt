@@ -10,19 +10,25 @@ ghost use Rattle.scp_wire.specs.declared.link.LinkItem.{LinkItem};
 ghost use Rattle.scp_ends.specs.Links.{LinkEnd};
 ghost use Rattle.scp_script.specs.declared.command.Capacities.{Capacities};
 ghost use Rattle.scp_workers.specs.Working.{Holds};
-ghost use Rattle.scp_courier.specs.Carrying.{IsSameLink, IsCarried};
+ghost use Rattle.scp_courier.specs.Carrying.{IsSameLink, IsCarried, HasCarried};
+ghost use Rattle.scp_desk.specs.Ends.{TakerView};
 ghost use Rattle.scp_pending.specs.Peers.{AreApart};
 ghost use Rattle.scp_gather.specs.Report.{has_failed as failed, first_so};
 ghost use Rattle.scp_threaded_node.specs.Seats.{AreDriven, IsDriven, Runs, tail_of};
+ghost use Rattle.scp_gather.specs.Left.{Left as WhatIsLeft};
 ghost use Rattle.scp_threaded_node.specs.Ended.{IsEnded, IsSentBy, AreSentBy};
+ghost use Rattle.scp_threaded_node.specs.Outlets.{IsHandedBack, AreHandedBack, given_to, taker_of, taker_in};
 ghost use Rattle.scp_threaded_node.specs.Faults.{NodeEnd, IsNodeEnd, IsTold, courier_fault, fault_by, fault_of, local_fault};
 ghost use Rattle.scp_threaded_node.specs.inside.Ending.{HasTailFault, HaveEnded, IsLeftOf};
+ghost use Rattle.scp_threaded_node.specs.declared.ending.TailLeft.{TailLeft};
 ghost use Rattle.scp_threaded_node.specs.inside.Left.{AreEndsOf, IsLeft};
 
 use crate::node::{Node, Running, Tail};
 use scp_courier::CourierEnded;
+use scp_desk::Taker;
+use scp_desks::Outlets;
 use scp_ends::{LinkDone, LinkTx, LocalDone, LocalTx};
-use scp_gather::{Ends, NodeReport, first_failed, gather, has_failed};
+use scp_gather::{Ends, Gathering, NodeReport, first_failed, gather, has_failed};
 use scp_types::{Fault, Stage};
 use scp_workers::{ApplyEnded, PendEnded, ReaderEnded, SlotEnded};
 use std::alloc::Global;
@@ -36,36 +42,49 @@ pub struct Stood {
     pub is_open: bool,
 }
 
-/// What a courier's link left, where the courier ended well and the link stands so; else that memory was wanting, or that the link
-/// stands otherwise.
-fn carried(ended: CourierEnded, stood: Stood) -> Result<LinkDone, Fault>
-    ensures link { IfOk result (λ k. ended.link ≡ Some k) }
-    ensures carried { IfOk result (IsCarried stood.lives stood.is_open) }
+/// What a courier's link left, and its end of the outbox, where the courier ended well and the link stands so; else that memory was wanting, or
+/// that the link stands otherwise.
+fn carried(ended: CourierEnded, stood: Stood) -> Result<TailLeft, Fault>
+    ensures link { IfOk result (λ left. ended.link ≡ Some left.link) }
+    ensures taker { IfOk result (λ left. left.taker ≡ Some ended.taker) }
+    ensures carried { IfOk result (λ left. IsCarried stood.lives stood.is_open left.link × HasCarried ended.taker.gave left.link) }
     ensures why { result_err result ≡ courier_fault ended stood }
 {
     let stands = ended.lives() as usize == stood.lives && ended.is_open() == stood.is_open;
-    match ended.into_link() {
+    let (link, taker) = ended.into_parts();
+    match link {
         None => Err(Fault::NoMemory),
         Some(_) if !stands => Err(Fault::NotOpen),
-        Some(link) => Ok(link),
+        Some(link) => Ok(TailLeft {
+            link,
+            taker: Some(taker),
+        }),
     }
 }
 
+/// What the sending end of a link left: the link's end, and of a courier its end of the outbox.
+#[derive(Drop)]
+struct TailLeft {
+    link: LinkDone,
+    taker: Option<Taker>,
+}
+
 /// Ends a link that the script drives, where its reader is there.
-fn end_driven<R: Wait>(rt: &R, tail: LinkTx) -> Result<LinkDone, Fault>
-    ensures same { IfOk result (λ done. done ≡ tail) }
+fn end_driven<R: Wait>(rt: &R, tail: LinkTx) -> Result<TailLeft, Fault>
+    ensures same { IfOk result (λ left. (left.link ≡ tail) × (left.taker ≡ None)) }
     ensures gone { IsOkUnless result (Fault.Refused Reader) }
 {
     match tail.stop(rt) {
-        Ok(done) => Ok(done),
+        Ok(link) => Ok(TailLeft { link, taker: None }),
         Err(_) => Err(Fault::Refused(Stage::Reader)),
     }
 }
 
 /// Stops a link, and waits until who sends on it has ended. Refused where a courier failed, or its link doesn't stand so.
-fn end_tail<R: Threads + Wait>(rt: &R, tail: Tail, stood: Stood) -> Result<LinkDone, Fault>
-    ensures same { IfOk result (IsSameLink (tail_of tail)) }
-    ensures sent { (driven : Bool) → (sent : List LinkItem) → IsDriven driven sent tail → IfOk result (IsSentBy driven sent stood) }
+fn end_tail<R: Threads + Wait>(rt: &R, tail: Tail, stood: Stood) -> Result<TailLeft, Fault>
+    ensures same { IfOk result (λ left. IsSameLink (tail_of tail) left.link) }
+    ensures sent { (driven : Bool) → (sent : List LinkItem) → IsDriven driven sent tail → IfOk result (λ left. IsSentBy driven sent stood left.link) }
+    ensures back { IfOk result (λ left. IsHandedBack (taker_of tail) left.link left.taker) }
     ensures why { HasTailFault tail stood (result_err result) }
 {
     match tail {
@@ -79,10 +98,11 @@ fn end_lane<R: Threads + Wait>(
     rt: &R,
     lane: Running,
     stood: Stood,
-) -> (ReaderEnded, Result<LinkDone, Fault>)
+) -> (ReaderEnded, Result<TailLeft, Fault>)
     ensures reader { Holds lane.reader.promise.0.value result.0 }
-    ensures same { IfOk result.1 (IsSameLink (tail_of lane.tail)) }
-    ensures sent { (driven : Bool) → (sent : List LinkItem) → IsDriven driven sent lane.tail → IfOk result.1 (IsSentBy driven sent stood) }
+    ensures same { IfOk result.1 (λ left. IsSameLink (tail_of lane.tail) left.link) }
+    ensures sent { (driven : Bool) → (sent : List LinkItem) → IsDriven driven sent lane.tail → IfOk result.1 (λ left. IsSentBy driven sent stood left.link) }
+    ensures back { IfOk result.1 (λ left. IsHandedBack (taker_in lane) left.link left.taker) }
     ensures why { HasTailFault lane.tail stood (result_err result.1) }
 {
     let Running { tail, reader } = lane;
@@ -95,6 +115,7 @@ fn end_lane<R: Threads + Wait>(
 struct Lanes {
     readers: Vec<ReaderEnded>,
     links: Vec<LinkDone>,
+    takers: Vec<Option<Taker>>,
     /// A reader failed.
     failed: bool,
     /// The fault of the first link whose sending end has one.
@@ -114,7 +135,7 @@ fn first(a: Option<Fault>, b: Option<Fault>) -> Option<Fault>
 }
 
 /// Why a link left nothing.
-fn fault_at(link: &Result<LinkDone, Fault>) -> Option<Fault>
+fn fault_at(link: &Result<TailLeft, Fault>) -> Option<Fault>
     ensures { result ≡ result_err link.now }
 {
     match link {
@@ -127,29 +148,37 @@ fn fault_at(link: &Result<LinkDone, Fault>) -> Option<Fault>
 fn keep(
     readers: &mut Vec<ReaderEnded>,
     links: &mut Vec<LinkDone>,
+    takers: &mut Vec<Option<Taker>>,
     reader: ReaderEnded,
-    link: LinkDone,
+    left: TailLeft,
 ) -> bool
-    ensures { result ≡ true → (readers.new.items ≡ readers.old.items ++ reader ∷ []) × (links.new.items ≡ links.old.items ++ link ∷ []) }
+    ensures { result ≡ true → (readers.new.items ≡ readers.old.items ++ reader ∷ []) × (links.new.items ≡ links.old.items ++ left.link ∷ []) × (takers.new.items ≡ takers.old.items ++ left.taker ∷ []) }
 {
-    if readers.reserve(1).is_err() || links.reserve(1).is_err() {
+    if readers.reserve(1).is_err() || links.reserve(1).is_err() || takers.reserve(1).is_err() {
         return false;
     }
     readers.push_reserved(reader);
-    links.push_reserved(link);
+    links.push_reserved(left.link);
+    takers.push_reserved(left.taker);
     true
 }
 
 /// Adds what one link left.
-fn add(lanes: &mut Lanes, reader: ReaderEnded, link: Result<LinkDone, Fault>)
-    ensures kept { lanes.new.lost ≡ false → lanes.new.fault ≡ None → (lanes.old.lost ≡ false) × (lanes.new.readers.items ≡ lanes.old.readers.items ++ reader ∷ []) × (k : LinkEnd) × (link ≡ Ok k) × (lanes.new.links.items ≡ lanes.old.links.items ++ k ∷ []) }
+fn add(lanes: &mut Lanes, reader: ReaderEnded, left: Result<TailLeft, Fault>)
+    ensures kept { lanes.new.lost ≡ false → lanes.new.fault ≡ None → (lanes.old.lost ≡ false) × (lanes.new.readers.items ≡ lanes.old.readers.items ++ reader ∷ []) × (t : TailLeft) × (left ≡ Ok t) × (lanes.new.links.items ≡ lanes.old.links.items ++ t.link ∷ []) × (lanes.new.takers.items ≡ lanes.old.takers.items ++ t.taker ∷ []) }
     ensures failed { lanes.new.failed ≡ lanes.old.failed || failed reader }
-    ensures fault { lanes.new.fault ≡ option_or lanes.old.fault (result_err link) }
+    ensures fault { lanes.new.fault ≡ option_or lanes.old.fault (result_err left) }
 {
     lanes.failed = lanes.failed || has_failed(&reader);
-    lanes.fault = first(lanes.fault, fault_at(&link));
-    if let Ok(link) = link {
-        if !keep(&mut lanes.readers, &mut lanes.links, reader, link) {
+    lanes.fault = first(lanes.fault, fault_at(&left));
+    if let Ok(left) = left {
+        if !keep(
+            &mut lanes.readers,
+            &mut lanes.links,
+            &mut lanes.takers,
+            reader,
+            left,
+        ) {
             lanes.lost = true;
         }
     }
@@ -163,7 +192,7 @@ fn end_lanes<R: Threads + Wait>(
     stood: &[Stood],
 ) -> Lanes
     requires stood { length lanes.items ≤ length stood.now }
-    ensures left { result.lost ≡ false → result.fault ≡ None → AreEndsOf lanes.items result.readers.items result.links.items }
+    ensures left { result.lost ≡ false → result.fault ≡ None → AreEndsOf lanes.items result.readers.items result.links.items result.takers.items }
     ensures readers { result.lost ≡ false → result.fault ≡ None → list_any failed result.readers.items ≡ result.failed }
     ensures sent { (driven : ℕ → Bool) → (sent : ℕ → List LinkItem) → AreDriven driven sent lanes.items → result.lost ≡ false → result.fault ≡ None → AreSentBy driven sent stood.now result.links.items }
     ensures ended { HaveEnded lanes.items stood.now result.failed result.fault }
@@ -173,6 +202,7 @@ fn end_lanes<R: Threads + Wait>(
         return Lanes {
             readers: Vec::new(alloc),
             links: Vec::new(alloc),
+            takers: Vec::new(alloc),
             failed: false,
             fault: None,
             lost: false,
@@ -180,8 +210,8 @@ fn end_lanes<R: Threads + Wait>(
     };
     let place = lanes.len();
     let mut left = end_lanes(rt, alloc, lanes, stood);
-    let (reader, link) = end_lane(rt, last, stood[place]);
-    add(&mut left, reader, link);
+    let (reader, tail) = end_lane(rt, last, stood[place]);
+    add(&mut left, reader, tail);
     left
 }
 
@@ -205,27 +235,32 @@ fn collect(
     pend: PendEnded,
     slot: SlotEnded,
     apply: ApplyEnded,
-) -> Result<Ends, Fault>
-    ensures all { IfOk result (λ e. (lanes.lost ≡ false) × (local ≡ Some e.local) × (e.readers ≡ lanes.readers.items) × (e.links ≡ lanes.links.items) × (e.pend ≡ pend) × (e.slot ≡ slot) × (e.apply ≡ apply)) }
+) -> Result<(Ends, Vec<Option<Taker>>), Fault>
+    ensures all { IfOk result (λ e. (lanes.lost ≡ false) × (local ≡ Some e.0.local) × (e.0.readers ≡ lanes.readers.items) × (e.0.links ≡ lanes.links.items) × (e.0.pend ≡ pend) × (e.0.slot ≡ slot) × (e.0.apply ≡ apply)) }
+    ensures takers { IfOk result (λ e. e.1.items ≡ lanes.takers.items) }
     ensures why { MatchResult result (λ _. lanes.fault ≡ None) (IsTold (fault_by (first_so lanes.failed (failed pend) (failed slot) (failed apply)) lanes.fault (local_fault local))) }
 {
     let Lanes {
         readers,
         links,
+        takers,
         failed,
         fault,
         lost,
     } = lanes;
     let stage = first_failed(failed, &pend, &slot, &apply);
     match local {
-        Some(local) if !lost && fault.is_none() => Ok(Ends {
-            readers,
-            links,
-            local,
-            pend,
-            slot,
-            apply,
-        }),
+        Some(local) if !lost && fault.is_none() => Ok((
+            Ends {
+                readers,
+                links,
+                local,
+                pend,
+                slot,
+                apply,
+            },
+            takers,
+        )),
         Some(_) => Err(told(stage, fault, None)),
         None => Err(told(stage, fault, Some(Fault::Refused(Stage::Pend)))),
     }
@@ -247,11 +282,11 @@ fn stop<R: Threads + Wait>(
     alloc: Global,
     node: Node,
     stood: &[Stood],
-) -> Result<Ends, Fault>
+) -> Result<(Ends, Vec<Option<Taker>>), Fault>
     requires stood { length node.lanes.items ≤ length stood.now }
-    ensures left { IfOk result (IsLeft node) }
-    ensures sent { (driven : ℕ → Bool) → (sent : ℕ → List LinkItem) → AreDriven driven sent node.lanes.items → IfOk result (λ e. AreSentBy driven sent stood.now e.links) }
-    ensures ended { (x : NodeEnd) × IsNodeEnd node stood.now x × MatchResult result (IsLeftOf x) (IsTold (fault_of x)) }
+    ensures left { IfOk result (λ e. IsLeft node e.0 e.1.items) }
+    ensures sent { (driven : ℕ → Bool) → (sent : ℕ → List LinkItem) → AreDriven driven sent node.lanes.items → IfOk result (λ e. AreSentBy driven sent stood.now e.0.links) }
+    ensures ended { (x : NodeEnd) × IsNodeEnd node stood.now x × MatchResult result (λ e. IsLeftOf x e.0) (IsTold (fault_of x)) }
 {
     let Node {
         lanes,
@@ -268,6 +303,15 @@ fn stop<R: Threads + Wait>(
     collect(lanes, local, pend, slot, apply)
 }
 
+/// What is told of a node that has ended, and the ends of outboxes that its threads hand back: those by which its stages put, and of each link
+/// that of its courier; nothing of a link that the script drives.
+#[derive(Drop)]
+pub struct Over {
+    pub report: NodeReport,
+    pub outlets: Outlets,
+    pub takers: Vec<Option<Taker>>,
+}
+
 /// Stops a node, joins each of its threads, and gathers what they left; `stood[l]` is how link l stands where a courier sends on it.
 ///
 /// Refused by `Refused` with the first stage, in the order of the pipeline, of which a worker failed; else by the fault of the first
@@ -278,13 +322,19 @@ pub fn end<R: Threads + Wait>(
     alloc: Global,
     node: Node,
     stood: &[Stood],
-) -> Result<NodeReport, Fault>
+) -> Result<Over, Fault>
     requires runs { (me : NodeId) × (set : QuorumTree) × (peers : List NodeId) × (caps : Capacities) × Runs me set peers caps node }
     requires stood { length node.lanes.items ≤ length stood.now }
     ensures ended { (me : NodeId) → (set : QuorumTree) → (peers : List NodeId) → (caps : Capacities) → AreApart peers → Runs me set peers caps node
         → (driven : ℕ → Bool) → (sent : ℕ → List LinkItem) → AreDriven driven sent node.lanes.items
-        → IfOk result (IsEnded me set peers caps node.local.sent driven sent stood.now) }
+        → IfOk result (λ over. (left : WhatIsLeft) × IsEnded me set peers caps node.local.sent driven sent stood.now left over.report × AreHandedBack me set peers (given_to node) left over.outlets over.takers.items) }
     ensures fault { (x : NodeEnd) × IsNodeEnd node stood.now x × MatchResult result (λ _. fault_of x ≡ None) (IsTold (fault_of x)) }
 {
-    gather(stop(rt, alloc, node, stood)?)
+    let (ends, takers) = stop(rt, alloc, node, stood)?;
+    let Gathering { report, outlets } = gather(ends)?;
+    Ok(Over {
+        report,
+        outlets,
+        takers,
+    })
 }

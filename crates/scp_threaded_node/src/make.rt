@@ -3,17 +3,20 @@ ghost use Rattle.std.specs.Prelude.{◌≡◌, ◌≤◌, ◌+◌, [], Some, Non
 ghost use Rattle.scp_quorum.specs.Sane.{IsSane};
 ghost use Rattle.scp_ends.specs.Ends.{AreFresh, fresh};
 ghost use Rattle.scp_ends.specs.Links.{new_link};
+ghost use Rattle.scp_workers.specs.Working.{AreUnused as HavePutNothing};
 ghost use Rattle.scp_workers.specs.Pending.{IsFor as PendsFor};
 ghost use Rattle.scp_workers.specs.Slot.{IsFor as JournalsFor};
 ghost use Rattle.scp_threaded_node.specs.Seats.{IsLane, AreLanes, AreUnused, AreStages, IsLocal, SendsAs};
 ghost use Rattle.scp_types.specs.Range.{IsInRange};
 ghost use Rattle.scp_threaded_node.specs.Sources.{HaveRoom};
+ghost use Rattle.scp_threaded_node.specs.Outlets.{AllKeep, keeps_from};
 
+use scp_desk::Putter;
+use scp_desks::Outlets;
 use scp_ends::{
     DecidedRx, DecidedTx, InboxRx, InboxTx, LinkRx, LinkTx, LocalTx, ReadyRx, ReadyTx, decided,
     inbox, link, ready,
 };
-use scp_outbox::SharedOutbox;
 use scp_quorum::{QuorumSet, SaneSet};
 use scp_script::Capacities;
 use scp_types::{Fault, NodeId};
@@ -38,19 +41,6 @@ pub struct Parts {
     pub pend: PendWorker,
     pub slot: SlotWorker,
     pub apply: ApplyWorker,
-}
-
-/// The outboxes of a node: at place l, what goes to its peer of link l.
-pub type Outboxes = Vec<Arc<SharedOutbox>>;
-
-/// The same outboxes once more.
-pub fn again(alloc: Global, outboxes: &[Arc<SharedOutbox>]) -> Result<Outboxes, AllocError> {
-    let mut copies = Vec::new(alloc);
-    for outbox in outboxes {
-        copies.reserve(1)?;
-        copies.push_reserved(Arc::try_clone(outbox)?);
-    }
-    Ok(copies)
 }
 
 /// A link from a peer, whose room is in range.
@@ -95,7 +85,7 @@ fn decided_of(alloc: Global, capacity: usize) -> Result<(DecidedTx, DecidedRx), 
     decided(alloc, capacity)
 }
 
-/// The link from a peer, and its reader.
+/// The link from a peer, and its reader, which keeps what it receives where it is to.
 fn make_lane(
     alloc: Global,
     me: NodeId,
@@ -103,17 +93,19 @@ fn make_lane(
     place: u8,
     capacity: usize,
     tx: InboxTx,
+    keeps: bool,
 ) -> Result<Lane, Fault>
     requires unused { (tx.sent ≡ []) × (tx.number ≡ place) }
     requires room { IsInRange capacity }
     ensures lane { IfOk result (λ x. IsLane me peer tx.line capacity place x.tail x.reader) }
     ensures unused { IfOk result (λ x. x.tail.tail.sent ≡ []) }
+    ensures keeps { IfOk result (λ x. keeps_from x ≡ keeps) }
     ensures only_memory { IsOkUnless result Fault.NoMemory }
 {
     let (tail, rx) = link_of(alloc, me, peer, capacity)?;
     Ok(Lane {
         tail,
-        reader: reader(alloc, me, place, rx, tx),
+        reader: reader(alloc, me, place, rx, tx, keeps),
     })
 }
 
@@ -125,6 +117,7 @@ fn lanes(
     capacity: usize,
     rx: &InboxRx,
     ends: Vec<InboxTx>,
+    keeps: bool,
 ) -> Result<Vec<Lane>, Fault>
     requires few { (length ends.items ≤ length peers.now) × (length peers.now ≤ 7) }
     requires fresh { AreFresh rx.now.line ends.items }
@@ -132,6 +125,7 @@ fn lanes(
     ensures count { IfOk result (λ xs. length xs.items ≡ length ends.items) }
     ensures lanes { IfOk result (λ xs. AreLanes me peers.now rx.now.line capacity xs.items) }
     ensures unused { IfOk result (λ xs. AreUnused xs.items) }
+    ensures keeps { IfOk result (λ xs. AllKeep keeps xs.items) }
     ensures only_memory { IsOkUnless result Fault.NoMemory }
 {
     let mut rest = ends;
@@ -139,9 +133,9 @@ fn lanes(
         return Ok(Vec::new(alloc));
     };
     let place = rest.len();
-    let mut lanes = lanes(alloc, me, peers, capacity, rx, rest)?;
+    let mut lanes = lanes(alloc, me, peers, capacity, rx, rest, keeps)?;
     lanes.reserve(1)?;
-    let next = make_lane(alloc, me, peers[place], place as u8, capacity, last)?;
+    let next = make_lane(alloc, me, peers[place], place as u8, capacity, last, keeps)?;
     lanes.push_reserved(next);
     Ok(lanes)
 }
@@ -164,19 +158,19 @@ fn make_pend(
     me: NodeId,
     set: Arc<SaneSet>,
     peers: &[NodeId],
-    outboxes: &[Arc<SharedOutbox>],
+    outlets: Vec<Putter>,
     rx: InboxRx,
     tx: ReadyTx,
 ) -> Result<PendWorker, Fault>
     requires few { length peers.now ≤ 7 }
-    requires unused { (rx.got ≡ []) × (tx.sent ≡ []) }
+    requires unused { (rx.got ≡ []) × (tx.sent ≡ []) × HavePutNothing outlets.items }
     requires producers { rx.producers ≡ length peers.now + 1 }
     ensures ends { IfOk result (λ w. (w.input ≡ rx) × (w.output ≡ Some tx)) }
+    ensures outlets { IfOk result (λ w. w.outlets ≡ outlets.items) }
     ensures stage { IfOk result (λ w. PendsFor me peers.now set.value w.first) }
     ensures only_memory { IsOkUnless result Fault.NoMemory }
 {
     let known = Vec::from_slice(alloc, peers)?;
-    let outlets = again(alloc, outboxes)?;
     let producers = peers.len() as u8 + 1;
     Ok(pending(alloc, me, known, set, outlets, rx, producers, tx))
 }
@@ -187,33 +181,19 @@ fn make_slot(
     me: NodeId,
     set: Arc<SaneSet>,
     peers: &[NodeId],
-    outboxes: &[Arc<SharedOutbox>],
+    outlets: Vec<Putter>,
     rx: ReadyRx,
     tx: DecidedTx,
 ) -> Result<SlotWorker, AllocError>
     requires few { length peers.now ≤ 7 }
-    requires unused { (rx.got ≡ []) × (tx.sent ≡ []) }
+    requires unused { (rx.got ≡ []) × (tx.sent ≡ []) × HavePutNothing outlets.items }
     requires one { rx.producers ≡ 1 }
     ensures ends { IfOk result (λ w. (w.input ≡ rx) × (w.output ≡ Some tx)) }
+    ensures outlets { IfOk result (λ w. w.outlets ≡ outlets.items) }
     ensures stage { IfOk result (λ w. JournalsFor me peers.now set.value w.first.ledger) }
 {
     let known = Vec::from_slice(alloc, peers)?;
-    let outlets = again(alloc, outboxes)?;
     Ok(slots(alloc, me, known, set, outlets, rx, tx))
-}
-
-/// The worker of the applier, behind the slot stage.
-fn make_apply(
-    alloc: Global,
-    me: NodeId,
-    outboxes: &[Arc<SharedOutbox>],
-    rx: DecidedRx,
-) -> Result<ApplyWorker, AllocError>
-    requires unused { rx.got ≡ [] }
-    requires one { rx.producers ≡ 1 }
-    ensures { IfOk result (λ w. w.input ≡ rx) }
-{
-    Ok(applier(alloc, me, again(alloc, outboxes)?, rx))
 }
 
 /// The slot stage and the applier, and the end that sends to them.
@@ -223,21 +203,23 @@ fn make_last(
     set: Arc<SaneSet>,
     peers: &[NodeId],
     capacities: Capacities,
-    outboxes: &[Arc<SharedOutbox>],
+    said: Vec<Putter>,
+    answers: Vec<Putter>,
 ) -> Result<(ReadyTx, SlotWorker, ApplyWorker), Fault>
     requires few { length peers.now ≤ 7 }
     requires room { HaveRoom capacities }
+    requires unused { HavePutNothing said.items × HavePutNothing answers.items }
     ensures ready { IfOk result (λ r. (r.0 ≡ fresh r.1.input.line 0) × (r.1.input.producers ≡ 1)) }
     ensures slot_of { IfOk result (λ r. JournalsFor me peers.now set.value r.1.first.ledger) }
     ensures decided { IfOk result (λ r. SendsAs r.2.input.line 0 r.1 × (r.2.input.producers ≡ 1)) }
     ensures rooms { IfOk result (λ r. (r.1.input.room ≡ capacities.ready) × (r.2.input.room ≡ capacities.decided)) }
+    ensures outlets { IfOk result (λ r. (r.1.outlets ≡ said.items) × (r.2.outlets ≡ answers.items)) }
     ensures only_memory { IsOkUnless result Fault.NoMemory }
 {
     let (tx, ready) = ready_of(alloc, usize::from(capacities.ready))?;
     let (decided, rx) = decided_of(alloc, usize::from(capacities.decided))?;
-    let slot = make_slot(alloc, me, set, peers, outboxes, ready, decided)?;
-    let apply = make_apply(alloc, me, outboxes, rx)?;
-    Ok((tx, slot, apply))
+    let slot = make_slot(alloc, me, set, peers, said, ready, decided)?;
+    Ok((tx, slot, applier(alloc, me, answers, rx)))
 }
 
 /// The stages of a node behind its inbox, which carried nothing yet.
@@ -247,21 +229,28 @@ fn make_stages(
     set: QuorumSet,
     peers: &[NodeId],
     capacities: Capacities,
-    outboxes: &[Arc<SharedOutbox>],
+    outlets: Outlets,
     rx: InboxRx,
 ) -> Result<(PendWorker, SlotWorker, ApplyWorker), Fault>
+    requires unused { HavePutNothing outlets.pend.items × HavePutNothing outlets.slot.items × HavePutNothing outlets.apply.items }
     requires few { length peers.now ≤ 7 }
     requires sane { IsSane set }
     requires room { HaveRoom capacities }
     requires inbox { (rx.got ≡ []) × (rx.producers ≡ length peers.now + 1) × (rx.room ≡ capacities.inbox) }
     ensures stages { IfOk result (λ r. AreStages me set peers.now capacities r.0 r.1 r.2) }
     ensures inbox { IfOk result (λ r. r.0.input ≡ rx) }
+    ensures outlets { IfOk result (λ r. (r.0.outlets ≡ outlets.pend.items) × (r.1.outlets ≡ outlets.slot.items) × (r.2.outlets ≡ outlets.apply.items)) }
     ensures only_memory { IsOkUnless result Fault.NoMemory }
 {
+    let Outlets {
+        pend: replies,
+        slot: said,
+        apply: answers,
+    } = outlets;
     let set = Arc::new(alloc, sane(set)?)?;
     let again = Arc::try_clone(&set)?;
-    let (tx, slot, apply) = make_last(alloc, me, again, peers, capacities, outboxes)?;
-    let pend = make_pend(alloc, me, set, peers, outboxes, rx, tx)?;
+    let (tx, slot, apply) = make_last(alloc, me, again, peers, capacities, said, answers)?;
+    let pend = make_pend(alloc, me, set, peers, replies, rx, tx)?;
     Ok((pend, slot, apply))
 }
 
@@ -271,11 +260,13 @@ fn make_lanes(
     me: NodeId,
     peers: &[NodeId],
     capacities: Capacities,
+    keeps: bool,
 ) -> Result<(Vec<Lane>, LocalTx, InboxRx), Fault>
     requires few { length peers.now ≤ 7 }
     requires room { HaveRoom capacities }
     ensures count { IfOk result (λ r. length r.0.items ≡ length peers.now) }
     ensures lanes { IfOk result (λ r. AreLanes me peers.now r.2.line capacities.link r.0.items × AreUnused r.0.items) }
+    ensures keeps { IfOk result (λ r. AllKeep keeps r.0.items) }
     ensures local { IfOk result (λ r. r.1 ≡ fresh r.2.line (length peers.now)) }
     ensures inbox { IfOk result (λ r. (r.2.got ≡ []) × (r.2.producers ≡ length peers.now + 1) × (r.2.room ≡ capacities.inbox)) }
     ensures only_memory { IsOkUnless result Fault.NoMemory }
@@ -284,19 +275,23 @@ fn make_lanes(
     let Some(local) = ends.pop() else {
         unreachable!()
     };
-    let lanes = lanes(alloc, me, peers, usize::from(capacities.link), &rx, ends)?;
+    let room = usize::from(capacities.link);
+    let lanes = lanes(alloc, me, peers, room, &rx, ends, keeps)?;
     Ok((lanes, LocalTx::new(local), rx))
 }
 
-/// A node of these peers, whose channels carried nothing yet.
+/// A node of these peers, whose channels carried nothing yet, and by whose outlets nothing was put. Where `keeps` is set, each link's reader
+/// keeps what it receives.
 pub fn make_parts(
     alloc: Global,
     me: NodeId,
     set: QuorumSet,
     peers: &[NodeId],
     capacities: Capacities,
-    outboxes: &[Arc<SharedOutbox>],
+    outlets: Outlets,
+    keeps: bool,
 ) -> Result<Parts, Fault>
+    requires unused { HavePutNothing outlets.pend.items × HavePutNothing outlets.slot.items × HavePutNothing outlets.apply.items }
     requires few { length peers.now ≤ 7 }
     requires sane { IsSane set }
     requires room { HaveRoom capacities }
@@ -304,11 +299,13 @@ pub fn make_parts(
     ensures lanes { IfOk result (λ p. AreLanes me peers.now p.pend.input.line capacities.link p.lanes.items) }
     ensures local { IfOk result (λ p. IsLocal peers.now p.pend p.local) }
     ensures stages { IfOk result (λ p. AreStages me set peers.now capacities p.pend p.slot p.apply) }
+    ensures outlets { IfOk result (λ p. (p.pend.outlets ≡ outlets.pend.items) × (p.slot.outlets ≡ outlets.slot.items) × (p.apply.outlets ≡ outlets.apply.items)) }
     ensures unused { IfOk result (λ p. AreUnused p.lanes.items × (p.local.sent ≡ [])) }
+    ensures keeps { IfOk result (λ p. AllKeep keeps p.lanes.items) }
     ensures only_memory { IsOkUnless result Fault.NoMemory }
 {
-    let (lanes, local, rx) = make_lanes(alloc, me, peers, capacities)?;
-    let (pend, slot, apply) = make_stages(alloc, me, set, peers, capacities, outboxes, rx)?;
+    let (lanes, local, rx) = make_lanes(alloc, me, peers, capacities, keeps)?;
+    let (pend, slot, apply) = make_stages(alloc, me, set, peers, capacities, outlets, rx)?;
     Ok(Parts {
         lanes,
         local,

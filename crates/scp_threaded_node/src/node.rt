@@ -1,26 +1,27 @@
 //! A node that runs: each of its workers in a thread of its own.
-ghost use Rattle.std.specs.Prelude.{◌≡◌, ◌<◌, ◌+◌, ◌∷◌, ◌++◌, ℕ, Bool, List, [], length, IfOk, IsOkUnless, is_none};
+ghost use Rattle.std.specs.Prelude.{◌≡◌, ◌<◌, ◌+◌, ◌∷◌, ◌++◌, ℕ, Bool, List, [], length, map, IfOk, IsOkUnless, is_none};
 ghost use Rattle.std.specs.Thread.{IsSync};
 ghost use Rattle.scp_types.specs.declared.names.NodeId.{NodeId};
 ghost use Rattle.scp_quorum.specs.QuorumTree.{QuorumTree};
 ghost use Rattle.scp_script.specs.declared.command.Capacities.{Capacities};
 ghost use Rattle.scp_wire.specs.declared.link.Inbound.{Inbound};
 ghost use Rattle.scp_ends.specs.Ends.{Line};
+ghost use Rattle.scp_threaded_node.specs.Outlets.{given_to, keeps_from, keeps_in, taker_of, taker_in};
 ghost use Rattle.scp_threaded_node.specs.Seats.{AreLanes, AreRunning, AreUnused, IsDriven, AreDriven, AreStages, IsLocal, Runs, tail_of};
-ghost use Rattle.scp_threaded_node.specs.Sources.{AreSources};
+ghost use Rattle.scp_threaded_node.specs.Sources.{AreSources, IsFresh, AreFresh, taker_from};
 
 use crate::make::{Lane, Parts};
 use crate::starting::{
     ApplyThread, CourierThread, PendThread, ReaderThread, SlotThread, start_courier, start_worker,
 };
 use scp_courier::Courier;
+use scp_desk::Taker;
 use scp_ends::{LinkTx, LocalTx};
 use scp_gate::Gate;
-use scp_outbox::SharedOutbox;
 use scp_types::{Fault, NodeId};
 use scp_workers::{ApplyWorker, SlotWorker};
 use std::alloc::Global;
-use std::sync::{Arc, Wait};
+use std::sync::Wait;
 use std::thread::{Scope, Threads};
 
 /// Who sends on a link.
@@ -49,12 +50,12 @@ pub struct Node {
     pub apply: ApplyThread,
 }
 
-/// What a courier is told: its node, the number of the link among that node's, and the outbox; or nothing, where the script sends.
+/// What a courier is told: its node, the number of the link among that node's, and its end of the outbox.
 #[derive(Drop)]
 pub struct Source {
     pub node: NodeId,
     pub link: u8,
-    pub outbox: Arc<SharedOutbox>,
+    pub taker: Taker,
 }
 
 /// Starts what sends on a link.
@@ -67,14 +68,16 @@ fn start_tail<'s, E, R: Threads + Wait + Sync, G: Gate + Sync>(
     source: Option<Source>,
 ) -> Result<Tail, Fault>
     requires unused { tail.tail.sent ≡ [] }
+    requires fresh { IsFresh source }
     ensures tail { IfOk result (λ t. tail_of t ≡ tail) }
+    ensures courier { IfOk result (λ t. taker_of t ≡ taker_from source) }
     ensures driven { IfOk result (IsDriven (is_none source) []) }
     ensures only_memory { IsOkUnless result Fault.NoMemory }
 {
     match source {
         None => Ok(Tail::Script(tail)),
-        Some(Source { node, link, outbox }) => {
-            let courier = Courier::new(alloc, node, link, outbox, tail);
+        Some(Source { node, link, taker }) => {
+            let courier = Courier::new(alloc, node, link, taker, tail);
             Ok(Tail::Courier(start_courier(scope, rt, gate, courier)?))
         }
     }
@@ -90,9 +93,11 @@ fn start_lane<'s, E, R: Threads + Wait + Sync, G: Gate + Sync>(
     source: Option<Source>,
 ) -> Result<Running, Fault>
     requires unused { lane.tail.tail.sent ≡ [] }
+    requires fresh { IsFresh source }
     ensures tail { IfOk result (λ x. tail_of x.tail ≡ lane.tail) }
     ensures reader { IfOk result (λ x. x.reader.promise.0.value ≡ lane.reader) }
     ensures driven { IfOk result (λ x. IsDriven (is_none source) [] x.tail) }
+    ensures courier { IfOk result (λ x. taker_in x ≡ taker_from source) }
     ensures only_memory { IsOkUnless result Fault.NoMemory }
 {
     let Lane { tail, reader } = lane;
@@ -124,10 +129,13 @@ fn start_lanes<'s, E, R: Threads + Wait + Sync, G: Gate + Sync>(
 ) -> Result<Vec<Running>, Fault>
     requires sync { IsSync R.row × IsSync G.row }
     requires sources { length sources.items ≡ length lanes.items }
+    requires fresh { AreFresh sources.items }
     requires unused { AreUnused lanes.items }
     ensures count { IfOk result (λ xs. length xs.items ≡ length lanes.items) }
     ensures lanes { (me : NodeId) → (peers : List NodeId) → (inbox : Line Inbound) → (room : ℕ) → AreLanes me peers inbox room lanes.items → IfOk result (λ xs. AreRunning me peers inbox room xs.items) }
     ensures driven { (driven : ℕ → Bool) → AreSources driven sources.items → IfOk result (λ xs. AreDriven driven (λ i. []) xs.items) }
+    ensures couriers { IfOk result (λ xs. map taker_in xs.items ≡ map taker_from sources.items) }
+    ensures keeps { IfOk result (λ xs. map keeps_in xs.items ≡ map keeps_from lanes.items) }
     ensures only_memory { IsOkUnless result Fault.NoMemory }
 {
     let mut lanes = lanes;
@@ -170,10 +178,13 @@ pub fn start<'s, E, R: Threads + Wait + Sync, G: Gate + Sync>(
     sources: Vec<Option<Source>>,
 ) -> Result<Node, Fault>
     requires sources { length sources.items ≡ length parts.lanes.items }
+    requires fresh { AreFresh sources.items }
     requires unused { AreUnused parts.lanes.items }
     ensures runs { (me : NodeId) → (set : QuorumTree) → (peers : List NodeId) → (caps : Capacities) → length parts.lanes.items ≡ length peers → AreLanes me peers parts.pend.input.line caps.link parts.lanes.items → IsLocal peers parts.pend parts.local → AreStages me set peers caps parts.pend parts.slot parts.apply → IfOk result (Runs me set peers caps) }
     ensures local { IfOk result (λ node. node.local ≡ parts.local) }
     ensures driven { (driven : ℕ → Bool) → AreSources driven sources.items → IfOk result (λ node. AreDriven driven (λ i. []) node.lanes.items) }
+    // Each worker has the ends of outboxes that it was given, and each reader keeps what it receives where it was to.
+    ensures given { IfOk result (λ node. given_to node ≡ record { replies = parts.pend.outlets; said = parts.slot.outlets; answers = parts.apply.outlets; takers = map taker_from sources.items; keeps = map keeps_from parts.lanes.items }) }
     ensures only_memory { IsOkUnless result Fault.NoMemory }
 {
     let Parts {

@@ -5,10 +5,10 @@ ghost use Rattle.scp_courier.specs.Carrying as carrying;
 
 use scp_apply::Applier;
 use scp_courier::{Courier, CourierEnded};
+use scp_desk::ends_cross_threads;
 use scp_ends::{Any, InWindow, Law};
 use scp_gate::Gate;
 use scp_ledger::Onward;
-use scp_outbox::a_shared_outbox_crosses_threads;
 use scp_pending::{Pending, Ready};
 use scp_types::Fault;
 use scp_wire::{Inbound, LinkItem};
@@ -30,14 +30,14 @@ impl<T: Drop, L: Law<T>, U: Drop, M: Law<U>, S: Stage<T, L, U, M>> Promise<Ended
     ghost kept_by = { λ p e. Holds p.0.value e };
 }
 
-/// The same of a courier.
+/// The same of a courier: its link, and its end of the outbox.
 #[derive(Drop)]
 pub struct HoldsCourier(Snapshot<Courier>);
 
 impl Promise<CourierEnded> for HoldsCourier {
     ghost use Rattle.scp_courier.specs.Carrying as carrying;
 
-    ghost kept_by = { λ p e. carrying.HoldsLink p.0.value.link e };
+    ghost kept_by = { λ p e. carrying.Holds p.0.value e };
 }
 
 pub type WorkerThread<T, L, U, M, S> = PromisedHandle<
@@ -75,7 +75,7 @@ pub fn start_worker<
     ensures worker { IfOk result (λ h. h.promise.0.value ≡ worker) }
     ensures only_memory { IsOkUnless result Fault.NoMemory }
 {
-    a_shared_outbox_crosses_threads();
+    ends_cross_threads();
     let promise = HoldsEnds(Snapshot::of(&worker));
     match scope.spawn_with(
         promise,
@@ -95,17 +95,17 @@ pub fn start_courier<'s, E, R: Threads + Wait + Sync, G: Gate + Sync>(
     gate: &'s G,
     worker: Courier,
 ) -> Result<CourierThread, Fault>
-    requires unused { worker.given ≡ [] }
+    requires unused { worker.taker.gave ≡ [] }
     ensures worker { IfOk result (λ h. h.promise.0.value ≡ worker) }
     ensures only_memory { IsOkUnless result Fault.NoMemory }
 {
-    a_shared_outbox_crosses_threads();
+    ends_cross_threads();
     let promise = HoldsCourier(Snapshot::of(&worker));
     match scope.spawn_with(
         promise,
         move || -> CourierEnded
-            requires { worker.given ≡ [] }
-            ensures { carrying.HoldsLink worker.link result }
+            requires { worker.taker.gave ≡ [] }
+            ensures { carrying.Holds worker result }
         { worker.run(rt, gate) },
     ) {
         Ok(handle) => Ok(handle),

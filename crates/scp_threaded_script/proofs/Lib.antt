@@ -1,7 +1,5 @@
-mod Each
 mod Nodes
 mod Peers
-mod Places
 mod Links
 mod Sending
 mod Telling
@@ -11,3 +9,8 @@ mod Standing
 pub mod Ending
 mod Faults
 pub mod Waiting
+mod Seating
+mod Travelling
+mod Giving
+mod Starting
+mod Keeping

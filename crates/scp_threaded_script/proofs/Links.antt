@@ -9,39 +9,11 @@ use Rattle.scp_script.specs.Nodes.{id_of, peers_of}
 use Rattle.scp_script.specs.Script.{is_link}
 use Rattle.scp_script.proofs.Peers.{peers_more}
 use Rattle.scp_threaded_script.specs.Lines.{link_of, peer_at}
+use Rattle.scp_desks.proofs.Peers.{place_of_peer}
 use Rattle.scp_threaded_script.proofs.Peers.{peer_count}
 
 pub place_if : (from to : ℕ) (b : Bool) → nat_lt from to ≡ b → link_of from to ≡ (if b then from - 1 else from - 2)
 place_if from to b e = ap (λ (c : Bool). if c then from - 1 else from - 2) e
-
-peer_if : (place to : ℕ) (b : Bool) → nat_lt (place + 1) to ≡ b → peer_at place to ≡ (if b then place + 1 else place + 2)
-peer_if place to b e = ap (λ (c : Bool). if c then place + 1 else place + 2) e
-
--- at a node's place stands that node
-pub peer_of_place : (from to : ℕ) → 1 ≤ from → 1 ≤ to → from ≢ to → peer_at (link_of from to) to ≡ from
-peer_of_place from to one some apart = by (nat_lt from to) refl
-  where
-    by : (b : Bool) → nat_lt from to ≡ b → peer_at (link_of from to) to ≡ from
-    by true e =
-        let lt : from < to = grind (arith, nat_tests, e) in
-        let next : nat_lt (from - 1 + 1) to ≡ true = grind (arith, nat_tests, lt, one) in
-        ap (λ n. peer_at n to) (place_if from to true e) ∙ peer_if (from - 1) to true next ∙ omega (arith, one)
-    by false e =
-        let le : to ≤ from = grind (arith, nat_tests, e) in
-        let lt : to < from = omega (arith, le, apart) in
-        let next : nat_lt (from - 2 + 1) to ≡ false = grind (arith, nat_tests, lt, some) in
-        ap (λ n. peer_at n to) (place_if from to false e) ∙ peer_if (from - 2) to false next ∙ omega (arith, lt, some)
-
--- and each place is that of the node that stands there
-pub place_of_peer : (place to : ℕ) → link_of (peer_at place to) to ≡ place
-place_of_peer place to = by (nat_lt (place + 1) to) refl
-  where
-    by : (b : Bool) → nat_lt (place + 1) to ≡ b → link_of (peer_at place to) to ≡ place
-    by true e = ap (λ n. link_of n to) (peer_if place to true e) ∙ place_if (place + 1) to true e ∙ omega arith
-    by false e =
-        let le : to ≤ place + 1 = grind (arith, nat_tests, e) in
-        let next : nat_lt (place + 2) to ≡ false = grind (arith, nat_tests, le) in
-        ap (λ n. link_of n to) (peer_if place to false e) ∙ place_if (place + 2) to false next ∙ omega arith
 
 -- ---- which link it is
 

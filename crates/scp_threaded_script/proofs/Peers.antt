@@ -1,5 +1,6 @@
 -- A node of a script has a link from each other node, at its place.
-use Rattle.std.proofs.Common.{◌≡◌, ◌≢◌, ◌≤◌, ◌+◌, ℕ, suc, zero, Bool, true, false, not, cond, List, [], ◌∷◌, ◌++◌, length, filter, map, nat_eq, get_or, ◌∙◌, sym, ap, subst, arith, ⊎_elim}
+use Rattle.std.specs.Prelude.{Some, slice_get}
+use Rattle.std.proofs.Common.{◌≡◌, ◌≢◌, ◌≤◌, ◌<◌, ◌+◌, ℕ, suc, zero, Bool, true, false, not, cond, List, [], ◌∷◌, ◌++◌, length, filter, map, nat_eq, get_or, ◌∙◌, sym, ap, subst, arith, ⊎_elim}
 use Rattle.std.proofs.lemmas.Bool.{cases_eq}
 use Rattle.std.proofs.lemmas.Bool.Decides.{nat_tests}
 use Rattle.std.proofs.lemmas.List.{map-append, append-nil}
@@ -8,7 +9,8 @@ use Rattle.scp_types.specs.declared.names.NodeId.{NodeId}
 use Rattle.scp_script.specs.Nodes.{numbers, id_of, peers_of}
 use Rattle.scp_pending.specs.Peers.{AreApart}
 use Rattle.scp_threaded_script.specs.Lines.{peer_at}
-use Rattle.scp_threaded_script.proofs.Places.{ArePeers, peers_none, peers_more, peers_same, peers_all, place_apart}
+use Rattle.scp_threaded_script.proofs.Seating.{there_is}
+use Rattle.scp_desks.proofs.Peers.{ArePeers, peers_none, peers_more, peers_same, peers_all, place_apart}
 
 -- one more node is one more peer, or the node itself
 one_more : (n node : ℕ) → peers_of (suc n) node ≡ peers_of n node ++ map id_of (cond (not (nat_eq (suc n) node)) (suc n ∷ []) [])
@@ -50,3 +52,10 @@ pub peers_apart : (count node : ℕ) → 1 ≤ node → AreApart (peers_of count
 peers_apart count node one l m peer at_l at_m =
     let f = first_peers count node one in
     place_apart node l m (same_number (peer_at l node) (peer_at m node) (sym (f.each l peer at_l) ∙ f.each m peer at_m))
+
+-- each at its place
+pub peer_is : (count node place : ℕ) → 1 ≤ node → node ≤ count → place + 1 < count → slice_get (peers_of count node) place ≡ Some (id_of (peer_at place node))
+peer_is count node place one most within =
+    let peers = peers_of count node in
+    let p = there_is peers place (omega (arith, within, peer_count count node one most)) in
+    p.1 ∙ ap (λ (id : NodeId). Some id) ((first_peers count node one).each place p.0 p.1)

@@ -18,7 +18,8 @@ use Rattle.scp_threaded_script.specs.Lines.{peer_at, item_by, items_on, command_
 use Rattle.scp_threaded_script.specs.inside.Played.{AllRun, AreTold, AreItemsSent, HaveDone, IsNoLink, TellsAt, IsCommandOf}
 use Rattle.scp_threaded_script.specs.Reported.{AllRunSoFar}
 use Rattle.scp_threaded_node.proofs.Staying.{told_runs}
-use Rattle.scp_threaded_node.proofs.Changing.{set_length, each_set}
+use Rattle.scp_desks.proofs.Lists.{set_length}
+use Rattle.scp_threaded_node.proofs.Changing.{each_set}
 use Rattle.scp_threaded_script.proofs.Sending.{items_more}
 
 commands_more : (node : ℕ) (done : List Command) (command : Command) → commands_for node (done ++ command ∷ []) ≡ commands_for node done ++ command_by node command

@@ -1,5 +1,5 @@
 -- What the lines of a script send: on a link that the script drives, and to a node.
-use Rattle.std.specs.Prelude.{ℕ, ◌+◌, ◌-◌, Bool, false, List, [], ◌∷◌, ◌++◌, flat_map, if◌then◌else◌, nat_eq, nat_lt}
+use Rattle.std.specs.Prelude.{ℕ, ◌+◌, Bool, false, List, [], ◌∷◌, ◌++◌, flat_map, if◌then◌else◌, nat_eq}
 use Rattle.std.specs.List.{list_any}
 use Rattle.scp_wire.specs.declared.link.Command.TheVariants as local
 use Rattle.scp_wire.specs.declared.link.Inbound.{Inbound}
@@ -7,18 +7,11 @@ use Rattle.scp_wire.specs.declared.link.Inbound.TheVariants.{Local}
 use Rattle.scp_wire.specs.declared.link.LinkItem.{LinkItem}
 use Rattle.scp_wire.specs.declared.link.LinkItem.TheVariants as item
 use Rattle.scp_wire.specs.Connections.{conn_at}
+pub use Rattle.scp_desks.specs.Places.{link_of, peer_at}
 use Rattle.scp_script.specs.declared.command.Command.{Command}
 use Rattle.scp_script.specs.declared.command.Command.TheVariants.{Caps, Nodes, Set, Open, Close, Send, Propose, Round, Timer, Tick, Ask, Settle, Wait, Report}
 use Rattle.scp_script.specs.Nodes.{id_of}
 use Rattle.scp_script.specs.Script.{is_link, lives}
-
--- which link of a node comes from another: the place of that one among its peers
-abbrev pub link_of : ℕ → ℕ → ℕ
-link_of from to = if nat_lt from to then from - 1 else from - 2
-
--- the peer at a place
-abbrev pub peer_at : ℕ → ℕ → ℕ
-peer_at place to = if nat_lt (place + 1) to then place + 1 else place + 2
 
 -- ---- links
 

@@ -1,10 +1,13 @@
 -- What is told of the nodes of a script when its lines are done.
-use Rattle.std.specs.Prelude.{◌≡◌, ℕ, ◌+◌, ◌≤◌, List, [], ◌∷◌, length, Option, None, Some, slice_get}
+use Rattle.std.specs.Prelude.{◌≡◌, ℕ, ◌+◌, ◌-◌, ◌≤◌, Bool, false, List, [], ◌∷◌, length, Option, None, Some, is_some, slice_get}
+use Rattle.std.specs.List.{AllByRecursion}
 use Rattle.std.specs.Option.{option_or}
 use Rattle.scp_types.specs.declared.fault.Fault.{Fault}
 use Rattle.scp_types.specs.declared.fault.Fault.TheVariants.{NoMemory, Full, NotOpen, Refused}
 use Rattle.scp_types.specs.declared.fault.Stage.TheVariants.{Reader, Pend}
+pub use Rattle.scp_desks.specs.Places.{IsOneOf, AreTwoOf}
 use Rattle.scp_gather.specs.declared.gathering.NodeReport.{NodeReport}
+use Rattle.scp_gather.specs.Left.{Left}
 use Rattle.scp_script.specs.declared.command.Command.{Command}
 use Rattle.scp_script.specs.Nodes.{capacities_in, id_of, peers_of, set_at}
 use Rattle.scp_script.specs.Script.{node_count, lives, is_open}
@@ -14,7 +17,8 @@ use Rattle.scp_threaded_node.specs.Seats.{Each, Runs}
 use Rattle.scp_threaded_node.specs.Ended.{IsEnded}
 use Rattle.scp_threaded_node.specs.Faults.{NodeEnd, IsNodeEnd, fault_of}
 use Rattle.scp_threaded_script.specs.declared.running.NodeFault.{NodeFault}
-use Rattle.scp_threaded_script.specs.Lines.{peer_at, driven_to, items_to, commands_for}
+use Rattle.scp_threaded_script.specs.Lines.{peer_at, is_driven, driven_to, items_to, commands_for}
+use Rattle.scp_threaded_script.specs.Travels.{Travels}
 
 -- how the link between two nodes stands behind the lines
 abbrev pub stood_on : List Command → ℕ → ℕ → Stood
@@ -24,27 +28,33 @@ stood_on commands from to = record { lives = lives from to commands; is_open = i
 abbrev pub AreStood : List Command → ℕ → List Stood → Type 0
 AreStood commands to stood = (length stood + 1 ≡ node_count commands) × Each (λ i st. st ≡ stood_on commands (peer_at i to) to) stood
 
--- What is told of the node of this number holds its ledger, of what was sent to it. Its own commands are those of the lines, in their
+-- What is told of the node of this number, of which the threads left this, holds its ledger, of what was sent to it. Its own commands are those of the lines, in their
 -- order; over each link that the script drives went what the lines put on it, whole and in order; and each other link was opened and closed
 -- as often as the lines say, by a courier.
-pub record IsNodeReported (commands : List Command) (number : ℕ) (r : NodeReport) : Type 0 where
+pub record IsNodeReported (commands : List Command) (number : ℕ) (left : Left) (r : NodeReport) : Type 0 where
   pub stood : List Stood
   pub stood_are : AreStood commands number stood
-  pub ended : IsEnded (id_of number) (set_at number commands) (peers_of (node_count commands) number) (capacities_in commands) (commands_for number commands) (driven_to commands number) (items_to number commands) stood r
+  pub ended : IsEnded (id_of number) (set_at number commands) (peers_of (node_count commands) number) (capacities_in commands) (commands_for number commands) (driven_to commands number) (items_to number commands) stood left r
 
--- of nodes from the first on, and of all of them
-abbrev pub AreSoReported : List Command → List NodeReport → Type 0
-AreSoReported commands all = Each (λ i r. IsNodeReported commands (i + 1) r) all
+-- of nodes from the first on, of which the threads left this
+abbrev pub AreSoReported : List Command → List Left → List NodeReport → Type 0
+AreSoReported commands lefts all = Each (λ i r. (left : Left) × (slice_get lefts i ≡ Some left) × IsNodeReported commands (i + 1) left r) all
 
--- one report of each node of the script, from the first on, each of the node that the script gives
-abbrev pub AreNodesReported : List Command → List NodeReport → Type 0
-AreNodesReported commands all = (length all ≡ node_count commands) × AreSoReported commands all
+-- One report of each node of the script, from the first on, each of the node that the script gives; and what travelled over each link that the
+-- script doesn't drive.
+pub record AreNodesReported (commands : List Command) (all : List NodeReport) : Type 0 where
+  pub count : length all ≡ node_count commands
+  pub lefts : List Left
+  pub lefts_count : length lefts ≡ node_count commands
+  pub reported : AreSoReported commands lefts all
+  pub travels : (from to : ℕ) → AreTwoOf (node_count commands) from to → is_driven commands from to ≡ false
+      → (sender receiver : Left) → slice_get lefts (from - 1) ≡ Some sender → slice_get lefts (to - 1) ≡ Some receiver → Travels commands from to sender receiver
+
+-- each report tells what came over each of its links, or over none
+abbrev pub AreAllKept : Bool → List NodeReport → Type 0
+AreAllKept keeps all = Each (λ i r. AllByRecursion (λ row. is_some row ≡ keeps) r.came.items) all
 
 -- ---- why nothing is told
-
--- a node of so many
-abbrev pub IsOneOf : ℕ → ℕ → Type 0
-IsOneOf count node = (1 ≤ node) × (node ≤ count)
 
 -- nodes of a script from the first on, each with all others as its peers
 abbrev pub AllRunSoFar : List Command → List Node → Type 0

@@ -4,7 +4,11 @@
 //! - each node holds its ledger, of what was sent to it;
 //! - over each link that the script drives went what the lines put on it, whole and in order, and nothing else;
 //! - each node's commands are those of the lines, in order;
-//! - each other link was opened and closed as often as the lines say, and all that went over it spells messages.
+//! - each other link was opened and closed as often as the lines say, and all that went over it spells messages;
+//! - over each link between two nodes went, in order, what the sender's outbox for it gave of what the sender's stages handed out, and just
+//!   that reached the receiver: so each message has its ground in what the sender took, wrote, decided and applied, and each statement is
+//!   newer than those of its slot and kind before it (`Travels`);
+//! - where the reports are to tell it, each tells all that came over each of its node's links.
 //!
 //! And of the lines: which `wait` lines gave up. And of each link how many own statements were lost, as its outbox counts them.
 //!

@@ -5,7 +5,8 @@ ghost use Rattle.scp_script.specs.declared.command.Command.{Command};
 ghost use Rattle.scp_script.specs.declared.command.Command.TheVariants as script;
 ghost use Rattle.scp_script.specs.Nodes.{NamesNodes};
 ghost use Rattle.scp_script.specs.Script.{AreAdmitted};
-ghost use Rattle.scp_threaded_script.specs.inside.Outlets.{AreOutboxes};
+ghost use Rattle.scp_desks.specs.Table.{AreRows};
+ghost use Rattle.scp_threaded_script.specs.inside.Outlets.{AreSameMarkers, all_given};
 ghost use Rattle.scp_threaded_script.specs.inside.Played.{HaveDone, HaveLanes, AllRun, AreTwoOf, IsThere, IsNoLink, TellsAt, ActsOn, AreUnchanged, IsCommandOf};
 ghost use Rattle.scp_threaded_script.specs.Reported.{IsLineFault, IsOneOf};
 ghost use Rattle.scp_threaded_script.specs.Waits.{AreWaits};
@@ -16,12 +17,14 @@ ghost use Rattle.scp_threaded_node.specs.declared.node.Tail.{Tail};
 ghost use Rattle.scp_threaded_node.specs.Acting.{IsActFault};
 
 use crate::gate::Counting;
-use crate::outboxes::{leave, link_of, outbox_of};
+use crate::outboxes::leave_at;
 use crate::running::NodeFault;
+use scp_desk::Marker;
+use scp_desks::link_of;
 use scp_gate::Gate;
 use scp_outbox::Mark;
 use scp_script::Command;
-use scp_threaded_node::{Act, Node, Outboxes, act_at, flush, is_carried_at, tell};
+use scp_threaded_node::{Act, Node, act_at, flush, is_carried_at, tell};
 use scp_types::{Fault, Slot};
 use scp_wire::{Bytes, Command as LocalCommand};
 use std::sync::Wait;
@@ -118,7 +121,7 @@ fn has_courier(nodes: &Vec<Node>, from: u8, to: u8) -> bool
 fn drive<R: Wait>(
     rt: &R,
     nodes: &mut Vec<Node>,
-    all: &[Outboxes],
+    markers: &mut Vec<Vec<Marker>>,
     from: u8,
     to: u8,
     done: Act,
@@ -127,13 +130,14 @@ fn drive<R: Wait>(
     requires link { AreTwoOf (length nodes.old.items) from to }
     requires lanes { HaveLanes nodes.old.items }
     requires few { length nodes.old.items ≤ 8 }
-    requires outboxes { AreOutboxes (length nodes.old.items) all.now }
+    requires markers { AreRows (length nodes.old.items) markers.old.items }
     ensures acts { OnOk result (ActsOn nodes.old.items from to done nodes.new.items) }
     ensures same { OnErr result (AreUnchanged nodes.old.items nodes.new.items) }
     ensures given_up { IfErr result (λ e. IsLineFault (length nodes.old.items) e.node e.fault) }
+    ensures markers { AreSameMarkers markers.old.items markers.new.items }
 {
     if has_courier(nodes, from, to) {
-        leave(rt, outbox_of(all, from, to), left)?;
+        leave_at(rt, markers, from, to, left)?;
     }
     act_on_link(rt, nodes, from, to, done)
 }
@@ -147,6 +151,7 @@ fn tell_line<R: Wait>(rt: &R, nodes: &mut Vec<Node>, command: &Command) -> Resul
     ensures runs { (commands done : List Command) → HaveDone commands done nodes.old.items → AllRun commands nodes.new.items }
     ensures done { OnOk result ((commands done : List Command) → HaveDone commands done nodes.old.items → HaveDone commands (done ++ command.now ∷ []) nodes.new.items) }
     ensures given_up { IfErr result (λ e. IsLineFault (length nodes.old.items) e.node e.fault) }
+    ensures given { all_given nodes.new.items ≡ all_given nodes.old.items }
 {
     match command_of(command)? {
         Some((number, local)) => tell_node(rt, nodes, number, local),
@@ -158,38 +163,42 @@ fn tell_line<R: Wait>(rt: &R, nodes: &mut Vec<Node>, command: &Command) -> Resul
 fn open<R: Wait>(
     rt: &R,
     nodes: &mut Vec<Node>,
-    all: &[Outboxes],
+    markers: &mut Vec<Vec<Marker>>,
     from: u8,
     to: u8,
 ) -> Result<(), NodeFault>
     requires link { AreTwoOf (length nodes.old.items) from to }
     requires lanes { HaveLanes nodes.old.items }
     requires few { length nodes.old.items ≤ 8 }
-    requires outboxes { AreOutboxes (length nodes.old.items) all.now }
+    requires markers { AreRows (length nodes.old.items) markers.old.items }
     ensures runs { (commands done : List Command) → HaveDone commands done nodes.old.items → AllRun commands nodes.new.items }
     ensures done { OnOk result ((commands done : List Command) → HaveDone commands done nodes.old.items → HaveDone commands (done ++ script.Open from to ∷ []) nodes.new.items) }
     ensures given_up { IfErr result (λ e. IsLineFault (length nodes.old.items) e.node e.fault) }
+    ensures given { all_given nodes.new.items ≡ all_given nodes.old.items }
+    ensures markers { AreSameMarkers markers.old.items markers.new.items }
 {
-    drive(rt, nodes, all, from, to, Act::Open, Mark::Opened)
+    drive(rt, nodes, markers, from, to, Act::Open, Mark::Opened)
 }
 
 /// Closes a link.
 fn close<R: Wait>(
     rt: &R,
     nodes: &mut Vec<Node>,
-    all: &[Outboxes],
+    markers: &mut Vec<Vec<Marker>>,
     from: u8,
     to: u8,
 ) -> Result<(), NodeFault>
     requires link { AreTwoOf (length nodes.old.items) from to }
     requires lanes { HaveLanes nodes.old.items }
     requires few { length nodes.old.items ≤ 8 }
-    requires outboxes { AreOutboxes (length nodes.old.items) all.now }
+    requires markers { AreRows (length nodes.old.items) markers.old.items }
     ensures runs { (commands done : List Command) → HaveDone commands done nodes.old.items → AllRun commands nodes.new.items }
     ensures done { OnOk result ((commands done : List Command) → HaveDone commands done nodes.old.items → HaveDone commands (done ++ script.Close from to ∷ []) nodes.new.items) }
     ensures given_up { IfErr result (λ e. IsLineFault (length nodes.old.items) e.node e.fault) }
+    ensures given { all_given nodes.new.items ≡ all_given nodes.old.items }
+    ensures markers { AreSameMarkers markers.old.items markers.new.items }
 {
-    drive(rt, nodes, all, from, to, Act::Close, Mark::Closed)
+    drive(rt, nodes, markers, from, to, Act::Close, Mark::Closed)
 }
 
 /// Sends bytes on a link that the script drives.
@@ -206,6 +215,7 @@ fn send<R: Wait>(
     ensures runs { (commands done : List Command) → HaveDone commands done nodes.old.items → AllRun commands nodes.new.items }
     ensures done { OnOk result ((commands done : List Command) → HaveDone commands done nodes.old.items → HaveDone commands (done ++ script.Send from to bytes.now ∷ []) nodes.new.items) }
     ensures given_up { IfErr result (λ e. IsLineFault (length nodes.old.items) e.node e.fault) }
+    ensures given { all_given nodes.new.items ≡ all_given nodes.old.items }
 {
     let bytes = bytes.copy()?;
     act_on_link(rt, nodes, from, to, Act::Send(bytes))
@@ -215,21 +225,23 @@ fn send<R: Wait>(
 fn act_on_line<R: Wait>(
     rt: &R,
     nodes: &mut Vec<Node>,
-    all: &[Outboxes],
+    markers: &mut Vec<Vec<Marker>>,
     command: &Command,
 ) -> Result<(), NodeFault>
     requires names { NamesNodes command.now }
     requires there { IsThere (length nodes.old.items) command.now }
     requires lanes { HaveLanes nodes.old.items }
     requires few { length nodes.old.items ≤ 8 }
-    requires outboxes { AreOutboxes (length nodes.old.items) all.now }
+    requires markers { AreRows (length nodes.old.items) markers.old.items }
     ensures runs { (commands done : List Command) → HaveDone commands done nodes.old.items → AllRun commands nodes.new.items }
     ensures done { OnOk result ((commands done : List Command) → HaveDone commands done nodes.old.items → HaveDone commands (done ++ command.now ∷ []) nodes.new.items) }
     ensures given_up { IfErr result (λ e. IsLineFault (length nodes.old.items) e.node e.fault) }
+    ensures given { all_given nodes.new.items ≡ all_given nodes.old.items }
+    ensures markers { AreSameMarkers markers.old.items markers.new.items }
 {
     match command {
-        Command::Open { from, to } => open(rt, nodes, all, *from, *to),
-        Command::Close { from, to } => close(rt, nodes, all, *from, *to),
+        Command::Open { from, to } => open(rt, nodes, markers, *from, *to),
+        Command::Close { from, to } => close(rt, nodes, markers, *from, *to),
         Command::Send { from, to, bytes } => send(rt, nodes, *from, *to, bytes),
         Command::Wait { node: _, things: _ } => Ok(()),
         _ => tell_line(rt, nodes, command),
@@ -295,7 +307,7 @@ fn wait_at_line<R: Wait, G: Gate>(
 pub fn act_all<R: Wait, G: Gate>(
     rt: &R,
     nodes: &mut Vec<Node>,
-    all: &[Outboxes],
+    markers: &mut Vec<Vec<Marker>>,
     gate: &Counting<G>,
     commands: &[Command],
     gave_up: &mut Vec<usize>,
@@ -304,17 +316,19 @@ pub fn act_all<R: Wait, G: Gate>(
     requires names { All NamesNodes commands.now }
     requires admitted { AreAdmitted [] commands.now }
     requires few { length nodes.old.items ≤ 8 }
-    requires outboxes { AreOutboxes (length nodes.old.items) all.now }
+    requires markers { AreRows (length nodes.old.items) markers.old.items }
     requires nodes { HaveDone commands.now [] nodes.old.items }
     ensures runs { AllRun commands.now nodes.new.items }
     ensures done { OnOk result (HaveDone commands.now commands.now nodes.new.items) }
     ensures given_up { IfErr result (λ e. IsLineFault (node_count commands.now) e.node e.fault) }
     ensures waits { AreWaits commands.now 0 gave_up.new.items }
+    ensures given { all_given nodes.new.items ≡ all_given nodes.old.items }
+    ensures markers { AreSameMarkers markers.old.items markers.new.items }
 {
     let mut place = 0;
     for command in commands {
         flush_before(nodes, gate, command);
-        act_on_line(rt, nodes, all, command)?;
+        act_on_line(rt, nodes, markers, command)?;
         wait_at_line(rt, gate, command, place, gave_up)?;
         place += 1;
     }

@@ -1,29 +1,22 @@
-//! The outboxes of all nodes, and the marks that lines leave there.
-ghost use Rattle.std.specs.Prelude.{◌≡◌, ◌≤◌, ◌≢◌, ◌+◌, length, IfOk, IsOkUnless};
+//! Which links the script drives, how the lines leave them, and the marks that lines leave in outboxes.
+ghost use Rattle.std.specs.Prelude.{◌≡◌, ◌≤◌, ◌<◌, length, map, IfOk, IsOkUnless};
+ghost use Rattle.scp_desks.specs.Places.{AreTwoOf};
+ghost use Rattle.scp_desks.specs.Table.{AreRows, desk_of};
 ghost use Rattle.scp_script.specs.Script.{opens, closes, lives, is_open};
-ghost use Rattle.scp_threaded_script.specs.Lines.{link_of, sends, is_driven};
-ghost use Rattle.scp_threaded_script.specs.inside.Outlets.{AreOutboxes};
+ghost use Rattle.scp_threaded_script.specs.Lines.{sends, is_driven};
+ghost use Rattle.scp_threaded_script.specs.inside.Outlets.{AreSameMarkers};
 ghost use Rattle.scp_threaded_script.specs.Reported.{stood_on};
 
 use crate::gate::MOST_YIELDS;
-use scp_outbox::{Mark, SharedOutbox};
+use scp_desk::{Marker, Putter};
+use scp_desks::{Outlets, link_of};
+use scp_outbox::Mark;
 use scp_script::Command;
-use scp_threaded_node::{Outboxes, Stood};
+use scp_threaded_node::Stood;
 use scp_types::Fault;
 use std::alloc::Global;
-use std::sync::{Arc, Wait};
+use std::sync::Wait;
 use std::thread;
-
-/// Which link of a node comes from another: the place of that one among its peers.
-pub fn link_of(from: u8, to: u8) -> u8
-    ensures { result ≡ link_of from to }
-{
-    if from < to {
-        from.saturating_sub(1)
-    } else {
-        from.saturating_sub(2)
-    }
-}
 
 /// Whether the line sends on the link.
 fn sends(command: &Command, from: u8, to: u8) -> bool
@@ -101,120 +94,109 @@ pub fn stood_of(commands: &[Command], from: u8, to: u8) -> Stood
     }
 }
 
-/// Outboxes for so many peers.
-fn outboxes_of(alloc: Global, peers: usize) -> Result<Outboxes, Fault>
-    ensures count { IfOk result (λ outboxes. length outboxes.items ≡ peers) }
-    ensures only_memory { IsOkUnless result Fault.NoMemory }
+/// Leaves a mark, where there is room. Says whether there was.
+fn is_left<R: Wait>(rt: &R, marker: &mut Marker, mark: Mark) -> bool
+    ensures { marker.new.desk ≡ marker.old.desk }
 {
-    let mut outboxes = Vec::new(alloc);
-    for _ in 0..peers {
-        outboxes.reserve(1)?;
-        outboxes.push_reserved(Arc::new(alloc, SharedOutbox::new(alloc)?)?);
+    match marker.mark(rt, mark) {
+        Ok(()) => true,
+        Err(_) => false,
     }
-    Ok(outboxes)
 }
 
-/// The outboxes of so many nodes, each a peer of all others.
-pub fn all_outboxes(alloc: Global, count: u8) -> Result<Vec<Outboxes>, Fault>
-    ensures all { IfOk result (λ all. AreOutboxes count all.items) }
-    ensures only_memory { IsOkUnless result Fault.NoMemory }
-{
-    let mut all = Vec::new(alloc);
-    for _ in 0..count {
-        all.reserve(1)?;
-        all.push_reserved(outboxes_of(alloc, usize::from(count.saturating_sub(1)))?);
-    }
-    Ok(all)
-}
-
-/// Leaves a mark. Where there is no room it is tried again after a yield, at most 1,000,000 times.
+/// Leaves a mark. Where there is no room it is tried again after a yield, 1,000,000 times.
 /// The one refusal is `Full`.
-pub fn leave<R: Wait>(rt: &R, outbox: &SharedOutbox, mark: Mark) -> Result<(), Fault>
+fn leave<R: Wait>(rt: &R, marker: &mut Marker, mark: Mark) -> Result<(), Fault>
+    ensures same { marker.new.desk ≡ marker.old.desk }
     ensures only { IsOkUnless result Fault.Full }
 {
     for _ in 0..MOST_YIELDS {
-        if outbox.mark(rt, mark).is_ok() {
+        if is_left(rt, marker, mark) {
             return Ok(());
         }
         thread::yield_now();
     }
-    outbox.mark(rt, mark)
+    Err(Fault::Full)
+}
+
+/// Leaves a mark in the outbox at a place, as `leave` does.
+fn leave_in<R: Wait>(rt: &R, row: &mut Vec<Marker>, place: usize, mark: Mark) -> Result<(), Fault>
+    requires place { place < length row.old.items }
+    ensures same { map desk_of row.new.items ≡ map desk_of row.old.items }
+    ensures only { IsOkUnless result Fault.Full }
+{
+    leave(rt, &mut row[place], mark)
+}
+
+/// Leaves a mark in the outbox of which the messages go from a node to another, as `leave` does.
+pub fn leave_at<R: Wait>(
+    rt: &R,
+    markers: &mut Vec<Vec<Marker>>,
+    from: u8,
+    to: u8,
+    mark: Mark,
+) -> Result<(), Fault>
+    requires rows { AreRows (length markers.old.items) markers.old.items }
+    requires two { AreTwoOf (length markers.old.items) from to }
+    requires few { length markers.old.items ≤ 8 }
+    ensures same { AreSameMarkers markers.old.items markers.new.items }
+    ensures only { IsOkUnless result Fault.Full }
+{
+    let place = usize::from(link_of(from, to));
+    leave_in(rt, &mut markers[usize::from(to - 1)], place, mark)
 }
 
 /// Leaves the last mark, as soon as there is room.
-fn stop<R: Wait>(rt: &R, outbox: &SharedOutbox) {
+fn stop<R: Wait>(rt: &R, marker: &mut Marker)
+    ensures { marker.new.desk ≡ marker.old.desk }
+{
     for _ in rt.forever() {
-        if outbox.mark(rt, Mark::Stop).is_ok() {
+        if is_left(rt, marker, Mark::Stop) {
             return;
         }
         thread::yield_now();
     }
 }
 
-/// What goes from a node to another.
-pub fn outbox_of(all: &[Outboxes], from: u8, to: u8) -> &Arc<SharedOutbox>
-    requires all { AreOutboxes (length all.now) all.now }
-    requires from { (1 ≤ from) × (from ≤ length all.now) }
-    requires to { (1 ≤ to) × (to ≤ length all.now) × (to ≢ from) }
+/// Stops what comes to a node from each other one.
+fn stop_to<R: Wait>(rt: &R, row: &mut Vec<Marker>)
+    ensures { map desk_of row.new.items ≡ map desk_of row.old.items }
 {
-    &all[usize::from(from - 1)][usize::from(link_of(to, from))]
-}
-
-/// Stops what goes from a node to another, where a courier carries it.
-fn stop_one<R: Wait>(rt: &R, all: &[Outboxes], commands: &[Command], from: u8, to: u8)
-    requires all { AreOutboxes (length all.now) all.now }
-    requires from { (1 ≤ from) × (from ≤ length all.now) }
-    requires to { (1 ≤ to) × (to ≤ length all.now) }
-{
-    if from != to && !is_driven(commands, from, to) {
-        stop(rt, outbox_of(all, from, to));
+    for marker in row.iter_mut() {
+        stop(rt, marker);
     }
 }
 
-/// Stops each outbox of a node that a courier carries.
-fn stop_from<R: Wait>(rt: &R, all: &[Outboxes], commands: &[Command], count: u8, from: u8)
-    requires all { AreOutboxes count all.now }
-    requires from { (1 ≤ from) × (from ≤ count) }
+/// Stops what goes from each node to each other one, whether a courier carries it or not.
+pub fn stop_all<R: Wait>(rt: &R, markers: &mut Vec<Vec<Marker>>)
+    ensures { AreSameMarkers markers.old.items markers.new.items }
 {
-    for index in 0..count {
-        stop_one(rt, all, commands, from, index + 1);
-    }
-}
-
-/// Stops each outbox that a courier carries.
-pub fn stop_all<R: Wait>(rt: &R, all: &[Outboxes], commands: &[Command], count: u8)
-    requires all { AreOutboxes count all.now }
-{
-    for index in 0..count {
-        stop_from(rt, all, commands, count, index + 1);
+    for row in markers.iter_mut() {
+        stop_to(rt, row);
     }
 }
 
 /// How many own statements were lost on each link of a node, as its outboxes count them.
-fn losses_of<R: Wait>(
-    rt: &R,
-    alloc: Global,
-    outboxes: &[Arc<SharedOutbox>],
-) -> Result<Vec<u64>, Fault>
-    ensures count { IfOk result (λ losses. length losses.items ≡ length outboxes.now) }
+fn losses_of<R: Wait>(rt: &R, alloc: Global, putters: &[Putter]) -> Result<Vec<u64>, Fault>
+    ensures count { IfOk result (λ losses. length losses.items ≡ length putters.now) }
     ensures only_memory { IsOkUnless result Fault.NoMemory }
 {
     let mut losses = Vec::new(alloc);
-    for outbox in outboxes {
-        losses.push(outbox.overwritten(rt))?;
+    for putter in putters {
+        losses.push(putter.overwritten(rt))?;
     }
     Ok(losses)
 }
 
 /// So of each node.
-pub fn all_losses<R: Wait>(rt: &R, alloc: Global, all: &[Outboxes]) -> Result<Vec<Vec<u64>>, Fault>
+pub fn all_losses<R: Wait>(rt: &R, alloc: Global, all: &[Outlets]) -> Result<Vec<Vec<u64>>, Fault>
     ensures count { IfOk result (λ losses. length losses.items ≡ length all.now) }
     ensures only_memory { IsOkUnless result Fault.NoMemory }
 {
     let mut losses = Vec::new(alloc);
-    for outboxes in all {
+    for outlets in all {
         losses.reserve(1)?;
-        losses.push_reserved(losses_of(rt, alloc, outboxes.as_slice())?);
+        losses.push_reserved(losses_of(rt, alloc, outlets.slot.as_slice())?);
     }
     Ok(losses)
 }

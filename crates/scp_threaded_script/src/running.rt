@@ -1,5 +1,5 @@
 //! Nodes of a script, each of whose stages runs in a thread of its own.
-ghost use Rattle.std.specs.Prelude.{◌≡◌, ◌≢◌, ◌≤◌, ◌+◌, ◌∷◌, ◌++◌, ℕ, [], List, All, IfOk, IfErr, OnOk, OnErr, IsOkUnless, MatchResult, Option, None, Ok, length, is_none};
+ghost use Rattle.std.specs.Prelude.{◌≡◌, ◌≤◌, ◌+◌, ◌⊎◌, ◌∷◌, ◌++◌, ℕ, [], true, List, All, IfOk, IfErr, OnOk, OnErr, IsOkUnless, MatchResult, Option, None, Ok, length, is_none};
 ghost use Rattle.std.specs.Option.{option_or};
 ghost use Rattle.std.specs.Result.{result_err};
 ghost use Rattle.scp_script.specs.declared.command.Command.{Command};
@@ -7,29 +7,37 @@ ghost use Rattle.scp_script.specs.Script.{AreAdmitted, node_count};
 ghost use Rattle.scp_script.specs.Nodes.{NamesNodes, capacities_in, id_of, peers_of, set_at};
 ghost use Rattle.scp_gather.specs.declared.gathering.NodeReport.{NodeReport};
 ghost use Rattle.scp_threaded_node.specs.Seats.{Runs, AreDriven};
-ghost use Rattle.scp_threaded_node.specs.Sources.{AreSources, HaveRoom};
+ghost use Rattle.scp_threaded_node.specs.Sources.{AreSources, HaveRoom, taker_from};
+ghost use Rattle.std.specs.Global.{Vec};
 ghost use Rattle.scp_threaded_script.specs.Lines.{is_driven, driven_to};
-ghost use Rattle.scp_threaded_script.specs.inside.Outlets.{AreOutboxes};
+ghost use Rattle.scp_threaded_script.specs.inside.Outlets.{AreSameMarkers, AreTakenFrom, IsKeeping, AreKeeping, IsSeated, AreSeated, all_given};
+ghost use Rattle.scp_threaded_script.specs.inside.Over.{AreOver};
+ghost use Rattle.scp_desk.specs.Ends.{MarkerView};
+ghost use Rattle.scp_desks.specs.Places.{Each};
+ghost use Rattle.scp_desks.specs.Table.{AreMade, AreRows, AreAllBack, AllCameOut, AreOutletsOf, IsTakerOf, HavePutNothing};
+ghost use Rattle.scp_threaded_node.specs.Outlets.{given_to};
 ghost use Rattle.scp_threaded_script.specs.inside.Ending.{HaveAllEnded, IsEndFault, IsNumbered, IsWhole};
 ghost use Rattle.scp_threaded_script.specs.inside.Played.{HaveDone, HaveDoneSoFar};
 ghost use Rattle.scp_threaded_script.specs.Waits.{AreWaits};
 ghost use Rattle.scp_threaded_script.specs.Reported.{AllRunSoFar};
-ghost use Rattle.scp_threaded_script.specs.Reported.{AreStood, AreSoReported, AreNodesReported, IsGivenUp, IsLineFault, IsToldOf, refused_at};
+ghost use Rattle.scp_threaded_script.specs.Reported.{AreStood, AreSoReported, AreNodesReported, AreAllKept, IsGivenUp, IsLineFault, IsToldOf, refused_at};
 ghost use Rattle.scp_threaded_script.specs.declared.running.NodeFault.{NodeFault};
 ghost use Rattle.scp_threaded_script.specs.inside.Reported.{AllStand};
 
 use crate::gate::{Counting, Lent};
 use crate::lines::act_all;
-use crate::outboxes::{
-    all_losses, all_outboxes, is_driven, link_of, outbox_of, stood_of, stop_all,
-};
+use crate::outboxes::{all_losses, is_driven, stood_of, stop_all};
+use scp_desk::{Marker, Taker};
+use scp_desks::{Made, Outlets, link_of, make_all, peer_at, take_all_back};
 use scp_gate::Gate;
 use scp_gather::NodeReport;
+use scp_grounds::what_is_handed_out_may_be_sent;
 use scp_script::{Command, capacities_of, count_of_nodes, id_from, peers_of_node, set_of_node};
-use scp_threaded_node::{Node, Outboxes, Source, Stood, end, make_parts, start};
+use scp_threaded_node::{Node, Over, Source, Stood, end, make_parts, start};
+use scp_travel::{what_is_carried_is_sent_out, what_is_read_is_the_senders_own};
 use scp_types::Fault;
-use std::alloc::Global;
-use std::sync::{Arc, Wait};
+use std::alloc::{AllocError, Global};
+use std::sync::Wait;
 use std::thread;
 use std::thread::{Scope, Threads};
 
@@ -50,76 +58,69 @@ impl From<Fault> for NodeFault {
     }
 }
 
-/// What sends on the link from a node to another, where the script doesn't.
-fn source_of(
-    all: &[Outboxes],
-    commands: &[Command],
-    from: u8,
-    to: u8,
-) -> Result<Option<Source>, Fault>
-    requires all { AreOutboxes (length all.now) all.now }
-    requires from { (1 ≤ from) × (from ≤ length all.now) }
-    requires to { (1 ≤ to) × (to ≤ length all.now) × (to ≢ from) }
-    ensures driven { IfOk result (λ source. is_none source ≡ is_driven commands.now from to) }
-    ensures only_memory { IsOkUnless result Fault.NoMemory }
+/// What sends on the link from a node to another, where the script doesn't: a courier, by this end of the link's outbox.
+fn source_of(taker: Taker, commands: &[Command], from: u8, to: u8) -> Option<Source>
+    ensures driven { is_none result ≡ is_driven commands.now from to }
+    ensures taker { (taker_from result ≡ None) ⊎ (taker_from result ≡ Some taker) }
 {
     if is_driven(commands, from, to) {
-        return Ok(None);
+        return None;
     }
-    Ok(Some(Source {
+    Some(Source {
         node: id_from(from),
         link: link_of(to, from),
-        outbox: Arc::try_clone(outbox_of(all, from, to))?,
-    }))
+        taker,
+    })
 }
 
-/// What sends on each link to a node.
+/// What sends on each link to a node; `takers[l]` is the end by which is given what goes over link l.
 fn sources_of(
     alloc: Global,
-    all: &[Outboxes],
+    takers: Vec<Taker>,
     commands: &[Command],
-    count: u8,
     to: u8,
 ) -> Result<Vec<Option<Source>>, Fault>
-    requires few { count ≤ 8 }
-    requires all { AreOutboxes count all.now }
-    requires number { (1 ≤ to) × (to ≤ count) }
-    ensures count { IfOk result (λ sources. length sources.items + 1 ≡ count) }
+    requires few { length takers.items ≤ 7 }
+    requires number { (1 ≤ to) × (to ≤ 8) }
+    ensures count { IfOk result (λ sources. length sources.items ≡ length takers.items) }
     ensures driven { IfOk result (λ sources. AreSources (driven_to commands.now to) sources.items) }
+    ensures taken { IfOk result (λ sources. AreTakenFrom takers.items sources.items) }
     ensures only_memory { IsOkUnless result Fault.NoMemory }
 {
     let mut sources = Vec::new(alloc);
-    for index in 0..count {
-        let from = index + 1;
-        if from == to {
-            continue;
-        }
+    for taker in takers {
+        let from = peer_at(sources.len() as u8, to);
         sources.reserve(1)?;
-        sources.push_reserved(source_of(all, commands, from, to)?);
+        sources.push_reserved(source_of(taker, commands, from, to));
     }
     Ok(sources)
 }
 
-/// Starts the node of this number.
+/// Starts the node of this number, with its own ends of outboxes.
 fn start_node<'s, E, R: Threads + Wait + Sync, G: Gate + Sync>(
     scope: &Scope<'s, E>,
     rt: &'s R,
     gate: &'s G,
     alloc: Global,
-    all: &[Outboxes],
+    outlets: Outlets,
+    takers: Vec<Taker>,
     commands: &[Command],
     count: u8,
     number: u8,
+    keeps: bool,
 ) -> Result<Node, Fault>
     requires names { All NamesNodes commands.now }
     requires admitted { AreAdmitted [] commands.now }
     requires room { HaveRoom (capacities_in commands.now) }
     requires few { count ≤ 8 }
-    requires all { AreOutboxes count all.now }
+    requires unused { HavePutNothing outlets.pend.items × HavePutNothing outlets.slot.items × HavePutNothing outlets.apply.items }
+    requires takers { (length takers.items + 1 ≡ count) × Each (λ i t. t.gave ≡ []) takers.items }
     requires number { (1 ≤ number) × (number ≤ count) }
     ensures runs { IfOk result (Runs (id_of number) (set_at number commands.now) (peers_of count number) (capacities_in commands.now)) }
     ensures local { IfOk result (λ node. node.local.sent ≡ []) }
     ensures driven { IfOk result (λ node. AreDriven (driven_to commands.now number) (λ l. []) node.lanes.items) }
+    ensures keeping { IfOk result (λ node. IsKeeping keeps (given_to node)) }
+    ensures given { IfOk result (λ node. (markers : List (Vec MarkerView)) → AreOutletsOf count markers number outlets → Each (IsTakerOf markers number) takers.items → IsSeated count markers number (given_to node)) }
     ensures only_memory { IsOkUnless result Fault.NoMemory }
 {
     let peers = peers_of_node(alloc, count, number)?;
@@ -130,36 +131,48 @@ fn start_node<'s, E, R: Threads + Wait + Sync, G: Gate + Sync>(
         set,
         peers.as_slice(),
         capacities_of(commands),
-        all[usize::from(number - 1)].as_slice(),
+        outlets,
+        keeps,
     )?;
-    let sources = sources_of(alloc, all, commands, count, number)?;
+    let sources = sources_of(alloc, takers, commands, number)?;
     start(scope, rt, gate, alloc, parts, sources)
 }
 
-/// Starts all nodes. Where one can't be started those before it run.
+/// Starts all nodes; `outlets[n - 1]` and `takers[n - 1]` are the ends of outboxes of node n. Where one can't be started those before it run.
 fn start_all<'s, E, R: Threads + Wait + Sync, G: Gate + Sync>(
     scope: &Scope<'s, E>,
     rt: &'s R,
     gate: &'s G,
     alloc: Global,
-    all: &[Outboxes],
+    outlets: Vec<Outlets>,
+    takers: Vec<Vec<Taker>>,
     commands: &[Command],
+    keeps: bool,
     nodes: &mut Vec<Node>,
 ) -> Result<(), Fault>
     requires names { All NamesNodes commands.now }
     requires admitted { AreAdmitted [] commands.now }
     requires room { HaveRoom (capacities_in commands.now) }
-    requires all { AreOutboxes (node_count commands.now) all.now }
+    requires made { (markers : List (Vec MarkerView)) × AreMade (node_count commands.now) outlets.items markers takers.items }
     requires none { nodes.old.items ≡ [] }
     ensures few { (length nodes.new.items ≤ node_count commands.now) × (length nodes.new.items ≤ 8) }
     ensures so_far { AllRunSoFar commands.now nodes.new.items }
     ensures done { OnOk result (HaveDone commands.now [] nodes.new.items) }
+    ensures keeping { OnOk result (AreKeeping keeps (all_given nodes.new.items)) }
+    ensures seated { OnOk result ((markers : List (Vec MarkerView)) → AreMade (node_count commands.now) outlets.items markers takers.items → AreSeated (node_count commands.now) markers (all_given nodes.new.items)) }
     ensures only_memory { IsOkUnless result Fault.NoMemory }
 {
     let count = count_of_nodes(commands);
-    for index in 0..count {
+    let mut rows = takers.into_iter();
+    for own in outlets {
+        let Some(row) = rows.next() else {
+            unreachable!()
+        };
         nodes.reserve(1)?;
-        let node = start_node(scope, rt, gate, alloc, all, commands, count, index + 1)?;
+        let number = nodes.len() as u8 + 1;
+        let node = start_node(
+            scope, rt, gate, alloc, own, row, commands, count, number, keeps,
+        )?;
         nodes.push_reserved(node);
     }
     Ok(())
@@ -210,10 +223,12 @@ pub struct Ran {
     pub losses: Vec<Vec<u64>>,
 }
 
-/// What is told of nodes, and why there is less.
+/// What is told of nodes that have ended, and the ends of outboxes that they hand back; and why there is less.
 #[derive(Drop)]
 struct Ended {
     all: Vec<NodeReport>,
+    outlets: Vec<Outlets>,
+    takers: Vec<Vec<Option<Taker>>>,
     /// The first refusal of a stage.
     refused: Option<NodeFault>,
     /// A link stands otherwise than the lines leave it.
@@ -222,19 +237,30 @@ struct Ended {
     lost: bool,
 }
 
+/// Keeps what is told of a node and what it hands back, where there is memory.
+fn keep(ended: &mut Ended, over: Over) -> Result<(), AllocError>
+    ensures kept { OnOk result ((ended.new.all.items ≡ ended.old.all.items ++ over.report ∷ []) × (ended.new.outlets.items ≡ ended.old.outlets.items ++ over.outlets ∷ []) × (ended.new.takers.items ≡ ended.old.takers.items ++ over.takers ∷ [])) }
+    ensures same { (ended.new.refused ≡ ended.old.refused) × (ended.new.astray ≡ ended.old.astray) × (ended.new.lost ≡ ended.old.lost) }
+{
+    ended.all.reserve(1)?;
+    ended.outlets.reserve(1)?;
+    ended.takers.reserve(1)?;
+    ended.all.push_reserved(over.report);
+    ended.outlets.push_reserved(over.outlets);
+    ended.takers.push_reserved(over.takers);
+    Ok(())
+}
+
 /// Adds what is told of the node of this number.
-fn add(ended: &mut Ended, number: u8, told: Result<NodeReport, Fault>)
-    ensures told { IsWhole ended.new → IsWhole ended.old × (r : NodeReport) × (told ≡ Ok r) × (ended.new.all.items ≡ ended.old.all.items ++ r ∷ []) }
+fn add(ended: &mut Ended, number: u8, told: Result<Over, Fault>)
+    ensures told { IsWhole ended.new → IsWhole ended.old × (r : Over) × (told ≡ Ok r) × (ended.new.all.items ≡ ended.old.all.items ++ r.report ∷ []) × (ended.new.outlets.items ≡ ended.old.outlets.items ++ r.outlets ∷ []) × (ended.new.takers.items ≡ ended.old.takers.items ++ r.takers ∷ []) }
     ensures refused { ended.new.refused ≡ option_or ended.old.refused (refused_at number (result_err told)) }
 {
     match told {
-        Ok(report) => {
-            if ended.all.reserve(1).is_err() {
-                ended.lost = true;
-                return;
-            }
-            ended.all.push_reserved(report);
-        }
+        Ok(over) => match keep(ended, over) {
+            Ok(()) => {}
+            Err(_) => ended.lost = true,
+        },
         Err(Fault::NoMemory) => ended.lost = true,
         Err(Fault::Refused(stage)) => {
             if ended.refused.is_none() {
@@ -257,13 +283,15 @@ fn end_nodes<R: Threads + Wait>(
 ) -> Ended
     requires few { length nodes.items ≤ 8 }
     requires nodes { (commands : List Command) × AllRunSoFar commands nodes.items × AllStand commands stood.now × (length nodes.items ≤ node_count commands) }
-    ensures reported { (commands : List Command) → HaveDoneSoFar commands commands nodes.items → AllStand commands stood.now → IsWhole result → (length result.all.items ≡ length nodes.items) × AreSoReported commands result.all.items }
+    ensures over { (commands : List Command) → HaveDoneSoFar commands commands nodes.items → AllStand commands stood.now → IsWhole result → AreOver commands (all_given nodes.items) result.all.items result.outlets.items result.takers.items }
     ensures ended { HaveAllEnded nodes.items stood.now result.refused }
 {
     let mut nodes = nodes;
     let Some(last) = nodes.pop() else {
         return Ended {
             all: Vec::new(alloc),
+            outlets: Vec::new(alloc),
+            takers: Vec::new(alloc),
             refused: None,
             astray: false,
             lost: false,
@@ -276,6 +304,14 @@ fn end_nodes<R: Threads + Wait>(
     ended
 }
 
+/// What is told of all nodes when they have ended, and the ends of outboxes that they hand back.
+#[derive(Drop)]
+struct AllOver {
+    reports: Vec<NodeReport>,
+    outlets: Vec<Outlets>,
+    takers: Vec<Vec<Option<Taker>>>,
+}
+
 /// Ends all nodes. Refused by the first stage that failed of the first such node, which is named; else by `NotOpen`, where a link
 /// stands otherwise than the lines leave it, or by `NoMemory`.
 fn end_all<R: Threads + Wait>(
@@ -283,14 +319,16 @@ fn end_all<R: Threads + Wait>(
     alloc: Global,
     nodes: Vec<Node>,
     stood: &[Vec<Stood>],
-) -> Result<Vec<NodeReport>, NodeFault>
+) -> Result<AllOver, NodeFault>
     requires few { length nodes.items ≤ 8 }
     requires nodes { (commands : List Command) × AllRunSoFar commands nodes.items × AllStand commands stood.now × (length nodes.items ≤ node_count commands) }
-    ensures reported { (commands : List Command) → HaveDone commands commands nodes.items → AllStand commands stood.now → IfOk result (λ all. AreNodesReported commands all.items) }
+    ensures over { (commands : List Command) → HaveDone commands commands nodes.items → AllStand commands stood.now → IfOk result (λ all. AreOver commands (all_given nodes.items) all.reports.items all.outlets.items all.takers.items) }
     ensures ended { (refused : Option NodeFault) × HaveAllEnded nodes.items stood.now refused × MatchResult result (λ _. refused ≡ None) (IsEndFault refused) }
 {
     let Ended {
         all,
+        outlets,
+        takers,
         refused,
         astray,
         lost,
@@ -304,7 +342,11 @@ fn end_all<R: Threads + Wait>(
     if lost {
         return Err(NodeFault::from(Fault::NoMemory));
     }
-    Ok(all)
+    Ok(AllOver {
+        reports: all,
+        outlets,
+        takers,
+    })
 }
 
 /// Starts the nodes and does the lines.
@@ -313,8 +355,11 @@ fn start_and_act<'s, E, R: Threads + Wait + Sync, G: Gate + Sync>(
     rt: &'s R,
     gate: &'s Counting<G>,
     alloc: Global,
-    all: &[Outboxes],
+    outlets: Vec<Outlets>,
+    takers: Vec<Vec<Taker>>,
+    markers: &mut Vec<Vec<Marker>>,
     commands: &[Command],
+    keeps: bool,
     nodes: &mut Vec<Node>,
     gave_up: &mut Vec<usize>,
 ) -> Result<(), NodeFault>
@@ -322,23 +367,28 @@ fn start_and_act<'s, E, R: Threads + Wait + Sync, G: Gate + Sync>(
     requires names { All NamesNodes commands.now }
     requires admitted { AreAdmitted [] commands.now }
     requires room { HaveRoom (capacities_in commands.now) }
-    requires all { AreOutboxes (node_count commands.now) all.now }
+    requires made { AreMade (node_count commands.now) outlets.items markers.old.items takers.items }
     requires none { nodes.old.items ≡ [] }
     ensures few { length nodes.new.items ≤ node_count commands.now }
     ensures so_far { AllRunSoFar commands.now nodes.new.items }
     ensures done { OnOk result (HaveDone commands.now commands.now nodes.new.items) }
+    ensures keeping { OnOk result (AreKeeping keeps (all_given nodes.new.items)) }
+    ensures seated { OnOk result (AreSeated (node_count commands.now) markers.old.items (all_given nodes.new.items)) }
+    ensures markers { AreSameMarkers markers.old.items markers.new.items }
     ensures given_up { IfErr result (λ e. IsLineFault (node_count commands.now) e.node e.fault) }
     ensures waits { AreWaits commands.now 0 gave_up.new.items }
 {
-    start_all(scope, rt, gate, alloc, all, commands, nodes)?;
-    act_all(rt, nodes, all, gate, commands, gave_up)
+    start_all(
+        scope, rt, gate, alloc, outlets, takers, commands, keeps, nodes,
+    )?;
+    act_all(rt, nodes, markers, gate, commands, gave_up)
 }
 
 /// What is told: where a line wasn't done, the stage that failed, if one did, and else why the line wasn't done.
 fn told_of(
     done: Result<(), NodeFault>,
-    told: Result<Vec<NodeReport>, NodeFault>,
-) -> Result<Vec<NodeReport>, NodeFault>
+    told: Result<AllOver, NodeFault>,
+) -> Result<AllOver, NodeFault>
     ensures whole { IfOk result (λ all. (told ≡ Ok all) × OnErr done ⊥) }
     ensures given_up { (count : ℕ) → (refused : Option NodeFault) → IsNumbered refused → IfErr done (λ e. IsLineFault count e.node e.fault) → MatchResult told (λ _. refused ≡ None) (IsEndFault refused) → IfErr result (IsToldOf count refused) }
 {
@@ -351,26 +401,63 @@ fn told_of(
     }
 }
 
+/// Takes the ends of all outboxes back, and tells of the nodes: their reports, and how many own statements were lost on each link.
+fn taken_back<R: Wait>(
+    rt: &R,
+    alloc: Global,
+    count: u8,
+    markers: Vec<Vec<Marker>>,
+    over: AllOver,
+) -> Result<(Vec<NodeReport>, Vec<Vec<u64>>), Fault>
+    requires few { count ≤ 8 }
+    requires all { AreAllBack count over.outlets.items markers.items over.takers.items }
+    ensures reports { IfOk result (λ told. told.0.items ≡ over.reports.items) }
+    ensures losses { IfOk result (λ told. length told.1.items ≡ length over.outlets.items) }
+    ensures came { OnOk result (AllCameOut count over.outlets.items over.takers.items) }
+    ensures only_memory { IsOkUnless result Fault.NoMemory }
+{
+    let AllOver {
+        reports,
+        outlets,
+        takers,
+    } = over;
+    let losses = all_losses(rt, alloc, outlets.as_slice())?;
+    take_all_back(rt, alloc, count, outlets, markers, takers)?;
+    Ok((reports, losses))
+}
+
 /// Runs the nodes, does the lines, and ends the nodes, whatever came.
 fn run_in<'s, E, R: Threads + Wait + Sync, G: Gate + Sync>(
     scope: &Scope<'s, E>,
     rt: &'s R,
     gate: &'s Counting<G>,
     alloc: Global,
-    all: &[Outboxes],
+    made: Made,
     stood: &[Vec<Stood>],
     commands: &[Command],
+    keeps: bool,
 ) -> Result<Ran, NodeFault>
     requires names { All NamesNodes commands.now }
     requires admitted { AreAdmitted [] commands.now }
     requires room { HaveRoom (capacities_in commands.now) }
-    requires all { AreOutboxes (node_count commands.now) all.now }
+    requires made { AreMade (node_count commands.now) made.outlets.items made.markers.items made.takers.items }
     requires stood { AllStand commands.now stood.now }
     ensures reported { IfOk result (λ ran. AreNodesReported commands.now ran.reports.items) }
     ensures waits { IfOk result (λ ran. AreWaits commands.now 0 ran.gave_up.items) }
     ensures losses { IfOk result (λ ran. length ran.losses.items ≡ node_count commands.now) }
+    ensures kept { IfOk result (λ ran. AreAllKept keeps ran.reports.items) }
     ensures given_up { IfErr result (IsGivenUp commands.now) }
 {
+    what_is_carried_is_sent_out();
+    what_is_read_is_the_senders_own();
+    what_is_handed_out_may_be_sent();
+    let count = count_of_nodes(commands);
+    let Made {
+        outlets,
+        markers,
+        takers,
+    } = made;
+    let mut markers = markers;
     let mut nodes = Vec::new(alloc);
     let mut gave_up = Vec::new(alloc);
     let done = start_and_act(
@@ -378,16 +465,19 @@ fn run_in<'s, E, R: Threads + Wait + Sync, G: Gate + Sync>(
         rt,
         gate,
         alloc,
-        all,
+        outlets,
+        takers,
+        &mut markers,
         commands,
+        keeps,
         &mut nodes,
         &mut gave_up,
     );
-    stop_all(rt, all, commands, count_of_nodes(commands));
+    stop_all(rt, &mut markers);
     let told = end_all(rt, alloc, nodes, stood);
     match told_of(done, told) {
-        Ok(reports) => {
-            let losses = all_losses(rt, alloc, all)?;
+        Ok(over) => {
+            let (reports, losses) = taken_back(rt, alloc, count, markers, over)?;
             Ok(Ran {
                 reports,
                 gave_up,
@@ -403,34 +493,36 @@ fn run_scoped<R: Threads + Wait + Sync, G: Gate + Sync>(
     rt: &R,
     gate: &Counting<G>,
     alloc: Global,
-    all: &[Outboxes],
+    made: Made,
     stood: &[Vec<Stood>],
     commands: &[Command],
+    keeps: bool,
 ) -> Result<Ran, NodeFault>
     requires names { All NamesNodes commands.now }
     requires admitted { AreAdmitted [] commands.now }
     requires room { HaveRoom (capacities_in commands.now) }
-    requires all { AreOutboxes (node_count commands.now) all.now }
+    requires made { AreMade (node_count commands.now) made.outlets.items made.markers.items made.takers.items }
     requires stood { AllStand commands.now stood.now }
     ensures reported { IfOk result (λ ran. AreNodesReported commands.now ran.reports.items) }
     ensures waits { IfOk result (λ ran. AreWaits commands.now 0 ran.gave_up.items) }
     ensures losses { IfOk result (λ ran. length ran.losses.items ≡ node_count commands.now) }
+    ensures kept { IfOk result (λ ran. AreAllKept keeps ran.reports.items) }
     ensures given_up { IfErr result (IsGivenUp commands.now) }
 {
     thread::scope(
         thread::scope_env(),
         rt,
-        |scope| -> Result<Ran, NodeFault>
-            requires { All NamesNodes commands.now × AreAdmitted [] commands.now × HaveRoom (capacities_in commands.now) × AreOutboxes (node_count commands.now) all.now × AllStand commands.now stood.now }
-            ensures { IfOk result (λ ran. AreNodesReported commands.entry.now ran.reports.items) × IfOk result (λ ran. AreWaits commands.entry.now 0 ran.gave_up.items) × IfOk result (λ ran. length ran.losses.items ≡ node_count commands.entry.now) × IfErr result (IsGivenUp commands.entry.now) }
-        { run_in(scope, rt, gate, alloc, all, stood, commands) },
+        move |scope| -> Result<Ran, NodeFault>
+            requires { All NamesNodes commands.now × AreAdmitted [] commands.now × HaveRoom (capacities_in commands.now) × AreMade (node_count commands.now) made.outlets.items made.markers.items made.takers.items × AllStand commands.now stood.now }
+            ensures { IfOk result (λ ran. AreNodesReported commands.entry.now ran.reports.items) × IfOk result (λ ran. AreWaits commands.entry.now 0 ran.gave_up.items) × IfOk result (λ ran. length ran.losses.items ≡ node_count commands.entry.now) × IfErr result (IsGivenUp commands.entry.now) × IfOk result (λ ran. AreAllKept keeps ran.reports.items) }
+        { run_in(scope, rt, gate, alloc, made, stood, commands, keeps) },
     )
 }
 
 /// Runs the nodes of a script, each of whose stages has a thread of its own, does what its lines say, in their order and by one thread, and
 /// ends the nodes: what is told of them, and which `wait` lines gave up. Each worker of a node calls the gate after each receive and before
 /// each send. At each way out all
-/// threads have ended.
+/// threads have ended. Where `keeps` is set each report tells what came over each of its node's links, and else over none.
 ///
 /// Refused by `Refused` with the first stage that failed of the first node of which one did, which is named, whatever else was wrong; else by
 /// `Full` where a mark of an `open` or a `close` line found no room in an outbox after 1,000,000 yields, by `NotOpen` where a link stood
@@ -440,6 +532,7 @@ pub fn run_lines<R: Threads + Wait + Sync, G: Gate + Sync>(
     gate: &G,
     alloc: Global,
     commands: &[Command],
+    keeps: bool,
 ) -> Result<Ran, NodeFault>
     requires names { All NamesNodes commands.now }
     requires admitted { AreAdmitted [] commands.now }
@@ -447,18 +540,20 @@ pub fn run_lines<R: Threads + Wait + Sync, G: Gate + Sync>(
     ensures reported { IfOk result (λ ran. AreNodesReported commands.now ran.reports.items) }
     ensures waits { IfOk result (λ ran. AreWaits commands.now 0 ran.gave_up.items) }
     ensures losses { IfOk result (λ ran. length ran.losses.items ≡ node_count commands.now) }
+    ensures kept { IfOk result (λ ran. AreAllKept keeps ran.reports.items) }
     ensures given_up { IfErr result (IsGivenUp commands.now) }
 {
     let counting = Counting::new(Lent::new(gate));
     let count = count_of_nodes(commands);
-    let outboxes = all_outboxes(alloc, count)?;
+    let made = make_all(alloc, count)?;
     let standing = all_stood(alloc, commands, count)?;
     run_scoped(
         rt,
         &counting,
         alloc,
-        outboxes.as_slice(),
+        made,
         standing.as_slice(),
         commands,
+        keeps,
     )
 }

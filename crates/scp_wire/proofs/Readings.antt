@@ -82,7 +82,7 @@ reading_found : (bytes : List ℕ) (m : Message) → AreBytes bytes → reading_
 unfolding reading_of
 reading_found bytes m are e = message_found bytes (message_value m) are (value_in (message_reading bytes) m e)
 
-reading_spelt : (bytes : List ℕ) (m : Message) → SpellsMessage bytes (message_value m) → reading_of bytes ≡ Some m
+pub reading_spelt : (bytes : List ℕ) (m : Message) → SpellsMessage bytes (message_value m) → reading_of bytes ≡ Some m
 reading_spelt bytes m s = reading_at bytes (Ok (message_value m)) (message_spelt bytes (message_value m) s) ∙ ap Some (message_again m)
 
 pub reading_is_spelt : ReadingIsSpelt

@@ -18,6 +18,10 @@ reading_of bytes = message_in (message_reading bytes)
 abbrev pub AreBytes : List ℕ → Type 0
 AreBytes bytes = (i : ℕ) → slice_index bytes i < 256
 
+-- what is spelt so has that reading, whatever stands in its bytes
+abbrev pub SpellingIsRead : Type 0
+SpellingIsRead = (bytes : List ℕ) (m : Message) → SpellsMessage bytes (message_value m) → reading_of bytes ≡ Some m
+
 -- what has a reading is spelt so, and what is spelt so has that reading
 abbrev pub ReadingIsSpelt : Type 0
 ReadingIsSpelt = (bytes : List ℕ) (m : Message) → AreBytes bytes → (reading_of bytes ≡ Some m) ↔ SpellsMessage bytes (message_value m)

@@ -8,7 +8,7 @@ ghost use Rattle.scp_xdr.specs.Words.{Gives, IsReadingFault};
 ghost use Rattle.scp_wire.specs.Carried.{is_side};
 ghost use Rattle.scp_wire.specs.Fitting.{IsFitting};
 ghost use Rattle.scp_wire.specs.Message.{message_kind, message_value, message_reading, SpellsMessage, FitsMessage, HasRanges, BreaksALimit};
-ghost use Rattle.scp_wire.specs.Reading.{reading_of, ReadingIsSpelt};
+ghost use Rattle.scp_wire.specs.Reading.{reading_of, ReadingIsSpelt, SpellingIsRead};
 ghost use Rattle.scp_wire.specs.inside.Reading.{has_side_word};
 
 use crate::boxed::BoxedEnvelope;
@@ -253,6 +253,11 @@ fn is_of_side_kind(bytes: &[u8]) -> bool
     let mut reader = Reader::new(bytes);
     matches!(reader.u32(), Ok(GET_SET | SET | NO_SET))
 }
+
+/// Bytes that spell a message are read as it.
+pub fn what_is_spelt_is_read()
+    ensures { SpellingIsRead }
+{}
 
 /// The reading of bytes is a message just where they spell it.
 pub fn reading_of_is_what_is_spelt()

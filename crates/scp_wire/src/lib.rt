@@ -25,7 +25,10 @@ mod side;
 
 pub use boxed::BoxedEnvelope;
 pub use carried::Carried;
-pub use codec::{BATCH_LIMIT, decode, encode, is_side_message, reading_of_is_what_is_spelt};
+pub use codec::{
+    BATCH_LIMIT, decode, encode, is_side_message, reading_of_is_what_is_spelt,
+    what_is_spelt_is_read,
+};
 pub use fitting::FittingMessage;
 pub use laws::{
     a_beginning_keeps_the_shape, a_lane_follows_what_was_sent, each_number_names_its_message,

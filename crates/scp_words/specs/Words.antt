@@ -1,8 +1,11 @@
--- The words of what became of a message, of why a connection ended, and of bytes (this project's profile).
-use Rattle.std.specs.Prelude.{ℕ, List, [], ◌∷◌, codes}
+-- The words of what became of a message or a command, of why a connection ended, of numbers and of bytes (this project's profile).
+use Rattle.std.specs.Prelude.{ℕ, List, [], ◌∷◌, ◌++◌, codes, flat_map}
+use Rattle.std.specs.Fmt.{decimal}
 use Rattle.hex.specs.Hex.{encode_lower}
 use Rattle.scp_ledger.specs.declared.journal.Verdict.{Verdict}
 use Rattle.scp_ledger.specs.declared.journal.Verdict.TheVariants.{OldSlot, FarSlot, Already, Unasked, Own, BadStatement, BadValue, Stale, Idle, Fresh, Forwarded, Decided}
+use Rattle.scp_ledger.specs.declared.took.CommandFate.{CommandFate}
+use Rattle.scp_ledger.specs.declared.took.CommandFate.TheVariants as fate
 use Rattle.scp_wire.specs.declared.link.Cause.{Cause}
 use Rattle.scp_wire.specs.declared.link.Cause.TheVariants.{Malformed, Link, Spent, ParkedFull}
 use Rattle.scp_pending.specs.declared.ready.DropCause.{DropCause}
@@ -41,3 +44,28 @@ drop_word drop.ParkedFull = codes "parked-full"
 abbrev pub hex_word : List ℕ → List ℕ
 hex_word [] = codes "-"
 hex_word (byte ∷ bytes) = encode_lower (byte ∷ bytes)
+
+-- the word for what became of a command
+abbrev pub fate_word : CommandFate → List ℕ
+fate_word fate.OldSlot = codes "old-slot"
+fate_word fate.FarSlot = codes "far-slot"
+fate_word fate.Decided = codes "decided"
+fate_word fate.BadValue = codes "bad-value"
+fate_word fate.ProposedBefore = codes "proposed-before"
+fate_word fate.Proposed = codes "proposed"
+fate_word fate.NoRoundLeft = codes "no-round-left"
+fate_word fate.RoundAdded = codes "round-added"
+fate_word fate.NoBallot = codes "no-ballot"
+fate_word fate.BallotStays = codes "ballot-stays"
+fate_word fate.BallotMoved = codes "ballot-moved"
+fate_word fate.AskedBefore = codes "asked-before"
+fate_word fate.Asked = codes "asked"
+
+-- a number behind a comma
+abbrev pub behind_comma : ℕ → List ℕ
+behind_comma number = codes "," ++ decimal number
+
+-- numbers, with commas between them
+abbrev pub numbers_text : List ℕ → List ℕ
+numbers_text [] = []
+numbers_text (number ∷ numbers) = decimal number ++ flat_map behind_comma numbers

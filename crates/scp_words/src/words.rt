@@ -1,8 +1,8 @@
-//! What became of a message, and why a connection ended.
+//! What became of a message or a command, and why a connection ended.
 ghost use Rattle.std.specs.Prelude.{◌≡◌};
-ghost use Rattle.scp_words.specs.Words.{verdict_word, cause_word, drop_word};
+ghost use Rattle.scp_words.specs.Words.{verdict_word, cause_word, drop_word, fate_word};
 
-use scp_ledger::Verdict;
+use scp_ledger::{CommandFate, Verdict};
 use scp_pending::DropCause;
 use scp_wire::Cause;
 
@@ -47,5 +47,26 @@ pub fn word_of_drop(cause: DropCause) -> &'static str
         DropCause::GaveUp => "gave-up",
         DropCause::Closed => "closed",
         DropCause::ParkedFull => "parked-full",
+    }
+}
+
+/// The word for what became of a command.
+pub fn word_of_fate(fate: CommandFate) -> &'static str
+    ensures { result.now ≡ fate_word fate }
+{
+    match fate {
+        CommandFate::OldSlot => "old-slot",
+        CommandFate::FarSlot => "far-slot",
+        CommandFate::Decided => "decided",
+        CommandFate::BadValue => "bad-value",
+        CommandFate::ProposedBefore => "proposed-before",
+        CommandFate::Proposed => "proposed",
+        CommandFate::NoRoundLeft => "no-round-left",
+        CommandFate::RoundAdded => "round-added",
+        CommandFate::NoBallot => "no-ballot",
+        CommandFate::BallotStays => "ballot-stays",
+        CommandFate::BallotMoved => "ballot-moved",
+        CommandFate::AskedBefore => "asked-before",
+        CommandFate::Asked => "asked",
     }
 }

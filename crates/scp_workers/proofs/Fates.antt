@@ -8,32 +8,36 @@ use Rattle.scp_quorum.specs.QuorumTree.{QuorumTree}
 use Rattle.scp_pending.specs.declared.ready.Ready.{Ready}
 use Rattle.scp_ledger.specs.declared.took.CommandFate.{CommandFate}
 use Rattle.scp_ledger.specs.declared.took.Onward.{Onward}
+use Rattle.scp_ledger.specs.declared.took.Outgoing.{Outgoing}
 use Rattle.scp_ledger.specs.declared.took.Took.{Took}
 use Rattle.scp_ledger.specs.Kv.{KvLedger, KvTakes, KvTells}
 use Rattle.scp_ledger.specs.Runs.{Taking, thing_of, onward_of, nothing_taken}
+use Rattle.scp_grounds.specs.Handed.{out_by}
 use Rattle.scp_workers.specs.Slot.{fate_of, TellsEach, HaveFates}
 
 tells_more : (first old new : KvLedger) (takes : List Taking) (t : Taking) → TellsEach first takes old → KvTakes old t.thing t.gave new → KvTells old t.thing t.gave → TellsEach first (takes ++ t ∷ []) new
 tells_more first old new [] t e goes tells = (new, subst (λ (v : KvLedger). KvTakes v t.thing t.gave new) e goes, subst (λ (v : KvLedger). KvTells v t.thing t.gave) e tells, refl)
 tells_more first old new (u ∷ takes) t e goes tells = (e.0, e.1, e.2, tells_more e.0 old new takes t e.3 goes tells)
 
-pub fates_more : (me : NodeId) (local : QuorumTree) (peers : List NodeId) (took : List Ready) (sent : List Onward) (fates more : List CommandFate) (old new : KvLedger) (x : Ready) (t : Took)
-    → KvTakes old x t new → KvTells old x t → more ≡ fates ++ option_to_list t.command → HaveFates me local peers took sent fates old → HaveFates me local peers (took ++ x ∷ []) (sent ++ option_to_list t.onward) more new
-fates_more me local peers took sent fates more old new x t goes tells e h =
+pub fates_more : (me : NodeId) (local : QuorumTree) (peers : List NodeId) (took : List Ready) (sent : List Onward) (out : List Outgoing) (fates more : List CommandFate) (old new : KvLedger) (x : Ready) (t : Took)
+    → KvTakes old x t new → KvTells old x t → more ≡ fates ++ option_to_list t.command → HaveFates me local peers took sent out fates old → HaveFates me local peers (took ++ x ∷ []) (sent ++ option_to_list t.onward) (out ++ t.outgoing) more new
+fates_more me local peers took sent out fates more old new x t goes tells e h =
     let last : Taking = record { thing = x; gave = t } in record {
       takes = h.takes ++ last ∷ [];
       took_are = map-append thing_of h.takes (last ∷ []) ∙ ap (λ (xs : List Ready). xs ++ x ∷ []) h.took_are;
       onwards_are = flat_map-append onward_of h.takes (last ∷ []) ∙ ap (λ (ys : List Onward). ys ++ (option_to_list t.onward ++ [])) h.onwards_are ∙ ap (λ (ys : List Onward). sent ++ ys) (append-nil (option_to_list t.onward));
+      outs_are = flat_map-append out_by h.takes (last ∷ []) ∙ ap (λ (os : List Outgoing). os ++ (t.outgoing ++ [])) h.outs_are ∙ ap (λ (os : List Outgoing). out ++ os) (append-nil t.outgoing);
       fates_are = flat_map-append fate_of h.takes (last ∷ []) ∙ ap (λ (ys : List CommandFate). ys ++ (option_to_list t.command ++ [])) h.fates_are ∙ ap (λ (ys : List CommandFate). fates ++ ys) (append-nil (option_to_list t.command)) ∙ sym e;
       told = tells_more (nothing_taken me local new.driver peers) old new h.takes last h.told goes tells;
     }
 
 pub fates_begin : (me : NodeId) (local set : QuorumTree) (peers known : List NodeId) (got : List Ready) (sent : List Onward) (fates : List CommandFate) (v : KvLedger)
-    → got ≡ [] → sent ≡ [] → fates ≡ [] → set ≡ local → known ≡ peers → v ≡ nothing_taken me local v.driver peers → HaveFates me set known got sent fates v
+    → got ≡ [] → sent ≡ [] → fates ≡ [] → set ≡ local → known ≡ peers → v ≡ nothing_taken me local v.driver peers → HaveFates me set known got sent [] fates v
 fates_begin me local set peers known got sent fates v e f g s k is = record {
   takes = [];
   took_are = sym e;
   onwards_are = sym f;
+  outs_are = refl;
   fates_are = sym g;
   told = is ∙ ap (λ (q : QuorumTree). nothing_taken me q v.driver peers) (sym s) ∙ ap (λ (ps : List NodeId). nothing_taken me set v.driver ps) (sym k);
 }

@@ -1,5 +1,7 @@
 pub mod Receiving
+pub mod Outlets
 pub mod Stopping
 pub mod Running
 pub mod Waiting
 pub mod Fates
+pub mod Answering

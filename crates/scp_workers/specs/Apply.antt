@@ -1,6 +1,8 @@
 -- The stage that applies.
 use Rattle.std.specs.Prelude.{List}
 use Rattle.scp_ledger.specs.declared.took.Onward.{Onward}
+use Rattle.scp_ledger.specs.declared.took.Outgoing.{Outgoing}
+use Rattle.scp_grounds.specs.Handed.{Answers}
 use Rattle.scp_apply.specs.Applier.{ApplierView}
 use Rattle.scp_apply.specs.Applies.{Applies}
 use Rattle.scp_workers.specs.declared.apply.Nothing.{Nothing}
@@ -14,14 +16,15 @@ ApplyWork = Work Onward Nothing ApplierView
 abbrev pub ApplyEnd : Type 0
 ApplyEnd = End Onward Nothing ApplierView
 
--- the applier took these; it gives nothing on
-abbrev pub AppliesFrom : ApplierView → List Onward → List Nothing → ApplierView → Type 0
-AppliesFrom first took gave now = Applies took now
+-- the applier took these, and handed its answers to them out; it gives nothing on
+pub record AppliesFrom (first : ApplierView) (took : List Onward) (gave : List Nothing) (out : List Outgoing) (now : ApplierView) : Type 0 where
+  pub applies : Applies took now
+  pub answers : Answers first took out now
 
 -- nothing is ever left to give
 abbrev pub GivesNothing : ApplierView → Type 0
 GivesNothing now = Unit {0}
 
--- the slot stage ended, and the applier took what was received
+-- the slot stage ended; the applier took what was received, and its answers were put into the outboxes
 abbrev pub HasAppliedAll : ApplyEnd → Type 0
 HasAppliedAll e = HasRun AppliesFrom GivesNothing e

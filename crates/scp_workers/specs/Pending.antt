@@ -4,8 +4,10 @@ use Rattle.scp_types.specs.declared.names.NodeId.{NodeId}
 use Rattle.scp_quorum.specs.QuorumTree.{QuorumTree}
 use Rattle.scp_wire.specs.declared.link.Inbound.{Inbound}
 use Rattle.scp_pending.specs.declared.ready.Ready.{Ready}
-use Rattle.scp_pending.specs.Rules.{PendingView}
+use Rattle.scp_pending.specs.Rules.{PendingView, fresh}
 use Rattle.scp_pending.specs.Pends.{Pends}
+use Rattle.scp_ledger.specs.declared.took.Outgoing.{Outgoing}
+use Rattle.scp_grounds.specs.Handed.{replies_from}
 use Rattle.scp_workers.specs.Working.{Work, End, HasRun}
 
 -- what contracts see of the worker of the pending stage
@@ -16,16 +18,18 @@ PendWork = Work Inbound Ready PendingView
 abbrev pub PendEnd : Type 0
 PendEnd = End Inbound Ready PendingView
 
--- a stage of the node and the peers of the first one took these by its rules, and gave these; and it has that one's own quorum set
-pub record PendsFrom (first : PendingView) (took : List Inbound) (gave : List Ready) (now : PendingView) : Type 0 where
+-- a stage of the node and the peers of the first one took these by its rules, gave these, and handed its replies to them out; and it has that one's
+-- own quorum set
+pub record PendsFrom (first : PendingView) (took : List Inbound) (gave : List Ready) (out : List Outgoing) (now : PendingView) : Type 0 where
   pub pends : Pends first.settled.me first.settled.peers took gave now
   pub local_is : now.settled.store.local ≡ first.settled.store.local
+  pub out_is : out ≡ replies_from (fresh first.settled.me first.settled.peers first.settled.store.local) took
 
 -- nothing is ready
 abbrev pub HasNothingReady : PendingView → Type 0
 HasNothingReady now = now.leaving ≡ []
 
--- each producer ended; what was sent is what the stage gives of what was received; and nothing is ready
+-- each producer ended; what was sent is what the stage gives of what was received, and its replies were put into the outboxes; and nothing is ready
 abbrev pub HasPendedAll : PendEnd → Type 0
 HasPendedAll e = HasRun PendsFrom HasNothingReady e
 

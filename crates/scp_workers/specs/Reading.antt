@@ -1,8 +1,9 @@
 -- The stage that reads a link.
-use Rattle.std.specs.Prelude.{◌≡◌, List, []}
+use Rattle.std.specs.Prelude.{◌≡◌, List, [], IfSome, is_some}
 use Rattle.scp_wire.specs.declared.link.LinkItem.{LinkItem}
 use Rattle.scp_wire.specs.declared.link.Inbound.{Inbound}
 use Rattle.scp_wire.specs.LinkReading.{HasRead}
+use Rattle.scp_ledger.specs.declared.took.Outgoing.{Outgoing}
 use Rattle.scp_workers.specs.declared.reading.ReadingStage.{ReadingStage}
 use Rattle.scp_workers.specs.Working.{Work, End, HasRun}
 
@@ -14,9 +15,13 @@ ReaderWork = Work LinkItem Inbound ReadingStage
 abbrev pub ReaderEnd : Type 0
 ReaderEnd = End LinkItem Inbound ReadingStage
 
--- its reader took these items of the link from the first on, gave these, and has the rest of what they are read as
-abbrev pub Reads : ReadingStage → List LinkItem → List Inbound → ReadingStage → Type 0
-Reads first took gave now = HasRead took gave now.reader
+-- Its reader took these items of the link from the first on, gave these, and has the rest of what they are read as; it hands nothing out. It keeps
+-- just these items where it kept what it takes at first, and elsewhere nothing.
+pub record Reads (first : ReadingStage) (took : List LinkItem) (gave : List Inbound) (out : List Outgoing) (now : ReadingStage) : Type 0 where
+  pub read : HasRead took gave now.reader
+  pub no_out : out ≡ []
+  pub kept : IfSome now.kept (λ items. items.items ≡ took)
+  pub keeps : is_some now.kept ≡ is_some first.kept
 
 -- nothing is left of a batch
 abbrev pub HasNoRest : ReadingStage → Type 0

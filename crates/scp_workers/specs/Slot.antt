@@ -5,8 +5,10 @@ use Rattle.scp_quorum.specs.QuorumTree.{QuorumTree}
 use Rattle.scp_pending.specs.declared.ready.Ready.{Ready}
 use Rattle.scp_ledger.specs.declared.took.CommandFate.{CommandFate}
 use Rattle.scp_ledger.specs.declared.took.Onward.{Onward}
+use Rattle.scp_ledger.specs.declared.took.Outgoing.{Outgoing}
 use Rattle.scp_ledger.specs.Runs.{Taking, things, onwards_of, nothing_taken}
 use Rattle.scp_ledger.specs.Kv.{KvLedger, KvJournals, KvTakes, KvTells}
+use Rattle.scp_grounds.specs.Handed.{outs_of}
 use Rattle.scp_workers.specs.declared.slot.SlotStage.{SlotStage}
 use Rattle.scp_workers.specs.Working.{Work, End, HasRun}
 
@@ -33,27 +35,28 @@ abbrev pub TellsEach : KvLedger → List Taking → KvLedger → Type 0
 TellsEach old [] new = new ≡ old
 TellsEach old (t ∷ takes) new = (between : KvLedger) × KvTakes old t.thing t.gave between × KvTells old t.thing t.gave × TellsEach between takes new
 
--- A ledger of this node that had taken nothing took these, one after another, gave these on, and is this one now. These are the fates of the
--- commands among them, one each, in order; a Tick has none.
-pub record HaveFates (me : NodeId) (local : QuorumTree) (peers : List NodeId) (took : List Ready) (onwards : List Onward) (fates : List CommandFate) (v : KvLedger) : Type 0 where
+-- A ledger of this node that had taken nothing took these, one after another, gave these on, and is this one now. This is what it handed out with
+-- them; and these are the fates of the commands among them, one each, in order; a Tick has none.
+pub record HaveFates (me : NodeId) (local : QuorumTree) (peers : List NodeId) (took : List Ready) (onwards : List Onward) (outs : List Outgoing) (fates : List CommandFate) (v : KvLedger) : Type 0 where
   pub takes : List Taking
   pub took_are : things takes ≡ took
   pub onwards_are : onwards_of takes ≡ onwards
+  pub outs_are : outs_of takes ≡ outs
   pub fates_are : fates_of takes ≡ fates
   pub told : TellsEach (nothing_taken me local v.driver peers) takes v
 
 -- ---- all that it did
 
--- a ledger of the first one's node took these and gave these on, and the fates of the commands among them are those that are kept
-pub record JournalsFrom (first : SlotStage) (took : List Ready) (gave : List Onward) (now : SlotStage) : Type 0 where
+-- a ledger of the first one's node took these, gave these on and handed these out, and the fates of the commands among them are those that are kept
+pub record JournalsFrom (first : SlotStage) (took : List Ready) (gave : List Onward) (out : List Outgoing) (now : SlotStage) : Type 0 where
   pub journals : KvJournals first.ledger.me first.ledger.local first.ledger.peers took gave now.ledger
-  pub told : HaveFates first.ledger.me first.ledger.local first.ledger.peers took gave now.fates.items now.ledger
+  pub told : HaveFates first.ledger.me first.ledger.local first.ledger.peers took gave out now.fates.items now.ledger
 
 -- what it gives it gives at once
 abbrev pub HasNoneLeft : SlotStage → Type 0
 HasNoneLeft now = Unit {0}
 
--- the pending stage ended; the ledger took what was received, and gave what was sent
+-- the pending stage ended; the ledger took what was received, gave what was sent, and handed out what was put into the outboxes
 abbrev pub HasJournaledAll : SlotEnd → Type 0
 HasJournaledAll e = HasRun JournalsFrom HasNoneLeft e
 

@@ -1,5 +1,8 @@
 -- What contracts see of a worker that works, and of what it ends with.
-use Rattle.std.specs.Prelude.{◌≡◌, ◌⊎◌, Bool, true, false, List, [], Option, Some, None}
+use Rattle.std.specs.Prelude.{◌≡◌, ◌⊎◌, ℕ, Bool, true, false, List, [], length, slice_get, Option, Some, None}
+use Rattle.scp_desk.specs.Ends.{PutterView}
+use Rattle.scp_ledger.specs.declared.took.Outgoing.{Outgoing}
+use Rattle.scp_grounds.specs.Handed.{handed_by}
 use Rattle.scp_ends.specs.Order.{values}
 use Rattle.scp_ends.specs.Ends.{Sender, Receiver, HeardAll}
 
@@ -9,14 +12,17 @@ use Rattle.scp_ends.specs.Ends.{Sender, Receiver, HeardAll}
 pub record Work (T U S : Type 0) : Type 0 where
   pub input : Receiver T
   pub output : Option (Sender U)  -- None where it sends nowhere
+  pub outlets : List PutterView  -- its ends of the outboxes of the links, by their places
   pub first : S
   pub failed : Bool
   pub cut_off : Bool  -- nobody sends to it any more
 
--- what it ends with: its receiving end, what its sending end left, the stage as it was at first and as it is, and how it ended
+-- what it ends with: its receiving end, what its sending end left, its ends of the outboxes, the stage as it was at first and as it is, and how it
+-- ended
 pub record End (T U S : Type 0) : Type 0 where
   pub input : Receiver T
   pub output : Option (Sender U)
+  pub outlets : List PutterView  -- its ends of the outboxes of the links, by their places
   pub first : S
   pub stage : S
   pub well : Bool
@@ -54,22 +60,39 @@ abbrev pub IsLeftOf : {U : Type 0} → Bool → Option (Sender U) → Option (Se
 IsLeftOf false o left = IsSameOutput o left
 IsLeftOf true o left = left ≡ None
 
--- It has the receiving end and the stage that the worker was given, and its sending end is ended, whether the worker failed or not: but where
--- nobody received its end any more.
+-- the same ends of outboxes: as many, each at its place of the same outbox and of the same number there
+pub record AreSameOutlets (old new : List PutterView) : Type 0 where
+  pub many : length new ≡ length old
+  pub each : (l : ℕ) (p q : PutterView) → slice_get old l ≡ Some p → slice_get new l ≡ Some q → (q.desk ≡ p.desk) × (q.number ≡ p.number)
+
+-- It has the receiving end, the ends of outboxes and the stage that the worker was given, and its sending end is ended, whether the worker failed or
+-- not: but where nobody received its end any more.
 pub record Holds {T U S : Type 0} (w : Work T U S) (e : End T U S) : Type 0 where
   pub input : IsSameInput w.input e.input
+  pub outlets : AreSameOutlets w.outlets e.outlets
   pub first : e.first ≡ w.first
   pub output : IsLeftOf e.unheard w.output e.output
 
 -- ---- what it did
 
--- each producer ended; what was sent is what the stage gives of what was received, and the end behind it; and nothing is left to give
-pub record HasRun {T U S : Type 0} (runs : S → List T → List U → S → Type 0) (rests : S → Type 0) (e : End T U S) : Type 0 where
+-- nothing was put into an outbox
+abbrev pub AreUnused : List PutterView → Type 0
+AreUnused outlets = (l : ℕ) (p : PutterView) → slice_get outlets l ≡ Some p → p.put ≡ []
+
+-- into the outbox of each link was put what is handed out for it, in order
+abbrev pub HavePut : List Outgoing → List PutterView → Type 0
+HavePut out outlets = (l : ℕ) (p : PutterView) → slice_get outlets l ≡ Some p → p.put ≡ handed_by out l
+
+-- each producer ended; what was sent is what the stage gives of what was received, and the end behind it; what was put into the outboxes is what it
+-- handed out; and nothing is left to give
+pub record HasRun {T U S : Type 0} (runs : S → List T → List U → List Outgoing → S → Type 0) (rests : S → Type 0) (e : End T U S) : Type 0 where
   pub heard : HeardAll e.input
-  pub all : runs e.first (values e.input.got) (sent_by e.output) e.stage
+  pub out : List Outgoing
+  pub all : runs e.first (values e.input.got) (sent_by e.output) out e.stage
+  pub put : HavePut out e.outlets
   pub nothing_left : rests e.stage
   pub ended : e.unheard ≡ false
 
--- a worker that ended well has given on all that its stage gives of what it received
-abbrev pub EndsWell : {T U S : Type 0} → (S → List T → List U → S → Type 0) → (S → Type 0) → End T U S → Type 0
+-- a worker that ended well has given on, and handed out, all that its stage gives of what it received
+abbrev pub EndsWell : {T U S : Type 0} → (S → List T → List U → List Outgoing → S → Type 0) → (S → Type 0) → End T U S → Type 0
 EndsWell runs rests e = e.well ≡ true → HasRun runs rests e

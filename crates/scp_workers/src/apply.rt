@@ -1,17 +1,17 @@
 //! The stage that applies.
 ghost use Rattle.std.specs.Prelude.{◌≡◌, [], false, None};
+ghost use Rattle.scp_workers.specs.Working.{AreUnused};
 
 use crate::handing::answered;
 use crate::stage::{Given, Stage};
 use crate::worker::{Ended, Worker};
 use scp_apply::{Applier, what_holds_of_an_applier_holds_with_one_thing_more};
+use scp_desk::Putter;
 use scp_ends::{Any, DecidedRx, InWindow};
 use scp_gate::Stage as Place;
 use scp_ledger::Onward;
-use scp_outbox::SharedOutbox;
 use scp_types::NodeId;
 use std::alloc::Global;
-use std::sync::Arc;
 
 /// What the last stage gives on: there is no such thing.
 #[derive(Drop)]
@@ -48,17 +48,14 @@ impl Stage<Onward, InWindow, Nothing, Any> for Applier {
     }
 }
 
-/// The worker of this node's applier, behind the slot stage; its end carried nothing yet. `outlets[l]` is the outbox of link l. Takes no
-/// memory.
-pub fn applier(
-    alloc: Global,
-    node: NodeId,
-    outlets: Vec<Arc<SharedOutbox>>,
-    rx: DecidedRx,
-) -> ApplyWorker
+/// The worker of this node's applier, behind the slot stage; its end carried nothing yet. `outlets[l]` is an end of the outbox of link l that put
+/// nothing yet. Takes no memory.
+pub fn applier(alloc: Global, node: NodeId, outlets: Vec<Putter>, rx: DecidedRx) -> ApplyWorker
     requires unused { rx.got ≡ [] }
+    requires outlets { AreUnused outlets.items }
     requires one { rx.producers ≡ 1 }
     ensures ends { (result.input ≡ rx) × (result.output ≡ None) }
+    ensures outlets { result.outlets ≡ outlets.items }
     ensures works { (result.failed ≡ false) × (result.cut_off ≡ false) }
 {
     what_holds_of_an_applier_holds_with_one_thing_more();

@@ -1,21 +1,25 @@
 //! What stages hand out for links, put into the links' outboxes.
-ghost use Rattle.std.specs.Prelude.{IfSome};
+ghost use Rattle.std.specs.Prelude.{◌≡◌, [], ◌∷◌, IfSome, OnOk};
 ghost use Rattle.scp_wire.specs.Fitting.{IsFitting};
 ghost use Rattle.scp_ledger.specs.Fitting.{FitsOut};
-ghost use Rattle.scp_workers.specs.Handing.{FitsOuts};
+ghost use Rattle.scp_grounds.specs.Handed.{out_of};
+ghost use Rattle.scp_workers.specs.Handing.{FitsOuts, outgoing_of};
+ghost use Rattle.scp_workers.specs.Working.{AreSameOutlets};
+ghost use Rattle.scp_workers.specs.inside.Handing.{PutsOut, PutsAt};
 
 use crate::stage::Outs;
+use scp_desk::Putter;
 use scp_envelope::SharedEnvelope;
 use scp_ledger::{Outgoing, OutgoingList};
-use scp_outbox::SharedOutbox;
 use scp_types::Fault;
 use scp_wire::{BoxedEnvelope, FittingMessage, Message};
-use std::sync::{Arc, Wait};
+use std::sync::Wait;
 
 /// An answer for a link, or none.
 pub(crate) fn answered(answer: Option<(u8, Message)>) -> Outs
     requires { IfSome answer (λ sent. IsFitting sent.1) }
-    ensures { FitsOuts result }
+    ensures fits { FitsOuts result }
+    ensures made { outgoing_of result ≡ out_of answer }
 {
     match answer {
         Some((link, message)) => Outs::Answer(link, message),
@@ -24,13 +28,12 @@ pub(crate) fn answered(answer: Option<(u8, Message)>) -> Outs
 }
 
 /// Puts what a stage hands out into the outboxes of the links, in its order: a message into that of its link, and what is for all into
-/// each. What is for a link that isn't there is given up.
-pub(crate) fn hand_out<R: Wait>(
-    rt: &R,
-    outlets: &[Arc<SharedOutbox>],
-    outs: Outs,
-) -> Result<(), Fault>
+/// each. What is for a link that isn't there is given up. Where there is no memory to share what is for all, some links have it and others
+/// haven't.
+pub(crate) fn hand_out<R: Wait>(rt: &R, outlets: &mut Vec<Putter>, outs: Outs) -> Result<(), Fault>
     requires fits { FitsOuts outs }
+    ensures same { AreSameOutlets outlets.old.items outlets.new.items }
+    ensures puts { OnOk result (PutsOut (outgoing_of outs) outlets.old.items outlets.new.items) }
 {
     match outs {
         Outs::Nothing => Ok(()),
@@ -42,38 +45,42 @@ pub(crate) fn hand_out<R: Wait>(
     }
 }
 
-fn hand<R: Wait>(rt: &R, outlets: &[Arc<SharedOutbox>], link: u8, message: Message)
+/// Puts a message for one link.
+fn hand<R: Wait>(rt: &R, outlets: &mut Vec<Putter>, link: u8, message: Message)
     requires fits { IsFitting message }
+    ensures same { AreSameOutlets outlets.old.items outlets.new.items }
+    ensures puts { PutsOut (Outgoing.To link message ∷ []) outlets.old.items outlets.new.items }
 {
-    match outlets.get(link as usize) {
-        Some(outlet) => put(rt, outlet, message),
-        None => {}
+    put_at(rt, outlets, link, FittingMessage::of(message));
+}
+
+fn put_at<R: Wait>(rt: &R, outlets: &mut Vec<Putter>, link: u8, message: FittingMessage)
+    ensures { PutsAt outlets.old.items link message outlets.new.items }
+{
+    if let Some(outlet) = outlets.get_mut(link as usize) {
+        outlet.put(rt, message);
     }
 }
 
-fn put<R: Wait>(rt: &R, outlet: &SharedOutbox, message: Message)
-    requires fits { IsFitting message }
-{
-    outlet.put(rt, FittingMessage::of(message));
-}
-
+/// Puts all that goes out, in its order.
 fn hand_out_all<R: Wait>(
     rt: &R,
-    outlets: &[Arc<SharedOutbox>],
+    outlets: &mut Vec<Putter>,
     outgoing: OutgoingList,
-) -> Result<(), Fault> {
+) -> Result<(), Fault>
+    ensures same { AreSameOutlets outlets.old.items outlets.new.items }
+    ensures puts { OnOk result (PutsOut outgoing outlets.old.items outlets.new.items) }
+{
     for one in outgoing.into_vec() {
         hand_out_one(rt, outlets, one)?;
     }
     Ok(())
 }
 
-fn hand_out_one<R: Wait>(
-    rt: &R,
-    outlets: &[Arc<SharedOutbox>],
-    outgoing: Outgoing,
-) -> Result<(), Fault>
+fn hand_out_one<R: Wait>(rt: &R, outlets: &mut Vec<Putter>, outgoing: Outgoing) -> Result<(), Fault>
     requires fits { FitsOut outgoing }
+    ensures same { AreSameOutlets outlets.old.items outlets.new.items }
+    ensures puts { OnOk result (PutsOut (outgoing ∷ []) outlets.old.items outlets.new.items) }
 {
     match outgoing {
         Outgoing::ToAll(envelope) => hand_to_all(rt, outlets, &envelope),
@@ -84,16 +91,19 @@ fn hand_out_one<R: Wait>(
     }
 }
 
+/// Puts an own statement for each link, shared.
 fn hand_to_all<R: Wait>(
     rt: &R,
-    outlets: &[Arc<SharedOutbox>],
+    outlets: &mut Vec<Putter>,
     envelope: &SharedEnvelope,
 ) -> Result<(), Fault>
     requires fits { FitsOut (Outgoing.ToAll envelope.now) }
+    ensures same { AreSameOutlets outlets.old.items outlets.new.items }
+    ensures puts { OnOk result (PutsOut (Outgoing.ToAll envelope.now ∷ []) outlets.old.items outlets.new.items) }
 {
-    for outlet in outlets {
+    for outlet in outlets.iter_mut() {
         let boxed = BoxedEnvelope::from_shared(envelope.share()?);
-        put(rt, outlet, Message::Envelope(boxed));
+        outlet.put(rt, FittingMessage::of(Message::Envelope(boxed)));
     }
     Ok(())
 }

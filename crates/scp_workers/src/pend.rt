@@ -1,13 +1,14 @@
 //! The stage where messages wait for their quorum sets.
 ghost use Rattle.std.specs.Prelude.{◌≡◌, ◌≤◌, [], false, Some, length};
 ghost use Rattle.scp_workers.specs.Pending.{IsFor};
+ghost use Rattle.scp_workers.specs.Working.{AreUnused};
 
 use crate::handing::answered;
 use crate::stage::{Given, Stage};
 use crate::worker::{Ended, Worker};
+use scp_desk::Putter;
 use scp_ends::{Any, InboxRx, ReadyTx};
 use scp_gate::Stage as Place;
-use scp_outbox::SharedOutbox;
 use scp_pending::{Pending, Ready, who_it_is_stays};
 use scp_quorum::SaneSet;
 use scp_types::NodeId;
@@ -47,21 +48,24 @@ impl Stage<Inbound, Any, Ready, Any> for Pending {
 }
 
 /// The worker of this node's pending stage, between its inbox, of so many producers, and the slot stage; both carried nothing yet. `peers[l]`
-/// is the sender of link l, and `outlets[l]` the outbox of link l; `local` is the node's own quorum set. Takes no memory.
+/// is the sender of link l, and `outlets[l]` an end of the outbox of link l that put nothing yet; `local` is the node's own quorum set. Takes no
+/// memory.
 pub fn pending(
     alloc: Global,
     node: NodeId,
     peers: Vec<NodeId>,
     local: Arc<SaneSet>,
-    outlets: Vec<Arc<SharedOutbox>>,
+    outlets: Vec<Putter>,
     rx: InboxRx,
     producers: u8,
     tx: ReadyTx,
 ) -> PendWorker
     requires few { length peers.items ≤ 7 }
     requires unused { (rx.got ≡ []) × (tx.sent ≡ []) }
+    requires outlets { AreUnused outlets.items }
     requires producers { (rx.producers ≡ producers) × (producers ≤ 8) }
     ensures ends { (result.input ≡ rx) × (result.output ≡ Some tx) }
+    ensures outlets { result.outlets ≡ outlets.items }
     ensures stage { IsFor node peers.items local.value result.first }
     ensures works { (result.failed ≡ false) × (result.cut_off ≡ false) }
 {

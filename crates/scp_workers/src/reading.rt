@@ -1,11 +1,12 @@
 //! The stage that reads a link.
-ghost use Rattle.std.specs.Prelude.{◌≡◌, [], false, Some};
+ghost use Rattle.std.specs.Prelude.{◌≡◌, ◌∷◌, ◌++◌, [], false, List, Some, IfOk, IfSome, OnOk, is_some};
+ghost use Rattle.scp_wire.specs.declared.link.LinkItem.{LinkItem};
 
 use crate::stage::{Given, Outs, Stage};
 use crate::worker::{Ended, Worker};
 use scp_ends::{Any, InboxTx, LinkRx};
 use scp_gate::Stage as Place;
-use scp_types::NodeId;
+use scp_types::{Fault, NodeId};
 use scp_wire::{Inbound, LinkItem, LinkReader};
 use std::alloc::Global;
 
@@ -14,6 +15,8 @@ use std::alloc::Global;
 pub struct ReadingStage {
     pub alloc: Global,
     pub reader: LinkReader,
+    /// A copy of each item that it took, in order, where they are to be kept.
+    pub kept: Option<Vec<LinkItem>>,
 }
 
 /// The worker that reads a link.
@@ -22,6 +25,36 @@ pub type ReaderWorker = Worker<LinkItem, Any, Inbound, Any, ReadingStage>;
 /// What it ends with.
 pub type ReaderEnded = Ended<LinkItem, Any, Inbound, Any, ReadingStage>;
 
+/// Where a reader keeps what it takes, before it took anything: nowhere, where it keeps nothing. Takes no memory.
+fn nothing_kept(alloc: Global, keeps: bool) -> Option<Vec<LinkItem>>
+    ensures none { IfSome result (λ items. items.items ≡ []) }
+    ensures keeps { is_some result ≡ keeps }
+{
+    if keeps { Some(Vec::new(alloc)) } else { None }
+}
+
+/// Another item that equals this one. It copies its bytes.
+fn copy(item: &LinkItem) -> Result<LinkItem, Fault>
+    ensures same { IfOk result (λ copied. copied ≡ item.now) }
+{
+    match item {
+        LinkItem::Opened(conn) => Ok(LinkItem::Opened(*conn)),
+        LinkItem::Bytes(conn, bytes) => Ok(LinkItem::Bytes(*conn, bytes.copy()?)),
+        LinkItem::Closed(conn) => Ok(LinkItem::Closed(*conn)),
+    }
+}
+
+/// Keeps a copy of an item, where they are to be kept.
+fn keep(kept: &mut Option<Vec<LinkItem>>, item: &LinkItem) -> Result<(), Fault>
+    ensures kept { OnOk result ((took : List LinkItem) → IfSome kept.old (λ items. items.items ≡ took) → IfSome kept.new (λ items. items.items ≡ took ++ item.now ∷ [])) }
+    ensures same { is_some kept.new ≡ is_some kept.old }
+{
+    if let Some(items) = kept {
+        items.push(copy(item)?)?;
+    }
+    Ok(())
+}
+
 impl Stage<LinkItem, Any, Inbound, Any> for ReadingStage {
     ghost use Rattle.scp_workers.specs.Reading.{Reads, HasNoRest};
 
@@ -29,8 +62,11 @@ impl Stage<LinkItem, Any, Inbound, Any> for ReadingStage {
 
     ghost rests = { HasNoRest };
 
-    /// Reads an item: gives the first thing that it is read as.
+    /// Reads an item: gives the first thing that it is read as. Keeps a copy of it, where they are to be kept.
     fn take(&mut self, item: LinkItem) -> Option<Given<Inbound>> {
+        if keep(&mut self.kept, &item).is_err() {
+            return None;
+        }
         match self.reader.take(self.alloc, item) {
             Ok(onward) => Some(Given {
                 onward,
@@ -46,17 +82,27 @@ impl Stage<LinkItem, Any, Inbound, Any> for ReadingStage {
     }
 }
 
-/// The worker of this node that reads the link of this number, between the link and the inbox; they carried nothing for it yet. Takes no
-/// memory.
-pub fn reader(alloc: Global, node: NodeId, link: u8, rx: LinkRx, tx: InboxTx) -> ReaderWorker
+/// The worker of this node that reads the link of this number, between the link and the inbox; they carried nothing for it yet. Where
+/// `keeps` is set, its stage keeps a copy of each item that it takes. Takes no memory.
+pub fn reader(
+    alloc: Global,
+    node: NodeId,
+    link: u8,
+    rx: LinkRx,
+    tx: InboxTx,
+    keeps: bool,
+) -> ReaderWorker
     requires unused { (rx.got ≡ []) × (tx.sent ≡ []) }
     requires one { rx.producers ≡ 1 }
     ensures ends { (result.input ≡ rx) × (result.output ≡ Some tx) }
+    ensures outlets { result.outlets ≡ [] }
     ensures works { (result.failed ≡ false) × (result.cut_off ≡ false) }
+    ensures keeps { is_some result.first.kept ≡ keeps }
 {
     let stage = ReadingStage {
         alloc,
         reader: LinkReader::new(alloc),
+        kept: nothing_kept(alloc, keeps),
     };
     let place = Place::Reader(link);
     Worker::new(node, place, stage, Vec::new(alloc), rx, 1, Some(tx))

@@ -1,15 +1,15 @@
 //! What a worker does with a thing: it takes it into its stage, and sends what that gives.
 ghost use Rattle.std.specs.Prelude.{◌≡◌, true, false, [], ◌∷◌, ◌++◌, option_to_list};
-ghost use Rattle.scp_workers.specs.Working.{IsSameOutput, sent_by};
+ghost use Rattle.scp_workers.specs.Working.{IsSameOutput, AreSameOutlets, sent_by};
 ghost use Rattle.scp_workers.specs.inside.Working.{GivesOn, TakesOn, RanTo, MayTake};
 
 use crate::handing::hand_out;
 use crate::stage::{Given, Stage};
 use crate::telling::about_to_send;
+use scp_desk::Putter;
 use scp_ends::{Law, Tx};
 use scp_gate::{Counter, Gate};
-use scp_outbox::SharedOutbox;
-use std::sync::{Arc, Wait};
+use std::sync::Wait;
 
 /// Sends a thing. Says whether it went.
 fn send<U: Drop, M: Law<U>, R: Wait, G: Gate>(
@@ -106,7 +106,7 @@ fn take_one<T: Drop, L: Law<T>, U: Drop, M: Law<U>, S: Stage<T, L, U, M>, R: Wai
     rt: &R,
     gate: &G,
     counter: &mut Counter,
-    outlets: &[Arc<SharedOutbox>],
+    outlets: &mut Vec<Putter>,
     stage: &mut S,
     tx: &mut Option<Tx<U, M>>,
     thing: T,
@@ -114,15 +114,16 @@ fn take_one<T: Drop, L: Law<T>, U: Drop, M: Law<U>, S: Stage<T, L, U, M>, R: Wai
     requires rests { S.rests stage.old }
     requires may { MayTake S.runs L.fits thing (sent_by tx.old) stage.old }
     ensures same { IsSameOutput tx.old tx.new }
-    ensures takes { result ≡ true → TakesOn S.runs thing stage.old (sent_by tx.old) stage.new (sent_by tx.new) × S.rests stage.new }
+    ensures outlets { AreSameOutlets outlets.old.items outlets.new.items }
+    ensures takes { result ≡ true → TakesOn S.runs thing stage.old (sent_by tx.old) outlets.old.items stage.new (sent_by tx.new) outlets.new.items × S.rests stage.new }
 {
     let Some(given) = stage.take(thing) else {
         return false;
     };
     let Given { onward, outs } = given;
-    if hand_out(rt, outlets, outs).is_err() {
+    let Ok(()) = hand_out(rt, outlets, outs) else {
         return false;
-    }
+    };
     send_any(rt, gate, counter, tx, onward)
         && give_all::<T, L, U, M, S, R, G>(rt, gate, counter, stage, tx)
 }
@@ -140,7 +141,7 @@ pub(crate) fn take_or_lose<
     rt: &R,
     gate: &G,
     counter: &mut Counter,
-    outlets: &[Arc<SharedOutbox>],
+    outlets: &mut Vec<Putter>,
     stage: &mut S,
     tx: &mut Option<Tx<U, M>>,
     failed: bool,
@@ -149,8 +150,9 @@ pub(crate) fn take_or_lose<
     requires rests { failed ≡ false → S.rests stage.old }
     requires may { failed ≡ false → MayTake S.runs L.fits thing (sent_by tx.old) stage.old }
     ensures same { IsSameOutput tx.old tx.new }
+    ensures outlets { AreSameOutlets outlets.old.items outlets.new.items }
     ensures lost { failed ≡ true → result ≡ true }
-    ensures takes { result ≡ false → (failed ≡ false) × TakesOn S.runs thing stage.old (sent_by tx.old) stage.new (sent_by tx.new) × S.rests stage.new }
+    ensures takes { result ≡ false → (failed ≡ false) × TakesOn S.runs thing stage.old (sent_by tx.old) outlets.old.items stage.new (sent_by tx.new) outlets.new.items × S.rests stage.new }
 {
     failed || !take_one::<T, L, U, M, S, R, G>(rt, gate, counter, outlets, stage, tx, thing)
 }

@@ -1,9 +1,11 @@
 //! The stage that runs the slots.
 ghost use Rattle.std.specs.Prelude.{◌≡◌, ◌≤◌, ◌++◌, [], false, Some, OnOk, length, option_to_list};
 ghost use Rattle.scp_workers.specs.Slot.{IsFor};
+ghost use Rattle.scp_workers.specs.Working.{AreUnused};
 
 use crate::stage::{Given, Outs, Stage};
 use crate::worker::{Ended, Worker};
+use scp_desk::Putter;
 use scp_driver::KvDriver;
 use scp_ends::{Any, DecidedTx, InWindow, ReadyRx};
 use scp_gate::Stage as Place;
@@ -11,7 +13,6 @@ use scp_ledger::{
     CommandFate, Ledger, Onward, Took, what_holds_of_a_ledger_holds_with_one_thing_more,
     what_is_given_on_keeps_the_window,
 };
-use scp_outbox::SharedOutbox;
 use scp_pending::Ready;
 use scp_quorum::SaneSet;
 use scp_types::NodeId;
@@ -77,20 +78,22 @@ impl Stage<Ready, Any, Onward, InWindow> for SlotStage {
 }
 
 /// The worker of this node's slot stage, between the pending stage and the applier; both ends carried nothing yet. `peers[l]` is the sender
-/// of link l, and `outlets[l]` the outbox of link l; `local` is the node's own quorum set. Takes no memory.
+/// of link l, and `outlets[l]` an end of the outbox of link l that put nothing yet; `local` is the node's own quorum set. Takes no memory.
 pub fn slots(
     alloc: Global,
     node: NodeId,
     peers: Vec<NodeId>,
     local: Arc<SaneSet>,
-    outlets: Vec<Arc<SharedOutbox>>,
+    outlets: Vec<Putter>,
     rx: ReadyRx,
     tx: DecidedTx,
 ) -> SlotWorker
     requires few { length peers.items ≤ 255 }
     requires unused { (rx.got ≡ []) × (tx.sent ≡ []) }
+    requires outlets { AreUnused outlets.items }
     requires one { rx.producers ≡ 1 }
     ensures ends { (result.input ≡ rx) × (result.output ≡ Some tx) }
+    ensures outlets { result.outlets ≡ outlets.items }
     ensures stage { IsFor node peers.items local.value result.first.ledger }
     ensures works { (result.failed ≡ false) × (result.cut_off ≡ false) }
 {

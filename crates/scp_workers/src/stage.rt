@@ -28,10 +28,11 @@ pub struct Given<U> {
 /// A worker takes a thing only where nothing is left to give, and then has the stage give until nothing is left.
 pub trait Stage<T: Drop, L: Law<T>, U: Drop, M: Law<U>>: Drop {
     ghost use Rattle.std.specs.Prelude.{[], ◌∷◌, ◌++◌, List, IfSome, MatchOption, option_to_list};
-    ghost use Rattle.scp_workers.specs.Handing.{FitsOuts};
+    ghost use Rattle.scp_ledger.specs.declared.took.Outgoing.{Outgoing};
+    ghost use Rattle.scp_workers.specs.Handing.{FitsOuts, outgoing_of};
 
-    // A stage that stood so at first took these things, gave these, and stands so now.
-    ghost runs: { Self → List T → List U → Self → Type 0 };
+    // A stage that stood so at first took these things, gave these, handed these out, and stands so now.
+    ghost runs: { Self → List T → List U → List Outgoing → Self → Type 0 };
 
     // Nothing is left to give.
     ghost rests: { Self → Type 0 };
@@ -39,11 +40,11 @@ pub trait Stage<T: Drop, L: Law<T>, U: Drop, M: Law<U>>: Drop {
     /// Takes a thing. `None` where it failed, for want of memory or because it can't take more.
     fn take(&mut self, thing: T) -> Option<Given<U>>
         requires rests { rests self.old }
-        requires fits { (first : Self) × (took : List T) × (gave : List U) × runs first took gave self.old × L.fits (took ++ thing ∷ []) }
-        ensures runs { IfSome result (λ given. (first : Self) → (took : List T) → (gave : List U) → runs first took gave self.old → runs first (took ++ thing ∷ []) (gave ++ option_to_list given.onward) self.new × M.fits (gave ++ option_to_list given.onward)) }
+        requires fits { (first : Self) × (took : List T) × (gave : List U) × (out : List Outgoing) × runs first took gave out self.old × L.fits (took ++ thing ∷ []) }
+        ensures runs { IfSome result (λ given. (first : Self) → (took : List T) → (gave : List U) → (out : List Outgoing) → runs first took gave out self.old → runs first (took ++ thing ∷ []) (gave ++ option_to_list given.onward) (out ++ outgoing_of given.outs) self.new × M.fits (gave ++ option_to_list given.onward)) }
         ensures outs { IfSome result (λ given. FitsOuts given.outs) };
 
     /// The next thing that it gives, if any is left.
     fn give(&mut self) -> Option<U>
-        ensures gives { MatchOption result ((first : Self) → (took : List T) → (gave : List U) → runs first took gave self.old → runs first took gave self.new × rests self.new) (λ x. (first : Self) → (took : List T) → (gave : List U) → runs first took gave self.old → runs first took (gave ++ x ∷ []) self.new × M.fits (gave ++ x ∷ [])) };
+        ensures gives { MatchOption result ((first : Self) → (took : List T) → (gave : List U) → (out : List Outgoing) → runs first took gave out self.old → runs first took gave out self.new × rests self.new) (λ x. (first : Self) → (took : List T) → (gave : List U) → (out : List Outgoing) → runs first took gave out self.old → runs first took (gave ++ x ∷ []) out self.new × M.fits (gave ++ x ∷ [])) };
 }

@@ -59,7 +59,7 @@ fn between(alloc: Global, room: usize) -> Result<(LinkTx, ReaderWorker, InboxRx)
     let (tx, rx) = link(alloc, PEER, ME, 8)?;
     let (mut ends, out) = inbox(alloc, 1, room)?;
     match ends.pop() {
-        Some(end) => Ok((tx, reader(alloc, ME, 0, rx, end), out)),
+        Some(end) => Ok((tx, reader(alloc, ME, 0, rx, end, false), out)),
         None => Err(Fault::BadConfig),
     }
 }

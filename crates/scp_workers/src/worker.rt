@@ -1,30 +1,30 @@
 //! A worker: it runs a stage between two channels.
-ghost use Rattle.std.specs.Prelude.{◌≡◌, ◌≤◌, ◌⊎◌, true, false, [], List};
+ghost use Rattle.std.specs.Prelude.{◌≡◌, ◌≤◌, true, false, []};
 ghost use Rattle.scp_ends.specs.Ends.{HeardAll};
-ghost use Rattle.scp_workers.specs.Working.{Holds, EndsWell, FitsAlone, sent_by};
+ghost use Rattle.scp_workers.specs.Working.{Holds, EndsWell, FitsAlone, AreUnused, sent_by};
 ghost use Rattle.scp_workers.specs.inside.Working.{SameEnds};
 
 use crate::ending::{Left, stop};
 use crate::sending::take_or_lose;
 use crate::stage::Stage;
 use crate::telling::{about_to_send, receive};
+use scp_desk::Putter;
 use scp_ends::{Done, Gone, Item, Law, Nobody, Rx, Tx, Unheard};
 use scp_gate::{Counter, Gate, Stage as Place};
-use scp_outbox::SharedOutbox;
 use scp_types::{NODE_LIMIT, NodeId};
 use std::marker::Model;
 use std::snapshot::Snapshot;
-use std::sync::{Arc, Wait};
+use std::sync::Wait;
 
-/// Receives things, takes them into its stage, hands out what goes to peers, and sends what the stage gives. Contracts see its ends, the stage
-/// that it was made of, whether it failed, and whether it was cut off.
+/// Receives things, takes them into its stage, puts what goes to peers into the outboxes of the links, and sends what the stage gives. Contracts
+/// see its ends, the stage that it was made of, whether it failed, and whether it was cut off.
 #[derive(Drop)]
 pub struct Worker<T: Drop, L: Law<T>, U: Drop, M: Law<U>, S: Stage<T, L, U, M>> {
     rx: Rx<T, L>,
     tx: Option<Tx<U, M>>,
     stage: S,
     first: Snapshot<S>,
-    outlets: Vec<Arc<SharedOutbox>>,
+    outlets: Vec<Putter>,
     producers: u8,
     stops: [bool; NODE_LIMIT],
     counter: Counter,
@@ -34,23 +34,29 @@ pub struct Worker<T: Drop, L: Law<T>, U: Drop, M: Law<U>, S: Stage<T, L, U, M>> 
 
 impl<T: Drop, L: Law<T>, U: Drop, M: Law<U>, S: Stage<T, L, U, M>> Model for Worker<T, L, U, M, S> {
     ghost use Rattle.std.specs.Prelude.{◌≡◌, ◌≤◌, true, false, is_some};
+    ghost use Rattle.std.specs.Coded.{codes};
+    ghost use Rattle.scp_xdr.specs.inside.TreeModel.{coded_row};
+    ghost use Rattle.scp_quorum.specs.inside.QuorumTree.{coded_level};
     ghost use Rattle.scp_ends.specs.Order.{values};
     ghost use Rattle.scp_workers.specs.Working.{Work, FitsAlone, sent_by};
     ghost use Rattle.scp_workers.specs.inside.Working.{AreStops, HasGiven};
 
     ghost Value = { Work T U S };
 
-    ghost view = { λ w. record { input = w.rx; output = w.tx; first = w.first.value; failed = w.failed; cut_off = is_some w.gone } };
+    ghost coded = { Prim.hlevel (codes, coded_row coded_level) };
 
-    ghost invariant = { λ w. (w.rx.producers ≡ w.producers) × (w.producers ≤ 8) × (w.failed ≡ false → HasGiven S.runs S.rests w.first.value (values w.rx.got) (sent_by w.tx) w.stage) × AreStops w.stops w.rx.got × (is_some w.gone ≡ true → w.failed ≡ true) × FitsAlone L.fits w.rx };
+    ghost view = { λ w. record { input = w.rx; output = w.tx; outlets = w.outlets.items; first = w.first.value; failed = w.failed; cut_off = is_some w.gone } };
+
+    ghost invariant = { λ w. (w.rx.producers ≡ w.producers) × (w.producers ≤ 8) × (w.failed ≡ false → HasGiven S.runs S.rests w.first.value (values w.rx.got) (sent_by w.tx) w.outlets.items w.stage) × AreStops w.stops w.rx.got × (is_some w.gone ≡ true → w.failed ≡ true) × FitsAlone L.fits w.rx };
 }
 
-/// What a worker ends with: its receiving end, what its sending end left, its stage, whether it ended well, whether nobody sent to it any more,
-/// and whether nobody received its end any more.
+/// What a worker ends with: its receiving end, what its sending end left, its ends of the outboxes, its stage, whether it ended well, whether
+/// nobody sent to it any more, and whether nobody received its end any more.
 #[derive(Drop)]
 pub struct Ended<T: Drop, L: Law<T>, U: Drop, M: Law<U>, S: Stage<T, L, U, M>> {
     rx: Rx<T, L>,
     done: Option<Done<U, M>>,
+    outlets: Vec<Putter>,
     first: Snapshot<S>,
     stage: S,
     well: bool,
@@ -60,14 +66,19 @@ pub struct Ended<T: Drop, L: Law<T>, U: Drop, M: Law<U>, S: Stage<T, L, U, M>> {
 
 impl<T: Drop, L: Law<T>, U: Drop, M: Law<U>, S: Stage<T, L, U, M>> Model for Ended<T, L, U, M, S> {
     ghost use Rattle.std.specs.Prelude.{is_some};
+    ghost use Rattle.std.specs.Coded.{codes};
+    ghost use Rattle.scp_xdr.specs.inside.TreeModel.{coded_row};
+    ghost use Rattle.scp_quorum.specs.inside.QuorumTree.{coded_level};
     ghost use Rattle.scp_workers.specs.Working.{End, EndsWell};
     ghost use Rattle.scp_workers.specs.inside.Working.{HearsToTheEnd};
 
     ghost Value = { End T U S };
 
-    ghost view = { λ e. record { input = e.rx; output = e.done; first = e.first.value; stage = e.stage; well = e.well; cut_off = is_some e.gone; unheard = is_some e.unheard } };
+    ghost coded = { Prim.hlevel (codes, coded_row coded_level) };
 
-    ghost invariant = { λ e. EndsWell S.runs S.rests (record { input = e.rx; output = e.done; first = e.first.value; stage = e.stage; well = e.well; cut_off = is_some e.gone; unheard = is_some e.unheard }) × HearsToTheEnd e.rx (is_some e.gone) };
+    ghost view = { λ e. record { input = e.rx; output = e.done; outlets = e.outlets.items; first = e.first.value; stage = e.stage; well = e.well; cut_off = is_some e.gone; unheard = is_some e.unheard } };
+
+    ghost invariant = { λ e. EndsWell S.runs S.rests (record { input = e.rx; output = e.done; outlets = e.outlets.items; first = e.first.value; stage = e.stage; well = e.well; cut_off = is_some e.gone; unheard = is_some e.unheard }) × HearsToTheEnd e.rx (is_some e.gone) };
 }
 
 impl<T: Drop, L: Law<T>, U: Drop, M: Law<U>, S: Stage<T, L, U, M>> Ended<T, L, U, M, S> {
@@ -92,39 +103,41 @@ impl<T: Drop, L: Law<T>, U: Drop, M: Law<U>, S: Stage<T, L, U, M>> Ended<T, L, U
         self.unheard.is_some()
     }
 
-    /// Its receiving end, what its sending end left, and the stage.
-    pub fn into_parts(self) -> (Rx<T, L>, Option<Done<U, M>>, S)
-        ensures parts { (result.0 ≡ self.input) × (result.1 ≡ self.output) × (result.2 ≡ self.stage) }
+    /// Its receiving end, what its sending end left, its ends of the outboxes, and the stage.
+    pub fn into_parts(self) -> (Rx<T, L>, Option<Done<U, M>>, Vec<Putter>, S)
+        ensures parts { (result.0 ≡ self.input) × (result.1 ≡ self.output) × (result.2.items ≡ self.outlets) × (result.3 ≡ self.stage) }
         ensures well { EndsWell S.runs S.rests self }
         ensures heard { self.cut_off ≡ false → HeardAll self.input }
     {
         let Ended {
             rx,
             done,
+            outlets,
             stage,
             ..
         } = self;
-        (rx, done, stage)
+        (rx, done, outlets, stage)
     }
 }
 
 impl<T: Drop, L: Law<T>, U: Drop, M: Law<U>, S: Stage<T, L, U, M>> Worker<T, L, U, M, S> {
     /// A worker of this node at this place: between a channel of so many producers and where goes what the stage gives, if anywhere; both
-    /// carried nothing yet. `outlets[l]` is the outbox of link l. Takes no memory.
+    /// carried nothing yet. `outlets[l]` is its end of the outbox of link l, and put nothing yet. Takes no memory.
     pub fn new(
         node: NodeId,
         place: Place,
         stage: S,
-        outlets: Vec<Arc<SharedOutbox>>,
+        outlets: Vec<Putter>,
         rx: Rx<T, L>,
         producers: u8,
         tx: Option<Tx<U, M>>,
     ) -> Worker<T, L, U, M, S>
         requires unused { (rx.got ≡ []) × (sent_by tx ≡ []) }
+        requires outlets { AreUnused outlets.items }
         requires producers { (rx.producers ≡ producers) × (producers ≤ 8) }
         requires fits { FitsAlone L.fits rx }
-        requires fresh { S.runs stage [] [] stage × S.rests stage }
-        ensures { result ≡ record { input = rx; output = tx; first = stage; failed = false; cut_off = false } }
+        requires fresh { S.runs stage [] [] [] stage × S.rests stage }
+        ensures { result ≡ record { input = rx; output = tx; outlets = outlets.items; first = stage; failed = false; cut_off = false } }
     {
         let first = Snapshot::of(&stage);
         Worker {
@@ -160,7 +173,7 @@ impl<T: Drop, L: Law<T>, U: Drop, M: Law<U>, S: Stage<T, L, U, M>> Worker<T, L, 
                     rt,
                     gate,
                     &mut self.counter,
-                    self.outlets.as_slice(),
+                    &mut self.outlets,
                     &mut self.stage,
                     &mut self.tx,
                     self.failed,
@@ -187,6 +200,7 @@ impl<T: Drop, L: Law<T>, U: Drop, M: Law<U>, S: Stage<T, L, U, M>> Worker<T, L, 
     }
 
     /// Works until each producer has ended, or there is none any more.
+    #[tactic(auto, using(crate::proofs::Outlets::same_on))]
     fn work<R: Wait, G: Gate>(&mut self, rt: &R, gate: &G)
         ensures same { SameEnds self.old self.new }
         ensures over { self.new.cut_off ≡ false → HeardAll self.new.input }
@@ -207,6 +221,7 @@ impl<T: Drop, L: Law<T>, U: Drop, M: Law<U>, S: Stage<T, L, U, M>> Worker<T, L, 
         let Worker {
             rx,
             tx,
+            outlets,
             stage,
             first,
             gone,
@@ -220,6 +235,7 @@ impl<T: Drop, L: Law<T>, U: Drop, M: Law<U>, S: Stage<T, L, U, M>> Worker<T, L, 
         Ended {
             rx,
             done,
+            outlets,
             first,
             stage,
             well,

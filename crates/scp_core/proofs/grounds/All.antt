@@ -3,7 +3,9 @@ use Rattle.std.proofs.Common.{◌≡◌, ℕ, List, [], ◌∷◌, ◌++◌, ref
 use Rattle.std.specs.Prelude.{None, fold, length}
 use Rattle.std.specs.List.{AllByRecursion}
 use Rattle.std.proofs.lemmas.Grind.{flat_map-append}
-use Rattle.std.proofs.lemmas.List.Elements.{All-nil}
+use Rattle.scp_grounds.specs.Grounds.{IsSentOut}
+use Rattle.scp_grounds.proofs.Basics.{none_some}
+use Rattle.scp_grounds.proofs.Fit.{first_fit}
 use Rattle.scp_core.specs.declared.config.Config.{Config}
 use Rattle.scp_core.specs.declared.event.Event.{Event}
 use Rattle.scp_core.specs.declared.event.Reply.{Reply}
@@ -13,21 +15,19 @@ use Rattle.scp_core.specs.History.{Exchange, Past, hears, past_of, nothing_heard
 use Rattle.scp_core.specs.Ledger.{IsFailure}
 use Rattle.scp_core.specs.Node.{NodeView}
 use Rattle.scp_core.specs.Theorem.{made, AreSteps, LedgerTheorem}
-use Rattle.scp_core.specs.Sent.{sent_by, sent_to, IsSentOut, grounds_of}
+use Rattle.scp_core.specs.Sent.{sent_by, sent_to, grounds_of}
 use Rattle.scp_core.proofs.Below.{Laws}
-use Rattle.scp_core.proofs.grounds.Basics.{none_some}
-use Rattle.scp_core.proofs.grounds.Handing.{boxes_sent, first_boxes, sent_out}
-use Rattle.scp_core.proofs.grounds.Putting.{IsSaid}
+use Rattle.scp_core.proofs.grounds.Handing.{stands_sent, first_boxes, sent_out}
 use Rattle.scp_core.proofs.grounds.Stepping.{State, state_of, at_arrived, state_step, quiet}
 
 -- ---- the node as it was made
 
 made_stands : Laws → (c : Config) → State nothing_heard (λ link. []) (made c)
 made_stands law c = state_of nothing_heard (λ link. []) (made c) [] refl (record {
-  handed = λ link. [];
-  boxes = first_boxes law.empty (grounds_of (made c) []) (length c.peers);
+  handed = [];
+  boxes = first_boxes law.empty (length c.peers);
+  fit = first_fit (grounds_of (made c) []) (made c).ledger;
   machines = λ at machine e. none_some None machine refl e;
-  behind = λ link. All-nil (IsSaid (made c).ledger);
 })
 
 -- ---- each exchange after it
@@ -39,7 +39,7 @@ same_bytes p sent same v e s = record {
   waiting = s.waiting;
   came = s.came;
   out = λ link. subst (λ (bytes : List (List ℕ)). IsSentOut (grounds_of v s.taken) link bytes) (sym (e link)) (s.out link);
-  now = λ runs. ((s.now runs).0, (let st = (s.now runs).1 in record { handed = st.handed; boxes = boxes_sent (grounds_of v s.taken) sent same v.outboxes st.handed e st.boxes; machines = st.machines; behind = st.behind }));
+  now = λ runs. ((s.now runs).0, stands_sent sent same (grounds_of v s.taken) v.ledger v.outboxes e (s.now runs).1);
 }
 
 along : Laws → (c : Config) (xs : List Exchange) (p : Past) (sent : ℕ → List (List ℕ)) (v last : NodeView) → AreSteps c p v xs last → State p sent v → State (fold (λ q x. hears c q x.0 x.1) p xs) (λ link. sent link ++ sent_to link xs) last
@@ -56,7 +56,7 @@ pub sent_at : Laws → (past : List Exchange) (v : NodeView) → LedgerTheorem p
 sent_at law past v h f =
     let s : State (past_of v.config past) (λ link. sent_to link past) v = along law v.config past nothing_heard (λ link. []) (made v.config) v h.replies (made_stands law v.config) in
     let st = at_arrived (past_of v.config past) (λ link. sent_to link past) v f s in
-    sent_out (grounds_of v f.arrived) (λ link. sent_to link past) v.outboxes st.handed st.boxes
+    sent_out (λ link. sent_to link past) (grounds_of v f.arrived) v.ledger v.outboxes st
 
 -- nothing was sent by a step that failed the node
 none_sent : (link : ℕ) (event : Event) (reply : Reply) → IsFailure reply → sent_by link event reply ≡ []

@@ -1,23 +1,21 @@
 -- One step: what was sent rests on its grounds then too.
-use Rattle.std.proofs.Common.{◌≡◌, ◌≢◌, ℕ, Bool, true, false, List, [], ◌∷◌, ◌++◌, refl, sym, ◌∙◌, ap, subst, append_assoc, append-nil, take, drop, All, inl, inr}
+use Rattle.std.proofs.Common.{◌≡◌, ◌≢◌, ℕ, Bool, true, false, List, [], ◌∷◌, ◌++◌, refl, sym, ◌∙◌, ap, subst, append_assoc, append-nil, take, drop, inl, inr}
 use Rattle.std.specs.Prelude.{Option, Some, slice_set, if◌then◌else◌}
 use Rattle.std.proofs.lemmas.Bool.{eq-eqb, ne_eqb}
 use Rattle.std.proofs.lemmas.List.{append_cancel_right}
-use Rattle.scp_types.specs.declared.names.Slot.{Slot}
-use Rattle.scp_wire.specs.declared.link.Command.TheVariants.{Ask}
 use Rattle.scp_wire.specs.declared.link.Inbound.{Inbound}
 use Rattle.scp_wire.specs.declared.link.Inbound.TheVariants as inbound
 use Rattle.scp_wire.specs.declared.message.Message.{Message}
-use Rattle.scp_wire.specs.declared.message.Message.TheVariants.{GetRecord}
-use Rattle.scp_outbox.specs.Outbox.{OutboxView}
 use Rattle.scp_pending.specs.Rules.{Settled, settled_by, reply as reply_to}
 use Rattle.scp_pending.specs.declared.ready.Ready.{Ready}
-use Rattle.scp_pending.specs.declared.ready.Ready.TheVariants as ready
-use Rattle.scp_ledger.specs.declared.took.Onward.{Onward}
-use Rattle.scp_ledger.specs.declared.took.Onward.TheVariants.{Decided, Asked}
-use Rattle.scp_ledger.specs.declared.took.Outgoing.{Outgoing}
-use Rattle.scp_ledger.specs.declared.took.Outgoing.TheVariants.{To}
-use Rattle.scp_apply.specs.Applier.{ApplierView, Takes as Applies}
+use Rattle.scp_grounds.specs.Grounds.{Grounds, start_of, IsSentOut}
+use Rattle.scp_grounds.specs.Handed.{out_of}
+use Rattle.scp_grounds.proofs.Asked.{applied_more}
+use Rattle.scp_grounds.proofs.Basics.{no_more, more_of, there_is, true_isnt}
+use Rattle.scp_grounds.proofs.Fit.{AreFit, fit_more, fit_answer, fit_step}
+use Rattle.scp_grounds.proofs.Growing.{Grows}
+use Rattle.scp_grounds.proofs.Ledgers.{LedgerStep, ledger_step}
+use Rattle.scp_grounds.proofs.Replies.{MayReply, reply_may, reply_more}
 use Rattle.scp_core.specs.declared.config.Config.{Config}
 use Rattle.scp_core.specs.declared.event.Event.{Event}
 use Rattle.scp_core.specs.declared.event.Event.TheVariants.{Open, Send, Close, Local, ReaderTake, ReaderPut, PendTake, PendPut, SlotTake, SlotPut, ApplyTake, Drain}
@@ -25,22 +23,16 @@ use Rattle.scp_core.specs.declared.event.Reply.{Reply}
 use Rattle.scp_core.specs.declared.event.Reply.TheVariants.{Failed, NoLink, AlreadyOpen, LivesSpent, NotOpen, Full, Accepted, Blocked, Idle, Moved, Sent, JournalFull, NoMemory}
 use Rattle.scp_core.specs.Flow.{Flows}
 use Rattle.scp_core.specs.History.{Past, accepts, moves, hears, readings_of}
-use Rattle.scp_core.specs.Node.{NodeView, HandsEach, PendTakes, SlotTakes, ApplyTakes, Accepts, Moves, SendsOut, Step, Fails}
-use Rattle.scp_core.specs.Settled.{start_at}
-use Rattle.scp_ledger.specs.Kv.{KvLedger}
+use Rattle.scp_core.specs.Node.{NodeView, PendTakes, SlotTakes, ApplyTakes, Accepts, Moves, SendsOut, Step, Fails}
 use Rattle.scp_core.specs.Theorem.{IsReply}
+use Rattle.scp_core.specs.Sent.{who_of, sent_by, grounds_of}
 use Rattle.scp_core.proofs.Below.{Laws}
 use Rattle.scp_core.proofs.Links.{hand_cut}
 use Rattle.scp_core.proofs.Idling.{start_is}
-use Rattle.scp_core.proofs.Queues.{within, there_is}
-use Rattle.scp_core.specs.Sent.{Grounds, sent_by, IsSentOut, grounds_of}
-use Rattle.scp_core.proofs.grounds.Basics.{IsMore, no_more, more_of, true_isnt}
-use Rattle.scp_core.proofs.grounds.Growing.{Grows}
-use Rattle.scp_core.proofs.grounds.Handing.{Boxes, boxes_more, boxes_sent, sent_out, gives_one}
-use Rattle.scp_core.proofs.grounds.Ledgers.{LedgerStep, ledger_step}
-use Rattle.scp_core.proofs.grounds.Replies.{MayReply, reply_may}
+use Rattle.scp_core.proofs.Putting.{hands_each}
+use Rattle.scp_core.proofs.Queues.{within}
+use Rattle.scp_core.proofs.grounds.Handing.{Stands, stands_sent, sent_out, puts_each, gives_one}
 use Rattle.scp_core.proofs.grounds.Answers.{told_to_ask, applied_may}
-use Rattle.scp_core.proofs.grounds.Putting.{IsSaid, Stands, stands_one, stands_answer, reply_more, tell_peers}
 
 -- what holds of a list of exchanges: all that was sent rests on its grounds; and of a node that runs, what waits is the inbox
 pub record State (p : Past) (sent : ℕ → List (List ℕ)) (v : NodeView) : Type 0 where
@@ -52,7 +44,7 @@ pub record State (p : Past) (sent : ℕ → List (List ℕ)) (v : NodeView) : Ty
 
 -- of a node that runs
 pub state_of : (p : Past) (sent : ℕ → List (List ℕ)) (v : NodeView) (taken : List Inbound) → p.came ≡ taken ++ v.inbox → Stands sent (grounds_of v taken) v.ledger v.outboxes → State p sent v
-state_of p sent v taken came st = record { taken = taken; waiting = v.inbox; came = came; out = sent_out (grounds_of v taken) sent v.outboxes st.handed st.boxes; now = λ runs. (refl, st) }
+state_of p sent v taken came st = record { taken = taken; waiting = v.inbox; came = came; out = sent_out sent (grounds_of v taken) v.ledger v.outboxes st; now = λ runs. (refl, st) }
 
 -- what was taken is what arrived at the pending stage
 pub at_arrived : (p : Past) (sent : ℕ → List (List ℕ)) (v : NodeView) (f : Flows p v) → State p sent v → Stands sent (grounds_of v f.arrived) v.ledger v.outboxes
@@ -60,16 +52,6 @@ at_arrived p sent v f s =
     let now = s.now f.runs in
     let same : s.taken ≡ f.arrived = append_cancel_right s.taken f.arrived v.inbox (ap (λ (xs : List Inbound). s.taken ++ xs) (sym now.0) ∙ sym s.came ∙ f.inbox) in
     subst (λ (xs : List Inbound). Stands sent (grounds_of v xs) v.ledger v.outboxes) same now.1
-
--- ---- with more grounds
-
-stands_more : (sent : ℕ → List (List ℕ)) (g h : Grounds) (v : KvLedger) (outboxes : List OutboxView) → Grows g h → Stands sent g v outboxes → Stands sent h v outboxes
-stands_more sent g h v outboxes k st = record {
-  handed = st.handed;
-  boxes = boxes_more g h sent outboxes st.handed k st.boxes;
-  machines = rw k.config st.machines;
-  behind = st.behind;
-}
 
 -- ---- accepted events
 
@@ -89,63 +71,39 @@ pend_takes law p sent old new f b st =
     let taken : List Inbound = f.arrived ++ b.x ∷ [] in
     let g = grounds_of old f.arrived in
     let h = grounds_of old taken in
-    let more : Grows g h = record { config = refl; taken = more_of f.arrived taken (b.x ∷ []) refl; journal = no_more old.ledger.journal old.ledger.journal refl; decisions = no_more old.ledger.decisions old.ledger.decisions refl; applied = no_more old.applier.applied old.applier.applied refl } in
-    let rules : old.pending.settled ≡ settled_by (start_at old.config) f.arrived = f.pending.settled ∙ ap (λ (start : Settled). settled_by start f.arrived) (start_is p old f) in
-    let may : MayReply h (reply_to old.pending.settled b.x) = subst (λ (s : Settled). MayReply h (reply_to s b.x)) (sym rules) (reply_may law.replies law.stays law.links h f.arrived b.x refl) in
+    let more : Grows g h = record { who = refl; taken = more_of f.arrived taken (b.x ∷ []) refl; journal = no_more old.ledger.journal old.ledger.journal refl; decisions = no_more old.ledger.decisions old.ledger.decisions refl; applied = no_more old.applier.applied old.applier.applied refl } in
+    let answer : Option (ℕ × Message) = reply_to old.pending.settled b.x in
+    let rules : old.pending.settled ≡ settled_by (start_of (who_of old.config)) f.arrived = f.pending.settled ∙ ap (λ (start : Settled). settled_by start f.arrived) (start_is p old f) in
+    let may : MayReply h answer = subst (λ (s : Settled). MayReply h (reply_to s b.x)) (sym rules) (reply_may law.replies law.stays law.links h f.arrived b.x refl) in
+    let fit : AreFit h old.ledger (st.handed ++ out_of answer) = fit_answer h old.ledger st.handed answer may (fit_more g h old.ledger st.handed more st.fit) in
     let came : p.came ≡ taken ++ b.rest = f.inbox ∙ ap (λ (xs : List Inbound). f.arrived ++ xs) b.inbox ∙ sym (append_assoc f.arrived (b.x ∷ []) b.rest) in
     subst (λ (v : NodeView). State p sent v) (sym b.is)
     (state_of p sent (record old { inbox = b.rest; pending = b.after'; pend_hand = b.thing; outboxes = new.outboxes }) taken came
-    (stands_answer law.puts sent h old.ledger old.outboxes new.outboxes (reply_to old.pending.settled b.x) (stands_more sent g h old.ledger old.outboxes more st) may b.hands))
-
-applied_more : (old : ApplierView) (x : Onward) (answer : Option (ℕ × Message)) (new : ApplierView) → Applies old x answer new → IsMore old.applied new.applied
-applied_more old (Decided d) answer new t = more_of old.applied new.applied t.1.more t.1.grows
-applied_more old (Asked link slot) answer new t = no_more old.applied new.applied (ap (λ (v : ApplierView). v.applied) t.1)
+    (record { handed = st.handed ++ out_of answer; boxes = puts_each law.puts sent old.outboxes st.handed (out_of answer) new.outboxes st.boxes (hands_each old.outboxes new.outboxes answer b.hands) fit.newer; fit = fit; machines = st.machines }))
 
 apply_takes : Laws → (p : Past) (sent : ℕ → List (List ℕ)) (old new : NodeView) (f : Flows p old) → ApplyTakes old new → Stands sent (grounds_of old f.arrived) old.ledger old.outboxes → State (moves p ApplyTake) sent new
 apply_takes law p sent old new f b st =
     let w : NodeView = record old { decided = b.rest; applier = b.after'; outboxes = new.outboxes } in
     let g = grounds_of old f.arrived in
     let h = grounds_of w f.arrived in
-    let more : Grows g h = record { config = refl; taken = no_more f.arrived f.arrived refl; journal = no_more old.ledger.journal old.ledger.journal refl; decisions = no_more old.ledger.decisions old.ledger.decisions refl; applied = applied_more old.applier b.x b.answer b.after' b.takes } in
+    let more : Grows g h = record { who = refl; taken = no_more f.arrived f.arrived refl; journal = no_more old.ledger.journal old.ledger.journal refl; decisions = no_more old.ledger.decisions old.ledger.decisions refl; applied = applied_more old.applier b.x b.answer b.after' b.takes } in
+    let may : MayReply h b.answer = reply_more g h b.answer more (applied_may law p old f b.x b.rest b.answer b.after' b.decided b.takes) in
+    let fit : AreFit h old.ledger (st.handed ++ out_of b.answer) = fit_answer h old.ledger st.handed b.answer may (fit_more g h old.ledger st.handed more st.fit) in
     subst (λ (v : NodeView). State (moves p ApplyTake) sent v) (sym b.is)
     (state_of (moves p ApplyTake) sent w f.arrived f.inbox
-    (stands_answer law.puts sent h old.ledger old.outboxes new.outboxes b.answer (stands_more sent g h old.ledger old.outboxes more st) (reply_more g h b.answer more (applied_may law p old f b.x b.rest b.answer b.after' b.decided b.takes)) b.hands))
-
--- what the slot stage sends
-module _ (law : Laws) (p : Past) (sent : ℕ → List (List ℕ)) (old new : NodeView) (f : Flows p old) (b : SlotTakes old new) (s : LedgerStep old.config old.ledger b.x b.took b.after') (st : Stands sent (grounds_of old f.arrived) old.ledger old.outboxes) where
-  abbrev g : Grounds
-  g = grounds_of old f.arrived
-
-  abbrev h : Grounds
-  h = grounds_of (record old { ready = b.rest; ledger = b.after'; slot_hand = b.took.onward; last_command = b.took.command; outboxes = new.outboxes }) f.arrived
-
-  more : Grows g h
-  more = record { config = refl; taken = no_more f.arrived f.arrived refl; journal = s.journal; decisions = s.decisions; applied = no_more old.applier.applied old.applier.applied refl }
-
-  boxes_then : Boxes h sent old.outboxes st.handed
-  boxes_then = boxes_more g h sent old.outboxes st.handed more st.boxes
-
-  behind_then : (link : ℕ) → All (IsSaid b.after') (st.handed link)
-  behind_then link k d below t e = s.behind t (st.behind link k d below t e)
-
-  stood : Stands sent h b.after' old.outboxes
-  stood = record { handed = st.handed; boxes = boxes_then; machines = s.machines; behind = behind_then }
-
-  asks : (link : ℕ) (slot : Slot) → b.x ≡ ready.Local (Ask link slot) → HandsEach old.outboxes (To link (GetRecord slot) ∷ []) new.outboxes → Stands sent h b.after' new.outboxes
-  asks link slot e hands = subst (λ (o : List OutboxView). Stands sent h b.after' o) (sym hands.2) (stands_one law.puts sent h b.after' old.outboxes hands.0 link (GetRecord slot) stood (told_to_ask law p old f b.rest link slot (b.ready ∙ ap (λ (x : Ready). x ∷ b.rest) e)) refl hands.1)
-
-  slot_sends : Stands sent h b.after' new.outboxes
-  slot_sends = elim s.outs [
-    | inl none ↦ subst (λ (o : List OutboxView). Stands sent h b.after' o) (sym (subst (λ (out : List Outgoing). HandsEach old.outboxes out new.outboxes) none b.hands)) stood
-    | inr (inl w) ↦ asks w.0 w.1 w.2 (subst (λ (out : List Outgoing). HandsEach old.outboxes out new.outboxes) w.3 b.hands)
-    | inr (inr w) ↦ tell_peers law.puts sent h old.ledger b.after' refl st.handed boxes_then.allowed st.behind behind_then s.machines old.outboxes new.outboxes w.0.emitted.nomination w.0.emitted.ballot boxes_then w.2.nomination w.2.ballots (subst (λ (out : List Outgoing). HandsEach old.outboxes out new.outboxes) w.1 b.hands)
-  ]
+    (record { handed = st.handed ++ out_of b.answer; boxes = puts_each law.puts sent old.outboxes st.handed (out_of b.answer) new.outboxes st.boxes (hands_each old.outboxes new.outboxes b.answer b.hands) fit.newer; fit = fit; machines = st.machines }))
 
 slot_takes : Laws → (p : Past) (sent : ℕ → List (List ℕ)) (old new : NodeView) (f : Flows p old) → SlotTakes old new → Stands sent (grounds_of old f.arrived) old.ledger old.outboxes → State (moves p SlotTake) sent new
 slot_takes law p sent old new f b st =
-    let s = ledger_step old.config old.ledger b.x b.took b.after' f.journal.me_is f.journal.local_is st.machines b.takes in
+    let w : NodeView = record old { ready = b.rest; ledger = b.after'; slot_hand = b.took.onward; last_command = b.took.command; outboxes = new.outboxes } in
+    let g = grounds_of old f.arrived in
+    let h = grounds_of w f.arrived in
+    let s : LedgerStep (who_of old.config) old.ledger b.x b.took b.after' = ledger_step (who_of old.config) old.ledger b.x b.took b.after' f.journal.me_is f.journal.local_is st.machines b.takes in
+    let more : Grows g h = record { who = refl; taken = no_more f.arrived f.arrived refl; journal = s.journal; decisions = s.decisions; applied = no_more old.applier.applied old.applier.applied refl } in
+    let fit : AreFit h b.after' (st.handed ++ b.took.outgoing) = fit_step g h old.ledger b.x b.took b.after' st.handed more refl s (λ link slot e. told_to_ask law p old f b.rest link slot (b.ready ∙ ap (λ (x : Ready). x ∷ b.rest) e)) st.fit in
     subst (λ (v : NodeView). State (moves p SlotTake) sent v) (sym b.is)
-    (state_of (moves p SlotTake) sent (record old { ready = b.rest; ledger = b.after'; slot_hand = b.took.onward; last_command = b.took.command; outboxes = new.outboxes }) f.arrived f.inbox (slot_sends law p sent old new f b s st))
+    (state_of (moves p SlotTake) sent w f.arrived f.inbox
+    (record { handed = st.handed ++ b.took.outgoing; boxes = puts_each law.puts sent old.outboxes st.handed b.took.outgoing new.outboxes st.boxes b.hands fit.newer; fit = fit; machines = s.machines }))
 
 -- ---- events that move something
 
@@ -179,11 +137,11 @@ drained law p sent old new (Drain l) bytes f d st =
     subst (λ (v : NodeView). State p (with_sent sent (Drain l) (Sent bytes)) v) (sym d.is)
     (state_of p (with_sent sent (Drain l) (Sent bytes)) (record old { outboxes = new.outboxes }) f.arrived f.inbox (record {
       handed = st.handed;
-      boxes = gives_one law.gives (grounds_of old f.arrived) sent (with_sent sent (Drain l) (Sent bytes)) old.outboxes st.handed l d.message bytes new.outboxes st.boxes d.gives d.spells
+      boxes = gives_one law.gives sent (with_sent sent (Drain l) (Sent bytes)) old.outboxes st.handed l d.message bytes new.outboxes st.boxes d.gives d.spells
           (ap (λ (b : Bool). sent l ++ (if b then bytes ∷ [] else [])) (eq-eqb l l refl))
           (λ m ne. ap (λ (b : Bool). sent m ++ (if b then bytes ∷ [] else [])) (ne_eqb l m (λ e. ne (sym e))) ∙ append-nil (sent m));
+      fit = st.fit;
       machines = st.machines;
-      behind = st.behind;
     }))
 drained law p sent old new event bytes f d st = absurd d
 
@@ -202,7 +160,7 @@ with_nothing p sent v event reply q s = record {
   waiting = s.waiting;
   came = s.came;
   out = λ link. subst (λ (bytes : List (List ℕ)). IsSentOut (grounds_of v s.taken) link bytes) (sym (same link)) (s.out link);
-  now = λ runs. ((s.now runs).0, (let st = (s.now runs).1 in record { handed = st.handed; boxes = boxes_sent (grounds_of v s.taken) sent (with_sent sent event reply) v.outboxes st.handed same st.boxes; machines = st.machines; behind = st.behind }));
+  now = λ runs. ((s.now runs).0, stands_sent sent (with_sent sent event reply) (grounds_of v s.taken) v.ledger v.outboxes same (s.now runs).1);
 }
   where
     same : (link : ℕ) → with_sent sent event reply link ≡ sent link
@@ -219,7 +177,7 @@ fails p sent old new event f x st =
       taken = f.arrived;
       waiting = old.inbox;
       came = f.inbox;
-      out = λ link. subst (λ (h : Grounds). IsSentOut h link (sent link)) (sym same) (sent_out g sent old.outboxes st.handed st.boxes link);
+      out = λ link. subst (λ (h : Grounds). IsSentOut h link (sent link)) (sym same) (sent_out sent g old.ledger old.outboxes st link);
       now = λ runs. absurd (true_isnt (sym x.failed ∙ runs));
     }
 

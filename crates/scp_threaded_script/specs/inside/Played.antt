@@ -1,6 +1,6 @@
 -- What the lines of a script did to nodes that run.
 -- No public clause reaches this: nothing here need be believed.
-use Rattle.std.specs.Prelude.{◌≡◌, ◌≢◌, ℕ, ◌+◌, ◌-◌, List, [], ◌∷◌, length, Option, None, Some, slice_get, slice_set, if◌then◌else◌, nat_eq}
+use Rattle.std.specs.Prelude.{◌≡◌, ℕ, ◌+◌, ◌-◌, List, [], ◌∷◌, length, Option, None, Some, slice_get, slice_set, if◌then◌else◌, nat_eq}
 use Rattle.scp_wire.specs.declared.link.Command.{Command as LocalCommand}
 use Rattle.scp_wire.specs.declared.link.Inbound.{Inbound}
 use Rattle.scp_wire.specs.declared.link.Inbound.TheVariants as inbound
@@ -12,6 +12,7 @@ use Rattle.scp_threaded_node.specs.declared.node.Node.{Node}
 use Rattle.scp_threaded_node.specs.Acting.{with_command, ActsAt, IsUnchanged}
 use Rattle.scp_threaded_node.specs.Seats.{Each, AreDriven}
 use Rattle.scp_threaded_script.specs.Lines.{link_of, driven_to, items_to, command_by, commands_for}
+pub use Rattle.scp_desks.specs.Places.{AreTwoOf}
 use Rattle.scp_threaded_script.specs.Reported.{AllRunSoFar, IsOneOf}
 
 -- ---- all nodes
@@ -39,10 +40,6 @@ abbrev pub HaveDone : List Command → List Command → List Node → Type 0
 HaveDone commands done nodes = (length nodes ≡ node_count commands) × HaveDoneSoFar commands done nodes
 
 -- ---- what one line does
-
--- two of them
-abbrev pub AreTwoOf : ℕ → ℕ → ℕ → Type 0
-AreTwoOf count from to = IsOneOf count from × IsOneOf count to × (from ≢ to)
 
 -- the nodes that the line names are there
 abbrev pub IsThere : ℕ → Command → Type 0

@@ -19,7 +19,7 @@ pub reports_gathered-told-requires-clause-names : goal.reports_gathered-told-req
 reports_gathered-told-requires-clause-names g c = subst (λ (l : List Command). All NamesNodes l) (sym c.as_slice-commands.ensures.value) c.in-Ok.ensures.names
 
 pub reports_gathered-told-requires-clause-few : goal.reports_gathered-told-requires-clause-few
-reports_gathered-told-requires-clause-few g c = omega (arith, ap (λ (l : List NodeReport). length l) c.as_slice-2.ensures.value, c.in-Ok.ensures.ran.shows.reported.0, ap (λ (l : List Command). node_count l) c.as_slice-commands.ensures.value, c.count_of_nodes-count.ensures.count, c.count_of_nodes-count.ensures.few)
+reports_gathered-told-requires-clause-few g c = omega (arith, ap (λ (l : List NodeReport). length l) c.as_slice-2.ensures.value, c.in-Ok.ensures.ran.shows.reported.count, ap (λ (l : List Command). node_count l) c.as_slice-commands.ensures.value, c.count_of_nodes-count.ensures.count, c.count_of_nodes-count.ensures.few)
 
 pub returns-clause-answer : goal.returns-clause-answer
 returns-clause-answer g c = λ input h.

@@ -5,8 +5,6 @@ use Rattle.scp_courier.proofs.tests.a_courier_whose_link_is_gone_goes_on_to_the_
 
 pub spawn-requires-send-F : goal.spawn-requires-send-F
 spawn-requires-send-F g c κs =
-    let shared = c.a_shared_outbox_crosses_threads.ensures.crosses in
-    let send = shared.send in
-    let sync = shared.sync in
-    let courier = courier_send shared in
+    let ends = c.ends_cross_threads.ensures.crosses in
+    let courier = courier_send ends in
     search (sendable, crosses) depth 40

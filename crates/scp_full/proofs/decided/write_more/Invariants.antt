@@ -1,6 +1,6 @@
 use Rattle.std.proofs.Common.{◌≡◌, ◌++◌, drop, string_bytes, flat_map, map}
 use Rattle.scp_line.specs.Report.{node_number}
-use Rattle.scp_silent.specs.Texts.{behind_comma}
+use Rattle.scp_words.specs.Words.{behind_comma}
 use Rattle.scp_full.proofs.decided.write_more.Given as goal
 
 -- with what is left it is all

@@ -1,5 +1,6 @@
 use Rattle.std.proofs.Common.{◌≡◌, sym, ap, ◌∙◌, subst}
 use Rattle.std.specs.Prelude.{Some, None}
+use Rattle.std.proofs.lemmas.Result.{err_from_is_err_and}
 use Rattle.scp_wire.specs.declared.link.Inbound.{Inbound}
 use Rattle.scp_pending.specs.declared.ready.Ready.{Ready}
 use Rattle.scp_ledger.specs.declared.took.Onward.{Onward}
@@ -21,7 +22,7 @@ pub returns-clause-ended : goal.returns-clause-ended
 returns-clause-ended c =
     let all = subst AllWell (sym c.ends.view_is) (none_failed c.args.ends c.requires.well) in
     subst EndWell c.ends.view_is (record {
-      lanes = λ l k there r there'. subst (λ (x : Receiver Inbound). IsReadOut x k r) c.into_parts-inbox.ensures.parts.0 (c.take_each_back.ensures.read_out l k there r there');
+      lanes = λ l k there r there'. subst (λ (x : Receiver Inbound). IsReadOut x k r) c.into_parts-inbox.ensures.parts.0 (c.in_ok-came.ensures.read_out l k there r there');
       commands = c.return_to.ensures.commands;
       told = subst (λ (x : Receiver Inbound). IsQueued x c.ends.inside.local) (c.take_each_back.ensures.same ∙ c.into_parts-inbox.ensures.parts.0) c.return_to.ensures.queued;
       given = c.in-Some.given;
@@ -52,4 +53,20 @@ take_back-requires-2 c =
     ap (λ (s : Sender Onward). s.line) (some_is _ _ same) ∙ (there.2 ∙ sym (ap (λ (r : Receiver Onward). r.line) c.into_parts-decided.ensures.parts.0))
   where
     some_is : (x y : Sender Onward) → Some x ≡ Some y → x ≡ y
+    some_is x y e = cc
+
+pub returns-in_err-came-clause-only_memory : goal.returns-in_err-came-clause-only_memory
+returns-in_err-came-clause-only_memory c =
+    let p = err_from_is_err_and c.from_residual.result c.from_residual.ensures.1 in
+    rw (p.1, p.2) c.in_err-came.ensures.only_memory
+
+pub take_back-requires : goal.take_back-requires
+take_back-requires c =
+    let all = subst AllWell (sym c.ends.view_is) (none_failed c.args.ends c.requires.well) in
+    let joined = subst AreJoined (sym c.ends.view_is) c.requires.joined in
+    let there = joined.ready (c.into_parts-inbox.ensures.well all.pend).ended in
+    let same : Some c.in-Some.given ≡ Some there.0 = sym c.in-Some.is ∙ (c.into_parts-inbox.ensures.parts.1 ∙ there.1) in
+    ap (λ (s : Sender Ready). s.line) (some_is _ _ same) ∙ (there.2 ∙ sym (ap (λ (r : Receiver Ready). r.line) c.into_parts-ready.ensures.parts.0))
+  where
+    some_is : (x y : Sender Ready) → Some x ≡ Some y → x ≡ y
     some_is x y e = cc

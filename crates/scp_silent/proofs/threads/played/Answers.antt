@@ -18,7 +18,7 @@ notices_of-requires-clause-in_order g c =
     (reports_in_order c.what_is_reported_keeps_the_headline.ensures.headline c.as_slice-commands.result.now c.in-Ok.ran.reports.items c.in-Ok.ensures.reported)
 
 pub notices_of-requires-clause-few : goal.notices_of-requires-clause-few
-notices_of-requires-clause-few g c = omega (arith, ap (λ (l : List NodeReport). length l) c.as_slice.ensures.value, c.in-Ok.ensures.reported.0, c.count_of_nodes-count.ensures.count, c.count_of_nodes-count.ensures.few)
+notices_of-requires-clause-few g c = omega (arith, ap (λ (l : List NodeReport). length l) c.as_slice.ensures.value, c.in-Ok.ensures.reported.count, c.count_of_nodes-count.ensures.count, c.count_of_nodes-count.ensures.few)
 
 pub returns-clause-headline : goal.returns-clause-headline
 returns-clause-headline g c = c.what_is_played_keeps_the_headlines.ensures.reported c.args.script.commands.items c.in-Ok.ran.reports.items (subst (λ (l : List Command). AreNodesReported l c.in-Ok.ran.reports.items) c.as_slice-commands.ensures.value c.in-Ok.ensures.reported)

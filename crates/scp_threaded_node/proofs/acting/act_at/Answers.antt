@@ -5,6 +5,8 @@ use Rattle.scp_types.specs.declared.fault.Fault.{Fault}
 use Rattle.scp_threaded_node.specs.declared.node.Running.{Running}
 use Rattle.scp_threaded_node.specs.Acting.{acted, CanAct, IsActFault}
 use Rattle.scp_threaded_node.proofs.Changing.{set_same}
+use Rattle.scp_threaded_node.specs.Outlets.{taker_in, keeps_in}
+use Rattle.scp_threaded_node.proofs.Given.{map_set, lanes_given, acted_in, acted_keeps}
 use Rattle.scp_threaded_node.proofs.Lists.{some_is}
 use Rattle.scp_threaded_node.proofs.Staying.{acts_runs, unchanged_runs}
 use Rattle.scp_threaded_node.proofs.acting.act_at.Goals as goal
@@ -25,6 +27,18 @@ returns-clause-runs g c = λ me set peers caps r.
     by_result (after ≡ record lane { tail = acted c.args.act lane.tail }) (after ≡ lane) _ c.act_on_lane.result c.act_on_lane.ensures.acted c.act_on_lane.ensures.same
     (λ done. acts_runs me set peers caps c.args.act place x _ (record { same = refl; lane = lane; was = was; is = ap (slice_set lanes place) done }) r)
     (λ same. unchanged_runs me set peers caps x _ (record { same = refl; lanes = ap (slice_set lanes place) same ∙ set_same lanes place lane was }) r)
+
+pub returns-clause-given : goal.returns-clause-given
+returns-clause-given g c =
+    let x = c.args.node.now in
+    let lanes = x.lanes.items in
+    let place = c.args.place in
+    let lane = c.index_mut.result.now in
+    let after = c.act_on_lane.new.lane in
+    let was : slice_get lanes place ≡ Some lane = slice_get-get_or lanes place lane (omega (arith, c.requires.place)) ∙ ap (λ (z : Running). Some z) (sym c.index_mut.ensures.value) in
+    by_result (after ≡ record lane { tail = acted c.args.act lane.tail }) (after ≡ lane) _ c.act_on_lane.result c.act_on_lane.ensures.acted c.act_on_lane.ensures.same
+    (λ done. lanes_given x (slice_set lanes place after) (map_set taker_in lanes place lane after was (acted_in c.args.act lane after done)) (map_set keeps_in lanes place lane after was (acted_keeps c.args.act lane after done)))
+    (λ same. lanes_given x (slice_set lanes place after) (map_set taker_in lanes place lane after was (ap taker_in same)) (map_set keeps_in lanes place lane after was (ap keeps_in same)))
 
 pub returns-clause-why : goal.returns-clause-why
 returns-clause-why g c = λ lane at.

@@ -11,9 +11,9 @@ pub returns-clause-left : goal.returns-clause-left
 returns-clause-left g t c = λ lost whole.
     let added = c.add.ensures.kept lost whole in
     let before = first_none c.end_lanes-left.result.fault (result_err c.end_lane-reader.result.1) c.add.new.lanes.fault c.add.ensures.fault whole in
-    left_more c.args.lanes.items c.pop.new.self.items c.in-Some.last c.in-Some.ensures.items c.end_lanes-left.result.readers.items c.end_lanes-left.result.links.items
-    c.end_lane-reader.result.0 c.end_lane-reader.result.1 added.2 added.3 c.add.new.lanes.readers.items added.1 c.add.new.lanes.links.items added.4
-    (c.end_lanes-left.ensures.left added.0 before) c.end_lane-reader.ensures.reader c.end_lane-reader.ensures.same
+    left_more c.args.lanes.items c.pop.new.self.items c.in-Some.last c.in-Some.ensures.items c.end_lanes-left.result.readers.items c.end_lanes-left.result.links.items c.end_lanes-left.result.takers.items
+    c.end_lane-reader.result.0 c.end_lane-reader.result.1 added.2 added.3 c.add.new.lanes.readers.items added.1 c.add.new.lanes.links.items added.4 c.add.new.lanes.takers.items added.5
+    (c.end_lanes-left.ensures.left added.0 before) c.end_lane-reader.ensures.reader c.end_lane-reader.ensures.same c.end_lane-reader.ensures.back
 
 pub returns-clause-sent : goal.returns-clause-sent
 returns-clause-sent g t c = λ driven sent all lost whole.
@@ -21,7 +21,7 @@ returns-clause-sent g t c = λ driven sent all lost whole.
     let before = first_none c.end_lanes-left.result.fault (result_err c.end_lane-reader.result.1) c.add.new.lanes.fault c.add.ensures.fault whole in
     let place : c.len-place.result ≡ length c.pop.new.self.items = omega arith in
     let within = c.end_lanes-left.ensures.left added.0 before in
-    sent_left c.args.lanes.items c.pop.new.self.items c.in-Some.last c.in-Some.ensures.items c.end_lanes-left.result.readers.items c.end_lanes-left.result.links.items
+    sent_left c.args.lanes.items c.pop.new.self.items c.in-Some.last c.in-Some.ensures.items c.end_lanes-left.result.readers.items c.end_lanes-left.result.links.items c.end_lanes-left.result.takers.items
     driven sent c.args.stood.now c.len-place.result place (get_or c.args.stood.now c.len-place.result (record { lives = 0; is_open = false }))
     (slice_get-get_or c.args.stood.now c.len-place.result (record { lives = 0; is_open = false }) (omega (arith, place, c.requires.stood, ap length c.in-Some.ensures.items, length-append c.pop.new.self.items (c.in-Some.last ∷ []))))
     c.end_lane-reader.result.1 added.2 added.3 c.add.new.lanes.links.items added.4 within.links_count

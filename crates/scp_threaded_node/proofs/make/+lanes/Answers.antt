@@ -6,7 +6,7 @@ use Rattle.scp_wire.specs.declared.link.Inbound.{Inbound}
 use Rattle.scp_ends.specs.Ends.{Line, Sender}
 use Rattle.scp_threaded_node.specs.Seats.{IsLane}
 use Rattle.scp_threaded_node.proofs.Lists.{fresh_front, fresh_last}
-use Rattle.scp_threaded_node.proofs.Lanes.{lanes_more, unused_more}
+use Rattle.scp_threaded_node.proofs.Lanes.{lanes_more, unused_more, keep_more}
 use Rattle.scp_threaded_node.proofs.make.+lanes.Goals as goal
 
 pub lanes-requires : goal.lanes-requires
@@ -38,3 +38,8 @@ pub returns-clause-unused : goal.returns-clause-unused
 returns-clause-unused t c =
     let grown = c.push_reserved.ensures.items ∙ ap (λ l. l ++ c.in_ok-next.next ∷ []) c.reserve.ensures.items in
     unused_more c.in_ok-lanes.lanes.items c.push_reserved.new.self.items c.in_ok-next.next grown c.in_ok-next.ensures.unused c.in_ok-lanes.ensures.unused
+
+pub returns-clause-keeps : goal.returns-clause-keeps
+returns-clause-keeps t c =
+    let grown = c.push_reserved.ensures.items ∙ ap (λ l. l ++ c.in_ok-next.next ∷ []) c.reserve.ensures.items in
+    keep_more c.args.keeps c.in_ok-lanes.lanes.items c.push_reserved.new.self.items c.in_ok-next.next grown c.in_ok-next.ensures.keeps c.in_ok-lanes.ensures.keeps

@@ -7,7 +7,7 @@ use Rattle.scp_threaded_node.proofs.Lists.{fresh_last}
 use Rattle.scp_threaded_node.proofs.make.make_lanes.Goals as goal
 
 pub returns-clause-lanes : goal.returns-clause-lanes
-returns-clause-lanes c = (subst (λ (room : ℕ). AreLanes c.args.me c.args.peers.now c.in_ok-ends.rx.line room c.in_ok-lanes.lanes.items) c.from-2.ensures c.in_ok-lanes.ensures.lanes, c.in_ok-lanes.ensures.unused)
+returns-clause-lanes c = (subst (λ (room : ℕ). AreLanes c.args.me c.args.peers.now c.in_ok-ends.rx.line room c.in_ok-lanes.lanes.items) c.from-room.ensures c.in_ok-lanes.ensures.lanes, c.in_ok-lanes.ensures.unused)
 
 pub returns-clause-local : goal.returns-clause-local
 returns-clause-local c =

@@ -2,14 +2,26 @@ use Rattle.std.proofs.Common.{◌≡◌, ◌∙◌, ap, List, [], ◌∷◌, ◌
 use Rattle.std.proofs.lemmas.List.{length-append}
 use Rattle.scp_threaded_node.specs.declared.make.Lane.{Lane}
 use Rattle.scp_threaded_node.specs.declared.node.Source.{Source}
-use Rattle.scp_threaded_node.proofs.Lanes.{lanes_front, running_more, sources_front, driven_more, unused_front, unused_last}
+use Rattle.scp_threaded_node.specs.Outlets.{is_keeping}
+use Rattle.scp_threaded_node.proofs.Lanes.{lanes_front, running_more, sources_front, driven_more, unused_front, unused_last, fresh_front, fresh_last, couriers_more, keeping_more}
 use Rattle.scp_threaded_node.proofs.node.+start_lanes.Goals as goal
 
 pub start_lanes-requires-clause-unused : goal.start_lanes-requires-clause-unused
 start_lanes-requires-clause-unused g t c = λ lives outlive. unused_front c.pop.new.self.items c.args.lanes.items c.in-Some.last c.in-Some.ensures.items c.requires.unused
 
-pub start_lane-requires : goal.start_lane-requires
-start_lane-requires g t c = (c.requires.sync.0, (c.requires.sync.1, unused_last c.pop.new.self.items c.args.lanes.items c.in-Some.last c.in-Some.ensures.items c.requires.unused))
+pub start_lanes-requires-clause-fresh : goal.start_lanes-requires-clause-fresh
+start_lanes-requires-clause-fresh g t c = λ lives outlive. fresh_front c.last_of-source.new.sources.items c.args.sources.items c.last_of-source.result c.last_of-source.ensures.last c.requires.fresh
+
+pub start_lane-requires-clause-unused : goal.start_lane-requires-clause-unused
+start_lane-requires-clause-unused g t c = λ lives outlive. unused_last c.pop.new.self.items c.args.lanes.items c.in-Some.last c.in-Some.ensures.items c.requires.unused
+
+pub start_lane-requires-clause-fresh : goal.start_lane-requires-clause-fresh
+start_lane-requires-clause-fresh g t c = λ lives outlive. fresh_last c.last_of-source.new.sources.items c.args.sources.items c.last_of-source.result c.last_of-source.ensures.last c.requires.fresh
+
+pub returns-clause-couriers : goal.returns-clause-couriers
+returns-clause-couriers g t c =
+    let grown = c.push_reserved.ensures.items ∙ ap (λ l. l ++ c.in_ok-next.next ∷ []) c.reserve.ensures.items in
+    couriers_more c.last_of-source.new.sources.items c.args.sources.items c.last_of-source.result c.in_ok-running.running.items c.push_reserved.new.self.items c.in_ok-next.next c.last_of-source.ensures.last grown c.in_ok-running.ensures.couriers c.in_ok-next.ensures.courier
 
 pub returns-clause-lanes : goal.returns-clause-lanes
 returns-clause-lanes g t c = λ me peers inbox room lanes.
@@ -25,3 +37,8 @@ returns-clause-driven g t c = λ driven sources.
     driven_more driven c.last_of-source.new.sources.items c.args.sources.items c.last_of-source.result c.in_ok-running.running.items c.push_reserved.new.self.items c.in_ok-next.next
     c.last_of-source.ensures.last grown len c.in_ok-next.ensures.driven sources
     (c.in_ok-running.ensures.driven driven (sources_front driven c.last_of-source.new.sources.items c.args.sources.items c.last_of-source.result c.last_of-source.ensures.last sources))
+
+pub returns-clause-keeps : goal.returns-clause-keeps
+returns-clause-keeps g t c =
+    let grown = c.push_reserved.ensures.items ∙ ap (λ l. l ++ c.in_ok-next.next ∷ []) c.reserve.ensures.items in
+    keeping_more c.pop.new.self.items c.args.lanes.items c.in-Some.last c.in_ok-running.running.items c.push_reserved.new.self.items c.in_ok-next.next c.in-Some.ensures.items grown c.in_ok-running.ensures.keeps (ap is_keeping c.in_ok-next.ensures.reader)

@@ -25,9 +25,7 @@ spawn_with-requires-send-F g c κs within =
     let given = c.type_bounds.send-U in
     let law_behind = c.type_bounds.send-M in
     let stage = c.type_bounds.send-S in
-    let shared = c.a_shared_outbox_crosses_threads.ensures.crosses in
-    let its_send = shared.send in
-    let its_sync = shared.sync in
+    let putter = c.ends_cross_threads.ensures.crosses.putter in
     let it : IsSend (worker.the_row (param 3 g.row.T) (param 4 g.row.L) (param 5 g.row.U) (param 6 g.row.M) (param 7 g.row.S) g.L.Law g.M.Law g.S.Stage) =
     view_send _ _ _ _ _ (declared_send (worker_inside.the_type (param 3 g.row.T) (param 4 g.row.L) (param 5 g.row.U) (param 6 g.row.M) (param 7 g.row.S) g.L.Law g.M.Law g.S.Stage)
     (search ends depth 20, (search ends depth 20, (search sendable depth 20, (search ends depth 20, (search (sendable, crosses) depth 20, (search sendable depth 20, (search ends depth 20, (counters.the_send, (search sendable depth 20, (search ends depth 20, tt))))))))))) in
@@ -40,7 +38,8 @@ spawn_with-requires-send-T g c κs within =
     let given = c.type_bounds.send-U in
     let law_behind = c.type_bounds.send-M in
     let stage = c.type_bounds.send-S in
+    let putter = c.ends_cross_threads.ensures.crosses.putter in
     let it : IsSend (ended.the_row (param 3 g.row.T) (param 4 g.row.L) (param 5 g.row.U) (param 6 g.row.M) (param 7 g.row.S) g.L.Law g.M.Law g.S.Stage) =
     view_send _ _ _ _ _ (declared_send (ended_inside.the_type (param 3 g.row.T) (param 4 g.row.L) (param 5 g.row.U) (param 6 g.row.M) (param 7 g.row.S) g.L.Law g.M.Law g.S.Stage)
-    (search ends depth 20, (search ends depth 20, (search ends depth 20, (search sendable depth 20, (search sendable depth 20, (search ends depth 20, (search ends depth 20, tt)))))))) in
+    (search ends depth 20, (search ends depth 20, (search (sendable, crosses) depth 20, (search ends depth 20, (search sendable depth 20, (search sendable depth 20, (search ends depth 20, (search ends depth 20, tt))))))))) in
     search (sendable, crosses) depth 40

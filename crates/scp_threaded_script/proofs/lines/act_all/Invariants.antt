@@ -1,6 +1,7 @@
 use Rattle.std.proofs.Common.{◌≡◌, ◌<◌, take}
 use Rattle.std.specs.List.{AllByRecursion}
 use Rattle.scp_threaded_script.specs.Waits.{AreWaits}
+use Rattle.scp_threaded_script.specs.inside.Outlets.{AreSameMarkers, all_given}
 use Rattle.scp_threaded_script.specs.inside.Played.{HaveDone}
 use Rattle.scp_threaded_script.proofs.lines.act_all.Given as goal
 
@@ -11,4 +12,6 @@ invariant-loop-command g l = record {
   place : l.place ≡ l.command-index;
   waits : AreWaits l.commands 0 l.gave_up.items;
   below : AllByRecursion (λ i. i < l.command-index) l.gave_up.items;
+  given : all_given l.nodes.items ≡ all_given l.fn.nodes.items;
+  markers : AreSameMarkers l.fn.markers.items l.markers.items;
 }

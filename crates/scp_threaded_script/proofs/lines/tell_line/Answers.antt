@@ -2,6 +2,7 @@ use Rattle.std.proofs.Common.{length}
 use Rattle.scp_wire.specs.declared.link.Inbound.TheVariants as inbound
 use Rattle.scp_threaded_script.proofs.Doing.{done_run, tells_all_run, tells_all_done}
 use Rattle.scp_threaded_script.proofs.Telling.{silent_done}
+use Rattle.scp_threaded_script.proofs.Giving.{tells_all_given}
 use Rattle.scp_threaded_script.proofs.lines.tell_line.Goals as goal
 
 pub tell_node-requires-clause-number : goal.tell_node-requires-clause-number
@@ -23,3 +24,6 @@ pub returns-in-Some-clause-done : goal.returns-in-Some-clause-done
 returns-in-Some-clause-done g c =
     let is = rw c.in-Some.is at c.in_ok-number.ensures.command in
     tells_all_done c.args.nodes.now.items c.tell_node.new.nodes.items c.args.command.now (c.in-Some.number, c.in-Some.local) c.tell_node.result (is.0 (length c.args.nodes.now.items) c.requires.there).0 c.requires.other is c.tell_node.ensures.told
+
+pub returns-in-Some-clause-given : goal.returns-in-Some-clause-given
+returns-in-Some-clause-given g c = tells_all_given c.args.nodes.now.items c.tell_node.new.nodes.items c.in-Some.number (inbound.Local c.in-Some.local) c.tell_node.result c.tell_node.ensures.told c.tell_node.ensures.same

@@ -1,6 +1,8 @@
-use Rattle.std.proofs.Common.{◌∙◌, ap, List, [], ◌∷◌, ◌++◌}
-use Rattle.scp_gather.specs.declared.gathering.NodeReport.{NodeReport}
+use Rattle.std.proofs.Common.{◌∙◌, sym}
 use Rattle.scp_threaded_script.proofs.running.add.Goals as goal
 
-pub returns-else-is_err-clause-told : goal.returns-else-is_err-clause-told
-returns-else-is_err-clause-told c = λ whole. (whole, c.in-Ok.report, c.in-Ok.is, c.push_reserved.ensures.items ∙ ap (λ (xs : List NodeReport). xs ++ c.in-Ok.report ∷ []) c.reserve.ensures.items)
+pub returns-in-Ok-keep-clause-told : goal.returns-in-Ok-keep-clause-told
+returns-in-Ok-keep-clause-told c = λ whole.
+    let same = c.keep.ensures.same in
+    let kept = c.in-Ok-keep.ensures.kept in
+    ((sym same.2 ∙ whole.0, sym same.1 ∙ whole.1, sym same.0 ∙ whole.2), c.in-Ok.over, c.in-Ok.is, kept.0, kept.1, kept.2)

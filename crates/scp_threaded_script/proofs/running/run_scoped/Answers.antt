@@ -11,3 +11,6 @@ returns-clause-losses g c = c.scoped.ensures.1.2
 
 pub returns-clause-given_up : goal.returns-clause-given_up
 returns-clause-given_up g c = c.scoped.ensures.1.3
+
+pub returns-clause-kept : goal.returns-clause-kept
+returns-clause-kept g c = c.scoped.ensures.1.4

@@ -1,9 +1,5 @@
-use Rattle.std.proofs.Common.{◌≡◌, [], length}
-use Rattle.scp_threaded_script.specs.inside.Played.{HaveDoneSoFar}
+use Rattle.scp_threaded_script.proofs.Starting.{AreStarted}
 use Rattle.scp_threaded_script.proofs.running.start_all.Given as goal
 
-abbrev pub invariant-loop-index : goal.invariant-loop-index
-invariant-loop-index g l = record {
-  count : length l.nodes.items ≡ l.index;
-  done : HaveDoneSoFar l.commands [] l.nodes.items;
-}
+abbrev pub invariant-loop-own : goal.invariant-loop-own
+invariant-loop-own g l = AreStarted l.fn.keeps l.commands l.fn.outlets.items l.yielded l.own-iterator.rest.items l.fn.takers.items l.rows.rest.items l.nodes.items

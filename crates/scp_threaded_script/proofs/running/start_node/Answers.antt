@@ -1,11 +1,23 @@
-use Rattle.std.proofs.Common.{◌∙◌, ap, subst, length, arith}
+use Rattle.std.proofs.Common.{◌≡◌, ◌∙◌, ap, subst, length, Result, Ok, Err, arith}
+use Rattle.std.specs.Prelude.{IfOk}
 use Rattle.std.proofs.lemmas.Result.{err_from_is_err_and}
 use Rattle.scp_script.specs.declared.command.Capacities.{Capacities}
 use Rattle.scp_script.specs.Nodes.{capacities_in, id_of, peers_of, set_at}
 use Rattle.scp_threaded_node.specs.Seats.{AreLanes, IsLocal, AreStages}
+use Rattle.scp_types.specs.declared.fault.Fault.{Fault}
+use Rattle.scp_threaded_node.specs.declared.node.Node.{Node}
+use Rattle.scp_threaded_node.specs.Outlets.{GivenEnds, given_to}
 use Rattle.scp_threaded_script.specs.Lines.{driven_to}
 use Rattle.scp_threaded_script.proofs.Peers.{peer_count}
+use Rattle.scp_threaded_script.specs.inside.Outlets.{IsKeeping}
+use Rattle.scp_threaded_script.proofs.Keeping.{is_keeping}
+use Rattle.scp_threaded_script.proofs.Seating.{seated, fresh_taken}
 use Rattle.scp_threaded_script.proofs.running.start_node.Goals as goal
+
+-- what holds of a node by what it was given holds of the one that was started
+seated_ok : (P : Node → Type 0) (E : GivenEnds) (r : Result Node Fault) → ((x : (node : Node) × (given_to node ≡ E)) → P x.0) → IfOk r (λ node. given_to node ≡ E) → IfOk r P
+seated_ok P E (Ok node) f h = f (node, h)
+seated_ok P E (Err e) f h = tt
 
 pub make_parts-requires-clause-few : goal.make_parts-requires-clause-few
 make_parts-requires-clause-few g c =
@@ -16,6 +28,17 @@ pub start-requires-clause-sources : goal.start-requires-clause-sources
 start-requires-clause-sources g c κs within =
     let e = c.as_slice.ensures.value ∙ c.in_ok-peers.ensures in
     omega (arith, ap length e, c.in_ok-sources.ensures.count, c.in_ok-parts.ensures.count, peer_count c.args.count c.args.number c.requires.number.0 c.requires.number.1)
+
+pub start-requires-clause-fresh : goal.start-requires-clause-fresh
+start-requires-clause-fresh g c = λ lives outlive. fresh_taken c.args.takers.items c.in_ok-sources.sources.items c.in_ok-sources.ensures.count c.in_ok-sources.ensures.taken c.requires.takers.1
+
+pub returns-clause-given : goal.returns-clause-given
+returns-clause-given g c = seated_ok _ _ c.start.result
+    (λ given markers own takers.
+    let o = c.in_ok-parts.ensures.outlets in
+    seated c.args.count markers c.args.number c.args.outlets c.args.takers.items c.in_ok-sources.sources.items (given_to given.0) own takers c.requires.takers.0 c.in_ok-sources.ensures.count c.in_ok-sources.ensures.taken
+    (ap (λ (e : GivenEnds). e.replies) given.1 ∙ o.0) (ap (λ (e : GivenEnds). e.said) given.1 ∙ o.1) (ap (λ (e : GivenEnds). e.answers) given.1 ∙ o.2) (ap (λ (e : GivenEnds). e.takers) given.1))
+    c.start.ensures.given
 
 pub returns-clause-runs : goal.returns-clause-runs
 returns-clause-runs g c =
@@ -40,3 +63,8 @@ pub returns-in_err-sources-clause-only_memory : goal.returns-in_err-sources-clau
 returns-in_err-sources-clause-only_memory g c =
     let p = err_from_is_err_and c.from_residual-in_err-sources.result c.from_residual-in_err-sources.ensures.1 in
     rw (p.1, p.2) c.in_err-sources.ensures.only_memory
+
+pub returns-clause-keeping : goal.returns-clause-keeping
+returns-clause-keeping g c = seated_ok (λ (node : Node). IsKeeping c.args.keeps (given_to node)) _ c.start.result
+    (λ given. is_keeping c.args.keeps c.in_ok-parts.parts.lanes.items (given_to given.0) (ap (λ (e : GivenEnds). e.keeps) given.1) c.in_ok-parts.ensures.keeps)
+    c.start.ensures.given

@@ -13,8 +13,10 @@ invariant_of-result g c =
           let ran = c.self.invariant.2 (ap (λ w. w.failed) c.self.view_is ∙ did.0) in
           record {
             heard = subst (λ (r : Receiver g.row.T.Denot). HeardAll r) (sym (ap (λ w. w.input) c.self.view_is)) did.1;
-            all = subst (λ (o : Option (Sender g.row.U.Denot)). g.S.Stage.runs s.first.value (values s.rx.got) (sent_by o) s.stage) (sym (c.stop-done.ensures.same went.1)) ran.0;
-            nothing_left = ran.1;
+            out = ran.out;
+            all = subst (λ (o : Option (Sender g.row.U.Denot)). g.S.Stage.runs s.first.value (values s.rx.got) (sent_by o) ran.out s.stage) (sym (c.stop-done.ensures.same went.1)) ran.all;
+            put = ran.put;
+            nothing_left = ran.nothing_left;
             ended = went.1;
           },
       λ e. subst (λ (r : Receiver g.row.T.Denot). HeardAll r) (sym (ap (λ w. w.input) c.self.view_is)) (c.requires (sym (ap (λ w. w.cut_off) c.self.view_is) ∙ e)),

@@ -1,0 +1,118 @@
+//! Making the outboxes of all links.
+ghost use Rattle.std.specs.Prelude.{◌≡◌, ◌≤◌, ◌+◌, ◌∷◌, [], length, IfOk, OnOk, IsOkUnless};
+ghost use Rattle.scp_desk.specs.Ends.{PutterView};
+ghost use Rattle.scp_desks.specs.Places.{Each};
+ghost use Rattle.scp_desks.specs.Table.{AreMade};
+ghost use Rattle.scp_desks.specs.inside.Links.{ArePairs, HandedOut, HasNone, IsLonger, IsNewTaker};
+
+use crate::outlets::Outlets;
+use scp_desk::{Marker, Putter, Taker, make};
+use scp_types::Fault;
+use std::alloc::{AllocError, Global};
+
+/// The ends of all outboxes: by each node n, at place n - 1, those of its own stages; and the rows of those that belong to the links to it.
+#[derive(Drop)]
+pub struct Made {
+    pub outlets: Vec<Outlets>,
+    pub markers: Vec<Vec<Marker>>,
+    pub takers: Vec<Vec<Taker>>,
+}
+
+/// The ends of the outboxes of so many nodes, of which each is a peer of all others. The one refusal is `Fault::NoMemory`.
+pub fn make_all(alloc: Global, count: u8) -> Result<Made, Fault>
+    requires few { count ≤ 8 }
+    ensures made { IfOk result (λ made. AreMade count made.outlets.items made.markers.items made.takers.items) }
+    ensures only_memory { IsOkUnless result Fault.NoMemory }
+{
+    let mut outlets = none_yet(alloc, count)?;
+    let mut markers = Vec::new(alloc);
+    let mut takers = Vec::new(alloc);
+    for index in 0..count {
+        markers.reserve(1)?;
+        takers.reserve(1)?;
+        let row = row_to(alloc, count, index + 1, &mut outlets)?;
+        markers.push_reserved(row.markers);
+        takers.push_reserved(row.takers);
+    }
+    Ok(Made {
+        outlets,
+        markers,
+        takers,
+    })
+}
+
+/// For each of so many nodes no ends yet.
+fn none_yet(alloc: Global, count: u8) -> Result<Vec<Outlets>, AllocError>
+    ensures { IfOk result (λ outlets. (length outlets.items ≡ count) × Each HasNone outlets.items) }
+{
+    let mut outlets = Vec::new(alloc);
+    for _ in 0..count {
+        outlets.push(Outlets {
+            pend: Vec::new(alloc),
+            slot: Vec::new(alloc),
+            apply: Vec::new(alloc),
+        })?;
+    }
+    Ok(outlets)
+}
+
+/// The ends of the links to one node that are its own.
+#[derive(Drop)]
+struct Row {
+    markers: Vec<Marker>,
+    takers: Vec<Taker>,
+}
+
+/// The outboxes of all links to the node of this number. The ends of their producers go to the nodes from which the links come, behind
+/// those of their links to the nodes before it: just at the link's place.
+fn row_to(alloc: Global, count: u8, to: u8, outlets: &mut Vec<Outlets>) -> Result<Row, Fault>
+    requires many { length outlets.old.items ≡ count }
+    requires number { (1 ≤ to) × (to ≤ count) }
+    ensures many { IfOk result (λ row. (length row.markers.items + 1 ≡ count) × (length row.takers.items + 1 ≡ count)) }
+    ensures unmarked { IfOk result (λ row. Each (λ place m. m.marked ≡ []) row.markers.items) }
+    ensures takers { IfOk result (λ row. Each (IsNewTaker row.markers.items) row.takers.items) }
+    ensures outlets { IfOk result (λ row. ArePairs (HandedOut row.markers.items to count) outlets.old.items outlets.new.items) }
+    ensures only_memory { IsOkUnless result Fault.NoMemory }
+{
+    let mut markers = Vec::new(alloc);
+    let mut takers = Vec::new(alloc);
+    for index in 0..count {
+        if index + 1 == to {
+            continue;
+        }
+        markers.reserve(1)?;
+        takers.reserve(1)?;
+        let (putters, marker, taker) = make(alloc, 3)?;
+        add(&mut outlets[usize::from(index)], putters)?;
+        markers.push_reserved(marker);
+        takers.push_reserved(taker);
+    }
+    Ok(Row { markers, takers })
+}
+
+/// Gives each stage one of these ends more.
+fn add(outlets: &mut Outlets, putters: Vec<Putter>) -> Result<(), AllocError>
+    requires three { length putters.items ≡ 3 }
+    ensures { OnOk result ((first second third : PutterView) → putters.items ≡ first ∷ second ∷ third ∷ [] → IsLonger outlets.old outlets.new first second third) }
+{
+    outlets.pend.reserve(1)?;
+    outlets.slot.reserve(1)?;
+    outlets.apply.reserve(1)?;
+    let (first, second, third) = apart(putters);
+    outlets.pend.push_reserved(first);
+    outlets.slot.push_reserved(second);
+    outlets.apply.push_reserved(third);
+    Ok(())
+}
+
+/// Three ends, taken apart.
+fn apart(mut putters: Vec<Putter>) -> (Putter, Putter, Putter)
+    requires three { length putters.items ≡ 3 }
+    ensures { putters.items ≡ result.0 ∷ result.1 ∷ result.2 ∷ [] }
+{
+    let (Some(third), Some(second), Some(first)) = (putters.pop(), putters.pop(), putters.pop())
+    else {
+        unreachable!()
+    };
+    (first, second, third)
+}

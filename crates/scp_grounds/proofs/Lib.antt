@@ -1,0 +1,11 @@
+pub mod Basics
+pub mod Places
+pub mod Growing
+pub mod Replies
+pub mod Emitted
+pub mod Machines
+pub mod Ledgers
+pub mod Asked
+pub mod Telling
+pub mod Fit
+pub mod Going

@@ -1,0 +1,41 @@
+-- What travels between the nodes of a script whose stages run in threads.
+use Rattle.std.specs.Prelude.{◌≡◌, ℕ, List, Some, slice_get}
+use Rattle.scp_wire.specs.Shape.{of_peer}
+use Rattle.scp_outbox.specs.declared.mark.Out.{Out}
+use Rattle.scp_desks.specs.Places.{link_of}
+use Rattle.scp_desks.specs.Table.{CameOut}
+use Rattle.scp_ledger.specs.declared.took.Outgoing.{Outgoing}
+use Rattle.scp_grounds.specs.Grounds.{Grounds, IsSentOut}
+use Rattle.scp_grounds.specs.Handed.{handed_by}
+use Rattle.scp_grounds.specs.Laws.{AreHandedOut}
+use Rattle.scp_ends.specs.Links.{LinkEnd}
+use Rattle.scp_ends.specs.Order.{values}
+use Rattle.scp_courier.specs.Carrying.{HasCarried}
+use Rattle.scp_travel.specs.Sent.{bytes_among}
+use Rattle.scp_travel.specs.Theirs.{AreTheirs}
+use Rattle.scp_gather.specs.Left.{Left}
+use Rattle.scp_gather.specs.Sending.{grounds_gathered}
+use Rattle.scp_script.specs.declared.command.Command.{Command}
+use Rattle.scp_script.specs.Nodes.{id_of, peers_of, set_at}
+use Rattle.scp_script.specs.Script.{node_count}
+
+-- what the node of this number may have sent, by what its threads left
+abbrev pub grounds_at : List Command → ℕ → Left → Grounds
+grounds_at commands number left = grounds_gathered (id_of number) (set_at number commands) (peers_of (node_count commands) number) left
+
+-- Of two nodes, by what their threads left: over the link from the one to the other went what an outbox gives of what the sender's three stages handed
+-- out for it, all that it gave, in order, and just that the receiver's reader received. So each message that went over, and each that the receiver's
+-- pending stage took of it, has its ground in what the sender took, wrote, decided and applied, and each statement is newer than those of its slot
+-- and kind before it.
+pub record Travels (commands : List Command) (from to : ℕ) (sender receiver : Left) : Type 0 where
+  pub replies : List Outgoing
+  pub said : List Outgoing
+  pub answers : List Outgoing
+  pub handed : AreHandedOut (grounds_at commands from sender) replies said answers
+  pub gave : List Out
+  pub came_out : CameOut (handed_by replies (link_of to from)) (handed_by said (link_of to from)) (handed_by answers (link_of to from)) gave
+  pub link : LinkEnd
+  pub there : slice_get receiver.links (link_of from to) ≡ Some link
+  pub carried : HasCarried gave link
+  pub sent : IsSentOut (grounds_at commands from sender) (link_of to from) (bytes_among link.tail.sent)
+  pub theirs : AreTheirs (grounds_at commands from sender) (link_of to from) (of_peer (id_of from) (values receiver.pend.input.got))

@@ -1,0 +1,3 @@
+pub mod Travelling
+pub mod Parts
+pub mod Hearing

@@ -1,0 +1,24 @@
+//! Laws of what travels, each the contract of a function that does nothing.
+ghost use Rattle.scp_travel.specs.Sent.{WhatIsCarriedIsSentOut};
+ghost use Rattle.scp_travel.specs.Theirs.{WhatCameFirstIsTheirs, WhatIsReadIsTheirs};
+
+use scp_desk::{statements_are_given_in_order, what_is_given_was_put};
+use scp_wire::what_is_spelt_is_read;
+
+/// What a courier carried of what came out of an outbox may be sent, and each statement is newer than those of its slot and kind before it.
+pub fn what_is_carried_is_sent_out()
+    ensures { WhatIsCarriedIsSentOut }
+{
+    what_is_given_was_put();
+    statements_are_given_in_order();
+}
+
+/// Where all bytes that went over a link are what its sender may send, all that is read of the link is the sender's own: each message it may send,
+/// and each statement is newer than those of its slot and kind before it. No connection of the link ends because of bytes that are no message. So
+/// it is with what came first of it.
+pub fn what_is_read_is_the_senders_own()
+    ensures all { WhatIsReadIsTheirs }
+    ensures first { WhatCameFirstIsTheirs }
+{
+    what_is_spelt_is_read();
+}
