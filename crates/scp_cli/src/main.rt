@@ -1,14 +1,16 @@
 //! The program that people run: plays, checks and rewrites scripts, runs a node, and answers by its exit status.
 //!
 //! What it promises: it is safe and returns, and what it writes is what `serve` and `serve_plain` of `scp_command` promise, and of a node
-//! what `check_config` and `run_node` of `scp_node` promise. Which words ask for what, and the statuses of the whole program, are shown by
+//! what `check_config` of `scp_begin`, `run_node` and `run_traced` of `scp_node` and `account_node` of `scp_node_account` promise. Which words ask for what, and the statuses of the whole program, are shown by
 //! tests. Not claimed: that a log's lock keeps other processes out.
 #![tactic(auto)]
 
+use scp_begin::{NoLog, check_config};
 use scp_command::{Order, serve, serve_plain};
 use scp_device::{SCRIPT_LIMIT, ScriptIn, read_script, write_text};
 use scp_log::{EventLog, FileLog, MemoryLog};
-use scp_node::{NoLog, account_node, check_config, run_node};
+use scp_node::{run_node, run_traced};
+use scp_node_account::account_node;
 use scp_prompt::{
     Asked, Cause, Failure, NodeAsked, NodeTask, Source, Stream, Task, Unasked, Unopened, Wanted,
     read_words, status, write_failure, write_settled,
@@ -160,38 +162,78 @@ fn open_log(rt: &HostRuntime, path: &str) -> io::Result<Option<File>> {
     Ok(Some(file))
 }
 
-/// Tells a host, and people, why there is no log, and answers the exit status.
-fn without_log(rt: &HostRuntime, path: &str, why: &str, failure: &Failure) -> u8 {
+/// Tells a host, and people, why there is no log or no trace, and answers the exit status.
+fn without_file(rt: &HostRuntime, path: &str, why: &str, failure: &Failure) -> u8 {
     let _ = write_settled(&mut Stream::new(io::writer(rt)), failure);
     failed(rt, path, why, failure)
 }
 
-/// Tells a host, and people, why a log isn't opened, and answers the exit status.
-fn unopened_log(rt: &HostRuntime, path: &str, kind: ErrorKind) -> u8 {
+/// Tells a host, and people, why a file isn't opened, and answers the exit status.
+fn unopened(rt: &HostRuntime, path: &str, kind: ErrorKind) -> u8 {
     let failure = match kind {
-        ErrorKind::WouldBlock => {
-            let _ = told(rt, "fault 14 log is in use\n");
-            return 3;
-        }
         ErrorKind::OutOfMemory => Failure::NoMemory,
         _ => Failure::Unread,
     };
-    without_log(rt, path, Unopened::new(kind).cause(), &failure)
+    without_file(rt, path, Unopened::new(kind).cause(), &failure)
 }
 
-/// Runs a node of this configuration, with this log.
-fn run_with<L: EventLog + Drop>(rt: &HostRuntime, config: &[u8], log: L) -> u8 {
+/// Tells a host, and people, why a log isn't opened, and answers the exit status.
+fn unopened_log(rt: &HostRuntime, path: &str, kind: ErrorKind) -> u8 {
+    if kind == ErrorKind::WouldBlock {
+        let _ = told(rt, "fault 14 log is in use\n");
+        return 3;
+    }
+    unopened(rt, path, kind)
+}
+
+/// Runs a node of this configuration, with this log, and with a trace, if it is to have one.
+fn run_with<L: EventLog + Drop>(
+    rt: &HostRuntime,
+    config: &[u8],
+    log: L,
+    trace: Option<File>,
+) -> u8 {
     let mut input = Stream::new(rt.reader());
     let mut output = Stream::new(io::writer(rt));
-    run_node(rt.alloc(), config, log, &mut input, &mut output)
+    match trace {
+        None => run_node(rt.alloc(), config, log, &mut input, &mut output),
+        Some(file) => {
+            let trace = Stream::new(file);
+            run_traced(rt.alloc(), config, log, &mut input, &mut output, trace).0
+        }
+    }
 }
 
 /// Runs a node of this configuration, with the log at this path.
-fn run_with_file(rt: &HostRuntime, config: &[u8], path: &str) -> u8 {
+fn run_with_file(rt: &HostRuntime, config: &[u8], path: &str, trace: Option<File>) -> u8 {
     match open_log(rt, path) {
-        Ok(Some(file)) => run_with(rt, config, FileLog::new(file)),
-        Ok(None) => without_log(rt, path, "it is no plain file", &Failure::Unread),
+        Ok(Some(file)) => run_with(rt, config, FileLog::new(file), trace),
+        Ok(None) => without_file(rt, path, "it is no plain file", &Failure::Unread),
         Err(error) => unopened_log(rt, path, error.kind()),
+    }
+}
+
+/// Runs a node of this configuration, with the log at this path, if it is to have one.
+fn run_logged(rt: &HostRuntime, config: &[u8], log: Option<&str>, trace: Option<File>) -> u8 {
+    match log {
+        None => run_with(rt, config, NoLog, trace),
+        Some(path) => run_with_file(rt, config, path, trace),
+    }
+}
+
+/// Runs a node of this configuration, with the log and the trace at these paths, if it is to have them. A trace is made anew: nothing that is there is
+/// written over.
+fn run_asked(rt: &HostRuntime, config: &[u8], log: Option<&str>, trace: Option<&str>) -> u8 {
+    match trace {
+        None => run_logged(rt, config, log, None),
+        Some(path) => match OpenOptions::new()
+            .write(true)
+            .create_new(true)
+            .open(rt, path)
+        {
+            Ok(file) => run_logged(rt, config, log, Some(file)),
+            Err(error) => unopened(rt, path, error.kind()),
+        },
     }
 }
 
@@ -216,8 +258,7 @@ fn with_node(rt: &HostRuntime, asked: &NodeAsked<'_>) -> u8 {
     let config = config.as_slice();
     match asked.task {
         NodeTask::Check => check_config(rt.alloc(), config, &mut Stream::new(io::writer(rt))),
-        NodeTask::Run { log: None } => run_with(rt, config, NoLog),
-        NodeTask::Run { log: Some(path) } => run_with_file(rt, config, path),
+        NodeTask::Run { log, trace } => run_asked(rt, config, log, trace),
         NodeTask::Account { log } => account_with(rt, config, log),
     }
 }

@@ -6,7 +6,7 @@ use Rattle.scp_prompt.specs.declared.asked.Mode.{Mode}
 use Rattle.scp_prompt.specs.declared.asked.Mode.TheVariants.{Serial, Threads}
 use Rattle.scp_prompt.specs.declared.asked.Shape.{Shape}
 use Rattle.scp_prompt.specs.declared.asked.Task.{Task}
-use Rattle.scp_prompt.specs.declared.asked.Task.TheVariants.{Run, Account, Check, Stand, Slot, Quorums, Hex, Text, Decode, Encode}
+use Rattle.scp_prompt.specs.declared.asked.Task.TheVariants.{Run, Account, Check, Stand, Trace, Draw, Slot, Quorums, Hex, Text, Decode, Encode}
 use Rattle.scp_command.specs.declared.answer.Answer.{Answer}
 use Rattle.scp_command.specs.Answers.{Answers, IsRunAnswer, IsThreadsAnswer, IsAccountAnswer, IsThreadsAccount, IsHeadlinedRun, IsHeadlinedInThreads, IsHeadlinedAccount, IsHeadlinedThreadsAccount, IsHeadlinedFor}
 
@@ -71,6 +71,8 @@ headlined played reported (Account Serial form) input answer is = account_headli
 headlined played reported (Account Threads form) input answer is = threads_account_headlined reported form input answer is
 headlined played reported Check input answer is = tt
 headlined played reported Stand input answer is = tt
+headlined played reported Trace input answer is = tt
+headlined played reported Draw input answer is = tt
 headlined played reported Slot input answer is = tt
 headlined played reported Quorums input answer is = tt
 headlined played reported Hex input answer is = tt

@@ -1,15 +1,15 @@
--- What is told of where nodes stand.
+-- What is told of a run.
 use Rattle.std.proofs.Common.{◌≡◌, ◌≢◌, ◌⊎◌, inl, inr, refl, List, ℕ, Bool, true, false, subst, sym}
 use Rattle.std.specs.Prelude.{Result, Ok, Err, IfOk}
 use Rattle.scp_types.specs.declared.fault.Fault.{Fault}
 use Rattle.scp_types.specs.declared.fault.Fault.TheVariants as faults
-use Rattle.scp_prompt.specs.declared.asked.Task.TheVariants.{Stand}
 use Rattle.scp_prompt.specs.declared.failure.Failure.{Failure}
-use Rattle.scp_trace_stand.specs.declared.playing.Told.{Told}
-use Rattle.scp_trace_stand.specs.Told.{IsTold}
+use Rattle.scp_trace_run.specs.declared.depth.Depth.{Depth}
+use Rattle.scp_trace_run.specs.declared.playing.Traced.{Traced}
+use Rattle.scp_trace_run.specs.Traced.{IsTraced}
 use Rattle.scp_command.specs.declared.plain.Telling.{Telling}
 use Rattle.scp_command.specs.declared.plain.Telling.TheVariants.{Whole, Part}
-use Rattle.scp_command.specs.inside.Plain.{IsTelling, IsTellingOf}
+use Rattle.scp_command.specs.inside.Plain.{IsRunTelling, IsTellingOf}
 
 abbrev IsMemory : Fault → Type 0
 IsMemory faults.NoMemory = Unit {0}
@@ -33,7 +33,7 @@ either_memory (faults.Refused stage) = inr (λ e. subst IsMemory (sym e) tt)
 either_memory faults.Device = inr (λ e. subst IsMemory (sym e) tt)
 
 -- what is told of a script, with the line of the fault that ended it
-pub telling_stands : (script : List ℕ) (told : Told) (r : Result Telling Failure) → IsTold script told → IfOk r (IsTellingOf told) → IfOk r (IsTelling Stand script)
-telling_stands script told (Ok (Whole text)) is h = (told, is, h.0, h.1)
-telling_stands script told (Ok (Part text)) is h = (told, h.0, is, h.1, h.2)
-telling_stands script told (Err failure) is h = tt
+pub telling_traced : (depth : Depth) (script : List ℕ) (told : Traced) (r : Result Telling Failure) → IsTraced depth script told → IfOk r (IsTellingOf told) → IfOk r (IsRunTelling depth script)
+telling_traced depth script told (Ok (Whole text)) is h = (told, is, h.0, h.1)
+telling_traced depth script told (Ok (Part text)) is h = (told, h.0, is, h.1, h.2)
+telling_traced depth script told (Err failure) is h = tt

@@ -31,8 +31,11 @@ use Rattle.scp_trace_lint.specs.declared.warning.Warning.{Warning}
 use Rattle.scp_trace_lint.specs.Lines.{IsSaid}
 use Rattle.scp_trace_lint.specs.Texts.{warnings_text}
 use Rattle.scp_trace_lint.specs.Warnings.{AreWarnings}
-use Rattle.scp_trace_stand.specs.declared.playing.Told.{Told}
-use Rattle.scp_trace_stand.specs.Told.{IsTold}
+use Rattle.scp_trace_run.specs.declared.depth.Depth.{Depth}
+use Rattle.scp_trace_run.specs.declared.depth.Depth.TheVariants.{Stands, Whole}
+use Rattle.scp_trace_run.specs.declared.playing.Traced.{Traced}
+use Rattle.scp_trace_run.specs.Traced.{IsTraced}
+use Rattle.scp_draw.specs.Drawn.{IsDrawn}
 use Rattle.scp_quorums.specs.Told.{members_in, TellsQuorums}
 use Rattle.scp_shorthand.specs.declared.placed.PlacedLine.{PlacedLine}
 use Rattle.scp_shorthand.specs.Hexing.{IsHexed}
@@ -46,7 +49,7 @@ use Rattle.scp_decoded.specs.declared.bytes.Spelling.{Spelling}
 use Rattle.scp_decoded.specs.declared.bytes.Spelling.TheVariants as spellings
 use Rattle.scp_decoded.specs.Decoding.{IsDecoded, IsEncoded}
 use Rattle.scp_prompt.specs.declared.asked.Task.{Task}
-use Rattle.scp_prompt.specs.declared.asked.Task.TheVariants.{Run, Account, Check, Stand, Slot, Quorums, Hex, Text, Decode, Encode}
+use Rattle.scp_prompt.specs.declared.asked.Task.TheVariants.{Run, Account, Check, Stand, Trace, Draw, Slot, Quorums, Hex, Text, Decode, Encode}
 use Rattle.scp_prompt.specs.declared.asked.Form.{Form}
 use Rattle.scp_prompt.specs.declared.asked.Form.TheVariants as forms
 use Rattle.scp_prompt.specs.declared.asked.Mode.{Mode}
@@ -232,14 +235,22 @@ pub record IsCheckAnswer (input : List ℕ) (answer : Answer) : Type 0 where
   pub hinted : AreHints commands (map (placed given.expanded.lines) lines) hints
   pub just : IsJust (warnings_text warnings ++ hints_text hints ++ codes "ok\n") answer
 
--- The input is a script that was played to its end, and this is told of where its nodes stand, by the lines of the expanded script.
-pub record IsStandAnswer (input : List ℕ) (answer : Answer) : Type 0 where
+-- The input is a script that was played to its end, and this is told of its run, as deep as is asked, by the lines of the expanded script.
+pub record IsTraceAnswer (depth : Depth) (input : List ℕ) (answer : Answer) : Type 0 where
   pub given : Given
   pub is_given : IsGiven input given
-  pub told : Told
-  pub is_told : IsTold given.text.items told
+  pub told : Traced
+  pub is_told : IsTraced depth given.text.items told
   pub whole : told.fault ≡ None
   pub just : IsJust (string_bytes told.text) answer
+
+-- The input is a script that was played to its end, and the answer is the page of its run, by the lines of the expanded script.
+pub record IsDrawAnswer (input : List ℕ) (answer : Answer) : Type 0 where
+  pub given : Given
+  pub is_given : IsGiven input given
+  pub page : List ℕ
+  pub drawn : IsDrawn given.text.items page
+  pub just : IsJust page answer
 
 -- The input is a script, and this is told of the quorum sets of its nodes.
 pub record IsQuorumsAnswer (input : List ℕ) (answer : Answer) : Type 0 where
@@ -306,7 +317,9 @@ abbrev pub Answers : Task → List ℕ → Answer → Type 0
 Answers (Run mode shape) input answer = IsRunBy mode shape input answer
 Answers (Account mode form) input answer = IsAccountBy mode form input answer
 Answers Check input answer = IsCheckAnswer input answer
-Answers Stand input answer = IsStandAnswer input answer
+Answers Stand input answer = IsTraceAnswer Stands input answer
+Answers Trace input answer = IsTraceAnswer Whole input answer
+Answers Draw input answer = IsDrawAnswer input answer
 Answers Slot input answer = IsSlotAnswer input answer
 Answers Quorums input answer = IsQuorumsAnswer input answer
 Answers Hex input answer = (out : List ℕ) × IsHexBy (is_slot_script input) input out × IsJust out answer

@@ -31,10 +31,12 @@ use Rattle.scp_decoded.specs.declared.decoding.DecodeError.TheVariants as decodi
 use Rattle.scp_decoded.specs.Decoding.{IsUndecoded, IsDecoded, IsEncoded}
 use Rattle.scp_trace_lint.specs.declared.fault.BadLine.{BadLine}
 use Rattle.scp_trace_lint.specs.Lines.{IsFirstBad, IsBadAt, IsSaid}
-use Rattle.scp_trace_stand.specs.declared.playing.Told.{Told}
-use Rattle.scp_trace_stand.specs.Told.{IsTold}
+use Rattle.scp_trace_run.specs.declared.depth.Depth.{Depth}
+use Rattle.scp_trace_run.specs.declared.depth.Depth.TheVariants.{Stands, Whole}
+use Rattle.scp_trace_run.specs.declared.playing.Traced.{Traced}
+use Rattle.scp_trace_run.specs.Traced.{IsTraced}
 use Rattle.scp_prompt.specs.declared.asked.Task.{Task}
-use Rattle.scp_prompt.specs.declared.asked.Task.TheVariants.{Run, Account, Check, Stand, Slot, Quorums, Hex, Text, Decode, Encode}
+use Rattle.scp_prompt.specs.declared.asked.Task.TheVariants.{Run, Account, Check, Stand, Trace, Draw, Slot, Quorums, Hex, Text, Decode, Encode}
 use Rattle.scp_prompt.specs.declared.asked.Mode.{Mode}
 use Rattle.scp_prompt.specs.declared.asked.Mode.TheVariants.{Serial, Threads}
 use Rattle.scp_prompt.specs.declared.asked.Coding.{Coding}
@@ -91,8 +93,8 @@ abbrev pub IsNotRun : Mode → List ℕ → Failure → Type 0
 IsNotRun Serial input failure = IsStoppedInput input failure
 IsNotRun Threads input failure = IsGivenUpInput input failure
 
--- The script that an input is was played to its end, and a line of it wasn't done when it was played once more.
-pub record IsStoppedAgain (input : List ℕ) (failure : Failure) : Type 0 where
+-- A line of the script that an input is wasn't done, behind these.
+pub record IsStoppedScript (input : List ℕ) (failure : Failure) : Type 0 where
   pub given : Given
   pub is_given : IsGiven input given
   pub commands : List Command
@@ -116,17 +118,21 @@ pub record IsUnfit (input : List ℕ) (failure : Failure) : Type 0 where
 
 -- why there is no account, besides what keeps a script from being played
 abbrev pub IsNotTold : List ℕ → Failure → Type 0
-IsNotTold input failure = IsStoppedAgain input failure ⊎ IsUnfit input failure
+IsNotTold input failure = IsStoppedScript input failure ⊎ IsUnfit input failure
 
--- What is told of where nodes stand was ended by a fault.
-pub record IsCutStand (input : List ℕ) (failure : Failure) : Type 0 where
+-- What is told of a run, as deep as is asked, was ended by a fault.
+pub record IsCutTrace (depth : Depth) (input : List ℕ) (failure : Failure) : Type 0 where
   pub given : Given
   pub is_given : IsGiven input given
-  pub told : Told
-  pub is_told : IsTold given.text.items told
+  pub told : Traced
+  pub is_told : IsTraced depth given.text.items told
   pub fault : PlayFault
   pub ended : told.fault ≡ Some fault
   pub of_stop : failure ≡ stop_of None fault
+
+-- why nothing is told of a run
+abbrev pub IsNotTraced : Depth → List ℕ → Failure → Type 0
+IsNotTraced depth input failure = IsNoScript input failure ⊎ IsCutTrace depth input failure
 
 -- ---- scripts of one slot, and other forms
 
@@ -201,7 +207,9 @@ abbrev pub Fails : Task → List ℕ → Failure → Type 0
 Fails (Run mode shape) input failure = IsNoScript input failure ⊎ IsNotRun mode input failure
 Fails (Account mode form) input failure = IsNoScript input failure ⊎ (IsNotRun mode input failure ⊎ IsNotTold input failure)
 Fails Check input failure = IsNoScript input failure
-Fails Stand input failure = IsNoScript input failure ⊎ IsCutStand input failure
+Fails Stand input failure = IsNotTraced Stands input failure
+Fails Trace input failure = IsNotTraced Whole input failure
+Fails Draw input failure = IsNoScript input failure ⊎ IsStoppedScript input failure
 Fails Slot input failure = IsNoSlotDigits input failure ⊎ IsSlotLine input failure
 Fails Quorums input failure = IsNoScript input failure
 Fails Hex input failure = IsNoHexBy (is_slot_script input) input failure

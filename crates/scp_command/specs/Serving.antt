@@ -2,7 +2,7 @@
 use Rattle.std.specs.Prelude.{ℕ, ◌≡◌, ◌⊎◌, ◌≤◌, ◌<◌, Bool, true, false, List, [], ◌∷◌, ◌++◌, length, Option, Some, None, IfSome, string_bytes}
 use Rattle.scp_device.specs.Device.{Gains, Fails as HasFailed}
 use Rattle.scp_prompt.specs.declared.asked.Task.{Task}
-use Rattle.scp_prompt.specs.declared.asked.Task.TheVariants.{Check, Slot, Hex, Text, Decode, Encode}
+use Rattle.scp_prompt.specs.declared.asked.Task.TheVariants.{Check, Trace, Slot, Hex, Text, Decode, Encode}
 use Rattle.scp_prompt.specs.declared.failure.Failure.{Failure}
 use Rattle.scp_prompt.specs.declared.failure.Failure.TheVariants.{TooLong, NoMemory, Unread, Line}
 use Rattle.scp_prompt.specs.Failing.{IsToldLine, settled_line}
@@ -13,8 +13,10 @@ use Rattle.scp_slot_script.specs.Answers.{IsPlayed}
 use Rattle.scp_trace_lint.specs.declared.fault.BadLine.{BadLine}
 use Rattle.scp_trace_lint.specs.Lines.{IsFirstBad, IsBadAt, MayWant}
 use Rattle.scp_trace_lint.specs.Texts.{IsLinted}
-use Rattle.scp_trace_stand.specs.declared.playing.Told.{Told}
-use Rattle.scp_trace_stand.specs.Told.{IsTold as IsStoodOf}
+use Rattle.scp_trace_run.specs.declared.depth.Depth.{Depth}
+use Rattle.scp_trace_run.specs.declared.depth.Depth.TheVariants.{Stands, Whole}
+use Rattle.scp_trace_run.specs.declared.playing.Traced.{Traced}
+use Rattle.scp_trace_run.specs.Traced.{IsTraced}
 use Rattle.scp_command.specs.Given.{IsOfReason}
 use Rattle.scp_command.specs.Answers.{lines_of}
 
@@ -53,15 +55,25 @@ IsUnread limit left failed failure =
 
 -- ---- the settled words on one stream
 
+-- what is told of a run to its end, as deep as is asked
+abbrev pub IsPlainTrace : Depth → List ℕ → List ℕ → Type 0
+IsPlainTrace depth script out = (told : Traced) × IsTraced depth script told × (told.fault ≡ None) × (out ≡ string_bytes told.text)
+
 -- what is told of a script to the end, by the command
 abbrev pub IsPlain : Task → List ℕ → List ℕ → Type 0
 IsPlain Check script out = IsLinted script out
 IsPlain Slot script out = (read : SlotScript) × IsPlayed read out
-IsPlain task script out = (told : Told) × IsStoodOf script told × (told.fault ≡ None) × (out ≡ string_bytes told.text)
+IsPlain Trace script out = IsPlainTrace Whole script out
+IsPlain task script out = IsPlainTrace Stands script out
 
--- a fault stopped the script: this is told of where its nodes stand up to there, and then the fault's line
-abbrev pub IsPlainUpTo : List ℕ → List ℕ → Type 0
-IsPlainUpTo script out = (told : Told) × (fault : PlayFault) × IsStoodOf script told × (told.fault ≡ Some fault) × (out ≡ string_bytes told.text ++ fault_line fault.node fault.fault)
+-- a fault stopped the script: this is told of its run up to there, as deep as is asked, and then the fault's line
+abbrev pub IsPartTrace : Depth → List ℕ → List ℕ → Type 0
+IsPartTrace depth script out = (told : Traced) × (fault : PlayFault) × IsTraced depth script told × (told.fault ≡ Some fault) × (out ≡ string_bytes told.text ++ fault_line fault.node fault.fault)
+
+-- so by the command
+abbrev pub IsPlainUpTo : Task → List ℕ → List ℕ → Type 0
+IsPlainUpTo Trace script out = IsPartTrace Whole script out
+IsPlainUpTo task script out = IsPartTrace Stands script out
 
 -- why nothing is told of a script: its first bad line, or want of memory where it may be told
 abbrev pub IsNotPlainScript : List ℕ → Failure → Type 0

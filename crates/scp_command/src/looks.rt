@@ -8,18 +8,20 @@ ghost use Rattle.scp_trace_lint.specs.Warnings.{AreWarnings};
 ghost use Rattle.scp_hints.specs.declared.hint.Hint.{Hint};
 ghost use Rattle.scp_hints.specs.Hints.{AreHints};
 ghost use Rattle.scp_hints.specs.Texts.{hints_text};
-ghost use Rattle.scp_trace_stand.specs.Told.{IsStandFault};
+ghost use Rattle.scp_trace_run.specs.Traced.{IsTraceFault};
+ghost use Rattle.scp_draw.specs.Drawn.{IsDrawFault};
 ghost use Rattle.scp_command.specs.Given.{IsGiven};
-ghost use Rattle.scp_command.specs.Answers.{IsCheckAnswer, IsStandAnswer, IsQuorumsAnswer};
-ghost use Rattle.scp_command.specs.Causes.{IsNoScript, Fails};
+ghost use Rattle.scp_command.specs.Answers.{IsCheckAnswer, IsTraceAnswer, IsDrawAnswer, IsQuorumsAnswer};
+ghost use Rattle.scp_command.specs.Causes.{IsNoScript, IsNotTraced, Fails};
 
 use crate::answer::Answer;
 use crate::given::{Given, commands_of, given_by, of_bad, of_play, place_of};
+use scp_draw::{DrawFault, draw};
 use scp_hints::{hints, text_of_hints};
 use scp_prompt::{Failure, Task};
 use scp_quorums::quorums_text;
 use scp_trace_lint::{Script, text_of_warnings, warnings};
-use scp_trace_stand::{StandFault, stand};
+use scp_trace_run::{Depth, TraceFault, trace};
 use scp_types::Fault;
 use std::alloc::Global;
 
@@ -52,29 +54,53 @@ pub fn checked(alloc: Global, text: &[u8]) -> Result<Answer, Failure>
     }
 }
 
-/// Why nothing is told of where nodes stand.
-fn of_stand(given: &Given, fault: StandFault) -> Failure
-    ensures { (input : List ℕ) → IsGiven input given.now → IsStandFault given.now.text.items fault → IsNoScript input result }
+/// Why nothing is told of a run.
+fn of_trace(given: &Given, fault: TraceFault) -> Failure
+    ensures { (input : List ℕ) → IsGiven input given.now → IsTraceFault given.now.text.items fault → IsNoScript input result }
 {
     match fault {
-        StandFault::NoMemory => Failure::NoMemory,
-        StandFault::Bad(bad) => of_bad(&given.expanded, bad),
-        StandFault::BadAt(line) => Failure::Line(place_of(&given.expanded, line)),
+        TraceFault::NoMemory => Failure::NoMemory,
+        TraceFault::Bad(bad) => of_bad(&given.expanded, bad),
+        TraceFault::BadAt(line) => Failure::Line(place_of(&given.expanded, line)),
     }
 }
 
-/// Where the nodes of a script stand. Its lines are counted in the settled script.
-pub fn stood(alloc: Global, text: &[u8]) -> Result<Answer, Failure>
-    ensures answer { IfOk result (IsStandAnswer text.now) }
-    ensures cause { IfErr result (Fails Task.Stand text.now) }
+/// What happens in the run of a script, as deep as is asked. Its lines are counted in the settled script.
+pub fn traced(alloc: Global, depth: Depth, text: &[u8]) -> Result<Answer, Failure>
+    ensures answer { IfOk result (IsTraceAnswer depth text.now) }
+    ensures cause { IfErr result (IsNotTraced depth text.now) }
 {
     let given = given_by(alloc, text)?;
-    match stand(alloc, given.text.as_slice()) {
+    match trace(alloc, depth, given.text.as_slice()) {
         Ok(told) => match told.fault {
             Some(fault) => Err(of_play(None, fault)),
             None => Ok(Answer::of_text(alloc, told.text)),
         },
-        Err(fault) => Err(of_stand(&given, fault)),
+        Err(fault) => Err(of_trace(&given, fault)),
+    }
+}
+
+/// Why nothing is drawn.
+fn of_draw(given: &Given, fault: DrawFault) -> Failure
+    ensures { (input : List ℕ) → IsGiven input given.now → IsDrawFault given.now.text.items fault → Fails Task.Draw input result }
+{
+    match fault {
+        DrawFault::NoMemory => Failure::NoMemory,
+        DrawFault::Bad(bad) => of_bad(&given.expanded, bad),
+        DrawFault::BadAt(line) => Failure::Line(place_of(&given.expanded, line)),
+        DrawFault::Stopped(fault) => of_play(None, fault),
+    }
+}
+
+/// The page of a script's run. Its lines are counted in the settled script.
+pub fn drawn(alloc: Global, text: &[u8]) -> Result<Answer, Failure>
+    ensures answer { IfOk result (IsDrawAnswer text.now) }
+    ensures cause { IfErr result (Fails Task.Draw text.now) }
+{
+    let given = given_by(alloc, text)?;
+    match draw(alloc, given.text.as_slice()) {
+        Ok(page) => Ok(Answer::of_bytes(alloc, page)),
+        Err(fault) => Err(of_draw(&given, fault)),
     }
 }
 

@@ -2,11 +2,10 @@
 ghost use Rattle.std.specs.Prelude.{◌≡◌, ◌≢◌, ◌≤◌, ◌⊎◌, ◌++◌, ℕ, List, length, IfOk, IfErr, string_bytes};
 ghost use Rattle.scp_device.specs.Device.{Gains, Fails as HasFailed, IsAll};
 ghost use Rattle.scp_line.specs.Outcome.{fault_line};
-ghost use Rattle.scp_trace_stand.specs.Told.{IsTold as IsStoodOf, IsStandFault};
 ghost use Rattle.scp_prompt.specs.Failing.{status_of as failure_status};
 ghost use Rattle.scp_command.specs.Given.{IsOfReason};
 ghost use Rattle.scp_command.specs.Serving.{IsPlain, IsPlainUpTo, IsNotPlain, IsNotPlainScript, IsUnread, IsSettled, IsWritten};
-ghost use Rattle.scp_command.specs.inside.Plain.{IsTelling, IsTellingOf};
+ghost use Rattle.scp_command.specs.inside.Plain.{IsTelling, IsRunTelling, IsTellingOf};
 
 use crate::forms::played_slot;
 use crate::given::of_reason;
@@ -15,7 +14,7 @@ use scp_device::{ReportOut, SCRIPT_LIMIT, ScriptIn};
 use scp_line::line_of_fault;
 use scp_prompt::{Failure, Task, status, write_bytes, write_settled};
 use scp_trace_lint::{LintFault, lint};
-use scp_trace_stand::{StandFault, Told, stand};
+use scp_trace_run::{Depth, TraceFault, Traced, trace};
 use scp_types::Fault;
 use std::alloc::{AllocError, Global};
 
@@ -40,10 +39,10 @@ fn linted(alloc: Global, text: &[u8]) -> Result<Telling, Failure>
 }
 
 /// What was told, with the line of the fault that ended it, if one did.
-fn with_its_fault(alloc: Global, told: Told) -> Result<Telling, AllocError>
+fn with_its_fault(alloc: Global, told: Traced) -> Result<Telling, AllocError>
     ensures { IfOk result (IsTellingOf told) }
 {
-    let Told { mut text, fault } = told;
+    let Traced { mut text, fault } = told;
     match fault {
         None => Ok(Telling::Whole(text.into_bytes())),
         Some(fault) => {
@@ -54,8 +53,8 @@ fn with_its_fault(alloc: Global, told: Told) -> Result<Telling, AllocError>
     }
 }
 
-/// What is told of where the nodes of a script stand.
-fn telling_of_stand(alloc: Global, told: Told) -> Result<Telling, Failure>
+/// What is told of a run.
+fn telling_of_run(alloc: Global, told: Traced) -> Result<Telling, Failure>
     ensures told { IfOk result (IsTellingOf told) }
     ensures cause { IfErr result (λ failure. failure ≡ Failure.NoMemory) }
 {
@@ -65,16 +64,16 @@ fn telling_of_stand(alloc: Global, told: Told) -> Result<Telling, Failure>
     }
 }
 
-/// Where the nodes of a script stand.
-fn stood(alloc: Global, text: &[u8]) -> Result<Telling, Failure>
-    ensures told { IfOk result (IsTelling Task.Stand text.now) }
+/// What is told of the run of a script.
+fn traced(alloc: Global, depth: Depth, text: &[u8]) -> Result<Telling, Failure>
+    ensures told { IfOk result (IsRunTelling depth text.now) }
     ensures cause { IfErr result (IsNotPlainScript text.now) }
 {
-    match stand(alloc, text) {
-        Ok(stood) => telling_of_stand(alloc, stood),
-        Err(StandFault::NoMemory) => Err(Failure::NoMemory),
-        Err(StandFault::Bad(bad)) => Err(of_reason(bad.line, bad.reason)),
-        Err(StandFault::BadAt(line)) => Err(Failure::Line(line)),
+    match trace(alloc, depth, text) {
+        Ok(traced) => telling_of_run(alloc, traced),
+        Err(TraceFault::NoMemory) => Err(Failure::NoMemory),
+        Err(TraceFault::Bad(bad)) => Err(of_reason(bad.line, bad.reason)),
+        Err(TraceFault::BadAt(line)) => Err(Failure::Line(line)),
     }
 }
 
@@ -98,7 +97,8 @@ fn telling_of(alloc: Global, task: Task, text: &[u8]) -> Result<Telling, Failure
     match task {
         Task::Check => linted(alloc, text),
         Task::Slot => slot(alloc, text),
-        _ => stood(alloc, text),
+        Task::Trace => traced(alloc, Depth::Whole, text),
+        _ => traced(alloc, Depth::Stands, text),
     }
 }
 
@@ -143,7 +143,7 @@ fn finish_part<W: ReportOut>(text: &[u8], writer: &mut W) -> u8
     3
 }
 
-/// Does `check`, `slot` or, for any other task, `stand` in the settled words, with all that is told on one stream, and answers the exit
+/// Does `check`, `slot`, `trace` or, for any other task, `stand` in the settled words, with all that is told on one stream, and answers the exit
 /// status: 0 done, 1 of a script that is refused, 3 of a node, memory or a stream.
 pub fn serve_plain<R: ScriptIn, W: ReportOut>(
     alloc: Global,
@@ -161,7 +161,7 @@ pub fn serve_plain<R: ScriptIn, W: ReportOut>(
         ((failure : Failure) × (result ≡ failure_status failure) × (IsUnread SCRIPT_LIMIT (R.left reader.old) (HasFailed (R.failures reader.old) (R.failures reader.new)) failure
         ⊎ ((script : List ℕ) × IsAll (R.left reader.old) script × (length script ≤ SCRIPT_LIMIT) × IsNotPlain task script failure)) × IsSettled W.written W.failures writer.old failure writer.new)
         ⊎ (((result ≡ 3) × HasFailed (W.failures writer.old) (W.failures writer.new))
-        ⊎ ((script : List ℕ) × (out : List ℕ) × (result ≡ 3) × IsAll (R.left reader.old) script × (length script ≤ SCRIPT_LIMIT) × IsPlainUpTo script out × Gains (W.written writer.old) out (W.written writer.new))) }
+        ⊎ ((script : List ℕ) × (out : List ℕ) × (result ≡ 3) × IsAll (R.left reader.old) script × (length script ≤ SCRIPT_LIMIT) × IsPlainUpTo task script out × Gains (W.written writer.old) out (W.written writer.new))) }
 {
     match read_and_tell(alloc, task, reader) {
         Ok(Telling::Whole(text)) => finish(text.as_slice(), writer),

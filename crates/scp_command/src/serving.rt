@@ -9,7 +9,7 @@ ghost use Rattle.scp_command.specs.Serving.{limit_of, status_of as answer_status
 
 use crate::answer::Answer;
 use crate::forms::{as_text, in_digits, slot};
-use crate::looks::{checked, quorums, stood};
+use crate::looks::{checked, drawn, quorums, traced};
 use crate::messages::{decoded, encoded};
 use crate::runs::{account, run};
 use scp_device::{ReportOut, SCRIPT_LIMIT, ScriptIn, read_script, write_text};
@@ -17,6 +17,7 @@ use scp_line::what_is_played_keeps_the_headlines;
 use scp_prompt::{
     Cause, Failure, LONG_LIMIT, Task, read_within, status, write_bytes, write_failure,
 };
+use scp_trace_run::Depth;
 use scp_types::Fault;
 use std::alloc::Global;
 use std::sync::Wait;
@@ -95,7 +96,9 @@ fn answer<T: Threads + Wait + Sync>(
         Task::Run(mode, shape) => run(rt, alloc, mode, shape, text),
         Task::Account(mode, form) => account(rt, alloc, mode, form, text),
         Task::Check => checked(alloc, text),
-        Task::Stand => stood(alloc, text),
+        Task::Stand => traced(alloc, Depth::Stands, text),
+        Task::Trace => traced(alloc, Depth::Whole, text),
+        Task::Draw => drawn(alloc, text),
         Task::Slot => slot(alloc, text),
         Task::Quorums => quorums(alloc, text),
         Task::Hex => in_digits(alloc, text),

@@ -26,6 +26,7 @@ use Rattle.scp_apply.specs.Applier.{Takes as ApplierTakes}
 use Rattle.scp_apply.specs.Applies.{Applies, AppliesPass}
 use Rattle.scp_apply.specs.Laws.{NextCanBeTaken}
 use Rattle.scp_ledger.specs.Kv.{KvLedger, KvTakes, KvRuns, KvJournals}
+use Rattle.scp_core.specs.Node.{said_in}
 use Rattle.scp_core.specs.inside.Decider.{DeciderView, IsSound}
 use Rattle.scp_core.specs.inside.Stage.{shown, Shows}
 
@@ -84,7 +85,7 @@ applies_step law took old x answer new takes known running a = law.passes took o
 
 -- ---- what the code keeps
 
-pub sound_take : KvGrow → (v : DeciderView) (x : Ready) (t : Took) (new : KvLedger) → v.hand ≡ None → KvTakes v.ledger x t new → IsLedger new → KvRuns new → IsSound v → IsSound (record v { ledger = new; hand = t.onward; last_command = t.command })
+pub sound_take : KvGrow → (v : DeciderView) (x : Ready) (t : Took) (new : KvLedger) → v.hand ≡ None → KvTakes v.ledger x t new → IsLedger new → KvRuns new → IsSound v → IsSound (record v { ledger = new; hand = t.onward; last_command = t.command; last_said = said_in t.outgoing })
 sound_take grown v x t new empty takes known running s =
     let g = grown v.ledger x t new takes in
     let queue : List Decision = decisions_on v.queue in

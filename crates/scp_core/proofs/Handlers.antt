@@ -12,7 +12,7 @@ use Rattle.scp_pending.specs.declared.ready.Ready.{Ready}
 use Rattle.scp_pending.specs.Rules.{PendingView}
 use Rattle.scp_pending.specs.Pends.{Pends, IsSettled, IsIdle}
 use Rattle.scp_core.specs.History.{peer_at}
-use Rattle.scp_core.specs.Node.{LinkView, NodeView, with_link, Step, Fails, LeavesRoom, Hands, life_of, room_in, room_of, room_at}
+use Rattle.scp_core.specs.Node.{LinkView, NodeView, with_link, Step, Fails, LeavesRoom, Hands, said_in, life_of, room_in, room_of, room_at}
 use Rattle.scp_ledger.specs.Takes.{adds_entry}
 use Rattle.scp_ledger.specs.Kv.{KvLedger, KvTakes, KvTells}
 use Rattle.scp_wire.specs.declared.message.Message.{Message}
@@ -118,7 +118,7 @@ read-at : (v : NodeView) (l : ℕ) (reply : Reply) (links : List LinkView) (k k2
 read-at v l Blocked links k k2 r there d is = (r, (k, there, d.0), same v l k k2 links there d.1 is)
 read-at v l Idle links k k2 r there d is = (r, (k, there, (d.0, d.1)), same v l k k2 links there d.2 is)
 read-at v l Moved links k k2 r there d is = (r, (k, there, (d.0, d.1, d.2, d.3, here v l k2 _ links d.4 is)))
-read-at v l NoMemory links k k2 r there d is = (record { was = r; failed = refl; keeps = record { config = refl; journal = refl; decisions = refl; asked = refl; command = refl; applied = refl; lives = ap (map life_of) is ∙ lives_same v.links l k k2 there d.2 }; room = one_more v l k k2 links there d.3 is }, (k, there, (d.0, d.1)))
+read-at v l NoMemory links k k2 r there d is = (record { was = r; failed = refl; keeps = record { config = refl; journal = refl; decisions = refl; asked = refl; command = refl; said = refl; applied = refl; lives = ap (map life_of) is ∙ lives_same v.links l k k2 there d.2 }; room = one_more v l k k2 links there d.3 is }, (k, there, (d.0, d.1)))
 read-at v l reply links k k2 r there d is = absurd d
 
 pub read-step : (v : NodeView) (l : ℕ) (reply : Reply) (links : List LinkView) → v.failed ≡ false → OnLinks Reads v.links l reply links → Step v (ReaderTake l) reply (failing (with_links v links) reply)
@@ -165,7 +165,7 @@ is_idle v thing none settled = λ me peers taken given p. (settled me peers take
 -- ---- the slot stage
 
 abbrev with_decider : NodeView → DeciderView → NodeView
-with_decider v d = record v { failed = d.failed; ledger = d.ledger; slot_hand = d.hand; last_command = d.last_command; decided = d.queue; decided_room = d.room; applier = d.applier }
+with_decider v d = record v { failed = d.failed; ledger = d.ledger; slot_hand = d.hand; last_command = d.last_command; last_said = d.last_said; decided = d.queue; decided_room = d.room; applier = d.applier }
 
 isnt_empty : {X : Type 0} (x : X) (rest : List X) → x ∷ rest ≡ [] → ⊥
 isnt_empty x rest e = cc
@@ -183,6 +183,7 @@ fails_by v u w event d d2 leaves e is config links runs k = record {
     decisions = ap (λ (x : NodeView). x.ledger.decisions) is ∙ k.decisions ∙ sym (ap (λ (x : NodeView). x.ledger.decisions) e);
     asked = ap (λ (x : NodeView). x.ledger.asked) is ∙ k.asked ∙ sym (ap (λ (x : NodeView). x.ledger.asked) e);
     command = ap (λ (x : NodeView). x.last_command) is ∙ k.command ∙ sym (ap (λ (x : NodeView). x.last_command) e);
+    said = ap (λ (x : NodeView). x.last_said) is ∙ k.said ∙ sym (ap (λ (x : NodeView). x.last_said) e);
     applied = ap (λ (x : NodeView). x.applier.applied) is ∙ k.applied ∙ sym (ap (λ (x : NodeView). x.applier.applied) e);
     lives = ap (λ (x : NodeView). map life_of x.links) is ∙ ap (map life_of) links;
   };
@@ -208,7 +209,7 @@ slot-step v w d d2 x rest Moved e is runs empty q h = (
       known = h.3;
       running = h.4;
       hands = h.6;
-      is = is ∙ ap (with_decider (record v { ready = rest; outboxes = w.outboxes })) h.5 ∙ ap (λ (u : NodeView). record u { ready = rest; ledger = d2.ledger; slot_hand = h.0.onward; last_command = h.0.command; outboxes = w.outboxes }) (sym e);
+      is = is ∙ ap (with_decider (record v { ready = rest; outboxes = w.outboxes })) h.5 ∙ ap (λ (u : NodeView). record u { ready = rest; ledger = d2.ledger; slot_hand = h.0.onward; last_command = h.0.command; last_said = said_in h.0.outgoing; outboxes = w.outboxes }) (sym e);
     },
   ),
 )
@@ -251,7 +252,7 @@ gives_nothing old l new g = g.is ∙ ap (slice_set old l) g.gives.1 ∙ set_same
 
 drain-step : (v : NodeView) (l : ℕ) (reply : Reply) (boxes : List OutboxView) → v.failed ≡ false → Draws v.outboxes l reply boxes → Step v (Drain l) reply (failing (with_outboxes v boxes) reply)
 drain-step v l (Sent bytes) boxes r d = (r, record { message = d.0; gives = d.1; spells = d.2; is = refl })
-drain-step v l NoMemory boxes r d = (record { was = r; failed = refl; keeps = record { config = refl; journal = refl; decisions = refl; asked = refl; command = refl; applied = refl; lives = refl }; room = λ k. refl }, (d.0, boxes, d.1))
+drain-step v l NoMemory boxes r d = (record { was = r; failed = refl; keeps = record { config = refl; journal = refl; decisions = refl; asked = refl; command = refl; said = refl; applied = refl; lives = refl }; room = λ k. refl }, (d.0, boxes, d.1))
 drain-step v l Idle boxes r d = (r, (d.before, d.there, (d.gives.0, refl)), ap (with_outboxes v) (gives_nothing v.outboxes l boxes d))
 drain-step v l NoLink boxes r d = (r, d.0, ap (with_outboxes v) d.1)
 drain-step v l reply boxes r d = absurd d

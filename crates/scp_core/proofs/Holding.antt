@@ -64,7 +64,7 @@ past-goes p ApplyTake = refl
 past-goes p event = refl
 
 pub keeps-refl : (v : NodeView) → Keeps v v
-keeps-refl v = record { config = refl; journal = refl; decisions = refl; asked = refl; command = refl; applied = refl; lives = refl }
+keeps-refl v = record { config = refl; journal = refl; decisions = refl; asked = refl; command = refl; said = refl; applied = refl; lives = refl }
 
 fold-push : {A B : Type 0} (f : B → A → B) (a : B) (xs : List A) (x : A) → fold f a (xs ++ x ∷ []) ≡ f (fold f a xs) x
 fold-push f a [] x = refl

@@ -1,12 +1,13 @@
 -- What a slot stage shows, and what it hands out.
-use Rattle.std.proofs.Common.{◌≡◌, ◌↔◌, true, false, ℕ, List, [], ◌∷◌, ◌++◌, refl, sym, ◌∙◌, ap, subst, arith, length, All}
-use Rattle.std.specs.Prelude.{Option, Some, None, Result, Ok, Err, IsErrOf, OnErr, is_err, Any, option_to_list}
+use Rattle.std.proofs.Common.{◌≡◌, ◌↔◌, true, false, ℕ, List, [], ◌∷◌, ◌++◌, refl, sym, ◌∙◌, ap, subst, arith, length, get_or, ◌<◌, All}
+use Rattle.std.specs.Prelude.{Option, Some, None, Result, Ok, Err, IsErrOf, Any, option_to_list}
 use Rattle.std.proofs.lemmas.List.{get_or_append_left, length-append}
 use Rattle.std.specs.List.{AllByRecursion}
 use Rattle.std.proofs.lemmas.List.Elements.{All-from_recursion, recursion_from_All}
 use Rattle.std.proofs.lemmas.List.Quantifiers.{Any-push}
 use Rattle.scp_types.specs.declared.fault.Fault.{Fault}
 use Rattle.scp_types.specs.declared.fault.Fault.TheVariants.{NoMemory, JournalFull}
+use Rattle.scp_envelope.specs.declared.statement.Envelope.{Envelope}
 use Rattle.scp_outbox.specs.Outbox.{OutboxView}
 use Rattle.scp_pending.specs.declared.ready.Ready.{Ready}
 use Rattle.scp_ledger.specs.declared.took.Outgoing.{Outgoing}
@@ -17,7 +18,7 @@ use Rattle.scp_ledger.specs.Takes.{adds_entry}
 use Rattle.scp_core.specs.declared.stage.Given.{Given}
 use Rattle.scp_core.specs.declared.stage.Shown.{Shown}
 use Rattle.scp_ledger.specs.Kv.{KvLedger, KvTakes, KvTells, KvRuns}
-use Rattle.scp_core.specs.Node.{HandsOne, HandsEach}
+use Rattle.scp_core.specs.Node.{HandsOne, HandsEach, said_in}
 use Rattle.scp_core.specs.inside.Stage.{shown, Shows, TakesOut}
 use Rattle.scp_core.proofs.Deciding.{KvGrow, shown_before, runs_on}
 
@@ -41,19 +42,19 @@ cut_shows grown cut before x t now journal decisions runs j d takes out =
     (subst (λ n. Shows before (shown (Some (record { journal = n; decisions = decisions })) now)) (sym j)
     (subst (λ n. Shows before (shown (Some (record { journal = length before.journal; decisions = n })) now)) (sym d) (shown_before grown before x t now takes out)))
 
--- what goes on of what was taken
-abbrev given_by : Took → Given
-given_by t = record { onward = t.onward; command = t.command }
+-- what goes on of what was taken, and what was said
+abbrev pub given_by : Took → List Envelope → Given
+given_by t said = record { onward = t.onward; command = t.command; said = said }
 
 -- what is taken is taken of all that is shown
-pub takes_out : KvGrow → (cut : Option Shown) (before : KvLedger) (boxes : List OutboxView) (x : Ready) (t : Took) (now : KvLedger) (boxes2 : List OutboxView) → (shown cut before).failed ≡ false → KvTakes before x t now → KvTells before x t → IsLedger now → (now.failed ≡ false → KvRuns now) → HandsEach boxes t.outgoing boxes2 → TakesOut (shown cut before) boxes x (given_by t) (shown cut now) boxes2
-takes_out grown cut before boxes x t now boxes2 runs takes tells known running hands =
+pub takes_out : KvGrow → (cut : Option Shown) (before : KvLedger) (boxes : List OutboxView) (x : Ready) (t : Took) (now : KvLedger) (boxes2 : List OutboxView) (said : List Envelope) → said_in t.outgoing ≡ said → (shown cut before).failed ≡ false → KvTakes before x t now → KvTells before x t → IsLedger now → (now.failed ≡ false → KvRuns now) → HandsEach boxes t.outgoing boxes2 → TakesOut (shown cut before) boxes x (given_by t said) (shown cut now) boxes2
+takes_out grown cut before boxes x t now boxes2 said are runs takes tells known running hands =
     let was : shown cut before ≡ before = all_is_shown cut before before runs in
     let is : shown cut now ≡ now = all_is_shown cut before now runs in
     let failed : before.failed ≡ false = ap (λ (v : KvLedger). v.failed) (sym was) ∙ runs in
-    subst (λ (v : KvLedger). TakesOut v boxes x (given_by t) (shown cut now) boxes2) (sym was)
-    (subst (λ (v : KvLedger). TakesOut before boxes x (given_by t) v boxes2) (sym is)
-    (record { took = t; takes = takes; tells = tells; onward_is = refl; command_is = refl; known = known; running = running (runs_on grown before x t now failed takes); hands = hands }))
+    subst (λ (v : KvLedger). TakesOut v boxes x (given_by t said) (shown cut now) boxes2) (sym was)
+    (subst (λ (v : KvLedger). TakesOut before boxes x (given_by t said) v boxes2) (sym is)
+    (record { took = t; takes = takes; tells = tells; onward_is = refl; command_is = refl; said_is = are; known = known; running = running (runs_on grown before x t now failed takes); hands = hands }))
 
 abbrev taken_as : Took → Result Took Fault
 taken_as t = Ok t
@@ -128,6 +129,6 @@ any_before all rest one is h = subst (λ (os : List Outgoing). Any IsToAll os) (
 pub any_last : (all rest : List Outgoing) (one : Outgoing) → all ≡ rest ++ option_to_list (Some one) → IsToAll one → Any IsToAll all
 any_last all rest one is p = subst (λ (os : List Outgoing). Any IsToAll os) (sym is) (Any-push IsToAll rest one p)
 
-pub on_refusal : {X Y : Type 0} (P : Type 0) (r : Result X Y) → is_err r ≡ true → OnErr r P → P
-on_refusal P (Ok x) e h = absurd cc
-on_refusal P (Err y) e h = h
+-- one of a list that goes to all
+pub any_at : (all : List Outgoing) (one : Outgoing) (i : ℕ) → i < length all → one ≡ get_or all i one → IsToAll one → Any IsToAll all
+any_at all one i within is p = (i, one, within, sym is, p)

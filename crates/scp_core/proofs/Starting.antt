@@ -107,6 +107,7 @@ made_is v n = λ i. record {
   ledger = n.ledger i;
   slot_hand = n.hands.1 i;
   last_command = n.told i;
+  last_said = n.said i;
   decided = n.decided.0 i;
   decided_room = n.decided.1 i;
   applier = n.applier_is i;
@@ -114,7 +115,7 @@ made_is v n = λ i. record {
 }
 
 pub new_holds : KvPass → (v : NodeView) → IsNew v → LedgerTheorem [] v
-new_holds law v n = record { replies = made_is v n; failed = n.runs; moment = v; flows = starts law v n; now = λ _. refl; keeps = record { config = refl; journal = refl; decisions = refl; asked = refl; command = refl; applied = refl; lives = refl } }
+new_holds law v n = record { replies = made_is v n; failed = n.runs; moment = v; flows = starts law v n; now = λ _. refl; keeps = record { config = refl; journal = refl; decisions = refl; asked = refl; command = refl; said = refl; applied = refl; lives = refl } }
 
 pub if_ok : {X Y : Type 0} (P Q : X → Type 0) (r : Result X Y) → ((x : X) → P x → Q x) → IfOk r P → IfOk r Q
 if_ok P Q (Ok x) f h = f x h

@@ -32,7 +32,7 @@ use Rattle.scp_core.proofs.Below.{StepLaws}
 use Rattle.scp_core.specs.History.{OnLink, Past, accepts, moves, tail_of, readings_of, changed, peer_at}
 use Rattle.scp_ledger.specs.Kv.{KvLedger, KvTakes, KvRuns}
 use Rattle.scp_outbox.specs.Outbox.{OutboxView}
-use Rattle.scp_core.specs.Node.{SendsOut, LinkView, NodeView, with_link, Accepts, Moves}
+use Rattle.scp_core.specs.Node.{SendsOut, LinkView, NodeView, with_link, said_in, Accepts, Moves}
 use Rattle.scp_core.specs.Flow.{LinkFlows, Flows}
 use Rattle.scp_core.proofs.Queues.{way-fill, way-put, way-take, get_set, at_changed, within}
 use Rattle.scp_core.proofs.Links.{link-put, put_same, link-take, link-give, give_more, hand_cut, in_order, more}
@@ -365,7 +365,7 @@ module _ (laws : StepLaws) where
     decided_count = f.decided_count;
   }
 
-  Flows-slot-take : (p : Past) (v : NodeView) (x : Ready) (rest : List Ready) (after' : KvLedger) (took : Took) → v.slot_hand ≡ None → v.ready ≡ x ∷ rest → KvTakes v.ledger x took after' → IsLedger after' → KvRuns after' → Flows p v → Flows (moves p SlotTake) (record v { ready = rest; ledger = after'; slot_hand = took.onward; last_command = took.command })
+  Flows-slot-take : (p : Past) (v : NodeView) (x : Ready) (rest : List Ready) (after' : KvLedger) (took : Took) → v.slot_hand ≡ None → v.ready ≡ x ∷ rest → KvTakes v.ledger x took after' → IsLedger after' → KvRuns after' → Flows p v → Flows (moves p SlotTake) (record v { ready = rest; ledger = after'; slot_hand = took.onward; last_command = took.command; last_said = said_in took.outgoing })
   Flows-slot-take p v x rest after' took empty queue takes known running f = record {
     runs = f.runs;
     rooms = f.rooms;
@@ -445,7 +445,7 @@ module _ (laws : StepLaws) where
     | inr b ↦ subst (λ (v : NodeView). Flows p v) (sym b.is) (Flows-outboxes p (record old { inbox = b.rest; pending = b.after'; pend_hand = b.thing }) new.outboxes (Flows-pend-take p old b.x b.rest b.between b.after' b.thing a.0 b.inbox b.rules b.same b.takes b.gives f))
   ]
   Flows-moves p old new PendPut a f = subst (λ (v : NodeView). Flows (moves p PendPut) v) (sym a.3) (Flows-pend-put p old a.1 a.2 f)
-  Flows-moves p old new SlotTake a f = let b = a.1 in subst (λ (v : NodeView). Flows (moves p SlotTake) v) (sym b.is) (Flows-outboxes (moves p SlotTake) (record old { ready = b.rest; ledger = b.after'; slot_hand = b.took.onward; last_command = b.took.command }) new.outboxes (Flows-slot-take p old b.x b.rest b.after' b.took a.0 b.ready b.takes b.known b.running f))
+  Flows-moves p old new SlotTake a f = let b = a.1 in subst (λ (v : NodeView). Flows (moves p SlotTake) v) (sym b.is) (Flows-outboxes (moves p SlotTake) (record old { ready = b.rest; ledger = b.after'; slot_hand = b.took.onward; last_command = b.took.command; last_said = said_in b.took.outgoing }) new.outboxes (Flows-slot-take p old b.x b.rest b.after' b.took a.0 b.ready b.takes b.known b.running f))
   Flows-moves p old new SlotPut a f = subst (λ (v : NodeView). Flows (moves p SlotPut) v) (sym a.3) (Flows-slot-put p old a.1 a.2 f)
   Flows-moves p old new ApplyTake b f = subst (λ (v : NodeView). Flows (moves p ApplyTake) v) (sym b.is) (Flows-outboxes (moves p ApplyTake) (record old { decided = b.rest; applier = b.after' }) new.outboxes (Flows-apply-take p old b.x b.rest b.after' b.answer b.decided b.takes b.known b.running f))
   Flows-moves p old new event a f = absurd a

@@ -1,8 +1,9 @@
 -- What clients see of a node, and what one event does to it: the table of replies.
-use Rattle.std.specs.Prelude.{ℕ, ◌+◌, ◌-◌, ◌<◌, ◌≡◌, ◌≢◌, Bool, true, false, List, [], ◌∷◌, ◌++◌, ◌⊎◌, Option, Some, None, IsSome, length, map, slice_get, slice_set, option_to_list, ◌&&◌, nat_lt, if◌then◌else◌}
+use Rattle.std.specs.Prelude.{ℕ, ◌+◌, ◌-◌, ◌<◌, ◌≡◌, ◌≢◌, Bool, true, false, List, [], ◌∷◌, ◌++◌, ◌⊎◌, Option, Some, None, IsSome, length, map, flat_map, slice_get, slice_set, option_to_list, is_some, ◌&&◌, nat_lt, if◌then◌else◌}
 use Rattle.scp_ledger.specs.declared.journal.TheConstants.{JOURNAL_LIMIT}
 use Rattle.scp_types.specs.declared.limits.TheConstants.{LIFE_LIMIT}
 use Rattle.scp_types.specs.declared.names.NodeId.{NodeId}
+use Rattle.scp_envelope.specs.declared.statement.Envelope.{Envelope}
 use Rattle.scp_wire.specs.declared.message.Message.{Message}
 use Rattle.scp_wire.specs.declared.link.LinkItem.{LinkItem}
 use Rattle.scp_wire.specs.declared.link.LinkItem.TheVariants as item
@@ -22,7 +23,7 @@ use Rattle.scp_pending.specs.Pends.{Pends, IsIdle}
 use Rattle.scp_ledger.specs.declared.took.CommandFate.{CommandFate}
 use Rattle.scp_ledger.specs.declared.took.Onward.{Onward}
 use Rattle.scp_ledger.specs.declared.took.Outgoing.{Outgoing}
-use Rattle.scp_ledger.specs.declared.took.Outgoing.TheVariants.{To}
+use Rattle.scp_ledger.specs.declared.took.Outgoing.TheVariants.{To, ToAll}
 use Rattle.scp_ledger.specs.declared.took.Took.{Took}
 use Rattle.scp_ledger.specs.Ledger.{IsLedger}
 use Rattle.scp_ledger.specs.Takes.{adds_entry}
@@ -66,6 +67,7 @@ pub record NodeView : Type 0 where
   pub ledger : KvLedger
   pub slot_hand : Option Onward
   pub last_command : Option CommandFate  -- what became of the command that the slot stage took last; None where what it took last is no command
+  pub last_said : List Envelope  -- the own statements for all peers that the slot stage handed out when it took last, in order
   pub decided : List Onward
   pub decided_room : ℕ
   pub applier : ApplierView
@@ -104,6 +106,15 @@ HandsOne old outgoing new = HandsOut old (handed_by (outgoing ∷ [])) new
 abbrev pub HandsEach : List OutboxView → List Outgoing → List OutboxView → Type 0
 HandsEach old [] new = new ≡ old
 HandsEach old (one ∷ outgoing) new = (between : List OutboxView) × HandsOne old one between × HandsEach between outgoing new
+
+-- the own statement that goes to all peers, if it is one
+abbrev pub said_by : Outgoing → List Envelope
+said_by (ToAll envelope) = envelope ∷ []
+said_by (To link message) = []
+
+-- the own statements for all peers among what goes out, in order
+abbrev pub said_in : List Outgoing → List Envelope
+said_in outgoing = flat_map said_by outgoing
 
 -- a stage's answer: a message for one link, or none
 abbrev pub Hands : List OutboxView → Option (ℕ × Message) → List OutboxView → Type 0
@@ -148,7 +159,7 @@ pub record SlotTakes (old new : NodeView) : Type 0 where
   pub known : IsLedger after'
   pub running : KvRuns after'
   pub hands : HandsEach old.outboxes took.outgoing new.outboxes
-  pub is : new ≡ record old { ready = rest; ledger = after'; slot_hand = took.onward; last_command = took.command; outboxes = new.outboxes }
+  pub is : new ≡ record old { ready = rest; ledger = after'; slot_hand = took.onward; last_command = took.command; last_said = said_in took.outgoing; outboxes = new.outboxes }
 
 -- the applier takes the first thing of the decided queue, and its answer goes into an outbox
 pub record ApplyTakes (old new : NodeView) : Type 0 where
@@ -235,6 +246,7 @@ pub record Keeps (old new : NodeView) : Type 0 where
   pub decisions : new.ledger.decisions ≡ old.ledger.decisions
   pub asked : new.ledger.asked ≡ old.ledger.asked
   pub command : new.last_command ≡ old.last_command
+  pub said : new.last_said ≡ old.last_said
   pub applied : new.applier.applied ≡ old.applier.applied
   pub lives : map life_of new.links ≡ map life_of old.links
 
@@ -259,6 +271,28 @@ queued_in (Some k) = length k.queue
 -- how many items wait in the queue of the link of this number; 0 where it isn't there
 abbrev pub queued_at : NodeView → ℕ → ℕ
 queued_at v l = queued_in (slice_get v.links l)
+
+-- the front of a link's queue, if there is one; none for a link that isn't there
+abbrev pub item_in : Option LinkView → Option LinkItem
+item_in None = None
+item_in (Some k) = slice_get k.queue 0
+
+-- what the reader of the link of this number takes next
+abbrev pub item_at : NodeView → ℕ → Option LinkItem
+item_at v l = item_in (slice_get v.links l)
+
+-- something is in the hand of a link's reader
+abbrev pub has_read : LinkView → Bool
+has_read k = is_some (slice_get k.hand 0)
+
+-- the same of a link that may not be there
+abbrev pub has_read_in : Option LinkView → Bool
+has_read_in None = false
+has_read_in (Some k) = has_read k
+
+-- something is in the hand of the reader of the link of this number
+abbrev pub has_read_at : NodeView → ℕ → Bool
+has_read_at v l = has_read_in (slice_get v.links l)
 
 -- The room of each link at the event that fails a node: what it was, and one more where the link's reader took an item.
 abbrev pub LeavesRoom : NodeView → Event → NodeView → Type 0

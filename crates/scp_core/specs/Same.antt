@@ -66,6 +66,7 @@ pub record RunAlike (v w : NodeView) : Type 0 where
   pub ready : (v.ready ≡ w.ready) × (v.ready_room ≡ w.ready_room) × (v.pend_hand ≡ w.pend_hand)
   pub ledger : ShowSameLedger v.ledger w.ledger
   pub last_command : v.last_command ≡ w.last_command
+  pub last_said : v.last_said ≡ w.last_said
   pub decided : (v.decided ≡ w.decided) × (v.decided_room ≡ w.decided_room) × (v.slot_hand ≡ w.slot_hand)
   pub applier : ShowTheSame v.applier w.applier
   pub outboxes : v.outboxes ≡ w.outboxes
@@ -78,6 +79,7 @@ pub record ShowSameNode (v w : NodeView) : Type 0 where
   pub decisions : v.ledger.decisions ≡ w.ledger.decisions
   pub applied : v.applier.applied ≡ w.applier.applied
   pub last_command : v.last_command ≡ w.last_command
+  pub last_said : v.last_said ≡ w.last_said
   pub lives : map life_of v.links ≡ map life_of w.links
   pub rooms : (link : ℕ) → room_at v link ≡ room_at w link
   pub running : v.failed ≡ false → RunAlike v w

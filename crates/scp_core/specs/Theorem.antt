@@ -27,6 +27,7 @@ made c = record {
   ledger = nothing_taken c.me c.set (record {}) c.peers;
   slot_hand = None;
   last_command = None;
+  last_said = [];
   decided = [];
   decided_room = c.capacities.decided;
   applier = record { failed = false; applied = []; buffer = []; state = Some map.empty };

@@ -1,16 +1,19 @@
 //! The slot stage, the queue behind it, and the applier.
-ghost use Rattle.std.specs.Prelude.{◌≡◌, ◌≢◌, ◌≤◌, ◌∷◌, [], ◌<◌, false, true, length, None, Some, IfOk, IfSome, IsOkUnless, option_copied, if◌then◌else◌};
+ghost use Rattle.std.specs.Prelude.{◌≡◌, ◌≢◌, ◌≤◌, ◌∷◌, [], ◌<◌, false, true, length, None, Some, IfOk, IfSome, IsOkUnless, option_copied, slice_get, if◌then◌else◌};
 ghost use Rattle.scp_wire.specs.Fitting.{IsFitting};
+ghost use Rattle.scp_apply.specs.Applied.{value_of};
 ghost use Rattle.scp_core.specs.inside.Decider.{new_decider, Decides, Applies, PutsOn, fail as failed_now};
 ghost use Rattle.scp_core.specs.inside.Stops.{told};
 
 use crate::event::Reply;
 use crate::queue;
+use crate::said::SaidList;
 use crate::stage::SlotStage;
 use crate::stop::Stop;
 use circular_buffer::HeapCircularBuffer;
 use scp_apply::{Applier, the_next_decision_can_be_taken};
 use scp_driver::KvDriver;
+use scp_envelope::SharedEnvelope;
 use scp_kv::KvState;
 use scp_ledger::{
     CommandFate, Fate, Ledger, Onward, SharedDecision,
@@ -19,7 +22,7 @@ use scp_ledger::{
 use scp_outboxes::Outboxes;
 use scp_pending::Ready;
 use scp_quorum::SaneSet;
-use scp_types::{Fault, NodeId};
+use scp_types::{Fault, NodeId, Slot, Value};
 use scp_wire::Message;
 use std::alloc::Global;
 use std::marker::Model;
@@ -33,6 +36,7 @@ pub struct Decider {
     stage: SlotStage,
     hand: Option<Onward>,
     last_command: Option<CommandFate>,
+    last_said: SaidList,
     queue: HeapCircularBuffer<Onward>,
     applier: Applier,
 }
@@ -52,9 +56,9 @@ impl Model for Decider {
 
     ghost coded = { Prim.hlevel (codes, machine_code driver.the_row.coded, coded_row coded_level, map.code {R = slice_cmp nat_cmp} (coded_list coded_ℕ) (coded_list coded_ℕ)) };
 
-    ghost view = { λ a. record { failed = a.failed; ledger = a.stage; hand = a.hand; last_command = a.last_command; queue = a.queue.items; room = a.queue.capacity; applier = a.applier } };
+    ghost view = { λ a. record { failed = a.failed; ledger = a.stage; hand = a.hand; last_command = a.last_command; last_said = a.last_said; queue = a.queue.items; room = a.queue.capacity; applier = a.applier } };
 
-    ghost invariant = { λ a. IsWell (record { failed = a.failed; ledger = a.stage; hand = a.hand; last_command = a.last_command; queue = a.queue.items; room = a.queue.capacity; applier = a.applier }) };
+    ghost invariant = { λ a. IsWell (record { failed = a.failed; ledger = a.stage; hand = a.hand; last_command = a.last_command; last_said = a.last_said; queue = a.queue.items; room = a.queue.capacity; applier = a.applier }) };
 }
 
 impl Decider {
@@ -75,6 +79,7 @@ impl Decider {
             stage: SlotStage::new(alloc, me, set, peers),
             hand: None,
             last_command: None,
+            last_said: SaidList::new(Vec::new(alloc)),
             queue: HeapCircularBuffer::with_capacity(alloc, room)?,
             applier: Applier::new(alloc),
         })
@@ -104,6 +109,27 @@ impl Decider {
         ensures { result ≡ self.now.last_command }
     {
         self.last_command
+    }
+
+    /// The own statements for all peers that the slot stage handed out when it took last.
+    pub fn last_said(&self) -> &[SharedEnvelope]
+        ensures { result.now ≡ self.now.last_said }
+    {
+        self.last_said.as_slice()
+    }
+
+    /// What the applier takes next.
+    pub fn next(&self) -> Option<&Onward>
+        ensures { option_copied result ≡ slice_get self.now.queue 0 }
+    {
+        self.queue.front()
+    }
+
+    /// The value of a slot, if it is applied.
+    pub fn value_at(&self, slot: Slot) -> Option<&Value>
+        ensures { option_copied result ≡ value_of slot.0 self.now.applier.applied }
+    {
+        self.applier.value_at(slot)
     }
 
     /// How many things wait in the queue for the applier.
@@ -159,6 +185,7 @@ impl Decider {
             Ok(given) => {
                 self.hand = given.onward;
                 self.last_command = given.command;
+                self.last_said = given.said;
                 Reply::Moved
             }
             Err(Fault::JournalFull) => {

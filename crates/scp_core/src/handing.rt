@@ -1,12 +1,13 @@
 //! What stages hand out for links, put into the outboxes, and what is sent out of them.
-ghost use Rattle.std.specs.Prelude.{◌≡◌, OnOk, OnErr, All, Any, IfSome};
+ghost use Rattle.std.specs.Prelude.{◌≡◌, ◌∷◌, [], ◌++◌, IfOk, OnOk, OnErr, All, Any, IfSome};
 ghost use Rattle.scp_wire.specs.Fitting.{IsFitting};
 ghost use Rattle.scp_ledger.specs.Fitting.{FitsOut};
 ghost use Rattle.scp_ledger.specs.Journals.{IsToAll};
-ghost use Rattle.scp_core.specs.Node.{Hands, HandsOne, HandsEach};
+ghost use Rattle.scp_core.specs.Node.{Hands, HandsOne, HandsEach, said_by, said_in as said_among};
 ghost use Rattle.scp_core.specs.inside.Draining.{Draws, IsSpelt, empty_reply};
 
 use crate::event::Reply;
+use crate::said::SaidList;
 use scp_envelope::SharedEnvelope;
 use scp_ledger::{Outgoing, OutgoingList};
 use scp_outboxes::Outboxes;
@@ -32,13 +33,56 @@ fn hand(outboxes: &mut Outboxes, link: u8, message: Message)
     outboxes.put(link, FittingMessage::of(message));
 }
 
-/// Puts all that goes out into the outboxes, in order. Where a copy of what goes to all peers is refused, some outboxes have it
-/// and others haven't.
-pub fn hand_out_all(outboxes: &mut Outboxes, outgoing: OutgoingList) -> Result<(), Fault>
+/// Puts all that goes out into the outboxes, in order, and gives the own statements among it. Where a copy of what goes to all
+/// peers is refused, some outboxes have it and others haven't.
+pub fn hand_out_all(outboxes: &mut Outboxes, outgoing: OutgoingList) -> Result<SaidList, Fault>
+    ensures said { IfOk result (λ said. said ≡ said_among outgoing) }
     ensures hands { OnOk result (HandsEach outboxes.old outgoing outboxes.new) }
     ensures to_all { OnErr result (Any IsToAll outgoing) }
 {
-    hand_out_rest(outboxes, outgoing.into_vec())
+    let outgoing = outgoing.into_vec();
+    let alloc = *outgoing.allocator();
+    match said_in(alloc, outgoing.as_slice()) {
+        Ok(said) => match hand_out_rest(outboxes, outgoing) {
+            Ok(()) => Ok(said),
+            Err(fault) => Err(fault),
+        },
+        Err(fault) => Err(fault),
+    }
+}
+
+/// The own statements for all peers among what goes out, in order, each shared: nothing is copied. It is refused only where one of
+/// them is there.
+fn said_in(alloc: Global, outgoing: &[Outgoing]) -> Result<SaidList, Fault>
+    ensures said { IfOk result (λ said. said ≡ said_among outgoing.now) }
+    ensures to_all { OnErr result (Any IsToAll outgoing.now) }
+{
+    let mut said = Vec::new(alloc);
+    for one in outgoing {
+        if let Err(fault) = add_said(&mut said, one) {
+            return Err(fault);
+        }
+    }
+    Ok(SaidList::new(said))
+}
+
+/// Adds the own statement that goes to all peers, if it is one.
+fn add_said(said: &mut Vec<SharedEnvelope>, outgoing: &Outgoing) -> Result<(), Fault>
+    ensures adds { OnOk result (said.new.items ≡ said.old.items ++ said_by outgoing.now) }
+    ensures to_all { OnErr result (IsToAll outgoing.now) }
+{
+    match outgoing {
+        Outgoing::ToAll(envelope) => add_shared(said, envelope),
+        Outgoing::To(..) => Ok(()),
+    }
+}
+
+/// Adds the statement, shared.
+fn add_shared(said: &mut Vec<SharedEnvelope>, envelope: &SharedEnvelope) -> Result<(), Fault>
+    ensures { OnOk result (said.new.items ≡ said.old.items ++ envelope.now ∷ []) }
+{
+    said.push(envelope.share()?)?;
+    Ok(())
 }
 
 /// The same of a list, the last of which comes at last.

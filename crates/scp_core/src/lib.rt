@@ -23,6 +23,7 @@ mod node;
 mod outcome;
 mod queue;
 mod running;
+mod said;
 mod stage;
 mod stop;
 

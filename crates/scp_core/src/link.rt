@@ -1,6 +1,6 @@
 //! The links of a node, at their receiving ends.
-ghost use Rattle.std.specs.Prelude.{◌≡◌, ◌≢◌, ◌-◌, ◌∷◌, [], ◌⊎◌, length, Some, None, IsSome, false, true, IfOk, slice_get, slice_set, replicate, IsOkUnless, MatchOption};
-ghost use Rattle.scp_core.specs.Node.{new_link, link_accepts};
+ghost use Rattle.std.specs.Prelude.{◌≡◌, ◌≢◌, ◌-◌, ◌∷◌, [], ◌⊎◌, length, Some, None, IsSome, false, true, IfOk, slice_get, slice_set, replicate, IsOkUnless, MatchOption, option_copied};
+ghost use Rattle.scp_core.specs.Node.{new_link, link_accepts, has_read};
 ghost use Rattle.scp_core.specs.inside.Links.{Opens, Sends, Closes, Reads, OnLinks, Gives, Puts};
 ghost use Rattle.scp_core.specs.inside.Stops.{told};
 
@@ -73,6 +73,20 @@ impl Link {
         ensures { result ≡ length self.now.queue }
     {
         self.queue.len()
+    }
+
+    /// What its reader takes next.
+    pub fn next_item(&self) -> Option<&LinkItem>
+        ensures { option_copied result ≡ slice_get self.now.queue 0 }
+    {
+        self.queue.front()
+    }
+
+    /// Whether its reader holds something.
+    pub fn has_read(&self) -> bool
+        ensures { result ≡ has_read self.now }
+    {
+        self.hand.is_some()
     }
 
     /// Whether what is sent on it would be accepted: it is open, and its queue has room.

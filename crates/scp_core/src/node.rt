@@ -2,9 +2,10 @@
 ghost use Rattle.std.specs.Prelude.{◌≡◌, ◌≢◌, ◌∷◌, [], ◌++◌, ◌-◌, ◌<◌, ◌≤◌, ◌⊎◌, ◌↔◌, ℕ, List, length, Some, None, IsSome, false, true, IfOk, OnOk, OnErr, IfErr, IsOkUnless, Ok, Err, IsTrue, slice_get, option_copied, if◌then◌else◌, MatchOption};
 ghost use Rattle.scp_ledger.specs.declared.journal.Fate.{Fate};
 ghost use Rattle.scp_pending.specs.Line.{count_held};
+ghost use Rattle.scp_apply.specs.Applied.{value_of};
 ghost use Rattle.scp_core.specs.Config.{IsConfig, IsFit};
 ghost use Rattle.scp_core.specs.History.{peer_at, Exchange};
-ghost use Rattle.scp_core.specs.Node.{Step, Keeps, LeavesRoom, HasLink, lives_at, room_at, queued_at, accepts_at};
+ghost use Rattle.scp_core.specs.Node.{Step, Keeps, LeavesRoom, HasLink, lives_at, room_at, queued_at, accepts_at, item_at, has_read_at};
 ghost use Rattle.scp_outboxes.specs.Handing.{waiting_at, overwritten_at};
 ghost use Rattle.scp_core.specs.Theorem.{LedgerTheorem};
 ghost use Rattle.scp_core.specs.inside.Starting.{IsNew};
@@ -18,15 +19,17 @@ use crate::link::{self, Link};
 use crate::queue;
 use circular_buffer::HeapCircularBuffer;
 use scp_driver::KvDriver;
+use scp_envelope::SharedEnvelope;
 use scp_kv::KvState;
 use scp_ledger::{
-    CommandFate, Fate, Ledger, SharedDecision, what_holds_of_a_ledger_holds_with_one_thing_more,
+    CommandFate, Fate, Ledger, Onward, SharedDecision,
+    what_holds_of_a_ledger_holds_with_one_thing_more,
 };
 use scp_outboxes::Outboxes;
 use scp_pending::{Pending, Ready};
 use scp_quorum::{QuorumSet, SaneSet};
-use scp_types::{ConnId, Fault, NodeId, PEER_LIMIT};
-use scp_wire::{Bytes, Command, Inbound};
+use scp_types::{ConnId, Fault, NodeId, PEER_LIMIT, Slot, Value};
+use scp_wire::{Bytes, Command, Inbound, LinkItem};
 use std::alloc::Global;
 use std::marker::Model;
 use std::sync::Arc;
@@ -76,6 +79,7 @@ impl Model for Node {
       ledger = a.decider.ledger;
       slot_hand = a.decider.hand;
       last_command = a.decider.last_command;
+      last_said = a.decider.last_said;
       decided = a.decider.queue;
       decided_room = a.decider.room;
       applier = a.decider.applier;
@@ -241,6 +245,63 @@ impl Node {
         ensures { result ≡ self.now.last_command }
     {
         self.decider.last_command()
+    }
+
+    /// The own statements for all peers that the slot stage handed out at the last SlotTake that moved, in order, each shared with
+    /// those who hold it; none where there was no such step yet. Of a failed node, what it was before the step that failed it.
+    pub fn last_said(&self) -> &[SharedEnvelope]
+        ensures { result.now ≡ self.now.last_said }
+    {
+        self.decider.last_said()
+    }
+
+    /// What the reader of the link takes next: the front of the link's queue.
+    pub fn next_item(&self, link: u8) -> Option<&LinkItem>
+        ensures { option_copied result ≡ item_at self.now link }
+    {
+        match self.links.get(link as usize) {
+            Some(link) => link.next_item(),
+            None => None,
+        }
+    }
+
+    /// Whether the reader of the link holds something that it read and that isn't in the inbox yet. Just behind a ReaderTake that moved
+    /// it holds nothing exactly where what it took was discarded, since its connection had ended.
+    pub fn has_read(&self, link: u8) -> bool
+        ensures { result ≡ has_read_at self.now link }
+    {
+        match self.links.get(link as usize) {
+            Some(link) => link.has_read(),
+            None => false,
+        }
+    }
+
+    /// What the pending stage takes next from the inbox.
+    pub fn next_inbound(&self) -> Option<&Inbound>
+        ensures { option_copied result ≡ slice_get self.now.inbox 0 }
+    {
+        self.inbox.front()
+    }
+
+    /// What the slot stage takes next.
+    pub fn next_ready(&self) -> Option<&Ready>
+        ensures { option_copied result ≡ slice_get self.now.ready 0 }
+    {
+        self.ready.front()
+    }
+
+    /// What the applier takes next.
+    pub fn next_onward(&self) -> Option<&Onward>
+        ensures { option_copied result ≡ slice_get self.now.decided 0 }
+    {
+        self.decider.next()
+    }
+
+    /// The value of a slot, if it is applied. Constant time.
+    pub fn value_at(&self, slot: Slot) -> Option<&Value>
+        ensures { option_copied result ≡ value_of slot.0 self.now.applier.applied }
+    {
+        self.decider.value_at(slot)
     }
 
     /// How many items wait in the link's queue; 0 for a link that isn't there.

@@ -6,6 +6,7 @@ ghost use Rattle.scp_ledger.specs.Kv.{KvRuns};
 ghost use Rattle.scp_core.specs.inside.Stage.{TakesOut, new_ledger};
 
 use crate::handing::hand_out_all;
+use crate::said::SaidList;
 use scp_driver::KvDriver;
 use scp_ledger::{
     CommandFate, Fate, JOURNAL_LIMIT, Ledger, Onward, SharedDecision,
@@ -19,11 +20,12 @@ use std::alloc::Global;
 use std::marker::Model;
 use std::sync::Arc;
 
-/// What a taken thing gives: what goes on to the applier, and what became of a command.
+/// What a taken thing gives: what goes on to the applier, what became of a command, and the own statements for all peers.
 #[derive(Drop)]
 pub struct Given {
     pub onward: Option<Onward>,
     pub command: Option<CommandFate>,
+    pub said: SaidList,
 }
 
 /// How much of a ledger's lists is shown.
@@ -111,13 +113,14 @@ impl SlotStage {
             Ok(took) => took,
             Err(fault) => return Err(fault),
         };
-        if hand_out_all(outboxes, took.outgoing).is_err() {
+        let Ok(said) = hand_out_all(outboxes, took.outgoing) else {
             self.cut = Some(Shown { journal, decisions });
             return Err(Fault::NoMemory);
-        }
+        };
         Ok(Given {
             onward: took.onward,
             command: took.command,
+            said,
         })
     }
 }

@@ -7,6 +7,7 @@ use Rattle.scp_core.specs.declared.event.Event.{Event as Happening}
 use Rattle.scp_core.specs.History.{Exchange}
 use Rattle.scp_core.specs.Node.{NodeView}
 use Rattle.scp_turn.specs.Turn.{Goes}
+use Rattle.scp_turn.specs.Watch.{Noting}
 use Rattle.scp_episode.specs.Episode.{finds_full}
 use Rattle.scp_log.specs.Log.{EntryView}
 use Rattle.scp_wire.specs.declared.message.Message.{Message}
@@ -22,11 +23,12 @@ use Rattle.scp_asked.specs.declared.bad.Refusal.{Refusal}
 use Rattle.scp_asked.specs.Results.{IfRefusal}
 use Rattle.scp_node.specs.Answers.{IsPlayed, IsDone, Replies}
 use Rattle.scp_node.specs.Stands.{TellsStand}
-use Rattle.scp_node.specs.Living.{IsLive}
+use Rattle.scp_begin.specs.Living.{IsLive}
 use Rattle.scp_node.specs.inside.Adding.{BatchView, AddsText, TellsMore, Adds, Asks}
-use Rattle.scp_node.proofs.Going.{Heard, heard_nothing, heard_as}
-use Rattle.scp_node.proofs.Answering.{told_apart, replied}
-use Rattle.scp_node.proofs.Living.{live_on}
+use Rattle.scp_node.proofs.Going.{Seen, seen_nothing, seen_as}
+use Rattle.scp_begin.proofs.Replaying.{told_apart}
+use Rattle.scp_node.proofs.Answering.{replied}
+use Rattle.scp_begin.proofs.Living.{live_on}
 
 -- what is told where it isn't refused, and a full journal only where one was found
 abbrev pub Told : {T : Type 0} → Result T Fault → List Exchange → Type 0 → Type 0
@@ -47,18 +49,15 @@ played_more event line u v x before mid after' entry text longer digest kept ent
       entries = ap (λ (b : BatchView). b.entries) kept ∙ ap (λ (l : List EntryView). l ++ entry ∷ []) entries;
     }
 
-pub plays : (r : Result (Unit {0}) Fault) (event : Happening) (line : List ℕ) (u v : LiveView) (before mid after' : BatchView) (entry : EntryView) (text longer digest : List ℕ) (X : List Exchange → Type 0) → IsOkUnless r NoMemory → OnOk r (after' ≡ record mid { entries = mid.entries ++ entry ∷ [] }) → mid.entries ≡ before.entries → before.text ≡ text → mid.text ≡ longer → entry ≡ record { line = line; sent = digest } → v.names ≡ u.names
-    → Goes u.node v.node (λ a heard b. IsTold event u.names u.timers v.timers a heard b text longer digest × X heard) → Goes u.node v.node (λ a heard b. Told r heard (Adds (IsPlayed event line) u heard v before after'))
-plays r event line u v before mid after' entry text longer digest X only kept entries old new is names g = record {
-  heard = g.heard;
-  is = by r only kept;
-  does = g.does;
-  theorem = g.theorem;
-}
+pub plays : {W : Type 0} (Note : Noting W) (w z : W) (r : Result (Unit {0}) Fault) (event : Happening) (line : List ℕ) (u v : LiveView) (before mid after' : BatchView) (entry : EntryView) (text longer digest : List ℕ) (X : List Exchange → Type 0) → IsOkUnless r NoMemory → OnOk r (after' ≡ record mid { entries = mid.entries ++ entry ∷ [] }) → mid.entries ≡ before.entries → before.text ≡ text → mid.text ≡ longer → entry ≡ record { line = line; sent = digest } → v.names ≡ u.names
+    → Seen Note w z u.node v.node (λ heard. IsTold event u.names u.timers v.timers u.node heard v.node text longer digest × X heard) → Seen Note w z u.node v.node (λ heard. Told r heard (Adds (IsPlayed event line) u heard v before after'))
+plays {W} Note w z r event line u v before mid after' entry text longer digest X only kept entries old new is names g =
+    seen_as Note w z u.node v.node (λ heard. IsTold event u.names u.timers v.timers u.node heard v.node text longer digest × X heard) (λ heard. Told r heard (Adds (IsPlayed event line) u heard v before after'))
+    (λ heard p. by r heard only kept p.0) g
   where
-    by : (r : Result (Unit {0}) Fault) → IsOkUnless r NoMemory → OnOk r (after' ≡ record mid { entries = mid.entries ++ entry ∷ [] }) → Told r g.heard (Adds (IsPlayed event line) u g.heard v before after')
-    by (Ok tt) only kept = (played_more event line u v g.heard before mid after' entry text longer digest kept entries old new is names g.is.0, λ e. absurd cc)
-    by (Err f) only kept = (tt, λ e. absurd (memory_not_full f only e))
+    by : (r : Result (Unit {0}) Fault) (heard : List Exchange) → IsOkUnless r NoMemory → OnOk r (after' ≡ record mid { entries = mid.entries ++ entry ∷ [] }) → IsTold event u.names u.timers v.timers u.node heard v.node text longer digest → Told r heard (Adds (IsPlayed event line) u heard v before after')
+    by (Ok tt) heard only kept t = (played_more event line u v heard before mid after' entry text longer digest kept entries old new is names t, λ e. absurd cc)
+    by (Err f) heard only kept t = (tt, λ e. absurd (memory_not_full f only e))
 
 -- where it isn't refused the node runs still
 pub lives : {T : Type 0} (r : Result T Fault) (a b : NodeView) (P : NodeView → List Exchange → NodeView → Type 0) → IsLive a → Goes a b P → b.failed ≡ false → OnOk r (IsLive b)
@@ -87,12 +86,9 @@ tells told text longer before after' is old new entries = record { told = told; 
 no_journal : (f : Fault) → IfErr {T = Unit {0}} (Err f) (λ g. (g ≡ NoMemory) ⊎ (g ≡ TooLong)) → IsErrOf {T = Unit {0}} (Err f) JournalFull → ⊥
 no_journal f only err = grind arith
 
-pub asked_quietly : (r : Result (Unit {0}) Fault) (asked : Asked) (line : List ℕ) (v : LiveView) (before after' : BatchView) → Asks asked → OnOk r (TellsMore (Replies asked v) before after') → IfErr r (λ f. (f ≡ NoMemory) ⊎ (f ≡ TooLong)) → Heard v.node v.node (λ heard. Told r heard (Adds (IsDone asked line) v heard v before after'))
-asked_quietly r asked line v before after' asks t only = heard_nothing v.node (λ heard. Told r heard (Adds (IsDone asked line) v heard v before after')) (by r t only)
-  where
-    by : (r : Result (Unit {0}) Fault) → OnOk r (TellsMore (Replies asked v) before after') → IfErr r (λ f. (f ≡ NoMemory) ⊎ (f ≡ TooLong)) → Told r [] (Adds (IsDone asked line) v [] v before after')
-    by (Ok tt) t only = (replied asked line v before after' asks t, λ e. absurd cc)
-    by (Err f) t only = (tt, λ e. absurd (no_journal f only e))
+pub asked_quietly : (r : Result (Unit {0}) Fault) (asked : Asked) (line : List ℕ) (v : LiveView) (before after' : BatchView) → Asks asked → OnOk r (TellsMore (Replies asked v) before after') → IfErr r (λ f. (f ≡ NoMemory) ⊎ (f ≡ TooLong)) → Told r [] (Adds (IsDone asked line) v [] v before after')
+asked_quietly (Ok tt) asked line v before after' asks t only = (replied asked line v before after' asks t, λ e. absurd cc)
+asked_quietly (Err f) asked line v before after' asks t only = (tt, λ e. absurd (no_journal f only e))
 
 pub no_event : (asked : Asked) → ((event : Happening) → asked ≡ Event event → ⊥) → Asks asked
 no_event (Event event) other = absurd (other event refl)
@@ -117,24 +113,25 @@ memory_only : (f : Fault) → IsOkUnless {T = Unit {0}} (Err f) NoMemory → IsE
 memory_only f only err = cc
 
 -- what is told where nothing else happens
-pub told_only : (r : Result (Unit {0}) Fault) (v : LiveView) (P : List Exchange → Type 0) → IsOkUnless r NoMemory → OnOk r (P []) → Heard v.node v.node (λ heard. Told r heard (P heard))
-told_only r v P only t = heard_nothing v.node (λ heard. Told r heard (P heard)) (by r only t)
+pub told_only : {W : Type 0} (Note : Noting W) (w : W) (r : Result (Unit {0}) Fault) (v : LiveView) (P : List Exchange → Type 0) → IsOkUnless r NoMemory → OnOk r (P []) → Seen Note w w v.node v.node (λ heard. Told r heard (P heard))
+told_only {W} Note w r v P only t = seen_nothing Note w v.node (λ heard. Told r heard (P heard)) (by r only t)
   where
     by : (r : Result (Unit {0}) Fault) → IsOkUnless r NoMemory → OnOk r (P []) → Told r [] (P [])
     by (Ok tt) only t = (t, λ e. absurd cc)
     by (Err f) only t = (tt, λ e. absurd (memory_only f only e))
 
 -- what is told behind what was done
-pub told_behind : (r : Result (Unit {0}) Fault) (u v : LiveView) (P Q : List Exchange → Type 0) (X : List Exchange → Type 0) → IsOkUnless r NoMemory → ((heard : List Exchange) → P heard → OnOk r (Q heard)) → Heard u.node v.node (λ heard. P heard × X heard) → Heard u.node v.node (λ heard. Told r heard (Q heard))
-told_behind r u v P Q X only f g = heard_as u.node v.node (λ heard. P heard × X heard) (λ heard. Told r heard (Q heard)) (λ heard p. (f heard p.0, λ e. absurd (no r only e))) g
+pub told_behind : {W : Type 0} (Note : Noting W) (w z : W) (r : Result (Unit {0}) Fault) (u v : LiveView) (P Q : List Exchange → Type 0) (X : List Exchange → Type 0) → IsOkUnless r NoMemory → ((heard : List Exchange) → P heard → OnOk r (Q heard)) → Seen Note w z u.node v.node (λ heard. P heard × X heard) → Seen Note w z u.node v.node (λ heard. Told r heard (Q heard))
+told_behind {W} Note w z r u v P Q X only f g =
+    seen_as Note w z u.node v.node (λ heard. P heard × X heard) (λ heard. Told r heard (Q heard)) (λ heard p. (f heard p.0, λ e. absurd (no r only e))) g
   where
     no : (r : Result (Unit {0}) Fault) → IsOkUnless r NoMemory → IsErrOf r JournalFull → ⊥
     no (Ok tt) only e = cc
     no (Err f) only e = memory_only f only e
 
 -- want of memory, where nothing else happened
-pub told_none : (v : LiveView) → Heard v.node v.node (λ heard. Unit {0} × (IsErrOf {T = Unit {0}} (Err NoMemory) JournalFull → finds_full heard ≡ true))
-told_none v = heard_nothing v.node (λ heard. Unit {0} × (IsErrOf {T = Unit {0}} (Err NoMemory) JournalFull → finds_full heard ≡ true)) (tt, λ e. absurd cc)
+pub told_none : {W : Type 0} (Note : Noting W) (w : W) (v : LiveView) → Seen Note w w v.node v.node (λ heard. Unit {0} × (IsErrOf {T = Unit {0}} (Err NoMemory) JournalFull → finds_full heard ≡ true))
+told_none {W} Note w v = seen_nothing Note w v.node (λ heard. Unit {0} × (IsErrOf {T = Unit {0}} (Err NoMemory) JournalFull → finds_full heard ≡ true)) (tt, λ e. absurd cc)
 
 pub if_ok : {P Q : Type 0} (r : Result (Unit {0}) Fault) → (P → Q) → OnOk r P → OnOk r Q
 if_ok (Ok tt) f p = f p

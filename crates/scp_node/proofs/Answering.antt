@@ -70,11 +70,6 @@ number_on (line ∷ lines) more number = number_on lines more (next_number numbe
 
 -- ---- one line
 
--- what is told of an event is told behind any text
-pub told_apart : (event : Happening) (names : List (List ℕ)) (before after' : List Timer) (old new : NodeView) (heard : List Exchange) (text longer digest : List ℕ) → IsTold event names before after' old heard new text longer digest → (told : List ℕ) × IsTold event names before after' old heard new [] told digest × (longer ≡ text ++ told)
-told_apart event names before after' old new heard text longer digest t =
-    (told_of names before after' t.reply old heard new, record { reply = t.reply; episode = t.episode; lines = refl; digest_is = t.digest_is }, t.lines)
-
 -- a line says no step of a stage
 pub of_host : (names : List (List ℕ)) (words : List (List ℕ)) (event : Happening) → SaysEvent names words event → IsOfHost event
 of_host names words (happening.Open l) says = tt

@@ -1,12 +1,12 @@
 pub mod Going
+pub mod Noticing
 pub mod Answering
 pub mod Replaying
 pub mod Configs
 pub mod Served
-pub mod Living
 pub mod Started
 pub mod Acting
 pub mod Standing
 pub mod Begun
-pub mod Accounted
 pub mod Same
+pub mod Traced

@@ -1,34 +1,25 @@
 -- A node that starts with a log, and then serves its host.
 use Rattle.std.proofs.Common.{◌≡◌, ℕ, Bool, true, false, List, [], ◌∷◌, ◌++◌, Option, refl, sym, ◌∙◌, ap, subst, append_assoc, append-nil, arith, ◌+◌, length-append}
-use Rattle.std.specs.Prelude.{◌<◌, length, codes}
-use Rattle.hex.specs.Hex.{encode_lower}
+use Rattle.std.specs.Prelude.{◌<◌, length}
 use Rattle.scp_core.specs.declared.event.Event.{Event as Happening}
 use Rattle.scp_core.specs.History.{Exchange}
 use Rattle.scp_core.specs.Node.{accepts_at}
 use Rattle.scp_turn.specs.Turn.{links_of}
 use Rattle.scp_log.specs.declared.kept.Kept.{Kept}
 use Rattle.scp_log.specs.Kept.{IsSettled, IsRecovered, IsAllAndMore}
-use Rattle.scp_log.specs.Log.{EntryView, Marked, IsLine, AreEntries, marked_from, batch_of, entries_of, log_of}
+use Rattle.scp_log.specs.Log.{EntryView, Marked, AreEntries, marked_from, batch_of, entries_of, log_of}
 use Rattle.scp_asked.specs.declared.asked.Asked.TheVariants.{Event}
 use Rattle.scp_asked.specs.Says.{Says}
 use Rattle.scp_device.specs.Device.{Gains}
 use Rattle.scp_live.specs.Live.{LiveView}
 use Rattle.scp_node.specs.Answers.{IsPlayed}
-use Rattle.scp_node.specs.Replays.{AreReplayed}
+use Rattle.scp_begin.specs.Replays.{AreReplayed}
 use Rattle.scp_node.specs.Serving.{HasServed}
-use Rattle.scp_node.specs.Starting.{IsRestarted, HasRun, greeting, header_of}
+use Rattle.scp_node.specs.Starting.{IsRestarted, HasRun, greeting}
 use Rattle.scp_node.specs.inside.Adding.{BatchView, Adds}
 use Rattle.scp_node.specs.inside.Replaying.{AddsReplayed}
-use Rattle.scp_node.proofs.Replaying.{played, replayed_none, replayed_on}
-
--- ---- the first line
-
-no_line : (front rest : List ℕ) → IsLine (front ++ 10 ∷ rest) → ⊥
-no_line [] rest line = line.0 refl
-no_line (k ∷ front) rest line = no_line front rest line.1
-
-pub header_is_no_line : (digest : List ℕ) → ¬ (IsLine (header_of digest))
-header_is_no_line digest = λ line. no_line (codes "scp_node 1 " ++ encode_lower digest) [] (subst IsLine (sym (append_assoc (codes "scp_node 1 ") (encode_lower digest) (10 ∷ []))) line)
+use Rattle.scp_begin.proofs.Replaying.{replayed_none, replayed_on}
+use Rattle.scp_node.proofs.Replaying.{played}
 
 -- ---- closes
 

@@ -6,8 +6,8 @@ use Rattle.scp_core.specs.Same.{ShowSameNode}
 use Rattle.scp_config.specs.declared.settings.Settings.{Settings}
 use Rattle.scp_live.specs.Live.{LiveView}
 use Rattle.scp_node.specs.Answers.{AreAnswered}
-use Rattle.scp_node.specs.Replays.{AreReplayed}
-use Rattle.scp_node.specs.Starting.{Configures, IsNew}
+use Rattle.scp_begin.specs.Replays.{AreReplayed}
+use Rattle.scp_begin.specs.Beginning.{Configures, IsNew}
 
 -- what is kept of lines that were answered, played again, is what the node did
 abbrev pub KeptIsPlayed : Type 0

@@ -1,9 +1,7 @@
-pub mod Living
 pub mod Stands
+pub mod Noticing
 pub mod Answers
-pub mod Replays
 pub mod Serving
 pub mod Starting
-pub mod Accounts
 pub mod Laws
 pub mod inside

@@ -1,11 +1,6 @@
 -- How a node as a process starts.
-use Rattle.std.specs.Prelude.{ℕ, ◌≡◌, ◌<◌, false, List, [], ◌++◌, length, map, codes, Option, Some}
+use Rattle.std.specs.Prelude.{ℕ, ◌≡◌, ◌<◌, false, List, [], ◌++◌, length, codes, Option}
 use Rattle.std.specs.Fmt.{decimal}
-use Rattle.hex.specs.Hex.{encode_lower}
-use Rattle.sha2.specs.Sha256.{sha256}
-use Rattle.toml.specs.Data.{Members}
-use Rattle.toml.specs.Parse.{parse_document}
-use Rattle.scp_core.specs.declared.config.Config.{Config}
 use Rattle.scp_core.specs.History.{Exchange}
 use Rattle.scp_core.specs.Node.{accepts_at}
 use Rattle.scp_core.specs.Theorem.{LedgerTheorem}
@@ -15,52 +10,21 @@ use Rattle.scp_device.specs.Device.{Gains}
 use Rattle.scp_log.specs.declared.kept.Kept.{Kept}
 use Rattle.scp_log.specs.Kept.{IsRecovered, IsAllAndMore}
 use Rattle.scp_log.specs.Log.{EntryView, Marked, AreEntries, entries_of, log_of}
-use Rattle.scp_config.specs.Config.{IsConfigOf}
-use Rattle.scp_config.specs.Form.{form}
-use Rattle.scp_config.specs.Names.{Identity}
 use Rattle.scp_config.specs.declared.settings.Settings.{Settings}
 use Rattle.scp_told.specs.Replies.{ok_line}
 use Rattle.scp_live.specs.Live.{LiveView}
 use Rattle.scp_live.specs.Questions.{state_of}
-use Rattle.scp_node.specs.Replays.{AreReplayed}
+use Rattle.scp_trace_slot.specs.declared.names.Names.{Names}
+use Rattle.scp_trace_slot.specs.Names.{AreNames}
+use Rattle.scp_trace_live.specs.Tracing.{IsTraced}
+use Rattle.scp_begin.specs.Beginning.{Configures, digest_of, header_of, IsNew}
+use Rattle.scp_begin.specs.Replays.{AreReplayed}
 use Rattle.scp_node.specs.Serving.{HasServed}
-
--- the text is a configuration that says this
-pub record Configures (text : List ℕ) (settings : Settings) : Type 0 where
-  pub doc : Members
-  pub parsed : parse_document text ≡ Some doc
-  pub says : IsConfigOf doc settings
-
--- the digest of a configuration: the SHA-256 (FIPS 180-4) of its one form
-abbrev pub digest_of : Settings → List ℕ
-digest_of settings = sha256 (form settings)
-
--- the first line of a log: whose it is
-abbrev pub header_of : List ℕ → List ℕ
-header_of digest = codes "scp_node 1 " ++ encode_lower digest ++ codes "\n"
-
--- what `check` writes of a configuration
-abbrev pub checked_line : List ℕ → List ℕ
-checked_line digest = codes "ok " ++ encode_lower digest ++ codes "\n"
+use Rattle.scp_node.specs.Stands.{number_in}
 
 -- what is written before any line is read: how many events the log has, and where the node stands
 abbrev pub greeting : ℕ → LiveView → List ℕ
 greeting count v = codes "ready " ++ decimal count ++ codes "\n" ++ state_of v ++ ok_line 0
-
--- the configuration of the node that settings say
-abbrev pub config_in : Settings → Config
-config_in settings = record {
-  me = settings.node.id;
-  set = settings.set;
-  peers = map (λ (peer : Identity). peer.id) settings.peers.items;
-  capacities = record { link = settings.capacities.link; inbox = settings.capacities.inbox; ready = settings.capacities.ready; decided = settings.capacities.decided };
-}
-
--- A node of these settings that has heard nothing.
-pub record IsNew (settings : Settings) (v : LiveView) : Type 0 where
-  pub config : v.node.config ≡ config_in settings
-  pub names : v.names ≡ map (λ (peer : Identity). peer.name) settings.peers.items
-  pub theorem : LedgerTheorem [] v.node
 
 -- The node played what its log said, and then a close of each link that was open, which the log says too.
 pub record IsRestarted {L : Type 0} (holds may_leave : L → List ℕ → Type 0) (header : List ℕ) (log log' : Kept L) (old : LiveView) (heard : List Exchange) (new : LiveView) (count : ℕ) : Type 0 where
@@ -105,3 +69,17 @@ pub record IsRun {L : Type 0} (holds may_leave : L → List ℕ → Type 0) (con
   pub settings : Settings
   pub configures : Configures config settings
   pub runs : RunsAs holds may_leave settings left written longer log
+
+-- A node of these settings ran until its input ended, and what happened in its steps, from the first on, was written to a trace. There the node is
+-- called by the first byte of its id, and a quorum set by its hash.
+pub record TracesRun {L : Type 0} (holds may_leave : L → List ℕ → Type 0) (settings : Settings) (left written longer : Option (List ℕ)) (log : L) (trace traced : Option (List ℕ)) : Type 0 where
+  pub runs : RunsAs holds may_leave settings left written longer log
+  pub names : Names
+  pub of_none : AreNames [] names
+  pub is : IsTraced names (number_in runs.begun.node) runs.begun.node runs.heard runs.node.node trace traced
+
+-- The text is a configuration, and a node of it ran until its input ended, with such a trace.
+pub record IsTracedRun {L : Type 0} (holds may_leave : L → List ℕ → Type 0) (config : List ℕ) (left written longer : Option (List ℕ)) (log : L) (trace traced : Option (List ℕ)) : Type 0 where
+  pub settings : Settings
+  pub configures : Configures config settings
+  pub runs : TracesRun holds may_leave settings left written longer log trace traced

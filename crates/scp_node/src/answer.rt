@@ -2,41 +2,56 @@
 ghost use Rattle.std.specs.Prelude.{◌≡◌, ◌⊎◌, false, true, IfOk, IfErr, OnOk, IsErrOf};
 ghost use Rattle.scp_log.specs.Log.{IsLine};
 ghost use Rattle.scp_turn.specs.Turn.{Goes};
+ghost use Rattle.scp_turn.specs.Watch.{notes, Watched};
 ghost use Rattle.scp_episode.specs.Episode.{finds_full};
 ghost use Rattle.scp_asked.specs.Says.{Says};
 ghost use Rattle.scp_node.specs.Answers.{IsDone, IsAnswered, AreAnswered, next_number};
 ghost use Rattle.scp_node.specs.inside.Adding.{Adds};
 ghost use Rattle.scp_node.specs.inside.Batches.{number_behind};
-ghost use Rattle.scp_node.specs.Living.{IsLive};
+ghost use Rattle.scp_begin.specs.Living.{IsLive};
 
 use crate::batch::Batch;
+use crate::fullness::JournalWatch;
 use scp_asked::{Asked, BadLine, read_line};
 use scp_batches::Line;
 use scp_live::Live;
+use scp_turn::Watch;
 use scp_types::Fault;
 
 /// What was expected in place of a line that is too long.
 const SHORTER: &str = "a line of at most 262144 bytes";
 
-/// Does what a line asks for.
-fn done(batch: &mut Batch, live: &mut Live, asked: Asked, line: Vec<u8>) -> Result<(), Fault>
+/// Does what a line asks for; the watch is told of each step.
+fn done<V: Watch>(
+    batch: &mut Batch,
+    live: &mut Live,
+    asked: Asked,
+    line: Vec<u8>,
+    watch: &mut JournalWatch<V>,
+) -> Result<(), Fault>
     requires live { IsLive live.old.node }
     requires says { Says live.old.names line.items asked }
     requires line { IsLine line.items }
-    ensures done { Goes live.old.node live.new.node (λ _ heard _. OnOk result (Adds (IsDone asked line.items) live.old heard live.new batch.old batch.new) × (IsErrOf result Fault.JournalFull → finds_full heard ≡ true)) }
+    ensures done { Goes live.old.node live.new.node (λ _ heard _. Watched (notes V.notes_before V.notes_after) 1 watch.old.watch live.old.node heard live.new.node watch.new.watch × (OnOk result (Adds (IsDone asked line.items) live.old heard live.new batch.old batch.new) × (IsErrOf result Fault.JournalFull → finds_full heard ≡ true))) }
     ensures live { OnOk result (IsLive live.new.node) }
     ensures only { IfErr result (λ f. (f ≡ Fault.NoMemory) ⊎ ((f ≡ Fault.JournalFull) ⊎ (f ≡ Fault.TooLong))) }
 {
     match asked {
-        Asked::Event(event) => batch.play(live, event, line),
+        Asked::Event(event) => batch.play(live, event, line, watch),
         question => batch.reply(live, &question),
     }
 }
 
 /// Adds the answer to the line of this number.
-fn answer(batch: &mut Batch, live: &mut Live, number: u64, line: Line) -> Result<(), Fault>
+fn answer<V: Watch>(
+    batch: &mut Batch,
+    live: &mut Live,
+    number: u64,
+    line: Line,
+    watch: &mut JournalWatch<V>,
+) -> Result<(), Fault>
     requires live { IsLive live.old.node }
-    ensures answered { Goes live.old.node live.new.node (λ _ heard _. OnOk result (Adds (IsAnswered number line) live.old heard live.new batch.old batch.new) × (IsErrOf result Fault.JournalFull → finds_full heard ≡ true)) }
+    ensures answered { Goes live.old.node live.new.node (λ _ heard _. Watched (notes V.notes_before V.notes_after) 1 watch.old.watch live.old.node heard live.new.node watch.new.watch × (OnOk result (Adds (IsAnswered number line) live.old heard live.new batch.old batch.new) × (IsErrOf result Fault.JournalFull → finds_full heard ≡ true))) }
     ensures live { OnOk result (IsLive live.new.node) }
     ensures only { IfErr result (λ f. (f ≡ Fault.NoMemory) ⊎ ((f ≡ Fault.JournalFull) ⊎ (f ≡ Fault.TooLong))) }
 {
@@ -45,7 +60,7 @@ fn answer(batch: &mut Batch, live: &mut Live, number: u64, line: Line) -> Result
     }
     match read_line(batch.alloc(), live.names(), line.bytes()) {
         Ok(asked) => {
-            done(batch, live, asked, line.into_bytes())?;
+            done(batch, live, asked, line.into_bytes(), watch)?;
             batch.ok(number)
         }
         Err(BadLine::At(refusal)) => batch.bad(number, refusal.word, refusal.expected.words()),
@@ -60,22 +75,23 @@ fn next(number: u64) -> u64
     number.saturating_add(1)
 }
 
-/// Adds the answers to lines, the first of which has this number; answers the number of the next line.
-pub fn answer_all(
+/// Adds the answers to lines, the first of which has this number; answers the number of the next line. The watch is told of each step.
+pub fn answer_all<V: Watch>(
     batch: &mut Batch,
     live: &mut Live,
     number: u64,
     lines: Vec<Line>,
+    watch: &mut JournalWatch<V>,
 ) -> Result<u64, Fault>
     requires live { IsLive live.old.node }
-    ensures answered { Goes live.old.node live.new.node (λ _ heard _. OnOk result (Adds (AreAnswered number lines.items) live.old heard live.new batch.old batch.new) × (IsErrOf result Fault.JournalFull → finds_full heard ≡ true)) }
+    ensures answered { Goes live.old.node live.new.node (λ _ heard _. Watched (notes V.notes_before V.notes_after) 1 watch.old.watch live.old.node heard live.new.node watch.new.watch × (OnOk result (Adds (AreAnswered number lines.items) live.old heard live.new batch.old batch.new) × (IsErrOf result Fault.JournalFull → finds_full heard ≡ true))) }
     ensures next { IfOk result (λ next. next ≡ number_behind number lines.items) }
     ensures live { OnOk result (IsLive live.new.node) }
     ensures only { IfErr result (λ f. (f ≡ Fault.NoMemory) ⊎ ((f ≡ Fault.JournalFull) ⊎ (f ≡ Fault.TooLong))) }
 {
     let mut number = number;
     for line in lines {
-        match answer(batch, live, number, line) {
+        match answer(batch, live, number, line, watch) {
             Ok(()) => number = next(number),
             Err(fault) => return Err(fault),
         }

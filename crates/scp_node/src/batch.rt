@@ -3,12 +3,14 @@ ghost use Rattle.std.specs.Prelude.{◌≡◌, ◌⊎◌, ◌++◌, ◌∷◌, [
 ghost use Rattle.hex.specs.Hex.{IsBytes};
 ghost use Rattle.scp_log.specs.Log.{IsEntry, IsLine};
 ghost use Rattle.scp_turn.specs.Turn.{Goes};
+ghost use Rattle.scp_turn.specs.Watch.{notes, Watched};
 ghost use Rattle.scp_episode.specs.Episode.{IsOfHost, finds_full};
 ghost use Rattle.scp_told.specs.Replies.{ok_line};
 ghost use Rattle.scp_node.specs.Answers.{IsPlayed, bad_line, Replies};
 ghost use Rattle.scp_node.specs.inside.Adding.{Adds, TellsMore, Asks};
-ghost use Rattle.scp_node.specs.Living.{IsLive};
+ghost use Rattle.scp_begin.specs.Living.{IsLive};
 
+use crate::fullness::{JournalWatch, act};
 use crate::stand::tell_stand;
 use crate::telling::write_bad;
 use scp_asked::Asked;
@@ -16,6 +18,7 @@ use scp_core::Event;
 use scp_live::Live;
 use scp_log::Entry;
 use scp_told::write_ok;
+use scp_turn::Watch;
 use scp_types::{Fault, Hash};
 use std::alloc::Global;
 use std::marker::Model;
@@ -91,16 +94,22 @@ impl Batch {
         Ok(())
     }
 
-    /// Plays an event that a line says: what is told of it, and its entry.
-    pub fn play(&mut self, live: &mut Live, event: Event, line: Vec<u8>) -> Result<(), Fault>
+    /// Plays an event that a line says, and the watch is told of each step: what is told of it, and its entry.
+    pub fn play<V: Watch>(
+        &mut self,
+        live: &mut Live,
+        event: Event,
+        line: Vec<u8>,
+        watch: &mut JournalWatch<V>,
+    ) -> Result<(), Fault>
         requires live { IsLive live.old.node }
         requires host { IsOfHost event }
         requires line { IsLine line.items }
-        ensures played { Goes live.old.node live.new.node (λ _ heard _. OnOk result (Adds (IsPlayed event line.items) live.old heard live.new self.old self.new) × (IsErrOf result Fault.JournalFull → finds_full heard ≡ true)) }
+        ensures played { Goes live.old.node live.new.node (λ _ heard _. Watched (notes V.notes_before V.notes_after) 1 watch.old.watch live.old.node heard live.new.node watch.new.watch × (OnOk result (Adds (IsPlayed event line.items) live.old heard live.new self.old self.new) × (IsErrOf result Fault.JournalFull → finds_full heard ≡ true))) }
         ensures live { OnOk result (IsLive live.new.node) }
         ensures only { IfErr result (λ f. (f ≡ Fault.NoMemory) ⊎ (f ≡ Fault.JournalFull)) }
     {
-        let sent = live.act(event, &mut self.text)?;
+        let sent = act(live, event, &mut self.text, watch)?;
         self.keep(entry_of(line, sent))
     }
 

@@ -7,27 +7,27 @@
 //!   what was sent of it, and then what they were answered is written;
 //! - a node that starts with a log plays each entry again and is refused where one of them sends anything else; then no link is open;
 //! - what is kept of lines that were answered, played again, is what the node did, and makes nodes that, while they run, show the same;
-//! - the account of a node by its log is a function of a node that played what the log says, and of what happened in its steps;
+//! - a node that is traced goes as one that isn't, and where it is answered 0 all that happened in its steps is written to its trace
+//!   (`run_traced`);
 //! - the ledger theorem holds of the node for all that it heard.
 //!
 //! Not claimed: that a file is a disk as `EventLog` says, that anything comes in or goes out in time, or that peers agree.
 #![tactic(auto)]
 
-mod accounting;
 mod answer;
 mod batch;
+mod fullness;
 mod laws;
-mod nolog;
 mod process;
-mod replay;
 mod serving;
 mod stand;
 mod starting;
 mod telling;
+mod tracing;
 
-pub use accounting::account_node;
+pub use fullness::JournalWatch;
 pub use laws::{what_a_log_says_makes_one_node, what_is_kept_is_what_was_played};
-pub use nolog::NoLog;
-pub use process::{check_config, run_node};
+pub use process::run_node;
 pub use serving::serve;
 pub use starting::restart;
+pub use tracing::run_traced;

@@ -4,7 +4,7 @@ ghost use Rattle.std.specs.Bool.{OnFalse, OnTrue};
 ghost use Rattle.scp_script.specs.Nodes.{id_of};
 ghost use Rattle.scp_trace_slot.specs.Adding.{Adds};
 ghost use Rattle.scp_node.specs.Stands.{number_in, count_in, IsNumbered, StandsSo, TellsStand};
-ghost use Rattle.scp_node.specs.Living.{IsLive};
+ghost use Rattle.scp_begin.specs.Living.{IsLive};
 ghost use Rattle.scp_node.specs.inside.Adding.{AddsText};
 
 use scp_core::{Node, each_node_holds_its_ledger};

@@ -6,20 +6,22 @@ ghost use Rattle.scp_asked.specs.Says.{Says};
 ghost use Rattle.scp_episode.specs.Episode.{IsOfHost};
 ghost use Rattle.scp_core.specs.Node.{accepts_at};
 ghost use Rattle.scp_turn.specs.Turn.{Goes, links_of};
+ghost use Rattle.scp_turn.specs.Watch.{notes, Watched};
 ghost use Rattle.scp_log.specs.declared.kept.LogFault.TheVariants.{Another};
 ghost use Rattle.scp_log.specs.Kept.{IsAnother};
 ghost use Rattle.scp_log.specs.Log.{IsLine};
 ghost use Rattle.scp_node.specs.Starting.{IsRestarted};
 ghost use Rattle.scp_node.specs.inside.Replaying.{AddsReplayed};
-ghost use Rattle.scp_node.specs.Living.{IsLive};
+ghost use Rattle.scp_begin.specs.Living.{IsLive};
 
 use crate::batch::Batch;
-use crate::replay::replay;
+use crate::fullness::JournalWatch;
 use scp_asked::{Asked, BadLine, read_line};
+use scp_begin::replay;
 use scp_core::Event;
 use scp_live::Live;
 use scp_log::{EventLog, Kept, LogFault};
-use scp_turn::NoWatch;
+use scp_turn::Watch;
 use scp_types::Fault;
 use std::alloc::{AllocError, Global};
 
@@ -56,9 +58,14 @@ fn event_of(alloc: Global, live: &Live, line: &[u8]) -> Result<Event, Fault>
 }
 
 /// Closes the connection of a link, if it is open: the event is played, and its entry added.
-fn close(batch: &mut Batch, live: &mut Live, link: u8) -> Result<(), Fault>
+fn close<V: Watch>(
+    batch: &mut Batch,
+    live: &mut Live,
+    link: u8,
+    watch: &mut JournalWatch<V>,
+) -> Result<(), Fault>
     requires live { IsLive live.old.node }
-    ensures closed { Goes live.old.node live.new.node (λ _ heard _. OnOk result (AddsReplayed live.old heard live.new batch.old batch.new)) }
+    ensures closed { Goes live.old.node live.new.node (λ _ heard _. Watched (notes V.notes_before V.notes_after) 1 watch.old.watch live.old.node heard live.new.node watch.new.watch × OnOk result (AddsReplayed live.old heard live.new batch.old batch.new)) }
     ensures live { OnOk result (IsLive live.new.node) }
 {
     let Some(name) = live.names().get(link as usize) else {
@@ -69,17 +76,21 @@ fn close(batch: &mut Batch, live: &mut Live, link: u8) -> Result<(), Fault>
     }
     let line = closing(batch.alloc(), name.as_str())?;
     let event = event_of(batch.alloc(), live, line.as_slice())?;
-    batch.play(live, event, line)
+    batch.play(live, event, line, watch)
 }
 
 /// Closes all connections that are open.
-fn close_all(batch: &mut Batch, live: &mut Live) -> Result<(), Fault>
+fn close_all<V: Watch>(
+    batch: &mut Batch,
+    live: &mut Live,
+    watch: &mut JournalWatch<V>,
+) -> Result<(), Fault>
     requires live { IsLive live.old.node }
-    ensures closed { Goes live.old.node live.new.node (λ _ heard _. OnOk result (AddsReplayed live.old heard live.new batch.old batch.new)) }
+    ensures closed { Goes live.old.node live.new.node (λ _ heard _. Watched (notes V.notes_before V.notes_after) 1 watch.old.watch live.old.node heard live.new.node watch.new.watch × OnOk result (AddsReplayed live.old heard live.new batch.old batch.new)) }
     ensures live { OnOk result (IsLive live.new.node) }
 {
     for link in 0..live.links() {
-        close(batch, live, link)?;
+        close(batch, live, link, watch)?;
     }
     Ok(())
 }
@@ -96,25 +107,26 @@ fn has_open(live: &Live) -> bool
     false
 }
 
-/// Plays what the log says again, and closes all connections, which didn't outlive the process. Answers how many events the log has
-/// then. Refused by `Another` for the log of another configuration; by `Damaged` where the entry of that place doesn't fit the ones before it,
+/// Plays what the log says again, and closes all connections, which didn't outlive the process; the watch is told of each step. Answers how
+/// many events the log has then. Refused by `Another` for the log of another configuration; by `Damaged` where the entry of that place doesn't fit the ones before it,
 /// says no event, or where anything else is sent of it; by `Failed` where the disk failed, a step found the journal full, or memory ran out.
-pub fn restart<L: EventLog>(
+pub fn restart<L: EventLog, V: Watch>(
     alloc: Global,
     live: &mut Live,
     kept: &mut Kept<L>,
     header: &[u8],
+    watch: &mut JournalWatch<V>,
 ) -> Result<usize, LogFault>
     requires live { IsLive live.old.node }
     requires line { ¬ (IsLine header.now) }
-    ensures restarted { Goes live.old.node live.new.node (λ _ heard _. IfOk result (IsRestarted L.holds L.may_leave header.now kept.old kept.new live.old heard live.new)) }
+    ensures restarted { Goes live.old.node live.new.node (λ _ heard _. Watched (notes V.notes_before V.notes_after) 1 watch.old.watch live.old.node heard live.new.node watch.new.watch × IfOk result (IsRestarted L.holds L.may_leave header.now kept.old kept.new live.old heard live.new)) }
     ensures live { OnOk result (IsLive live.new.node) }
     ensures another { result ≡ Err Another → (c : List ℕ) → L.holds kept.old.log c → IsAnother header.now c }
 {
     let entries = kept.recover(alloc, header)?;
-    replay(alloc, live, entries.as_slice(), &mut NoWatch)?;
+    replay(alloc, live, entries.as_slice(), &mut watch.watch)?;
     let mut batch = Batch::new(alloc);
-    close_all(&mut batch, live)?;
+    close_all(&mut batch, live, watch)?;
     let (text, closes) = batch.into_parts();
     let _silent = kept.keep(alloc, closes.as_slice(), text)?;
     if has_open(live) {

@@ -38,3 +38,4 @@ pub mod Fetching
 pub mod Keeping
 pub mod Foremost
 pub mod Independence
+pub mod SetComing

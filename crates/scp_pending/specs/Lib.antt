@@ -2,6 +2,7 @@ pub mod Sanity
 pub mod Delivery
 pub mod Queues
 pub mod Rules
+pub mod Becoming
 pub mod Line
 pub mod Causes
 pub mod Endings

@@ -10,16 +10,19 @@
 //! - Only connections of its links are ever open, given or held. Besides the local set the last 256 that were wanted and came are
 //!   stored, each sane; and what is replied was asked for.
 //! - Where memory is refused the stage is failed: it answers that, and gives nothing more.
+//! - `becoming` tells what would become of an item that is taken next, by the same rules, and changes nothing.
 //!
 //! A set, a twelfth miss and a Tick look into the queues of those connections alone that wait for the hash.
 #![tactic(auto)]
 
+mod becoming;
 mod laws;
 mod parked;
 mod pending;
 mod queue;
 mod ready;
 
+pub use becoming::{Becoming, Why};
 pub use laws::{
     a_hash_is_wanted_while_something_waits, each_command_keeps_its_place, each_command_passes_once,
     each_connection_ends_by_its_cause, each_fate_has_its_cause, few_are_parked,

@@ -1,5 +1,5 @@
 //! The pending stage.
-ghost use Rattle.std.specs.Prelude.{ℕ, ◌≡◌, ◌≤◌, ◌<◌, ◌^◌, ◌++◌, ◌∷◌, [], ◌↔◌, List, IfOk, OnOk, OnErr, IsOkUnless, IfNone, Err, IfSome, None, Some, true, false, length, map, filter, flat_map, option_to_list, position, remove, take, drop, count_by};
+ghost use Rattle.std.specs.Prelude.{ℕ, ◌≡◌, ◌≤◌, ◌<◌, ◌^◌, ◌++◌, ◌∷◌, [], ◌↔◌, List, IfOk, OnOk, OnErr, IsOkUnless, IfNone, Err, IfSome, None, Some, true, false, length, map, filter, flat_map, option_to_list, position, remove, take, drop, count_by, is_some, slice_get};
 ghost use Rattle.scp_types.specs.declared.names.NodeId.{NodeId};
 ghost use Rattle.scp_wire.specs.declared.link.Inbound.{Inbound};
 ghost use Rattle.scp_fetch.specs.Store.{lookup};
@@ -18,8 +18,12 @@ ghost use Rattle.scp_pending.specs.Messages.{AreParked, message_cmp};
 ghost use Rattle.scp_pending.specs.Pends.{Pends, IsSettled, IsIdle};
 ghost use Rattle.scp_pending.specs.inside.Kept.{IsKept};
 ghost use Rattle.scp_pending.specs.Passes.{Passes};
+ghost use Rattle.scp_pending.specs.Becoming.{becoming};
 ghost use Rattle.scp_pending.specs.declared.ready.Ready.{Ready};
 
+mod becoming;
+
+use crate::becoming::Becoming;
 use crate::parked::{Outcome, Parked, named, slot_in};
 use crate::queue::{
     Queue, count_at, count_of, give, give_up_in_order, has_lane_at, in_order,
@@ -173,6 +177,13 @@ impl Pending {
         next(&mut self.parking.leaving)
     }
 
+    /// Whether something is ready, so that nothing is taken before `next_ready` gives it.
+    pub fn has_ready(&self) -> bool
+        ensures { result ≡ is_some (slice_get self.now.leaving 0) }
+    {
+        !self.parking.leaving.is_empty()
+    }
+
     /// How many messages of the connection it holds: those that are ready, and those that are parked. At most 64 where
     /// nothing is ready, and 65 just after the take that cut the connection off.
     pub fn parked(&self, conn: &ConnId) -> usize
@@ -193,6 +204,16 @@ impl Pending {
             return false;
         };
         true
+    }
+
+    /// What becomes of an item where it is taken next, by what is parked, stored and wanted; of a failed stage, which takes nothing, what
+    /// would become of it. Costs what a look at the item's connection, lane and hash costs; a quorum set is hashed, which takes the memory of
+    /// its spelling, and nothing else takes memory. The one refusal is `Fault::NoMemory`.
+    pub fn becoming(&self, item: &Inbound) -> Result<Becoming, Fault>
+        ensures is { IfOk result (λ found. found ≡ becoming self.now.settled item.now) }
+        ensures only_memory { IsOkUnless result Fault.NoMemory }
+    {
+        self.parking.becoming(item)
     }
 
     /// The hashes that are wanted, in the order in which they became so.
@@ -276,14 +297,20 @@ impl Parking {
         }
     }
 
+    /// Whether the connection would begin: it is of a peer's link to this node, and none is open there.
+    fn opens(&self, conn: &ConnId) -> bool
+        ensures { result ≡ opens conn.now self.now.settled }
+    {
+        place_of_peer(&self.peers, &conn.from).is_some()
+            && conn.to == self.me
+            && !is_link_open_in(&self.queues, &conn.from)
+    }
+
     /// The connection begins, unless one is open on its link, or it is of no peer or to another node.
     fn open(&mut self, conn: ConnId) -> Result<(), Fault>
         ensures { OnOk result (self.new ≡ taken_in self.old (Inbound.Opened conn)) }
     {
-        if place_of_peer(&self.peers, &conn.from).is_none()
-            || conn.to != self.me
-            || is_link_open_in(&self.queues, &conn.from)
-        {
+        if !self.opens(&conn) {
             return Ok(());
         }
         self.queues.push(Queue::new(self.alloc, conn))?;

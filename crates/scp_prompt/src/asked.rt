@@ -54,6 +54,10 @@ pub enum Task {
     Check,
     /// Where the nodes of a script stand is told.
     Stand,
+    /// All that happens while a script is played is told.
+    Trace,
+    /// All that happens while a script is played is drawn.
+    Draw,
     /// A script of one slot's machine is played.
     Slot,
     /// What a script's quorum sets come to is told.
@@ -99,6 +103,8 @@ pub enum NodeTask<'a> {
     Run {
         /// The path of its log; without one it keeps nothing.
         log: Option<&'a str>,
+        /// The path of the file that all which happens is written into, if one is.
+        trace: Option<&'a str>,
     },
     /// The account of what its log says is written.
     Account {
@@ -226,6 +232,8 @@ fn script_by<'a>(
         "run" => with_file(run_of(matches), matches),
         "check" => with_file(Task::Check, matches),
         "stand" => with_file(Task::Stand, matches),
+        "trace" => with_file(Task::Trace, matches),
+        "draw" => with_file(Task::Draw, matches),
         "slot" => with_file(Task::Slot, matches),
         "quorums" => with_file(Task::Quorums, matches),
         "hex" => with_file(Task::Hex, matches),
@@ -245,6 +253,7 @@ fn node_by<'a>(matches: &ArgMatches<'a>) -> Option<NodeAsked<'a>> {
         "check" => NodeTask::Check,
         "run" => NodeTask::Run {
             log: inner.get_str("log"),
+            trace: inner.get_str("trace"),
         },
         "account" => NodeTask::Account {
             log: inner.get_str("log")?,

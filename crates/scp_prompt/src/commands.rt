@@ -135,12 +135,17 @@ fn node<'a>(alloc: Global) -> Result<Command<'a>, AllocError> {
     let log = Arg::new(alloc, "log").long("log").value_name("FILE").help(
         "Keeps each event in this file, which is made where it isn't there",
     );
+    let trace = Arg::new(alloc, "trace")
+        .long("trace")
+        .value_name("FILE")
+        .help("Writes all that happens into this file, step by step; it must not be there yet");
     let run = of_config(
         alloc,
         "run",
         "Runs a node: events in, messages and decisions out, line by line",
     )?
-    .arg(log)?;
+    .arg(log)?
+    .arg(trace)?;
     let check = of_config(
         alloc,
         "check",
@@ -175,6 +180,16 @@ fn with_scripts<'a>(alloc: Global, command: Command<'a>) -> Result<Command<'a>, 
         "stand",
         "Plays a script and tells where its nodes stand, and what is missing",
     )?;
+    let trace = of_plain_file(
+        alloc,
+        "trace",
+        "Plays a script and tells all that happens, line by line",
+    )?;
+    let draw = of_file(
+        alloc,
+        "draw",
+        "Plays a script and draws what happens, as one page of HTML",
+    )?;
     let slot = of_plain_file(alloc, "slot", "Plays a script of one slot's machine")?;
     let quorums = of_file(
         alloc,
@@ -185,6 +200,8 @@ fn with_scripts<'a>(alloc: Global, command: Command<'a>) -> Result<Command<'a>, 
         .subcommand(run(alloc)?)?
         .subcommand(check)?
         .subcommand(stand)?
+        .subcommand(trace)?
+        .subcommand(draw)?
         .subcommand(slot)?
         .subcommand(quorums)
 }

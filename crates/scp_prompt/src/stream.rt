@@ -20,6 +20,7 @@ pub trait Cause {
 fn words_of(kind: ErrorKind) -> &'static str {
     match kind {
         ErrorKind::NotFound => "there is no such file",
+        ErrorKind::AlreadyExists => "it is there already",
         ErrorKind::PermissionDenied => "permission is denied",
         ErrorKind::IsADirectory => "it is a directory",
         ErrorKind::NotADirectory => "a part of its path is no directory",

@@ -16,4 +16,5 @@ mod texts;
 
 pub use machine::{Place, is_blank, write_machine};
 pub use names::Names;
-pub use texts::{write_nodes, write_value};
+pub use statements::write_statement;
+pub use texts::{write_nodes, write_value, write_values};

@@ -188,7 +188,7 @@ fn write_pledges(
 }
 
 /// Adds a statement with its signature, as said by this node in this slot.
-pub(crate) fn write_statement(
+pub fn write_statement(
     out: &mut String,
     names: &Names,
     node: NodeId,

@@ -47,7 +47,7 @@ pub fn write_value(out: &mut String, value: &Value) -> Result<(), Fault>
 }
 
 /// Adds `NAME(VALUE,..)`; the name comes with its opening bracket.
-pub(crate) fn write_values(out: &mut String, name: &str, values: &[Value]) -> Result<(), Fault>
+pub fn write_values(out: &mut String, name: &str, values: &[Value]) -> Result<(), Fault>
     ensures added { OnOk result (string_bytes out.new ≡ string_bytes out.old ++ values_text name.now values.now) }
     ensures only_memory { IsOkUnless result Fault.NoMemory }
 {

@@ -23,7 +23,7 @@ use Rattle.scp_core.specs.declared.event.Reply.{Reply}
 use Rattle.scp_core.specs.declared.event.Reply.TheVariants.{Failed, NoLink, AlreadyOpen, LivesSpent, NotOpen, Full, Accepted, Blocked, Idle, Moved, Sent, JournalFull, NoMemory}
 use Rattle.scp_core.specs.Flow.{Flows}
 use Rattle.scp_core.specs.History.{Past, accepts, moves, hears, readings_of}
-use Rattle.scp_core.specs.Node.{NodeView, PendTakes, SlotTakes, ApplyTakes, Accepts, Moves, SendsOut, Step, Fails}
+use Rattle.scp_core.specs.Node.{NodeView, said_in, PendTakes, SlotTakes, ApplyTakes, Accepts, Moves, SendsOut, Step, Fails}
 use Rattle.scp_core.specs.Theorem.{IsReply}
 use Rattle.scp_core.specs.Sent.{who_of, sent_by, grounds_of}
 use Rattle.scp_core.proofs.Below.{Laws}
@@ -95,7 +95,7 @@ apply_takes law p sent old new f b st =
 
 slot_takes : Laws → (p : Past) (sent : ℕ → List (List ℕ)) (old new : NodeView) (f : Flows p old) → SlotTakes old new → Stands sent (grounds_of old f.arrived) old.ledger old.outboxes → State (moves p SlotTake) sent new
 slot_takes law p sent old new f b st =
-    let w : NodeView = record old { ready = b.rest; ledger = b.after'; slot_hand = b.took.onward; last_command = b.took.command; outboxes = new.outboxes } in
+    let w : NodeView = record old { ready = b.rest; ledger = b.after'; slot_hand = b.took.onward; last_command = b.took.command; last_said = said_in b.took.outgoing; outboxes = new.outboxes } in
     let g = grounds_of old f.arrived in
     let h = grounds_of w f.arrived in
     let s : LedgerStep (who_of old.config) old.ledger b.x b.took b.after' = ledger_step (who_of old.config) old.ledger b.x b.took b.after' f.journal.me_is f.journal.local_is st.machines b.takes in

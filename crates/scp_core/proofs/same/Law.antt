@@ -26,6 +26,7 @@ at_first c =
       ready = (refl, refl, refl);
       ledger = record { me = refl; local = refl; driver = refl; peers = refl; failed = refl; journal = refl; decisions = refl; lowest = refl; asked = λ a. refl; machines = λ s. tt };
       last_command = refl;
+      last_said = refl;
       decided = (refl, refl, refl);
       applier = record { failed = refl; applied = refl; buffer = λ d. (λ h. h, λ h. h); state = refl };
       outboxes = refl;
@@ -110,6 +111,7 @@ same_replies law = λ one other v w h k config events m n.
         decisions = both.stand.kept.decisions;
         applied = both.stand.kept.applied;
         last_command = both.stand.kept.last_command;
+        last_said = both.stand.kept.last_said;
         lives = both.stand.kept.lives;
         rooms = both.stand.kept.rooms;
         running = λ runs. both.stand.runs (sym h.failed ∙ runs);

@@ -23,7 +23,7 @@ use Rattle.scp_apply.specs.Applies.{ApplierKeepsUp}
 use Rattle.scp_apply.specs.Laws.{ShowTheSame, ApplyingIsAFunction}
 use Rattle.scp_core.specs.Flow.{Flows}
 use Rattle.scp_core.specs.History.{Past}
-use Rattle.scp_core.specs.Node.{LinkView, NodeView, HandsEach, Hands, SlotTakes, ApplyTakes, Step, FillsJournal, Fails, Keeps, life_of, room_of, room_at}
+use Rattle.scp_core.specs.Node.{LinkView, NodeView, said_in, HandsEach, Hands, SlotTakes, ApplyTakes, Step, FillsJournal, Fails, Keeps, life_of, room_of, room_at}
 use Rattle.scp_core.specs.declared.event.Event.{Event}
 use Rattle.scp_core.specs.declared.event.Event.TheVariants.{Open, Send, Close, Local, ReaderTake, ReaderPut, PendTake, PendPut, SlotTake, SlotPut, ApplyTake, Drain}
 use Rattle.scp_core.specs.declared.event.Reply.{Reply}
@@ -52,6 +52,7 @@ pub record KeptAlike (v w : NodeView) : Type 0 where
   pub decisions : v.ledger.decisions ≡ w.ledger.decisions
   pub applied : v.applier.applied ≡ w.applier.applied
   pub last_command : v.last_command ≡ w.last_command
+  pub last_said : v.last_said ≡ w.last_said
   pub lives : map life_of v.links ≡ map life_of w.links
   pub rooms : (l : ℕ) → room_at v l ≡ room_at w l
 
@@ -62,6 +63,7 @@ kept_of v w config h = record {
   decisions = h.ledger.decisions;
   applied = sym h.applier.applied;
   last_command = h.last_command;
+  last_said = h.last_said;
   lives = ap (map life_of) h.links;
   rooms = λ l. ap (λ (links : List LinkView). room_of (slice_get links l)) h.links;
 }
@@ -82,6 +84,7 @@ fails_kept v w new there h a b room left = record {
   decisions = a.decisions ∙ h.decisions ∙ sym b.decisions;
   applied = a.applied ∙ h.applied ∙ sym b.applied;
   last_command = a.command ∙ h.last_command ∙ sym b.command;
+  last_said = a.said ∙ h.last_said ∙ sym b.said;
   lives = a.lives ∙ h.lives ∙ sym b.lives;
   rooms = λ l. room l ∙ h.rooms l ∙ sym (left l);
 }
@@ -96,6 +99,7 @@ module _ (v : NodeView) (ledger : KvLedger) (applier : ApplierView) (ledgers : S
     ready = (refl, refl, refl);
     ledger = subst (λ (l : KvLedger). ShowSameLedger l ledger) (sym same_ledger) ledgers;
     last_command = refl;
+    last_said = refl;
     decided = (refl, refl, refl);
     applier = subst (λ (a : ApplierView). ShowTheSame a applier) (sym same_applier) appliers;
     outboxes = refl;
@@ -167,9 +171,9 @@ module _ (law : Laws) (p : Past) (v : NodeView) (ledger : KvLedger) (applier : A
       let tells : KvTells ledger x.x y.took = subst (λ (z : Ready). KvTells ledger z y.took) (sym thing) y.tells in
       let one = taking_one level_by extracted_by combined_by place_by law.slots v.ledger ledger x.after' y.after' x.x x.took y.took ledgers f.journal.running range x.takes x.tells takes tells x.running.lowest y.running.lowest in
       let boxes : new.outboxes ≡ there.outboxes = each_one v.outboxes x.took.outgoing new.outboxes there.outboxes x.hands (subst (λ (t : Took). HandsEach v.outboxes t.outgoing there.outboxes) (sym one.took) y.hands) in
-      let here : NodeView = record v { ready = x.rest; ledger = x.after'; slot_hand = x.took.onward; last_command = x.took.command; outboxes = new.outboxes } in
-      let second : NodeView = record u { ready = x.rest; ledger = y.after'; slot_hand = x.took.onward; last_command = x.took.command; outboxes = new.outboxes } in
-      let is : there ≡ second = y.is ∙ (λ i. record u { ready = sym rest i; ledger = y.after'; slot_hand = (sym one.took i).onward; last_command = (sym one.took i).command; outboxes = sym boxes i }) in
+      let here : NodeView = record v { ready = x.rest; ledger = x.after'; slot_hand = x.took.onward; last_command = x.took.command; last_said = said_in x.took.outgoing; outboxes = new.outboxes } in
+      let second : NodeView = record u { ready = x.rest; ledger = y.after'; slot_hand = x.took.onward; last_command = x.took.command; last_said = said_in x.took.outgoing; outboxes = new.outboxes } in
+      let is : there ≡ second = y.is ∙ (λ i. record u { ready = sym rest i; ledger = y.after'; slot_hand = (sym one.took i).onward; last_command = (sym one.took i).command; last_said = said_in (sym one.took i).outgoing; outboxes = sym boxes i }) in
       let base : RunAlike here second = record {
         links = refl;
         inbox = (refl, refl);
@@ -177,6 +181,7 @@ module _ (law : Laws) (p : Past) (v : NodeView) (ledger : KvLedger) (applier : A
         ready = (refl, refl, refl);
         ledger = one.view;
         last_command = refl;
+        last_said = refl;
         decided = (refl, refl, refl);
         applier = appliers;
         outboxes = refl;
@@ -264,6 +269,7 @@ module _ (law : Laws) (p : Past) (v : NodeView) (ledger : KvLedger) (applier : A
         ready = (refl, refl, refl);
         ledger = ledgers;
         last_command = refl;
+        last_said = refl;
         decided = (refl, refl, refl);
         applier = one.1;
         outboxes = refl;
@@ -332,6 +338,7 @@ step_both law p v w event reply other new there config h f g memory enough x y =
       ledger = w.ledger;
       slot_hand = sym h.decided.2 i;
       last_command = sym h.last_command i;
+      last_said = sym h.last_said i;
       decided = sym h.decided.0 i;
       decided_room = sym h.decided.1 i;
       applier = w.applier;

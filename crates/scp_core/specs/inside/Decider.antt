@@ -4,6 +4,7 @@ use Rattle.std.specs.FinMap as map
 use Rattle.std.specs.List.Sorted.{IsPermutation}
 use Rattle.scp_types.specs.declared.names.NodeId.{NodeId}
 use Rattle.scp_quorum.specs.QuorumTree.{QuorumTree}
+use Rattle.scp_envelope.specs.declared.statement.Envelope.{Envelope}
 use Rattle.scp_wire.specs.declared.message.Message.{Message}
 use Rattle.scp_pending.specs.declared.ready.Ready.{Ready}
 use Rattle.scp_ledger.specs.declared.journal.Decision.{Decision}
@@ -18,7 +19,7 @@ use Rattle.scp_apply.specs.Applier.{Takes as ApplierTakes}
 use Rattle.scp_outbox.specs.Outbox.{OutboxView}
 use Rattle.scp_core.specs.declared.event.Reply.{Reply}
 use Rattle.scp_core.specs.declared.event.Reply.TheVariants.{Blocked, Idle, Moved, JournalFull, NoMemory}
-use Rattle.scp_core.specs.Node.{HandsEach}
+use Rattle.scp_core.specs.Node.{HandsEach, said_in}
 use Rattle.scp_core.specs.inside.Stage.{new_ledger}
 use Rattle.scp_ledger.specs.Kv.{KvLedger, KvTakes, KvTells, KvRuns}
 
@@ -27,6 +28,7 @@ pub record DeciderView : Type 0 where
   pub ledger : KvLedger
   pub hand : Option Onward
   pub last_command : Option CommandFate
+  pub last_said : List Envelope
   pub queue : List Onward
   pub room : ℕ
   pub applier : ApplierView
@@ -37,6 +39,7 @@ new_decider me local peers room = record {
   ledger = new_ledger me local peers;
   hand = None;
   last_command = None;
+  last_said = [];
   queue = [];
   room = room;
   applier = record { failed = false; applied = []; buffer = []; state = Some map.empty };
@@ -67,11 +70,12 @@ pub record Keeps (old new : DeciderView) : Type 0 where
   pub decisions : new.ledger.decisions ≡ old.ledger.decisions
   pub asked : new.ledger.asked ≡ old.ledger.asked
   pub command : new.last_command ≡ old.last_command
+  pub said : new.last_said ≡ old.last_said
   pub applied : new.applier.applied ≡ old.applier.applied
 
 -- the slot stage takes a thing, and what goes out is put into the outboxes
 abbrev pub Decides : DeciderView → List OutboxView → Ready → Reply → DeciderView → List OutboxView → Type 0
-Decides old boxes x Moved new after' = (took : Took) × KvTakes old.ledger x took new.ledger × KvTells old.ledger x took × IsLedger new.ledger × KvRuns new.ledger × (new ≡ record old { ledger = new.ledger; hand = took.onward; last_command = took.command }) × HandsEach boxes took.outgoing after'
+Decides old boxes x Moved new after' = (took : Took) × KvTakes old.ledger x took new.ledger × KvTells old.ledger x took × IsLedger new.ledger × KvRuns new.ledger × (new ≡ record old { ledger = new.ledger; hand = took.onward; last_command = took.command; last_said = said_in took.outgoing }) × HandsEach boxes took.outgoing after'
 Decides old boxes x JournalFull new after' = (adds_entry x ≡ true) × (length old.ledger.journal ≡ 1000000) × Keeps old new
 Decides old boxes x NoMemory new after' = (¬ ((adds_entry x ≡ true) × (length old.ledger.journal ≡ 1000000))) × Keeps old new
 Decides old boxes x reply new after' = ⊥

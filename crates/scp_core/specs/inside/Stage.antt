@@ -9,7 +9,7 @@ use Rattle.scp_ledger.specs.Ledger.{IsLedger}
 use Rattle.scp_core.specs.declared.stage.Shown.{Shown}
 use Rattle.scp_core.specs.declared.stage.Given.{Given}
 use Rattle.scp_ledger.specs.Kv.{KvLedger, KvTakes, KvTells, KvRuns}
-use Rattle.scp_core.specs.Node.{HandsEach}
+use Rattle.scp_core.specs.Node.{HandsEach, said_in}
 
 abbrev pub new_ledger : NodeId → QuorumTree → List NodeId → KvLedger
 new_ledger me local peers = record { me = me; local = local; driver = record {}; peers = peers; failed = false; journal = []; decisions = []; lowest = 1; asked = []; machines = [] }
@@ -30,6 +30,7 @@ pub record TakesOut (old : KvLedger) (boxes : List OutboxView) (x : Ready) (give
   pub tells : KvTells old x took
   pub onward_is : took.onward ≡ given.onward
   pub command_is : took.command ≡ given.command
+  pub said_is : said_in took.outgoing ≡ given.said
   pub known : IsLedger new
   pub running : KvRuns new
   pub hands : HandsEach boxes took.outgoing after'

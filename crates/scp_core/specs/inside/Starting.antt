@@ -30,6 +30,7 @@ pub record IsNew (v : NodeView) : Type 0 where
   pub known : IsLedger v.ledger
   pub deciding : KvRuns v.ledger
   pub told : v.last_command ≡ None
+  pub said : v.last_said ≡ []
   pub applier : Applies [] v.applier
   pub applier_is : v.applier ≡ record { failed = false; applied = []; buffer = []; state = Some map.empty }
   pub outboxes : v.outboxes ≡ replicate (length v.config.peers) empty_outbox

@@ -1,3 +1,4 @@
+use Rattle.scp_turn.specs.Watch.{notes}
 use Rattle.scp_node.specs.Answers.{IsAnswered, IsDone}
 use Rattle.scp_node.specs.inside.Adding.{Adds}
 use Rattle.scp_node.proofs.Answering.{served_as, refused_as, too_long, not_long, long}
@@ -5,13 +6,13 @@ use Rattle.scp_node.proofs.Acting.{told_only, told_behind, told_none, told_at, i
 use Rattle.scp_node.proofs.answer.answer.Goals as goal
 
 pub returns-then-is_too_long-clause-answered : goal.returns-then-is_too_long-clause-answered
-returns-then-is_too_long-clause-answered c =
-    told_only c.bad.result c.args.live.now (λ heard. Adds (IsAnswered c.args.number c.args.line) c.args.live.now heard c.args.live.now c.args.batch.now c.bad.new.self) c.bad.ensures.only_memory
+returns-then-is_too_long-clause-answered g c =
+    told_only (notes g.V.Watch.notes_before g.V.Watch.notes_after) c.args.watch.now.watch c.bad.result c.args.live.now (λ heard. Adds (IsAnswered c.args.number c.args.line) c.args.live.now heard c.args.live.now c.args.batch.now c.bad.new.self) c.bad.ensures.only_memory
     (if_ok c.bad.result (too_long c.args.number c.args.line c.args.live.now c.args.batch.now c.bad.new.self (long c.is_too_long.result _ c.if-is_too_long.true c.is_too_long.ensures)) c.bad.ensures.told)
 
 pub returns-in-Ok-clause-answered : goal.returns-in-Ok-clause-answered
-returns-in-Ok-clause-answered c =
-    told_behind c.ok.result c.args.live.now c.done.new.live
+returns-in-Ok-clause-answered g c =
+    told_behind (notes g.V.Watch.notes_before g.V.Watch.notes_after) c.args.watch.now.watch c.done.new.watch.watch c.ok.result c.args.live.now c.done.new.live
     (λ heard. Adds (IsDone c.in-Ok.asked c.into_bytes.result.items) c.args.live.now heard c.done.new.live c.args.batch.now c.done.new.batch)
     (λ heard. Adds (IsAnswered c.args.number c.args.line) c.args.live.now heard c.done.new.live c.args.batch.now c.ok.new.self) _ c.ok.ensures.only_memory
     (λ heard d. if_ok c.ok.result (λ t. served_as c.args.number c.args.line c.in-Ok.asked c.args.live.now c.done.new.live heard c.args.batch.now c.done.new.batch c.ok.new.self _ _ _
@@ -19,10 +20,10 @@ returns-in-Ok-clause-answered c =
     c.in_ok-done-in-Ok.ensures.done
 
 pub returns-in-Err-At-clause-answered : goal.returns-in-Err-At-clause-answered
-returns-in-Err-At-clause-answered c =
-    told_only c.bad-in-Err-At.result c.args.live.now (λ heard. Adds (IsAnswered c.args.number c.args.line) c.args.live.now heard c.args.live.now c.args.batch.now c.bad-in-Err-At.new.self) c.bad-in-Err-At.ensures.only_memory
+returns-in-Err-At-clause-answered g c =
+    told_only (notes g.V.Watch.notes_before g.V.Watch.notes_after) c.args.watch.now.watch c.bad-in-Err-At.result c.args.live.now (λ heard. Adds (IsAnswered c.args.number c.args.line) c.args.live.now heard c.args.live.now c.args.batch.now c.bad-in-Err-At.new.self) c.bad-in-Err-At.ensures.only_memory
     (if_ok c.bad-in-Err-At.result (refused_as c.args.number c.args.line c.in-Err-At.refusal c.args.live.now c.args.batch.now c.bad-in-Err-At.new.self _ _ _
     c.names.ensures c.bytes.ensures.bytes c.words.ensures (not_long c.is_too_long.result _ c.if-is_too_long.false c.is_too_long.ensures) (told_at c.in-Err-At.field-0 c.in-Err-At.refusal _ c.in-Err-At.field-0-is c.in-Err-At.ensures.bad) (told_at c.in-Err-At.field-0 c.in-Err-At.refusal _ c.in-Err-At.field-0-is c.in-Err-At.ensures.says_nothing)) c.bad-in-Err-At.ensures.told)
 
 pub returns-clause-answered : goal.returns-clause-answered
-returns-clause-answered c = told_none c.args.live.now
+returns-clause-answered g c = told_none (notes g.V.Watch.notes_before g.V.Watch.notes_after) c.args.watch.now.watch c.args.live.now

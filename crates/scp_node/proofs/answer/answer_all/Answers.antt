@@ -1,23 +1,24 @@
 use Rattle.std.proofs.Common.{List, [], ◌∷◌, ◌++◌, sym, ◌∙◌, ap, subst, append_assoc, ℕ}
+use Rattle.scp_turn.specs.Watch.{notes}
 use Rattle.scp_node.specs.Answers.{IsAnswered, AreAnswered, next_number}
 use Rattle.scp_node.specs.inside.Adding.{Adds}
-use Rattle.scp_node.proofs.Going.{heard_then, found_later}
+use Rattle.scp_node.proofs.Going.{seen_then, found_later}
 use Rattle.scp_types.specs.declared.fault.Fault.TheVariants.{JournalFull}
 use Rattle.scp_node.proofs.Acting.{err_as}
 use Rattle.scp_node.proofs.Answering.{one_added, number_on}
 use Rattle.scp_node.proofs.answer.answer_all.Goals as goal
 
 pub returns-in-Err-clause-answered : goal.returns-in-Err-clause-answered
-returns-in-Err-clause-answered c =
-    heard_then c.args.live.now.node c.loop-line.live.node c.answer.new.live.node _ _ _ (λ x y p q. (tt, λ e. found_later x y (q.1 (err_as c.in-Err.fault JournalFull e)))) c.loop-line.invariant.answered c.in-Err.ensures.answered
+returns-in-Err-clause-answered g c =
+    seen_then (notes g.V.Watch.notes_before g.V.Watch.notes_after) c.args.watch.now.watch c.loop-line.watch.watch c.answer.new.watch.watch c.args.live.now.node c.loop-line.live.node c.answer.new.live.node _ _ _ (λ x y p q. (tt, λ e. found_later x y (q.1 (err_as c.in-Err.fault JournalFull e)))) c.loop-line.invariant.answered c.in-Err.ensures.answered
 
 pub loop-line-preserved : goal.loop-line-preserved
-loop-line-preserved c =
+loop-line-preserved g c =
     let number = c.args.number in
     let lines = c.loop-line.yielded in
     let line = c.in-Some.line in
     record {
-      answered = heard_then c.args.live.now.node c.loop-line.live.node c.answer.new.live.node
+      answered = seen_then (notes g.V.Watch.notes_before g.V.Watch.notes_after) c.args.watch.now.watch c.loop-line.watch.watch c.answer.new.watch.watch c.args.live.now.node c.loop-line.live.node c.answer.new.live.node
           (λ heard. Adds (AreAnswered number lines) c.args.live.now heard c.loop-line.live c.args.batch.now c.loop-line.batch) _
           (λ heard. Adds (AreAnswered number (lines ++ line ∷ [])) c.args.live.now heard c.answer.new.live c.args.batch.now c.answer.new.batch)
           (λ x y p q. one_added number lines line c.args.live.now c.loop-line.live c.answer.new.live x y c.args.batch.now c.loop-line.batch c.answer.new.batch p

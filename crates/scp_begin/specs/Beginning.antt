@@ -1,0 +1,46 @@
+-- What a node as a process begins with.
+use Rattle.std.specs.Prelude.{ℕ, ◌≡◌, List, [], ◌++◌, map, codes, Some}
+use Rattle.hex.specs.Hex.{encode_lower}
+use Rattle.sha2.specs.Sha256.{sha256}
+use Rattle.toml.specs.Data.{Members}
+use Rattle.toml.specs.Parse.{parse_document}
+use Rattle.scp_core.specs.declared.config.Config.{Config}
+use Rattle.scp_core.specs.Theorem.{LedgerTheorem}
+use Rattle.scp_config.specs.Config.{IsConfigOf}
+use Rattle.scp_config.specs.Form.{form}
+use Rattle.scp_config.specs.Names.{Identity}
+use Rattle.scp_config.specs.declared.settings.Settings.{Settings}
+use Rattle.scp_live.specs.Live.{LiveView}
+
+-- the text is a configuration that says this
+pub record Configures (text : List ℕ) (settings : Settings) : Type 0 where
+  pub doc : Members
+  pub parsed : parse_document text ≡ Some doc
+  pub says : IsConfigOf doc settings
+
+-- the digest of a configuration: the SHA-256 (FIPS 180-4) of its one form
+abbrev pub digest_of : Settings → List ℕ
+digest_of settings = sha256 (form settings)
+
+-- the first line of a log: whose it is
+abbrev pub header_of : List ℕ → List ℕ
+header_of digest = codes "scp_node 1 " ++ encode_lower digest ++ codes "\n"
+
+-- what `check` writes of a configuration
+abbrev pub checked_line : List ℕ → List ℕ
+checked_line digest = codes "ok " ++ encode_lower digest ++ codes "\n"
+
+-- the configuration of the node that settings say
+abbrev pub config_in : Settings → Config
+config_in settings = record {
+  me = settings.node.id;
+  set = settings.set;
+  peers = map (λ (peer : Identity). peer.id) settings.peers.items;
+  capacities = record { link = settings.capacities.link; inbox = settings.capacities.inbox; ready = settings.capacities.ready; decided = settings.capacities.decided };
+}
+
+-- A node of these settings that has heard nothing.
+pub record IsNew (settings : Settings) (v : LiveView) : Type 0 where
+  pub config : v.node.config ≡ config_in settings
+  pub names : v.names ≡ map (λ (peer : Identity). peer.name) settings.peers.items
+  pub theorem : LedgerTheorem [] v.node

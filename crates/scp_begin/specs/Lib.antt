@@ -1,0 +1,4 @@
+pub mod Living
+pub mod Beginning
+pub mod Replays
+pub mod inside

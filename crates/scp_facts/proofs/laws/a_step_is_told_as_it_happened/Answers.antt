@@ -1,0 +1,5 @@
+use Rattle.scp_facts.proofs.Happening.{step_is_told}
+use Rattle.scp_facts.proofs.laws.a_step_is_told_as_it_happened.Goals as goal
+
+pub returns : goal.returns
+returns c = step_is_told

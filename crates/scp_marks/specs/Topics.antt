@@ -1,0 +1,134 @@
+-- What a fact is about: a kind, and a slot where it is of one (this project's profile).
+use Rattle.std.specs.Prelude.{ℕ, ◌&&◌, Bool, true, false, Option, Some, None, length, nat_eq, slice_get}
+use Rattle.scp_types.specs.declared.names.ConnId.{ConnId}
+use Rattle.scp_envelope.specs.declared.statement.Envelope.{Envelope as Signed}
+use Rattle.scp_envelope.specs.declared.statement.Pledges.{Pledges}
+use Rattle.scp_envelope.specs.declared.statement.Pledges.TheVariants as pledges
+use Rattle.scp_wire.specs.Connections.{same_conn}
+use Rattle.scp_wire.specs.declared.link.Command.{Command}
+use Rattle.scp_wire.specs.declared.link.Command.TheVariants as command
+use Rattle.scp_wire.specs.declared.message.Message.{Message}
+use Rattle.scp_wire.specs.declared.message.Message.TheVariants.{Envelope, GetSet, Set, NoSet, GetRecord, Record, Records as Batch}
+use Rattle.scp_ledger.specs.declared.journal.Decision.{Decision}
+use Rattle.scp_ledger.specs.declared.journal.Fate.{Fate}
+use Rattle.scp_ledger.specs.declared.journal.Fate.TheVariants as fate
+use Rattle.scp_core.specs.Node.{NodeView}
+use Rattle.scp_facts.specs.declared.fact.Fact.{Fact}
+use Rattle.scp_facts.specs.declared.fact.Fact.TheVariants.{Parked, Entered}
+use Rattle.scp_marks.specs.declared.topic.Kind.{Kind}
+use Rattle.scp_marks.specs.declared.topic.Kind.TheVariants as kind
+use Rattle.scp_marks.specs.declared.topic.Topic.{Topic}
+use Rattle.scp_marks.specs.declared.topic.Letter.{Letter}
+
+-- ---- kinds and slots
+
+-- both are of the same slot, or of none
+abbrev pub same_slot : Option ℕ → Option ℕ → Bool
+same_slot None None = true
+same_slot None (Some b) = false
+same_slot (Some a) None = false
+same_slot (Some a) (Some b) = nat_eq a b
+
+-- of this kind and this slot
+abbrev pub of_slot : Kind → ℕ → Topic
+of_slot kind slot = record { kind = kind; slot = Some slot }
+
+-- of this kind and of no slot
+abbrev pub of_none : Kind → Topic
+of_none kind = record { kind = kind; slot = None }
+
+-- ---- messages
+
+-- the kind of a statement
+abbrev pub kind_of_pledges : Pledges → Kind
+kind_of_pledges (pledges.Prepare p) = kind.Prepare
+kind_of_pledges (pledges.Confirm p) = kind.Confirm
+kind_of_pledges (pledges.Externalize p) = kind.Externalize
+kind_of_pledges (pledges.Nominate p) = kind.Nominate
+
+-- a statement is of its kind and slot
+abbrev pub topic_of_envelope : Signed → Topic
+topic_of_envelope e = of_slot (kind_of_pledges e.statement.pledges) e.statement.slot.0
+
+-- a message: of a batch of records, the slot of its first
+abbrev pub topic_of_message : Message → Topic
+topic_of_message (Envelope e) = topic_of_envelope e.value
+topic_of_message (GetSet hash) = of_none kind.Sets
+topic_of_message (Set set) = of_none kind.Sets
+topic_of_message (NoSet hash) = of_none kind.Sets
+topic_of_message (GetRecord slot) = of_slot kind.Records slot.0
+topic_of_message (Record slot value) = of_slot kind.Records slot.0
+topic_of_message (Batch first values) = of_slot kind.Records first.0
+
+-- what was read of bytes; bytes that spell no message are of their link
+abbrev pub topic_of_reading : Option Message → Topic
+topic_of_reading None = of_none kind.Links
+topic_of_reading (Some message) = topic_of_message message
+
+-- how many numbers a message takes on its connection: a batch one for each of its records
+abbrev pub numbers_of_message : Message → ℕ
+numbers_of_message (Envelope e) = 1
+numbers_of_message (GetSet hash) = 0
+numbers_of_message (Set set) = 0
+numbers_of_message (NoSet hash) = 0
+numbers_of_message (GetRecord slot) = 1
+numbers_of_message (Record slot value) = 1
+numbers_of_message (Batch first values) = length values
+
+-- what was read takes none where it is no message
+abbrev pub numbers_of_reading : Option Message → ℕ
+numbers_of_reading None = 0
+numbers_of_reading (Some message) = numbers_of_message message
+
+-- ---- letters: the numbered messages that came, in their order
+
+-- the letter has this number, if one is asked for
+abbrev pub has_number : Option ℕ → Letter → Bool
+has_number None letter = true
+has_number (Some seq) letter = nat_eq letter.seq seq
+
+-- it is of this connection, and has this number, if one is asked for
+abbrev pub is_of : ConnId → Option ℕ → Letter → Bool
+is_of conn seq letter = same_conn letter.conn conn && has_number seq letter
+
+-- ---- commands and the journal
+
+-- a command
+abbrev pub topic_of_command : Command → Topic
+topic_of_command command.Tick = of_none kind.Commands
+topic_of_command (command.Propose slot value) = of_slot kind.Commands slot.0
+topic_of_command (command.Round slot) = of_slot kind.Commands slot.0
+topic_of_command (command.Timer slot) = of_slot kind.Commands slot.0
+topic_of_command (command.Ask link slot) = of_slot kind.Commands slot.0
+
+-- a letter is what its message is; what has none is of its link
+abbrev pub topic_of_letter : Option Letter → Topic
+topic_of_letter None = of_none kind.Links
+topic_of_letter (Some letter) = letter.topic
+
+-- an entry of the journal: a message that was dropped is what its letter is, which is given
+abbrev pub topic_of_entry : Option Letter → Option Fate → Topic
+topic_of_entry letter None = of_none kind.Links
+topic_of_entry letter (Some (fate.Taken conn seq message set verdict)) = topic_of_message message
+topic_of_entry letter (Some (fate.Dropped conn seq cause)) = topic_of_letter letter
+topic_of_entry letter (Some (fate.Closed conn cause)) = of_none kind.Links
+
+-- a decision
+abbrev pub topic_of_decision : Option Decision → Topic
+topic_of_decision None = of_none kind.Decisions
+topic_of_decision (Some d) = of_slot kind.Decisions d.slot.0
+
+-- ---- facts
+
+-- the connection of a message that a fact is of, and its number there
+abbrev pub came_by_entry : Option Fate → Option (ConnId × ℕ)
+came_by_entry None = None
+came_by_entry (Some (fate.Taken conn seq message set verdict)) = Some (conn, seq.0)
+came_by_entry (Some (fate.Dropped conn seq cause)) = Some (conn, seq.0)
+came_by_entry (Some (fate.Closed conn cause)) = None
+
+-- the same of a fact of a node that stands so
+abbrev pub came_by : NodeView → Fact → Option (ConnId × ℕ)
+came_by v (Parked conn seq why message) = Some (conn, seq.0)
+came_by v (Entered entry standing) = came_by_entry (slice_get v.ledger.journal entry)
+came_by v fact = None

@@ -1,0 +1,81 @@
+//! The account of a node by its log.
+ghost use Rattle.std.specs.Prelude.{◌≡◌, IfOk, OnOk, string_bytes};
+ghost use Rattle.scp_device.specs.Device.{Gains};
+ghost use Rattle.scp_turn.specs.Turn.{Goes};
+ghost use Rattle.scp_log.specs.Log.{IsLine};
+ghost use Rattle.scp_node_account.specs.Accounts.{IsAccountOf, AccountsFor, IsAccounted};
+ghost use Rattle.scp_begin.specs.Living.{IsLive};
+
+use scp_account::account;
+use scp_begin::{begun, fail, header, refuse, replay, settings_of};
+use scp_config::Settings;
+use scp_core::{each_node_holds_its_headline, each_node_holds_its_ledger};
+use scp_device::{ReportOut, write_text};
+use scp_kept::{KeepingWatch, what_is_kept_is_what_happened};
+use scp_live::Live;
+use scp_log::{EventLog, Kept, LogFault};
+use scp_types::Fault;
+use std::alloc::Global;
+use std::slice;
+
+/// Plays what the log says, and gives the account of it.
+fn account_of<L: EventLog>(
+    alloc: Global,
+    live: &mut Live,
+    kept: &mut Kept<L>,
+    header: &[u8],
+) -> Result<String, LogFault>
+    requires live { IsLive live.old.node }
+    requires line { ¬ (IsLine header.now) }
+    ensures account { Goes live.old.node live.new.node (λ _ heard _. IfOk result (λ text. IsAccountOf L.holds header.now kept.old live.old heard live.new (string_bytes text))) }
+{
+    what_is_kept_is_what_happened();
+    let entries = kept.recover(alloc, header)?;
+    let mut watch = KeepingWatch::new(alloc);
+    replay(alloc, live, entries.as_slice(), &mut watch)?;
+    if watch.lacks_memory() {
+        return Err(LogFault::Failed(Fault::NoMemory));
+    }
+    let happened = watch.into_kept();
+    let text = account(alloc, slice::from_ref(live.node()), happened.as_slice())?;
+    Ok(text)
+}
+
+/// Writes the account of a node of this configuration.
+fn account_settings<L: EventLog + Drop, W: ReportOut>(
+    alloc: Global,
+    settings: &Settings,
+    log: L,
+    writer: &mut W,
+) -> Result<(), LogFault>
+    ensures accounted { OnOk result (AccountsFor L.holds settings.now (W.written writer.old) (W.written writer.new) log) }
+{
+    each_node_holds_its_ledger();
+    each_node_holds_its_headline();
+    let mut live = begun(alloc, settings)?;
+    let line = header(alloc, &settings.digest(alloc)?)?;
+    let mut kept = Kept::new(log);
+    let text = account_of(alloc, &mut live, &mut kept, line.as_slice())?;
+    write_text(writer, text.as_str())?;
+    Ok(())
+}
+
+/// Writes the account of a node of this configuration by this log, as one JSON document. Each entry of the log is played again. Answers the
+/// status: 0; 1, where the text is no configuration, or the log isn't one of it; 3, where the log or the writer failed, or memory ran out. What is
+/// wrong is one line.
+pub fn account_node<L: EventLog + Drop, W: ReportOut>(
+    alloc: Global,
+    config: &[u8],
+    log: L,
+    writer: &mut W,
+) -> u8
+    ensures accounted { result ≡ 0 → IsAccounted L.holds config.now (W.written writer.old) (W.written writer.new) log }
+{
+    match settings_of(alloc, config) {
+        Ok(settings) => match account_settings(alloc, &settings, log, writer) {
+            Ok(()) => 0,
+            Err(fault) => fail(fault, writer),
+        },
+        Err(fault) => refuse(alloc, &fault, writer),
+    }
+}

@@ -1,0 +1,124 @@
+-- The elements of facts in the picture of a run (this project's profile): one of each fact that a trace shows, in the column of its node.
+use Rattle.std.specs.Prelude.{ℕ, ◌+◌, ◌-◌, ◌*◌, Bool, List, [], ◌∷◌, ◌++◌, Option, Some, None, codes, flat_map, get_or, nat_lt, slice_get, if◌then◌else◌}
+use Rattle.std.specs.Fmt.{decimal}
+use Rattle.scp_types.specs.declared.names.ConnId.{ConnId}
+use Rattle.scp_types.specs.declared.names.NodeId.{NodeId}
+use Rattle.scp_ledger.specs.declared.journal.Decision.{Decision}
+use Rattle.scp_ledger.specs.declared.journal.Origin.{Origin}
+use Rattle.scp_ledger.specs.declared.journal.Origin.TheVariants.{Machine, Named}
+use Rattle.scp_core.specs.History.{peer_at}
+use Rattle.scp_core.specs.Node.{NodeView}
+use Rattle.scp_trace_slot.specs.declared.names.Names.{Names}
+use Rattle.scp_facts.specs.declared.fact.Fact.{Fact}
+use Rattle.scp_facts.specs.declared.fact.Fact.TheVariants.{Says, Decided, Sent}
+use Rattle.scp_facts.specs.declared.fact.Told.{Told}
+use Rattle.scp_facts.specs.declared.fact.Telling.{Telling}
+use Rattle.scp_facts.specs.declared.fact.Telling.TheVariants.{Line, Of}
+use Rattle.scp_fact_lines.specs.Facts.{told_line}
+use Rattle.scp_svg.specs.Pieces.{escaped, line_text, across_text, bar_text, ring_text, letters_text}
+use Rattle.scp_marks.specs.declared.marks.Mark.{Mark}
+use Rattle.scp_marks.specs.Topics.{came_by}
+use Rattle.scp_looks.specs.Looks.{kind_word, sign_of, is_sent, is_against, fact_class}
+
+-- ---- columns
+
+-- where the column of a node lies, by its number
+abbrev pub column : ℕ → ℕ
+column number = 5 * number
+
+-- the number of a node of a script, by its id: each of its bytes
+abbrev pub number_of : NodeId → ℕ
+number_of id = get_or id.0 0 0
+
+-- beside the column of a node, on the side of another
+abbrev pub toward : ℕ → ℕ → ℕ
+toward number other = if nat_lt number other then column number + 1 else column number - 1
+
+-- ---- shapes
+
+-- the first fact of a line in its section has the line's number at the edge
+abbrev pub rule_text : Mark → List ℕ
+rule_text mark = if mark.begins then across_text (codes "s") 2 mark.row ++ letters_text (codes "s") 2 mark.row (decimal mark.line) else []
+
+-- from what was said on, the node's column has the colour of its kind
+abbrev pub bar_of : Mark → Fact → List ℕ
+bar_of mark (Says e) = bar_text (codes "b") (column mark.node) mark.row
+bar_of mark fact = []
+
+-- an arrow from the node that sent the message, in the row in which it came, to this node
+abbrev pub arrow_from : Mark → Option ℕ → Option (ConnId × ℕ) → List ℕ
+arrow_from mark None place = []
+arrow_from mark (Some row) None = []
+arrow_from mark (Some row) (Some place) = line_text (codes "a") (column (number_of place.0.from)) row (column mark.node) mark.row
+
+-- what is sent is a stroke to the side of who is sent it
+abbrev pub stroke_of : NodeView → Mark → Fact → List ℕ
+stroke_of v mark (Sent link bytes) = line_text (codes "o") (column mark.node) mark.row (toward mark.node (number_of (peer_at v.config link))) mark.row
+stroke_of v mark fact = []
+
+-- a ring about the column of a node
+abbrev pub ring_at : ℕ → NodeId → List ℕ
+ring_at row id = ring_text (codes "q") (column (number_of id)) row
+
+-- the quorum that a decision rests on
+abbrev pub rings_of_origin : ℕ → Origin → List ℕ
+rings_of_origin row (Machine n quorum own) = flat_map (ring_at row) quorum
+rings_of_origin row (Named conn seq) = []
+
+-- so of a decision, if it is there
+abbrev pub rings_of_decision : ℕ → Option Decision → List ℕ
+rings_of_decision row None = []
+rings_of_decision row (Some d) = rings_of_origin row d.origin
+
+-- the quorum of a decision, which is shown where a person points at it
+abbrev pub rings_of : NodeView → Mark → Fact → List ℕ
+rings_of v mark (Decided place) = rings_of_decision mark.row (slice_get v.ledger.decisions place)
+rings_of v mark fact = []
+
+-- the sign, where there is one
+abbrev pub sign_text : Mark → List ℕ → List ℕ
+sign_text mark [] = []
+sign_text mark (byte ∷ bytes) = letters_text (codes "f") (column mark.node) mark.row (byte ∷ bytes)
+
+-- ---- an element
+
+-- the class of the node that sent the message
+abbrev pub sender_class : Option (ConnId × ℕ) → List ℕ
+sender_class None = []
+sender_class (Some place) = codes " m" ++ decimal (number_of place.0.from)
+
+-- the beginning: its classes are the node, the kind, what became of it, and who sent it
+abbrev pub front_text : NodeView → Mark → Bool → Bool → Fact → List ℕ
+front_text v mark sent against fact =
+    codes "<g class='n" ++ decimal mark.node ++ codes " k" ++ kind_word mark.topic.kind ++ codes " " ++ fact_class v sent against fact ++ sender_class (came_by v fact) ++ codes "'><title>"
+
+-- what a person reads who points at it: the line of the script, and the lines of the trace
+abbrev pub title_text : Names → NodeView → Mark → Told → List ℕ
+title_text names v mark told = codes "line " ++ decimal mark.line ++ codes "\n" ++ told_line names mark.line (Some v) [] told
+
+-- its shapes
+abbrev pub shapes_text : NodeView → Mark → Fact → List ℕ
+shapes_text v mark fact = rule_text mark ++ bar_of mark fact ++ arrow_from mark mark.from (came_by v fact) ++ stroke_of v mark fact ++ rings_of v mark fact ++ sign_text mark (sign_of v mark.topic.kind fact)
+
+-- the end
+abbrev pub back_text : NodeView → Mark → Fact → List ℕ
+back_text v mark fact = codes "</title>" ++ shapes_text v mark fact ++ codes "</g>\n"
+
+-- the element of a fact of a node that stands so
+abbrev pub fact_element : Names → NodeView → Mark → Bool → Bool → Told → List ℕ
+fact_element names v mark sent against told = front_text v mark sent against told.fact ++ (escaped (title_text names v mark told) ++ back_text v mark told.fact)
+
+-- where its node is there
+abbrev pub told_element : Names → Option NodeView → Mark → Bool → Bool → Told → List ℕ
+told_element names None mark sent against told = []
+told_element names (Some v) mark sent against told = fact_element names v mark sent against told
+
+-- of what was told at this place
+abbrev pub telling_element : Names → List NodeView → Option Telling → Mark → Bool → Bool → List ℕ
+telling_element names nodes None mark sent against = []
+telling_element names nodes (Some (Line line)) mark sent against = []
+telling_element names nodes (Some (Of told)) mark sent against = told_element names (slice_get nodes (told.node - 1)) mark sent against told
+
+-- the element of a mark, of these nodes and of all that was told, among all marks and before these
+abbrev pub element : Names → List NodeView → List Telling → List Mark → List Mark → Mark → List ℕ
+element names nodes tellings marks later mark = telling_element names nodes (slice_get tellings mark.at) mark (is_sent mark later) (is_against nodes tellings marks mark)
