@@ -5,17 +5,21 @@
 //! tests. Not claimed: that a log's lock keeps other processes out.
 #![tactic(auto)]
 
+mod files;
+mod sim;
+
+use crate::files::{failed, text_of_file, told, wrong};
+use crate::sim::with_sim;
 use scp_begin::{NoLog, check_config};
 use scp_command::{Order, serve, serve_plain};
-use scp_device::{SCRIPT_LIMIT, ScriptIn, read_script, write_text};
+use scp_device::ScriptIn;
 use scp_log::{EventLog, FileLog, MemoryLog};
 use scp_node::{run_node, run_traced};
 use scp_node_account::account_node;
 use scp_prompt::{
     Asked, Cause, Failure, NodeAsked, NodeTask, Source, Stream, Task, Unasked, Unopened, Wanted,
-    read_words, status, write_failure, write_settled,
+    read_words, write_settled,
 };
-use scp_types::Fault;
 use std::alloc::{AllocError, Global};
 use std::fs::{File, OpenOptions};
 use std::io::ErrorKind;
@@ -101,36 +105,6 @@ fn answer<T: Threads + Wait + Sync>(
             let mut input = Stream::new(text.as_bytes());
             Ok(done(rt, threads, asked, "<words>", &mut input))
         }
-    }
-}
-
-/// Tells people why a file failed, and answers the exit status.
-fn failed(rt: &HostRuntime, path: &str, why: &str, failure: &Failure) -> u8 {
-    let mut errors = Stream::new(rt.stderr());
-    let _ = write_failure(rt.alloc(), &mut errors, path, &[], why, failure);
-    status(failure)
-}
-
-/// The text of this input, or the exit status of what was told of it.
-fn text_of<R: ScriptIn + Cause>(
-    rt: &HostRuntime,
-    path: &str,
-    input: &mut R,
-) -> Result<Vec<u8>, u8> {
-    let failure = match read_script(rt.alloc(), input) {
-        Ok(text) => return Ok(text),
-        Err(Fault::Device) => Failure::Unread,
-        Err(Fault::TooLong) => Failure::TooLong(SCRIPT_LIMIT),
-        Err(_) => Failure::NoMemory,
-    };
-    Err(failed(rt, path, input.cause(), &failure))
-}
-
-/// The text of the configuration at this path.
-fn config_of(rt: &HostRuntime, path: &str) -> Result<Vec<u8>, u8> {
-    match fs::open(rt, path) {
-        Ok(file) => text_of(rt, path, &mut Stream::new(file)),
-        Err(error) => text_of(rt, path, &mut Unopened::new(error.kind())),
     }
 }
 
@@ -251,7 +225,7 @@ fn account_with(rt: &HostRuntime, config: &[u8], path: &str) -> u8 {
 
 /// Does what is asked of a node.
 fn with_node(rt: &HostRuntime, asked: &NodeAsked<'_>) -> u8 {
-    let config = match config_of(rt, asked.config) {
+    let config = match text_of_file(rt, asked.config) {
         Ok(config) => config,
         Err(status) => return status,
     };
@@ -261,20 +235,6 @@ fn with_node(rt: &HostRuntime, asked: &NodeAsked<'_>) -> u8 {
         NodeTask::Run { log, trace } => run_asked(rt, config, log, trace),
         NodeTask::Account { log } => account_with(rt, config, log),
     }
-}
-
-/// Writes a text to the standard output, and answers 0, or 3 where that failed.
-fn told(rt: &HostRuntime, text: &str) -> u8 {
-    match write_text(&mut Stream::new(io::writer(rt)), text) {
-        Ok(()) => 0,
-        Err(_) => 3,
-    }
-}
-
-/// Writes a text to the standard error, and answers this status.
-fn wrong(rt: &HostRuntime, text: &str, status: u8) -> u8 {
-    let _ = write_text(&mut Stream::new(rt.stderr()), text);
-    status
 }
 
 /// Does what the words of the command line ask for, and answers the exit status.
@@ -289,6 +249,7 @@ fn served<T: Threads + Wait + Sync>(
     match read_words(alloc, version, words.as_slice()) {
         Ok(Wanted::Script(asked)) => answer(rt, threads, &asked),
         Ok(Wanted::Node(asked)) => Ok(with_node(rt, &asked)),
+        Ok(Wanted::Sim(asked)) => with_sim(rt, asked),
         Err(Unasked::Told(text)) => Ok(told(rt, text.as_str())),
         Err(Unasked::Wrong(text)) => Ok(wrong(rt, text.as_str(), 2)),
         Err(Unasked::NoMemory) => Err(AllocError),

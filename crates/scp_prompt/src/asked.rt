@@ -1,6 +1,7 @@
 //! What the words of a command line ask for.
 
 use crate::commands::command_line;
+use crate::sim::{BadOption, SimAsked, Unplanned, sim_by};
 use clap::error::ErrorKind;
 use clap::{ArgMatches, Error};
 use std::alloc::{AllocError, Global};
@@ -128,6 +129,8 @@ pub enum Wanted<'a> {
     Script(Asked<'a>),
     /// A node.
     Node(NodeAsked<'a>),
+    /// A simulation.
+    Sim(SimAsked<'a>),
 }
 
 /// What words are answered with that ask for nothing.
@@ -298,16 +301,47 @@ fn unasked_by(alloc: Global, error: &Error) -> Unasked {
     }
 }
 
+/// What is told of an option whose word says nothing.
+fn bad_option(alloc: Global, bad: &BadOption) -> Unasked {
+    let mut text = String::new(alloc);
+    let (option, expected) = (bad.option, bad.expected);
+    match writeln!(
+        text,
+        "error: --{option}: expected {expected}; see scp sim --help"
+    ) {
+        Ok(()) => Unasked::Wrong(text),
+        Err(_) => Unasked::NoMemory,
+    }
+}
+
+/// What the command of a simulation asks for.
+fn simulation<'a>(alloc: Global, matches: &ArgMatches<'a>) -> Result<Wanted<'a>, Unasked> {
+    match sim_by(alloc, matches) {
+        Ok(asked) => Ok(Wanted::Sim(asked)),
+        Err(Unplanned::Bad(bad)) => Err(bad_option(alloc, &bad)),
+        Err(Unplanned::NoMemory) => Err(Unasked::NoMemory),
+    }
+}
+
+/// What the matches of a command line ask for.
+fn asked_by<'a>(alloc: Global, matches: &ArgMatches<'a>) -> Result<Wanted<'a>, Unasked> {
+    match matches.subcommand() {
+        Some(("sim", inner)) => simulation(alloc, inner),
+        Some((name, inner)) => match wanted_by(alloc, name, inner) {
+            Ok(Some(wanted)) => Ok(wanted),
+            Ok(None) => Err(no_command(alloc)),
+            Err(_) => Err(Unasked::NoMemory),
+        },
+        None => Err(no_command(alloc)),
+    }
+}
+
 fn parsed<'a>(
     alloc: Global,
     version: &'a str,
     words: &'a [&'a str],
-) -> Result<Option<Wanted<'a>>, Error> {
-    let matches = command_line(alloc, version)?.try_get_matches_from(words)?;
-    match matches.subcommand() {
-        Some((name, inner)) => Ok(wanted_by(alloc, name, inner)?),
-        None => Ok(None),
-    }
+) -> Result<ArgMatches<'a>, Error> {
+    command_line(alloc, version)?.try_get_matches_from(words)
 }
 
 /// What is told of words that name no command.
@@ -325,8 +359,7 @@ pub fn read_words<'a>(
     words: &'a [&'a str],
 ) -> Result<Wanted<'a>, Unasked> {
     match parsed(alloc, version, words) {
-        Ok(Some(wanted)) => Ok(wanted),
-        Ok(None) => Err(no_command(alloc)),
+        Ok(matches) => asked_by(alloc, &matches),
         Err(error) => Err(unasked_by(alloc, &error)),
     }
 }

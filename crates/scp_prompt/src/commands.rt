@@ -1,5 +1,6 @@
 //! The commands, their options and their help.
 
+use crate::sim::sim;
 use clap::{Arg, ArgAction, Command};
 use std::alloc::{AllocError, Global};
 
@@ -245,5 +246,7 @@ pub fn command_line<'a>(alloc: Global, version: &'a str) -> Result<Command<'a>, 
         .subcommand_required(true)
         .arg_required_else_help(true);
     let command = with_scripts(alloc, command)?;
-    with_forms(alloc, command)?.subcommand(node(alloc)?)
+    with_forms(alloc, command)?
+        .subcommand(sim(alloc)?)?
+        .subcommand(node(alloc)?)
 }

@@ -13,6 +13,7 @@ mod bytes;
 mod commands;
 mod failure;
 mod places;
+mod sim;
 mod stream;
 
 pub use asked::{
@@ -22,4 +23,5 @@ pub use asked::{
 pub use bytes::{LONG_LIMIT, read_within, write_bytes};
 pub use failure::{BadWord, Failure, Stop, status, write_failure, write_settled};
 pub use places::{Place, word_at, write_place};
+pub use sim::SimAsked;
 pub use stream::{Cause, Stream, Unopened};

@@ -1,0 +1,60 @@
+//! Files that are read, and what people and hosts are told of them.
+
+use scp_device::{SCRIPT_LIMIT, ScriptIn, read_script, write_text};
+use scp_prompt::{Cause, Failure, Stream, Unopened, status, write_failure};
+use scp_types::Fault;
+use std::io::ErrorKind;
+use std::{fs, io};
+
+/// Tells people why a file failed, and answers the exit status.
+pub fn failed(rt: &HostRuntime, path: &str, why: &str, failure: &Failure) -> u8 {
+    let mut errors = Stream::new(rt.stderr());
+    let _ = write_failure(rt.alloc(), &mut errors, path, &[], why, failure);
+    status(failure)
+}
+
+/// The text of this input, or the exit status of what was told of it.
+fn text_of<R: ScriptIn + Cause>(
+    rt: &HostRuntime,
+    path: &str,
+    input: &mut R,
+) -> Result<Vec<u8>, u8> {
+    let failure = match read_script(rt.alloc(), input) {
+        Ok(text) => return Ok(text),
+        Err(Fault::Device) => Failure::Unread,
+        Err(Fault::TooLong) => Failure::TooLong(SCRIPT_LIMIT),
+        Err(_) => Failure::NoMemory,
+    };
+    Err(failed(rt, path, input.cause(), &failure))
+}
+
+/// The text of the file at this path, or the exit status of what was told of it.
+pub fn text_of_file(rt: &HostRuntime, path: &str) -> Result<Vec<u8>, u8> {
+    match fs::open(rt, path) {
+        Ok(file) => text_of(rt, path, &mut Stream::new(file)),
+        Err(error) => text_of(rt, path, &mut Unopened::new(error.kind())),
+    }
+}
+
+/// Writes a text to the standard output, and answers 0, or 3 where that failed.
+pub fn told(rt: &HostRuntime, text: &str) -> u8 {
+    match write_text(&mut Stream::new(io::writer(rt)), text) {
+        Ok(()) => 0,
+        Err(_) => 3,
+    }
+}
+
+/// Writes a text to the standard error, and answers this status.
+pub fn wrong(rt: &HostRuntime, text: &str, status: u8) -> u8 {
+    let _ = write_text(&mut Stream::new(rt.stderr()), text);
+    status
+}
+
+/// Tells people why a file isn't opened, and answers the exit status.
+pub fn unopened_file(rt: &HostRuntime, path: &str, kind: ErrorKind) -> u8 {
+    let failure = match kind {
+        ErrorKind::OutOfMemory => Failure::NoMemory,
+        _ => Failure::Unread,
+    };
+    failed(rt, path, Unopened::new(kind).cause(), &failure)
+}

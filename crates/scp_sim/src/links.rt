@@ -1,0 +1,59 @@
+//! Which links there are.
+
+use scp_types::Fault;
+use std::alloc::Global;
+
+/// A link from a node to another.
+#[derive(Clone, Copy, Debug, PartialEq, Eq)]
+pub struct Link {
+    pub is_open: bool,
+    /// How often it was opened.
+    pub life: u64,
+    /// When the last message on it comes.
+    pub last: u64,
+    /// Whether anything was ever sent on it.
+    pub is_used: bool,
+}
+
+/// The links between at most eight nodes.
+#[derive(Debug, Drop)]
+pub struct Links(Vec<Link>);
+
+/// A link that was never open.
+const NONE: Link = Link {
+    is_open: false,
+    life: 0,
+    last: 0,
+    is_used: false,
+};
+
+/// The place of the link from a node to another.
+fn place_of(from: u8, to: u8) -> usize {
+    usize::from(from) * 16 + usize::from(to)
+}
+
+impl Links {
+    /// None of them open.
+    pub fn new(alloc: Global) -> Result<Links, Fault> {
+        let mut links = Vec::with_capacity(alloc, 256)?;
+        for _ in 0..256 {
+            links.push(NONE)?;
+        }
+        Ok(Links(links))
+    }
+
+    /// The link from a node to another.
+    pub fn get(&self, from: u8, to: u8) -> Link {
+        match self.0.get(place_of(from, to)) {
+            Some(link) => *link,
+            None => NONE,
+        }
+    }
+
+    /// Changes the link from a node to another.
+    pub fn put(&mut self, from: u8, to: u8, link: Link) {
+        if let Some(place) = self.0.get_mut(place_of(from, to)) {
+            *place = link;
+        }
+    }
+}

@@ -1,0 +1,88 @@
+//! Which nodes are linked now: partitions and stops come and go.
+
+use crate::world::{SimFault, World};
+use scp_core::Event;
+use scp_network::link_from;
+use scp_plan::parts;
+use scp_script::Command;
+
+impl<'a> World<'a> {
+    /// Whether a node is stopped.
+    pub fn is_down(&self, node: u8) -> bool {
+        for crash in self.plan.crashes.as_slice() {
+            if crash.node == node && crash.span.from <= self.now && self.now < crash.span.to {
+                return true;
+            }
+        }
+        false
+    }
+
+    /// Whether two nodes are to be linked.
+    pub fn are_linked(&self, one: u8, other: u8) -> bool {
+        for partition in self.plan.partitions.as_slice() {
+            if partition.span.from <= self.now
+                && self.now < partition.span.to
+                && parts(partition, one, other)
+            {
+                return false;
+            }
+        }
+        !self.is_down(one) && !self.is_down(other)
+    }
+
+    /// Whether anything is to be linked otherwise, later than now.
+    pub fn is_to_change(&self) -> bool {
+        for partition in self.plan.partitions.as_slice() {
+            if self.now < partition.span.to {
+                return true;
+            }
+        }
+        for crash in self.plan.crashes.as_slice() {
+            if self.now < crash.span.to {
+                return true;
+            }
+        }
+        false
+    }
+
+    /// The link from a node to another is made or lost, as it now is.
+    pub fn relink(&mut self, from: u8, to: u8) -> Result<(), SimFault> {
+        let mut link = self.links.get(from, to);
+        let is_linked = self.are_linked(from, to);
+        if link.is_open == is_linked {
+            return Ok(());
+        }
+        link.is_open = is_linked;
+        let event = if is_linked {
+            link.life = link.life.saturating_add(1);
+            Event::Open(link_from(from, to))
+        } else {
+            Event::Close(link_from(from, to))
+        };
+        self.links.put(from, to, link);
+        self.tell_twins(to, &event)?;
+        if is_linked {
+            self.act(&Command::Open { from, to })?;
+            self.say_again(from, to)
+        } else {
+            self.act(&Command::Close { from, to })
+        }
+    }
+
+    /// All links are made and lost, as they now are; the timers of nodes that are stopped run no more.
+    pub fn relink_all(&mut self) -> Result<(), SimFault> {
+        for from in 1..=self.plan.nodes {
+            for to in 1..=self.plan.nodes {
+                if from != to {
+                    self.relink(from, to)?;
+                }
+            }
+        }
+        for number in 1..=self.plan.nodes {
+            if self.is_down(number) {
+                self.disarm(number);
+            }
+        }
+        Ok(())
+    }
+}

@@ -1,0 +1,38 @@
+//! Whether a line names nodes of a script.
+ghost use Rattle.std.specs.Prelude.{◌≡◌, ◌≢◌, ◌≤◌, true};
+ghost use Rattle.scp_script.specs.Nodes.{NamesNodes};
+
+use scp_script::Command;
+
+/// Whether a node can have this number.
+fn is_small(node: u8) -> bool
+    ensures { result ≡ true → (1 ≤ node) × (node ≤ 8) }
+{
+    1 <= node && node <= 8
+}
+
+/// Whether a link can go from the one to the other.
+fn are_apart(from: u8, to: u8) -> bool
+    ensures { result ≡ true → (1 ≤ from) × (from ≤ 8) × (1 ≤ to) × (to ≤ 8) × (from ≢ to) }
+{
+    is_small(from) && is_small(to) && from != to
+}
+
+/// Whether the nodes that a line names are of a script; of a line that tells how many there are it isn't said.
+pub fn is_named(command: &Command) -> bool
+    ensures { result ≡ true → NamesNodes command.now }
+{
+    match command {
+        Command::Open { from, to }
+        | Command::Close { from, to }
+        | Command::Send { from, to, .. }
+        | Command::Ask { from, to, .. } => are_apart(*from, *to),
+        Command::Propose { node, .. }
+        | Command::Round { node, .. }
+        | Command::Timer { node, .. }
+        | Command::Wait { node, .. } => is_small(*node),
+        Command::Tick(node) | Command::Report(node) => is_small(*node),
+        Command::Settle => true,
+        Command::Caps(_) | Command::Nodes { .. } | Command::Set { .. } => false,
+    }
+}

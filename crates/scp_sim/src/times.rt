@@ -1,0 +1,84 @@
+//! One time after the other: what happens at it, and the rest behind it.
+
+use crate::due::Due;
+use crate::world::{PATIENCE, SimFault, World};
+use scp_plan::is_marked;
+use scp_script::Command;
+
+impl<'a> World<'a> {
+    /// Something happens.
+    pub fn happen(&mut self, due: Due) -> Result<(), SimFault> {
+        match due {
+            Due::Arrives {
+                from,
+                to,
+                life,
+                bytes,
+            } => self.arrive(from, to, life, bytes),
+            Due::Rings { who, timer } => self.ring(who, timer),
+            Due::Proposes { who, slot } => self.propose(who, slot),
+            Due::Looks { node } => self.look(node),
+            Due::Relinks => self.relink_all(),
+            Due::Floods { node } => self.flood(node),
+        }
+    }
+
+    /// All come to rest, and what they have to say goes out.
+    pub fn rest(&mut self) -> Result<(), SimFault> {
+        self.act(&Command::Settle)?;
+        for actor in self.actors.as_mut_slice() {
+            if let Some(twin) = &mut actor.twin {
+                scp_turn::settle(twin);
+            }
+        }
+        self.hand_out_all()?;
+        for who in 0..self.actors.len() {
+            let number = match self.actors.as_slice().get(who) {
+                Some(actor) => actor.number,
+                None => 0,
+            };
+            if !self.is_down(number) {
+                self.arm(who)?;
+                self.go_on(who)?;
+            }
+        }
+        Ok(())
+    }
+
+    /// Whether a node is judged: it neither equivocates nor floods.
+    pub fn is_judged(&self, node: u8) -> bool {
+        !is_marked(&self.plan.equivocating, node) && !is_marked(&self.plan.flooding, node)
+    }
+
+    /// Whether the run is over: all that are judged applied all slots, or nothing goes on.
+    pub fn has_ended(&self) -> bool {
+        let is_stuck = self.now.saturating_sub(self.moved) > PATIENCE && !self.is_to_change();
+        is_stuck || self.is_all_over()
+    }
+
+    /// Whether all that are judged applied all slots.
+    pub fn is_all_over(&self) -> bool {
+        for number in 1..=self.plan.nodes {
+            if self.is_judged(number) && !self.is_over(number) {
+                return false;
+            }
+        }
+        true
+    }
+
+    /// All that happens at the next time. Whether anything is to come.
+    pub fn next(&mut self) -> Result<bool, SimFault> {
+        let Some(time) = self.agenda.next_time() else {
+            return Ok(false);
+        };
+        self.now = time;
+        for _ in 0..1_000_000 {
+            match self.agenda.next_at(time) {
+                Some(due) => self.happen(due)?,
+                None => break,
+            }
+        }
+        self.rest()?;
+        Ok(!self.has_ended())
+    }
+}

@@ -1,0 +1,64 @@
+//! Messages on their way: lost, late, doubled.
+
+use crate::chance::{happens, within};
+use crate::due::Due;
+use crate::world::{SimFault, World};
+use scp_core::Event;
+use scp_network::link_from;
+use scp_script::Command;
+use scp_wire::Bytes;
+
+impl<'a> World<'a> {
+    /// A message goes from a node to another: it is lost, or comes once, or twice.
+    pub fn post(&mut self, from: u8, to: u8, bytes: Bytes) -> Result<(), SimFault> {
+        self.counts.sent = self.counts.sent.saturating_add(1);
+        if happens(&mut self.rng, self.plan.drop) {
+            self.counts.lost = self.counts.lost.saturating_add(1);
+            return Ok(());
+        }
+        if happens(&mut self.rng, self.plan.duplicate) {
+            self.counts.doubled = self.counts.doubled.saturating_add(1);
+            let copy = bytes.copy()?;
+            self.travel(from, to, copy)?;
+        }
+        self.travel(from, to, bytes)
+    }
+
+    /// A message travels, and comes at some time.
+    pub fn travel(&mut self, from: u8, to: u8, bytes: Bytes) -> Result<(), SimFault> {
+        let mut link = self.links.get(from, to);
+        let mut time = self
+            .now
+            .saturating_add(within(&mut self.rng, self.plan.delay));
+        if !self.plan.reorder && time < link.last {
+            time = link.last;
+        }
+        link.last = time;
+        self.links.put(from, to, link);
+        let life = link.life;
+        self.agenda.put(
+            time,
+            Due::Arrives {
+                from,
+                to,
+                life,
+                bytes,
+            },
+        )?;
+        Ok(())
+    }
+
+    /// A message comes to a node, unless its link was lost.
+    pub fn arrive(&mut self, from: u8, to: u8, life: u64, bytes: Bytes) -> Result<(), SimFault> {
+        let mut link = self.links.get(from, to);
+        if !link.is_open || link.life != life {
+            self.counts.lost = self.counts.lost.saturating_add(1);
+            return Ok(());
+        }
+        link.is_used = true;
+        self.links.put(from, to, link);
+        let event = Event::Send(link_from(from, to), bytes.copy()?);
+        self.tell_twins(to, &event)?;
+        self.act(&Command::Send { from, to, bytes })
+    }
+}
