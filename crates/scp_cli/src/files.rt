@@ -50,11 +50,15 @@ pub fn wrong(rt: &HostRuntime, text: &str, status: u8) -> u8 {
     status
 }
 
-/// Tells people why a file isn't opened, and answers the exit status.
-pub fn unopened_file(rt: &HostRuntime, path: &str, kind: ErrorKind) -> u8 {
-    let failure = match kind {
+/// What failed where a file isn't opened.
+pub fn failure_of(kind: ErrorKind) -> Failure {
+    match kind {
         ErrorKind::OutOfMemory => Failure::NoMemory,
         _ => Failure::Unread,
-    };
-    failed(rt, path, Unopened::new(kind).cause(), &failure)
+    }
+}
+
+/// Tells people why a file isn't opened, and answers the exit status.
+pub fn unopened_file(rt: &HostRuntime, path: &str, kind: ErrorKind) -> u8 {
+    failed(rt, path, Unopened::new(kind).cause(), &failure_of(kind))
 }

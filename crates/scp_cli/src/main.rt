@@ -8,7 +8,7 @@
 mod files;
 mod sim;
 
-use crate::files::{failed, text_of_file, told, wrong};
+use crate::files::{failed, failure_of, text_of_file, told, unopened_file, wrong};
 use crate::sim::with_sim;
 use scp_begin::{NoLog, check_config};
 use scp_command::{Order, serve, serve_plain};
@@ -144,11 +144,8 @@ fn without_file(rt: &HostRuntime, path: &str, why: &str, failure: &Failure) -> u
 
 /// Tells a host, and people, why a file isn't opened, and answers the exit status.
 fn unopened(rt: &HostRuntime, path: &str, kind: ErrorKind) -> u8 {
-    let failure = match kind {
-        ErrorKind::OutOfMemory => Failure::NoMemory,
-        _ => Failure::Unread,
-    };
-    without_file(rt, path, Unopened::new(kind).cause(), &failure)
+    let _ = write_settled(&mut Stream::new(io::writer(rt)), &failure_of(kind));
+    unopened_file(rt, path, kind)
 }
 
 /// Tells a host, and people, why a log isn't opened, and answers the exit status.
