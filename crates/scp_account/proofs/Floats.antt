@@ -25,9 +25,9 @@ use Rattle.scp_ledger.specs.declared.journal.Fate.TheVariants.{Taken, Dropped, C
 use Rattle.scp_ledger.specs.declared.journal.Origin.{Origin}
 use Rattle.scp_ledger.specs.declared.journal.Origin.TheVariants.{Machine, Named}
 use Rattle.scp_ledger.specs.declared.took.CommandFate.{CommandFate}
-use Rattle.scp_core.specs.Node.{NodeView}
+use Rattle.scp_core.specs.Kv.{NodeView}
 use Rattle.scp_network.specs.Heard.{Nodes}
-use Rattle.scp_gather.specs.declared.gathering.NodeReport.{NodeReport}
+use Rattle.scp_gather.specs.Kv.{NodeReport}
 use Rattle.scp_script.specs.declared.command.Command.{Command as Line}
 use Rattle.scp_script.specs.Script.{node_count}
 use Rattle.scp_script.specs.Nodes.{id_of, peers_of}

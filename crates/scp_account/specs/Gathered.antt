@@ -5,7 +5,7 @@ use Rattle.serde_json.specs.Data.{Data, string, array, object, member, no_member
 use Rattle.serde_json.specs.View.{items_of}
 use Rattle.serde_json.specs.Written.{compact_text}
 use Rattle.scp_wire.specs.declared.carried.Carried.{Carried}
-use Rattle.scp_gather.specs.declared.gathering.NodeReport.{NodeReport}
+use Rattle.scp_gather.specs.Kv.{NodeReport}
 use Rattle.scp_script.specs.declared.command.Command.{Command}
 use Rattle.scp_script.specs.Script.{node_count}
 use Rattle.scp_script.specs.Nodes.{id_of, peers_of, set_at}

@@ -4,7 +4,7 @@ use Rattle.serde_json.specs.Data.{Data, array, object, member, no_members}
 use Rattle.serde_json.specs.View.{items_of}
 use Rattle.scp_types.specs.declared.limits.TheConstants.{PEER_LIMIT}
 use Rattle.scp_ledger.specs.declared.journal.Decision.{Decision}
-use Rattle.scp_core.specs.Node.{NodeView}
+use Rattle.scp_core.specs.Kv.{NodeView}
 use Rattle.scp_line.specs.Parts.{entries_of}
 use Rattle.scp_line.specs.Play.{running_state}
 use Rattle.scp_kept.specs.declared.happening.Happening.{Happening}

@@ -1,17 +1,16 @@
 -- Two appliers that show the same and take the same show the same then.
 use Rattle.std.proofs.Common.{◌≡◌, ◌≢◌, ℕ, ◌+◌, ◌<◌, ◌≤◌, List, [], ◌∷◌, ◌++◌, inl, inr, length, get_or, refl, sym, ◌∙◌, ap, subst, arith, length-append}
-use Rattle.std.specs.Prelude.{Some, Contains, option_map}
+use Rattle.std.specs.Prelude.{Contains, option_map}
 use Rattle.std.proofs.lemmas.Bool.{cases_lt}
 use Rattle.std.proofs.lemmas.List.{get_or_default}
 use Rattle.std.proofs.lemmas.List.Elements.{All-nil, All-cons, All-contains, Contains-push, Contains-append_left, Contains-append_right, Contains-append_cases}
 use Rattle.std.proofs.lemmas.List.Quantifiers.{all_pairs_push}
 use Rattle.std.proofs.lemmas.List.Sorted.{Contains-permutation, IsPermutation-sym}
-use Rattle.scp_kv.specs.State.{fold_of}
 use Rattle.scp_wire.specs.declared.message.Message.TheVariants.{Record}
 use Rattle.scp_ledger.specs.declared.journal.Decision.{Decision}
 use Rattle.scp_ledger.specs.declared.took.Onward.TheVariants.{Decided, Asked}
 use Rattle.scp_ledger.specs.Decisions.{OnePerSlot}
-use Rattle.scp_apply.specs.Applied.{AreInOrder, values_of, value_of}
+use Rattle.scp_apply.specs.Applied.{AreInOrder, value_of}
 use Rattle.scp_apply.specs.Applier.{ApplierView, IsApplier, IsRunning, IsLater, IsInWindow, Applies}
 use Rattle.scp_apply.specs.Laws.{ShowTheSame, ApplyingIsAFunction}
 use Rattle.scp_apply.proofs.Applying.{not_there}
@@ -126,7 +125,7 @@ held_alike v w d alike e is = elim (Contains-append_cases v.buffer (d ∷ []) e 
 
 decided_alike : (v w : ApplierView) (d : Decision) (v' w' : ApplierView) → ShowTheSame v w → IsApplier v → IsRunning v → IsInWindow v d.slot.0 → Applies v d v' → Applies w d w' → IsApplier v' → IsRunning v' → IsApplier w' → IsRunning w' → ShowTheSame v' w'
 decided_alike v w d v' w' same known running can takes taken then_v going_v then_w going_w =
-    let known_w : IsApplier w = record { in_order = subst (AreInOrder 1) (sym same.applied) known.in_order; stopped = λ failed. same.state ∙ known.stopped (sym same.failed ∙ failed) } in
+    let known_w : IsApplier w = record { in_order = subst (AreInOrder 1) (sym same.applied) known.in_order } in
     let one : (e f : Decision) → Contains (Held v d) e → Contains (Held v d) f → e.slot.0 ≡ f.slot.0 → e ≡ f =
     λ e f is it at. one_of (Held v d) e f (all_pairs_push (λ (x y : Decision). x.slot.0 ≢ y.slot.0) v.buffer d running.one (λ k x lt. not_there d.slot.0 v.buffer k x can.fresh lt)) is it at in
     let to_v : (e : Decision) → Contains (Held w d) e → Contains (Held v d) e = held_alike w v d (λ e. (same.buffer e).0) in
@@ -147,7 +146,6 @@ decided_alike v w d v' w' same known running can takes taken then_v going_v then
         (λ is. stays_held v d v' known takes then_v going_v e (to_v e (still_held w d w' known_w taken then_w going_w e is)) (let above = above_applied w d w' known_w taken then_w going_w e is in omega (arith, above, longer))),
         (λ is. stays_held w d w' known_w taken then_w going_w e (to_w e (still_held v d v' known takes then_v going_v e is)) (let above = above_applied v d v' known takes then_v going_v e is in omega (arith, above, longer))),
       );
-      state = going_w.folded ∙ ap (λ (xs : List Decision). Some (fold_of (values_of xs))) applied ∙ sym going_v.folded;
     }
 
 unchanged : (v w v' w' : ApplierView) → v' ≡ v → w' ≡ w → ShowTheSame v w → ShowTheSame v' w'

@@ -11,13 +11,10 @@ use Rattle.std.proofs.lemmas.List.Folds.{list_any_at}
 use Rattle.std.proofs.lemmas.List.Quantifiers.{all_pairs_remove, all_pairs_push}
 use Rattle.std.proofs.lemmas.List.Sorted.{IsPermutation-more, IsPermutation-refl}
 use Rattle.std.proofs.lemmas.List.Sums.{fails_before_first}
-use Rattle.scp_kv.specs.Map.{KvMap}
-use Rattle.scp_kv.specs.State.{fold_of, after_value}
-use Rattle.std.specs.FinMap as map
 use Rattle.scp_ledger.specs.declared.journal.Decision.{Decision}
 use Rattle.scp_ledger.specs.Decisions.{is_at, is_decided, OnePerSlot}
 use Rattle.scp_apply.specs.declared.slots.Slots.{Slots}
-use Rattle.scp_apply.specs.Applied.{AreInOrder, values_of}
+use Rattle.scp_apply.specs.Applied.{AreInOrder, values_of, made_of}
 use Rattle.scp_apply.specs.Applier.{IsInWindow}
 use Rattle.scp_apply.specs.inside.Slots.{slots_view, IsApplied, IsSound, AppliesOne, Advances}
 
@@ -29,8 +26,13 @@ AreInOrder-push : (slot : ℕ) (ds : List Decision) (d : Decision) → d.slot.0 
 AreInOrder-push slot [] d e h = (omega arith, tt)
 AreInOrder-push slot (x ∷ xs) d e h = (h.0, AreInOrder-push (slot + 1) xs d (omega arith) h.1)
 
-folded-push : (applied : List Decision) (d : Decision) → fold_of (values_of (applied ++ d ∷ [])) ≡ after_value (fold_of (values_of applied)) d.value
-folded-push applied d = ap fold_of (map_push (λ (x : Decision). x.value) applied d) ∙ fold-push after_value map.empty (values_of applied) d.value
+made-push : {S : Type 0} (first : S) (after' : S → List ℕ → S) (more : List Decision) (d : Decision) → made_of first after' (more ++ d ∷ []) ≡ after' (made_of first after' more) d.value
+made-push first after' more d = ap (λ (values : List (List ℕ)). fold after' first values) (map_push (λ (x : Decision). x.value) more d) ∙ fold-push after' first (values_of more) d.value
+
+-- what makes a state goes on from one that others made
+pub made-append : {S : Type 0} (first : S) (after' : S → List ℕ → S) (applied more : List Decision) → made_of first after' (applied ++ more) ≡ made_of (made_of first after' applied) after' more
+made-append first after' [] more = refl
+made-append first after' (d ∷ ds) more = made-append (after' first d.value) after' ds more
 
 -- ---- one is taken out of the buffer
 
@@ -52,17 +54,18 @@ apart ds place k d one within lt ne = elim (cases_lt k place) [
 ]
 
 -- where a loop of the applier stands: what it began with, and what it has now
-pub record IsAdvancing (start now : Slots) : Type 0 where
+pub record IsAdvancing {S : Type 0} (after' : S → List ℕ → S) (start : Slots) (before : S) (now : Slots) (state : S) : Type 0 where
   pub is_applied : IsApplied now
   pub shared_out : IsPermutation (start.applied.items ++ start.buffer.items) (now.applied.items ++ now.buffer.items)
   pub more : List Decision
   pub grows : now.applied.items ≡ start.applied.items ++ more
+  pub state_is : state ≡ made_of before after' more
 
-pub begins : (start : Slots) → IsApplied start → IsAdvancing start start
-begins start h = record { is_applied = h; shared_out = IsPermutation-refl (start.applied.items ++ start.buffer.items); more = []; grows = sym (append-nil start.applied.items) }
+pub begins : {S : Type 0} (after' : S → List ℕ → S) (start : Slots) (before : S) → IsApplied start → IsAdvancing after' start before start before
+begins after' start before h = record { is_applied = h; shared_out = IsPermutation-refl (start.applied.items ++ start.buffer.items); more = []; grows = sym (append-nil start.applied.items); state_is = refl }
 
-pub goes_on : (start now : Slots) (place : ℕ) (next : Slots) → place < length now.buffer.items → ((d : Decision) → is_at (length now.applied.items + 1) (get_or now.buffer.items place d) ≡ true) → AppliesOne now place next → IsAdvancing start now → IsAdvancing start next
-goes_on start now place next within at one h =
+pub goes_on : {S : Type 0} (after' : S → List ℕ → S) (start : Slots) (before : S) (now : Slots) (state : S) (place : ℕ) (next : Slots) (then' : S) → place < length now.buffer.items → ((d : Decision) → is_at (length now.applied.items + 1) (get_or now.buffer.items place d) ≡ true) → AppliesOne after' now state place next then' → IsAdvancing after' start before now state → IsAdvancing after' start before next then'
+goes_on after' start before now state place next then' within at one h =
     let d = one.decision in
     let applied = now.applied.items in
     let buffer = now.buffer.items in
@@ -73,7 +76,6 @@ goes_on start now place next within at one h =
     record {
       is_applied = record {
         in_order = rw one.applied (AreInOrder-push 1 applied d (omega (arith, slot)) h.is_applied.in_order);
-        folded = one.state ∙ ap (λ (m : KvMap). after_value m d.value) h.is_applied.folded ∙ sym (folded-push applied d) ∙ ap (λ (ds : List Decision). fold_of (values_of ds)) (sym one.applied);
         above = rw (one.buffer, longer) (all_but (λ (x : Decision). length applied + 1 < x.slot.0) buffer place d within (λ k lt ne. let here = h.is_applied.above k d lt in let far = other k lt ne in omega (arith, here, far)));
         near = rw (one.buffer, longer) (all_but (λ (x : Decision). x.slot.0 ≤ length applied + 1 + 16) buffer place d within (λ k lt ne. let here = h.is_applied.near k d lt in omega (arith, here)));
         one = rw one.buffer (all_pairs_remove (λ (x y : Decision). x.slot.0 ≢ y.slot.0) buffer place within h.is_applied.one);
@@ -81,6 +83,7 @@ goes_on start now place next within at one h =
       shared_out = rw (one.applied, one.buffer) moved;
       more = h.more ++ d ∷ [];
       grows = one.applied ∙ ap (λ (ds : List Decision). ds ++ d ∷ []) h.grows ∙ append_assoc start.applied.items h.more (d ∷ []);
+      state_is = one.state_is ∙ ap (λ (m : _). after' m d.value) h.state_is ∙ sym (made-push before after' h.more d);
     }
 
 -- ---- nothing is next
@@ -98,12 +101,13 @@ none_next n (x ∷ xs) e =
     let le = position_none (is_at n) (x ∷ xs) e in
     All-from_get_or (λ (d : Decision). d.slot.0 ≢ n) (x ∷ xs) x (λ k lt. eqb-false _ _ (fails_before_first (is_at n) (x ∷ xs) k x (omega arith)))
 
-pub ends : (start now : Slots) → position (is_at (length now.applied.items + 1)) now.buffer.items ≡ None → IsAdvancing start now → Advances start now
-ends start now none h = record {
+pub ends : {S : Type 0} (after' : S → List ℕ → S) (start : Slots) (before : S) (now : Slots) (state : S) → position (is_at (length now.applied.items + 1)) now.buffer.items ≡ None → IsAdvancing after' start before now state → Advances after' start before now state
+ends after' start before now state none h = record {
   sound = record { is_applied = h.is_applied; next_missing = none_next (length now.applied.items + 1) now.buffer.items none };
   shared_out = h.shared_out;
   more = h.more;
   grows = h.grows;
+  state_is = h.state_is;
 }
 
 -- ---- a decision is buffered
@@ -114,10 +118,9 @@ not_there slot ds k d none lt e = two (list_any_at (is_at slot) ds k d lt (eq-eq
     two : is_decided slot ds ≡ true → is_decided slot ds ≡ false → ⊥
     two p q = let r : true ≡ false = sym p ∙ q in cc
 
-pub buffered : (old new : Slots) (d : Decision) → IsSound old → IsInWindow (slots_view false old) d.slot.0 → new.applied ≡ old.applied → new.state ≡ old.state → new.buffer.items ≡ old.buffer.items ++ d ∷ [] → IsApplied new
-buffered old new d h w applied state buffer = record {
+pub buffered : (old new : Slots) (d : Decision) → IsSound old → IsInWindow (slots_view false old) d.slot.0 → new.applied ≡ old.applied → new.buffer.items ≡ old.buffer.items ++ d ∷ [] → IsApplied new
+buffered old new d h w applied buffer = record {
   in_order = rw applied h.is_applied.in_order;
-  folded = rw (applied, state) h.is_applied.folded;
   above = rw (applied, buffer) (All-push (λ (x : Decision). length old.applied.items < x.slot.0) old.buffer.items d h.is_applied.above w.from);
   near = rw (applied, buffer) (All-push (λ (x : Decision). x.slot.0 ≤ length old.applied.items + 16) old.buffer.items d h.is_applied.near w.near);
   one = rw buffer (all_pairs_push (λ (x y : Decision). x.slot.0 ≢ y.slot.0) old.buffer.items d h.is_applied.one (λ k x lt. not_there d.slot.0 old.buffer.items k x w.fresh lt));

@@ -89,7 +89,6 @@ running_of failed s runs h =
       near = h.is_applied.near k d lt;
     } in
     record {
-      folded = rw (runs, h.is_applied.folded) refl;
       in_window = later;
       one = h.is_applied.one;
       few = (let fewer = few_ahead (length s.applied.items) s.buffer.items later h.is_applied.one in omega (arith, fewer));

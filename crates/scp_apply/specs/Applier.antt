@@ -1,36 +1,31 @@
 -- What clients see of an applier, and what it does with each thing that it takes.
-use Rattle.std.specs.Prelude.{ℕ, ◌+◌, ◌<◌, ◌≤◌, ◌≡◌, Bool, true, false, List, [], ◌∷◌, ◌++◌, Option, Some, None, All, length, option_map}
+use Rattle.std.specs.Prelude.{ℕ, ◌+◌, ◌<◌, ◌≤◌, ◌≡◌, Bool, false, List, [], ◌∷◌, ◌++◌, Option, None, All, length, option_map}
 use Rattle.std.specs.List.Sorted.{IsPermutation}
-use Rattle.scp_kv.specs.Map.{KvMap}
-use Rattle.scp_kv.specs.State.{fold_of}
 use Rattle.scp_wire.specs.declared.message.Message.{Message}
 use Rattle.scp_wire.specs.declared.message.Message.TheVariants.{Record}
 use Rattle.scp_ledger.specs.declared.journal.Decision.{Decision}
 use Rattle.scp_ledger.specs.declared.took.Onward.{Onward}
 use Rattle.scp_ledger.specs.declared.took.Onward.TheVariants.{Decided, Asked}
 use Rattle.scp_ledger.specs.Decisions.{is_decided, OnePerSlot}
-use Rattle.scp_apply.specs.Applied.{AreInOrder, values_of, value_of}
+use Rattle.scp_apply.specs.Applied.{AreInOrder, value_of}
 
--- what contracts see of an applier
+-- what contracts see of an applier; the state is what its applied values make, and is told where it is read
 pub record ApplierView : Type 0 where
   pub failed : Bool
   pub applied : List Decision
   pub buffer : List Decision  -- what was taken and isn't applied yet
-  pub state : Option KvMap  -- None once failed
 
 -- slots 1 to n are applied, in order; failed or not
 pub record IsApplier (v : ApplierView) : Type 0 where
   pub in_order : AreInOrder 1 v.applied
-  pub stopped : v.failed ≡ true → v.state ≡ None
 
 -- the slot is one of the 16 from n + 1 on, but not n + 1
 pub record IsLater (n slot : ℕ) : Type 0 where
   pub later : n + 1 < slot
   pub near : slot ≤ n + 16
 
--- the state is the fold of what is applied; slot n + 1 isn't buffered, and no slot twice
+-- slot n + 1 isn't buffered, and no slot twice
 pub record IsRunning (v : ApplierView) : Type 0 where
-  pub folded : v.state ≡ Some (fold_of (values_of v.applied))
   pub in_window : All (λ d. IsLater (length v.applied) d.slot.0) v.buffer
   pub one : OnePerSlot v.buffer
   pub few : length v.buffer ≤ 16

@@ -16,7 +16,6 @@ pub record ShowTheSame (v w : ApplierView) : Type 0 where
   pub failed : w.failed ≡ v.failed
   pub applied : w.applied ≡ v.applied
   pub buffer : (d : Decision) → Contains w.buffer d ↔ Contains v.buffer d
-  pub state : w.state ≡ v.state
 
 -- two appliers that run and show the same, and take the same, answer the same, and show the same then
 abbrev pub ApplyingIsAFunction : Type 0

@@ -1,53 +1,51 @@
 //! An applier.
-ghost use Rattle.std.specs.Prelude.{◌≡◌, ◌↔◌, IsTrue, ◌⊎◌, [], true, false, OnOk, OnErr, IfOk, IfErr, IfSome, IsErrOf, Some, option_copied, option_map};
-ghost use Rattle.std.specs.FinMap as map;
+ghost use Rattle.std.specs.Prelude.{◌≡◌, ◌↔◌, IsTrue, ◌⊎◌, [], true, false, OnOk, OnErr, IfOk, IfErr, IfSome, IsErrOf, None, Some, if◌then◌else◌, option_copied};
 ghost use Rattle.scp_wire.specs.Fitting.{IsFitting};
-ghost use Rattle.scp_apply.specs.Applied.{value_of};
+ghost use Rattle.scp_apply.specs.Applied.{made_of, value_of};
 ghost use Rattle.scp_apply.specs.Applier.{IsApplier, IsRunning, IsInWindow, CanTake, Takes};
 
 use crate::slots::Slots;
-use scp_kv::KvState;
+use scp_driver::Application;
 use scp_ledger::{Onward, SharedDecision};
 use scp_types::{Fault, Slot, Value};
 use scp_wire::Message;
 use std::alloc::Global;
 use std::marker::Model;
 
-/// Applies decisions in the order of their slots.
+/// Applies decisions in the order of their slots to the state of an application.
 #[derive(Drop)]
-pub struct Applier {
+pub struct Applier<A: Application> {
     slots: Slots,
+    state: A::State,
     failed: bool,
 }
 
-impl Model for Applier {
+impl<A: Application> Model for Applier<A> {
     ghost use Rattle.scp_apply.specs.Applier.{ApplierView};
 
     ghost Value = { ApplierView };
 
-    ghost use Rattle.std.specs.FinMap as map;
-    ghost use Rattle.std.specs.Ordering.{nat_cmp};
-    ghost use Rattle.std.specs.Cmp.Lexicographic.{slice_cmp};
-    ghost use Rattle.std.specs.Coded.{codes, coded_ℕ, coded_list};
+    ghost use Rattle.std.specs.Coded.{codes};
 
-    ghost coded = { Prim.hlevel (codes, map.code {R = slice_cmp nat_cmp} (coded_list coded_ℕ) (coded_list coded_ℕ)) };
+    ghost coded = { Prim.hlevel codes };
 
     ghost use Rattle.scp_apply.specs.inside.Slots.{applier_view, IsWell};
 
     ghost view = { applier_view };
 
-    ghost invariant = { IsWell };
+    ghost invariant = { IsWell A.first A.after };
 }
 
-impl Applier {
+impl<A: Application> Applier<A> {
     /// An applier that took nothing. Takes no memory.
-    pub fn new(alloc: Global) -> Applier
-        ensures empty { result ≡ record { failed = false; applied = []; buffer = []; state = Some map.empty } }
+    pub fn new(alloc: Global) -> Applier<A>
+        ensures empty { result ≡ record { failed = false; applied = []; buffer = [] } }
         ensures known { IsApplier result }
         ensures running { IsRunning result }
     {
         Applier {
             slots: Slots::new(alloc),
+            state: A::new_state(alloc),
             failed: false,
         }
     }
@@ -60,24 +58,28 @@ impl Applier {
         self.slots.applied.as_slice()
     }
 
-    /// The state that the applied values make; none once failed.
-    pub fn state(&self) -> Option<&KvState>
-        ensures same { option_copied result ≡ self.now.state }
+    /// The state that the applied values make, from the first to the last; none once failed.
+    pub fn state(&self) -> Option<&A::State>
+        ensures made { option_copied result ≡ (if self.now.failed then None else Some (made_of A.first A.after self.now.applied)) }
         ensures running { self.now.failed ≡ false → IsRunning self.now }
     {
         if self.failed {
             return None;
         }
-        Some(&self.slots.state)
+        Some(&self.state)
     }
 
     /// What is applied, and the state, which is none once failed; once nothing more is taken. Takes no memory.
-    pub fn into_applied(self) -> (Vec<SharedDecision>, Option<KvState>)
+    pub fn into_applied(self) -> (Vec<SharedDecision>, Option<A::State>)
         ensures applied { result.0.items ≡ self.applied }
-        ensures state { result.1 ≡ self.state }
+        ensures made { result.1 ≡ (if self.failed then None else Some (made_of A.first A.after self.applied)) }
     {
-        let Applier { slots, failed } = self;
-        let Slots { applied, state, .. } = slots;
+        let Applier {
+            slots,
+            state,
+            failed,
+        } = self;
+        let Slots { applied, .. } = slots;
         if failed {
             return (applied, None);
         }
@@ -119,7 +121,7 @@ impl Applier {
         if self.failed {
             return Err(Fault::Failed);
         }
-        match self.slots.serve(onward) {
+        match self.slots.serve::<A>(&mut self.state, onward) {
             Ok(answer) => Ok(answer),
             Err(_) => {
                 self.failed = true;

@@ -1,7 +1,8 @@
 //! The applier of a node: decisions, applied in the order of their slots.
 //!
 //! What it promises, of each `Applier::take`:
-//! - slots 1 to n are applied once each, in order, each with its decision, and the state is the fold of their values;
+//! - slots 1 to n are applied once each, in order, each with its decision, and the state is what the application makes of their
+//!   values, one after another;
 //! - what was taken and isn't applied yet is buffered, and slot n + 1 isn't: at most 15 decisions, of the slots n + 2 to
 //!   n + 16;
 //! - a slot that is asked for is answered by its record exactly where it is applied;

@@ -1,24 +1,23 @@
-//! Decisions in the order of their slots, and the state that their values make.
+//! Decisions in the order of their slots, applied to a state.
 ghost use Rattle.std.specs.Prelude.{◌≡◌, ◌↔◌, IsTrue, ◌++◌, ◌∷◌, [], ◌+◌, ◌<◌, ◌≤◌, length, List, IfOk, IfSome, OnOk, OnErr, IsOkUnless, position, option_copied, option_map, false};
 ghost use Rattle.scp_wire.specs.Fitting.{IsFitting};
 ghost use Rattle.scp_ledger.specs.declared.journal.Decision.{Decision};
 ghost use Rattle.scp_ledger.specs.Decisions.{is_at, is_decided};
 ghost use Rattle.scp_apply.specs.Applied.{AreInOrder, value_of};
 ghost use Rattle.scp_apply.specs.Applier.{IsInWindow, CanTake, Takes};
-ghost use Rattle.scp_apply.specs.inside.Slots.{slots_view, IsApplied, IsSound, AppliesOne, Advances, Enters};
+ghost use Rattle.scp_apply.specs.inside.Slots.{slots_view, IsApplied, IsSound, IsMade, AppliesOne, Advances, Enters};
 
-use scp_kv::{KvState, apply_value};
+use scp_driver::Application;
 use scp_ledger::{DECIDED_LIMIT, Onward, SharedDecision, WINDOW};
 use scp_types::{Fault, Slot, Value};
 use scp_wire::Message;
 use std::alloc::Global;
 
-/// What is applied, what is buffered until it is next, and the state.
+/// What is applied, and what is buffered until it is next.
 #[derive(Drop)]
 pub struct Slots {
     pub applied: Vec<SharedDecision>,
     pub buffer: Vec<SharedDecision>,
-    pub state: KvState,
 }
 
 impl Slots {
@@ -30,7 +29,6 @@ impl Slots {
         Slots {
             applied: Vec::new(alloc),
             buffer: Vec::new(alloc),
-            state: KvState::new(alloc),
         }
     }
 
@@ -59,18 +57,23 @@ impl Slots {
 
     /// Takes what the slot stage sends on, and gives the answer for one link. After a refusal the applied list is as before,
     /// and nothing else may be used.
-    pub fn serve(&mut self, onward: Onward) -> Result<Option<(u8, Message)>, Fault>
+    pub fn serve<A: Application>(
+        &mut self,
+        state: &mut A::State,
+        onward: Onward,
+    ) -> Result<Option<(u8, Message)>, Fault>
         requires sound { IsSound self.old }
         requires next { CanTake (slots_view false self.old) onward }
         ensures takes { IfOk result (λ answer. Takes (slots_view false self.old) onward answer (slots_view false self.new)) }
         ensures fits { IfOk result (λ answer. IfSome answer (λ sent. IsFitting sent.1)) }
         ensures sound { OnOk result (IsSound self.new) }
+        ensures made { IsMade A.first A.after self.old state.old → OnOk result (IsMade A.first A.after self.new state.new) }
         ensures err { OnErr result (self.new.applied.items ≡ self.old.applied.items) }
         ensures only_memory { IsOkUnless result Fault.NoMemory }
     {
         match onward {
             Onward::Decided(decision) => {
-                self.take(decision)?;
+                self.take::<A>(state, decision)?;
                 Ok(None)
             }
             Onward::Asked { link, slot } => self.record_of(link, slot),
@@ -92,15 +95,19 @@ impl Slots {
 
     /// Takes a decision, and applies what is next as long as it is there. After a refusal the applied list is as before, and
     /// nothing else may be used.
-    fn take(&mut self, decision: SharedDecision) -> Result<(), Fault>
+    fn take<A: Application>(
+        &mut self,
+        state: &mut A::State,
+        decision: SharedDecision,
+    ) -> Result<(), Fault>
         requires sound { IsSound self.old }
         requires in_window { IsInWindow (slots_view false self.old) decision.slot.0 }
-        ensures ok { OnOk result (Enters self.old decision self.new) }
+        ensures ok { OnOk result (Enters A.after self.old state.old decision self.new state.new) }
         ensures err { OnErr result (self.new.applied.items ≡ self.old.applied.items) }
         ensures only_memory { IsOkUnless result Fault.NoMemory }
     {
         let before = self.applied.len();
-        let taken = self.enter(decision);
+        let taken = self.enter::<A>(state, decision);
         if taken.is_err() {
             self.applied.truncate(before);
         }
@@ -108,26 +115,30 @@ impl Slots {
     }
 
     /// Buffers the decision, and applies what is next.
-    fn enter(&mut self, decision: SharedDecision) -> Result<(), Fault>
+    fn enter<A: Application>(
+        &mut self,
+        state: &mut A::State,
+        decision: SharedDecision,
+    ) -> Result<(), Fault>
         requires sound { IsSound self.old }
         requires in_window { IsInWindow (slots_view false self.old) decision.slot.0 }
-        ensures ok { OnOk result (Enters self.old decision self.new) }
+        ensures ok { OnOk result (Enters A.after self.old state.old decision self.new state.new) }
         ensures err { OnErr result ((more : List Decision) × (self.new.applied.items ≡ self.old.applied.items ++ more)) }
         ensures only_memory { IsOkUnless result Fault.NoMemory }
     {
         self.buffer.push(decision)?;
-        self.advance()
+        self.advance::<A>(state)
     }
 
     /// Applies what is next, as long as it is buffered.
-    fn advance(&mut self) -> Result<(), Fault>
+    fn advance<A: Application>(&mut self, state: &mut A::State) -> Result<(), Fault>
         requires is_applied { IsApplied self.old }
-        ensures ok { OnOk result (Advances self.old self.new) }
+        ensures ok { OnOk result (Advances A.after self.old state.old self.new state.new) }
         ensures err { OnErr result ((more : List Decision) × (self.new.applied.items ≡ self.old.applied.items ++ more)) }
         ensures only_memory { IsOkUnless result Fault.NoMemory }
     {
         while let Some(place) = self.next_place() {
-            self.apply_at(place)?;
+            self.apply_at::<A>(state, place)?;
         }
         Ok(())
     }
@@ -143,14 +154,14 @@ impl Slots {
     }
 
     /// Applies the decision that is buffered at this place. After a refusal the state is to be given up.
-    fn apply_at(&mut self, place: usize) -> Result<(), Fault>
+    fn apply_at<A: Application>(&mut self, state: &mut A::State, place: usize) -> Result<(), Fault>
         requires { place < length self.old.buffer.items }
-        ensures ok { OnOk result (AppliesOne self.old place self.new) }
+        ensures ok { OnOk result (AppliesOne A.after self.old state.old place self.new state.new) }
         ensures err { OnErr result (self.new.applied.items ≡ self.old.applied.items) }
         ensures only_memory { IsOkUnless result Fault.NoMemory }
     {
         let decision = self.buffer.remove(place);
-        apply_value(&mut self.state, &decision.get().value)?;
+        A::apply(state, &decision.get().value)?;
         self.applied.push(decision)?;
         Ok(())
     }

@@ -4,7 +4,7 @@ use Rattle.std.specs.Prelude.{Result, Ok, Err, IfOk, map, codes}
 use Rattle.hex.specs.Hex.{encode_lower}
 use Rattle.scp_types.specs.declared.fault.Fault.{Fault}
 use Rattle.scp_core.specs.declared.config.Config.{Config}
-use Rattle.scp_core.specs.Theorem.{LedgerTheorem}
+use Rattle.scp_core.specs.Kv.{LedgerTheorem}
 use Rattle.scp_config.specs.Names.{Identity}
 use Rattle.scp_config.specs.declared.settings.Settings.{Settings}
 use Rattle.scp_log.specs.Log.{IsLine}

@@ -1,10 +1,8 @@
 -- A node that heard more, and then more again.
 use Rattle.std.proofs.Common.{◌≡◌, List, [], ◌∷◌, ◌++◌, refl, sym, ◌∙◌, subst, append_assoc, append-nil, ℕ}
 use Rattle.scp_core.specs.History.{Exchange}
-use Rattle.scp_core.specs.Node.{NodeView}
-use Rattle.scp_core.specs.Theorem.{LedgerTheorem}
-use Rattle.scp_turn.specs.Turn.{Does, Goes}
-use Rattle.scp_turn.specs.Watch.{Noting, Watched}
+use Rattle.scp_core.specs.Kv.{NodeView, LedgerTheorem}
+use Rattle.scp_turn.specs.Kv.{Does, Goes, Noting, Watched}
 
 does_on : (a b c : NodeView) (x y : List Exchange) → Does a x b → Does b y c → Does a (x ++ y) c
 does_on a b c [] y p q = subst (λ (v : NodeView). Does v y c) p q

@@ -1,9 +1,8 @@
 -- A node that heard more and runs still.
 use Rattle.std.proofs.Common.{◌≡◌, false, List, [], ◌++◌}
 use Rattle.scp_core.specs.History.{Exchange}
-use Rattle.scp_core.specs.Node.{NodeView}
-use Rattle.scp_core.specs.Theorem.{LedgerTheorem}
-use Rattle.scp_turn.specs.Turn.{Goes}
+use Rattle.scp_core.specs.Kv.{NodeView, LedgerTheorem}
+use Rattle.scp_turn.specs.Kv.{Goes}
 use Rattle.scp_begin.specs.Living.{IsLive}
 
 pub live_on : (a b : NodeView) (P : NodeView → List Exchange → NodeView → Type 0) → IsLive a → Goes a b P → b.failed ≡ false → IsLive b

@@ -3,11 +3,10 @@ use Rattle.std.proofs.Common.{◌≡◌, ◌<◌, ◌+◌, ℕ, suc, Bool, true,
 use Rattle.std.specs.Prelude.{length, nat_eq}
 use Rattle.std.specs.Cmp.Lexicographic.{pointwise, bytes_decides}
 use Rattle.std.proofs.Math.Seq.{take-suc}
-use Rattle.scp_turn.specs.Turn.{Goes}
-use Rattle.scp_turn.specs.Watch.{Noting, Watched}
+use Rattle.scp_turn.specs.Kv.{Goes, Noting, Watched}
 use Rattle.scp_core.specs.declared.event.Event.{Event as Happening}
 use Rattle.scp_core.specs.History.{Exchange}
-use Rattle.scp_core.specs.Node.{NodeView}
+use Rattle.scp_core.specs.Kv.{NodeView}
 use Rattle.scp_log.specs.Log.{EntryView}
 use Rattle.scp_timers.specs.declared.running.Timer.{Timer}
 use Rattle.scp_asked.specs.declared.asked.Asked.TheVariants.{Event}

@@ -5,7 +5,7 @@ use Rattle.sha2.specs.Sha256.{sha256}
 use Rattle.toml.specs.Data.{Members}
 use Rattle.toml.specs.Parse.{parse_document}
 use Rattle.scp_core.specs.declared.config.Config.{Config}
-use Rattle.scp_core.specs.Theorem.{LedgerTheorem}
+use Rattle.scp_core.specs.Kv.{LedgerTheorem}
 use Rattle.scp_config.specs.Config.{IsConfigOf}
 use Rattle.scp_config.specs.Form.{form}
 use Rattle.scp_config.specs.Names.{Identity}

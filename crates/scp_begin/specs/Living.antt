@@ -1,8 +1,7 @@
 -- A node that runs.
 use Rattle.std.specs.Prelude.{◌≡◌, false, List}
 use Rattle.scp_core.specs.History.{Exchange}
-use Rattle.scp_core.specs.Node.{NodeView}
-use Rattle.scp_core.specs.Theorem.{LedgerTheorem}
+use Rattle.scp_core.specs.Kv.{NodeView, LedgerTheorem}
 
 -- The node runs, and the ledger theorem holds of it for something that it heard.
 pub record IsLive (v : NodeView) : Type 0 where

@@ -1,8 +1,8 @@
 //! The entries of a log are played again.
 ghost use Rattle.std.specs.Prelude.{◌≡◌, ◌<◌, false, ℕ, IfOk, IfErr, OnOk, Err, length};
 ghost use Rattle.scp_log.specs.declared.kept.LogFault.TheVariants.{Another, Damaged};
-ghost use Rattle.scp_turn.specs.Turn.{Goes};
-ghost use Rattle.scp_turn.specs.Watch.{notes, Watched};
+ghost use Rattle.scp_turn.specs.Kv.{Goes, Watched};
+ghost use Rattle.scp_turn.specs.Watch.{notes};
 ghost use Rattle.scp_asked.specs.declared.asked.Asked.TheVariants as asked;
 ghost use Rattle.scp_asked.specs.Says.{Says};
 ghost use Rattle.scp_episode.specs.Episode.{IsOfHost};
@@ -11,7 +11,7 @@ ghost use Rattle.scp_begin.specs.inside.Replaying.{IsReplayFault};
 ghost use Rattle.scp_begin.specs.Living.{IsLive};
 
 use scp_asked::{Asked, BadLine, read_line};
-use scp_core::Event;
+use scp_core::{Event, KvDriver};
 use scp_live::Live;
 use scp_log::{Entry, LogFault};
 use scp_turn::Watch;
@@ -32,7 +32,7 @@ fn event_of(alloc: Global, live: &Live, entry: &Entry, place: usize) -> Result<E
 }
 
 /// Plays an entry again, and the watch is told of each step. It is damaged where it says no event, or where anything else is sent of it.
-fn replay_entry<W: Watch>(
+fn replay_entry<W: Watch<KvDriver>>(
     alloc: Global,
     live: &mut Live,
     entry: &Entry,
@@ -55,7 +55,7 @@ fn replay_entry<W: Watch>(
 }
 
 /// Plays the entries of a log again, in their order, and the watch is told of each step.
-pub fn replay<W: Watch>(
+pub fn replay<W: Watch<KvDriver>>(
     alloc: Global,
     live: &mut Live,
     entries: &[Entry],

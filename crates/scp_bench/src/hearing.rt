@@ -1,4 +1,4 @@
-use scp_core::{Bytes, Capacities, Command, Config, Event, Node, Peers, Reply};
+use scp_core::{Bytes, Capacities, Command, Config, Event, KvDriver, Node, Peers, Reply};
 use scp_quorum::QuorumSet;
 use scp_types::{Fault, NodeId, Slot};
 use std::alloc::Global;
@@ -60,7 +60,7 @@ pub fn with_node<F: FnOnce(&mut Node) -> Result<(), Fault>>(
 ) -> Result<(), Fault>
     requires { F.IsAlwaysCallable work }
 {
-    let mut node = Node::new(alloc, config(alloc, links, set)?)?;
+    let mut node = Node::new(alloc, config(alloc, links, set)?, KvDriver)?;
     open_all(&mut node, links)?;
     work(&mut node)
 }

@@ -49,7 +49,7 @@ impl<D: Driver + Drop> Model for Member<D> {
 
     ghost view = { λ a. (slot_view a.machine).decided };
 
-    ghost invariant = { λ a. IsSound D.level D.place a.machine };
+    ghost invariant = { λ a. IsSound D.says.level D.says.place a.machine };
 }
 
 impl<D: Driver + Drop> Member<D> {

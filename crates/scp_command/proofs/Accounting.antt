@@ -3,7 +3,7 @@ use Rattle.std.proofs.Common.{◌≡◌, ◌∙◌, inl, inr, refl, ℕ, List, m
 use Rattle.std.specs.Prelude.{◌≢◌, ◌⊎◌, All, None, Result, Ok, Err, IfErr, IfOk}
 use Rattle.scp_types.specs.declared.fault.Fault.{Fault}
 use Rattle.scp_types.specs.declared.fault.Fault.TheVariants as faults
-use Rattle.scp_gather.specs.declared.gathering.NodeReport.{NodeReport}
+use Rattle.scp_gather.specs.Kv.{NodeReport}
 use Rattle.scp_network.specs.Network.{NetworkView}
 use Rattle.scp_script.specs.declared.command.Command.{Command}
 use Rattle.scp_line.specs.declared.playing.PlayFault.{PlayFault}

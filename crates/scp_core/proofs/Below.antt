@@ -1,4 +1,5 @@
 -- What the node takes of its stages: their public laws.
+use Rattle.scp_driver.specs.Driver.{Says}
 use Rattle.scp_wire.specs.Parts.{OneMoreIsOfLink}
 use Rattle.scp_wire.specs.ReaderLaws.{ReadingsAreInOrder, ReadingsGrow, ReadingsGrowByOne}
 use Rattle.scp_pending.specs.Fetching.{RepliesAreAskedFor}
@@ -7,7 +8,6 @@ use Rattle.scp_outboxes.specs.Laws.{EmptySends, PutsKeepSends, GivesKeepSends}
 use Rattle.scp_ledger.specs.Journals.{JournalsPass}
 use Rattle.scp_apply.specs.Applies.{AppliesPass}
 use Rattle.scp_theorem.specs.Kept.{RanKeepsLedger}
-use Rattle.scp_core.proofs.Deciding.{level_by, extracted_by, combined_by, place_by}
 
 -- of what is read of a link
 pub record ReadLaws : Type 0 where
@@ -16,20 +16,21 @@ pub record ReadLaws : Type 0 where
   pub in_order : ReadingsAreInOrder
   pub more : OneMoreIsOfLink
 
--- of one step of each stage
-pub record StepLaws : Type 0 where
-  pub read : ReadLaws
-  pub stays : WhoItIsStays
-  pub journals : JournalsPass level_by extracted_by combined_by place_by
-  pub applies : AppliesPass
+module _ {D : Type 0} (says : Says D) where
+  -- of one step of each stage
+  pub record StepLaws : Type 0 where
+    pub read : ReadLaws
+    pub stays : WhoItIsStays
+    pub journals : JournalsPass says.level says.extracted says.combined says.place
+    pub applies : AppliesPass
 
--- of what is kept and what was sent
-pub record Laws : Type 0 where
-  pub read : ReadLaws
-  pub ran : RanKeepsLedger level_by extracted_by combined_by place_by
-  pub stays : WhoItIsStays
-  pub links : NothingIsOfAStranger
-  pub replies : RepliesAreAskedFor
-  pub empty : EmptySends
-  pub puts : PutsKeepSends
-  pub gives : GivesKeepSends
+  -- of what is kept and what was sent
+  pub record Laws : Type 0 where
+    pub read : ReadLaws
+    pub ran : RanKeepsLedger says.level says.extracted says.combined says.place
+    pub stays : WhoItIsStays
+    pub links : NothingIsOfAStranger
+    pub replies : RepliesAreAskedFor
+    pub empty : EmptySends
+    pub puts : PutsKeepSends
+    pub gives : GivesKeepSends

@@ -1,6 +1,6 @@
 -- The ledger theorem in one record, of a node that runs and of one that failed.
 use Rattle.std.proofs.Common.{◌≡◌, ℕ, true, false, List, ◌++◌, refl, sym, ◌∙◌, ap, subst, inl, inr, None}
-use Rattle.scp_driver.specs.Kv.{kv_level, greatest, leader_place}
+use Rattle.scp_driver.specs.Driver.{Says}
 use Rattle.scp_wire.specs.declared.link.Inbound.{Inbound}
 use Rattle.scp_theorem.specs.Kept.{KeepsLedger}
 use Rattle.scp_grounds.specs.Grounds.{IsSentOut}
@@ -16,56 +16,59 @@ use Rattle.scp_core.proofs.Below.{Laws}
 use Rattle.scp_core.proofs.Failing.{Failure, failure_of, which}
 use Rattle.scp_core.proofs.grounds.All.{sent_at, sent_before}
 
--- of a node that runs
-record Kept (past : List Exchange) (v : NodeView) : Type 0 where
-  came : List Inbound
-  came_is : (past_of v.config past).came ≡ came ++ v.inbox
-  keeps : KeepsLedger (λ driver slot value. kv_level value) (λ driver slot value. None) (λ driver slot values. greatest values) (λ driver slot round n. leader_place slot round n) (account_of past v came)
-  sent : (link : ℕ) → IsSentOut (grounds_of v came) link (sent_to link past)
+module _ {D : Type 0} (says : Says D) where
+  -- of a node that runs
+  record Kept (past : List Exchange) (v : NodeView D) : Type 0 where
+    came : List Inbound
+    came_is : (past_of v.config past).came ≡ came ++ v.inbox
+    keeps : KeepsLedger says.level says.extracted says.combined says.place (account_of past v came)
+    sent : (link : ℕ) → IsSentOut (grounds_of v came) link (sent_to link past)
 
-kept : Laws → (past : List Exchange) (v : NodeView) → LedgerTheorem past v → v.failed ≡ false → Kept past v
-kept law past v h runs =
-    let f : Flows (past_of v.config past) v = subst (λ (w : NodeView). Flows (past_of v.config past) w) (sym (h.now runs)) h.flows in
-    record {
-      came = f.arrived;
-      came_is = f.inbox;
-      keeps = kept_at law (past_of v.config past) v f;
-      sent = sent_at law past v h f;
-    }
+  kept : Laws says → (past : List Exchange) (v : NodeView D) → LedgerTheorem says past v → v.failed ≡ false → Kept past v
+  kept law past v h runs =
+      let f : Flows says (past_of v.config past) v = subst (λ (w : NodeView D). Flows says (past_of v.config past) w) (sym (h.now runs)) h.flows in
+      record {
+        came = f.arrived;
+        came_is = f.inbox;
+        keeps = kept_at says law (past_of v.config past) v f;
+        sent = sent_at says law past v h f;
+      }
 
-of_running : Laws → (past : List Exchange) (v : NodeView) → LedgerTheorem past v → v.failed ≡ false → HoldsLedger past v
-of_running law past v h runs =
-    let k = kept law past v h runs in
-    record {
-      earlier = past;
-      moment = v;
-      runs = runs;
-      is = inl (runs, refl, refl);
-      steps = h.replies;
-      came = k.came;
-      came_is = k.came_is;
-      keeps = k.keeps;
-      sent = k.sent;
-    }
+  of_running : Laws says → (past : List Exchange) (v : NodeView D) → LedgerTheorem says past v → v.failed ≡ false → HoldsLedger says past v
+  of_running law past v h runs =
+      let k = kept law past v h runs in
+      record {
+        earlier = past;
+        moment = v;
+        runs = runs;
+        is = inl (runs, refl, refl);
+        driver = h.driver;
+        steps = h.replies;
+        came = k.came;
+        came_is = k.came_is;
+        keeps = k.keeps;
+        sent = k.sent;
+      }
 
-of_failed : Laws → (past : List Exchange) (v : NodeView) → v.failed ≡ true → Failure past v → HoldsLedger past v
-of_failed law past v failed x =
-    let k = kept law x.earlier x.moment x.theorem x.fails.was in
-    let left = x.fails.keeps in
-    record {
-      earlier = x.earlier;
-      moment = x.moment;
-      runs = x.fails.was;
-      is = inr (record { failed = failed; event = x.event; reply = x.reply; fails = x.reply_fails; step = x.step; later = x.later; past_is = x.is; silent = x.silent_then; keeps = left });
-      steps = subst (λ (c : Config). AreSteps c nothing_heard (made c) x.earlier x.moment) (sym left.config) x.theorem.replies;
-      came = k.came;
-      came_is = ap (λ (c : Config). (past_of c x.earlier).came) left.config ∙ k.came_is;
-      keeps = k.keeps;
-      sent = λ link. subst (λ (bytes : List (List ℕ)). IsSentOut (grounds_of x.moment k.came) link bytes) (sym (ap (sent_to link) x.is ∙ sent_before link x.earlier x.later x.event x.reply x.reply_fails x.silent_then)) (k.sent link);
-    }
+  of_failed : Laws says → (past : List Exchange) (v : NodeView D) → v.failed ≡ true → Failure says past v → HoldsLedger says past v
+  of_failed law past v failed x =
+      let k = kept law x.earlier x.moment x.theorem x.fails.was in
+      let left = x.fails.keeps in
+      record {
+        earlier = x.earlier;
+        moment = x.moment;
+        runs = x.fails.was;
+        is = inr (record { failed = failed; event = x.event; reply = x.reply; fails = x.reply_fails; step = x.step; later = x.later; past_is = x.is; silent = x.silent_then; keeps = left });
+        driver = x.theorem.driver;
+        steps = subst (λ (c : Config). AreSteps says c nothing_heard (made x.theorem.driver c) x.earlier x.moment) (sym left.config) x.theorem.replies;
+        came = k.came;
+        came_is = ap (λ (c : Config). (past_of c x.earlier).came) left.config ∙ k.came_is;
+        keeps = k.keeps;
+        sent = λ link. subst (λ (bytes : List (List ℕ)). IsSentOut (grounds_of x.moment k.came) link bytes) (sym (ap (sent_to link) x.is ∙ sent_before link x.earlier x.later x.event x.reply x.reply_fails x.silent_then)) (k.sent link);
+      }
 
-pub theorem_gives_ledger : Laws → TheoremGivesLedger
-theorem_gives_ledger law = λ past v h. elim (which v.failed) [
-  | inl failed ↦ of_failed law past v failed (failure_of past v h failed)
-  | inr runs ↦ of_running law past v h runs
-]
+  pub theorem_gives_ledger : Laws says → TheoremGivesLedger says
+  theorem_gives_ledger law = λ past v h. elim (which v.failed) [
+    | inl failed ↦ of_failed law past v failed (failure_of says past v h failed)
+    | inr runs ↦ of_running law past v h runs
+  ]

@@ -2,6 +2,7 @@
 use Rattle.std.proofs.Common.{◌≡◌, ◌≢◌, ℕ, true, false, List, [], ◌∷◌, refl, sym, ◌∙◌, ap, subst, inl, inr, zero, suc}
 use Rattle.std.specs.Prelude.{Option, Some, None, Result, Ok, Err, OnErr, slice_get, slice_set}
 use Rattle.std.proofs.lemmas.List.{append-nil}
+use Rattle.scp_driver.specs.Driver.{Says}
 use Rattle.scp_wire.specs.declared.message.Message.{Message}
 use Rattle.scp_wire.specs.declared.message.Message.TheVariants.{Envelope}
 use Rattle.scp_envelope.specs.declared.statement.Envelope.{Envelope as Enveloped}
@@ -51,27 +52,30 @@ hands_each old new (Some answer) h = (new, h, refl)
 
 -- ---- each step
 
-abbrev Puts : NodeView → Event → NodeView → Type 0
-Puts old event new = (handed : List Outgoing) × HandedAt old event handed new × HandsEach old.outboxes handed new.outboxes
+module _ {D : Type 0} (says : Says D) where
+  abbrev Puts : NodeView D → Event → NodeView D → Type 0
+  Puts old event new = (handed : List Outgoing) × HandedAt says old event handed new × HandsEach old.outboxes handed new.outboxes
 
-boxes_stay : (old new w : NodeView) → w.outboxes ≡ old.outboxes → new ≡ w → new.outboxes ≡ old.outboxes
-boxes_stay old new w same is = ap (λ (v : NodeView). v.outboxes) is ∙ same
+module _ {D : Type 0} where
+  boxes_stay : (old new w : NodeView D) → w.outboxes ≡ old.outboxes → new ≡ w → new.outboxes ≡ old.outboxes
+  boxes_stay old new w same is = ap (λ (v : NodeView D). v.outboxes) is ∙ same
 
-puts_all : (old new : NodeView) (event : Event) → Moves old event new → Puts old event new
-puts_all old new (ReaderTake l) m = ([], refl, boxes_stay old new _ refl m.2.4)
-puts_all old new (ReaderPut l) m = ([], refl, boxes_stay old new _ refl m.2.4)
-puts_all old new PendTake m = elim m.1 [
-  | inl b ↦ ([], inl (b, refl), boxes_stay old new _ refl b.is)
-  | inr t ↦ (out_of (reply_to old.pending.settled t.x), inr (t, refl), hands_each old.outboxes new.outboxes (reply_to old.pending.settled t.x) t.hands)
-]
-puts_all old new PendPut m = ([], refl, boxes_stay old new _ refl m.3)
-puts_all old new SlotTake m = (m.1.took.outgoing, (m.1, refl), m.1.hands)
-puts_all old new SlotPut m = ([], refl, boxes_stay old new _ refl m.3)
-puts_all old new ApplyTake m = (out_of m.answer, (m, refl), hands_each old.outboxes new.outboxes m.answer m.hands)
-puts_all old new event m = absurd m
+module _ {D : Type 0} (says : Says D) where
+  puts_all : (old new : NodeView D) (event : Event) → Moves says old event new → Puts says old event new
+  puts_all old new (ReaderTake l) m = ([], refl, boxes_stay old new _ refl m.2.4)
+  puts_all old new (ReaderPut l) m = ([], refl, boxes_stay old new _ refl m.2.4)
+  puts_all old new PendTake m = elim m.1 [
+    | inl b ↦ ([], inl (b, refl), boxes_stay old new _ refl b.is)
+    | inr t ↦ (out_of (reply_to old.pending.settled t.x), inr (t, refl), hands_each old.outboxes new.outboxes (reply_to old.pending.settled t.x) t.hands)
+  ]
+  puts_all old new PendPut m = ([], refl, boxes_stay old new _ refl m.3)
+  puts_all old new SlotTake m = (m.1.took.outgoing, (m.1, refl), m.1.hands)
+  puts_all old new SlotPut m = ([], refl, boxes_stay old new _ refl m.3)
+  puts_all old new ApplyTake m = (out_of m.answer, (m, refl), hands_each old.outboxes new.outboxes m.answer m.hands)
+  puts_all old new event m = absurd m
 
-pub steps_put_all : StepsPutAll
-steps_put_all = λ old new event s. puts_all old new event s.1
+  pub steps_put_all : StepsPutAll says
+  steps_put_all = λ old new event s. puts_all old new event s.1
 
 -- ---- each drain
 
@@ -83,21 +87,22 @@ set_same (y ∷ ys) (suc l) x e = ap (λ zs. y ∷ zs) (set_same ys l x e)
 true_isnt : true ≡ false → ⊥
 true_isnt e = cc
 
-drains_next : (old new : NodeView) (l : ℕ) (reply : Reply) → old.failed ≡ false → Step old (Drain l) reply new → reply ≢ NoMemory → IsDrained old.outboxes l reply new.outboxes
-drains_next old new l (Sent bytes) runs s ne = (s.1.message, s.1.gives, s.1.spells)
-drains_next old new l Idle runs s ne =
-    let o = s.1.0 in
-    record { before = o; after' = o; there = s.1.1; gives = s.1.2; is = ap (λ (v : NodeView). v.outboxes) s.2 ∙ sym (set_same old.outboxes l o s.1.1) }
-drains_next old new l NoLink runs s ne = (s.1, ap (λ (v : NodeView). v.outboxes) s.2)
-drains_next old new l NoMemory runs s ne = absurd (ne refl)
-drains_next old new l Failed runs s ne = absurd (true_isnt (sym s.0 ∙ runs))
-drains_next old new l JournalFull runs s ne = absurd s.1
-drains_next old new l Accepted runs s ne = absurd s.1
-drains_next old new l Moved runs s ne = absurd s.1
-drains_next old new l reply runs s ne = absurd s.1
+module _ {D : Type 0} (says : Says D) where
+  drains_next : (old new : NodeView D) (l : ℕ) (reply : Reply) → old.failed ≡ false → Step says old (Drain l) reply new → reply ≢ NoMemory → IsDrained old.outboxes l reply new.outboxes
+  drains_next old new l (Sent bytes) runs s ne = (s.1.message, s.1.gives, s.1.spells)
+  drains_next old new l Idle runs s ne =
+      let o = s.1.0 in
+      record { before = o; after' = o; there = s.1.1; gives = s.1.2; is = ap (λ (v : NodeView D). v.outboxes) s.2 ∙ sym (set_same old.outboxes l o s.1.1) }
+  drains_next old new l NoLink runs s ne = (s.1, ap (λ (v : NodeView D). v.outboxes) s.2)
+  drains_next old new l NoMemory runs s ne = absurd (ne refl)
+  drains_next old new l Failed runs s ne = absurd (true_isnt (sym s.0 ∙ runs))
+  drains_next old new l JournalFull runs s ne = absurd s.1
+  drains_next old new l Accepted runs s ne = absurd s.1
+  drains_next old new l Moved runs s ne = absurd s.1
+  drains_next old new l reply runs s ne = absurd s.1
 
-pub drains_give_next : DrainsGiveNext
-drains_give_next = λ old new l reply runs s ne. drains_next old new l reply runs s ne
+  pub drains_give_next : DrainsGiveNext says
+  drains_give_next = λ old new l reply runs s ne. drains_next old new l reply runs s ne
 
 -- ---- what the code's branches give
 

@@ -1,6 +1,7 @@
 -- Lengths of queues, and lives.
 use Rattle.std.proofs.Common.{◌≡◌, ℕ, ◌+◌, List, [], ◌∷◌, refl, sym, ◌∙◌, ap, subst, arith, length, length-append, length-drop, zero, suc}
 use Rattle.std.specs.Prelude.{Some, map, slice_get, fold, ◌-◌}
+use Rattle.scp_driver.specs.Driver.{Says}
 use Rattle.scp_types.specs.declared.names.NodeId.{NodeId}
 use Rattle.scp_wire.specs.declared.link.LinkItem.{LinkItem}
 use Rattle.scp_wire.specs.declared.link.LinkItem.TheVariants.{Opened, Bytes, Closed}
@@ -20,18 +21,19 @@ lives_from t (Opened conn ∷ xs) = let rest = lives_from (goes t (Opened conn))
 lives_from t (Bytes conn bytes ∷ xs) = let rest = lives_from t xs in omega (arith, rest)
 lives_from t (Closed conn ∷ xs) = let rest = lives_from (goes t (Closed conn)) xs in omega (arith, rest)
 
--- the link of a node that runs
-at_link : (p : Past) (v : NodeView) (f : Flows p v) (l : ℕ) (k : LinkView) → slice_get v.links l ≡ Some k → (peer : NodeId) × LinkFlows v.config.me peer v.config.capacities.link (p.links l) k
-at_link p v f l k there =
-    let peer = there_is v.config.peers l (rw (← f.count) (within v.links l k there)) in
-    (peer.0, f.links l k there peer.0 peer.1)
+module _ {D : Type 0} (says : Says D) where
+  -- the link of a node that runs
+  at_link : (p : Past) (v : NodeView D) (f : Flows says p v) (l : ℕ) (k : LinkView) → slice_get v.links l ≡ Some k → (peer : NodeId) × LinkFlows v.config.me peer v.config.capacities.link (p.links l) k
+  at_link p v f l k there =
+      let peer = there_is v.config.peers l (rw (← f.count) (within v.links l k there)) in
+      (peer.0, f.links l k there peer.0 peer.1)
 
-lives_of_link : (p : Past) (v : NodeView) (f : Flows p v) (l : ℕ) (k : LinkView) → slice_get v.links l ≡ Some k → k.life ≡ opens_in (p.links l).items
-lives_of_link p v f l k there =
-    let flows = (at_link p v f l k there).1 in
-    let tail : (tail_of (p.links l)).life ≡ k.life = ap (λ (t : Tail). t.life) flows.tail in
-    let opens = lives_from never_open (p.links l).items in
-    omega (arith, tail, opens)
+  lives_of_link : (p : Past) (v : NodeView D) (f : Flows says p v) (l : ℕ) (k : LinkView) → slice_get v.links l ≡ Some k → k.life ≡ opens_in (p.links l).items
+  lives_of_link p v f l k there =
+      let flows = (at_link p v f l k there).1 in
+      let tail : (tail_of (p.links l)).life ≡ k.life = ap (λ (t : Tail). t.life) flows.tail in
+      let opens = lives_from never_open (p.links l).items in
+      omega (arith, tail, opens)
 
 -- a link of the same life stands there
 same_place : (xs ys : List LinkView) (l : ℕ) (k : LinkView) → map life_of xs ≡ map life_of ys → slice_get xs l ≡ Some k → (k2 : LinkView) × (slice_get ys l ≡ Some k2) × (k.life ≡ k2.life)
@@ -49,49 +51,50 @@ same_place (x ∷ xs) (y ∷ ys) (suc l) k e there = same_place xs ys l k (rest 
     rest : (a b : ℕ) (ms ns : List ℕ) → a ∷ ms ≡ b ∷ ns → ms ≡ ns
     rest a b ms ns e = cc
 
-link_room : (p : Past) (v : NodeView) (f : Flows p v) (l : ℕ) (k : LinkView) → slice_get v.links l ≡ Some k → LinkHasRoom v p l k
-link_room p v f l k there =
-    let flows = (at_link p v f l k there).1 in
-    let held : length k.queue ≡ length (p.links l).items - (p.links l).taken = ap length flows.queue ∙ length-drop (p.links l).taken (p.links l).items in
-    let some_fit = flows.within in
-    record {
-      room = flows.room_is;
-      held = omega (arith, held, some_fit);
-      left = ap room_of there ∙ ap (λ n. n - length k.queue) flows.room_is;
-    }
+module _ {D : Type 0} (says : Says D) where
+  link_room : (p : Past) (v : NodeView D) (f : Flows says p v) (l : ℕ) (k : LinkView) → slice_get v.links l ≡ Some k → LinkHasRoom v p l k
+  link_room p v f l k there =
+      let flows = (at_link says p v f l k there).1 in
+      let held : length k.queue ≡ length (p.links l).items - (p.links l).taken = ap length flows.queue ∙ length-drop (p.links l).taken (p.links l).items in
+      let some_fit = flows.within in
+      record {
+        room = flows.room_is;
+        held = omega (arith, held, some_fit);
+        left = ap room_of there ∙ ap (λ n. n - length k.queue) flows.room_is;
+      }
 
-running : (p : Past) (v : NodeView) → Flows p v → RunningHasRoom v p
-running p v f = record {
-  links = λ l k there. link_room p v f l k there;
-  rooms = f.rooms;
-  ready = f.ready_count;
-  decided = f.decided_count;
-  inbox = omega (arith, ap length f.inbox, length-append f.arrived v.inbox);
-}
+  running : (p : Past) (v : NodeView D) → Flows says p v → RunningHasRoom v p
+  running p v f = record {
+    links = λ l k there. link_room p v f l k there;
+    rooms = f.rooms;
+    ready = f.ready_count;
+    decided = f.decided_count;
+    inbox = omega (arith, ap length f.inbox, length-append f.arrived v.inbox);
+  }
 
-failed_room : (past : List Exchange) (v : NodeView) → Failure past v → FailedHasRoom past v
-failed_room past v f =
-    let h = f.theorem in
-    record {
-      earlier = f.earlier;
-      event = f.event;
-      reply = f.reply;
-      fails = f.reply_fails;
-      later = f.later;
-      past_is = f.is;
-      moment = f.moment;
-      was = running (past_of f.moment.config f.earlier) f.moment (subst (λ (w : NodeView). Flows (past_of f.moment.config f.earlier) w) (sym (h.now f.fails.was)) h.flows);
-      left = f.fails.room;
-    }
+  failed_room : (past : List Exchange) (v : NodeView D) → Failure says past v → FailedHasRoom past v
+  failed_room past v f =
+      let h = f.theorem in
+      record {
+        earlier = f.earlier;
+        event = f.event;
+        reply = f.reply;
+        fails = f.reply_fails;
+        later = f.later;
+        past_is = f.is;
+        moment = f.moment;
+        was = running (past_of f.moment.config f.earlier) f.moment (subst (λ (w : NodeView D). Flows says (past_of f.moment.config f.earlier) w) (sym (h.now f.fails.was)) h.flows);
+        left = f.fails.room;
+      }
 
-rooms : (past : List Exchange) (v : NodeView) → LedgerTheorem past v → HasRoom past v
-rooms past v h =
-    let p = past_of v.config past in
-    record {
-      lives = λ l k there. let other = same_place v.links h.moment.links l k h.keeps.lives there in ap lives_of there ∙ other.2 ∙ lives_of_link p h.moment h.flows l other.0 other.1;
-      running = λ runs. running p v (subst (λ (w : NodeView). Flows p w) (sym (h.now runs)) h.flows);
-      failed = λ failed. failed_room past v (failure_of past v h failed);
-    }
+  rooms : (past : List Exchange) (v : NodeView D) → LedgerTheorem says past v → HasRoom past v
+  rooms past v h =
+      let p = past_of v.config past in
+      record {
+        lives = λ l k there. let other = same_place v.links h.moment.links l k h.keeps.lives there in ap lives_of there ∙ other.2 ∙ lives_of_link says p h.moment h.flows l other.0 other.1;
+        running = λ runs. running p v (subst (λ (w : NodeView D). Flows says p w) (sym (h.now runs)) h.flows);
+        failed = λ failed. failed_room past v (failure_of says past v h failed);
+      }
 
-pub theorem_gives_room : TheoremGivesRoom
-theorem_gives_room = λ past v h. rooms past v h
+  pub theorem_gives_room : TheoremGivesRoom says
+  theorem_gives_room = λ past v h. rooms past v h

@@ -5,6 +5,7 @@ use Rattle.std.proofs.lemmas.List.{get_or_append_left, length-append}
 use Rattle.std.specs.List.{AllByRecursion}
 use Rattle.std.proofs.lemmas.List.Elements.{All-from_recursion, recursion_from_All}
 use Rattle.std.proofs.lemmas.List.Quantifiers.{Any-push}
+use Rattle.scp_driver.specs.Driver.{Says}
 use Rattle.scp_types.specs.declared.fault.Fault.{Fault}
 use Rattle.scp_types.specs.declared.fault.Fault.TheVariants.{NoMemory, JournalFull}
 use Rattle.scp_envelope.specs.declared.statement.Envelope.{Envelope}
@@ -17,44 +18,48 @@ use Rattle.scp_ledger.specs.Ledger.{IsLedger}
 use Rattle.scp_ledger.specs.Takes.{adds_entry}
 use Rattle.scp_core.specs.declared.stage.Given.{Given}
 use Rattle.scp_core.specs.declared.stage.Shown.{Shown}
-use Rattle.scp_ledger.specs.Kv.{KvLedger, KvTakes, KvTells, KvRuns}
+use Rattle.scp_ledger.specs.Seen.{LedgerView}
+use Rattle.scp_ledger.specs.By.{TakesBy, TellsBy, RunsBy}
 use Rattle.scp_core.specs.Node.{HandsOne, HandsEach, said_in}
 use Rattle.scp_core.specs.inside.Stage.{shown, Shows, TakesOut}
-use Rattle.scp_core.proofs.Deciding.{KvGrow, shown_before, runs_on}
+use Rattle.scp_core.proofs.Deciding.{GrowBy, shown_before, runs_on}
 
 true_isnt : true ≡ false → ⊥
 true_isnt e = cc
 
--- while it runs it shows all of its ledger, whatever that is
-pub all_is_shown : (cut : Option Shown) (before now : KvLedger) → (shown cut before).failed ≡ false → shown cut now ≡ now
-all_is_shown None before now runs = refl
-all_is_shown (Some so_much) before now runs = absurd (true_isnt runs)
+module _ {D : Type 0} where
+  -- while it runs it shows all of its ledger, whatever that is
+  pub all_is_shown : (cut : Option Shown) (before now : LedgerView D) → (shown cut before).failed ≡ false → shown cut now ≡ now
+  all_is_shown None before now runs = refl
+  all_is_shown (Some so_much) before now runs = absurd (true_isnt runs)
 
--- a refusal of the ledger leaves what is shown
-pub refused_shows : (cut : Option Shown) (before now : KvLedger) → (shown cut before).failed ≡ false → Shows before now → Shows (shown cut before) (shown cut now)
-refused_shows None before now runs h = h
-refused_shows (Some so_much) before now runs h = absurd (true_isnt runs)
+  -- a refusal of the ledger leaves what is shown
+  pub refused_shows : (cut : Option Shown) (before now : LedgerView D) → (shown cut before).failed ≡ false → Shows before now → Shows (shown cut before) (shown cut now)
+  refused_shows None before now runs h = h
+  refused_shows (Some so_much) before now runs h = absurd (true_isnt runs)
 
--- where a copy is refused, the ledger is shown as before
-pub cut_shows : KvGrow → (cut : Option Shown) (before : KvLedger) (x : Ready) (t : Took) (now : KvLedger) (journal decisions : ℕ) → (shown cut before).failed ≡ false → journal ≡ length before.journal → decisions ≡ length before.decisions → KvTakes before x t now → Any IsToAll t.outgoing → Shows (shown cut before) (shown (Some (record { journal = journal; decisions = decisions })) now)
-cut_shows grown cut before x t now journal decisions runs j d takes out =
-    subst (λ (v : KvLedger). Shows v (shown (Some (record { journal = journal; decisions = decisions })) now)) (sym (all_is_shown cut before before runs))
-    (subst (λ n. Shows before (shown (Some (record { journal = n; decisions = decisions })) now)) (sym j)
-    (subst (λ n. Shows before (shown (Some (record { journal = length before.journal; decisions = n })) now)) (sym d) (shown_before grown before x t now takes out)))
+module _ {D : Type 0} (says : Says D) where
+  -- where a copy is refused, the ledger is shown as before
+  pub cut_shows : GrowBy says → (cut : Option Shown) (before : LedgerView D) (x : Ready) (t : Took) (now : LedgerView D) (journal decisions : ℕ) → (shown cut before).failed ≡ false → journal ≡ length before.journal → decisions ≡ length before.decisions → TakesBy says before x t now → Any IsToAll t.outgoing → Shows (shown cut before) (shown (Some (record { journal = journal; decisions = decisions })) now)
+  cut_shows grown cut before x t now journal decisions runs j d takes out =
+      subst (λ (v : LedgerView D). Shows v (shown (Some (record { journal = journal; decisions = decisions })) now)) (sym (all_is_shown cut before before runs))
+      (subst (λ n. Shows before (shown (Some (record { journal = n; decisions = decisions })) now)) (sym j)
+      (subst (λ n. Shows before (shown (Some (record { journal = length before.journal; decisions = n })) now)) (sym d) (shown_before says grown before x t now takes out)))
 
 -- what goes on of what was taken, and what was said
 abbrev pub given_by : Took → List Envelope → Given
 given_by t said = record { onward = t.onward; command = t.command; said = said }
 
--- what is taken is taken of all that is shown
-pub takes_out : KvGrow → (cut : Option Shown) (before : KvLedger) (boxes : List OutboxView) (x : Ready) (t : Took) (now : KvLedger) (boxes2 : List OutboxView) (said : List Envelope) → said_in t.outgoing ≡ said → (shown cut before).failed ≡ false → KvTakes before x t now → KvTells before x t → IsLedger now → (now.failed ≡ false → KvRuns now) → HandsEach boxes t.outgoing boxes2 → TakesOut (shown cut before) boxes x (given_by t said) (shown cut now) boxes2
-takes_out grown cut before boxes x t now boxes2 said are runs takes tells known running hands =
-    let was : shown cut before ≡ before = all_is_shown cut before before runs in
-    let is : shown cut now ≡ now = all_is_shown cut before now runs in
-    let failed : before.failed ≡ false = ap (λ (v : KvLedger). v.failed) (sym was) ∙ runs in
-    subst (λ (v : KvLedger). TakesOut v boxes x (given_by t said) (shown cut now) boxes2) (sym was)
-    (subst (λ (v : KvLedger). TakesOut before boxes x (given_by t said) v boxes2) (sym is)
-    (record { took = t; takes = takes; tells = tells; onward_is = refl; command_is = refl; said_is = are; known = known; running = running (runs_on grown before x t now failed takes); hands = hands }))
+module _ {D : Type 0} (says : Says D) where
+  -- what is taken is taken of all that is shown
+  pub takes_out : GrowBy says → (cut : Option Shown) (before : LedgerView D) (boxes : List OutboxView) (x : Ready) (t : Took) (now : LedgerView D) (boxes2 : List OutboxView) (said : List Envelope) → said_in t.outgoing ≡ said → (shown cut before).failed ≡ false → TakesBy says before x t now → TellsBy says before x t → IsLedger now → (now.failed ≡ false → RunsBy says now) → HandsEach boxes t.outgoing boxes2 → TakesOut says (shown cut before) boxes x (given_by t said) (shown cut now) boxes2
+  takes_out grown cut before boxes x t now boxes2 said are runs takes tells known running hands =
+      let was : shown cut before ≡ before = all_is_shown cut before before runs in
+      let is : shown cut now ≡ now = all_is_shown cut before now runs in
+      let failed : before.failed ≡ false = ap (λ (v : LedgerView D). v.failed) (sym was) ∙ runs in
+      subst (λ (v : LedgerView D). TakesOut says v boxes x (given_by t said) (shown cut now) boxes2) (sym was)
+      (subst (λ (v : LedgerView D). TakesOut says before boxes x (given_by t said) v boxes2) (sym is)
+      (record { took = t; takes = takes; tells = tells; onward_is = refl; command_is = refl; said_is = are; known = known; running = running (runs_on says grown before x t now failed takes); hands = hands }))
 
 abbrev taken_as : Took → Result Took Fault
 taken_as t = Ok t
@@ -65,13 +70,14 @@ given_as o = Ok o
 abbrev no_memory : Result Given Fault
 no_memory = Err NoMemory
 
--- the same of when a journal is full
-abbrev IsFull : KvLedger → Ready → Type 0
-IsFull v x = (adds_entry x ≡ true) × (length v.journal ≡ 1000000)
+module _ {D : Type 0} where
+  -- the same of when a journal is full
+  abbrev IsFull : LedgerView D → Ready → Type 0
+  IsFull v x = (adds_entry x ≡ true) × (length v.journal ≡ 1000000)
 
-full_where : (A : Type 0) (cut : Option Shown) (before : KvLedger) (x : Ready) → (shown cut before).failed ≡ false → (A ↔ ((before.failed ≡ false) × (adds_entry x ≡ true) × (length before.journal ≡ 1000000))) → A ↔ IsFull (shown cut before) x
-full_where A None before x runs f = (λ a. ((f.0 a).1, (f.0 a).2), λ is. f.1 (runs, is.0, is.1))
-full_where A (Some so_much) before x runs f = absurd (true_isnt runs)
+  full_where : (A : Type 0) (cut : Option Shown) (before : LedgerView D) (x : Ready) → (shown cut before).failed ≡ false → (A ↔ ((before.failed ≡ false) × (adds_entry x ≡ true) × (length before.journal ≡ 1000000))) → A ↔ IsFull (shown cut before) x
+  full_where A None before x runs f = (λ a. ((f.0 a).1, (f.0 a).2), λ is. f.1 (runs, is.0, is.1))
+  full_where A (Some so_much) before x runs f = absurd (true_isnt runs)
 
 abbrev refused_as : (X : Type 0) → Fault → Result X Fault
 refused_as X f = Err f
@@ -79,14 +85,15 @@ refused_as X f = Err f
 same_fault : (X : Type 0) (f g : Fault) → refused_as X f ≡ refused_as X g → f ≡ g
 same_fault X f g e = cc
 
--- a refusal of the ledger is one of the stage
-pub full_as : (X Y : Type 0) (f : Fault) (cut : Option Shown) (before : KvLedger) (x : Ready) → (shown cut before).failed ≡ false → (IsErrOf (refused_as X f) JournalFull ↔ ((before.failed ≡ false) × (adds_entry x ≡ true) × (length before.journal ≡ 1000000))) → IsErrOf (refused_as Y f) JournalFull ↔ IsFull (shown cut before) x
-full_as X Y f cut before x runs full =
-    let g = full_where (IsErrOf (refused_as X f) JournalFull) cut before x runs full in
-    (λ e. g.0 (ap (refused_as X) (same_fault Y f JournalFull e)), λ is. ap (refused_as Y) (same_fault X f JournalFull (g.1 is)))
+module _ {D : Type 0} where
+  -- a refusal of the ledger is one of the stage
+  pub full_as : (X Y : Type 0) (f : Fault) (cut : Option Shown) (before : LedgerView D) (x : Ready) → (shown cut before).failed ≡ false → (IsErrOf (refused_as X f) JournalFull ↔ ((before.failed ≡ false) × (adds_entry x ≡ true) × (length before.journal ≡ 1000000))) → IsErrOf (refused_as Y f) JournalFull ↔ IsFull (shown cut before) x
+  full_as X Y f cut before x runs full =
+      let g = full_where (IsErrOf (refused_as X f) JournalFull) cut before x runs full in
+      (λ e. g.0 (ap (refused_as X) (same_fault Y f JournalFull e)), λ is. ap (refused_as Y) (same_fault X f JournalFull (g.1 is)))
 
-pub isnt_full : (A B : Type 0) (cut : Option Shown) (before : KvLedger) (x : Ready) → (shown cut before).failed ≡ false → (A → ⊥) → (B → ⊥) → (A ↔ ((before.failed ≡ false) × (adds_entry x ≡ true) × (length before.journal ≡ 1000000))) → B ↔ IsFull (shown cut before) x
-isnt_full A B cut before x runs not_a not_b f = let g = full_where A cut before x runs f in (λ b. absurd (not_b b), λ is. absurd (not_a (g.1 is)))
+  pub isnt_full : (A B : Type 0) (cut : Option Shown) (before : LedgerView D) (x : Ready) → (shown cut before).failed ≡ false → (A → ⊥) → (B → ⊥) → (A ↔ ((before.failed ≡ false) × (adds_entry x ≡ true) × (length before.journal ≡ 1000000))) → B ↔ IsFull (shown cut before) x
+  isnt_full A B cut before x runs not_a not_b f = let g = full_where A cut before x runs f in (λ b. absurd (not_b b), λ is. absurd (not_a (g.1 is)))
 
 pub taken_isnt : (t : Took) → IsErrOf (taken_as t) JournalFull → ⊥
 taken_isnt t e = cc

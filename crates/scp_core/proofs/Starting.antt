@@ -1,6 +1,7 @@
 -- A node that has heard nothing.
 use Rattle.std.proofs.Common.{◌≡◌, ℕ, Bool, true, false, List, [], ◌∷◌, ◌++◌, refl, sym, ◌∙◌, ap, subst, arith, length, zero, suc}
 use Rattle.std.specs.Prelude.{Result, Ok, Err, IfOk, Some, slice_get, replicate, not, ◌&&◌, ◌||◌}
+use Rattle.scp_driver.specs.Driver.{Says}
 use Rattle.scp_types.specs.declared.names.NodeId.{NodeId}
 use Rattle.scp_wire.specs.Connections.{same_node}
 use Rattle.scp_theorem.specs.Fates.{is_among}
@@ -12,7 +13,7 @@ use Rattle.scp_pending.specs.Peers.{AreApart}
 use Rattle.scp_pending.specs.Rules.{Settled}
 use Rattle.scp_core.specs.Theorem.{made, LedgerTheorem}
 use Rattle.scp_core.specs.inside.Starting.{IsNew}
-use Rattle.scp_core.proofs.Deciding.{KvPass, journals_begin}
+use Rattle.scp_core.proofs.Deciding.{PassBy, journals_begin}
 use Rattle.scp_core.proofs.Steps.{same_node-refl}
 
 pub replicate-push : {X : Type 0} (n : ℕ) (x : X) → replicate n x ++ x ∷ [] ≡ replicate (suc n) x
@@ -68,54 +69,55 @@ apart : (peers : List NodeId) → are_apart peers ≡ true → AreApart peers
 apart [] e = λ l m peer a b. absurd cc
 apart (p ∷ ps) e = λ l m peer a b. by_places p ps e (apart ps (last_and (not (is_among p ps)) (are_apart ps) e)) l m peer a b
 
-starts : KvPass → (v : NodeView) → IsNew v → Flows nothing_heard v
-starts law v n = record {
-  runs = n.runs;
-  rooms = (n.inbox.1, n.ready.1, n.decided.1);
-  count = ap length n.links ∙ length-replicate' (length v.config.peers) (new_link v.config.capacities.link);
-  apart = apart v.config.peers n.fit.apart;
-  links = λ l k there peer at. subst (λ (w : LinkView). LinkFlows v.config.me peer v.config.capacities.link unused w) (sym (in_replicate (length v.config.peers) (new_link v.config.capacities.link) l k (rw (← n.links) there))) (new-flows v.config.me peer v.config.capacities.link);
-  came = λ l peer at. refl;
-  local = ap (λ (s : Settled). s.store.local) n.settled;
-  arrived = [];
-  inbox = sym n.inbox.0;
-  given = [];
-  pending = n.pending;
-  took = [];
-  ready = rw (n.ready.0, n.hands.0) refl;
-  onwards = [];
-  journal = journals_begin law v.config.me v.config.set v.config.peers v.ledger n.ledger n.known n.deciding;
-  applied = [];
-  decided = rw (n.decided.0, n.hands.1) refl;
-  applier = n.applier;
-  ready_count = omega (arith, ap length n.ready.0);
-  decided_count = omega (arith, ap length n.decided.0);
-}
+module _ {D : Type 0} (says : Says D) where
+  starts : PassBy says → (v : NodeView D) → IsNew says v → Flows says nothing_heard v
+  starts law v n = record {
+    runs = n.runs;
+    rooms = (n.inbox.1, n.ready.1, n.decided.1);
+    count = ap length n.links ∙ length-replicate' (length v.config.peers) (new_link v.config.capacities.link);
+    apart = apart v.config.peers n.fit.apart;
+    links = λ l k there peer at. subst (λ (w : LinkView). LinkFlows v.config.me peer v.config.capacities.link unused w) (sym (in_replicate (length v.config.peers) (new_link v.config.capacities.link) l k (rw (← n.links) there))) (new-flows v.config.me peer v.config.capacities.link);
+    came = λ l peer at. refl;
+    local = ap (λ (s : Settled). s.store.local) n.settled;
+    arrived = [];
+    inbox = sym n.inbox.0;
+    given = [];
+    pending = n.pending;
+    took = [];
+    ready = rw (n.ready.0, n.hands.0) refl;
+    onwards = [];
+    journal = journals_begin says law v.config.me v.config.set v.config.peers v.ledger n.ledger n.known n.deciding;
+    applied = [];
+    decided = rw (n.decided.0, n.hands.1) refl;
+    applier = n.applier;
+    ready_count = omega (arith, ap length n.ready.0);
+    decided_count = omega (arith, ap length n.decided.0);
+  }
 
--- such a node is the one that is made
-made_is : (v : NodeView) → IsNew v → v ≡ made v.config
-made_is v n = λ i. record {
-  config = v.config;
-  failed = n.runs i;
-  links = n.links i;
-  inbox = n.inbox.0 i;
-  inbox_room = n.inbox.1 i;
-  pending = record { failed = n.pending.runs i; settled = n.settled i; leaving = n.leaving i };
-  pend_hand = n.hands.0 i;
-  ready = n.ready.0 i;
-  ready_room = n.ready.1 i;
-  ledger = n.ledger i;
-  slot_hand = n.hands.1 i;
-  last_command = n.told i;
-  last_said = n.said i;
-  decided = n.decided.0 i;
-  decided_room = n.decided.1 i;
-  applier = n.applier_is i;
-  outboxes = n.outboxes i;
-}
+  -- such a node is the one that is made
+  made_is : (v : NodeView D) → IsNew says v → v ≡ made v.ledger.driver v.config
+  made_is v n = λ i. record {
+    config = v.config;
+    failed = n.runs i;
+    links = n.links i;
+    inbox = n.inbox.0 i;
+    inbox_room = n.inbox.1 i;
+    pending = record { failed = n.pending.runs i; settled = n.settled i; leaving = n.leaving i };
+    pend_hand = n.hands.0 i;
+    ready = n.ready.0 i;
+    ready_room = n.ready.1 i;
+    ledger = n.ledger i;
+    slot_hand = n.hands.1 i;
+    last_command = n.told i;
+    last_said = n.said i;
+    decided = n.decided.0 i;
+    decided_room = n.decided.1 i;
+    applier = n.applier_is i;
+    outboxes = n.outboxes i;
+  }
 
-pub new_holds : KvPass → (v : NodeView) → IsNew v → LedgerTheorem [] v
-new_holds law v n = record { replies = made_is v n; failed = n.runs; moment = v; flows = starts law v n; now = λ _. refl; keeps = record { config = refl; journal = refl; decisions = refl; asked = refl; command = refl; said = refl; applied = refl; lives = refl } }
+  pub new_holds : PassBy says → (v : NodeView D) → IsNew says v → LedgerTheorem says [] v
+  new_holds law v n = record { driver = v.ledger.driver; replies = made_is v n; failed = n.runs; moment = v; flows = starts law v n; now = λ _. refl; keeps = record { config = refl; journal = refl; decisions = refl; asked = refl; command = refl; said = refl; applied = refl; lives = refl } }
 
 pub if_ok : {X Y : Type 0} (P Q : X → Type 0) (r : Result X Y) → ((x : X) → P x → Q x) → IfOk r P → IfOk r Q
 if_ok P Q (Ok x) f h = f x h

@@ -1,5 +1,6 @@
 -- What each step hands out for the links, and what a drain gives.
 use Rattle.std.specs.Prelude.{ℕ, ◌≡◌, ◌≢◌, ◌⊎◌, false, List, [], Some, None, IfSome, slice_get}
+use Rattle.scp_driver.specs.Driver.{Says}
 use Rattle.scp_types.specs.declared.names.NodeId.{NodeId}
 use Rattle.scp_wire.specs.declared.link.Inbound.{Inbound}
 use Rattle.scp_wire.specs.declared.message.Message.{Message}
@@ -20,28 +21,32 @@ use Rattle.scp_core.specs.Node.{NodeView, Step, HandsEach, PendBrings, PendTakes
 
 -- ---- what a step hands out
 
--- the pending stage hands out its reply to the item that it takes, and nothing where it brings what is ready
-abbrev pub PendHands : NodeView → List Outgoing → NodeView → Type 0
-PendHands old handed new = (PendBrings old new × (handed ≡ [])) ⊎ ((takes : PendTakes old new) × (handed ≡ out_of (reply_to old.pending.settled takes.x)))
+module _ {D : Type 0} where
+  -- the pending stage hands out its reply to the item that it takes, and nothing where it brings what is ready
+  abbrev pub PendHands : NodeView D → List Outgoing → NodeView D → Type 0
+  PendHands old handed new = (PendBrings old new × (handed ≡ [])) ⊎ ((takes : PendTakes old new) × (handed ≡ out_of (reply_to old.pending.settled takes.x)))
 
--- the slot stage hands out what its ledger gives
-abbrev pub SlotHands : NodeView → List Outgoing → NodeView → Type 0
-SlotHands old handed new = (takes : SlotTakes old new) × (handed ≡ takes.took.outgoing)
+module _ {D : Type 0} (says : Says D) where
+  -- the slot stage hands out what its ledger gives
+  abbrev pub SlotHands : NodeView D → List Outgoing → NodeView D → Type 0
+  SlotHands old handed new = (takes : SlotTakes says old new) × (handed ≡ takes.took.outgoing)
 
--- the applier hands out its answer
-abbrev pub ApplyHands : NodeView → List Outgoing → NodeView → Type 0
-ApplyHands old handed new = (takes : ApplyTakes old new) × (handed ≡ out_of takes.answer)
+module _ {D : Type 0} where
+  -- the applier hands out its answer
+  abbrev pub ApplyHands : NodeView D → List Outgoing → NodeView D → Type 0
+  ApplyHands old handed new = (takes : ApplyTakes old new) × (handed ≡ out_of takes.answer)
 
--- what the stage of a step that moves something hands out, in order
-abbrev pub HandedAt : NodeView → Event → List Outgoing → NodeView → Type 0
-HandedAt old PendTake handed new = PendHands old handed new
-HandedAt old SlotTake handed new = SlotHands old handed new
-HandedAt old ApplyTake handed new = ApplyHands old handed new
-HandedAt old event handed new = handed ≡ []
+module _ {D : Type 0} (says : Says D) where
+  -- what the stage of a step that moves something hands out, in order
+  abbrev pub HandedAt : NodeView D → Event → List Outgoing → NodeView D → Type 0
+  HandedAt old PendTake handed new = PendHands old handed new
+  HandedAt old SlotTake handed new = SlotHands says old handed new
+  HandedAt old ApplyTake handed new = ApplyHands old handed new
+  HandedAt old event handed new = handed ≡ []
 
--- each step puts all that its stage hands out into the outboxes of its links, in order
-abbrev pub StepsPutAll : Type 0
-StepsPutAll = (old new : NodeView) (event : Event) → Step old event Moved new → (handed : List Outgoing) × HandedAt old event handed new × HandsEach old.outboxes handed new.outboxes
+  -- each step puts all that its stage hands out into the outboxes of its links, in order
+  abbrev pub StepsPutAll : Type 0
+  StepsPutAll = (old new : NodeView D) (event : Event) → Step says old event Moved new → (handed : List Outgoing) × HandedAt old event handed new × HandsEach old.outboxes handed new.outboxes
 
 -- ---- what a drain gives
 
@@ -52,9 +57,10 @@ IsDrained old link Idle new = GivesThere old link None new
 IsDrained old link NoLink new = (slice_get old link ≡ None) × (new ≡ old)
 IsDrained old link reply new = ⊥
 
--- a drain of a node that runs answers so, or lacks memory
-abbrev pub DrainsGiveNext : Type 0
-DrainsGiveNext = (old new : NodeView) (link : ℕ) (reply : Reply) → old.failed ≡ false → Step old (Drain link) reply new → reply ≢ NoMemory → IsDrained old.outboxes link reply new.outboxes
+module _ {D : Type 0} (says : Says D) where
+  -- a drain of a node that runs answers so, or lacks memory
+  abbrev pub DrainsGiveNext : Type 0
+  DrainsGiveNext = (old new : NodeView D) (link : ℕ) (reply : Reply) → old.failed ≡ false → Step says old (Drain link) reply new → reply ≢ NoMemory → IsDrained old.outboxes link reply new.outboxes
 
 -- ---- why nothing is left out
 

@@ -1,32 +1,35 @@
 -- The headline of a node: of one that runs, and of one that failed.
 use Rattle.std.specs.Prelude.{◌≡◌, true, List, [], ◌++◌, ◌⊎◌}
+use Rattle.scp_driver.specs.Driver.{Says}
 use Rattle.scp_headline.specs.Books.{books_of}
 use Rattle.scp_headline.specs.Headline.{Books, Headline}
 use Rattle.scp_core.specs.History.{Exchange}
 use Rattle.scp_core.specs.Ledger.{account_of, HoldsLedger}
 use Rattle.scp_core.specs.Node.{NodeView}
 
--- the node's books, by the exchanges: what its events sent over its links, what it holds, and what it shows
-abbrev pub books_at : List Exchange → NodeView → Books
-books_at past v = books_of (account_of past v [])
+module _ {D : Type 0} where
+  -- the node's books, by the exchanges: what its events sent over its links, what it holds, and what it shows
+  abbrev pub books_at : List Exchange → NodeView D → Books
+  books_at past v = books_of (account_of past v [])
 
--- the node failed since, and still shows the journal, the decisions and the applied list that it showed then
-pub record ShowsStill (moment v : NodeView) : Type 0 where
-  pub failed : v.failed ≡ true
-  pub journal : v.ledger.journal ≡ moment.ledger.journal
-  pub decisions : v.ledger.decisions ≡ moment.ledger.decisions
-  pub applied : v.applier.applied ≡ moment.applier.applied
+  -- the node failed since, and still shows the journal, the decisions and the applied list that it showed then
+  pub record ShowsStill (moment v : NodeView D) : Type 0 where
+    pub failed : v.failed ≡ true
+    pub journal : v.ledger.journal ≡ moment.ledger.journal
+    pub decisions : v.ledger.decisions ≡ moment.ledger.decisions
+    pub applied : v.applier.applied ≡ moment.applier.applied
 
--- The headline holds of the node's books after all exchanges; or, where the node failed, of its books at some moment, by a beginning of the
--- exchanges. Only `HoldsLedger` says that it is the one before the step that failed it.
-pub record HoldsHeadline (past : List Exchange) (v : NodeView) : Type 0 where
-  pub earlier : List Exchange
-  pub later : List Exchange
-  pub past_is : past ≡ earlier ++ later
-  pub moment : NodeView
-  pub is : ((later ≡ []) × (v ≡ moment)) ⊎ ShowsStill moment v
-  pub headline : Headline (books_at earlier moment)
+  -- The headline holds of the node's books after all exchanges; or, where the node failed, of its books at some moment, by a beginning of the
+  -- exchanges. Only `HoldsLedger` says that it is the one before the step that failed it.
+  pub record HoldsHeadline (past : List Exchange) (v : NodeView D) : Type 0 where
+    pub earlier : List Exchange
+    pub later : List Exchange
+    pub past_is : past ≡ earlier ++ later
+    pub moment : NodeView D
+    pub is : ((later ≡ []) × (v ≡ moment)) ⊎ ShowsStill moment v
+    pub headline : Headline (books_at earlier moment)
 
--- a node that holds its ledger holds its headline
-abbrev pub LedgerGivesHeadline : Type 0
-LedgerGivesHeadline = (past : List Exchange) (v : NodeView) → HoldsLedger past v → HoldsHeadline past v
+module _ {D : Type 0} (says : Says D) where
+  -- a node that holds its ledger holds its headline
+  abbrev pub LedgerGivesHeadline : Type 0
+  LedgerGivesHeadline = (past : List Exchange) (v : NodeView D) → HoldsLedger says past v → HoldsHeadline past v

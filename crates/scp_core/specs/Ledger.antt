@@ -1,8 +1,7 @@
 -- The ledger theorem of a node in one record: of a node that runs, and of one that failed.
 use Rattle.std.specs.Prelude.{ℕ, ◌≡◌, true, false, List, [], ◌∷◌, ◌++◌, ◌⊎◌, Option, Some, None, slice_get, option_to_list}
 use Rattle.std.specs.List.{AllByRecursion}
-use Rattle.scp_driver.specs.Kv.{kv_level, greatest, leader_place}
-use Rattle.scp_driver.specs.declared.kv_driver.KvDriver.{KvDriver}
+use Rattle.scp_driver.specs.Driver.{Says}
 use Rattle.scp_wire.specs.declared.link.Inbound.{Inbound}
 use Rattle.scp_wire.specs.LinkReading.{readings}
 use Rattle.scp_theorem.specs.Account.{Account}
@@ -23,22 +22,23 @@ abbrev pub upcoming_of : Option LinkView → List Inbound
 upcoming_of None = []
 upcoming_of (Some k) = k.hand ++ readings k.reader k.queue
 
--- what was sent to the node, where it is, and what the node's stages made of it
-abbrev pub account_of : List Exchange → NodeView → List Inbound → Account KvDriver
-account_of past v came = record {
-  me = v.config.me;
-  set = v.config.set;
-  peers = v.config.peers;
-  sent = λ l. ((past_of v.config past).links l).items;
-  upcoming = λ l. upcoming_of (slice_get v.links l);
-  inbox = v.inbox;
-  came = came;
-  pending = v.pending;
-  on_way = v.ready ++ option_to_list v.pend_hand;
-  ledger = v.ledger;
-  onward = v.decided ++ option_to_list v.slot_hand;
-  applier = v.applier;
-}
+module _ {D : Type 0} where
+  -- what was sent to the node, where it is, and what the node's stages made of it
+  abbrev pub account_of : List Exchange → NodeView D → List Inbound → Account D
+  account_of past v came = record {
+    me = v.config.me;
+    set = v.config.set;
+    peers = v.config.peers;
+    sent = λ l. ((past_of v.config past).links l).items;
+    upcoming = λ l. upcoming_of (slice_get v.links l);
+    inbox = v.inbox;
+    came = came;
+    pending = v.pending;
+    on_way = v.ready ++ option_to_list v.pend_hand;
+    ledger = v.ledger;
+    onward = v.decided ++ option_to_list v.slot_hand;
+    applier = v.applier;
+  }
 
 -- ---- a node that failed
 
@@ -48,38 +48,40 @@ IsFailure NoMemory = Unit {0}
 IsFailure JournalFull = Unit {0}
 IsFailure reply = ⊥
 
--- it failed at the exchange behind these, by a step from what it was then, has answered Failed ever since, and keeps what it shows
-pub record FailedAfter (past earlier : List Exchange) (v moment : NodeView) : Type 0 where
-  pub failed : v.failed ≡ true
-  pub event : Event
-  pub reply : Reply
-  pub fails : IsFailure reply
-  pub step : Step moment event reply v
-  pub later : List Exchange
-  pub past_is : past ≡ earlier ++ (event, reply) ∷ later
-  pub silent : AllByRecursion (λ x. x.1 ≡ Failed) later
-  pub keeps : Keeps moment v
+module _ {D : Type 0} (says : Says D) where
+  -- it failed at the exchange behind these, by a step from what it was then, has answered Failed ever since, and keeps what it shows
+  pub record FailedAfter (past earlier : List Exchange) (v moment : NodeView D) : Type 0 where
+    pub failed : v.failed ≡ true
+    pub event : Event
+    pub reply : Reply
+    pub fails : IsFailure reply
+    pub step : Step says moment event reply v
+    pub later : List Exchange
+    pub past_is : past ≡ earlier ++ (event, reply) ∷ later
+    pub silent : AllByRecursion (λ x. x.1 ≡ Failed) later
+    pub keeps : Keeps moment v
 
--- ---- the ledger theorem
+  -- ---- the ledger theorem
 
--- The ledger theorem of a node: these exchanges led to a moment, step by step from the node as it is made, and of what was sent to the node by
--- then `KeepsLedger` holds. That moment is the node, or of one that failed what it was before the step that failed it.
-pub record HoldsLedger (past : List Exchange) (v : NodeView) : Type 0 where
-  -- the exchanges and the node, as they are; of a node that failed, as they were before the step that failed it
-  pub earlier : List Exchange
-  pub moment : NodeView
-  pub runs : moment.failed ≡ false
-  pub is : ((v.failed ≡ false) × (earlier ≡ past) × (moment ≡ v)) ⊎ FailedAfter past earlier v moment
-  -- these exchanges led to that, step by step, from the node as it is made
-  pub steps : AreSteps v.config nothing_heard (made v.config) earlier moment
-  -- what came to the pending stage: all that was put into the inbox, but for what waits there
-  pub came : List Inbound
-  pub came_is : (past_of v.config earlier).came ≡ came ++ moment.inbox
-  -- each message has its fate, each fate and each verdict its cause, each decision its ground, and the state is their fold
-  pub keeps : KeepsLedger (λ driver slot value. kv_level value) (λ driver slot value. None) (λ driver slot values. greatest values) (λ driver slot round n. leader_place slot round n) (account_of earlier moment came)
-  -- all that was sent to each peer has its ground
-  pub sent : (link : ℕ) → IsSentOut (grounds_of moment came) link (sent_to link past)
+  -- The ledger theorem of a node: these exchanges led to a moment, step by step from the node as it is made, and of what was sent to the node by
+  -- then `KeepsLedger` holds. That moment is the node, or of one that failed what it was before the step that failed it.
+  pub record HoldsLedger (past : List Exchange) (v : NodeView D) : Type 0 where
+    -- the exchanges and the node, as they are; of a node that failed, as they were before the step that failed it
+    pub earlier : List Exchange
+    pub moment : NodeView D
+    pub runs : moment.failed ≡ false
+    pub is : ((v.failed ≡ false) × (earlier ≡ past) × (moment ≡ v)) ⊎ FailedAfter past earlier v moment
+    -- these exchanges led to that, step by step, from the node as it is made, with its application
+    pub driver : D
+    pub steps : AreSteps says v.config nothing_heard (made driver v.config) earlier moment
+    -- what came to the pending stage: all that was put into the inbox, but for what waits there
+    pub came : List Inbound
+    pub came_is : (past_of v.config earlier).came ≡ came ++ moment.inbox
+    -- each message has its fate, each fate and each verdict its cause, and each decision its ground
+    pub keeps : KeepsLedger says.level says.extracted says.combined says.place (account_of earlier moment came)
+    -- all that was sent to each peer has its ground
+    pub sent : (link : ℕ) → IsSentOut (grounds_of moment came) link (sent_to link past)
 
--- what `LedgerTheorem` holds of, `HoldsLedger` holds of
-abbrev pub TheoremGivesLedger : Type 0
-TheoremGivesLedger = (past : List Exchange) (v : NodeView) → LedgerTheorem past v → HoldsLedger past v
+  -- what `LedgerTheorem` holds of, `HoldsLedger` holds of
+  abbrev pub TheoremGivesLedger : Type 0
+  TheoremGivesLedger = (past : List Exchange) (v : NodeView D) → LedgerTheorem says past v → HoldsLedger past v

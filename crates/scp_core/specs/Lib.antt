@@ -10,4 +10,5 @@ pub mod Ledger
 pub mod Headline
 pub mod Room
 pub mod Handed
+pub mod Kv
 pub mod inside

@@ -1,5 +1,6 @@
 -- Lengths of queues, and how often links were opened, by the replies; of a node that failed too.
 use Rattle.std.specs.Prelude.{ℕ, ◌+◌, ◌-◌, ◌≤◌, ◌≡◌, true, false, List, [], ◌∷◌, ◌++◌, Some, length, slice_get}
+use Rattle.scp_driver.specs.Driver.{Says}
 use Rattle.scp_wire.specs.declared.link.LinkItem.{LinkItem}
 use Rattle.scp_wire.specs.declared.link.LinkItem.TheVariants.{Opened, Bytes, Closed}
 use Rattle.scp_core.specs.declared.event.Event.{Event}
@@ -20,38 +21,40 @@ abbrev pub opens_in : List LinkItem → ℕ
 opens_in [] = 0
 opens_in (x ∷ xs) = opened_by x + opens_in xs
 
--- a link's queue holds what was accepted at its tail less what its reader took, and its room is its capacity less that
-pub record LinkHasRoom (v : NodeView) (p : Past) (l : ℕ) (k : LinkView) : Type 0 where
-  pub room : k.room ≡ v.config.capacities.link
-  pub held : length k.queue + (p.links l).taken ≡ length (p.links l).items
-  pub left : room_at v l ≡ v.config.capacities.link - length k.queue
+module _ {D : Type 0} where
+  -- a link's queue holds what was accepted at its tail less what its reader took, and its room is its capacity less that
+  pub record LinkHasRoom (v : NodeView D) (p : Past) (l : ℕ) (k : LinkView) : Type 0 where
+    pub room : k.room ≡ v.config.capacities.link
+    pub held : length k.queue + (p.links l).taken ≡ length (p.links l).items
+    pub left : room_at v l ≡ v.config.capacities.link - length k.queue
 
--- of a node that runs
-pub record RunningHasRoom (v : NodeView) (p : Past) : Type 0 where
-  pub links : (l : ℕ) → (k : LinkView) → slice_get v.links l ≡ Some k → LinkHasRoom v p l k
-  pub rooms : (v.inbox_room ≡ v.config.capacities.inbox) × (v.ready_room ≡ v.config.capacities.ready) × (v.decided_room ≡ v.config.capacities.decided)
-  pub ready : p.ready_put ≡ p.ready_taken + length v.ready
-  pub decided : p.decided_put ≡ p.decided_taken + length v.decided
-  pub inbox : length v.inbox ≤ length p.came
+  -- of a node that runs
+  pub record RunningHasRoom (v : NodeView D) (p : Past) : Type 0 where
+    pub links : (l : ℕ) → (k : LinkView) → slice_get v.links l ≡ Some k → LinkHasRoom v p l k
+    pub rooms : (v.inbox_room ≡ v.config.capacities.inbox) × (v.ready_room ≡ v.config.capacities.ready) × (v.decided_room ≡ v.config.capacities.decided)
+    pub ready : p.ready_put ≡ p.ready_taken + length v.ready
+    pub decided : p.decided_put ≡ p.decided_taken + length v.decided
+    pub inbox : length v.inbox ≤ length p.came
 
--- of a node that failed: what it had before the exchange that failed it, and what that left
-pub record FailedHasRoom (past : List Exchange) (v : NodeView) : Type 0 where
-  pub earlier : List Exchange
-  pub event : Event
-  pub reply : Reply
-  pub fails : IsFailure reply
-  pub later : List Exchange
-  pub past_is : past ≡ earlier ++ (event, reply) ∷ later
-  pub moment : NodeView
-  pub was : RunningHasRoom moment (past_of moment.config earlier)
-  pub left : LeavesRoom moment event v
+  -- of a node that failed: what it had before the exchange that failed it, and what that left
+  pub record FailedHasRoom (past : List Exchange) (v : NodeView D) : Type 0 where
+    pub earlier : List Exchange
+    pub event : Event
+    pub reply : Reply
+    pub fails : IsFailure reply
+    pub later : List Exchange
+    pub past_is : past ≡ earlier ++ (event, reply) ∷ later
+    pub moment : NodeView D
+    pub was : RunningHasRoom moment (past_of moment.config earlier)
+    pub left : LeavesRoom moment event v
 
--- the lives of each link are the accepted opens, of a node that failed too
-pub record HasRoom (past : List Exchange) (v : NodeView) : Type 0 where
-  pub lives : (l : ℕ) → (k : LinkView) → slice_get v.links l ≡ Some k → lives_at v l ≡ opens_in ((past_of v.config past).links l).items
-  pub running : v.failed ≡ false → RunningHasRoom v (past_of v.config past)
-  pub failed : v.failed ≡ true → FailedHasRoom past v
+  -- the lives of each link are the accepted opens, of a node that failed too
+  pub record HasRoom (past : List Exchange) (v : NodeView D) : Type 0 where
+    pub lives : (l : ℕ) → (k : LinkView) → slice_get v.links l ≡ Some k → lives_at v l ≡ opens_in ((past_of v.config past).links l).items
+    pub running : v.failed ≡ false → RunningHasRoom v (past_of v.config past)
+    pub failed : v.failed ≡ true → FailedHasRoom past v
 
--- what `LedgerTheorem` holds of, `HasRoom` holds of
-abbrev pub TheoremGivesRoom : Type 0
-TheoremGivesRoom = (past : List Exchange) (v : NodeView) → LedgerTheorem past v → HasRoom past v
+module _ {D : Type 0} (says : Says D) where
+  -- what `LedgerTheorem` holds of, `HasRoom` holds of
+  abbrev pub TheoremGivesRoom : Type 0
+  TheoremGivesRoom = (past : List Exchange) (v : NodeView D) → LedgerTheorem says past v → HasRoom past v

@@ -1,6 +1,7 @@
 -- What is the same where the same events came.
 use Rattle.std.specs.Prelude.{ℕ, ◌≡◌, ◌≢◌, false, List, Option, Some, None, map}
 use Rattle.std.specs.List.{AllByRecursion}
+use Rattle.scp_driver.specs.Driver.{Says}
 use Rattle.scp_types.specs.declared.names.NodeId.{NodeId}
 use Rattle.scp_vote.specs.declared.claim.StatementKind.{StatementKind}
 use Rattle.scp_slot.specs.Slot.{SlotView, slot_view, driver_of}
@@ -57,32 +58,33 @@ pub record ShowSameLedger {D : Type 0} (v w : LedgerView D) : Type 0 where
 
 -- ---- nodes
 
--- Two nodes that run show the same: all that they hold is the same. Of the ledger it is what is seen of it, and the applier's buffer
--- may stand in another order.
-pub record RunAlike (v w : NodeView) : Type 0 where
-  pub links : v.links ≡ w.links
-  pub inbox : (v.inbox ≡ w.inbox) × (v.inbox_room ≡ w.inbox_room)
-  pub pending : v.pending ≡ w.pending
-  pub ready : (v.ready ≡ w.ready) × (v.ready_room ≡ w.ready_room) × (v.pend_hand ≡ w.pend_hand)
-  pub ledger : ShowSameLedger v.ledger w.ledger
-  pub last_command : v.last_command ≡ w.last_command
-  pub last_said : v.last_said ≡ w.last_said
-  pub decided : (v.decided ≡ w.decided) × (v.decided_room ≡ w.decided_room) × (v.slot_hand ≡ w.slot_hand)
-  pub applier : ShowTheSame v.applier w.applier
-  pub outboxes : v.outboxes ≡ w.outboxes
+module _ {D : Type 0} where
+  -- Two nodes that run show the same: all that they hold is the same. Of the ledger it is what is seen of it, and the applier's buffer
+  -- may stand in another order.
+  pub record RunAlike (v w : NodeView D) : Type 0 where
+    pub links : v.links ≡ w.links
+    pub inbox : (v.inbox ≡ w.inbox) × (v.inbox_room ≡ w.inbox_room)
+    pub pending : v.pending ≡ w.pending
+    pub ready : (v.ready ≡ w.ready) × (v.ready_room ≡ w.ready_room) × (v.pend_hand ≡ w.pend_hand)
+    pub ledger : ShowSameLedger v.ledger w.ledger
+    pub last_command : v.last_command ≡ w.last_command
+    pub last_said : v.last_said ≡ w.last_said
+    pub decided : (v.decided ≡ w.decided) × (v.decided_room ≡ w.decided_room) × (v.slot_hand ≡ w.slot_hand)
+    pub applier : ShowTheSame v.applier w.applier
+    pub outboxes : v.outboxes ≡ w.outboxes
 
--- Two nodes show the same: of nodes that failed what they keep, and of nodes that run all.
-pub record ShowSameNode (v w : NodeView) : Type 0 where
-  pub config : v.config ≡ w.config
-  pub failed : v.failed ≡ w.failed
-  pub journal : map said v.ledger.journal ≡ map said w.ledger.journal
-  pub decisions : v.ledger.decisions ≡ w.ledger.decisions
-  pub applied : v.applier.applied ≡ w.applier.applied
-  pub last_command : v.last_command ≡ w.last_command
-  pub last_said : v.last_said ≡ w.last_said
-  pub lives : map life_of v.links ≡ map life_of w.links
-  pub rooms : (link : ℕ) → room_at v link ≡ room_at w link
-  pub running : v.failed ≡ false → RunAlike v w
+  -- Two nodes show the same: of nodes that failed what they keep, and of nodes that run all.
+  pub record ShowSameNode (v w : NodeView D) : Type 0 where
+    pub config : v.config ≡ w.config
+    pub failed : v.failed ≡ w.failed
+    pub journal : map said v.ledger.journal ≡ map said w.ledger.journal
+    pub decisions : v.ledger.decisions ≡ w.ledger.decisions
+    pub applied : v.applier.applied ≡ w.applier.applied
+    pub last_command : v.last_command ≡ w.last_command
+    pub last_said : v.last_said ≡ w.last_said
+    pub lives : map life_of v.links ≡ map life_of w.links
+    pub rooms : (link : ℕ) → room_at v link ≡ room_at w link
+    pub running : v.failed ≡ false → RunAlike v w
 
 -- ---- the law
 
@@ -94,8 +96,9 @@ event_of exchange = exchange.0
 abbrev pub NoneLackedMemory : List Exchange → Type 0
 NoneLackedMemory exchanges = AllByRecursion (λ exchange. exchange.1 ≢ NoMemory) exchanges
 
--- The same events give the same replies, journal, decisions, applied list and state: two lists of exchanges of one configuration,
--- with the same events, where no step lacked memory, are one list, and the nodes that they left show the same.
-abbrev pub SameEventsSameReplies : Type 0
-SameEventsSameReplies =
-    (one other : List Exchange) (v w : NodeView) → LedgerTheorem one v → LedgerTheorem other w → v.config ≡ w.config → map event_of one ≡ map event_of other → NoneLackedMemory one → NoneLackedMemory other → (one ≡ other) × ShowSameNode v w
+module _ {D : Type 0} (says : Says D) where
+  -- The same events give the same replies, journal, decisions, applied list and state: two lists of exchanges of one application and
+  -- configuration, with the same events, where no step lacked memory, are one list, and the nodes that they left show the same.
+  abbrev pub SameEventsSameReplies : Type 0
+  SameEventsSameReplies =
+      (one other : List Exchange) (v w : NodeView D) → (h : LedgerTheorem says one v) → (k : LedgerTheorem says other w) → h.driver ≡ k.driver → v.config ≡ w.config → map event_of one ≡ map event_of other → NoneLackedMemory one → NoneLackedMemory other → (one ≡ other) × ShowSameNode v w

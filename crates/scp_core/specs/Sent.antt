@@ -23,6 +23,7 @@ sent_to link past = flat_map (λ (x : Exchange). sent_by link x.0 x.1) past
 abbrev pub who_of : Config → Who
 who_of c = record { me = c.me; peers = c.peers; set = c.set }
 
--- who the node is, what its pending stage took, and what its slot stage and its applier made of that
-abbrev pub grounds_of : NodeView → List Inbound → Grounds
-grounds_of v taken = record { who = who_of v.config; taken = taken; journal = v.ledger.journal; decisions = v.ledger.decisions; applied = v.applier.applied }
+module _ {D : Type 0} where
+  -- who the node is, what its pending stage took, and what its slot stage and its applier made of that
+  abbrev pub grounds_of : NodeView D → List Inbound → Grounds
+  grounds_of v taken = record { who = who_of v.config; taken = taken; journal = v.ledger.journal; decisions = v.ledger.decisions; applied = v.applier.applied }

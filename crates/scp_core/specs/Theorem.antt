@@ -1,6 +1,6 @@
 -- The ledger theorem: what holds of every list of events, their replies, and the node that they left.
-use Rattle.std.specs.Prelude.{◌≡◌, true, false, List, [], ◌∷◌, ◌++◌, ◌⊎◌, None, Some, length, replicate}
-use Rattle.std.specs.FinMap as map
+use Rattle.std.specs.Prelude.{◌≡◌, true, false, List, [], ◌∷◌, ◌++◌, ◌⊎◌, None, length, replicate}
+use Rattle.scp_driver.specs.Driver.{Says}
 use Rattle.scp_outboxes.specs.Handing.{empty_outbox}
 use Rattle.scp_pending.specs.Rules.{fresh}
 use Rattle.scp_ledger.specs.Runs.{nothing_taken}
@@ -12,55 +12,58 @@ use Rattle.scp_core.specs.History.{Exchange, Past, hears, past_of, nothing_heard
 use Rattle.scp_core.specs.Node.{NodeView, Step, Keeps, new_link}
 use Rattle.scp_core.specs.Flow.{Flows}
 
--- The node of a configuration as it is made: it runs, no link was open, and its stages, queues, hands and outboxes hold nothing.
-abbrev pub made : Config → NodeView
-made c = record {
-  config = c;
-  failed = false;
-  links = replicate (length c.peers) (new_link c.capacities.link);
-  inbox = [];
-  inbox_room = c.capacities.inbox;
-  pending = record { failed = false; settled = fresh c.me c.peers c.set; leaving = [] };
-  pend_hand = None;
-  ready = [];
-  ready_room = c.capacities.ready;
-  ledger = nothing_taken c.me c.set (record {}) c.peers;
-  slot_hand = None;
-  last_command = None;
-  last_said = [];
-  decided = [];
-  decided_room = c.capacities.decided;
-  applier = record { failed = false; applied = []; buffer = []; state = Some map.empty };
-  outboxes = replicate (length c.peers) empty_outbox;
-}
+module _ {D : Type 0} where
+  -- The node of an application and a configuration as it is made: it runs, no link was open, and its stages, queues, hands and outboxes hold nothing.
+  abbrev pub made : D → Config → NodeView D
+  made driver c = record {
+    config = c;
+    failed = false;
+    links = replicate (length c.peers) (new_link c.capacities.link);
+    inbox = [];
+    inbox_room = c.capacities.inbox;
+    pending = record { failed = false; settled = fresh c.me c.peers c.set; leaving = [] };
+    pend_hand = None;
+    ready = [];
+    ready_room = c.capacities.ready;
+    ledger = nothing_taken c.me c.set driver c.peers;
+    slot_hand = None;
+    last_command = None;
+    last_said = [];
+    decided = [];
+    decided_room = c.capacities.decided;
+    applier = record { failed = false; applied = []; buffer = [] };
+    outboxes = replicate (length c.peers) empty_outbox;
+  }
 
--- the exchange was a step from a node of this configuration, which stood so to its past
-pub record WasStep (c : Config) (p : Past) (before : NodeView) (event : Event) (reply : Reply) (after' : NodeView) : Type 0 where
-  pub config : before.config ≡ c
-  pub flows : Flows p before
-  pub step : Step before event reply after'
+module _ {D : Type 0} (says : Says D) where
+  -- the exchange was a step from a node of this configuration, which stood so to its past
+  pub record WasStep (c : Config) (p : Past) (before : NodeView D) (event : Event) (reply : Reply) (after' : NodeView D) : Type 0 where
+    pub config : before.config ≡ c
+    pub flows : Flows says p before
+    pub step : Step says before event reply after'
 
--- once the node failed, every reply is Failed and nothing changes
-abbrev pub IsReply : Config → Past → NodeView → Event → Reply → NodeView → Type 0
-IsReply c p before event reply after' = ((p.failed ≡ true) × (reply ≡ Failed) × (after' ≡ before)) ⊎ ((p.failed ≡ false) × WasStep c p before event reply after')
+  -- once the node failed, every reply is Failed and nothing changes
+  abbrev pub IsReply : Config → Past → NodeView D → Event → Reply → NodeView D → Type 0
+  IsReply c p before event reply after' = ((p.failed ≡ true) × (reply ≡ Failed) × (after' ≡ before)) ⊎ ((p.failed ≡ false) × WasStep c p before event reply after')
 
--- the exchanges were so, each from the node that the one before it left
-abbrev pub AreSteps : Config → Past → NodeView → List Exchange → NodeView → Type 0
-AreSteps c p v [] last = last ≡ v
-AreSteps c p v (x ∷ xs) last = (next : NodeView) × IsReply c p v x.0 x.1 next × AreSteps c (hears c p x.0 x.1) next xs last
+  -- the exchanges were so, each from the node that the one before it left
+  abbrev pub AreSteps : Config → Past → NodeView D → List Exchange → NodeView D → Type 0
+  AreSteps c p v [] last = last ≡ v
+  AreSteps c p v (x ∷ xs) last = (next : NodeView D) × IsReply c p v x.0 x.1 next × AreSteps c (hears c p x.0 x.1) next xs last
 
--- Each exchange was a step by the table of replies, from the node as it is made. The node is as `Flows` says, or keeps what is left of one
--- that was when it failed.
-pub record LedgerTheorem (past : List Exchange) (v : NodeView) : Type 0 where
-  -- every step from the node as it is made
-  pub replies : AreSteps v.config nothing_heard (made v.config) past v
-  pub failed : v.failed ≡ (past_of v.config past).failed
-  -- the node, or what it was when it failed
-  pub moment : NodeView
-  pub flows : Flows (past_of v.config past) moment
-  pub now : v.failed ≡ false → v ≡ moment
-  pub keeps : Keeps moment v
+  -- Each exchange was a step by the table of replies, from the node as it is made. The node is as `Flows` says, or keeps what is left of one
+  -- that was when it failed.
+  pub record LedgerTheorem (past : List Exchange) (v : NodeView D) : Type 0 where
+    -- the application that it was made with, and every step from the node as it is made
+    pub driver : D
+    pub replies : AreSteps v.config nothing_heard (made driver v.config) past v
+    pub failed : v.failed ≡ (past_of v.config past).failed
+    -- the node, or what it was when it failed
+    pub moment : NodeView D
+    pub flows : Flows says (past_of v.config past) moment
+    pub now : v.failed ≡ false → v ≡ moment
+    pub keeps : Keeps moment v
 
--- what holds of a list of exchanges holds of the list with one step more
-abbrev pub StepsKeep : Type 0
-StepsKeep = (past : List Exchange) (old new : NodeView) (event : Event) (reply : Reply) → Step old event reply new → LedgerTheorem past old → LedgerTheorem (past ++ (event, reply) ∷ []) new
+  -- what holds of a list of exchanges holds of the list with one step more
+  abbrev pub StepsKeep : Type 0
+  StepsKeep = (past : List Exchange) (old new : NodeView D) (event : Event) (reply : Reply) → Step says old event reply new → LedgerTheorem past old → LedgerTheorem (past ++ (event, reply) ∷ []) new

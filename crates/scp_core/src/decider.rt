@@ -1,7 +1,7 @@
 //! The slot stage, the queue behind it, and the applier.
 ghost use Rattle.std.specs.Prelude.{◌≡◌, ◌≢◌, ◌≤◌, ◌∷◌, [], ◌<◌, false, true, length, None, Some, IfOk, IfSome, IsOkUnless, option_copied, slice_get, if◌then◌else◌};
 ghost use Rattle.scp_wire.specs.Fitting.{IsFitting};
-ghost use Rattle.scp_apply.specs.Applied.{value_of};
+ghost use Rattle.scp_apply.specs.Applied.{made_of, value_of};
 ghost use Rattle.scp_core.specs.inside.Decider.{new_decider, Decides, Applies, PutsOn, fail as failed_now};
 ghost use Rattle.scp_core.specs.inside.Stops.{told};
 
@@ -12,9 +12,8 @@ use crate::stage::SlotStage;
 use crate::stop::Stop;
 use circular_buffer::HeapCircularBuffer;
 use scp_apply::{Applier, the_next_decision_can_be_taken};
-use scp_driver::KvDriver;
+use scp_driver::Application;
 use scp_envelope::SharedEnvelope;
-use scp_kv::KvState;
 use scp_ledger::{
     CommandFate, Fate, Ledger, Onward, SharedDecision,
     what_holds_of_a_ledger_holds_with_one_thing_more,
@@ -31,52 +30,49 @@ use std::sync::Arc;
 /// What decides and applies. While it hasn't failed, what the ledger decided was taken by the applier, waits in the queue,
 /// or is in the slot stage's hand: so the applier can take what is next.
 #[derive(Drop)]
-pub struct Decider {
+pub struct Decider<A: Application + Drop + Copy> {
     failed: bool,
-    stage: SlotStage,
+    stage: SlotStage<A>,
     hand: Option<Onward>,
     last_command: Option<CommandFate>,
     last_said: SaidList,
     queue: HeapCircularBuffer<Onward>,
-    applier: Applier,
+    applier: Applier<A>,
 }
 
-impl Model for Decider {
-    ghost use Rattle.std.specs.FinMap as map;
-    ghost use Rattle.std.specs.Ordering.{nat_cmp};
-    ghost use Rattle.std.specs.Cmp.Lexicographic.{slice_cmp};
-    ghost use Rattle.std.specs.Coded.{codes, coded_ℕ, coded_list};
+impl<A: Application + Drop + Copy> Model for Decider<A> {
+    ghost use Rattle.std.specs.Coded.{codes};
     ghost use Rattle.scp_xdr.specs.inside.TreeModel.{coded_row};
     ghost use Rattle.scp_quorum.specs.inside.QuorumTree.{coded_level};
-    ghost use Rattle.scp_driver.specs.contracts.kv_driver.KvDriver as driver;
     ghost use Rattle.scp_ledger.specs.inside.Coding.{machine_code};
     ghost use Rattle.scp_core.specs.inside.Decider.{DeciderView, IsWell};
 
-    ghost Value = { DeciderView };
+    ghost Value = { DeciderView A };
 
-    ghost coded = { Prim.hlevel (codes, machine_code driver.the_row.coded, coded_row coded_level, map.code {R = slice_cmp nat_cmp} (coded_list coded_ℕ) (coded_list coded_ℕ)) };
+    ghost coded = { Prim.hlevel (codes, A.code, machine_code A.code, coded_row coded_level) };
 
     ghost view = { λ a. record { failed = a.failed; ledger = a.stage; hand = a.hand; last_command = a.last_command; last_said = a.last_said; queue = a.queue.items; room = a.queue.capacity; applier = a.applier } };
 
-    ghost invariant = { λ a. IsWell (record { failed = a.failed; ledger = a.stage; hand = a.hand; last_command = a.last_command; last_said = a.last_said; queue = a.queue.items; room = a.queue.capacity; applier = a.applier }) };
+    ghost invariant = { λ a. IsWell A.says (record { failed = a.failed; ledger = a.stage; hand = a.hand; last_command = a.last_command; last_said = a.last_said; queue = a.queue.items; room = a.queue.capacity; applier = a.applier }) };
 }
 
-impl Decider {
+impl<A: Application + Drop + Copy> Decider<A> {
     /// One that took nothing.
     pub fn new(
         alloc: Global,
         me: NodeId,
         set: Arc<SaneSet>,
+        application: A,
         peers: Vec<NodeId>,
         room: usize,
-    ) -> Result<Decider, Fault>
+    ) -> Result<Decider<A>, Fault>
         requires few { length peers.items ≤ 255 }
-        ensures new { IfOk result (λ d. d ≡ new_decider me set.value peers.items room) }
+        ensures new { IfOk result (λ d. d ≡ new_decider me set.value application peers.items room) }
         ensures only_memory { IsOkUnless result Fault.NoMemory }
     {
         Ok(Decider {
             failed: false,
-            stage: SlotStage::new(alloc, me, set, peers),
+            stage: SlotStage::new(alloc, me, set, application, peers),
             hand: None,
             last_command: None,
             last_said: SaidList::new(Vec::new(alloc)),
@@ -98,7 +94,7 @@ impl Decider {
         self.hand.is_some()
     }
 
-    pub fn ledger(&self) -> &Ledger<KvDriver>
+    pub fn ledger(&self) -> &Ledger<A>
         ensures { self.now.failed ≡ false → result.now ≡ self.now.ledger }
     {
         self.stage.ledger()
@@ -158,8 +154,8 @@ impl Decider {
     }
 
     /// The state; `None` once failed.
-    pub fn state(&self) -> Option<&KvState>
-        ensures { option_copied result ≡ (if self.now.failed then None else self.now.applier.state) }
+    pub fn state(&self) -> Option<&A::State>
+        ensures { option_copied result ≡ (if self.now.failed then None else Some (made_of A.first A.after self.now.applier.applied)) }
     {
         if self.failed {
             return None;
@@ -178,9 +174,9 @@ impl Decider {
     pub fn take(&mut self, ready: Ready, outboxes: &mut Outboxes) -> Reply
         requires runs { self.old.failed ≡ false }
         requires empty { self.old.hand ≡ None }
-        ensures { Decides self.old outboxes.old ready result self.new outboxes.new }
+        ensures { Decides A.says self.old outboxes.old ready result self.new outboxes.new }
     {
-        what_holds_of_a_ledger_holds_with_one_thing_more::<KvDriver>();
+        what_holds_of_a_ledger_holds_with_one_thing_more::<A>();
         match self.stage.take(ready, outboxes) {
             Ok(given) => {
                 self.hand = given.onward;

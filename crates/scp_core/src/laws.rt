@@ -11,7 +11,7 @@ use scp_apply::{
     what_holds_of_an_applier_holds_with_one_thing_more, what_is_applied_is_a_function,
 };
 use scp_ballot_rules::the_rules_are_a_function;
-use scp_driver::KvDriver;
+use scp_driver::Driver;
 use scp_envelope::newer_is_an_order;
 use scp_headline::what_keeps_the_ledger_keeps_the_headline;
 use scp_ledger::{a_beginning_keeps_the_window, what_holds_of_a_ledger_holds_with_one_thing_more};
@@ -28,23 +28,23 @@ use scp_wire::{
 };
 
 /// What holds of a list of exchanges and the node holds of the list with one step more.
-pub fn what_holds_of_a_past_holds_with_one_step_more()
-    ensures { StepsKeep }
+pub fn what_holds_of_a_past_holds_with_one_step_more<D: Driver + Drop + Copy>()
+    ensures { StepsKeep D.says }
 {
     what_is_read_grows_with_the_items();
     what_is_read_keeps_the_shape();
     a_beginning_keeps_the_shape();
     who_it_is_stays();
-    what_holds_of_a_ledger_holds_with_one_thing_more::<KvDriver>();
+    what_holds_of_a_ledger_holds_with_one_thing_more::<D>();
     what_holds_of_an_applier_holds_with_one_thing_more();
 }
 
-/// The node holds its ledger: each message has one fate, each fate and each verdict its cause, each decision its ground, the
-/// state is the fold of the applied values, and all that was sent has its ground.
-pub fn each_node_holds_its_ledger()
-    ensures ledger { TheoremGivesLedger }
+/// The node holds its ledger: each message has one fate, each fate and each verdict its cause, each decision its ground, and
+/// all that was sent has its ground.
+pub fn each_node_holds_its_ledger<D: Driver + Drop + Copy>()
+    ensures ledger { TheoremGivesLedger D.says }
 {
-    what_ran_keeps_the_ledger::<KvDriver>();
+    what_ran_keeps_the_ledger::<D>();
     what_is_read_grows_with_the_items();
     what_is_read_keeps_the_shape();
     a_beginning_keeps_the_shape();
@@ -55,23 +55,23 @@ pub fn each_node_holds_its_ledger()
 }
 
 /// A node that holds its ledger holds its headline: of what was sent, what it holds and what it shows.
-pub fn each_node_holds_its_headline()
-    ensures headline { LedgerGivesHeadline }
+pub fn each_node_holds_its_headline<D: Driver + Drop + Copy>()
+    ensures headline { LedgerGivesHeadline D.says }
 {
-    what_keeps_the_ledger_keeps_the_headline::<KvDriver>();
+    what_keeps_the_ledger_keeps_the_headline::<D>();
 }
 
 /// Where the pending stage answers Idle nothing is ready, and the head of each lane that it holds is an envelope that waits for
 /// its quorum set.
-pub fn what_is_idle_is_settled()
-    ensures settled { IdleIsSettled }
+pub fn what_is_idle_is_settled<D: Driver + Drop + Copy>()
+    ensures settled { IdleIsSettled D.says }
 {}
 
 /// The length of each queue is what was put into it less what was taken; its room is its capacity less that; and the lives of
 /// a link are its accepted opens. Of a node that failed it is so at the moment before, and each link's room is what it was, but for
 /// the item that a reader took.
-pub fn queues_hold_what_was_put_and_not_taken()
-    ensures room { TheoremGivesRoom }
+pub fn queues_hold_what_was_put_and_not_taken<D: Driver + Drop + Copy>()
+    ensures room { TheoremGivesRoom D.says }
 {}
 
 /// Whatever the pending stage replies fits a link: a request for a quorum set, a sane one, or the answer that there is none.
@@ -85,21 +85,21 @@ pub fn whatever_is_replied_fits()
 
 /// Each step puts all that its stage hands out into the outboxes of its links, in order; and a drain of a link gives what its
 /// outbox gives next, Idle where that is nothing.
-pub fn what_is_handed_out_is_put()
-    ensures puts { StepsPutAll }
-    ensures drains { DrainsGiveNext }
+pub fn what_is_handed_out_is_put<D: Driver + Drop + Copy>()
+    ensures puts { StepsPutAll D.says }
+    ensures drains { DrainsGiveNext D.says }
 {}
 
-/// The same events give the same replies: two runs of one configuration and the same events, where no step lacked memory, have the
+/// The same events give the same replies: two runs of one application and configuration and the same events, where no step lacked memory, have the
 /// same replies, and leave nodes that show the same. What isn't said: the places at which values lie, and the order of the applier's
 /// buffer.
-pub fn what_two_runs_reply_is_the_same()
-    ensures same { SameEventsSameReplies }
+pub fn what_two_runs_reply_is_the_same<D: Driver + Drop + Copy>()
+    ensures same { SameEventsSameReplies D.says }
 {
     newer_is_an_order();
-    an_input_is_a_function::<KvDriver>();
+    an_input_is_a_function::<D>();
     the_rules_are_a_function();
-    what_holds_of_a_ledger_holds_with_one_thing_more::<KvDriver>();
+    what_holds_of_a_ledger_holds_with_one_thing_more::<D>();
     a_beginning_keeps_the_window();
     what_holds_of_an_applier_holds_with_one_thing_more();
     what_is_applied_is_a_function();

@@ -1,10 +1,11 @@
-//! One node of a ledger pipeline: up to seven links with their readers, an inbox, a pending stage, a slot stage and an
+//! One node of a ledger pipeline, of any application: up to seven links with their readers, an inbox, a pending stage, a slot stage and an
 //! applier, with bounded queues between them. One event is one step of one stage.
 //!
 //! What it promises, for every list of events, of a node that runs, and of one that failed as it stood before (`HoldsLedger` in
 //! `specs/Ledger.antt`, by `run`, and by `Node::step` with the law `each_node_holds_its_ledger`):
 //! - its links, queues, hands and stages keep the ledger as `scp_theorem` says: one fate for each message, in order, none lost;
-//!   its cause for each fate and each verdict; one decision for each slot, with its ground; and the state as the fold of them;
+//!   its cause for each fate and each verdict; one decision for each slot, with its ground; and the applied
+//!   values; the state is what the application makes of them, one after another (`Node::state`);
 //! - all that was sent over a link spells messages that may be sent there, each own statement newer than those before it.
 //!
 //! And of each event: its reply is that of the table of replies, and a queue is full exactly at its capacity; what a stage hands
@@ -38,7 +39,9 @@ pub use laws::{
 pub use node::Node;
 pub use outcome::Run;
 pub use running::run;
+pub use scp_driver::{Application, Driver, KvDriver, Level};
 pub use scp_ledger::{CommandFate, Decision, Fate, Origin, SharedDecision, Verdict};
 pub use scp_pending::DropCause;
+pub use scp_timers::Timer;
 pub use scp_types::{CAPACITY_LIMIT, LIFE_LIMIT, PEER_LIMIT};
 pub use scp_wire::{Bytes, Cause, Command};

@@ -1,8 +1,9 @@
 //! A node: one event is one step of one stage.
-ghost use Rattle.std.specs.Prelude.{◌≡◌, ◌≢◌, ◌∷◌, [], ◌++◌, ◌-◌, ◌<◌, ◌≤◌, ◌⊎◌, ◌↔◌, ℕ, List, length, Some, None, IsSome, false, true, IfOk, OnOk, OnErr, IfErr, IsOkUnless, Ok, Err, IsTrue, slice_get, option_copied, if◌then◌else◌, MatchOption};
+ghost use Rattle.std.specs.Prelude.{◌≡◌, ◌≢◌, ◌∷◌, [], ◌++◌, ◌-◌, ◌<◌, ◌≤◌, ◌⊎◌, ◌↔◌, ℕ, List, length, drop, Some, None, IsSome, false, true, IfOk, OnOk, OnErr, IfErr, IsOkUnless, Ok, Err, IsTrue, slice_get, option_copied, if◌then◌else◌, MatchOption};
 ghost use Rattle.scp_ledger.specs.declared.journal.Fate.{Fate};
 ghost use Rattle.scp_pending.specs.Line.{count_held};
-ghost use Rattle.scp_apply.specs.Applied.{value_of};
+ghost use Rattle.scp_timers.specs.Timers.{AreTimers};
+ghost use Rattle.scp_apply.specs.Applied.{made_of, value_of};
 ghost use Rattle.scp_core.specs.Config.{IsConfig, IsFit};
 ghost use Rattle.scp_core.specs.History.{peer_at, Exchange};
 ghost use Rattle.scp_core.specs.Node.{Step, Keeps, LeavesRoom, HasLink, lives_at, room_at, queued_at, accepts_at, item_at, has_read_at};
@@ -18,9 +19,8 @@ use crate::laws::what_holds_of_a_past_holds_with_one_step_more;
 use crate::link::{self, Link};
 use crate::queue;
 use circular_buffer::HeapCircularBuffer;
-use scp_driver::KvDriver;
+use scp_driver::{Application, KvDriver};
 use scp_envelope::SharedEnvelope;
-use scp_kv::KvState;
 use scp_ledger::{
     CommandFate, Fate, Ledger, Onward, SharedDecision,
     what_holds_of_a_ledger_holds_with_one_thing_more,
@@ -28,15 +28,17 @@ use scp_ledger::{
 use scp_outboxes::Outboxes;
 use scp_pending::{Pending, Ready};
 use scp_quorum::{QuorumSet, SaneSet};
+use scp_timers::{Timer, timers};
 use scp_types::{ConnId, Fault, NodeId, PEER_LIMIT, Slot, Value};
 use scp_wire::{Bytes, Command, Inbound, LinkItem};
 use std::alloc::Global;
 use std::marker::Model;
 use std::sync::Arc;
 
-/// A node whose links come from its peers, in their order.
+/// A node whose links come from its peers, in their order. Its values are those of the application; of operation lists, where none
+/// is named.
 #[derive(Drop)]
-pub struct Node {
+pub struct Node<A: Application + Drop + Copy = KvDriver> {
     alloc: Global,
     me: NodeId,
     set: Arc<SaneSet>,
@@ -47,24 +49,20 @@ pub struct Node {
     pending: Pending,
     pend_hand: Option<Ready>,
     ready: HeapCircularBuffer<Ready>,
-    decider: Decider,
+    decider: Decider<A>,
     outboxes: Outboxes,
 }
 
-impl Model for Node {
-    ghost use Rattle.std.specs.FinMap as map;
-    ghost use Rattle.std.specs.Ordering.{nat_cmp};
-    ghost use Rattle.std.specs.Cmp.Lexicographic.{slice_cmp};
-    ghost use Rattle.std.specs.Coded.{codes, coded_ℕ, coded_list};
+impl<A: Application + Drop + Copy> Model for Node<A> {
+    ghost use Rattle.std.specs.Coded.{codes};
     ghost use Rattle.scp_xdr.specs.inside.TreeModel.{coded_row};
     ghost use Rattle.scp_quorum.specs.inside.QuorumTree.{coded_level};
-    ghost use Rattle.scp_driver.specs.contracts.kv_driver.KvDriver as driver;
     ghost use Rattle.scp_ledger.specs.inside.Coding.{machine_code};
     ghost use Rattle.scp_core.specs.Node.{NodeView};
 
-    ghost Value = { NodeView };
+    ghost Value = { NodeView A };
 
-    ghost coded = { Prim.hlevel (codes, machine_code driver.the_row.coded, coded_row coded_level, map.code {R = slice_cmp nat_cmp} (coded_list coded_ℕ) (coded_list coded_ℕ)) };
+    ghost coded = { Prim.hlevel (codes, A.code, machine_code A.code, coded_row coded_level) };
 
     ghost view = { λ a. record {
       config = record { me = a.me; set = a.set.value; peers = a.peers; capacities = a.capacities };
@@ -87,18 +85,19 @@ impl Model for Node {
     } };
 }
 
-impl Node {
+impl<A: Application + Drop + Copy> Node<A> {
     /// A node that has heard nothing, with a link for each of its peers; it takes all the room that its queues will need.
     /// Refused by `BadConfig` where the quorum set isn't sane, where there are more than seven peers, a peer twice, or the
     /// node among its peers, and where a capacity isn't 1 to 1,024; else by `NoMemory`.
-    pub fn new(alloc: Global, config: Config) -> Result<Node, Fault>
+    pub fn new(alloc: Global, config: Config, application: A) -> Result<Node<A>, Fault>
         // What holds of a list of events holds of the empty list.
-        ensures theorem { IfOk result (λ node. LedgerTheorem [] node) }
+        ensures theorem { IfOk result (λ node. LedgerTheorem A.says [] node) }
         ensures config { IfOk result (λ node. node.config ≡ config) }
+        ensures application { IfOk result (λ node. node.ledger.driver ≡ application) }
         ensures refused { result ≡ Err Fault.BadConfig ↔ ¬ (IsConfig config) }
         ensures only { IfErr result (λ f. (f ≡ Fault.BadConfig) ⊎ (f ≡ Fault.NoMemory)) }
     {
-        what_holds_of_a_ledger_holds_with_one_thing_more::<KvDriver>();
+        what_holds_of_a_ledger_holds_with_one_thing_more::<A>();
         let Config {
             me,
             set,
@@ -113,7 +112,7 @@ impl Node {
             Err((Fault::Insane, _)) => return Err(Fault::BadConfig),
             Err(_) => return Err(Fault::NoMemory),
         };
-        Node::with_set(alloc, me, set, peers, capacities)
+        Node::with_set(alloc, me, set, application, peers, capacities)
     }
 
     /// A node of a configuration that is fit.
@@ -121,11 +120,13 @@ impl Node {
         alloc: Global,
         me: NodeId,
         set: SaneSet,
+        application: A,
         peers: Peers,
         capacities: Capacities,
-    ) -> Result<Node, Fault>
+    ) -> Result<Node<A>, Fault>
         requires fit { IsFit me peers capacities }
-        ensures new { IfOk result (λ node. IsNew node) }
+        ensures new { IfOk result (λ node. IsNew A.says node) }
+        ensures application { IfOk result (λ node. node.ledger.driver ≡ application) }
         ensures config { IfOk result (λ node. node.config ≡ record { me = me; set = set; peers = peers; capacities = capacities }) }
         ensures only_memory { IsOkUnless result Fault.NoMemory }
     {
@@ -139,6 +140,7 @@ impl Node {
             alloc,
             me,
             Arc::try_clone(&set)?,
+            application,
             ledger_peers,
             capacities.decided as usize,
         )?;
@@ -196,9 +198,21 @@ impl Node {
         self.decider.applied()
     }
 
-    /// The state that the applied values make; `None` once the node is failed.
-    pub fn state(&self) -> Option<&KvState>
-        ensures { option_copied result ≡ (if self.now.failed then None else self.now.applier.state) }
+    /// The decisions that were applied of the slots behind this one, in their order: what a host hasn't seen that knows of it.
+    pub fn applied_since(&self, slot: Slot) -> &[SharedDecision]
+        ensures { result.now ≡ drop slot.0 self.now.applier.applied }
+    {
+        let applied = self.applied();
+        let known = usize::try_from(slot.0).unwrap_or(usize::MAX);
+        match applied.get(known..) {
+            Some(more) => more,
+            None => &[],
+        }
+    }
+
+    /// The state that the applied values make, one after another, from the application's first; `None` once the node is failed.
+    pub fn state(&self) -> Option<&A::State>
+        ensures { option_copied result ≡ (if self.now.failed then None else Some (made_of A.first A.after self.now.applier.applied)) }
     {
         self.decider.state()
     }
@@ -211,10 +225,19 @@ impl Node {
     }
 
     /// What was taken, decided and asked, and the machines of slots. Of a failed node it says nothing.
-    pub fn ledger(&self) -> &Ledger<KvDriver>
+    pub fn ledger(&self) -> &Ledger<A>
         ensures { self.now.failed ≡ false → result.now ≡ self.now.ledger }
     {
         self.decider.ledger()
+    }
+
+    /// The timers that should run now: of each of the 16 open slots that of its nomination, and that of its ballot. How long each runs
+    /// is the host's; when one runs out, the host tells the node so by `Round` or `Timer` of its slot. Of a failed node it says nothing.
+    pub fn timers(&self, alloc: Global) -> Result<Vec<Timer>, Fault>
+        ensures exact { self.now.failed ≡ false → IfOk result (λ found. AreTimers self.now.ledger.machines self.now.ledger.lowest 16 found.items) }
+        ensures only_memory { IsOkUnless result Fault.NoMemory }
+    {
+        timers(alloc, self.decider.ledger())
     }
 
     /// What is parked, wanted and open.
@@ -377,9 +400,9 @@ impl Node {
     /// stage and the applier, and a drain, can lack memory.
     pub fn step(&mut self, event: Event) -> Reply
         // What the event does to this node, by the table of replies.
-        ensures step { Step self.old event result self.new }
+        ensures step { Step A.says self.old event result self.new }
         // What holds of every list of events, their replies and the node.
-        ensures theorem { (past : List Exchange) → LedgerTheorem past self.old → LedgerTheorem (past ++ (event, result) ∷ []) self.new }
+        ensures theorem { (past : List Exchange) → LedgerTheorem A.says past self.old → LedgerTheorem A.says (past ++ (event, result) ∷ []) self.new }
         // A refusal leaves the node as it was.
         ensures same { result ≢ Reply.Accepted → result ≢ Reply.Moved → result ≢ Reply.JournalFull → result ≢ Reply.NoMemory → ((bytes : List ℕ) → result ≢ Reply.Sent bytes) → self.new ≡ self.old }
         // A node that fails keeps its journal, its decisions and whom it asked, what is applied, and how often each link was opened.
@@ -393,12 +416,12 @@ impl Node {
         ensures grows { (more : List Fate) × (self.new.ledger.journal ≡ self.old.ledger.journal ++ more) }
         ensures config { self.new.config ≡ self.old.config }
     {
-        what_holds_of_a_past_holds_with_one_step_more();
+        what_holds_of_a_past_holds_with_one_step_more::<A>();
         self.perform(event)
     }
 
     fn perform(&mut self, event: Event) -> Reply
-        ensures { Step self.old event result self.new }
+        ensures { Step A.says self.old event result self.new }
     {
         if self.decider.has_failed() {
             return Reply::Failed;
@@ -431,7 +454,7 @@ impl Node {
 
     fn open(&mut self, link: u8) -> Reply
         requires { self.old.failed ≡ false }
-        ensures { Step self.old (Event.Open link) result self.new }
+        ensures { Step A.says self.old (Event.Open link) result self.new }
     {
         let from = self.peer(link);
         link::open(&mut self.links, link, from, self.me)
@@ -439,7 +462,7 @@ impl Node {
 
     fn send(&mut self, link: u8, bytes: Bytes) -> Reply
         requires { self.old.failed ≡ false }
-        ensures { Step self.old (Event.Send link bytes) result self.new }
+        ensures { Step A.says self.old (Event.Send link bytes) result self.new }
     {
         let from = self.peer(link);
         link::send(&mut self.links, link, from, self.me, bytes)
@@ -447,7 +470,7 @@ impl Node {
 
     fn close(&mut self, link: u8) -> Reply
         requires { self.old.failed ≡ false }
-        ensures { Step self.old (Event.Close link) result self.new }
+        ensures { Step A.says self.old (Event.Close link) result self.new }
     {
         let from = self.peer(link);
         link::close(&mut self.links, link, from, self.me)
@@ -466,7 +489,7 @@ impl Node {
 
     fn local(&mut self, command: Command) -> Reply
         requires { self.old.failed ≡ false }
-        ensures { Step self.old (Event.Local command) result self.new }
+        ensures { Step A.says self.old (Event.Local command) result self.new }
     {
         if !self.has_link(&command) {
             return Reply::NoLink;
@@ -480,7 +503,7 @@ impl Node {
 
     fn reader_take(&mut self, link: u8) -> Reply
         requires { self.old.failed ≡ false }
-        ensures { Step self.old (Event.ReaderTake link) result self.new }
+        ensures { Step A.says self.old (Event.ReaderTake link) result self.new }
     {
         let reply = link::read(self.alloc, &mut self.links, link);
         if is_no_memory(&reply) {
@@ -491,7 +514,7 @@ impl Node {
 
     fn reader_put(&mut self, link: u8) -> Reply
         requires { self.old.failed ≡ false }
-        ensures { Step self.old (Event.ReaderPut link) result self.new }
+        ensures { Step A.says self.old (Event.ReaderPut link) result self.new }
     {
         match link::give(&mut self.links, link, queue::is_full(&self.inbox)) {
             Ok(item) => {
@@ -504,7 +527,7 @@ impl Node {
 
     fn pend_take(&mut self) -> Reply
         requires { self.old.failed ≡ false }
-        ensures { Step self.old Event.PendTake result self.new }
+        ensures { Step A.says self.old Event.PendTake result self.new }
     {
         if self.pend_hand.is_some() {
             return Reply::Blocked;
@@ -531,7 +554,7 @@ impl Node {
 
     fn pend_put(&mut self) -> Reply
         requires { self.old.failed ≡ false }
-        ensures { Step self.old Event.PendPut result self.new }
+        ensures { Step A.says self.old Event.PendPut result self.new }
     {
         if self.pend_hand.is_none() {
             return Reply::Idle;
@@ -547,7 +570,7 @@ impl Node {
 
     fn slot_take(&mut self) -> Reply
         requires { self.old.failed ≡ false }
-        ensures { Step self.old Event.SlotTake result self.new }
+        ensures { Step A.says self.old Event.SlotTake result self.new }
     {
         if self.decider.has_hand() {
             return Reply::Blocked;
@@ -560,14 +583,14 @@ impl Node {
 
     fn slot_put(&mut self) -> Reply
         requires { self.old.failed ≡ false }
-        ensures { Step self.old Event.SlotPut result self.new }
+        ensures { Step A.says self.old Event.SlotPut result self.new }
     {
         self.decider.put()
     }
 
     fn apply_take(&mut self) -> Reply
         requires { self.old.failed ≡ false }
-        ensures { Step self.old Event.ApplyTake result self.new }
+        ensures { Step A.says self.old Event.ApplyTake result self.new }
     {
         match self.decider.apply() {
             Ok(answer) => {
@@ -580,7 +603,7 @@ impl Node {
 
     fn drain(&mut self, link: u8) -> Reply
         requires { self.old.failed ≡ false }
-        ensures { Step self.old (Event.Drain link) result self.new }
+        ensures { Step A.says self.old (Event.Drain link) result self.new }
     {
         let sent = draw(self.alloc, &mut self.outboxes, link);
         if is_no_memory(&sent) {

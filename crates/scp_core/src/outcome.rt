@@ -2,10 +2,11 @@
 
 use crate::event::Reply;
 use crate::node::Node;
+use scp_driver::{Application, KvDriver};
 
 /// The replies to a list of events, in their order, and the node that they left.
 #[derive(Drop)]
-pub struct Run {
+pub struct Run<A: Application + Drop + Copy = KvDriver> {
     pub replies: Vec<Reply>,
-    pub node: Node,
+    pub node: Node<A>,
 }

@@ -11,16 +11,22 @@ use crate::event::{Event, Reply};
 use crate::laws::{each_node_holds_its_headline, each_node_holds_its_ledger};
 use crate::node::Node;
 use crate::outcome::Run;
+use scp_driver::Application;
 use scp_types::Fault;
 use std::alloc::Global;
 
-/// Runs the events in order on a new node; each is copied. Refused by `BadConfig` as `Node::new`, else by want of memory for
+/// Runs the events in order on a new node of the application; each is copied. Refused by `BadConfig` as `Node::new`, else by want of memory for
 /// the node, the copies and the replies. A refusal within a step is that step's reply.
-pub fn run(alloc: Global, config: Config, events: &[Event]) -> Result<Run, Fault>
+pub fn run<A: Application + Drop + Copy>(
+    alloc: Global,
+    config: Config,
+    application: A,
+    events: &[Event],
+) -> Result<Run<A>, Fault>
     // What holds of every list of events, their replies and the node.
-    ensures theorem { IfOk result (λ run. LedgerTheorem (zip events.now run.replies.items) run.node) }
+    ensures theorem { IfOk result (λ run. LedgerTheorem A.says (zip events.now run.replies.items) run.node) }
     // So the node holds its ledger, by the events and the replies.
-    ensures ledger { IfOk result (λ run. HoldsLedger (zip events.now run.replies.items) run.node) }
+    ensures ledger { IfOk result (λ run. HoldsLedger A.says (zip events.now run.replies.items) run.node) }
     // And its headline, which says what matters most of that.
     ensures headline { IfOk result (λ run. HoldsHeadline (zip events.now run.replies.items) run.node) }
     ensures count { IfOk result (λ run. length run.replies.items ≡ length events.now) }
@@ -28,7 +34,7 @@ pub fn run(alloc: Global, config: Config, events: &[Event]) -> Result<Run, Fault
     ensures refused { result ≡ Err Fault.BadConfig ↔ ¬ (IsConfig config) }
     ensures only { IfErr result (λ f. (f ≡ Fault.BadConfig) ⊎ (f ≡ Fault.NoMemory)) }
 {
-    let node = Node::new(alloc, config)?;
+    let node = Node::new(alloc, config, application)?;
     let mut run = Run {
         replies: Vec::new(alloc),
         node,
@@ -36,16 +42,20 @@ pub fn run(alloc: Global, config: Config, events: &[Event]) -> Result<Run, Fault
     if answer_all(&mut run.node, &mut run.replies, events).is_err() {
         return Err(Fault::NoMemory);
     }
-    each_node_holds_its_ledger();
-    each_node_holds_its_headline();
+    each_node_holds_its_ledger::<A>();
+    each_node_holds_its_headline::<A>();
     Ok(run)
 }
 
 /// Plays each event, and adds its reply.
-fn answer_all(node: &mut Node, replies: &mut Vec<Reply>, events: &[Event]) -> Result<(), Fault>
-    requires theorem { LedgerTheorem [] node.old }
+fn answer_all<A: Application + Drop + Copy>(
+    node: &mut Node<A>,
+    replies: &mut Vec<Reply>,
+    events: &[Event],
+) -> Result<(), Fault>
+    requires theorem { LedgerTheorem A.says [] node.old }
     requires none { replies.old.items ≡ [] }
-    ensures theorem { OnOk result (LedgerTheorem (zip events.now replies.new.items) node.new) }
+    ensures theorem { OnOk result (LedgerTheorem A.says (zip events.now replies.new.items) node.new) }
     ensures count { OnOk result (length replies.new.items ≡ length events.now) }
     ensures config { node.new.config ≡ node.old.config }
     ensures only_memory { IsOkUnless result Fault.NoMemory }
@@ -58,8 +68,12 @@ fn answer_all(node: &mut Node, replies: &mut Vec<Reply>, events: &[Event]) -> Re
 }
 
 /// Plays a copy of the event, and adds its reply.
-fn answer(node: &mut Node, replies: &mut Vec<Reply>, event: &Event) -> Result<(), Fault>
-    ensures theorem { OnOk result (Answers event.now node.old replies.old.items node.new replies.new.items) }
+fn answer<A: Application + Drop + Copy>(
+    node: &mut Node<A>,
+    replies: &mut Vec<Reply>,
+    event: &Event,
+) -> Result<(), Fault>
+    ensures theorem { OnOk result (Answers A.says event.now node.old replies.old.items node.new replies.new.items) }
     ensures config { node.new.config ≡ node.old.config }
     ensures only_memory { IsOkUnless result Fault.NoMemory }
 {

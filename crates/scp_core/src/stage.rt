@@ -2,12 +2,13 @@
 ghost use Rattle.std.specs.Prelude.{◌≡◌, ◌↔◌, ◌≤◌, [], true, false, length, take, IfOk, OnErr, IsErrOf};
 ghost use Rattle.scp_ledger.specs.Ledger.{IsLedger};
 ghost use Rattle.scp_ledger.specs.Takes.{adds_entry};
-ghost use Rattle.scp_ledger.specs.Kv.{KvRuns};
-ghost use Rattle.scp_core.specs.inside.Stage.{TakesOut, new_ledger};
+ghost use Rattle.scp_ledger.specs.By.{RunsBy};
+ghost use Rattle.scp_ledger.specs.Runs.{nothing_taken};
+ghost use Rattle.scp_core.specs.inside.Stage.{TakesOut};
 
 use crate::handing::hand_out_all;
 use crate::said::SaidList;
-use scp_driver::KvDriver;
+use scp_driver::Application;
 use scp_ledger::{
     CommandFate, Fate, JOURNAL_LIMIT, Ledger, Onward, SharedDecision,
     what_holds_of_a_ledger_holds_with_one_thing_more,
@@ -38,44 +39,49 @@ pub struct Shown {
 /// A ledger. Where a copy of what goes to all peers is refused, after the ledger took its thing, it has failed, and shows its
 /// lists as they were before.
 #[derive(Drop)]
-pub struct SlotStage {
-    ledger: Ledger<KvDriver>,
+pub struct SlotStage<A: Application + Drop + Copy> {
+    ledger: Ledger<A>,
     cut: Option<Shown>,
 }
 
-impl Model for SlotStage {
+impl<A: Application + Drop + Copy> Model for SlotStage<A> {
     ghost use Rattle.std.specs.Coded.{codes};
     ghost use Rattle.scp_xdr.specs.inside.TreeModel.{coded_row};
     ghost use Rattle.scp_quorum.specs.inside.QuorumTree.{coded_level};
-    ghost use Rattle.scp_driver.specs.contracts.kv_driver.KvDriver as driver;
     ghost use Rattle.scp_ledger.specs.inside.Coding.{machine_code};
-    ghost use Rattle.scp_ledger.specs.Kv.{KvLedger};
+    ghost use Rattle.scp_ledger.specs.Seen.{LedgerView};
     ghost use Rattle.scp_core.specs.inside.Stage.{shown};
 
-    ghost Value = { KvLedger };
+    ghost Value = { LedgerView A };
 
-    ghost coded = { Prim.hlevel (codes, machine_code driver.the_row.coded, coded_row coded_level) };
+    ghost coded = { Prim.hlevel (codes, A.code, machine_code A.code, coded_row coded_level) };
 
     ghost view = { λ a. shown a.cut a.ledger };
 }
 
-impl SlotStage {
+impl<A: Application + Drop + Copy> SlotStage<A> {
     /// One that took nothing.
-    pub fn new(alloc: Global, me: NodeId, set: Arc<SaneSet>, peers: Vec<NodeId>) -> SlotStage
+    pub fn new(
+        alloc: Global,
+        me: NodeId,
+        set: Arc<SaneSet>,
+        application: A,
+        peers: Vec<NodeId>,
+    ) -> SlotStage<A>
         requires few { length peers.items ≤ 255 }
-        ensures new { result ≡ new_ledger me set.value peers.items }
+        ensures new { result ≡ nothing_taken me set.value application peers.items }
         ensures known { IsLedger result }
-        ensures running { KvRuns result }
+        ensures running { RunsBy A.says result }
     {
         SlotStage {
-            ledger: Ledger::new(alloc, me, set, KvDriver, peers),
+            ledger: Ledger::new(alloc, me, set, application, peers),
             cut: None,
         }
     }
 
     /// The ledger; of a stage that failed its lists may be longer than those that are shown.
     #[tactic(auto, using(crate::proofs::Cutting::shown_same))]
-    pub fn ledger(&self) -> &Ledger<KvDriver>
+    pub fn ledger(&self) -> &Ledger<A>
         ensures { self.now.failed ≡ false → result.now ≡ self.now }
     {
         &self.ledger
@@ -102,11 +108,11 @@ impl SlotStage {
     /// Takes a ready thing, puts what goes out to peers into the outboxes, and gives the rest of what comes of it.
     pub fn take(&mut self, ready: Ready, outboxes: &mut Outboxes) -> Result<Given, Fault>
         requires runs { self.old.failed ≡ false }
-        ensures takes { IfOk result (λ given. TakesOut self.old outboxes.old ready given self.new outboxes.new) }
+        ensures takes { IfOk result (λ given. TakesOut A.says self.old outboxes.old ready given self.new outboxes.new) }
         ensures full { IsErrOf result Fault.JournalFull ↔ ((adds_entry ready ≡ true) × (length self.old.journal ≡ JOURNAL_LIMIT)) }
         ensures read { OnErr result ((self.new.journal ≡ self.old.journal) × (self.new.decisions ≡ self.old.decisions) × (self.new.asked ≡ self.old.asked)) }
     {
-        what_holds_of_a_ledger_holds_with_one_thing_more::<KvDriver>();
+        what_holds_of_a_ledger_holds_with_one_thing_more::<A>();
         let journal = self.ledger.journal().len();
         let decisions = self.ledger.decisions().len();
         let took = match self.ledger.take(ready) {

@@ -1,8 +1,8 @@
 use Act::*;
 use Seen::*;
 use scp_core::{
-    Bytes, Capacities, Cause, Command, Config, DropCause, Event, Fate, Node, Peers, Reply, Verdict,
-    run,
+    Bytes, Capacities, Cause, Command, Config, DropCause, Event, Fate, KvDriver, Node, Peers,
+    Reply, Verdict, run,
 };
 use scp_envelope::{Envelope, Externalize, Nominate, Pledges, Signature, Statement, ValueList};
 use scp_quorum::QuorumSet;
@@ -143,7 +143,7 @@ fn is_so<F: FnOnce(&mut Node) -> Result<bool, Fault>>(
 ) -> Result<bool, Fault>
     requires { F.IsAlwaysCallable told }
 {
-    let mut node = Node::new(alloc, config)?;
+    let mut node = Node::new(alloc, config, KvDriver)?;
     told(&mut node)
 }
 
@@ -492,7 +492,7 @@ fn is_refused(
     peers: &[NodeId],
     capacities: Capacities,
 ) -> Result<bool, Fault> {
-    match Node::new(alloc, config(alloc, number, peers, capacities)?) {
+    match Node::new(alloc, config(alloc, number, peers, capacities)?, KvDriver) {
         Ok(_) => Ok(false),
         Err(Fault::BadConfig) => Ok(true),
         Err(fault) => Err(fault),
@@ -565,7 +565,7 @@ fn events(alloc: Global, acts: &[Act]) -> Result<Vec<Event>, Fault> {
 
 /// Whether a run of these events answers so, and leaves so many entries.
 fn runs(alloc: Global, events: &[Event], wanted: &[Reply], entries: usize) -> Result<bool, Fault> {
-    let run = run(alloc, config(alloc, 1, &[PEER], ONE)?, events)?;
+    let run = run(alloc, config(alloc, 1, &[PEER], ONE)?, KvDriver, events)?;
     if run
         .replies
         .iter()
@@ -628,7 +628,8 @@ fn ticks(alloc: Global, count: usize) -> Result<Vec<Event>, Fault> {
 /// How many replies of a run of so many ticks, each of which is taken at once, are Accepted, and how many are Moved.
 fn replies_to_ticks(alloc: Global, count: usize) -> Result<(usize, usize), Fault> {
     let events = ticks(alloc, count)?;
-    let run = run(alloc, config(alloc, 1, &[PEER], ONE)?, events.as_slice())?;
+    let own = config(alloc, 1, &[PEER], ONE)?;
+    let run = run(alloc, own, KvDriver, events.as_slice())?;
     let accepted = run
         .replies
         .iter()

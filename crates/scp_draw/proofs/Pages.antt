@@ -1,7 +1,7 @@
 -- A page is made of what is told.
 use Rattle.std.proofs.Common.{◌≡◌, ◌+◌, ◌++◌, ◌∷◌, ◌∙◌, [], ℕ, suc, List, None, inl, length, map, sym, ap, refl, subst}
 use Rattle.std.specs.Prelude.{Option, Some, option_to_list}
-use Rattle.scp_core.specs.Node.{NodeView}
+use Rattle.scp_core.specs.Kv.{NodeView}
 use Rattle.scp_network.specs.Network.{NetworkView}
 use Rattle.scp_script.specs.declared.command.Command.{Command}
 use Rattle.scp_script.specs.Words.{words_of}

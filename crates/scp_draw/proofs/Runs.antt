@@ -3,7 +3,7 @@ use Rattle.std.proofs.Common.{◌≡◌, ◌≢◌, ◌<◌, ◌+◌, ◌∙◌,
 use Rattle.std.specs.Prelude.{Ok, Err, All}
 use Rattle.std.proofs.lemmas.List.{take_more, take-append-drop, append-nil}
 use Rattle.scp_types.specs.declared.fault.Fault.TheVariants.{NoMemory}
-use Rattle.scp_turn.specs.Watch.{Noting}
+use Rattle.scp_turn.specs.Kv.{Noting}
 use Rattle.scp_network.specs.Heard.{Nodes, Heard, Noted}
 use Rattle.scp_network.specs.Network.{NetworkView}
 use Rattle.scp_script.specs.declared.command.Command.{Command}

@@ -1,10 +1,12 @@
 -- The driver of the product (this project's profile).
-use Rattle.std.specs.Prelude.{◌≡◌, ◌≢◌, ◌<◌, ℕ, ◌+◌, ◌-◌, ◌*◌, ◌%◌, List, [], ◌∷◌, Bool, true, false, is_some, cond, Contains}
+use Rattle.std.specs.Prelude.{◌≡◌, ◌≢◌, ◌<◌, ℕ, ◌+◌, ◌-◌, ◌*◌, ◌%◌, List, [], ◌∷◌, Bool, true, false, is_some, cond, None, Contains}
 use Rattle.std.specs.declared.cmp.Ordering.TheVariants.{Less}
 use Rattle.std.specs.Ordering.{nat_cmp, is_lt}
 use Rattle.std.specs.Cmp.Lexicographic.{slice_cmp}
 use Rattle.scp_kv.specs.Op.{ops_in}
+use Rattle.scp_driver.specs.Driver.{Says}
 use Rattle.scp_driver.specs.declared.driver.Level.{Level}
+use Rattle.scp_driver.specs.declared.kv_driver.KvDriver.{KvDriver}
 use Rattle.scp_driver.specs.declared.driver.Level.TheVariants.{FullyValidated, Invalid}
 
 -- fully validated where it is an operation list, else invalid
@@ -33,6 +35,15 @@ greatest (v ∷ vs) = greatest_from v vs
 -- the place (slot + round - 2) mod n over the integers, for a round and an n of at least 1: n is added so that nothing is negative
 abbrev pub leader_place : ℕ → ℕ → ℕ → ℕ
 leader_place slot round n = (slot + round + n - 2) % n
+
+-- what the product's application says of values; it takes nothing of one that is invalid
+abbrev pub kv_says : Says KvDriver
+kv_says = record {
+  level = λ driver slot value. kv_level value;
+  extracted = λ driver slot value. None;
+  combined = λ driver slot values. greatest values;
+  place = λ driver slot round n. leader_place slot round n;
+}
 
 -- v is one of the values, and none is greater
 pub record IsGreatest (vs : List (List ℕ)) (v : List ℕ) : Type 0 where

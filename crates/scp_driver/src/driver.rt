@@ -1,5 +1,5 @@
 //! The trait by which an application checks and combines values.
-ghost use Rattle.std.specs.Prelude.{◌≡◌, ◌≢◌, ◌<◌, ◌≤◌, ℕ, List, [], length, Option, IfOk, IfSome, All, IsOkUnless};
+ghost use Rattle.std.specs.Prelude.{◌≡◌, ◌≢◌, ◌<◌, ◌≤◌, ℕ, List, [], length, IfOk, IfSome, All, IsOkUnless};
 ghost use Rattle.scp_driver.specs.Driver.{IsFull};
 
 use scp_types::{Fault, Slot, Value};
@@ -18,42 +18,36 @@ pub enum Level {
 /// fully validated, and so is the composite of values that are, and that a value that isn't invalid has at most 4,096 bytes,
 /// the limit of values on a link.
 pub trait Driver {
-    ghost use Rattle.scp_driver.specs.declared.driver.Level.{Level};
     ghost use Rattle.scp_driver.specs.declared.driver.Level.TheVariants.{Invalid};
+    ghost use Rattle.scp_driver.specs.Driver.{Says};
 
-    ghost level: { Self → ℕ → List ℕ → Level };
-
-    ghost extracted: { Self → ℕ → List ℕ → Option (List ℕ) };
-
-    ghost combined: { Self → ℕ → List (List ℕ) → List ℕ };
-
-    ghost place: { Self → ℕ → ℕ → ℕ → ℕ };
+    ghost says: { Says Self };
 
     /// How far the value is checked for the slot. Takes no memory.
     fn validate(&self, slot: Slot, value: &Value) -> Level
-        ensures { result ≡ level self.now slot.0 value.now };
+        ensures { result ≡ says.level self.now slot.0 value.now };
 
     /// What is taken of a value that is not fully validated, if anything.
     fn extract(&self, alloc: Global, slot: Slot, value: &Value) -> Result<Option<Value>, Fault>
-        ensures extracted { IfOk result (λ found. found ≡ extracted self.now slot.0 value.now) }
+        ensures extracted { IfOk result (λ found. found ≡ says.extracted self.now slot.0 value.now) }
         ensures only_memory { IsOkUnless result Fault.NoMemory };
 
     /// The composite of the candidates.
     fn combine(&self, alloc: Global, slot: Slot, values: &[Value]) -> Result<Value, Fault>
         requires some { values.now ≢ [] }
-        ensures combined { IfOk result (λ value. value ≡ combined self.now slot.0 values.now) }
+        ensures combined { IfOk result (λ value. value ≡ says.combined self.now slot.0 values.now) }
         ensures only_memory { IsOkUnless result Fault.NoMemory };
 
     /// The place of the round's leader among n nodes in order.
     fn leader(&self, slot: Slot, round: u64, n: usize) -> usize
         requires rounds { 1 ≤ round }
         requires nodes { 1 ≤ n }
-        ensures place { result ≡ place self.now slot.0 round n }
+        ensures place { result ≡ says.place self.now slot.0 round n }
         ensures below { result < n };
 
-    ghost extracts_full: { (d : Self) (slot : ℕ) (v : List ℕ) → IfSome (extracted d slot v) (λ found. IsFull (level d) slot found) };
+    ghost extracts_full: { (d : Self) (slot : ℕ) (v : List ℕ) → IfSome (says.extracted d slot v) (λ found. IsFull (says.level d) slot found) };
 
-    ghost combines_full: { (d : Self) (slot : ℕ) (vs : List (List ℕ)) → vs ≢ [] → All (λ v. IsFull (level d) slot v) vs → IsFull (level d) slot (combined d slot vs) };
+    ghost combines_full: { (d : Self) (slot : ℕ) (vs : List (List ℕ)) → vs ≢ [] → All (λ v. IsFull (says.level d) slot v) vs → IsFull (says.level d) slot (says.combined d slot vs) };
 
-    ghost valid_is_short: { (d : Self) (slot : ℕ) (v : List ℕ) → level d slot v ≢ Invalid → length v ≤ 4096 };
+    ghost valid_is_short: { (d : Self) (slot : ℕ) (v : List ℕ) → says.level d slot v ≢ Invalid → length v ≤ 4096 };
 }

@@ -1,15 +1,20 @@
-//! The driver of the product, whose values are operation lists.
-ghost use Rattle.std.specs.Prelude.{◌≡◌, ◌≢◌, ◌≤◌, ℕ, List, [], Option, None, IfOk, IsOkUnless};
-ghost use Rattle.scp_driver.specs.Kv.{kv_level, greatest, greatest_from, leader_place, IsGreatest, IsPlace};
-ghost use Rattle.scp_driver.specs.KvLaws.{greatest_full, list_is_short};
+//! The application of the product, whose values are operation lists.
+ghost use Rattle.std.specs.Prelude.{◌≡◌, ◌≢◌, ◌≤◌, ℕ, List, [], true, false, not, is_some, OnOk, IfOk, IsOkUnless};
+ghost use Rattle.std.specs.FinMap as map;
+ghost use Rattle.scp_kv.specs.Op.{ops_in};
+ghost use Rattle.scp_kv.specs.State.{after_value};
+ghost use Rattle.scp_driver.specs.Kv.{kv_says, greatest, greatest_from, leader_place, IsGreatest, IsPlace};
+ghost use Rattle.scp_driver.specs.KvLaws.{greatest_full, list_is_short, no_list_stays};
 
+use crate::application::Application;
 use crate::driver::{Driver, Level};
-use scp_kv::is_ops;
+use scp_kv::{KvState, apply_value, is_ops};
 use scp_types::{Fault, Slot, Value};
 use std::alloc::Global;
 
-/// The product's driver (this project's profile): operation lists are fully validated and all else is invalid, nothing is
-/// taken of an invalid value, the greatest candidate by bytes is the composite, and nodes lead in turn.
+/// The product's application (this project's profile): operation lists are fully validated and all else is invalid, nothing is
+/// taken of an invalid value, the greatest candidate by bytes is the composite, and nodes lead in turn; the state is a map from
+/// keys to values, to which the operations of each list are applied.
 #[derive(Clone, Copy, Debug)]
 pub struct KvDriver;
 
@@ -29,13 +34,7 @@ pub fn greatest_of(values: &[Value]) -> &Value
 }
 
 impl Driver for KvDriver {
-    ghost level = { λ d slot v. kv_level v };
-
-    ghost extracted = { λ d slot v. None };
-
-    ghost combined = { λ d slot vs. greatest vs };
-
-    ghost place = { λ d slot round n. leader_place slot round n };
+    ghost says = { kv_says };
 
     fn validate(&self, _slot: Slot, value: &Value) -> Level {
         if is_ops(value) {
@@ -62,6 +61,30 @@ impl Driver for KvDriver {
     ghost combines_full = { λ d slot vs some all. greatest_full vs some all };
 
     ghost valid_is_short = { λ d slot v valid. list_is_short v valid };
+}
+
+impl Application for KvDriver {
+    type State = KvState;
+
+    ghost first = { map.empty };
+
+    ghost after = { after_value };
+
+    ghost is_refused = { λ state value. not (is_some (ops_in value)) };
+
+    fn new_state(alloc: Global) -> KvState {
+        KvState::new(alloc)
+    }
+
+    fn refuses(_state: &KvState, value: &Value) -> bool {
+        !is_ops(value)
+    }
+
+    fn apply(state: &mut KvState, value: &Value) -> Result<(), Fault> {
+        apply_value(state, value)
+    }
+
+    ghost refused_stays = { no_list_stays };
 }
 
 /// The place (slot + round - 2) mod n, over the integers, of a round's leader among n nodes: nodes lead in turn, and for slot 1

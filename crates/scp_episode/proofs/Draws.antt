@@ -5,6 +5,7 @@ use Rattle.std.proofs.lemmas.Result.{on_ok_weaker}
 use Rattle.scp_types.specs.declared.fault.Fault.{Fault}
 use Rattle.std.proofs.lemmas.List.{map-append}
 use Rattle.std.proofs.lemmas.Grind.{flat_map-append}
+use Rattle.scp_driver.specs.Driver.{Says}
 use Rattle.scp_outbox.specs.Outbox.{OutboxView}
 use Rattle.scp_outboxes.specs.Handing.{waiting_in, waiting_at}
 use Rattle.scp_wire.specs.declared.link.Bytes.{Bytes}
@@ -33,19 +34,21 @@ get_other (x ∷ xs) zero (suc j) y h = refl
 get_other (x ∷ xs) (suc k) zero y h = refl
 get_other (x ∷ xs) (suc k) (suc j) y h = get_other xs k j y (λ e. h (ap suc e))
 
--- a drain of a link leaves the others as they were
-pub others_stay : (v w : NodeView) (l : ℕ) (bytes : Bytes) → Step v (event.Drain l) (reply.Sent bytes) w → OthersStay l v w
-others_stay v w l bytes s m apart =
-    let d = s.1 in
-    let waits : waiting_at w.outboxes m ≡ waiting_at v.outboxes m =
-    ap (λ (o : List OutboxView). waiting_at o m) d.gives.is ∙ ap waiting_in (get_other v.outboxes l m d.gives.after' apart) in
-    ap (λ (u : NodeView). leaving_at u m) d.is ∙ ap (λ (n : ℕ). if accepts_at v m then n else 0) waits
+module _ {D : Type 0} (says : Says D) where
+  -- a drain of a link leaves the others as they were
+  pub others_stay : (v w : NodeView D) (l : ℕ) (bytes : Bytes) → Step says v (event.Drain l) (reply.Sent bytes) w → OthersStay l v w
+  others_stay v w l bytes s m apart =
+      let d = s.1 in
+      let waits : waiting_at w.outboxes m ≡ waiting_at v.outboxes m =
+      ap (λ (o : List OutboxView). waiting_at o m) d.gives.is ∙ ap waiting_in (get_other v.outboxes l m d.gives.after' apart) in
+      ap (λ (u : NodeView D). leaving_at u m) d.is ∙ ap (λ (n : ℕ). if accepts_at v m then n else 0) waits
 
-pub stay_on : (l : ℕ) (a b c : NodeView) → OthersStay l a b → OthersStay l b c → OthersStay l a c
-stay_on l a b c p q m apart = q m apart ∙ p m apart
+module _ {D : Type 0} where
+  pub stay_on : (l : ℕ) (a b c : NodeView D) → OthersStay l a b → OthersStay l b c → OthersStay l a c
+  stay_on l a b c p q m apart = q m apart ∙ p m apart
 
-pub rest_stay : (l : ℕ) (a b c : NodeView) → RestStay l a b → OthersStay l b c → RestStay (l + 1) a c
-rest_stay l a b c p q m le = q m (λ e. absurd (omega (arith, le, e))) ∙ p m (omega (arith, le))
+  pub rest_stay : (l : ℕ) (a b c : NodeView D) → RestStay l a b → OthersStay l b c → RestStay (l + 1) a c
+  rest_stay l a b c p q m le = q m (λ e. absurd (omega (arith, le, e))) ∙ p m (omega (arith, le))
 
 -- ---- what was drained adds up
 
@@ -64,9 +67,10 @@ drained_on es fs before mid after' x y p q = record {
 pub drained_one : (l : ℕ) (bytes : Bytes) (before after' : List Sending) → after' ≡ before ++ record { link = l; bytes = bytes } ∷ [] → Drained (event.Drain l ∷ []) before after' ((event.Drain l, reply.Sent bytes) ∷ [])
 drained_one l bytes before after' is = record { events_are = refl; sent = (tt, tt); added = is }
 
--- a node runs on that sent
-pub sent_runs : (v w : NodeView) (l : ℕ) (bytes : Bytes) → Step v (event.Drain l) (reply.Sent bytes) w → w.failed ≡ v.failed
-sent_runs v w l bytes s = ap (λ (u : NodeView). u.failed) s.1.is
+module _ {D : Type 0} (says : Says D) where
+  -- a node runs on that sent
+  pub sent_runs : (v w : NodeView D) (l : ℕ) (bytes : Bytes) → Step says v (event.Drain l) (reply.Sent bytes) w → w.failed ≡ v.failed
+  sent_runs v w l bytes s = ap (λ (u : NodeView D). u.failed) s.1.is
 
 -- ---- what was drained, unless it was refused
 
@@ -74,43 +78,46 @@ sent_runs v w l bytes s = ap (λ (u : NodeView). u.failed) s.1.is
 abbrev pub done : Result (Unit {0}) Fault
 done = Ok tt
 
-pub draws_none : {W : Type 0} (Note : Noting W) (w : W) (a : NodeView) (sent : List Sending) → GoesDraws Note done w a a (λ heard. Drained [] sent sent heard) w
-draws_none Note w a sent = goes_nothing a (λ o heard n. OnOk done (Drained [] sent sent heard) × Watched Note 1 w o heard n w) (drained_none sent, (refl, refl))
+module _ {D : Type 0} (says : Says D) where
+  pub draws_none : {W : Type 0} (Note : Noting D W) (w : W) (a : NodeView D) (sent : List Sending) → GoesDraws says Note done w a a (λ heard. Drained [] sent sent heard) w
+  draws_none Note w a sent = goes_nothing says a (λ o heard n. OnOk done (Drained [] sent sent heard) × Watched says Note 1 w o heard n w) (drained_none sent, (refl, refl))
 
--- so much, and then more, or a refusal
-pub draws_then : {W : Type 0} (Note : Noting W) (s : Result (Unit {0}) Fault) (w v z : W) (a b c : NodeView) (es fs : List Event) (before mid after' : List Sending) → GoesDraws Note done w a b (λ heard. Drained es before mid heard) v → GoesDraws Note s v b c (λ heard. Drained fs mid after' heard) z → GoesDraws Note s w a c (λ heard. Drained (es ++ fs) before after' heard) z
-draws_then Note s w v z a b c es fs before mid after' f g =
-    goes_then a b c (λ o heard n. OnOk done (Drained es before mid heard) × Watched Note 1 w o heard n v) (λ o heard n. OnOk s (Drained fs mid after' heard) × Watched Note 1 v o heard n z) (λ o heard n. OnOk s (Drained (es ++ fs) before after' heard) × Watched Note 1 w o heard n z)
-    (λ h k dh dk p q. (
-      on_ok_weaker s (λ (d : Drained fs mid after' k). drained_on es fs before mid after' h k p.0 d) q.0,
-      watched_on Note w v z a b c h k p.1 q.1,
-    )) f g
+  -- so much, and then more, or a refusal
+  pub draws_then : {W : Type 0} (Note : Noting D W) (s : Result (Unit {0}) Fault) (w v z : W) (a b c : NodeView D) (es fs : List Event) (before mid after' : List Sending) → GoesDraws says Note done w a b (λ heard. Drained es before mid heard) v → GoesDraws says Note s v b c (λ heard. Drained fs mid after' heard) z → GoesDraws says Note s w a c (λ heard. Drained (es ++ fs) before after' heard) z
+  draws_then Note s w v z a b c es fs before mid after' f g =
+      goes_then says a b c (λ o heard n. OnOk done (Drained es before mid heard) × Watched says Note 1 w o heard n v) (λ o heard n. OnOk s (Drained fs mid after' heard) × Watched says Note 1 v o heard n z) (λ o heard n. OnOk s (Drained (es ++ fs) before after' heard) × Watched says Note 1 w o heard n z)
+      (λ h k dh dk p q. (
+        on_ok_weaker s (λ (d : Drained fs mid after' k). drained_on es fs before mid after' h k p.0 d) q.0,
+        watched_on says Note w v z a b c h k p.1 q.1,
+      )) f g
 
--- and then a refusal that is handed on
-pub draws_err : {W : Type 0} (Note : Noting W) (y : Fault) (r s : Result (Unit {0}) Fault) (w v z : W) (a b c : NodeView) (P Q R : List Exchange → Type 0) → GoesDraws Note r w a b P v → GoesDraws Note s v b c Q z → GoesDraws {T = Unit {0}} Note (Err y) w a c R z
-draws_err Note y r s w v z a b c P Q R f g =
-    goes_then a b c (λ o heard n. OnOk r (P heard) × Watched Note 1 w o heard n v) (λ o heard n. OnOk s (Q heard) × Watched Note 1 v o heard n z) (λ o heard n. OnOk {T = Unit {0}} {E = Fault} (Err y) (R heard) × Watched Note 1 w o heard n z)
-    (λ h k dh dk p q. (tt, watched_on Note w v z a b c h k p.1 q.1)) f g
+  -- and then a refusal that is handed on
+  pub draws_err : {W : Type 0} (Note : Noting D W) (y : Fault) (r s : Result (Unit {0}) Fault) (w v z : W) (a b c : NodeView D) (P Q R : List Exchange → Type 0) → GoesDraws says Note r w a b P v → GoesDraws says Note s v b c Q z → GoesDraws says {T = Unit {0}} Note (Err y) w a c R z
+  draws_err Note y r s w v z a b c P Q R f g =
+      goes_then says a b c (λ o heard n. OnOk r (P heard) × Watched says Note 1 w o heard n v) (λ o heard n. OnOk s (Q heard) × Watched says Note 1 v o heard n z) (λ o heard n. OnOk {T = Unit {0}} {E = Fault} (Err y) (R heard) × Watched says Note 1 w o heard n z)
+      (λ h k dh dk p q. (tt, watched_on says Note w v z a b c h k p.1 q.1)) f g
 
-pub draws_as : {W : Type 0} (Note : Noting W) (r : Result (Unit {0}) Fault) (w z : W) (a b : NodeView) (es fs : List Event) (before after' : List Sending) → es ≡ fs → GoesDraws Note r w a b (λ heard. Drained es before after' heard) z → GoesDraws Note r w a b (λ heard. Drained fs before after' heard) z
-draws_as Note r w z a b es fs before after' is g = subst (λ (l : List Event). GoesDraws Note r w a b (λ heard. Drained l before after' heard) z) is g
+  pub draws_as : {W : Type 0} (Note : Noting D W) (r : Result (Unit {0}) Fault) (w z : W) (a b : NodeView D) (es fs : List Event) (before after' : List Sending) → es ≡ fs → GoesDraws says Note r w a b (λ heard. Drained es before after' heard) z → GoesDraws says Note r w a b (λ heard. Drained fs before after' heard) z
+  draws_as Note r w z a b es fs before after' is g = subst (λ (l : List Event). GoesDraws says Note r w a b (λ heard. Drained l before after' heard) z) is g
 
--- the drains of a link more
-pub all_with : (a b : NodeView) (l count : ℕ) → count ≡ leaving_at b l → RestStay l a b → drains_of a l ++ replicate count (event.Drain l) ≡ drains_of a (l + 1)
-all_with a b l count is stay =
-    let e : l + 1 ≡ suc l = omega arith in
-    ap (λ (k : ℕ). drains_of a l ++ replicate k (event.Drain l)) (is ∙ stay l (omega arith)) ∙ ap (λ (k : ℕ). drains_of a k) (sym e)
+module _ {D : Type 0} where
+  -- the drains of a link more
+  pub all_with : (a b : NodeView D) (l count : ℕ) → count ≡ leaving_at b l → RestStay l a b → drains_of a l ++ replicate count (event.Drain l) ≡ drains_of a (l + 1)
+  all_with a b l count is stay =
+      let e : l + 1 ≡ suc l = omega arith in
+      ap (λ (k : ℕ). drains_of a l ++ replicate k (event.Drain l)) (is ∙ stay l (omega arith)) ∙ ap (λ (k : ℕ). drains_of a k) (sym e)
 
--- a message of a link was sent, and added unless there was no memory
-pub draw_sent : {W : Type 0} (Note : Noting W) (r : Result (Unit {0}) Fault) (w z : W) (a b : NodeView) (l : ℕ) (bytes : Bytes) (before after' : List Sending) → Step a (event.Drain l) (reply.Sent bytes) b → ((past : List Exchange) → LedgerTheorem past a → LedgerTheorem (past ++ (event.Drain l, reply.Sent bytes) ∷ []) b) → Note w 1 (event.Drain l) (reply.Sent bytes) a b z → OnOk r (after' ≡ before ++ record { link = l; bytes = bytes } ∷ []) → GoesDraws Note r w a b (λ heard. Drained (event.Drain l ∷ []) before after' heard) z
-draw_sent Note r w z a b l bytes before after' step theorem note added =
-    goes_one a b (event.Drain l) (reply.Sent bytes) (λ o heard n. OnOk r (Drained (event.Drain l ∷ []) before after' heard) × Watched Note 1 w o heard n z) step theorem
-    (on_ok_weaker r (λ (is : after' ≡ before ++ record { link = l; bytes = bytes } ∷ []). drained_one l bytes before after' is) added, watched_one Note w z a b (event.Drain l) (reply.Sent bytes) step note)
+module _ {D : Type 0} (says : Says D) where
+  -- a message of a link was sent, and added unless there was no memory
+  pub draw_sent : {W : Type 0} (Note : Noting D W) (r : Result (Unit {0}) Fault) (w z : W) (a b : NodeView D) (l : ℕ) (bytes : Bytes) (before after' : List Sending) → Step says a (event.Drain l) (reply.Sent bytes) b → ((past : List Exchange) → LedgerTheorem says past a → LedgerTheorem says (past ++ (event.Drain l, reply.Sent bytes) ∷ []) b) → Note w 1 (event.Drain l) (reply.Sent bytes) a b z → OnOk r (after' ≡ before ++ record { link = l; bytes = bytes } ∷ []) → GoesDraws says Note r w a b (λ heard. Drained (event.Drain l ∷ []) before after' heard) z
+  draw_sent Note r w z a b l bytes before after' step theorem note added =
+      goes_one says a b (event.Drain l) (reply.Sent bytes) (λ o heard n. OnOk r (Drained (event.Drain l ∷ []) before after' heard) × Watched says Note 1 w o heard n z) step theorem
+      (on_ok_weaker r (λ (is : after' ≡ before ++ record { link = l; bytes = bytes } ∷ []). drained_one l bytes before after' is) added, watched_one says Note w z a b (event.Drain l) (reply.Sent bytes) step note)
 
--- none was sent
-pub draw_refused : {W : Type 0} (Note : Noting W) (w z : W) (a b : NodeView) (l : ℕ) (r : Reply) (y : Fault) (P : List Exchange → Type 0) → Step a (event.Drain l) r b → ((past : List Exchange) → LedgerTheorem past a → LedgerTheorem (past ++ (event.Drain l, r) ∷ []) b) → Note w 1 (event.Drain l) r a b z → GoesDraws {T = Unit {0}} Note (Err y) w a b P z
-draw_refused Note w z a b l r y P step theorem note =
-    goes_one a b (event.Drain l) r (λ o heard n. OnOk {T = Unit {0}} {E = Fault} (Err y) (P heard) × Watched Note 1 w o heard n z) step theorem (tt, watched_one Note w z a b (event.Drain l) r step note)
+  -- none was sent
+  pub draw_refused : {W : Type 0} (Note : Noting D W) (w z : W) (a b : NodeView D) (l : ℕ) (r : Reply) (y : Fault) (P : List Exchange → Type 0) → Step says a (event.Drain l) r b → ((past : List Exchange) → LedgerTheorem says past a → LedgerTheorem says (past ++ (event.Drain l, r) ∷ []) b) → Note w 1 (event.Drain l) r a b z → GoesDraws says {T = Unit {0}} Note (Err y) w a b P z
+  draw_refused Note w z a b l r y P step theorem note =
+      goes_one says a b (event.Drain l) r (λ o heard n. OnOk {T = Unit {0}} {E = Fault} (Err y) (P heard) × Watched says Note 1 w o heard n z) step theorem (tt, watched_one says Note w z a b (event.Drain l) r step note)
 
 pub on_ok_any : {P : Type 0} (r : Result (Unit {0}) Fault) → P → OnOk r P
 on_ok_any (Ok x) p = p

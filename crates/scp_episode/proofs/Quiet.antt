@@ -3,6 +3,7 @@ use Rattle.std.proofs.Common.{◌≡◌, ◌<◌, ◌+◌, ℕ, zero, suc, Bool,
 use Rattle.std.specs.Prelude.{◌↔◌, ◌||◌}
 use Rattle.std.specs.List.{AllByRecursion}
 use Rattle.std.proofs.lemmas.Grind.{flat_map-append}
+use Rattle.scp_driver.specs.Driver.{Says}
 use Rattle.scp_core.specs.declared.event.Event.{Event}
 use Rattle.scp_core.specs.declared.event.Event.TheVariants as event
 use Rattle.scp_core.specs.declared.event.Reply.{Reply}
@@ -66,52 +67,55 @@ readers (suc link) = all_on IsNoDrain (reader_events link) (event.ReaderTake lin
 stages : (links : ℕ) → AllByRecursion IsNoDrain (stage_events links)
 stages links = all_on IsNoDrain (reader_events links) (event.PendTake ∷ event.PendPut ∷ event.SlotTake ∷ event.SlotPut ∷ event.ApplyTake ∷ []) (readers links) (tt, (tt, (tt, (tt, (tt, tt)))))
 
-turn_sends_none : (a b : NodeView) (heard : List Exchange) → IsTurn a heard b → sent_in heard ≡ []
-turn_sends_none a b heard t = all_send_none heard (subst (λ (es : List Event). AllByRecursion IsNoDrain es) (sym t) (stages (links_of a)))
+module _ {D : Type 0} where
+  turn_sends_none : (a b : NodeView D) (heard : List Exchange) → IsTurn a heard b → sent_in heard ≡ []
+  turn_sends_none a b heard t = all_send_none heard (subst (λ (es : List Event). AllByRecursion IsNoDrain es) (sym t) (stages (links_of a)))
 
 none_and_none : (x y heard : List Exchange) → heard ≡ x ++ y → sent_in x ≡ [] → sent_in y ≡ [] → sent_in heard ≡ []
 none_and_none x y heard is p q =
     ap sent_in is ∙ flat_map-append (λ (e : Exchange). sent_by e.0 e.1) x y ∙ ap (λ (l : List Sending). l ++ sent_in y) p ∙ q
 
-turns_send_none : (n : ℕ) (a b : NodeView) (heard : List Exchange) → AreMovingTurns n a heard b → sent_in heard ≡ []
-turns_send_none zero a b heard t = ap sent_in t.0
-turns_send_none (suc n) a b heard t = none_and_none t.first t.rest heard t.split (turns_send_none n a t.mid t.first t.one) (turn_sends_none t.mid b t.rest t.two.1)
+module _ {D : Type 0} (says : Says D) where
+  turns_send_none : (n : ℕ) (a b : NodeView D) (heard : List Exchange) → AreMovingTurns says n a heard b → sent_in heard ≡ []
+  turns_send_none zero a b heard t = ap sent_in t.0
+  turns_send_none (suc n) a b heard t = none_and_none t.first t.rest heard t.split (turns_send_none n a t.mid t.first t.one) (turn_sends_none t.mid b t.rest t.two.1)
 
--- a node that comes to rest sends nothing
-pub rest_sends_none : (calm : Bool) (a b : NodeView) (heard : List Exchange) → Rests calm a heard b → sent_in heard ≡ []
-rest_sends_none true a b heard r = none_and_none r.2.first r.2.rest heard r.2.split (turns_send_none r.0 a r.2.mid r.2.first r.2.one) (turn_sends_none r.2.mid b r.2.rest r.2.two.1)
-rest_sends_none false a b heard r = turns_send_none 100000 a b heard r
+  -- a node that comes to rest sends nothing
+  pub rest_sends_none : (calm : Bool) (a b : NodeView D) (heard : List Exchange) → Rests says calm a heard b → sent_in heard ≡ []
+  rest_sends_none true a b heard r = none_and_none r.2.first r.2.rest heard r.2.split (turns_send_none r.0 a r.2.mid r.2.first r.2.one) (turn_sends_none r.2.mid b r.2.rest r.2.two.1)
+  rest_sends_none false a b heard r = turns_send_none 100000 a b heard r
 
--- ---- turns, of which a watch is told
+  -- ---- turns, of which a watch is told
 
--- a turn, of which it is said whether it moved something
-abbrev pub Turns : {W : Type 0} → Noting W → W → Bool → NodeView → NodeView → W → Type 0
-Turns {W} Note w moved old new z = Goes old new (λ a heard b. IsTurn a heard b × Watched Note 1 w a heard b z × ((moved ≡ false) ↔ IsStill heard))
+  -- a turn, of which it is said whether it moved something
+  abbrev pub Turns : {W : Type 0} → Noting D W → W → Bool → NodeView D → NodeView D → W → Type 0
+  Turns {W} Note w moved old new z = Goes says old new (λ a heard b. IsTurn a heard b × Watched says Note 1 w a heard b z × ((moved ≡ false) ↔ IsStill heard))
 
--- it rested so, and a watch was told of it
-abbrev pub RestsWatched : {W : Type 0} → Noting W → Saying → W → NodeView → NodeView → W → Type 0
-RestsWatched {W} Note Is w old new z = Goes old new (λ a heard b. Is a heard b × Watched Note 1 w a heard b z)
+  -- it rested so, and a watch was told of it
+  abbrev pub RestsWatched : {W : Type 0} → Noting D W → Saying D → W → NodeView D → NodeView D → W → Type 0
+  RestsWatched {W} Note Is w old new z = Goes says old new (λ a heard b. Is a heard b × Watched says Note 1 w a heard b z)
 
-pub none_yet : {W : Type 0} (Note : Noting W) (w : W) (a : NodeView) → RestsWatched Note (AreMovingTurns 0) w a a w
-none_yet Note w a = goes_nothing a (λ o heard n. AreMovingTurns 0 o heard n × Watched Note 1 w o heard n w) ((refl, refl), (refl, refl))
+  pub none_yet : {W : Type 0} (Note : Noting D W) (w : W) (a : NodeView D) → RestsWatched Note (AreMovingTurns says 0) w a a w
+  none_yet Note w a = goes_nothing says a (λ o heard n. AreMovingTurns says 0 o heard n × Watched says Note 1 w o heard n w) ((refl, refl), (refl, refl))
 
 moving : (moved : Bool) (heard : List Exchange) → moved ≡ true → ((moved ≡ false) ↔ IsStill heard) → ¬ (IsStill heard)
 moving moved heard is iff = λ still. let e : true ≡ false = sym is ∙ iff.1 still in absurd cc
 
-pub turn_more : {W : Type 0} (Note : Noting W) (w v z : W) (a b c : NodeView) (k : ℕ) (moved : Bool) → moved ≡ true → RestsWatched Note (AreMovingTurns k) w a b v → Turns Note v moved b c z → RestsWatched Note (AreMovingTurns (k + 1)) w a c z
-turn_more Note w v z a b c k moved is g t =
-    let e : k + 1 ≡ suc k = omega arith in
-    subst (λ (j : ℕ). RestsWatched Note (AreMovingTurns j) w a c z) (sym e)
-    (goes_then a b c (λ o heard n. AreMovingTurns k o heard n × Watched Note 1 w o heard n v) (λ o heard n. IsTurn o heard n × Watched Note 1 v o heard n z × ((moved ≡ false) ↔ IsStill heard)) (λ o heard n. AreMovingTurns (suc k) o heard n × Watched Note 1 w o heard n z)
-    (λ x y done next p q. (record { mid = b; first = x; rest = y; split = refl; one = p.0; two = (next, q.0, moving moved y is q.2) }, watched_on Note w v z a b c x y p.1 q.1)) g t)
+module _ {D : Type 0} (says : Says D) where
+  pub turn_more : {W : Type 0} (Note : Noting D W) (w v z : W) (a b c : NodeView D) (k : ℕ) (moved : Bool) → moved ≡ true → RestsWatched says Note (AreMovingTurns says k) w a b v → Turns says Note v moved b c z → RestsWatched says Note (AreMovingTurns says (k + 1)) w a c z
+  turn_more Note w v z a b c k moved is g t =
+      let e : k + 1 ≡ suc k = omega arith in
+      subst (λ (j : ℕ). RestsWatched says Note (AreMovingTurns says j) w a c z) (sym e)
+      (goes_then says a b c (λ o heard n. AreMovingTurns says k o heard n × Watched says Note 1 w o heard n v) (λ o heard n. IsTurn o heard n × Watched says Note 1 v o heard n z × ((moved ≡ false) ↔ IsStill heard)) (λ o heard n. AreMovingTurns says (suc k) o heard n × Watched says Note 1 w o heard n z)
+      (λ x y done next p q. (record { mid = b; first = x; rest = y; split = refl; one = p.0; two = (next, q.0, moving moved y is q.2) }, watched_on says Note w v z a b c x y p.1 q.1)) g t)
 
-pub comes_to_rest : {W : Type 0} (Note : Noting W) (w v z : W) (a b c : NodeView) (k : ℕ) (moved : Bool) → k < 100000 → moved ≡ false → RestsWatched Note (AreMovingTurns k) w a b v → Turns Note v moved b c z → RestsWatched Note (Rests true) w a c z
-comes_to_rest Note w v z a b c k moved lt is g t =
-    goes_then a b c (λ o heard n. AreMovingTurns k o heard n × Watched Note 1 w o heard n v) (λ o heard n. IsTurn o heard n × Watched Note 1 v o heard n z × ((moved ≡ false) ↔ IsStill heard)) (λ o heard n. Rests true o heard n × Watched Note 1 w o heard n z)
-    (λ x y done next p q. ((k, lt, record { mid = b; first = x; rest = y; split = refl; one = p.0; two = (next, q.0, q.2.0 is) }), watched_on Note w v z a b c x y p.1 q.1)) g t
+  pub comes_to_rest : {W : Type 0} (Note : Noting D W) (w v z : W) (a b c : NodeView D) (k : ℕ) (moved : Bool) → k < 100000 → moved ≡ false → RestsWatched says Note (AreMovingTurns says k) w a b v → Turns says Note v moved b c z → RestsWatched says Note (Rests says true) w a c z
+  comes_to_rest Note w v z a b c k moved lt is g t =
+      goes_then says a b c (λ o heard n. AreMovingTurns says k o heard n × Watched says Note 1 w o heard n v) (λ o heard n. IsTurn o heard n × Watched says Note 1 v o heard n z × ((moved ≡ false) ↔ IsStill heard)) (λ o heard n. Rests says true o heard n × Watched says Note 1 w o heard n z)
+      (λ x y done next p q. ((k, lt, record { mid = b; first = x; rest = y; split = refl; one = p.0; two = (next, q.0, q.2.0 is) }), watched_on says Note w v z a b c x y p.1 q.1)) g t
 
-pub goes_on : {W : Type 0} (Note : Noting W) (w z : W) (a b : NodeView) (k : ℕ) → k ≡ 100000 → RestsWatched Note (AreMovingTurns k) w a b z → RestsWatched Note (Rests false) w a b z
-goes_on Note w z a b k is g = subst (λ (j : ℕ). RestsWatched Note (AreMovingTurns j) w a b z) is g
+  pub goes_on : {W : Type 0} (Note : Noting D W) (w z : W) (a b : NodeView D) (k : ℕ) → k ≡ 100000 → RestsWatched says Note (AreMovingTurns says k) w a b z → RestsWatched says Note (Rests says false) w a b z
+  goes_on Note w z a b k is g = subst (λ (j : ℕ). RestsWatched says Note (AreMovingTurns says j) w a b z) is g
 
 -- ---- who watches for a full journal
 
@@ -133,11 +137,12 @@ full_later w reply.NoMemory = refl
 turned : (a b c : Bool) → (b || (a || c)) ≡ ((a || b) || c)
 turned a b c = grind arith
 
--- it remembers just that
-pub remembers : (heard : List Exchange) (w z : Fullness) (a b : NodeView) → Watched notes_full 1 w a heard b z → z.is_full ≡ (finds_full heard || w.is_full)
-remembers [] w z a b p = ap (λ (u : Fullness). u.is_full) p.1
-remembers (x ∷ heard) w z a b p =
-    let note = p.3 in
-    let mid : p.1 ≡ full_after w x.1 = note.2 ∙ ap (λ (u : Fullness). full_after u x.1) note.1 in
-    remembers heard p.1 z p.0 b p.4 ∙ ap (λ (b : Bool). finds_full heard || b) (ap (λ (u : Fullness). u.is_full) mid ∙ full_later w x.1)
-    ∙ turned (is_full_reply x.1) (finds_full heard) w.is_full
+module _ {D : Type 0} (says : Says D) where
+  -- it remembers just that
+  pub remembers : (heard : List Exchange) (w z : Fullness) (a b : NodeView D) → Watched says notes_full 1 w a heard b z → z.is_full ≡ (finds_full heard || w.is_full)
+  remembers [] w z a b p = ap (λ (u : Fullness). u.is_full) p.1
+  remembers (x ∷ heard) w z a b p =
+      let note = p.3 in
+      let mid : p.1 ≡ full_after w x.1 = note.2 ∙ ap (λ (u : Fullness). full_after u x.1) note.1 in
+      remembers heard p.1 z p.0 b p.4 ∙ ap (λ (b : Bool). finds_full heard || b) (ap (λ (u : Fullness). u.is_full) mid ∙ full_later w x.1)
+      ∙ turned (is_full_reply x.1) (finds_full heard) w.is_full

@@ -1,6 +1,7 @@
 -- What comes of an event that a host tells a node: the node comes to rest, and then all that waits for a peer goes out.
 use Rattle.std.specs.Prelude.{ℕ, ◌≡◌, zero, suc, Bool, true, false, List, [], ◌∷◌, ◌++◌, replicate, flat_map, if◌then◌else◌}
 use Rattle.std.specs.List.{AllByRecursion, list_any}
+use Rattle.scp_driver.specs.Driver.{Says}
 use Rattle.scp_outboxes.specs.Handing.{waiting_at}
 use Rattle.scp_core.specs.declared.event.Event.{Event}
 use Rattle.scp_core.specs.declared.event.Event.TheVariants as event
@@ -20,14 +21,15 @@ IsOfHost (event.Close l) = Unit {0}
 IsOfHost (event.Local command) = Unit {0}
 IsOfHost e = ⊥
 
--- how many messages go out over a link: all that wait in its outbox, where the link is open and has room; else none
-abbrev pub leaving_at : NodeView → ℕ → ℕ
-leaving_at v l = if accepts_at v l then waiting_at v.outboxes l else 0
+module _ {D : Type 0} where
+  -- how many messages go out over a link: all that wait in its outbox, where the link is open and has room; else none
+  abbrev pub leaving_at : NodeView D → ℕ → ℕ
+  leaving_at v l = if accepts_at v l then waiting_at v.outboxes l else 0
 
--- what goes out of a node over so many links: of each, in their order, all that is leaving
-abbrev pub drains_of : NodeView → ℕ → List Event
-drains_of v zero = []
-drains_of v (suc l) = drains_of v l ++ replicate (leaving_at v l) (event.Drain l)
+  -- what goes out of a node over so many links: of each, in their order, all that is leaving
+  abbrev pub drains_of : NodeView D → ℕ → List Event
+  drains_of v zero = []
+  drains_of v (suc l) = drains_of v l ++ replicate (leaving_at v l) (event.Drain l)
 
 -- a reply by which bytes went out
 abbrev pub IsSentReply : Reply → Type 0
@@ -38,30 +40,31 @@ IsSentReply other = ⊥
 abbrev pub AreSent : List Exchange → Type 0
 AreSent heard = AllByRecursion (λ x. IsSentReply x.1) heard
 
--- The node came to rest, and then what was leaving went out, all of it.
-pub record Follows (old : NodeView) (heard : List Exchange) (new : NodeView) : Type 0 where
-  pub calm : Bool  -- whether it came to rest within 100,000 turns
-  pub rested : NodeView
-  pub turns : List Exchange
-  pub drains : List Exchange
-  pub split : heard ≡ turns ++ drains
-  pub rests : Rests calm old turns rested
-  pub does : Does rested drains new
-  pub all : events_of drains ≡ drains_of rested (links_of rested)
-  pub sent : AreSent drains
+module _ {D : Type 0} (says : Says D) where
+  -- The node came to rest, and then what was leaving went out, all of it.
+  pub record Follows (old : NodeView D) (heard : List Exchange) (new : NodeView D) : Type 0 where
+    pub calm : Bool  -- whether it came to rest within 100,000 turns
+    pub rested : NodeView D
+    pub turns : List Exchange
+    pub drains : List Exchange
+    pub split : heard ≡ turns ++ drains
+    pub rests : Rests says calm old turns rested
+    pub does : Does says rested drains new
+    pub all : events_of drains ≡ drains_of rested (links_of rested)
+    pub sent : AreSent drains
 
--- after an event that was accepted all this follows, and after one that was refused nothing
-abbrev pub FollowsOn : Reply → NodeView → List Exchange → NodeView → Type 0
-FollowsOn reply.Accepted old heard new = Follows old heard new
-FollowsOn other old heard new = (heard ≡ []) × (new ≡ old)
+  -- after an event that was accepted all this follows, and after one that was refused nothing
+  abbrev pub FollowsOn : Reply → NodeView D → List Exchange → NodeView D → Type 0
+  FollowsOn reply.Accepted old heard new = Follows old heard new
+  FollowsOn other old heard new = (heard ≡ []) × (new ≡ old)
 
--- An episode of an event: its step, and what follows of it.
-pub record IsEpisode (event : Event) (reply : Reply) (old : NodeView) (heard : List Exchange) (new : NodeView) : Type 0 where
-  pub stepped : NodeView
-  pub rest : List Exchange
-  pub is : heard ≡ (event, reply) ∷ rest
-  pub step : Step old event reply stepped
-  pub follows : FollowsOn reply stepped rest new
+  -- An episode of an event: its step, and what follows of it.
+  pub record IsEpisode (event : Event) (reply : Reply) (old : NodeView D) (heard : List Exchange) (new : NodeView D) : Type 0 where
+    pub stepped : NodeView D
+    pub rest : List Exchange
+    pub is : heard ≡ (event, reply) ∷ rest
+    pub step : Step says old event reply stepped
+    pub follows : FollowsOn reply stepped rest new
 
 -- a step found the journal full, and failed the node
 abbrev pub is_full_reply : Reply → Bool

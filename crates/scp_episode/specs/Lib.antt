@@ -1,3 +1,4 @@
 pub mod Episode
 pub mod Laws
+pub mod Kv
 pub mod inside

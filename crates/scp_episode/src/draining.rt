@@ -8,6 +8,7 @@ ghost use Rattle.scp_episode.specs.inside.Draining.{Drained, GoesDraws, OthersSt
 
 use crate::sending::Sending;
 use scp_core::{Bytes, Event, Node, PEER_LIMIT, Reply};
+use scp_driver::Application;
 use scp_turn::{Watch, step_with};
 use scp_types::Fault;
 
@@ -21,13 +22,13 @@ fn add(sent: &mut Vec<Sending>, link: u8, bytes: Bytes) -> Result<(), Fault>
 }
 
 /// The next message of a link goes out: of one that waits there, unless there is no memory for it.
-fn draw<W: Watch>(
-    node: &mut Node,
+fn draw<A: Application + Drop + Copy, W: Watch<A>>(
+    node: &mut Node<A>,
     link: u8,
     sent: &mut Vec<Sending>,
     watch: &mut W,
 ) -> Result<(), Fault>
-    ensures drawn { GoesDraws (notes W.notes_before W.notes_after) result watch.old node.old node.new (λ heard. Drained (Drain link ∷ []) sent.old.items sent.new.items heard) watch.new }
+    ensures drawn { GoesDraws A.says (notes W.notes_before W.notes_after) result watch.old node.old node.new (λ heard. Drained (Drain link ∷ []) sent.old.items sent.new.items heard) watch.new }
     ensures others { OnOk result (OthersStay link node.old node.new) }
     ensures runs { OnOk result (node.new.failed ≡ node.old.failed) }
     ensures only_memory { IsOkUnless result Fault.NoMemory }
@@ -39,14 +40,14 @@ fn draw<W: Watch>(
 }
 
 /// So many messages of a link go out.
-fn draw_all<W: Watch>(
-    node: &mut Node,
+fn draw_all<A: Application + Drop + Copy, W: Watch<A>>(
+    node: &mut Node<A>,
     link: u8,
     count: usize,
     sent: &mut Vec<Sending>,
     watch: &mut W,
 ) -> Result<(), Fault>
-    ensures drawn { GoesDraws (notes W.notes_before W.notes_after) result watch.old node.old node.new (λ heard. Drained (replicate count (Drain link)) sent.old.items sent.new.items heard) watch.new }
+    ensures drawn { GoesDraws A.says (notes W.notes_before W.notes_after) result watch.old node.old node.new (λ heard. Drained (replicate count (Drain link)) sent.old.items sent.new.items heard) watch.new }
     ensures others { OnOk result (OthersStay link node.old node.new) }
     ensures runs { OnOk result (node.new.failed ≡ node.old.failed) }
     ensures only_memory { IsOkUnless result Fault.NoMemory }
@@ -58,7 +59,7 @@ fn draw_all<W: Watch>(
 }
 
 /// How many messages of a link go out now.
-fn leaving(node: &Node, link: u8) -> usize
+fn leaving<A: Application + Drop + Copy>(node: &Node<A>, link: u8) -> usize
     ensures { result ≡ leaving_at node.now link }
 {
     if node.accepts(link) {
@@ -69,8 +70,12 @@ fn leaving(node: &Node, link: u8) -> usize
 }
 
 /// All that waits for the peer of each open link goes out, link by link; the watch is told of it.
-pub fn drain<W: Watch>(node: &mut Node, sent: &mut Vec<Sending>, watch: &mut W) -> Result<(), Fault>
-    ensures drained { GoesDraws (notes W.notes_before W.notes_after) result watch.old node.old node.new (λ heard. Drained (drains_of node.old (links_of node.old)) sent.old.items sent.new.items heard) watch.new }
+pub fn drain<A: Application + Drop + Copy, W: Watch<A>>(
+    node: &mut Node<A>,
+    sent: &mut Vec<Sending>,
+    watch: &mut W,
+) -> Result<(), Fault>
+    ensures drained { GoesDraws A.says (notes W.notes_before W.notes_after) result watch.old node.old node.new (λ heard. Drained (drains_of node.old (links_of node.old)) sent.old.items sent.new.items heard) watch.new }
     ensures runs { OnOk result (node.new.failed ≡ node.old.failed) }
     ensures only_memory { IsOkUnless result Fault.NoMemory }
 {

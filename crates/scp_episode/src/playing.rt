@@ -9,6 +9,7 @@ use crate::draining::drain;
 use crate::resting::{Fullness, rest};
 use crate::sending::Sending;
 use scp_core::{Event, Node, Reply};
+use scp_driver::Application;
 use scp_turn::{Watch, step_with};
 use scp_types::Fault;
 use std::alloc::Global;
@@ -21,8 +22,12 @@ pub struct Played {
 }
 
 /// The node comes to rest, and what waits goes out. Refused by `Failed` where a step failed the node.
-fn follow<W: Watch>(node: &mut Node, sent: &mut Vec<Sending>, watch: &mut W) -> Result<(), Fault>
-    ensures followed { GoesFollowed (notes W.notes_before W.notes_after) result Reply.Accepted watch.old node.old node.new sent.old.items sent.new.items watch.new }
+fn follow<A: Application + Drop + Copy, W: Watch<A>>(
+    node: &mut Node<A>,
+    sent: &mut Vec<Sending>,
+    watch: &mut W,
+) -> Result<(), Fault>
+    ensures followed { GoesFollowed A.says (notes W.notes_before W.notes_after) result Reply.Accepted watch.old node.old node.new sent.old.items sent.new.items watch.new }
     ensures runs { OnOk result (node.new.failed ≡ false) }
     ensures only { IfErr result (λ f. (f ≡ Fault.NoMemory) ⊎ (f ≡ Fault.Failed)) }
 {
@@ -34,14 +39,14 @@ fn follow<W: Watch>(node: &mut Node, sent: &mut Vec<Sending>, watch: &mut W) -> 
 }
 
 /// What follows of an event with this reply, of a node that ran.
-fn follow_on<W: Watch>(
-    node: &mut Node,
+fn follow_on<A: Application + Drop + Copy, W: Watch<A>>(
+    node: &mut Node<A>,
     reply: &Reply,
     sent: &mut Vec<Sending>,
     watch: &mut W,
 ) -> Result<(), Fault>
     requires runs { node.old.failed ≡ false }
-    ensures followed { GoesFollowed (notes W.notes_before W.notes_after) result reply.now watch.old node.old node.new sent.old.items sent.new.items watch.new }
+    ensures followed { GoesFollowed A.says (notes W.notes_before W.notes_after) result reply.now watch.old node.old node.new sent.old.items sent.new.items watch.new }
     ensures runs { OnOk result (node.new.failed ≡ false) }
     ensures only { IfErr result (λ f. (f ≡ Fault.NoMemory) ⊎ (f ≡ Fault.Failed)) }
 {
@@ -53,16 +58,16 @@ fn follow_on<W: Watch>(
 
 /// The event, and all that follows of it; the watch is told of each step. Refused by `Failed` where the node had failed before, or a step
 /// failed it; and by `NoMemory` where there is none for what went out: then that isn't answered, but the watch was told of it.
-pub fn play_with<W: Watch>(
+pub fn play_with<A: Application + Drop + Copy, W: Watch<A>>(
     alloc: Global,
-    node: &mut Node,
+    node: &mut Node<A>,
     event: Event,
     watch: &mut W,
 ) -> Result<Played, Fault>
     requires { IsOfHost event }
     // What the node heard is an episode of the event, and what went out is what is answered. Also where it is refused the watch was told of each
     // step, and the ledger theorem goes on.
-    ensures episode { Goes node.old node.new (λ a heard b. IfOk result (λ played. IsEpisode event played.reply a heard b × (played.sent.items ≡ sent_in heard)) × Watched (notes W.notes_before W.notes_after) 1 watch.old a heard b watch.new) }
+    ensures episode { Goes A.says node.old node.new (λ a heard b. IfOk result (λ played. IsEpisode A.says event played.reply a heard b × (played.sent.items ≡ sent_in heard)) × Watched A.says (notes W.notes_before W.notes_after) 1 watch.old a heard b watch.new) }
     // A node that failed isn't told to have played it.
     ensures runs { OnOk result (node.new.failed ≡ false) }
     ensures only { IfErr result (λ f. (f ≡ Fault.NoMemory) ⊎ (f ≡ Fault.Failed)) }
@@ -79,10 +84,14 @@ pub fn play_with<W: Watch>(
 /// The event, and all that follows of it. Refused by `Failed` where the node had failed before; by `JournalFull` where a step found its
 /// journal full, and by `NoMemory` where a step lacked memory, each of which failed it; and by `NoMemory` where there is none for what
 /// went out: then that isn't told.
-pub fn play(alloc: Global, node: &mut Node, event: Event) -> Result<Played, Fault>
+pub fn play<A: Application + Drop + Copy>(
+    alloc: Global,
+    node: &mut Node<A>,
+    event: Event,
+) -> Result<Played, Fault>
     requires { IsOfHost event }
     // What the node heard is an episode of the event, and what went out is what is answered. Also where it is refused, the ledger theorem goes on.
-    ensures episode { Goes node.old node.new (λ a heard b. IfOk result (λ played. IsEpisode event played.reply a heard b × (played.sent.items ≡ sent_in heard)) × (IsErrOf result Fault.JournalFull ↔ (finds_full heard ≡ true))) }
+    ensures episode { Goes A.says node.old node.new (λ a heard b. IfOk result (λ played. IsEpisode A.says event played.reply a heard b × (played.sent.items ≡ sent_in heard)) × (IsErrOf result Fault.JournalFull ↔ (finds_full heard ≡ true))) }
     // A node that failed isn't told to have played it.
     ensures runs { OnOk result (node.new.failed ≡ false) }
     ensures failed { IsErrOf result Fault.Failed ↔ (node.old.failed ≡ true) }

@@ -6,6 +6,7 @@ ghost use Rattle.scp_turn.specs.Rest.{Rests};
 ghost use Rattle.scp_episode.specs.Episode.{is_full_reply};
 
 use scp_core::{Event, Node, Reply};
+use scp_driver::Application;
 use scp_turn::{Watch, turn_with};
 
 /// The most turns in which a node comes to rest.
@@ -24,7 +25,7 @@ fn is_journal_full(reply: &Reply) -> bool
     matches!(reply, Reply::JournalFull)
 }
 
-impl Watch for Fullness {
+impl<A: Application + Drop + Copy> Watch<A> for Fullness {
     ghost use Rattle.std.specs.Prelude.{◌≡◌};
     ghost use Rattle.scp_episode.specs.inside.Fullness.{full_after};
 
@@ -32,9 +33,9 @@ impl Watch for Fullness {
 
     ghost notes_after = { λ old _ reply _ new. new ≡ full_after old reply };
 
-    fn before(&mut self, _number: u8, _event: &Event, _node: &Node) {}
+    fn before(&mut self, _number: u8, _event: &Event, _node: &Node<A>) {}
 
-    fn after(&mut self, _number: u8, reply: &Reply, _node: &Node) {
+    fn after(&mut self, _number: u8, reply: &Reply, _node: &Node<A>) {
         if is_journal_full(reply) {
             self.is_full = true;
         }
@@ -42,8 +43,8 @@ impl Watch for Fullness {
 }
 
 /// Brings a node to rest: turns, until one moves nothing, or 100,000; the watch is told of each step. Whether it came to rest.
-pub fn rest<W: Watch>(node: &mut Node, watch: &mut W) -> bool
-    ensures { Goes node.old node.new (λ a heard b. Rests result a heard b × Watched (notes W.notes_before W.notes_after) 1 watch.old a heard b watch.new) }
+pub fn rest<A: Application + Drop + Copy, W: Watch<A>>(node: &mut Node<A>, watch: &mut W) -> bool
+    ensures { Goes A.says node.old node.new (λ a heard b. Rests A.says result a heard b × Watched A.says (notes W.notes_before W.notes_after) 1 watch.old a heard b watch.new) }
 {
     for _ in 0..MOST_TURNS {
         if !turn_with(node, 1, watch) {

@@ -3,7 +3,7 @@
 //! What is promised: it is safe and returns. What it prints is its stored output.
 #![tactic(auto)]
 
-use scp_core::{Bytes, Capacities, Command, Config, Event, Node, Peers, Reply};
+use scp_core::{Bytes, Capacities, Command, Config, Event, KvDriver, Node, Peers, Reply};
 use scp_line::{ReportParts, write_report};
 use scp_quorum::QuorumSet;
 use scp_turn::turn;
@@ -125,7 +125,7 @@ fn played(alloc: Global) -> Result<String, Fault> {
         heard: 0,
     };
     let mut timer = Timer { is_running: true };
-    let mut node = Node::new(alloc, config(alloc)?)?;
+    let mut node = Node::new(alloc, config(alloc)?, KvDriver)?;
     node.step(Event::Local(Command::Propose(Slot(2), proposal)));
     drive(&mut node, &mut peer, &mut timer);
     report_of(alloc, &node, peer.heard)

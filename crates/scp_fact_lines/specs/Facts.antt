@@ -24,7 +24,7 @@ use Rattle.scp_ledger.specs.declared.journal.Origin.TheVariants.{Machine, Named}
 use Rattle.scp_ledger.specs.declared.journal.Verdict.{Verdict}
 use Rattle.scp_core.specs.declared.config.Config.{Config}
 use Rattle.scp_core.specs.History.{peer_at}
-use Rattle.scp_core.specs.Node.{NodeView}
+use Rattle.scp_core.specs.Kv.{NodeView}
 use Rattle.scp_text.specs.Sets.{node_text}
 use Rattle.scp_text.specs.Values.{value_text}
 use Rattle.scp_words.specs.Words.{verdict_word, cause_word, drop_word}

@@ -4,8 +4,8 @@ use Rattle.scp_core.specs.declared.event.Event.{Event}
 use Rattle.scp_core.specs.declared.event.Event.TheVariants as event
 use Rattle.scp_core.specs.declared.event.Reply.{Reply}
 use Rattle.scp_core.specs.History.{Exchange}
-use Rattle.scp_core.specs.Node.{NodeView}
-use Rattle.scp_turn.specs.Watch.{Watched}
+use Rattle.scp_core.specs.Kv.{NodeView}
+use Rattle.scp_turn.specs.Kv.{Watched}
 use Rattle.scp_facts.specs.declared.fact.Fact.{Fact}
 use Rattle.scp_facts.specs.declared.fact.Telling.{Telling}
 use Rattle.scp_facts.specs.declared.watch.Awaited.{Awaited}

@@ -1,6 +1,6 @@
 -- What is told of a step (this project's profile).
 use Rattle.std.specs.Prelude.{ℕ, ◌≡◌, List, ◌++◌, map}
-use Rattle.scp_turn.specs.Watch.{Noting}
+use Rattle.scp_turn.specs.Kv.{Noting}
 use Rattle.scp_facts.specs.declared.fact.Fact.{Fact}
 use Rattle.scp_facts.specs.declared.fact.Telling.{Telling}
 use Rattle.scp_facts.specs.declared.fact.Telling.TheVariants.{Of}

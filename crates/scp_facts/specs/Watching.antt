@@ -4,8 +4,10 @@ use Rattle.scp_core.specs.declared.event.Event.{Event}
 use Rattle.scp_core.specs.declared.event.Event.TheVariants as event
 use Rattle.scp_core.specs.declared.event.Reply.{Reply}
 use Rattle.scp_core.specs.History.{Exchange}
-use Rattle.scp_core.specs.Node.{NodeView, item_at, has_read_at}
-use Rattle.scp_turn.specs.Watch.{Noting, notes, Watched}
+use Rattle.scp_core.specs.Node.{item_at, has_read_at}
+use Rattle.scp_core.specs.Kv.{NodeView}
+use Rattle.scp_turn.specs.Watch.{notes}
+use Rattle.scp_turn.specs.Kv.{Noting, Watched}
 use Rattle.scp_facts.specs.declared.fact.Fact.{Fact}
 use Rattle.scp_facts.specs.declared.fact.Fact.TheVariants.{Came, Given}
 use Rattle.scp_facts.specs.declared.fact.Telling.{Telling}

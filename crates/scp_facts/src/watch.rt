@@ -7,7 +7,7 @@ ghost use Rattle.scp_facts.specs.inside.Adding.{Adds};
 use crate::before::{asked_in, command_in, conn_of_bytes, conn_on, none, one, pending_tells};
 use crate::behind::{applier_tells, discarded, drained, offered, slot_tells};
 use crate::fact::{Fact, FactList, Telling, Told};
-use scp_core::{Command, Event, Node, Reply};
+use scp_core::{Command, Event, KvDriver, Node, Reply};
 use scp_turn::Watch;
 use scp_types::{ConnId, Fault, Slot};
 use std::alloc::Global;
@@ -152,7 +152,7 @@ impl FactWatch {
     }
 }
 
-impl Watch for FactWatch {
+impl Watch<KvDriver> for FactWatch {
     ghost use Rattle.scp_facts.specs.Watching.{Awaits, TellsStep};
 
     ghost notes_before = { Awaits };

@@ -3,7 +3,7 @@ use Rattle.std.specs.Prelude.{ℕ, ◌+◌, List, [], ◌∷◌, ◌++◌, codes
 use Rattle.std.specs.FinMap as finite
 use Rattle.scp_wire.specs.declared.carried.Carried.{Carried}
 use Rattle.scp_ledger.specs.declared.took.CommandFate.{CommandFate}
-use Rattle.scp_gather.specs.declared.gathering.NodeReport.{NodeReport}
+use Rattle.scp_gather.specs.Kv.{NodeReport}
 use Rattle.scp_text.specs.Messages.{message_text}
 use Rattle.scp_text.specs.Sets.{set_text}
 use Rattle.scp_script.specs.declared.command.Command.{Command}

@@ -1,6 +1,7 @@
 -- What became of a node's own commands.
 use Rattle.std.proofs.Common.{◌≡◌, List, [], ◌∷◌, ◌++◌, filter, refl, sym, ◌∙◌, ap, subst, append-nil}
 use Rattle.std.specs.Prelude.{Option}
+use Rattle.scp_driver.specs.Driver.{Says}
 use Rattle.scp_types.specs.declared.names.NodeId.{NodeId}
 use Rattle.scp_quorum.specs.QuorumTree.{QuorumTree}
 use Rattle.scp_wire.specs.declared.link.Command.{Command}
@@ -30,44 +31,45 @@ commands_alone (inbound.Side conn message ∷ xs) = commands_alone xs
 commands_alone (inbound.Closed conn cause ∷ xs) = commands_alone xs
 commands_alone (inbound.Local command ∷ xs) = ap (λ (cs : List Command). passing_command command ++ cs) (commands_alone xs)
 
-module _ (passes : CommandsPass) (me : NodeId) (set : QuorumTree) (peers : List NodeId) (e : Left) (n : IsNode me set peers e) (w : EndWell e) (g : Gathered me set peers e) where
-  -- what the slot stage and the applier received is what the stage before sent
-  pub on_way : values e.slot.input.got ≡ w.given.sent
-  on_way = sole_is e.slot.input w.given n.ready w.journals.heard w.ready
+module _ {D : Type 0} (says : Says D) where
+  module _ (passes : CommandsPass) (me : NodeId) (set : QuorumTree) (peers : List NodeId) (e : Left D) (n : IsNode me set peers e) (w : EndWell says e) (g : Gathered says me set peers e) where
+    -- what the slot stage and the applier received is what the stage before sent
+    pub on_way : values e.slot.input.got ≡ w.given.sent
+    on_way = sole_is e.slot.input w.given n.ready w.journals.heard w.ready
 
-  pub onwards : values e.apply.input.got ≡ w.onward.sent
-  onwards = sole_is e.apply.input w.onward n.decided w.applies.heard w.decided
+    pub onwards : values e.apply.input.got ≡ w.onward.sent
+    onwards = sole_is e.apply.input w.onward n.decided w.applies.heard w.decided
 
-  -- those that were taken are those that came
-  pub came : commands_of (values e.slot.input.got) ≡ commands_in (values e.pend.input.got)
-  came =
-      ap (λ (rs : List Ready). commands_of rs) (on_way ∙ sym (append-nil w.given.sent) ∙ ap (λ (rs : List Ready). w.given.sent ++ rs) (sym w.pends.nothing_left))
-      ∙ passes me peers (values e.pend.input.got) w.given.sent e.pend.stage (node_pends me set peers e n w)
+    -- those that were taken are those that came
+    pub came : commands_of (values e.slot.input.got) ≡ commands_in (values e.pend.input.got)
+    came =
+        ap (λ (rs : List Ready). commands_of rs) (on_way ∙ sym (append-nil w.given.sent) ∙ ap (λ (rs : List Ready). w.given.sent ++ rs) (sym w.pends.nothing_left))
+        ∙ passes me peers (values e.pend.input.got) w.given.sent e.pend.stage (node_pends says me set peers e n w)
 
-  -- and those that were sent
-  passed : commands_of (values e.slot.input.got) ≡ commands_in e.local.sent
-  passed =
-      came
-      ∙ sym (commands_alone (values e.pend.input.got))
-      ∙ ap (λ (xs : List Inbound). commands_in xs) g.told
+    -- and those that were sent
+    passed : commands_of (values e.slot.input.got) ≡ commands_in e.local.sent
+    passed =
+        came
+        ∙ sym (commands_alone (values e.pend.input.got))
+        ∙ ap (λ (xs : List Inbound). commands_in xs) g.told
 
-  -- of the node's own ledger
-  pub told_of : HaveFates me set peers (values e.slot.input.got) w.onward.sent w.journals.out e.slot.stage.fates.items e.slot.stage.ledger
-  told_of =
-      let took = values e.slot.input.got in
-      let out = w.journals.out in
-      let fates = e.slot.stage.fates.items in
-      let first = e.slot.first.ledger in
-      let f : JournalsFor me peers set first = n.journals_for in
-      let here : HaveFates first.me first.local first.peers took w.onward.sent out fates e.slot.stage.ledger =
-      subst (λ (o : Option (Sender Onward)). HaveFates first.me first.local first.peers took (sent_by o) out fates e.slot.stage.ledger) w.slot_ended w.journals.all.told in
-      subst (λ (q : QuorumTree). HaveFates me q peers took w.onward.sent out fates e.slot.stage.ledger) f.local_is
-      (subst (λ (ps : List NodeId). HaveFates me first.local ps took w.onward.sent out fates e.slot.stage.ledger) f.peers_are
-      (subst (λ (m : NodeId). HaveFates m first.local first.peers took w.onward.sent out fates e.slot.stage.ledger) f.me_is here))
+    -- of the node's own ledger
+    pub told_of : HaveFates says me set peers (values e.slot.input.got) w.onward.sent w.journals.out e.slot.stage.fates.items e.slot.stage.ledger
+    told_of =
+        let took = values e.slot.input.got in
+        let out = w.journals.out in
+        let fates = e.slot.stage.fates.items in
+        let first = e.slot.first.ledger in
+        let f : JournalsFor me peers set first = n.journals_for in
+        let here : HaveFates says first.me first.local first.peers took w.onward.sent out fates e.slot.stage.ledger =
+        subst (λ (o : Option (Sender Onward)). HaveFates says first.me first.local first.peers took (sent_by o) out fates e.slot.stage.ledger) w.slot_ended w.journals.all.told in
+        subst (λ (q : QuorumTree). HaveFates says me q peers took w.onward.sent out fates e.slot.stage.ledger) f.local_is
+        (subst (λ (ps : List NodeId). HaveFates says me first.local ps took w.onward.sent out fates e.slot.stage.ledger) f.peers_are
+        (subst (λ (m : NodeId). HaveFates says m first.local first.peers took w.onward.sent out fates e.slot.stage.ledger) f.me_is here))
 
-  pub fates_of_node : AreFatesOf me set peers e e.slot.stage.fates.items
-  fates_of_node = record {
-    commands = passed;
-    out = w.journals.out;
-    told = subst (λ (ys : List Onward). HaveFates me set peers (values e.slot.input.got) ys w.journals.out e.slot.stage.fates.items e.slot.stage.ledger) (sym onwards) told_of;
-  }
+    pub fates_of_node : AreFatesOf says me set peers e e.slot.stage.fates.items
+    fates_of_node = record {
+      commands = passed;
+      out = w.journals.out;
+      told = subst (λ (ys : List Onward). HaveFates says me set peers (values e.slot.input.got) ys w.journals.out e.slot.stage.fates.items e.slot.stage.ledger) (sym onwards) told_of;
+    }

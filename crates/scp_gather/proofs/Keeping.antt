@@ -4,6 +4,7 @@ use Rattle.std.specs.Prelude.{Option, Some, IfSome, is_some, map, slice_get}
 use Rattle.std.specs.Global.{Vec}
 use Rattle.std.specs.List.{AllZip}
 use Rattle.std.proofs.lemmas.List.{append-nil, length-append, length-map, nil_from_length}
+use Rattle.scp_driver.specs.Driver.{Says}
 use Rattle.scp_types.specs.declared.names.NodeId.{NodeId}
 use Rattle.scp_quorum.specs.QuorumTree.{QuorumTree}
 use Rattle.scp_wire.specs.declared.link.LinkItem.{LinkItem}
@@ -40,37 +41,38 @@ same_rows (r ∷ rs) same =
     ap (λ (b : Bool). b ∷ map is_some (map kept_by rs)) (same 0 r refl)
     ∙ ap (λ (bs : List Bool). keeps_by r ∷ bs) (same_rows rs (λ l s at. same (suc l) s at))
 
-module _ (me : NodeId) (set : QuorumTree) (peers : List NodeId) (e : Left) (n : IsNode me set peers e) (w : EndWell e) where
-  counts : length e.links ≡ length e.readers
-  counts = n.links_count ∙ sym n.readers_count
+module _ {D : Type 0} (says : Says D) where
+  module _ (me : NodeId) (set : QuorumTree) (peers : List NodeId) (e : Left D) (n : IsNode me set peers e) (w : EndWell says e) where
+    counts : length e.links ≡ length e.readers
+    counts = n.links_count ∙ sym n.readers_count
 
-  -- the link that a reader reads
-  link_at : (l : ℕ) (r : ReaderEnd) → slice_get e.readers l ≡ Some r → (k : LinkEnd) × (slice_get e.links l ≡ Some k)
-  link_at l r at = let b : l < length e.readers = within e.readers l r at in there_is e.links l (omega (arith, b, counts))
+    -- the link that a reader reads
+    link_at : (l : ℕ) (r : ReaderEnd) → slice_get e.readers l ≡ Some r → (k : LinkEnd) × (slice_get e.links l ≡ Some k)
+    link_at l r at = let b : l < length e.readers = within e.readers l r at in there_is e.links l (omega (arith, b, counts))
 
-  read_out : (l : ℕ) (r : ReaderEnd) (at : slice_get e.readers l ≡ Some r) → IsReadOut e.pend.input (link_at l r at).0 r
-  read_out l r at = let k = link_at l r at in w.lanes l k.0 k.1 r at
+    read_out : (l : ℕ) (r : ReaderEnd) (at : slice_get e.readers l ≡ Some r) → IsReadOut e.pend.input (link_at l r at).0 r
+    read_out l r at = let k = link_at l r at in w.lanes l k.0 k.1 r at
 
-  -- what was received of a link is what was sent over it
-  received : (l : ℕ) (r : ReaderEnd) → slice_get e.readers l ≡ Some r → values r.input.got ≡ sent_over e.links l
-  received l r at =
-      let k = link_at l r at in
-      let b : l < length e.readers = within e.readers l r at in
-      let count : length e.readers ≡ length peers = n.readers_count in
-      let p = there_is peers l (omega (arith, b, count)) in
-      let out = read_out l r at in
-      sole_is r.input k.0.tail (n.lanes l p.0 p.1 k.0 k.1 r at).alone out.reads.heard out.queued ∙ sym (ap items_of k.1)
+    -- what was received of a link is what was sent over it
+    received : (l : ℕ) (r : ReaderEnd) → slice_get e.readers l ≡ Some r → values r.input.got ≡ sent_over e.links l
+    received l r at =
+        let k = link_at l r at in
+        let b : l < length e.readers = within e.readers l r at in
+        let count : length e.readers ≡ length peers = n.readers_count in
+        let p = there_is peers l (omega (arith, b, count)) in
+        let out = read_out l r at in
+        sole_is r.input k.0.tail (n.lanes l p.0 p.1 k.0 k.1 r at).alone out.reads.heard out.queued ∙ sym (ap items_of k.1)
 
-  kept_is : (r : ReaderEnd) (row : Vec LinkItem) (items : List LinkItem) → kept_by r ≡ Some row → IfSome (kept_by r) (λ kept. kept.items ≡ items) → row.items ≡ items
-  kept_is r row items is kept = subst (λ (o : Option (Vec LinkItem)). IfSome o (λ kept. kept.items ≡ items)) is kept
+    kept_is : (r : ReaderEnd) (row : Vec LinkItem) (items : List LinkItem) → kept_by r ≡ Some row → IfSome (kept_by r) (λ kept. kept.items ≡ items) → row.items ≡ items
+    kept_is r row items is kept = subst (λ (o : Option (Vec LinkItem)). IfSome o (λ kept. kept.items ≡ items)) is kept
 
-  pub came_are : (came : List (Option (Vec LinkItem))) → (length e.links ≡ length e.readers → came ≡ map kept_by e.readers) → AreCame e came
-  came_are came is = record {
-    count = ap length (is counts) ∙ length-map e.readers kept_by ∙ sym counts;
-    each = λ l row at.
-        let r = at_map kept_by e.readers l (Some row) (ap (λ (rows : List (Option (Vec LinkItem))). slice_get rows l) (sym (is counts)) ∙ at) in
-        kept_is r.0 row (values r.0.input.got) r.2 (read_out l r.0 r.1).reads.all.kept ∙ received l r.0 r.1;
-  }
+    pub came_are : (came : List (Option (Vec LinkItem))) → (length e.links ≡ length e.readers → came ≡ map kept_by e.readers) → AreCame e came
+    came_are came is = record {
+      count = ap length (is counts) ∙ length-map e.readers kept_by ∙ sym counts;
+      each = λ l row at.
+          let r = at_map kept_by e.readers l (Some row) (ap (λ (rows : List (Option (Vec LinkItem))). slice_get rows l) (sym (is counts)) ∙ at) in
+          kept_is r.0 row (values r.0.input.got) r.2 (read_out l r.0 r.1).reads.all.kept ∙ received l r.0 r.1;
+    }
 
-  pub kept_are : (came : List (Option (Vec LinkItem))) → (length e.links ≡ length e.readers → came ≡ map kept_by e.readers) → AreKept (map keeps_by e.readers) came
-  kept_are came is = ap (λ (rows : List (Option (Vec LinkItem))). map is_some rows) (is counts) ∙ same_rows e.readers (λ l r at. (read_out l r at).reads.all.keeps)
+    pub kept_are : (came : List (Option (Vec LinkItem))) → (length e.links ≡ length e.readers → came ≡ map kept_by e.readers) → AreKept (map keeps_by e.readers) came
+    kept_are came is = ap (λ (rows : List (Option (Vec LinkItem))). map is_some rows) (is counts) ∙ same_rows e.readers (λ l r at. (read_out l r at).reads.all.keeps)

@@ -25,18 +25,19 @@ all_well : (rs : List ReaderEnd) → list_any has_failed rs ≡ false → AllByR
 all_well [] e = tt
 all_well (r ∷ rs) e = let h = no_first (has_failed r) (list_any has_failed rs) e in (is_well r.well h.0, all_well rs h.1)
 
-pub record AllWell (e : Left) : Type 0 where
-  pub readers : AllByRecursion (λ r. r.well ≡ true) e.readers
-  pub pend : e.pend.well ≡ true
-  pub slot : e.slot.well ≡ true
-  pub apply : e.apply.well ≡ true
+module _ {D : Type 0} where
+  pub record AllWell (e : Left D) : Type 0 where
+    pub readers : AllByRecursion (λ r. r.well ≡ true) e.readers
+    pub pend : e.pend.well ≡ true
+    pub slot : e.slot.well ≡ true
+    pub apply : e.apply.well ≡ true
 
-pub none_failed : (e : Left) → first_failed e ≡ None → AllWell e
-none_failed e n =
-    let h = none_so (list_any has_failed e.readers) (has_failed e.pend) (has_failed e.slot) (has_failed e.apply) n in
-    record {
-      readers = all_well e.readers h.0;
-      pend = is_well e.pend.well h.1;
-      slot = is_well e.slot.well h.2;
-      apply = is_well e.apply.well h.3;
-    }
+  pub none_failed : (e : Left D) → first_failed e ≡ None → AllWell e
+  none_failed e n =
+      let h = none_so (list_any has_failed e.readers) (has_failed e.pend) (has_failed e.slot) (has_failed e.apply) n in
+      record {
+        readers = all_well e.readers h.0;
+        pend = is_well e.pend.well h.1;
+        slot = is_well e.slot.well h.2;
+        apply = is_well e.apply.well h.3;
+      }

@@ -1,12 +1,11 @@
 -- What follows where every worker of a node ended well.
-use Rattle.std.specs.Prelude.{◌≡◌, ℕ, Bool, true, false, List, [], ◌++◌, None, Some, IfSome, slice_get, filter}
+use Rattle.std.specs.Prelude.{◌≡◌, ℕ, Bool, true, false, List, [], ◌++◌, Some, IfSome, slice_get, filter}
 use Rattle.std.specs.List.{AllByRecursion}
+use Rattle.scp_driver.specs.Driver.{Says}
 use Rattle.scp_types.specs.declared.limits.TheConstants.{CARRIED_LIMIT}
 use Rattle.scp_types.specs.declared.names.ConnId.{ConnId}
 use Rattle.scp_types.specs.declared.names.NodeId.{NodeId}
 use Rattle.scp_quorum.specs.QuorumTree.{QuorumTree}
-use Rattle.scp_driver.specs.Kv.{kv_level, greatest, leader_place}
-use Rattle.scp_driver.specs.declared.kv_driver.KvDriver.{KvDriver}
 use Rattle.scp_wire.specs.declared.carried.Carried.{Carried}
 use Rattle.scp_wire.specs.declared.message.Message.{Message}
 use Rattle.scp_wire.specs.declared.link.Inbound.{Inbound}
@@ -33,23 +32,24 @@ use Rattle.scp_gather.specs.Node.{IsNode, EndWell}
 
 -- ---- the node, with nothing in a queue or a hand
 
--- the node as the ledger theorem sees it: what the sending ends of its links sent, what its pending stage received, its stages, and nothing
--- in a queue or a hand
-abbrev pub account_gathered : NodeId → QuorumTree → List NodeId → Left → Account KvDriver
-account_gathered me set peers e = record {
-  me = me;
-  set = set;
-  peers = peers;
-  sent = sent_over e.links;
-  upcoming = λ l. [];
-  inbox = [];
-  came = values e.pend.input.got;
-  pending = e.pend.stage;
-  on_way = [];
-  ledger = e.slot.stage.ledger;
-  onward = [];
-  applier = e.apply.stage;
-}
+module _ {D : Type 0} where
+  -- the node as the ledger theorem sees it: what the sending ends of its links sent, what its pending stage received, its stages, and nothing
+  -- in a queue or a hand
+  abbrev pub account_gathered : NodeId → QuorumTree → List NodeId → Left D → Account D
+  account_gathered me set peers e = record {
+    me = me;
+    set = set;
+    peers = peers;
+    sent = sent_over e.links;
+    upcoming = λ l. [];
+    inbox = [];
+    came = values e.pend.input.got;
+    pending = e.pend.stage;
+    on_way = [];
+    ledger = e.slot.stage.ledger;
+    onward = [];
+    applier = e.apply.stage;
+  }
 
 -- ---- channels
 
@@ -60,12 +60,13 @@ pub record IsEmptied {T : Type 0} (r : Receiver T) (s : Sender T) : Type 0 where
   pub all : heard s.number r.got ≡ s.sent
   pub left : (q : IsQueued r s) → of s.number q.queue ≡ []
 
--- nothing is left in a link's queue, in the inbox, or in the queues behind it
-pub record AreEmptied (peers : List NodeId) (e : Left) : Type 0 where
-  pub links : (l : ℕ) → (peer : NodeId) → slice_get peers l ≡ Some peer → (k : LinkEnd) → slice_get e.links l ≡ Some k → (reader : ReaderEnd) → slice_get e.readers l ≡ Some reader → IsEmptied reader.input k.tail × IfSome reader.output (IsEmptied e.pend.input)
-  pub commands : IsEmptied e.pend.input e.local
-  pub ready : IfSome e.pend.output (IsEmptied e.slot.input)
-  pub decided : IfSome e.slot.output (IsEmptied e.apply.input)
+module _ {D : Type 0} where
+  -- nothing is left in a link's queue, in the inbox, or in the queues behind it
+  pub record AreEmptied (peers : List NodeId) (e : Left D) : Type 0 where
+    pub links : (l : ℕ) → (peer : NodeId) → slice_get peers l ≡ Some peer → (k : LinkEnd) → slice_get e.links l ≡ Some k → (reader : ReaderEnd) → slice_get e.readers l ≡ Some reader → IsEmptied reader.input k.tail × IfSome reader.output (IsEmptied e.pend.input)
+    pub commands : IsEmptied e.pend.input e.local
+    pub ready : IfSome e.pend.output (IsEmptied e.slot.input)
+    pub decided : IfSome e.slot.output (IsEmptied e.apply.input)
 
 -- ---- what is parked
 
@@ -73,17 +74,18 @@ pub record AreEmptied (peers : List NodeId) (e : Left) : Type 0 where
 abbrev pub IsOfItsNumber : ConnId → List Message → Carried → Type 0
 IsOfItsNumber c messages x = same_conn x.conn c ≡ true → slice_get messages x.seq.0 ≡ Some x.message
 
--- In each lane of the connection, its entries and then its parked messages are what was sent on it, whole; or where it was cut off a
--- beginning of that. Nothing stands after its end; and each parked message is that of its number.
-pub record HasItsLine (a : Account KvDriver) (l : ℕ) (c : ConnId) (parked : List Carried) : Type 0 where
-  pub whole : (s : ℕ) → IsWhole (in_lane (slots_sent a l c) s (line_sent a l c)) (in_lane (slots_sent a l c) s (marks_on c a.ledger.journal ++ marks_of_messages c parked))
-  pub ends : (s : ℕ) → EndsLast (in_lane (slots_sent a l c) s (marks_on c a.ledger.journal ++ marks_of_messages c parked))
-  pub messages_are : AllByRecursion (IsOfItsNumber c (carried_of CARRIED_LIMIT (sent c (a.sent l)))) parked
+module _ {D : Type 0} where
+  -- In each lane of the connection, its entries and then its parked messages are what was sent on it, whole; or where it was cut off a
+  -- beginning of that. Nothing stands after its end; and each parked message is that of its number.
+  pub record HasItsLine (a : Account D) (l : ℕ) (c : ConnId) (parked : List Carried) : Type 0 where
+    pub whole : (s : ℕ) → IsWhole (in_lane (slots_sent a l c) s (line_sent a l c)) (in_lane (slots_sent a l c) s (marks_on c a.ledger.journal ++ marks_of_messages c parked))
+    pub ends : (s : ℕ) → EndsLast (in_lane (slots_sent a l c) s (marks_on c a.ledger.journal ++ marks_of_messages c parked))
+    pub messages_are : AllByRecursion (IsOfItsNumber c (carried_of CARRIED_LIMIT (sent c (a.sent l)))) parked
 
--- so it is for each connection of a link; and no message is parked of any other
-pub record AreLeftParked (a : Account KvDriver) (parked : List Carried) : Type 0 where
-  pub lines : (l : ℕ) → (peer : NodeId) → slice_get a.peers l ≡ Some peer → (life : ℕ) → HasItsLine a l (conn_at peer a.me life) parked
-  pub of_links : AllByRecursion (λ x. IsOfLink a.me a.peers x.conn) parked
+  -- so it is for each connection of a link; and no message is parked of any other
+  pub record AreLeftParked (a : Account D) (parked : List Carried) : Type 0 where
+    pub lines : (l : ℕ) → (peer : NodeId) → slice_get a.peers l ≡ Some peer → (life : ℕ) → HasItsLine a l (conn_at peer a.me life) parked
+    pub of_links : AllByRecursion (λ x. IsOfLink a.me a.peers x.conn) parked
 
 -- ---- all of it
 
@@ -95,21 +97,22 @@ is_command (inbound.Side conn message) = false
 is_command (inbound.Closed conn cause) = false
 is_command (inbound.Local command) = true
 
--- What holds of a node in threads of which each worker ended well: the ledger theorem, of what was sent and received; nothing is left in a
--- channel; and what is parked waits for its quorum set.
-pub record Gathered (me : NodeId) (set : QuorumTree) (peers : List NodeId) (e : Left) : Type 0 where
-  -- the ledger theorem, of what was sent over the links and what came to the pending stage
-  pub keeps : KeepsLedger (λ driver slot value. kv_level value) (λ driver slot value. None) (λ driver slot values. greatest values) (λ driver slot round n. leader_place slot round n) (account_gathered me set peers e)
-  -- what came is what each link's items are read as, and the commands, each in its order
-  pub read : (l : ℕ) → (peer : NodeId) → slice_get peers l ≡ Some peer → of_peer peer (values e.pend.input.got) ≡ readings unread (sent_over e.links l)
-  pub told : filter is_command (values e.pend.input.got) ≡ e.local.sent
-  pub shape : HasShape me peers (values e.pend.input.got)
-  -- nothing is left in a channel
-  pub emptied : AreEmptied peers e
-  -- what is parked waits for its quorum set, and is what was sent and has no entry
-  pub settled : IsSettledBy (fresh me peers set) (values e.pend.input.got) e.pend.stage
-  pub parked : (parked : List Carried) → AreParked e.pend.stage parked → AreLeftParked (account_gathered me set peers e) parked
+module _ {D : Type 0} (says : Says D) where
+  -- What holds of a node in threads of which each worker ended well: the ledger theorem, of what was sent and received; nothing is left in a
+  -- channel; and what is parked waits for its quorum set.
+  pub record Gathered (me : NodeId) (set : QuorumTree) (peers : List NodeId) (e : Left D) : Type 0 where
+    -- the ledger theorem, of what was sent over the links and what came to the pending stage
+    pub keeps : KeepsLedger says.level says.extracted says.combined says.place (account_gathered me set peers e)
+    -- what came is what each link's items are read as, and the commands, each in its order
+    pub read : (l : ℕ) → (peer : NodeId) → slice_get peers l ≡ Some peer → of_peer peer (values e.pend.input.got) ≡ readings unread (sent_over e.links l)
+    pub told : filter is_command (values e.pend.input.got) ≡ e.local.sent
+    pub shape : HasShape me peers (values e.pend.input.got)
+    -- nothing is left in a channel
+    pub emptied : AreEmptied peers e
+    -- what is parked waits for its quorum set, and is what was sent and has no entry
+    pub settled : IsSettledBy (fresh me peers set) (values e.pend.input.got) e.pend.stage
+    pub parked : (parked : List Carried) → AreParked e.pend.stage parked → AreLeftParked (account_gathered me set peers e) parked
 
--- where the ends are those of one node, and each worker ended well, `Gathered` holds
-abbrev pub WhatEndsWellIsGathered : Type 0
-WhatEndsWellIsGathered = (me : NodeId) (set : QuorumTree) (peers : List NodeId) (e : Left) → IsNode me set peers e → EndWell e → Gathered me set peers e
+  -- where the ends are those of one node, and each worker ended well, `Gathered` holds
+  abbrev pub WhatEndsWellIsGathered : Type 0
+  WhatEndsWellIsGathered = (me : NodeId) (set : QuorumTree) (peers : List NodeId) (e : Left D) → IsNode me set peers e → EndWell says e → Gathered me set peers e

@@ -1,8 +1,8 @@
 -- The headline of a node that has ended: of what went over its links, and of what its report shows.
-use Rattle.std.specs.Prelude.{List, Some}
+use Rattle.std.specs.Prelude.{List}
+use Rattle.scp_driver.specs.Driver.{Says}
 use Rattle.scp_types.specs.declared.names.NodeId.{NodeId}
 use Rattle.scp_quorum.specs.QuorumTree.{QuorumTree}
-use Rattle.scp_kv.specs.Map.{KvMap}
 use Rattle.scp_wire.specs.declared.carried.Carried.{Carried}
 use Rattle.scp_ledger.specs.declared.journal.Decision.{Decision}
 use Rattle.scp_ledger.specs.declared.journal.Fate.{Fate}
@@ -12,11 +12,12 @@ use Rattle.scp_gather.specs.Gathered.{account_gathered}
 use Rattle.scp_gather.specs.Left.{Left}
 use Rattle.scp_gather.specs.Report.{IsReportOf}
 
--- its books: what went over its links and what it still holds, by what its threads left, and the journal, the applied list and the state of
--- its report
-abbrev pub books_reported : NodeId → QuorumTree → List NodeId → Left → List Fate → List Decision → KvMap → Books
-books_reported me set peers e journal applied state = record (books_of (account_gathered me set peers e)) { journal = journal; applied = applied; state = Some state }
+module _ {D : Type 0} where
+  -- its books: what went over its links and what it still holds, by what its threads left, and the journal and the applied list of its report
+  abbrev pub books_reported : NodeId → QuorumTree → List NodeId → Left D → List Fate → List Decision → Books
+  books_reported me set peers e journal applied = record (books_of (account_gathered me set peers e)) { journal = journal; applied = applied }
 
--- what is the report of a node keeps the headline
-abbrev pub ReportsKeepHeadline : Type 0
-ReportsKeepHeadline = (me : NodeId) (set : QuorumTree) (peers : List NodeId) (e : Left) (journal : List Fate) (parked : List Carried) (applied : List Decision) (state : KvMap) → IsReportOf me set peers e journal parked applied state → Headline (books_reported me set peers e journal applied state)
+module _ {D : Type 0} (says : Says D) where
+  -- what is the report of a node keeps the headline
+  abbrev pub ReportsKeepHeadline : Type 0
+  ReportsKeepHeadline = (me : NodeId) (set : QuorumTree) (peers : List NodeId) (e : Left D) (journal : List Fate) (parked : List Carried) (applied : List Decision) → IsReportOf says me set peers e journal parked applied → Headline (books_reported me set peers e journal applied)

@@ -11,12 +11,12 @@ use Rattle.scp_workers.specs.Apply.{ApplyEnd}
 
 -- what its readers ended with, and the sending ends of its links, both in the order of its peers; the sending end of its own
 -- commands; and what the workers of its stages ended with
-pub record Left : Type 0 where
+pub record Left (D : Type 0) : Type 0 where
   pub readers : List ReaderEnd
   pub links : List LinkEnd
   pub local : Sender Inbound
   pub pend : PendEnd
-  pub slot : SlotEnd
+  pub slot : SlotEnd D
   pub apply : ApplyEnd
 
 -- what was sent over the link of this number

@@ -5,4 +5,5 @@ pub mod Report
 pub mod Headline
 pub mod Count
 pub mod Sending
+pub mod Kv
 pub mod inside

@@ -1,5 +1,6 @@
 -- What was left is of the channels of one node, and each worker ended well.
 use Rattle.std.specs.Prelude.{◌≡◌, ℕ, ◌+◌, List, length, Some, IfSome, slice_get}
+use Rattle.scp_driver.specs.Driver.{Says}
 use Rattle.scp_types.specs.declared.names.NodeId.{NodeId}
 use Rattle.scp_quorum.specs.QuorumTree.{QuorumTree}
 use Rattle.scp_wire.specs.declared.link.Inbound.{Inbound}
@@ -24,19 +25,20 @@ pub record IsLinkAt (me peer : NodeId) (place : ℕ) (k : LinkEnd) (e : ReaderEn
   pub alone : e.input.producers ≡ 1
   pub number : IfSome e.output (λ s. s.number ≡ place)
 
--- One link and one reader for each peer, no peer twice; the inbox has a producer for each link and one for the commands, each other
--- channel has one; and the stages are those of the node.
-pub record IsNode (me : NodeId) (set : QuorumTree) (peers : List NodeId) (e : Left) : Type 0 where
-  pub apart : AreApart peers
-  pub links_count : length e.links ≡ length peers
-  pub readers_count : length e.readers ≡ length peers
-  pub lanes : (l : ℕ) → (peer : NodeId) → slice_get peers l ≡ Some peer → (k : LinkEnd) → slice_get e.links l ≡ Some k → (reader : ReaderEnd) → slice_get e.readers l ≡ Some reader → IsLinkAt me peer l k reader
-  pub local_number : e.local.number ≡ length peers
-  pub inbox : e.pend.input.producers ≡ length peers + 1
-  pub ready : e.slot.input.producers ≡ 1
-  pub decided : e.apply.input.producers ≡ 1
-  pub pends_for : PendsFor me peers set e.pend.first
-  pub journals_for : JournalsFor me peers set e.slot.first.ledger
+module _ {D : Type 0} where
+  -- One link and one reader for each peer, no peer twice; the inbox has a producer for each link and one for the commands, each other
+  -- channel has one; and the stages are those of the node.
+  pub record IsNode (me : NodeId) (set : QuorumTree) (peers : List NodeId) (e : Left D) : Type 0 where
+    pub apart : AreApart peers
+    pub links_count : length e.links ≡ length peers
+    pub readers_count : length e.readers ≡ length peers
+    pub lanes : (l : ℕ) → (peer : NodeId) → slice_get peers l ≡ Some peer → (k : LinkEnd) → slice_get e.links l ≡ Some k → (reader : ReaderEnd) → slice_get e.readers l ≡ Some reader → IsLinkAt me peer l k reader
+    pub local_number : e.local.number ≡ length peers
+    pub inbox : e.pend.input.producers ≡ length peers + 1
+    pub ready : e.slot.input.producers ≡ 1
+    pub decided : e.apply.input.producers ≡ 1
+    pub pends_for : PendsFor me peers set e.pend.first
+    pub journals_for : JournalsFor me peers set e.slot.first.ledger
 
 -- ---- each ended well
 
@@ -49,17 +51,18 @@ pub record IsReadOut (inbox : Receiver Inbound) (k : LinkEnd) (e : ReaderEnd) : 
   pub reads : HasReadAll e
   pub brings : IsQueued inbox output
 
--- every worker ended well, and each channel kept the order of each of its producers
-pub record EndWell (e : Left) : Type 0 where
-  pub lanes : (l : ℕ) → (k : LinkEnd) → slice_get e.links l ≡ Some k → (reader : ReaderEnd) → slice_get e.readers l ≡ Some reader → IsReadOut e.pend.input k reader
-  pub commands : AreCommands e.local.sent
-  pub told : IsQueued e.pend.input e.local
-  pub given : Sender Ready
-  pub pend_ended : e.pend.output ≡ Some given
-  pub pends : HasPendedAll e.pend
-  pub ready : IsQueued e.slot.input given
-  pub onward : Sender Onward
-  pub slot_ended : e.slot.output ≡ Some onward
-  pub journals : HasJournaledAll e.slot
-  pub decided : IsQueued e.apply.input onward
-  pub applies : HasAppliedAll e.apply
+module _ {D : Type 0} (says : Says D) where
+  -- every worker ended well, and each channel kept the order of each of its producers
+  pub record EndWell (e : Left D) : Type 0 where
+    pub lanes : (l : ℕ) → (k : LinkEnd) → slice_get e.links l ≡ Some k → (reader : ReaderEnd) → slice_get e.readers l ≡ Some reader → IsReadOut e.pend.input k reader
+    pub commands : AreCommands e.local.sent
+    pub told : IsQueued e.pend.input e.local
+    pub given : Sender Ready
+    pub pend_ended : e.pend.output ≡ Some given
+    pub pends : HasPendedAll e.pend
+    pub ready : IsQueued e.slot.input given
+    pub onward : Sender Onward
+    pub slot_ended : e.slot.output ≡ Some onward
+    pub journals : HasJournaledAll says e.slot
+    pub decided : IsQueued e.apply.input onward
+    pub applies : HasAppliedAll e.apply

@@ -1,5 +1,6 @@
 -- What the stages of a node that has ended put into the outboxes of its links.
 use Rattle.std.specs.Prelude.{List}
+use Rattle.scp_driver.specs.Driver.{Says}
 use Rattle.scp_types.specs.declared.names.NodeId.{NodeId}
 use Rattle.scp_quorum.specs.QuorumTree.{QuorumTree}
 use Rattle.scp_ledger.specs.declared.took.Outgoing.{Outgoing}
@@ -9,23 +10,25 @@ use Rattle.scp_ends.specs.Order.{values}
 use Rattle.scp_workers.specs.Working.{HavePut}
 use Rattle.scp_gather.specs.Left.{Left}
 
--- what a node that has ended may have sent, by what its threads left: who it is, what came to its pending stage, and what its slot stage and its
--- applier made of that
-abbrev pub grounds_gathered : NodeId → QuorumTree → List NodeId → Left → Grounds
-grounds_gathered me set peers e = record {
-  who = record { me = me; peers = peers; set = set };
-  taken = values e.pend.input.got;
-  journal = e.slot.stage.ledger.journal;
-  decisions = e.slot.stage.ledger.decisions;
-  applied = e.apply.stage.applied;
-}
+module _ {D : Type 0} where
+  -- what a node that has ended may have sent, by what its threads left: who it is, what came to its pending stage, and what its slot stage and its
+  -- applier made of that
+  abbrev pub grounds_gathered : NodeId → QuorumTree → List NodeId → Left D → Grounds
+  grounds_gathered me set peers e = record {
+    who = record { me = me; peers = peers; set = set };
+    taken = values e.pend.input.got;
+    journal = e.slot.stage.ledger.journal;
+    decisions = e.slot.stage.ledger.decisions;
+    applied = e.apply.stage.applied;
+  }
 
--- into the outbox of each link each of the three stages put what it handed out for that link, in order
-pub record ArePutOut (me : NodeId) (set : QuorumTree) (peers : List NodeId) (e : Left) : Type 0 where
-  pub replies : List Outgoing
-  pub said : List Outgoing
-  pub answers : List Outgoing
-  pub handed : AreHandedOut (grounds_gathered me set peers e) replies said answers
-  pub replies_put : HavePut replies e.pend.outlets
-  pub said_put : HavePut said e.slot.outlets
-  pub answers_put : HavePut answers e.apply.outlets
+module _ {D : Type 0} (says : Says D) where
+  -- into the outbox of each link each of the three stages put what it handed out for that link, in order
+  pub record ArePutOut (me : NodeId) (set : QuorumTree) (peers : List NodeId) (e : Left D) : Type 0 where
+    pub replies : List Outgoing
+    pub said : List Outgoing
+    pub answers : List Outgoing
+    pub handed : AreHandedOut says (grounds_gathered me set peers e) replies said answers
+    pub replies_put : HavePut replies e.pend.outlets
+    pub said_put : HavePut said e.slot.outlets
+    pub answers_put : HavePut answers e.apply.outlets

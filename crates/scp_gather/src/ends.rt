@@ -3,6 +3,7 @@ ghost use Rattle.std.specs.Prelude.{◌≡◌};
 ghost use Rattle.std.specs.List.{list_any};
 ghost use Rattle.scp_gather.specs.Report.{first_failed as first_failed_of, first_so, has_failed as failed};
 
+use scp_driver::{Application, KvDriver};
 use scp_ends::{LinkDone, LocalDone};
 use scp_types::Stage;
 use scp_workers::{ApplyEnded, PendEnded, ReaderEnded, SlotEnded};
@@ -11,34 +12,30 @@ use std::marker::Model;
 /// What the workers of a node ended with, each link's reader and its sending end in the order of the node's peers, and the ended
 /// sending end of its own commands.
 #[derive(Drop)]
-pub struct Ends {
+pub struct Ends<A: Application + Drop + Copy = KvDriver> {
     pub readers: Vec<ReaderEnded>,
     pub links: Vec<LinkDone>,
     pub local: LocalDone,
     pub pend: PendEnded,
-    pub slot: SlotEnded,
-    pub apply: ApplyEnded,
+    pub slot: SlotEnded<A>,
+    pub apply: ApplyEnded<A>,
 }
 
-impl Model for Ends {
-    ghost use Rattle.std.specs.FinMap as map;
-    ghost use Rattle.std.specs.Ordering.{nat_cmp};
-    ghost use Rattle.std.specs.Cmp.Lexicographic.{slice_cmp};
-    ghost use Rattle.std.specs.Coded.{codes, coded_ℕ, coded_list};
+impl<A: Application + Drop + Copy> Model for Ends<A> {
+    ghost use Rattle.std.specs.Coded.{codes};
     ghost use Rattle.scp_xdr.specs.inside.TreeModel.{coded_row};
     ghost use Rattle.scp_quorum.specs.inside.QuorumTree.{coded_level};
-    ghost use Rattle.scp_driver.specs.contracts.kv_driver.KvDriver as driver;
     ghost use Rattle.scp_ledger.specs.inside.Coding.{machine_code};
     ghost use Rattle.scp_gather.specs.Left.{Left};
 
-    ghost Value = { Left };
+    ghost Value = { Left A };
 
-    ghost coded = { Prim.hlevel (codes, machine_code driver.the_row.coded, coded_row coded_level, map.code {R = slice_cmp nat_cmp} (coded_list coded_ℕ) (coded_list coded_ℕ)) };
+    ghost coded = { Prim.hlevel (codes, A.code, machine_code A.code, coded_row coded_level) };
 
     ghost view = { λ e. record { readers = e.readers.items; links = e.links.items; local = e.local; pend = e.pend; slot = e.slot; apply = e.apply } };
 }
 
-impl Ends {
+impl<A: Application + Drop + Copy> Ends<A> {
     /// The first stage, in the order of the pipeline, of which a worker failed.
     pub fn first_failed(&self) -> Option<Stage>
         ensures exact { result ≡ first_failed_of self.now }
@@ -53,11 +50,11 @@ impl Ends {
 }
 
 /// The first stage, in the order of the pipeline, of which a worker failed: whether one of the readers did is passed.
-pub fn first_failed(
+pub fn first_failed<A: Application + Drop + Copy>(
     reader: bool,
     pend: &PendEnded,
-    slot: &SlotEnded,
-    apply: &ApplyEnded,
+    slot: &SlotEnded<A>,
+    apply: &ApplyEnded<A>,
 ) -> Option<Stage>
     ensures exact { result ≡ first_so reader (failed pend.now) (failed slot.now) (failed apply.now) }
 {

@@ -1,5 +1,5 @@
 //! What is concluded when every thread of a node has ended.
-ghost use Rattle.std.specs.Prelude.{◌≡◌, ◌↔◌, ◌⊎◌, ℕ, List, None, Some, true, IsSome, IfOk, IfErr, IsErrOf, IsOkUnless, OnOk, length, map, slice_get};
+ghost use Rattle.std.specs.Prelude.{◌≡◌, ◌↔◌, ◌⊎◌, ℕ, List, None, Some, false, true, IfOk, IfErr, IsErrOf, IsOkUnless, OnOk, length, map, slice_get};
 ghost use Rattle.std.specs.List.{AllByRecursion};
 ghost use Rattle.std.specs.List.Sorted.{IsStrictlySortedBy};
 ghost use Rattle.scp_types.specs.declared.fault.Stage.{Stage};
@@ -11,6 +11,7 @@ ghost use Rattle.scp_pending.specs.declared.ready.Ready.{Ready};
 ghost use Rattle.scp_pending.specs.Messages.{AreParked, message_cmp};
 ghost use Rattle.scp_pending.specs.Pends.{Pends};
 ghost use Rattle.scp_ends.specs.Links.{LinkEnd};
+ghost use Rattle.scp_apply.specs.Applied.{made_of};
 ghost use Rattle.scp_headline.specs.Headline.{Headline};
 ghost use Rattle.scp_workers.specs.Reading.{ReaderEnd};
 ghost use Rattle.scp_gather.specs.Node.{IsNode, IsReadOut, EndWell};
@@ -23,9 +24,8 @@ use crate::ends::Ends;
 use crate::laws::{what_ends_well_is_gathered, what_is_reported_keeps_the_headline};
 use scp_apply::Applier;
 use scp_desks::Outlets;
-use scp_driver::KvDriver;
+use scp_driver::{Application, KvDriver};
 use scp_ends::{InboxRx, LinkDone};
-use scp_kv::KvState;
 use scp_ledger::{CommandFate, Fate, Ledger, SharedDecision};
 use scp_pending::{Pending, each_command_passes_once};
 use scp_types::Fault;
@@ -34,15 +34,15 @@ use scp_workers::{ReaderEnded, ReadingStage, SlotStage};
 
 /// What became of all that was sent to a node, and what it did.
 #[derive(Drop)]
-pub struct NodeReport {
+pub struct NodeReport<A: Application = KvDriver> {
     /// The journal: the fates of messages and the ends of connections.
     pub journal: Vec<Fate>,
     /// The messages that wait for their quorum sets, ascending by sender, life and number.
     pub parked: Vec<Carried>,
     /// The decisions that were applied, of the slots 1, 2, ..
     pub applied: Vec<SharedDecision>,
-    /// The state that they make.
-    pub state: KvState,
+    /// The state that their values make.
+    pub state: A::State,
     /// What became of its own commands but the ticks, in their order.
     pub commands: Vec<CommandFate>,
     /// What came over each of its links, in the order of its peers, where that was to be kept.
@@ -51,8 +51,8 @@ pub struct NodeReport {
 
 /// What is told of a node, and the ends by which its stages put into the outboxes of its links.
 #[derive(Drop)]
-pub struct Gathering {
-    pub report: NodeReport,
+pub struct Gathering<A: Application = KvDriver> {
+    pub report: NodeReport<A>,
     pub outlets: Outlets,
 }
 
@@ -99,22 +99,22 @@ fn take_each_back(
 /// What the stages of a node left: each stage, what became of the commands, what the readers kept, and the ends by which they put into the
 /// outboxes.
 #[derive(Drop)]
-struct Stages {
+struct Stages<A: Application + Drop + Copy> {
     pending: Pending,
-    ledger: Ledger<KvDriver>,
-    applier: Applier,
+    ledger: Ledger<A>,
+    applier: Applier<A>,
     commands: Vec<CommandFate>,
     came: Vec<Option<Vec<LinkItem>>>,
     outlets: Outlets,
 }
 
 /// Takes all ends back, and gives what the stages left.
-fn settle(ends: Ends) -> Result<Stages, Fault>
+fn settle<A: Application + Drop + Copy>(ends: Ends<A>) -> Result<Stages<A>, Fault>
     requires joined { AreJoined ends }
     requires well { first_failed ends ≡ None }
     ensures parts { IfOk result (λ s. (s.pending ≡ ends.pend.stage) × (s.ledger ≡ ends.slot.stage.ledger) × (s.applier ≡ ends.apply.stage) × (s.commands.items ≡ ends.slot.stage.fates.items)) }
     ensures outlets { IfOk result (λ s. (s.outlets.pend.items ≡ ends.pend.outlets) × (s.outlets.slot.items ≡ ends.slot.outlets) × (s.outlets.apply.items ≡ ends.apply.outlets)) }
-    ensures ended { OnOk result (EndWell ends) }
+    ensures ended { OnOk result (EndWell A.says ends) }
     ensures kept { IfOk result (λ s. length ends.links ≡ length ends.readers → s.came.items ≡ map kept_by ends.readers) }
     ensures only_memory { IsOkUnless result Fault.NoMemory }
 {
@@ -151,18 +151,18 @@ fn settle(ends: Ends) -> Result<Stages, Fault>
 }
 
 /// What the stages tell.
-fn told(
+fn told<A: Application + Drop + Copy>(
     pending: Pending,
-    ledger: Ledger<KvDriver>,
-    applier: Applier,
+    ledger: Ledger<A>,
+    applier: Applier<A>,
     commands: Vec<CommandFate>,
     came: Vec<Option<Vec<LinkItem>>>,
-) -> Result<NodeReport, Fault>
-    requires { IsSome applier.state }
+) -> Result<NodeReport<A>, Fault>
+    requires { applier.failed ≡ false }
     ensures journal { IfOk result (λ r. r.journal.items ≡ ledger.journal) }
     ensures parked { IfOk result (λ r. (me : NodeId) → (peers : List NodeId) → (taken : List Inbound) → (given : List Ready) → Pends me peers taken given pending → AreParked pending r.parked.items) }
     ensures ascending { IfOk result (λ r. (me : NodeId) → (peers : List NodeId) → (taken : List Inbound) → (given : List Ready) → Pends me peers taken given pending → HasShape me peers taken → IsStrictlySortedBy message_cmp r.parked.items) }
-    ensures applied { IfOk result (λ r. (r.applied.items ≡ applier.applied) × (Some r.state ≡ applier.state)) }
+    ensures applied { IfOk result (λ r. (r.applied.items ≡ applier.applied) × (r.state ≡ made_of A.first A.after applier.applied)) }
     ensures commands { IfOk result (λ r. r.commands.items ≡ commands.items) }
     ensures came { IfOk result (λ r. r.came.items ≡ came.items) }
     ensures only_memory { IsOkUnless result Fault.NoMemory }
@@ -182,18 +182,20 @@ fn told(
 
 /// What became of all that was sent to a node over its links, and what it did, where each of its workers ended well. Refused by
 /// `Refused` with the first stage, in the order of the pipeline, of which a worker failed; else by `NoMemory`.
-pub fn gather(ends: Ends) -> Result<Gathering, Fault>
+pub fn gather<A: Application + Drop + Copy>(ends: Ends<A>) -> Result<Gathering<A>, Fault>
     requires joined { AreJoined ends }
-    ensures theorem { (me : NodeId) → (set : QuorumTree) → (peers : List NodeId) → IsNode me set peers ends → IfOk result (λ r. IsReportOf me set peers ends r.report.journal.items r.report.parked.items r.report.applied.items r.report.state) }
+    ensures theorem { (me : NodeId) → (set : QuorumTree) → (peers : List NodeId) → IsNode me set peers ends → IfOk result (λ r. IsReportOf A.says me set peers ends r.report.journal.items r.report.parked.items r.report.applied.items) }
     // And the headline, which says what matters most of that.
-    ensures headline { (me : NodeId) → (set : QuorumTree) → (peers : List NodeId) → IsNode me set peers ends → IfOk result (λ r. Headline (books_reported me set peers ends r.report.journal.items r.report.applied.items r.report.state)) }
+    ensures headline { (me : NodeId) → (set : QuorumTree) → (peers : List NodeId) → IsNode me set peers ends → IfOk result (λ r. Headline (books_reported me set peers ends r.report.journal.items r.report.applied.items)) }
+    // The state is what the application makes of the applied values, one after another.
+    ensures state { IfOk result (λ r. r.report.state ≡ made_of A.first A.after r.report.applied.items) }
     // And what became of the node's own commands.
-    ensures commands { (me : NodeId) → (set : QuorumTree) → (peers : List NodeId) → IsNode me set peers ends → IfOk result (λ r. AreFatesOf me set peers ends r.report.commands.items) }
+    ensures commands { (me : NodeId) → (set : QuorumTree) → (peers : List NodeId) → IsNode me set peers ends → IfOk result (λ r. AreFatesOf A.says me set peers ends r.report.commands.items) }
     // And what came over each of its links, where that was to be kept.
     ensures came { (me : NodeId) → (set : QuorumTree) → (peers : List NodeId) → IsNode me set peers ends → IfOk result (λ r. AreCame ends r.report.came.items) }
     ensures kept { (me : NodeId) → (set : QuorumTree) → (peers : List NodeId) → IsNode me set peers ends → IfOk result (λ r. AreKept (map keeps_by ends.readers) r.report.came.items) }
     // And what its stages put into the outboxes of its links, by ends that are given back.
-    ensures put { (me : NodeId) → (set : QuorumTree) → (peers : List NodeId) → IsNode me set peers ends → IfOk result (λ r. ArePutOut me set peers ends) }
+    ensures put { (me : NodeId) → (set : QuorumTree) → (peers : List NodeId) → IsNode me set peers ends → IfOk result (λ r. ArePutOut A.says me set peers ends) }
     ensures outlets { IfOk result (λ r. (r.outlets.pend.items ≡ ends.pend.outlets) × (r.outlets.slot.items ≡ ends.slot.outlets) × (r.outlets.apply.items ≡ ends.apply.outlets)) }
     ensures refused { (s : Stage) → IsErrOf result (Fault.Refused s) ↔ (first_failed ends ≡ Some s) }
     ensures only { IfErr result (λ f. (f ≡ Fault.NoMemory) ⊎ ((s : Stage) × (f ≡ Fault.Refused s))) }
@@ -201,8 +203,8 @@ pub fn gather(ends: Ends) -> Result<Gathering, Fault>
     if let Some(stage) = ends.first_failed() {
         return Err(Fault::Refused(stage));
     }
-    what_ends_well_is_gathered();
-    what_is_reported_keeps_the_headline();
+    what_ends_well_is_gathered::<A>();
+    what_is_reported_keeps_the_headline::<A>();
     each_command_passes_once();
     let Stages {
         pending,

@@ -3,6 +3,7 @@ use Rattle.std.proofs.Common.{◌≡◌, ℕ, List, [], ◌∷◌, ◌++◌, ref
 use Rattle.std.specs.Prelude.{Option, Some, None, Any, Contains, flat_map}
 use Rattle.std.proofs.lemmas.List.Elements.{Contains-push, Contains-append_left, Contains-append_right}
 use Rattle.std.proofs.lemmas.List.Sums.{fold-append}
+use Rattle.scp_driver.specs.Driver.{Says}
 use Rattle.scp_types.specs.declared.names.Slot.{Slot}
 use Rattle.scp_wire.specs.declared.link.Command.{Command}
 use Rattle.scp_wire.specs.declared.link.Command.TheVariants.{Ask}
@@ -20,16 +21,16 @@ use Rattle.scp_ledger.specs.declared.journal.Fate.{Fate}
 use Rattle.scp_ledger.specs.declared.took.Onward.{Onward}
 use Rattle.scp_ledger.specs.declared.took.Onward.TheVariants.{Decided, Asked}
 use Rattle.scp_ledger.specs.declared.took.Outgoing.{Outgoing}
+use Rattle.scp_ledger.specs.By.{LeadsBy}
 use Rattle.scp_ledger.specs.Journals.{request_by}
-use Rattle.scp_ledger.specs.Kv.{KvLedger}
 use Rattle.scp_ledger.specs.Onwards.{request_on, requests_on}
 use Rattle.scp_ledger.specs.Runs.{Taking, things, nothing_taken}
-use Rattle.scp_ledger.specs.Seen.{machine_at}
+use Rattle.scp_ledger.specs.Seen.{LedgerView, machine_at}
 use Rattle.scp_apply.specs.Applied.{value_of}
 use Rattle.scp_apply.specs.Applier.{ApplierView, Takes}
 use Rattle.scp_grounds.specs.Grounds.{Grounds, start_of, TellsToAsk, IsApplied, AsksForRecord}
 use Rattle.scp_grounds.specs.Handed.{handed_by, out_of, replies_from, out_by, outs_of, Answers}
-use Rattle.scp_grounds.specs.Laws.{KvLeads, AreHandedOut, MayAnswer, MayGo, HandedOutMayGo}
+use Rattle.scp_grounds.specs.Laws.{AreHandedOut, MayAnswer, MayGo, HandedOutMayGo}
 use Rattle.scp_grounds.proofs.Asked.{command_in, request_stands, value_there, answer_may, applied_more}
 use Rattle.scp_grounds.proofs.Basics.{IsMore, no_more, more_of, any_more, none_some}
 use Rattle.scp_grounds.proofs.Fit.{AllOut, all_more, all_none, all_for, AreFit, first_fit, fit_step}
@@ -70,16 +71,17 @@ module _ (asked : RepliesAreAskedFor) (stays : WhoItIsStays) (links : NothingIsO
 
 -- ---- the slot stage
 
--- the grounds with the journal and the decisions of a ledger
-abbrev with_ledger : Grounds → KvLedger → Grounds
-with_ledger g v = record g { journal = v.journal; decisions = v.decisions }
+module _ {D : Type 0} where
+  -- the grounds with the journal and the decisions of a ledger
+  abbrev with_ledger : Grounds → LedgerView D → Grounds
+  with_ledger g v = record g { journal = v.journal; decisions = v.decisions }
 
--- how the ledger stands, and what was handed out by then
-record Stands (g : Grounds) (v : KvLedger) (out : List Outgoing) : Type 0 where
-  me_is : v.me ≡ g.who.me
-  set_is : v.local ≡ g.who.set
-  machines : AreMine g.who.me (hash_of g.who.set) v
-  fit : AreFit (with_ledger g v) v out
+  -- how the ledger stands, and what was handed out by then
+  record Stands (g : Grounds) (v : LedgerView D) (out : List Outgoing) : Type 0 where
+    me_is : v.me ≡ g.who.me
+    set_is : v.local ≡ g.who.set
+    machines : AreMine g.who.me (hash_of g.who.set) v
+    fit : AreFit (with_ledger g v) v out
 
 -- each command that is taken came
 abbrev WereTold : Grounds → List Taking → Type 0
@@ -90,37 +92,40 @@ told_to_ask g t takes told link slot is =
     let here : Contains (passed t.thing) (Ask link slot) = subst (λ (x : Ready). Contains (passed x) (Ask link slot)) (sym is) (Contains-push [] (Ask link slot)) in
     command_in g.taken link slot (told (Ask link slot) (Contains-append_left (passed t.thing) (commands_of (things takes)) (Ask link slot) here))
 
-one_taken : (g : Grounds) (old : KvLedger) (t : Taking) (new : KvLedger) (out : List Outgoing) → LedgerStep g.who old t.thing t.gave new → ((link : ℕ) (slot : Slot) → t.thing ≡ ready.Local (Ask link slot) → Any (TellsToAsk link slot) g.taken) → Stands g old out → Stands g new (out ++ out_by t)
-one_taken g old t new out s told st =
-    let more : Grows (with_ledger g old) (with_ledger g new) = record {
-      who = refl;
-      taken = no_more g.taken g.taken refl;
-      journal = s.journal;
-      decisions = s.decisions;
-      applied = no_more g.applied g.applied refl;
-    } in
-    record {
-      me_is = s.me ∙ st.me_is;
-      set_is = s.local ∙ st.set_is;
-      machines = s.machines;
-      fit = fit_step (with_ledger g old) (with_ledger g new) old t.thing t.gave new out more refl s told st.fit;
-    }
+module _ {D : Type 0} where
+  one_taken : (g : Grounds) (old : LedgerView D) (t : Taking) (new : LedgerView D) (out : List Outgoing) → LedgerStep g.who old t.thing t.gave new → ((link : ℕ) (slot : Slot) → t.thing ≡ ready.Local (Ask link slot) → Any (TellsToAsk link slot) g.taken) → Stands g old out → Stands g new (out ++ out_by t)
+  one_taken g old t new out s told st =
+      let more : Grows (with_ledger g old) (with_ledger g new) = record {
+        who = refl;
+        taken = no_more g.taken g.taken refl;
+        journal = s.journal;
+        decisions = s.decisions;
+        applied = no_more g.applied g.applied refl;
+      } in
+      record {
+        me_is = s.me ∙ st.me_is;
+        set_is = s.local ∙ st.set_is;
+        machines = s.machines;
+        fit = fit_step (with_ledger g old) (with_ledger g new) old t.thing t.gave new out more refl s told st.fit;
+      }
 
-all_taken : (g : Grounds) (old : KvLedger) (takes : List Taking) (new : KvLedger) (out : List Outgoing) → KvLeads old takes new → WereTold g takes → Stands g old out → Stands g new (out ++ outs_of takes)
-all_taken g old [] new out is told st = subst (λ (v : KvLedger). Stands g v (out ++ [])) (sym is) (subst (λ (o : List Outgoing). Stands g old o) (sym (append-nil out)) st)
-all_taken g old (t ∷ takes) new out leads told st =
-    let s : LedgerStep g.who old t.thing t.gave leads.0 = ledger_step g.who old t.thing t.gave leads.0 st.me_is st.set_is st.machines leads.1 in
-    let next : Stands g leads.0 (out ++ out_by t) = one_taken g old t leads.0 out s (told_to_ask g t takes told) st in
-    let rest : WereTold g takes = λ command there. told command (Contains-append_right (passed t.thing) (commands_of (things takes)) command there) in
-    subst (λ (o : List Outgoing). Stands g new o) (append_assoc out (out_by t) (outs_of takes)) (all_taken g leads.0 takes new (out ++ out_by t) leads.2 rest next)
+module _ {D : Type 0} (says : Says D) where
+  all_taken : (g : Grounds) (old : LedgerView D) (takes : List Taking) (new : LedgerView D) (out : List Outgoing) → LeadsBy says old takes new → WereTold g takes → Stands g old out → Stands g new (out ++ outs_of takes)
+  all_taken g old [] new out is told st = subst (λ (v : LedgerView D). Stands g v (out ++ [])) (sym is) (subst (λ (o : List Outgoing). Stands g old o) (sym (append-nil out)) st)
+  all_taken g old (t ∷ takes) new out leads told st =
+      let s : LedgerStep g.who old t.thing t.gave leads.0 = ledger_step says g.who old t.thing t.gave leads.0 st.me_is st.set_is st.machines leads.1 in
+      let next : Stands g leads.0 (out ++ out_by t) = one_taken g old t leads.0 out s (told_to_ask g t takes told) st in
+      let rest : WereTold g takes = λ command there. told command (Contains-append_right (passed t.thing) (commands_of (things takes)) command there) in
+      subst (λ (o : List Outgoing). Stands g new o) (append_assoc out (out_by t) (outs_of takes)) (all_taken g leads.0 takes new (out ++ out_by t) leads.2 rest next)
 
-first_stands : (g : Grounds) (v : KvLedger) → v ≡ nothing_taken g.who.me g.who.set v.driver g.who.peers → Stands g v []
-first_stands g v is = record {
-  me_is = ap (λ (w : KvLedger). w.me) is;
-  set_is = ap (λ (w : KvLedger). w.local) is;
-  machines = λ at m there. none_some None m refl (subst (λ (w : KvLedger). machine_at w.machines at ≡ Some m) is there);
-  fit = first_fit (with_ledger g v) v;
-}
+module _ {D : Type 0} where
+  first_stands : (g : Grounds) (v : LedgerView D) → v ≡ nothing_taken g.who.me g.who.set v.driver g.who.peers → Stands g v []
+  first_stands g v is = record {
+    me_is = ap (λ (w : LedgerView D). w.me) is;
+    set_is = ap (λ (w : LedgerView D). w.local) is;
+    machines = λ at m there. none_some None m refl (subst (λ (w : LedgerView D). machine_at w.machines at ≡ Some m) is there);
+    fit = first_fit (with_ledger g v) v;
+  }
 
 -- ---- the applier
 
@@ -158,22 +163,24 @@ module _ (g : Grounds) (stands : (link : ℕ) (slot : Slot) → Contains (flat_m
 
 -- ---- all of it
 
-ledger_is : (g : Grounds) (v : KvLedger) → g.journal ≡ v.journal → g.decisions ≡ v.decisions → with_ledger g v ≡ g
-ledger_is g v j d =
-    let make : List Fate → List Decision → Grounds = λ fates decisions. record g { journal = fates; decisions = decisions } in
-    ap (λ (fates : List Fate). make fates v.decisions) (sym j) ∙ ap (λ (decisions : List Decision). make g.journal decisions) (sym d)
+module _ {D : Type 0} where
+  ledger_is : (g : Grounds) (v : LedgerView D) → g.journal ≡ v.journal → g.decisions ≡ v.decisions → with_ledger g v ≡ g
+  ledger_is g v j d =
+      let make : List Fate → List Decision → Grounds = λ fates decisions. record g { journal = fates; decisions = decisions } in
+      ap (λ (fates : List Fate). make fates v.decisions) (sym j) ∙ ap (λ (decisions : List Decision). make g.journal decisions) (sym d)
 
-pub handed_may_go : RepliesAreAskedFor → WhoItIsStays → NothingIsOfAStranger → HandedOutMayGo
-handed_may_go asked stays links = λ g replies said answers h link. whole g replies said answers h link
-  where
-    whole : (g : Grounds) (replies said answers : List Outgoing) → AreHandedOut g replies said answers → (link : ℕ) → MayGo g link (handed_by replies link) (handed_by said link) (handed_by answers link)
-    whole g replies said answers h link =
-        let begun : KvLedger = nothing_taken g.who.me g.who.set h.ledger.driver g.who.peers in
-        let st : Stands g h.ledger (outs_of h.takes) = all_taken g begun h.takes h.ledger [] h.leads h.commands (first_stands g begun refl) in
-        let fit : AreFit g h.ledger said = subst (λ (o : List Outgoing). AreFit g h.ledger o) (sym h.said_are) (subst (λ (x : Grounds). AreFit x h.ledger (outs_of h.takes)) (ledger_is g h.ledger h.journal_is h.decisions_are) st.fit) in
-        record {
-          replies_may = subst (AllOut (MayAnswer g)) (sym h.replies_are) (replies_out asked stays links g [] g.taken refl) link;
-          said_may = fit.allowed link;
-          newer = fit.newer link;
-          answers_may = answers_out g (λ l slot there. request_stands g l slot h.of_links there) h.first h.took answers h.applier h.answered h.applied_is h.requests link;
-        }
+module _ {D : Type 0} (says : Says D) where
+  pub handed_may_go : RepliesAreAskedFor → WhoItIsStays → NothingIsOfAStranger → HandedOutMayGo says
+  handed_may_go asked stays links = λ g replies said answers h link. whole g replies said answers h link
+    where
+      whole : (g : Grounds) (replies said answers : List Outgoing) → AreHandedOut says g replies said answers → (link : ℕ) → MayGo g link (handed_by replies link) (handed_by said link) (handed_by answers link)
+      whole g replies said answers h link =
+          let begun : LedgerView D = nothing_taken g.who.me g.who.set h.ledger.driver g.who.peers in
+          let st : Stands g h.ledger (outs_of h.takes) = all_taken says g begun h.takes h.ledger [] h.leads h.commands (first_stands g begun refl) in
+          let fit : AreFit g h.ledger said = subst (λ (o : List Outgoing). AreFit g h.ledger o) (sym h.said_are) (subst (λ (x : Grounds). AreFit x h.ledger (outs_of h.takes)) (ledger_is g h.ledger h.journal_is h.decisions_are) st.fit) in
+          record {
+            replies_may = subst (AllOut (MayAnswer g)) (sym h.replies_are) (replies_out asked stays links g [] g.taken refl) link;
+            said_may = fit.allowed link;
+            newer = fit.newer link;
+            answers_may = answers_out g (λ l slot there. request_stands g l slot h.of_links there) h.first h.took answers h.applier h.answered h.applied_is h.requests link;
+          }

@@ -12,7 +12,6 @@ use Rattle.scp_types.specs.declared.names.NodeId.{NodeId}
 use Rattle.scp_types.specs.declared.names.Slot.{Slot}
 use Rattle.scp_quorum.specs.QuorumTree.{QuorumTree}
 use Rattle.scp_quorum.specs.QuorumKind.{set_hash}
-use Rattle.scp_driver.specs.declared.kv_driver.KvDriver.{KvDriver}
 use Rattle.scp_driver.specs.declared.driver.Level.{Level}
 use Rattle.scp_envelope.specs.Newer.{ArePledgesNewer, IsNewer}
 use Rattle.scp_envelope.specs.declared.statement.Envelope.{Envelope as Enveloped}
@@ -34,10 +33,9 @@ use Rattle.scp_ledger.specs.declared.journal.Decision.{Decision}
 use Rattle.scp_ledger.specs.declared.journal.Fate.{Fate}
 use Rattle.scp_ledger.specs.declared.journal.Origin.TheVariants.{Machine}
 use Rattle.scp_ledger.specs.declared.took.Took.{Took}
-use Rattle.scp_ledger.specs.Seen.{machine_at}
+use Rattle.scp_ledger.specs.Seen.{LedgerView, machine_at}
 use Rattle.scp_ledger.specs.Decisions.{is_at, is_decided}
 use Rattle.scp_ledger.specs.Takes.{IsMachineFor, decision_of, RunsAt}
-use Rattle.scp_ledger.specs.Kv.{KvLedger}
 use Rattle.scp_grounds.specs.Grounds.{Who, IsOwn, IsOwnOf, IsDecided}
 use Rattle.scp_grounds.proofs.Basics.{none_some, some_same, true_isnt, which, and_first, and_second, at_is}
 use Rattle.scp_grounds.proofs.Emitted.{IsTold, Tells, HasDecision, IsMine, Says, mine_then, says}
@@ -76,22 +74,23 @@ upto_then me at hash kind before now found p t h = by_found found refl
     by_found None e = record { last = h.last; there = t.still e ∙ h.there; upto = h.upto }
     by_found (Some e) is = (let told = t.told e is in record { last = e.statement.pledges; there = told.stands; upto = inr (told_ahead me at hash kind before now e p told h) })
 
--- ---- the ledger's machines
+module _ {D : Type 0} where
+  -- ---- the ledger's machines
 
--- the machine of each open slot is of this node, slot and set, and hasn't decided
-abbrev pub AreMine : NodeId → Hash → KvLedger → Type 0
-AreMine me hash v = (at : ℕ) (m : SlotMachine KvDriver) → machine_at v.machines at ≡ Some m → IsMine me at hash (slot_view m) × (ballot.IsDecided (slot_view m).ballots → ⊥)
+  -- the machine of each open slot is of this node, slot and set, and hasn't decided
+  abbrev pub AreMine : NodeId → Hash → LedgerView D → Type 0
+  AreMine me hash v = (at : ℕ) (m : SlotMachine D) → machine_at v.machines at ≡ Some m → IsMine me at hash (slot_view m) × (ballot.IsDecided (slot_view m).ballots → ⊥)
 
--- of the statement's slot there is a decision, or its machine said last this one or a newer one
-abbrev pub IsBehind : KvLedger → Statement → Type 0
-IsBehind v s = (is_decided s.slot.0 v.decisions ≡ true) ⊎ ((m : SlotMachine KvDriver) × (machine_at v.machines s.slot.0 ≡ Some m) × IsUpTo s.pledges (said (is_nomination s.pledges) (slot_view m)))
+  -- of the statement's slot there is a decision, or its machine said last this one or a newer one
+  abbrev pub IsBehind : LedgerView D → Statement → Type 0
+  IsBehind v s = (is_decided s.slot.0 v.decisions ≡ true) ⊎ ((m : SlotMachine D) × (machine_at v.machines s.slot.0 ≡ Some m) × IsUpTo s.pledges (said (is_nomination s.pledges) (slot_view m)))
 
--- a statement that may be sent, newer than all that was behind before
-pub record MayTell (who : Who) (old new : KvLedger) (e : Enveloped) : Type 0 where
-  pub own : IsOwn who e
-  pub decided : IsDecided new.decisions e e.statement.pledges
-  pub behind : IsBehind new e.statement
-  pub ahead : (s : Statement) → s.node ≡ who.me → IsBehind old s → are_alike s e.statement ≡ true → IsNewer s e.statement
+  -- a statement that may be sent, newer than all that was behind before
+  pub record MayTell (who : Who) (old new : LedgerView D) (e : Enveloped) : Type 0 where
+    pub own : IsOwn who e
+    pub decided : IsDecided new.decisions e e.statement.pledges
+    pub behind : IsBehind new e.statement
+    pub ahead : (s : Statement) → s.node ≡ who.me → IsBehind old s → are_alike s e.statement ≡ true → IsNewer s e.statement
 
 -- ---- lists of decisions
 
@@ -154,137 +153,138 @@ same_kind true false e = absurd (true_isnt (sym e))
 same_kind false true e = absurd (true_isnt (sym e))
 same_kind false false e = refl
 
--- what the ledger tells, and what stays so
-pub record Ran (who : Who) (old : KvLedger) (out : SlotOutput) (new : KvLedger) : Type 0 where
-  pub machines : AreMine who.me (hash_of who.set) new
-  pub behind : (s : Statement) → IsBehind old s → IsBehind new s
-  pub nomination : (e : Enveloped) → out.emitted.nomination ≡ Some e → MayTell who old new e × (is_nomination e.statement.pledges ≡ true)
-  pub ballots : (e : Enveloped) → out.emitted.ballot ≡ Some e → MayTell who old new e × (is_nomination e.statement.pledges ≡ false)
+module _ {D : Type 0} where
+  -- what the ledger tells, and what stays so
+  pub record Ran (who : Who) (old : LedgerView D) (out : SlotOutput) (new : LedgerView D) : Type 0 where
+    pub machines : AreMine who.me (hash_of who.set) new
+    pub behind : (s : Statement) → IsBehind old s → IsBehind new s
+    pub nomination : (e : Enveloped) → out.emitted.nomination ≡ Some e → MayTell who old new e × (is_nomination e.statement.pledges ≡ true)
+    pub ballots : (e : Enveloped) → out.emitted.ballot ≡ Some e → MayTell who old new e × (is_nomination e.statement.pledges ≡ false)
 
-module _ (who : Who) (level : KvDriver → ℕ → List ℕ → Level) (extracted : KvDriver → ℕ → List ℕ → Option (List ℕ)) (combined : KvDriver → ℕ → List (List ℕ) → List ℕ) (place : KvDriver → ℕ → ℕ → ℕ → ℕ) (old : KvLedger) (at : Slot) (given : SlotInput) (fates : List Fate) (took : Took) (new : KvLedger)
-    (me_is : old.me ≡ who.me) (set_is : old.local ≡ who.set) (mine : AreMine who.me (hash_of who.set) old) (r : RunsAt level extracted combined place old at given fates took new) where
-  abbrev hash : Hash
-  hash = hash_of who.set
+  module _ (who : Who) (level : D → ℕ → List ℕ → Level) (extracted : D → ℕ → List ℕ → Option (List ℕ)) (combined : D → ℕ → List (List ℕ) → List ℕ) (place : D → ℕ → ℕ → ℕ → ℕ) (old : LedgerView D) (at : Slot) (given : SlotInput) (fates : List Fate) (took : Took) (new : LedgerView D)
+      (me_is : old.me ≡ who.me) (set_is : old.local ≡ who.set) (mine : AreMine who.me (hash_of who.set) old) (r : RunsAt level extracted combined place old at given fates took new) where
+    abbrev hash : Hash
+    hash = hash_of who.set
 
-  abbrev before : SlotView
-  before = slot_view r.before
+    abbrev before : SlotView
+    before = slot_view r.before
 
-  abbrev after' : SlotView
-  after' = slot_view r.after
+    abbrev after' : SlotView
+    after' = slot_view r.after
 
-  is_mine : (o : Option (SlotMachine KvDriver)) → machine_at old.machines at.0 ≡ o → IsMachineFor old at o r.before → IsMine who.me at.0 hash before × (ballot.IsDecided before.ballots → ⊥)
-  is_mine None e b = (
-    subst (λ (q : QuorumTree). IsMine who.me at.0 (hash_of q) before) set_is (subst (λ (n : NodeId). IsMine n at.0 (hash_of old.local) before) me_is (begins_mine old.me at.0 old.local before b.0)),
-    begins_open old.me at.0 old.local before b.0,
-  )
-  is_mine (Some m) e b = (let h = mine at.0 m e in subst (λ (x : SlotMachine KvDriver). IsMine who.me at.0 hash (slot_view x) × (ballot.IsDecided (slot_view x).ballots → ⊥)) (sym b) h)
+    is_mine : (o : Option (SlotMachine D)) → machine_at old.machines at.0 ≡ o → IsMachineFor old at o r.before → IsMine who.me at.0 hash before × (ballot.IsDecided before.ballots → ⊥)
+    is_mine None e b = (
+      subst (λ (q : QuorumTree). IsMine who.me at.0 (hash_of q) before) set_is (subst (λ (n : NodeId). IsMine n at.0 (hash_of old.local) before) me_is (begins_mine old.me at.0 old.local before b.0)),
+      begins_open old.me at.0 old.local before b.0,
+    )
+    is_mine (Some m) e b = (let h = mine at.0 m e in subst (λ (x : SlotMachine D). IsMine who.me at.0 hash (slot_view x) × (ballot.IsDecided (slot_view x).ballots → ⊥)) (sym b) h)
 
-  was : IsMine who.me at.0 hash before × (ballot.IsDecided before.ballots → ⊥)
-  was = is_mine (machine_at old.machines at.0) refl r.machine
+    was : IsMine who.me at.0 hash before × (ballot.IsDecided before.ballots → ⊥)
+    was = is_mine (machine_at old.machines at.0) refl r.machine
 
-  tells : Says who.me at.0 hash before r.out after'
-  tells = says who.me at.0 hash before r.out after' was.0 was.1 (level (driver_of r.before) before.slot) (combined (driver_of r.before) before.nomination.slot) given r.takes
+    tells : Says who.me at.0 hash before r.out after'
+    tells = says who.me at.0 hash before r.out after' was.0 was.1 (level (driver_of r.before) before.slot) (combined (driver_of r.before) before.nomination.slot) given r.takes
 
-  -- the machine that was there
-  there_before : (m : SlotMachine KvDriver) → machine_at old.machines at.0 ≡ Some m → r.before ≡ m
-  there_before m e = by_there (machine_at old.machines at.0) e r.machine
-    where
-      by_there : (o : Option (SlotMachine KvDriver)) → o ≡ Some m → IsMachineFor old at o r.before → r.before ≡ m
-      by_there None k b = none_some None m refl k
-      by_there (Some x) k b = b ∙ some_same (Some x) x m refl k
+    -- the machine that was there
+    there_before : (m : SlotMachine D) → machine_at old.machines at.0 ≡ Some m → r.before ≡ m
+    there_before m e = by_there (machine_at old.machines at.0) e r.machine
+      where
+        by_there : (o : Option (SlotMachine D)) → o ≡ Some m → IsMachineFor old at o r.before → r.before ≡ m
+        by_there None k b = none_some None m refl k
+        by_there (Some x) k b = b ∙ some_same (Some x) x m refl k
 
-  -- it hasn't decided, where it gave no decision
-  open_then : r.out.decided ≡ None → ballot.IsDecided after'.ballots → ⊥
-  open_then none d = clash (sym (ap is_some none) ∙ r.decides.exactly.1 (was.1, d))
-    where
-      clash : false ≡ true → ⊥
-      clash e = cc
+    -- it hasn't decided, where it gave no decision
+    open_then : r.out.decided ≡ None → ballot.IsDecided after'.ballots → ⊥
+    open_then none d = clash (sym (ap is_some none) ∙ r.decides.exactly.1 (was.1, d))
+      where
+        clash : false ≡ true → ⊥
+        clash e = cc
 
-  -- the machine of the slot afterwards
-  here : machine_at new.machines at.0 ≡ cond (is_some r.out.decided) None (Some r.after)
-  here = r.machines at.0 ∙ ap (λ (b : Bool). cond b (cond (is_some r.out.decided) None (Some r.after)) (machine_at old.machines at.0)) (at_itself at.0)
+    -- the machine of the slot afterwards
+    here : machine_at new.machines at.0 ≡ cond (is_some r.out.decided) None (Some r.after)
+    here = r.machines at.0 ∙ ap (λ (b : Bool). cond b (cond (is_some r.out.decided) None (Some r.after)) (machine_at old.machines at.0)) (at_itself at.0)
 
-  abbrev made : Certified → Decision
-  made d = record { slot = at; value = d.value; origin = Machine d.n (tree_set.keys d.quorum) d.own }
+    abbrev made : Certified → Decision
+    made d = record { slot = at; value = d.value; origin = Machine d.n (tree_set.keys d.quorum) d.own }
 
-  grown : (d : Certified) → r.out.decided ≡ Some d → new.decisions ≡ old.decisions ++ made d ∷ []
-  grown d some = r.decisions ∙ ap (λ (o : Option Certified). old.decisions ++ option_to_list (decision_of at o)) some
+    grown : (d : Certified) → r.out.decided ≡ Some d → new.decisions ≡ old.decisions ++ made d ∷ []
+    grown d some = r.decisions ∙ ap (λ (o : Option Certified). old.decisions ++ option_to_list (decision_of at o)) some
 
-  elsewhere : (s : ℕ) → tree.is_at (nat_cmp at.0) s ≡ false → machine_at new.machines s ≡ machine_at old.machines s
-  elsewhere s e = r.machines s ∙ ap (λ (b : Bool). cond b (cond (is_some r.out.decided) None (Some r.after)) (machine_at old.machines s)) e
+    elsewhere : (s : ℕ) → tree.is_at (nat_cmp at.0) s ≡ false → machine_at new.machines s ≡ machine_at old.machines s
+    elsewhere s e = r.machines s ∙ ap (λ (b : Bool). cond b (cond (is_some r.out.decided) None (Some r.after)) (machine_at old.machines s)) e
 
-  -- a decision, or the machine as it is then
-  ended_or : (s : Statement) → s.slot.0 ≡ at.0 → IsUpTo s.pledges (said (is_nomination s.pledges) after') → IsBehind new s
-  ended_or s e u = by_decided r.out.decided refl
-    where
-      by_decided : (o : Option Certified) → r.out.decided ≡ o → IsBehind new s
-      by_decided None none = inr (r.after, ap (λ (n : ℕ). machine_at new.machines n) e ∙ here ∙ ap (λ (o : Option Certified). cond (is_some o) None (Some r.after)) none, u)
-      by_decided (Some d) some = inl (ap (λ (n : ℕ). is_decided n new.decisions) e ∙ ap (λ (ds : List Decision). is_decided at.0 ds) (grown d some) ∙ decided_last old.decisions (made d))
+    -- a decision, or the machine as it is then
+    ended_or : (s : Statement) → s.slot.0 ≡ at.0 → IsUpTo s.pledges (said (is_nomination s.pledges) after') → IsBehind new s
+    ended_or s e u = by_decided r.out.decided refl
+      where
+        by_decided : (o : Option Certified) → r.out.decided ≡ o → IsBehind new s
+        by_decided None none = inr (r.after, ap (λ (n : ℕ). machine_at new.machines n) e ∙ here ∙ ap (λ (o : Option Certified). cond (is_some o) None (Some r.after)) none, u)
+        by_decided (Some d) some = inl (ap (λ (n : ℕ). is_decided n new.decisions) e ∙ ap (λ (ds : List Decision). is_decided at.0 ds) (grown d some) ∙ decided_last old.decisions (made d))
 
-  -- what was said of a kind is followed by what is said of it then
-  goes_on : (kind : Bool) (p : Pledges) → IsUpTo p (said kind before) → IsUpTo p (said kind after')
-  goes_on true p u = upto_then who.me at.0 hash true (nominate.own before.nomination) (nominate.own after'.nomination) r.out.emitted.nomination p tells.nomination.tells u
-  goes_on false p u = upto_then who.me at.0 hash false before.ballots.emitted after'.ballots.emitted r.out.emitted.ballot p tells.ballots.tells u
+    -- what was said of a kind is followed by what is said of it then
+    goes_on : (kind : Bool) (p : Pledges) → IsUpTo p (said kind before) → IsUpTo p (said kind after')
+    goes_on true p u = upto_then who.me at.0 hash true (nominate.own before.nomination) (nominate.own after'.nomination) r.out.emitted.nomination p tells.nomination.tells u
+    goes_on false p u = upto_then who.me at.0 hash false before.ballots.emitted after'.ballots.emitted r.out.emitted.ballot p tells.ballots.tells u
 
-  behind_then : (s : Statement) → IsBehind old s → IsBehind new s
-  behind_then s h = elim h [
-    | inl done ↦ inl (decided_then s.slot.0 old.decisions new.decisions (option_to_list (decision_of at r.out.decided)) r.decisions done)
-    | inr w ↦ elim (which (tree.is_at (nat_cmp at.0) s.slot.0)) [
-      | inl same ↦ (
-          let e : s.slot.0 ≡ at.0 = sym (at_is at.0 s.slot.0 same) in
-          let m : r.before ≡ w.0 = there_before w.0 (ap (λ (n : ℕ). machine_at old.machines n) (sym e) ∙ w.1) in
-          ended_or s e (goes_on (is_nomination s.pledges) s.pledges (subst (λ (x : SlotMachine KvDriver). IsUpTo s.pledges (said (is_nomination s.pledges) (slot_view x))) (sym m) w.2))
-          )
-      | inr other ↦ inr (w.0, elsewhere s.slot.0 other ∙ w.1, w.2)
+    behind_then : (s : Statement) → IsBehind old s → IsBehind new s
+    behind_then s h = elim h [
+      | inl done ↦ inl (decided_then s.slot.0 old.decisions new.decisions (option_to_list (decision_of at r.out.decided)) r.decisions done)
+      | inr w ↦ elim (which (tree.is_at (nat_cmp at.0) s.slot.0)) [
+        | inl same ↦ (
+            let e : s.slot.0 ≡ at.0 = sym (at_is at.0 s.slot.0 same) in
+            let m : r.before ≡ w.0 = there_before w.0 (ap (λ (n : ℕ). machine_at old.machines n) (sym e) ∙ w.1) in
+            ended_or s e (goes_on (is_nomination s.pledges) s.pledges (subst (λ (x : SlotMachine D). IsUpTo s.pledges (said (is_nomination s.pledges) (slot_view x))) (sym m) w.2))
+            )
+        | inr other ↦ inr (w.0, elsewhere s.slot.0 other ∙ w.1, w.2)
+      ]
     ]
-  ]
 
-  machines_then : (s : ℕ) (m : SlotMachine KvDriver) → machine_at new.machines s ≡ Some m → IsMine who.me s hash (slot_view m) × (ballot.IsDecided (slot_view m).ballots → ⊥)
-  machines_then s m there = elim (which (tree.is_at (nat_cmp at.0) s)) [
-    | inl same ↦ by_decided (at_is at.0 s same) r.out.decided refl
-    | inr other ↦ mine s m (sym (elsewhere s other) ∙ there)
-  ]
-    where
-      by_decided : at.0 ≡ s → (o : Option Certified) → r.out.decided ≡ o → IsMine who.me s hash (slot_view m) × (ballot.IsDecided (slot_view m).ballots → ⊥)
-      by_decided e None none =
-          let now : machine_at new.machines s ≡ Some r.after = ap (λ (n : ℕ). machine_at new.machines n) (sym e) ∙ here ∙ ap (λ (o : Option Certified). cond (is_some o) None (Some r.after)) none in
-          let is : r.after ≡ m = some_same (machine_at new.machines s) r.after m now there in
-          let all : IsMine who.me s hash after' × (ballot.IsDecided after'.ballots → ⊥) = (subst (λ (n : ℕ). IsMine who.me n hash after') e (mine_then who.me at.0 hash before r.out after' tells), open_then none) in
-          subst (λ (x : SlotMachine KvDriver). IsMine who.me s hash (slot_view x) × (ballot.IsDecided (slot_view x).ballots → ⊥)) is all
-      by_decided e (Some d) some =
-          none_some (machine_at new.machines s) m (ap (λ (n : ℕ). machine_at new.machines n) (sym e) ∙ here ∙ ap (λ (o : Option Certified). cond (is_some o) None (Some r.after)) some) there
+    machines_then : (s : ℕ) (m : SlotMachine D) → machine_at new.machines s ≡ Some m → IsMine who.me s hash (slot_view m) × (ballot.IsDecided (slot_view m).ballots → ⊥)
+    machines_then s m there = elim (which (tree.is_at (nat_cmp at.0) s)) [
+      | inl same ↦ by_decided (at_is at.0 s same) r.out.decided refl
+      | inr other ↦ mine s m (sym (elsewhere s other) ∙ there)
+    ]
+      where
+        by_decided : at.0 ≡ s → (o : Option Certified) → r.out.decided ≡ o → IsMine who.me s hash (slot_view m) × (ballot.IsDecided (slot_view m).ballots → ⊥)
+        by_decided e None none =
+            let now : machine_at new.machines s ≡ Some r.after = ap (λ (n : ℕ). machine_at new.machines n) (sym e) ∙ here ∙ ap (λ (o : Option Certified). cond (is_some o) None (Some r.after)) none in
+            let is : r.after ≡ m = some_same (machine_at new.machines s) r.after m now there in
+            let all : IsMine who.me s hash after' × (ballot.IsDecided after'.ballots → ⊥) = (subst (λ (n : ℕ). IsMine who.me n hash after') e (mine_then who.me at.0 hash before r.out after' tells), open_then none) in
+            subst (λ (x : SlotMachine D). IsMine who.me s hash (slot_view x) × (ballot.IsDecided (slot_view x).ballots → ⊥)) is all
+        by_decided e (Some d) some =
+            none_some (machine_at new.machines s) m (ap (λ (n : ℕ). machine_at new.machines n) (sym e) ∙ here ∙ ap (λ (o : Option Certified). cond (is_some o) None (Some r.after)) some) there
 
-  -- a statement that is told of a kind
-  may_tell : (kind : Bool) (e : Enveloped) → IsTold who.me at.0 hash kind (said kind before) (said kind after') e → IsDecided new.decisions e e.statement.pledges → MayTell who old new e
-  may_tell kind e t decided = record {
-    own = record { node = t.node; set = t.set; unsigned = t.unsigned; sane = t.sane };
-    decided = decided;
-    behind = ended_or e.statement t.slot (subst (λ (k : Bool). IsUpTo e.statement.pledges (said k after')) (sym t.its_kind) (record { last = e.statement.pledges; there = t.stands; upto = inl refl }));
-    ahead = λ s node h alike. ahead s node h (eqb-true s.slot.0 e.statement.slot.0 (and_first (nat_eq s.slot.0 e.statement.slot.0) (same_bool (is_nomination s.pledges) (is_nomination e.statement.pledges)) alike)) (same_kind (is_nomination s.pledges) (is_nomination e.statement.pledges) (and_second (nat_eq s.slot.0 e.statement.slot.0) (same_bool (is_nomination s.pledges) (is_nomination e.statement.pledges)) alike));
-  }
-    where
-      ahead : (s : Statement) → s.node ≡ who.me → IsBehind old s → s.slot.0 ≡ e.statement.slot.0 → is_nomination s.pledges ≡ is_nomination e.statement.pledges → IsNewer s e.statement
-      ahead s node h slots kinds = record {
-        same_node = node ∙ sym t.node;
-        same_slot = ap (λ (n : ℕ). let x : Slot = record { 0 = n } in x) slots;
-        newer = elim h [
-          | inl done ↦ absurd (true_isnt (sym done ∙ ap (λ (n : ℕ). is_decided n old.decisions) (slots ∙ t.slot) ∙ r.is_open.undecided))
-          | inr w ↦ (
-              let m : r.before ≡ w.0 = there_before w.0 (ap (λ (n : ℕ). machine_at old.machines n) (sym (slots ∙ t.slot)) ∙ w.1) in
-              let upto : IsUpTo s.pledges (said (is_nomination s.pledges) before) = subst (λ (x : SlotMachine KvDriver). IsUpTo s.pledges (said (is_nomination s.pledges) (slot_view x))) (sym m) w.2 in
-              told_ahead who.me at.0 hash kind (said kind before) (said kind after') e s.pledges t (subst (λ (k : Bool). IsUpTo s.pledges (said k before)) (kinds ∙ t.its_kind) upto)
-              )
-        ];
-      }
+    -- a statement that is told of a kind
+    may_tell : (kind : Bool) (e : Enveloped) → IsTold who.me at.0 hash kind (said kind before) (said kind after') e → IsDecided new.decisions e e.statement.pledges → MayTell who old new e
+    may_tell kind e t decided = record {
+      own = record { node = t.node; set = t.set; unsigned = t.unsigned; sane = t.sane };
+      decided = decided;
+      behind = ended_or e.statement t.slot (subst (λ (k : Bool). IsUpTo e.statement.pledges (said k after')) (sym t.its_kind) (record { last = e.statement.pledges; there = t.stands; upto = inl refl }));
+      ahead = λ s node h alike. ahead s node h (eqb-true s.slot.0 e.statement.slot.0 (and_first (nat_eq s.slot.0 e.statement.slot.0) (same_bool (is_nomination s.pledges) (is_nomination e.statement.pledges)) alike)) (same_kind (is_nomination s.pledges) (is_nomination e.statement.pledges) (and_second (nat_eq s.slot.0 e.statement.slot.0) (same_bool (is_nomination s.pledges) (is_nomination e.statement.pledges)) alike));
+    }
+      where
+        ahead : (s : Statement) → s.node ≡ who.me → IsBehind old s → s.slot.0 ≡ e.statement.slot.0 → is_nomination s.pledges ≡ is_nomination e.statement.pledges → IsNewer s e.statement
+        ahead s node h slots kinds = record {
+          same_node = node ∙ sym t.node;
+          same_slot = ap (λ (n : ℕ). let x : Slot = record { 0 = n } in x) slots;
+          newer = elim h [
+            | inl done ↦ absurd (true_isnt (sym done ∙ ap (λ (n : ℕ). is_decided n old.decisions) (slots ∙ t.slot) ∙ r.is_open.undecided))
+            | inr w ↦ (
+                let m : r.before ≡ w.0 = there_before w.0 (ap (λ (n : ℕ). machine_at old.machines n) (sym (slots ∙ t.slot)) ∙ w.1) in
+                let upto : IsUpTo s.pledges (said (is_nomination s.pledges) before) = subst (λ (x : SlotMachine D). IsUpTo s.pledges (said (is_nomination s.pledges) (slot_view x))) (sym m) w.2 in
+                told_ahead who.me at.0 hash kind (said kind before) (said kind after') e s.pledges t (subst (λ (k : Bool). IsUpTo s.pledges (said k before)) (kinds ∙ t.its_kind) upto)
+                )
+          ];
+        }
 
-  -- an EXTERNALIZE has the decision that comes with it
-  has_decision : (e : Enveloped) → HasDecision e r.out.decided → Any (λ (d : Decision). IsOwnOf e d.origin) new.decisions
-  has_decision e h = subst (λ (ds : List Decision). Any (λ (d : Decision). IsOwnOf e d.origin) ds) (sym (grown h.0 h.1)) (Any-push (λ (d : Decision). IsOwnOf e d.origin) old.decisions (made h.0) h.2)
+    -- an EXTERNALIZE has the decision that comes with it
+    has_decision : (e : Enveloped) → HasDecision e r.out.decided → Any (λ (d : Decision). IsOwnOf e d.origin) new.decisions
+    has_decision e h = subst (λ (ds : List Decision). Any (λ (d : Decision). IsOwnOf e d.origin) ds) (sym (grown h.0 h.1)) (Any-push (λ (d : Decision). IsOwnOf e d.origin) old.decisions (made h.0) h.2)
 
-  pub ran : Ran who old r.out new
-  ran = record {
-    machines = machines_then;
-    behind = behind_then;
-    nomination = λ e is. (let t = tells.nomination.tells.told e is in (may_tell true e t (nomination_decided new.decisions e e.statement.pledges t.its_kind), t.its_kind));
-    ballots = λ e is. (let t = tells.ballots.tells.told e is in (may_tell false e t (externalize_decided new.decisions e e.statement.pledges (λ x. has_decision e (tells.ballots.ends e is x))), t.its_kind));
-  }
+    pub ran : Ran who old r.out new
+    ran = record {
+      machines = machines_then;
+      behind = behind_then;
+      nomination = λ e is. (let t = tells.nomination.tells.told e is in (may_tell true e t (nomination_decided new.decisions e e.statement.pledges t.its_kind), t.its_kind));
+      ballots = λ e is. (let t = tells.ballots.tells.told e is in (may_tell false e t (externalize_decided new.decisions e e.statement.pledges (λ x. has_decision e (tells.ballots.ends e is x))), t.its_kind));
+    }

@@ -12,7 +12,7 @@ use Rattle.scp_wire.specs.declared.message.Message.TheVariants.{Envelope, GetSet
 use Rattle.scp_outbox.specs.Outbox.{is_nomination, same_bool}
 use Rattle.scp_outboxes.specs.Handing.{to_link}
 use Rattle.scp_outboxes.specs.Sent.{statement_of, IsStep, AreNewer}
-use Rattle.scp_ledger.specs.Kv.{KvLedger}
+use Rattle.scp_ledger.specs.Seen.{LedgerView}
 use Rattle.scp_grounds.specs.Grounds.{Grounds, MaySend}
 use Rattle.scp_grounds.proofs.Basics.{true_isnt, and_second}
 use Rattle.scp_grounds.proofs.Machines.{IsBehind, MayTell}
@@ -58,35 +58,37 @@ newer_to messages to link m e newer = by_test (nat_eq link to)
 
 -- ---- statements behind their machines
 
--- a statement that was handed out is behind its machine
-abbrev pub IsSaid : KvLedger → Message → Type 0
-IsSaid v m = ForSome (statement_of m) (IsBehind v)
+module _ {D : Type 0} where
+  -- a statement that was handed out is behind its machine
+  abbrev pub IsSaid : LedgerView D → Message → Type 0
+  IsSaid v m = ForSome (statement_of m) (IsBehind v)
 
-pub nothing_said : (v : KvLedger) (m : Message) → statement_of m ≡ None → IsSaid v m
-nothing_said v m none s e = absurd (some_isnt s (sym none ∙ e))
-  where
-    some_isnt : (x : Statement) → None ≡ Some x → ⊥
-    some_isnt x e = cc
+  pub nothing_said : (v : LedgerView D) (m : Message) → statement_of m ≡ None → IsSaid v m
+  nothing_said v m none s e = absurd (some_isnt s (sym none ∙ e))
+    where
+      some_isnt : (x : Statement) → None ≡ Some x → ⊥
+      some_isnt x e = cc
 
 -- the message of a statement
 abbrev pub told : Enveloped → Message
 told e = Envelope (record { value = e })
 
-pub is_said : (v : KvLedger) (e : Enveloped) → IsBehind v e.statement → IsSaid v (told e)
-is_said v e behind s is = subst (IsBehind v) (some_is e.statement s is) behind
-  where
-    some_is : (x y : Statement) → Some x ≡ Some y → x ≡ y
-    some_is x y k = cc
+module _ {D : Type 0} where
+  pub is_said : (v : LedgerView D) (e : Enveloped) → IsBehind v e.statement → IsSaid v (told e)
+  is_said v e behind s is = subst (IsBehind v) (some_is e.statement s is) behind
+    where
+      some_is : (x y : Statement) → Some x ≡ Some y → x ≡ y
+      some_is x y k = cc
 
--- a message that was handed out, and a statement that is told
-pub step_told : (g : Grounds) (old new : KvLedger) (link : ℕ) (e : Enveloped) (n : Message) → MaySend g link n → IsSaid old n → MayTell g.who old new e → IsStep (statement_of n) (Some e.statement)
-step_told g old new link e (Envelope b) may said tell = λ alike. tell.ahead b.value.statement may.0.node (said b.value.statement refl) alike
-step_told g old new link e (GetSet hash) may said tell = tt
-step_told g old new link e (Set set) may said tell = tt
-step_told g old new link e (NoSet hash) may said tell = tt
-step_told g old new link e (GetRecord slot) may said tell = tt
-step_told g old new link e (Record slot value) may said tell = tt
-step_told g old new link e (Records first values) may said tell = tt
+  -- a message that was handed out, and a statement that is told
+  pub step_told : (g : Grounds) (old new : LedgerView D) (link : ℕ) (e : Enveloped) (n : Message) → MaySend g link n → IsSaid old n → MayTell g.who old new e → IsStep (statement_of n) (Some e.statement)
+  step_told g old new link e (Envelope b) may said tell = λ alike. tell.ahead b.value.statement may.0.node (said b.value.statement refl) alike
+  step_told g old new link e (GetSet hash) may said tell = tt
+  step_told g old new link e (Set set) may said tell = tt
+  step_told g old new link e (NoSet hash) may said tell = tt
+  step_told g old new link e (GetRecord slot) may said tell = tt
+  step_told g old new link e (Record slot value) may said tell = tt
+  step_told g old new link e (Records first values) may said tell = tt
 
 -- of two kinds
 pub apart : (d e : Enveloped) → is_nomination d.statement.pledges ≡ true → is_nomination e.statement.pledges ≡ false → IsStep (Some d.statement) (Some e.statement)

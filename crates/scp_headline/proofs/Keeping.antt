@@ -3,12 +3,10 @@ use Rattle.std.proofs.Common.{ℕ, ◌≡◌, List, [], ◌∷◌, ◌++◌, Opt
 use Rattle.std.specs.Prelude.{IfSome, IsSomeAnd, Contains, map, option_map}
 use Rattle.std.proofs.lemmas.Grind.{flat_map-append}
 use Rattle.std.proofs.lemmas.List.Elements.{All-weaker}
-use Rattle.std.specs.FinMap as finite
 use Rattle.scp_types.specs.declared.names.ConnId.{ConnId}
 use Rattle.scp_quorum.specs.QuorumKind.{set_hash}
 use Rattle.scp_quorum.specs.SharedSet.{SharedSet}
 use Rattle.scp_driver.specs.declared.driver.Level.{Level}
-use Rattle.scp_kv.specs.Map.{KvMap}
 use Rattle.scp_wire.specs.declared.link.Cause.TheVariants.{ParkedFull}
 use Rattle.scp_wire.specs.declared.message.Message.{Message}
 use Rattle.scp_wire.specs.declared.message.Message.TheVariants.{Envelope, GetSet, Set, NoSet, GetRecord, Record, Records}
@@ -28,13 +26,11 @@ use Rattle.scp_ledger.specs.Decisions.{IsFounded}
 use Rattle.scp_ledger.specs.Decisions.{RestsOn as IsFoundedOn}
 use Rattle.scp_ledger.specs.Marks.{marks_of as marks_on}
 use Rattle.scp_ledger.specs.Verdicts.{HasItsSet, link_of}
-use Rattle.scp_apply.specs.Applied.{values_of}
 use Rattle.scp_theorem.specs.Account.{Account}
 use Rattle.scp_theorem.specs.Kept.{HasItsFates, leaving, line_held, line_sent, slots_sent, start_of}
 use Rattle.scp_headline.specs.Books.{waiter_of, books_of, LedgerKeepsHeadline}
-use Rattle.scp_headline.specs.Headline.{Waiter, HasFates, HasNamedSet, RestsOn, IsFold, AreAllUpTo, held_of, numbers_in}
+use Rattle.scp_headline.specs.Headline.{Waiter, HasFates, HasNamedSet, RestsOn, AreAllUpTo, held_of, numbers_in}
 use Rattle.scp_headline.proofs.Cutting.{none_missing}
-use Rattle.scp_headline.proofs.Folding.{Finds, is_fold}
 use Rattle.scp_headline.proofs.Waiting.{delays_none}
 
 -- ---- what is held
@@ -89,8 +85,8 @@ rests_on a d (Named conn seq) is = is.0
 
 -- ---- all of it
 
-pub ledger_keeps_headline : Finds → {D : Type 0} (level : D → ℕ → List ℕ → Level) (extracted : D → ℕ → List ℕ → Option (List ℕ)) (combined : D → ℕ → List (List ℕ) → List ℕ) (place : D → ℕ → ℕ → ℕ → ℕ) → LedgerKeepsHeadline level extracted combined place
-ledger_keeps_headline finds level extracted combined place = λ a keeps. record {
+pub ledger_keeps_headline : {D : Type 0} (level : D → ℕ → List ℕ → Level) (extracted : D → ℕ → List ℕ → Option (List ℕ)) (combined : D → ℕ → List (List ℕ) → List ℕ) (place : D → ℕ → ℕ → ℕ → ℕ) → LedgerKeepsHeadline level extracted combined place
+ledger_keeps_headline level extracted combined place = λ a keeps. record {
   fates = λ l peer at life. fates_at a l (record { from = peer; to = a.me; life = life }) (keeps.fates l peer at life);
   no_others = keeps.of_links;
   sets = All-weaker HasItsSet HasNamedSet has_named a.ledger.journal keeps.decisions.sets;
@@ -99,5 +95,4 @@ ledger_keeps_headline finds level extracted combined place = λ a keeps. record 
   grounds = All-weaker (IsFounded a.me a.set (link_of a.peers) a.ledger.asked a.ledger.journal) (λ (d : Decision). RestsOn (books_of a) d d.origin) (λ d is. rests_on a d d.origin is) a.ledger.decisions keeps.decisions.founded;
   in_order = keeps.applied.in_order;
   decided = keeps.applied.decided;
-  folded = subst (λ (state : Option KvMap). IsSomeAnd state (IsFold finite.empty (values_of a.applier.applied))) (sym keeps.applied.folded) (is_fold finds finite.empty (values_of a.applier.applied));
 }

@@ -39,7 +39,6 @@ books_of a = record {
   journal = a.ledger.journal;
   decisions = a.ledger.decisions;
   applied = a.applier.applied;
-  state = a.applier.state;
 }
 
 -- what keeps the ledger keeps the headline

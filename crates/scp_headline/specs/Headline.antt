@@ -1,19 +1,14 @@
 -- The headline: what becomes of what is sent to a node, over plain lists, and no more.
-use Rattle.std.specs.Prelude.{ℕ, ◌+◌, ◌<◌, ◌≡◌, false, Bool, List, [], ◌∷◌, ◌++◌, Option, Some, nat_eq, slice_get, map, flat_map, filter, option_to_list, All, Contains, IsSomeAnd, IfSome}
+use Rattle.std.specs.Prelude.{ℕ, ◌+◌, ◌≡◌, false, Bool, List, [], ◌∷◌, ◌++◌, Option, Some, nat_eq, slice_get, map, flat_map, filter, option_to_list, All, Contains, IsSomeAnd, IfSome}
 use Rattle.std.specs.List.{AllByRecursion, range_with_len}
 use Rattle.std.specs.List.Sorted.{IsPermutation}
-use Rattle.std.specs.FinMap as finite
 use Rattle.scp_types.specs.declared.names.ConnId.{ConnId}
 use Rattle.scp_types.specs.declared.names.Hash.{Hash}
 use Rattle.scp_types.specs.declared.names.NodeId.{NodeId}
-use Rattle.scp_xdr.specs.Kind.{Values}
 use Rattle.scp_quorum.specs.QuorumTree.{QuorumTree}
 use Rattle.scp_quorum.specs.QuorumKind.{set_hash}
 use Rattle.scp_quorum.specs.SharedSet.{SharedSet}
 use Rattle.scp_vote.specs.declared.claim.StatementKind.TheVariants.{Balloting}
-use Rattle.scp_kv.specs.Map.{KvMap}
-use Rattle.scp_kv.specs.Op.{ops_kind, IsOps}
-use Rattle.scp_kv.specs.State.{after_ops}
 use Rattle.scp_wire.specs.declared.link.Cause.{Cause}
 use Rattle.scp_wire.specs.declared.link.Cause.TheVariants.{ParkedFull}
 use Rattle.scp_wire.specs.declared.message.Message.{Message}
@@ -33,7 +28,7 @@ use Rattle.scp_ledger.specs.Certificate.{IsCertificate}
 use Rattle.scp_ledger.specs.Decisions.{OnePerSlot}
 use Rattle.scp_ledger.specs.Journal.{newest}
 use Rattle.scp_ledger.specs.Marks.{marks_of}
-use Rattle.scp_apply.specs.Applied.{AreInOrder, values_of}
+use Rattle.scp_apply.specs.Applied.{AreInOrder}
 use Rattle.scp_theorem.specs.Fates.{Fates, conn_of, IsOfLink}
 
 -- a message that waits for a quorum set, or behind one that does, with its number on its connection
@@ -55,11 +50,10 @@ pub record Books : Type 0 where
   pub behind : ℕ → ConnId → List Mark
   -- whether it has a quorum set of this hash
   pub has_set : Hash → Bool
-  -- the fate of each message; the decisions; those of them that are applied; and the state
+  -- the fate of each message; the decisions; and those of them that are applied
   pub journal : List Fate
   pub decisions : List Decision
   pub applied : List Decision
-  pub state : Option KvMap
 
 -- ---- one connection
 
@@ -120,22 +114,10 @@ abbrev pub RestsOn : Books → Decision → Origin → Type 0
 RestsOn b d (Machine n quorum own) = IsCertificate b.me b.set (λ v. newest d.slot.0 Balloting v b.journal) d.value n quorum
 RestsOn b d (Named conn seq) = (beside : Option SharedSet) × Contains b.journal (Taken conn seq (Record d.slot d.value) beside Decided)
 
--- ---- the state
-
--- what a value makes of the state: its operations in order, where its bytes are an operation list, and else nothing
-pub record IsAfter (old : KvMap) (value : List ℕ) (new : KvMap) : Type 0 where
-  pub does : (ops : Values ops_kind) → IsOps value ops → new ≡ after_ops old ops
-  pub stays : All (λ byte. byte < 256) value → ((ops : Values ops_kind) → IsOps value ops → ⊥) → new ≡ old
-
--- what values make of it, one after another
-abbrev pub IsFold : KvMap → List (List ℕ) → KvMap → Type 0
-IsFold old [] new = new ≡ old
-IsFold old (value ∷ values) new = (between : KvMap) × IsAfter old value between × IsFold between values new
-
 -- ---- the headline
 
--- Each message that was sent has one fate, in the order of its slot; what is decided is applied, in the order of the slots; and the state is
--- what was applied.
+-- Each message that was sent has one fate, in the order of its slot; and what is decided is applied, in the order of the slots. What state that
+-- makes is told where it is read: it is what the application makes of the applied values, one after another.
 pub record Headline (b : Books) : Type 0 where
   -- of each connection of each link the messages have one fate each, in order, and nothing is lost; and nothing else has a fate
   pub fates : (l : ℕ) → (peer : NodeId) → slice_get b.peers l ≡ Some peer → (life : ℕ) → HasFates b l (conn_at peer b.me life)
@@ -147,7 +129,6 @@ pub record Headline (b : Books) : Type 0 where
   -- each slot has at most one decision, and each decision rests on a quorum or on a taken record
   pub one_decision : OnePerSlot b.decisions
   pub grounds : All (λ d. RestsOn b d d.origin) b.decisions
-  -- slots 1 to n are applied, once each and in order, each with its decision; and the state is what their values make of the empty map
+  -- slots 1 to n are applied, once each and in order, each with its decision
   pub in_order : AreInOrder 1 b.applied
   pub decided : All (Contains b.decisions) b.applied
-  pub folded : IsSomeAnd b.state (IsFold finite.empty (values_of b.applied))

@@ -2,7 +2,7 @@
 use Rattle.std.proofs.Common.{◌≡◌, ◌<◌, ◌+◌, ◌∙◌, ℕ, suc, Bool, false, List, [], ◌∷◌, ◌++◌, length, get_or, take, drop, refl, sym, ap, subst, arith, drop-cons}
 use Rattle.std.specs.Prelude.{Ok, Err, All}
 use Rattle.std.proofs.lemmas.List.{take_more, take-append-drop}
-use Rattle.scp_turn.specs.Watch.{Noting}
+use Rattle.scp_turn.specs.Kv.{Noting}
 use Rattle.scp_network.specs.Heard.{Nodes, Heard, Noted}
 use Rattle.scp_network.specs.Network.{NetworkView}
 use Rattle.scp_script.specs.declared.command.Command.{Command}

@@ -3,7 +3,8 @@ use Rattle.std.specs.Prelude.{ℕ, ◌+◌, List, [], ◌∷◌, ◌++◌, flat_
 use Rattle.scp_types.specs.declared.limits.TheConstants.{PEER_LIMIT}
 use Rattle.scp_types.specs.declared.names.NodeId.{NodeId}
 use Rattle.scp_wire.specs.Connections.{conn_at}
-use Rattle.scp_core.specs.Node.{NodeView, lives_at}
+use Rattle.scp_core.specs.Node.{lives_at}
+use Rattle.scp_core.specs.Kv.{NodeView}
 use Rattle.scp_script.specs.Nodes.{numbers}
 use Rattle.scp_line.specs.declared.report.Parked.{Parked}
 use Rattle.scp_line.specs.Play.{parked_of}

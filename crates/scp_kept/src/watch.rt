@@ -5,7 +5,7 @@ ghost use Rattle.scp_kept.specs.Watching.{awaited, happens};
 ghost use Rattle.scp_kept.specs.inside.Adding.{Adds};
 
 use crate::happening::{Happening, Kept};
-use scp_core::{Event, Node, Reply};
+use scp_core::{Event, KvDriver, Node, Reply};
 use scp_turn::Watch;
 use scp_types::Fault;
 use std::alloc::Global;
@@ -121,7 +121,7 @@ impl KeepingWatch {
     }
 }
 
-impl Watch for KeepingWatch {
+impl Watch<KvDriver> for KeepingWatch {
     ghost use Rattle.scp_kept.specs.Watching.{Awaits, KeepsStep};
 
     ghost notes_before = { Awaits };

@@ -12,5 +12,6 @@ pub mod Laws
 pub mod Onwards
 pub mod Runs
 pub mod Journals
+pub mod By
 pub mod Kv
 pub mod inside

@@ -45,7 +45,7 @@ impl<D: Driver + Drop + Copy> Model for Ledger<D> {
 
     ghost view = { ledger_view };
 
-    ghost invariant = { IsWell D.level D.place };
+    ghost invariant = { IsWell D.says.level D.says.place };
 }
 
 impl<D: Driver + Drop + Copy> Ledger<D> {
@@ -61,7 +61,7 @@ impl<D: Driver + Drop + Copy> Ledger<D> {
         requires few { length peers.items ≤ 255 }
         ensures empty { result ≡ record { me = me; local = local.value; driver = driver; peers = peers.items; failed = false; journal = []; decisions = []; lowest = 1; asked = []; machines = [] } }
         ensures known { IsLedger result }
-        ensures running { IsRunning D.level D.place result }
+        ensures running { IsRunning D.says.level D.says.place result }
     {
         Ledger {
             state: State::new(alloc, me, local, driver, peers),
@@ -88,7 +88,7 @@ impl<D: Driver + Drop + Copy> Ledger<D> {
     /// The lowest slot from 1 on that has no decision. Of a ledger that failed it says nothing.
     pub fn lowest(&self) -> u64
         ensures same { result ≡ self.now.lowest }
-        ensures running { self.now.failed ≡ false → IsRunning D.level D.place self.now }
+        ensures running { self.now.failed ≡ false → IsRunning D.says.level D.says.place self.now }
     {
         self.state.window.lowest
     }
@@ -122,9 +122,9 @@ impl<D: Driver + Drop + Copy> Ledger<D> {
     /// time grows with the message's length, the work of the slot's machine, and the logarithm of what was asked for.
     pub fn take(&mut self, ready: Ready) -> Result<Took, Fault>
         // The entry, the verdict, the machine, the decision and the answer are these.
-        ensures takes { IfOk result (λ took. Takes D.level D.extracted D.combined D.place self.old ready took self.new) }
+        ensures takes { IfOk result (λ took. Takes D.says.level D.says.extracted D.says.combined D.says.place self.old ready took self.new) }
         // What became of a command.
-        ensures tells { IfOk result (λ took. TellsFate D.level self.old ready took) }
+        ensures tells { IfOk result (λ took. TellsFate D.says.level self.old ready took) }
         // What goes out fits a link.
         ensures fits { IfOk result (λ took. All FitsOut took.outgoing) }
         // Of each connection the journal says what the things said that were taken.
@@ -132,7 +132,7 @@ impl<D: Driver + Drop + Copy> Ledger<D> {
         // At most one decision per slot, and each has its certificate over the journal, or the record that named it, failed or not.
         ensures known { IsLedger self.new }
         // The lowest slot is the least without a decision, and each machine's board is that of the journal.
-        ensures running { self.new.failed ≡ false → IsRunning D.level D.place self.new }
+        ensures running { self.new.failed ≡ false → IsRunning D.says.level D.says.place self.new }
         // When each refusal comes, and what it leaves.
         ensures failed { IsErrOf result Fault.Failed ↔ (self.old.failed ≡ true) }
         ensures same { self.old.failed ≡ true → self.new ≡ self.old }

@@ -73,7 +73,7 @@ impl<D: Driver + Drop + Copy> State<D> {
     ) -> State<D>
         requires few { length peers.items ≤ 255 }
         ensures empty { state_view false result ≡ record { me = me; local = local.value; driver = driver; peers = peers.items; failed = false; journal = []; decisions = []; lowest = 1; asked = []; machines = [] } }
-        ensures sound { IsSound D.level D.place result }
+        ensures sound { IsSound D.says.level D.says.place result }
     {
         State {
             alloc,
@@ -164,7 +164,7 @@ impl<D: Driver + Drop + Copy> State<D> {
 
     /// A machine that has heard and said nothing.
     fn new_machine(&self, slot: Slot) -> Result<SlotMachine<D>, Fault>
-        ensures made { IfOk result (IsMade D.level D.place self.now slot) }
+        ensures made { IfOk result (IsMade D.says.level D.says.place self.now slot) }
         ensures only_memory { IsOkUnless result Fault.NoMemory }
     {
         let local = Arc::try_clone(&self.local)?;
@@ -174,10 +174,10 @@ impl<D: Driver + Drop + Copy> State<D> {
 
     /// Runs the slot's machine on an input where it lies, and gives it up where it decides. A machine isn't moved by it.
     fn run(&mut self, slot: Slot, input: SlotInput) -> Result<SlotOutput, Fault>
-        requires sound { IsSound D.level D.place self.old }
+        requires sound { IsSound D.says.level D.says.place self.old }
         requires is_open { IsOpen self.old.window.lowest self.old.decisions.items slot.0 }
         requires of_slot { IsOfSlot slot.0 input }
-        ensures ran { IfOk result (λ out. Ran D.level D.extracted D.combined D.place self.old slot input out self.new) }
+        ensures ran { IfOk result (λ out. Ran D.says.level D.says.extracted D.says.combined D.says.place self.old slot input out self.new) }
         ensures fits { IfOk result KeepsLimits }
         ensures same { self.new ≡ record self.old { machines = self.new.machines } }
         ensures only_memory { IsOkUnless result Fault.NoMemory }
@@ -194,11 +194,11 @@ impl<D: Driver + Drop + Copy> State<D> {
 
     /// Makes the slot's machine and runs it on its first input.
     fn start(&mut self, slot: Slot, input: SlotInput) -> Result<SlotOutput, Fault>
-        requires sound { IsSound D.level D.place self.old }
+        requires sound { IsSound D.says.level D.says.place self.old }
         requires is_open { IsOpen self.old.window.lowest self.old.decisions.items slot.0 }
         requires of_slot { IsOfSlot slot.0 input }
         requires none { machine_at self.old.machines.entries slot.0 ≡ None }
-        ensures ran { IfOk result (λ out. Ran D.level D.extracted D.combined D.place self.old slot input out self.new) }
+        ensures ran { IfOk result (λ out. Ran D.says.level D.says.extracted D.says.combined D.says.place self.old slot input out self.new) }
         ensures fits { IfOk result KeepsLimits }
         ensures same { self.new ≡ record self.old { machines = self.new.machines } }
         ensures only_memory { IsOkUnless result Fault.NoMemory }
@@ -266,12 +266,12 @@ impl<D: Driver + Drop + Copy> State<D> {
 
     /// Adds an entry that is of nothing fresh and decides nothing.
     fn pass_entry(&mut self, verdict: Option<Verdict>, fate: Fate) -> Result<Took, Fault>
-        requires sound { IsSound D.level D.place self.old }
+        requires sound { IsSound D.says.level D.says.place self.old }
         requires room { length self.old.journal.items < JOURNAL_LIMIT }
         requires quiet { IsQuiet fate }
         ensures passes { IfOk result (λ took. Passes (state_view false self.old) verdict (fate ∷ []) took (state_view false self.new)) }
         ensures untold { IfOk result (λ took. took.command ≡ None) }
-        ensures sound { OnOk result (IsSound D.level D.place self.new) }
+        ensures sound { OnOk result (IsSound D.says.level D.says.place self.new) }
         ensures err { OnErr result (Leaves self.old self.new) }
         ensures only_memory { IsOkUnless result Fault.NoMemory }
     {
@@ -391,14 +391,14 @@ impl<D: Driver + Drop + Copy> State<D> {
         input: SlotInput,
         entering: Option<Entering>,
     ) -> Result<Took, Fault>
-        requires sound { IsSound D.level D.place self.old }
+        requires sound { IsSound D.says.level D.says.place self.old }
         requires room { length self.old.journal.items + length (option_to_list entering) ≤ JOURNAL_LIMIT }
         requires is_open { IsOpen self.old.window.lowest self.old.decisions.items slot.0 }
         requires of_slot { IsOfSlot slot.0 input }
         requires entry { Enters input entering }
-        ensures ran { IfOk result (λ took. (verdict : Verdict) × RunsAt D.level D.extracted D.combined D.place (state_view false self.old) slot input (entries_with entering verdict) took (state_view false self.new) × (took.verdict ≡ Some verdict)) }
+        ensures ran { IfOk result (λ took. (verdict : Verdict) × RunsAt D.says.level D.says.extracted D.says.combined D.says.place (state_view false self.old) slot input (entries_with entering verdict) took (state_view false self.new) × (took.verdict ≡ Some verdict)) }
         ensures untold { IfOk result (λ took. took.command ≡ None) }
-        ensures sound { OnOk result (IsSound D.level D.place self.new) }
+        ensures sound { OnOk result (IsSound D.says.level D.says.place self.new) }
         ensures err { OnErr result (Leaves self.old self.new) }
         ensures only_memory { IsOkUnless result Fault.NoMemory }
     {
@@ -415,12 +415,12 @@ impl<D: Driver + Drop + Copy> State<D> {
         envelope: BoxedEnvelope,
         set: Arc<SaneSet>,
     ) -> Result<Took, Fault>
-        requires sound { IsSound D.level D.place self.old }
+        requires sound { IsSound D.says.level D.says.place self.old }
         requires room { length self.old.journal.items < JOURNAL_LIMIT }
         requires its_set { IsSetOf (Message.Envelope envelope) (Some set.value) }
-        ensures takes { IfOk result (λ took. TakesEnvelope D.level D.extracted D.combined D.place (state_view false self.old) conn seq envelope (Some set.value) took (state_view false self.new)) }
+        ensures takes { IfOk result (λ took. TakesEnvelope D.says.level D.says.extracted D.says.combined D.says.place (state_view false self.old) conn seq envelope (Some set.value) took (state_view false self.new)) }
         ensures untold { IfOk result (λ took. took.command ≡ None) }
-        ensures sound { OnOk result (IsSound D.level D.place self.new) }
+        ensures sound { OnOk result (IsSound D.says.level D.says.place self.new) }
         ensures err { OnErr result (Leaves self.old self.new) }
         ensures only_memory { IsOkUnless result Fault.NoMemory }
     {
@@ -454,12 +454,12 @@ impl<D: Driver + Drop + Copy> State<D> {
         slot: Slot,
         set: Option<Arc<SaneSet>>,
     ) -> Result<Took, Fault>
-        requires sound { IsSound D.level D.place self.old }
+        requires sound { IsSound D.says.level D.says.place self.old }
         requires room { length self.old.journal.items < JOURNAL_LIMIT }
         requires its_set { IsSetOf (Message.GetRecord slot) (option_map (λ s. s.value) set) }
         ensures takes { IfOk result (λ took. Forwards (state_view false self.old) conn seq slot set took (state_view false self.new)) }
         ensures untold { IfOk result (λ took. took.command ≡ None) }
-        ensures sound { OnOk result (IsSound D.level D.place self.new) }
+        ensures sound { OnOk result (IsSound D.says.level D.says.place self.new) }
         ensures err { OnErr result (Leaves self.old self.new) }
         ensures only_memory { IsOkUnless result Fault.NoMemory }
     {
@@ -490,13 +490,13 @@ impl<D: Driver + Drop + Copy> State<D> {
         value: Value,
         set: Option<Arc<SaneSet>>,
     ) -> Result<Took, Fault>
-        requires sound { IsSound D.level D.place self.old }
+        requires sound { IsSound D.says.level D.says.place self.old }
         requires room { length self.old.journal.items < JOURNAL_LIMIT }
         requires its_set { IsSetOf (Message.Record slot value) (option_map (λ s. s.value) set) }
         requires fits { IsFitting (Message.Record slot value) }
         ensures takes { IfOk result (λ took. TakesRecord (state_view false self.old) conn seq slot value set took (state_view false self.new)) }
         ensures untold { IfOk result (λ took. took.command ≡ None) }
-        ensures sound { OnOk result (IsSound D.level D.place self.new) }
+        ensures sound { OnOk result (IsSound D.says.level D.says.place self.new) }
         ensures err { OnErr result (Leaves self.old self.new) }
         ensures only_memory { IsOkUnless result Fault.NoMemory }
     {
@@ -525,7 +525,7 @@ impl<D: Driver + Drop + Copy> State<D> {
         value: Value,
         set: Option<Arc<SaneSet>>,
     ) -> Result<Took, Fault>
-        requires sound { IsSound D.level D.place self.old }
+        requires sound { IsSound D.says.level D.says.place self.old }
         requires room { length self.old.journal.items < JOURNAL_LIMIT }
         requires its_set { IsSetOf (Message.Record slot value) (option_map (λ s. s.value) set) }
         requires fits { IsFitting (Message.Record slot value) }
@@ -534,7 +534,7 @@ impl<D: Driver + Drop + Copy> State<D> {
         ensures verdict { IfOk result (λ took. took.verdict ≡ Some Verdict.Decided) }
         ensures decides { IfOk result (λ took. Decides (state_view false self.old) conn seq slot value set took (state_view false self.new)) }
         ensures untold { IfOk result (λ took. took.command ≡ None) }
-        ensures sound { OnOk result (IsSound D.level D.place self.new) }
+        ensures sound { OnOk result (IsSound D.says.level D.says.place self.new) }
         ensures err { OnErr result (Leaves self.old self.new) }
         ensures only_memory { IsOkUnless result Fault.NoMemory }
     {
@@ -557,11 +557,11 @@ impl<D: Driver + Drop + Copy> State<D> {
     }
 
     fn take_command(&mut self, slot: Slot, input: SlotInput) -> Result<Took, Fault>
-        requires sound { IsSound D.level D.place self.old }
+        requires sound { IsSound D.says.level D.says.place self.old }
         requires entry { Enters input None }
         requires of_slot { IsOfSlot slot.0 input }
-        ensures takes { IfOk result (λ took. Commands D.level D.extracted D.combined D.place (state_view false self.old) slot input took (state_view false self.new)) }
-        ensures sound { OnOk result (IsSound D.level D.place self.new) }
+        ensures takes { IfOk result (λ took. Commands D.says.level D.says.extracted D.says.combined D.says.place (state_view false self.old) slot input took (state_view false self.new)) }
+        ensures sound { OnOk result (IsSound D.says.level D.says.place self.new) }
         ensures err { OnErr result (Leaves self.old self.new) }
         ensures only_memory { IsOkUnless result Fault.NoMemory }
     {
@@ -572,10 +572,10 @@ impl<D: Driver + Drop + Copy> State<D> {
     }
 
     fn take_proposal(&mut self, slot: Slot, value: Value) -> Result<Took, Fault>
-        requires sound { IsSound D.level D.place self.old }
-        ensures takes { IfOk result (λ took. Commands D.level D.extracted D.combined D.place (state_view false self.old) slot (Propose value) took (state_view false self.new)) }
-        ensures tells { IfOk result (λ took. IsSomeAnd took.command (IsProposalFate D.level (state_view false self.old) slot value)) }
-        ensures sound { OnOk result (IsSound D.level D.place self.new) }
+        requires sound { IsSound D.says.level D.says.place self.old }
+        ensures takes { IfOk result (λ took. Commands D.says.level D.says.extracted D.says.combined D.says.place (state_view false self.old) slot (Propose value) took (state_view false self.new)) }
+        ensures tells { IfOk result (λ took. IsSomeAnd took.command (IsProposalFate D.says.level (state_view false self.old) slot value)) }
+        ensures sound { OnOk result (IsSound D.says.level D.says.place self.new) }
         ensures err { OnErr result (Leaves self.old self.new) }
         ensures only_memory { IsOkUnless result Fault.NoMemory }
     {
@@ -584,10 +584,10 @@ impl<D: Driver + Drop + Copy> State<D> {
     }
 
     fn take_round(&mut self, slot: Slot) -> Result<Took, Fault>
-        requires sound { IsSound D.level D.place self.old }
-        ensures takes { IfOk result (λ took. Commands D.level D.extracted D.combined D.place (state_view false self.old) slot (Round) took (state_view false self.new)) }
+        requires sound { IsSound D.says.level D.says.place self.old }
+        ensures takes { IfOk result (λ took. Commands D.says.level D.says.extracted D.says.combined D.says.place (state_view false self.old) slot (Round) took (state_view false self.new)) }
         ensures tells { IfOk result (λ took. IsSomeAnd took.command (IsRoundFate (state_view false self.old) slot)) }
-        ensures sound { OnOk result (IsSound D.level D.place self.new) }
+        ensures sound { OnOk result (IsSound D.says.level D.says.place self.new) }
         ensures err { OnErr result (Leaves self.old self.new) }
         ensures only_memory { IsOkUnless result Fault.NoMemory }
     {
@@ -596,10 +596,10 @@ impl<D: Driver + Drop + Copy> State<D> {
     }
 
     fn take_timer(&mut self, slot: Slot) -> Result<Took, Fault>
-        requires sound { IsSound D.level D.place self.old }
-        ensures takes { IfOk result (λ took. Commands D.level D.extracted D.combined D.place (state_view false self.old) slot (Timer) took (state_view false self.new)) }
+        requires sound { IsSound D.says.level D.says.place self.old }
+        ensures takes { IfOk result (λ took. Commands D.says.level D.says.extracted D.says.combined D.says.place (state_view false self.old) slot (Timer) took (state_view false self.new)) }
         ensures tells { IfOk result (λ took. IsSomeAnd took.command (IsTimerFate (state_view false self.old) slot took.outgoing)) }
-        ensures sound { OnOk result (IsSound D.level D.place self.new) }
+        ensures sound { OnOk result (IsSound D.says.level D.says.place self.new) }
         ensures err { OnErr result (Leaves self.old self.new) }
         ensures only_memory { IsOkUnless result Fault.NoMemory }
     {
@@ -619,10 +619,10 @@ impl<D: Driver + Drop + Copy> State<D> {
     }
 
     fn take_ask(&mut self, link: u8, slot: Slot) -> Result<Took, Fault>
-        requires sound { IsSound D.level D.place self.old }
+        requires sound { IsSound D.says.level D.says.place self.old }
         ensures takes { IfOk result (λ took. TakesAsk (state_view false self.old) link slot took (state_view false self.new)) }
         ensures tells { IfOk result (λ took. IsSomeAnd took.command (IsAskFate (state_view false self.old) link slot)) }
-        ensures sound { OnOk result (IsSound D.level D.place self.new) }
+        ensures sound { OnOk result (IsSound D.says.level D.says.place self.new) }
         ensures err { OnErr result (Leaves self.old self.new) }
         ensures only_memory { IsOkUnless result Fault.NoMemory }
     {
@@ -631,9 +631,9 @@ impl<D: Driver + Drop + Copy> State<D> {
     }
 
     fn ask_or_pass(&mut self, link: u8, slot: Slot) -> Result<Took, Fault>
-        requires sound { IsSound D.level D.place self.old }
+        requires sound { IsSound D.says.level D.says.place self.old }
         ensures takes { IfOk result (λ took. TakesAsk (state_view false self.old) link slot took (state_view false self.new)) }
-        ensures sound { OnOk result (IsSound D.level D.place self.new) }
+        ensures sound { OnOk result (IsSound D.says.level D.says.place self.new) }
         ensures err { OnErr result (Leaves self.old self.new) }
         ensures only_memory { IsOkUnless result Fault.NoMemory }
     {
@@ -645,10 +645,10 @@ impl<D: Driver + Drop + Copy> State<D> {
     }
 
     fn ask(&mut self, link: u8, slot: Slot) -> Result<Took, Fault>
-        requires sound { IsSound D.level D.place self.old }
+        requires sound { IsSound D.says.level D.says.place self.old }
         ensures verdict { IfOk result (λ took. took.verdict ≡ Some Verdict.Fresh) }
         ensures asks { IfOk result (λ took. Asks (state_view false self.old) link slot took (state_view false self.new)) }
-        ensures sound { OnOk result (IsSound D.level D.place self.new) }
+        ensures sound { OnOk result (IsSound D.says.level D.says.place self.new) }
         ensures err { OnErr result (Leaves self.old self.new) }
         ensures only_memory { IsOkUnless result Fault.NoMemory }
     {
@@ -666,11 +666,11 @@ impl<D: Driver + Drop + Copy> State<D> {
     /// Takes one thing, for which the journal has room. A refusal leaves the journal, the decisions and what was asked for, and
     /// nothing else may be used after it.
     pub fn take(&mut self, ready: Ready) -> Result<Took, Fault>
-        requires sound { IsSound D.level D.place self.old }
+        requires sound { IsSound D.says.level D.says.place self.old }
         requires room { adds_entry ready ≡ true → length self.old.journal.items < JOURNAL_LIMIT }
-        ensures takes { IfOk result (λ took. Takes D.level D.extracted D.combined D.place (state_view false self.old) ready took (state_view false self.new)) }
-        ensures tells { IfOk result (λ took. TellsFate D.level (state_view false self.old) ready took) }
-        ensures sound { OnOk result (IsSound D.level D.place self.new) }
+        ensures takes { IfOk result (λ took. Takes D.says.level D.says.extracted D.says.combined D.says.place (state_view false self.old) ready took (state_view false self.new)) }
+        ensures tells { IfOk result (λ took. TellsFate D.says.level (state_view false self.old) ready took) }
+        ensures sound { OnOk result (IsSound D.says.level D.says.place self.new) }
         ensures err { OnErr result (Leaves self.old self.new) }
         ensures only_memory { IsOkUnless result Fault.NoMemory }
     {
@@ -685,11 +685,11 @@ impl<D: Driver + Drop + Copy> State<D> {
     }
 
     fn deliver(&mut self, delivery: Delivery) -> Result<Took, Fault>
-        requires sound { IsSound D.level D.place self.old }
+        requires sound { IsSound D.says.level D.says.place self.old }
         requires room { length self.old.journal.items < JOURNAL_LIMIT }
-        ensures takes { IfOk result (λ took. TakesMessage D.level D.extracted D.combined D.place (state_view false self.old) delivery.conn delivery.seq delivery.message delivery.set took (state_view false self.new)) }
+        ensures takes { IfOk result (λ took. TakesMessage D.says.level D.says.extracted D.says.combined D.says.place (state_view false self.old) delivery.conn delivery.seq delivery.message delivery.set took (state_view false self.new)) }
         ensures untold { IfOk result (λ took. took.command ≡ None) }
-        ensures sound { OnOk result (IsSound D.level D.place self.new) }
+        ensures sound { OnOk result (IsSound D.says.level D.says.place self.new) }
         ensures err { OnErr result (Leaves self.old self.new) }
         ensures only_memory { IsOkUnless result Fault.NoMemory }
     {
@@ -710,10 +710,10 @@ impl<D: Driver + Drop + Copy> State<D> {
     }
 
     fn command(&mut self, command: Command) -> Result<Took, Fault>
-        requires sound { IsSound D.level D.place self.old }
-        ensures takes { IfOk result (λ took. TakesCommand D.level D.extracted D.combined D.place (state_view false self.old) command took (state_view false self.new)) }
-        ensures tells { IfOk result (λ took. TellsCommand D.level (state_view false self.old) command took) }
-        ensures sound { OnOk result (IsSound D.level D.place self.new) }
+        requires sound { IsSound D.says.level D.says.place self.old }
+        ensures takes { IfOk result (λ took. TakesCommand D.says.level D.says.extracted D.says.combined D.says.place (state_view false self.old) command took (state_view false self.new)) }
+        ensures tells { IfOk result (λ took. TellsCommand D.says.level (state_view false self.old) command took) }
+        ensures sound { OnOk result (IsSound D.says.level D.says.place self.new) }
         ensures err { OnErr result (Leaves self.old self.new) }
         ensures only_memory { IsOkUnless result Fault.NoMemory }
     {
@@ -807,17 +807,17 @@ fn enter<D: Driver + Drop + Copy>(
     machine: &mut SlotMachine<D>,
     input: SlotInput,
 ) -> Result<SlotOutput, Fault>
-    requires sound { IsSlotSound D.level D.place machine.old }
+    requires sound { IsSlotSound D.says.level D.says.place machine.old }
     requires of_slot { IsOfSlot (slot_view machine.old).slot input }
-    ensures takes { IfOk result (λ out. SlotTakes (D.level (driver_of machine.old) (slot_view machine.old).slot) (D.combined (driver_of machine.old) (slot_view machine.old).nomination.slot) input (slot_view machine.old) out (slot_view machine.new)) }
+    ensures takes { IfOk result (λ out. SlotTakes (D.says.level (driver_of machine.old) (slot_view machine.old).slot) (D.says.combined (driver_of machine.old) (slot_view machine.old).nomination.slot) input (slot_view machine.old) out (slot_view machine.new)) }
     ensures decides { IfOk result (λ out. SlotDecides (slot_view machine.old) out (slot_view machine.new)) }
     ensures ascending { IfOk result (λ out. ForSome out.decided HasAscendingNodes) }
-    ensures nominates { OnOk result (NominatesExactly D.level D.extracted D.place (slot_view machine.old) input machine.new) }
-    ensures votes { OnOk result (VotesWell D.level D.extracted D.place (slot_view machine.old) machine.new) }
+    ensures nominates { OnOk result (NominatesExactly D.says.level D.says.extracted D.says.place (slot_view machine.old) input machine.new) }
+    ensures votes { OnOk result (VotesWell D.says.level D.says.extracted D.says.place (slot_view machine.old) machine.new) }
     ensures fits { IfOk result KeepsLimits }
     ensures running { OnOk result (IsSlotRunning (slot_view machine.new)) }
     ensures driver { OnOk result (driver_of machine.new ≡ driver_of machine.old) }
-    ensures sound { IsSlotSound D.level D.place machine.new }
+    ensures sound { IsSlotSound D.says.level D.says.place machine.new }
     ensures only_memory { IsOkUnless result Fault.NoMemory }
 {
     match machine.input(input) {

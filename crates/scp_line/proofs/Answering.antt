@@ -5,7 +5,8 @@ use Rattle.scp_core.specs.declared.event.Event.{Event}
 use Rattle.scp_core.specs.declared.event.Event.TheVariants as event
 use Rattle.scp_core.specs.declared.event.Reply.{Reply}
 use Rattle.scp_core.specs.declared.event.Reply.TheVariants.{Failed, NoLink, AlreadyOpen, LivesSpent, NotOpen, Full, Accepted, Blocked, Idle, Moved, Sent, JournalFull, NoMemory}
-use Rattle.scp_core.specs.Node.{NodeView, LinkView, Step, HasLink, is_full}
+use Rattle.scp_core.specs.Node.{LinkView, HasLink, is_full}
+use Rattle.scp_core.specs.Kv.{NodeView, Step}
 use Rattle.scp_wire.specs.Shape.{Tail}
 use Rattle.scp_wire.specs.declared.link.Command.{Command as Local}
 use Rattle.scp_network.specs.Heard.{Nodes}

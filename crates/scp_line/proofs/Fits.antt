@@ -14,7 +14,7 @@ use Rattle.scp_core.specs.declared.config.Config.{Config}
 use Rattle.scp_theorem.specs.Fates.{is_among}
 use Rattle.scp_types.specs.Range.{IsInRange}
 use Rattle.scp_core.specs.Config.{AreInRange, IsFit, IsConfig, are_apart}
-use Rattle.scp_core.specs.Node.{NodeView}
+use Rattle.scp_core.specs.Kv.{NodeView}
 use Rattle.scp_script.specs.declared.command.Command.{Command}
 use Rattle.scp_script.specs.declared.command.Command.TheVariants.{Caps, Nodes, Set, Open, Close, Send, Propose, Round, Timer, Tick, Ask, Settle, Wait, Report}
 use Rattle.scp_script.specs.declared.command.Capacities.{Capacities}

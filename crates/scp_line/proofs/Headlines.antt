@@ -1,13 +1,10 @@
 -- What is printed of a script is of nodes that hold their headlines.
 use Rattle.std.proofs.Common.{◌≡◌, ◌+◌, ◌∙◌, ℕ, List, get_or, ap, subst}
 use Rattle.std.specs.Prelude.{flat_map}
-use Rattle.scp_core.specs.Headline.{LedgerGivesHeadline}
-use Rattle.scp_core.specs.Ledger.{TheoremGivesLedger}
+use Rattle.scp_core.specs.Kv.{LedgerGivesHeadline, TheoremGivesLedger}
 use Rattle.scp_network.specs.Heard.{past_at}
 use Rattle.scp_network.specs.Network.{NetworkView}
-use Rattle.scp_gather.specs.declared.gathering.NodeReport.{NodeReport}
-use Rattle.scp_gather.specs.Headline.{ReportsKeepHeadline}
-use Rattle.scp_gather.specs.Left.{Left}
+use Rattle.scp_gather.specs.Kv.{NodeReport, ReportsKeepHeadline, Left}
 use Rattle.scp_threaded_node.specs.Seats.{Each}
 use Rattle.scp_threaded_script.specs.Reported.{AreNodesReported, AreSoReported}
 use Rattle.scp_script.specs.declared.command.Command.{Command}
@@ -47,7 +44,8 @@ headlines_at law commands lefts nodes are = λ i r at.
       stood_are = is.stood_are;
       links_count = ended.links_count;
       links_are = ended.links_are;
-      headline = law (id_of (i + 1)) (set_at (i + 1) commands) (peers_of (node_count commands) (i + 1)) one.0 r.journal.items r.parked.items r.applied.items r.state ended.report;
+      headline = law (id_of (i + 1)) (set_at (i + 1) commands) (peers_of (node_count commands) (i + 1)) one.0 r.journal.items r.parked.items r.applied.items ended.report;
+      state_is = ended.state_is;
     }
 
 pub are_reports_headlined : ReportsKeepHeadline → ReportingKeepsHeadlines

@@ -9,8 +9,9 @@ use Rattle.scp_core.specs.declared.event.Event.{Event}
 use Rattle.scp_core.specs.declared.event.Event.TheVariants as event
 use Rattle.scp_core.specs.declared.event.Reply.{Reply}
 use Rattle.scp_core.specs.declared.event.Reply.TheVariants.{Failed, NoLink, AlreadyOpen, LivesSpent, NotOpen, Full, Accepted, Blocked, Idle, Moved, Sent, JournalFull, NoMemory}
-use Rattle.scp_core.specs.Node.{NodeView, Step, Accepts}
-use Rattle.scp_turn.specs.Watch.{Noting}
+use Rattle.scp_core.specs.Node.{Accepts}
+use Rattle.scp_core.specs.Kv.{NodeView, Step}
+use Rattle.scp_turn.specs.Kv.{Noting}
 use Rattle.scp_network.specs.Heard.{Nodes, Heard, IsHeard, HaveHeard, Then, Noted, With}
 use Rattle.scp_network.specs.Rounds.{RestsAs, Breaks, AllRun, HasFailed, link_of}
 use Rattle.scp_network.proofs.Hearing.{noted_on}

@@ -5,8 +5,9 @@ use Rattle.std.proofs.Math.Seq.{take-length}
 use Rattle.std.proofs.lemmas.List.{take_more, take-append-drop}
 use Rattle.scp_core.specs.declared.event.Event.{Event}
 use Rattle.scp_device.specs.declared.device.TheConstants.{SCRIPT_LIMIT}
-use Rattle.scp_core.specs.Ledger.{TheoremGivesLedger}
-use Rattle.scp_turn.specs.Watch.{Noting, unwatched}
+use Rattle.scp_core.specs.Kv.{TheoremGivesLedger}
+use Rattle.scp_turn.specs.Watch.{unwatched}
+use Rattle.scp_turn.specs.Kv.{Noting}
 use Rattle.scp_network.specs.Heard.{Heard, past_at}
 use Rattle.scp_network.specs.Network.{NetworkView}
 use Rattle.scp_script.specs.declared.command.Command.{Command}

@@ -7,7 +7,8 @@ use Rattle.scp_core.specs.declared.event.Event.{Event}
 use Rattle.scp_core.specs.declared.event.Event.TheVariants as event
 use Rattle.scp_core.specs.declared.event.Reply.{Reply}
 use Rattle.scp_core.specs.declared.event.Reply.TheVariants.{Failed, NoLink, AlreadyOpen, LivesSpent, NotOpen, Full, Accepted, Blocked, Idle, Moved, Sent, JournalFull, NoMemory}
-use Rattle.scp_core.specs.Node.{NodeView, LinkView, Step, Accepts, Moves, SendsOut}
+use Rattle.scp_core.specs.Node.{LinkView, Accepts, SendsOut}
+use Rattle.scp_core.specs.Kv.{NodeView, Step, Moves}
 use Rattle.scp_network.specs.Heard.{Nodes, Heard, IsHeard, IsOne, InOrder}
 use Rattle.scp_turn.specs.Turn.{reader_events, stage_events}
 use Rattle.scp_network.specs.Rounds.{HearsAll, Carries, IsTurn, IsRound, AreRounds, IsMovingRound, Rests}

@@ -10,7 +10,8 @@ use Rattle.scp_wire.specs.declared.link.Command.{Command as Local}
 use Rattle.scp_wire.specs.declared.link.Command.TheVariants.{Propose, Round, Timer, Tick, Ask}
 use Rattle.scp_core.specs.declared.event.Event.{Event}
 use Rattle.scp_core.specs.declared.event.Event.TheVariants as event
-use Rattle.scp_core.specs.Node.{NodeView, LinkView, Accepts, with_link}
+use Rattle.scp_core.specs.Node.{LinkView, Accepts, with_link}
+use Rattle.scp_core.specs.Kv.{NodeView}
 use Rattle.scp_network.specs.Rounds.{link_of}
 use Rattle.scp_script.specs.declared.command.Command.{Command}
 use Rattle.scp_script.specs.declared.command.Command.TheVariants as script

@@ -1,12 +1,13 @@
 -- What a script prints is the reports of nodes that hold their headlines: where they went one step after another, and where they ran in threads.
 use Rattle.std.specs.Prelude.{ℕ, ◌+◌, ◌<◌, ◌≡◌, List, flat_map, get_or, length}
+use Rattle.scp_kv.specs.State.{fold_of}
+use Rattle.scp_apply.specs.Applied.{values_of}
 use Rattle.scp_headline.specs.Headline.{Headline}
 use Rattle.scp_core.specs.Headline.{HoldsHeadline}
-use Rattle.scp_core.specs.Node.{NodeView}
+use Rattle.scp_core.specs.Kv.{NodeView}
 use Rattle.scp_network.specs.Heard.{Heard, Nodes, past_at}
-use Rattle.scp_gather.specs.declared.gathering.NodeReport.{NodeReport}
+use Rattle.scp_gather.specs.Kv.{NodeReport, Left}
 use Rattle.scp_gather.specs.Headline.{books_reported}
-use Rattle.scp_gather.specs.Left.{Left}
 use Rattle.scp_threaded_node.specs.declared.ending.Stood.{Stood}
 use Rattle.scp_threaded_node.specs.Ended.{AreSentBy}
 use Rattle.scp_threaded_node.specs.Seats.{Each}
@@ -32,14 +33,15 @@ pub record AreHeadlined (script text : List ℕ) : Type 0 where
   pub reports : text ≡ flat_map (report_at nodes) (reports_in (commands_in script))
 
 -- The headline of the node of this number holds, of books that show what its report shows: over each link that the script drives went what
--- the lines put on it, over each other one what a courier carried.
+-- the lines put on it, over each other one what a courier carried. And its state is what the applied values make.
 pub record IsHeadlined (commands : List Command) (number : ℕ) (r : NodeReport) : Type 0 where
   pub left : Left
   pub stood : List Stood
   pub stood_are : AreStood commands number stood
   pub links_count : length left.links ≡ length (peers_of (node_count commands) number)
   pub links_are : AreSentBy (driven_to commands number) (items_to number commands) stood left.links
-  pub headline : Headline (books_reported (id_of number) (set_at number commands) (peers_of (node_count commands) number) left r.journal.items r.applied.items r.state)
+  pub headline : Headline (books_reported (id_of number) (set_at number commands) (peers_of (node_count commands) number) left r.journal.items r.applied.items)
+  pub state_is : r.state ≡ fold_of (values_of r.applied.items)
 
 -- of each node that a script has what is reported holds its headline, of the first node on
 pub record AreReportsHeadlined (commands : List Command) (nodes : List NodeReport) : Type 0 where

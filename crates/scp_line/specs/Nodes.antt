@@ -5,9 +5,10 @@ use Rattle.scp_core.specs.declared.event.Event.{Event}
 use Rattle.scp_core.specs.declared.event.Reply.{Reply}
 use Rattle.scp_core.specs.declared.event.Reply.TheVariants.{Accepted, Full}
 use Rattle.scp_core.specs.Config.{AreInRange}
-use Rattle.scp_core.specs.Node.{NodeView}
+use Rattle.scp_core.specs.Kv.{NodeView}
 use Rattle.scp_turn.specs.declared.watch.NoWatch.{NoWatch}
-use Rattle.scp_turn.specs.Watch.{Noting, unwatched}
+use Rattle.scp_turn.specs.Watch.{unwatched}
+use Rattle.scp_turn.specs.Kv.{Noting}
 use Rattle.scp_network.specs.Heard.{Nodes, Heard, Noted, With}
 use Rattle.scp_network.specs.Rounds.{RestsAs, Breaks, AllRun}
 use Rattle.scp_network.specs.Network.{Hear, NetworkView}

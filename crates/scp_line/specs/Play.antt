@@ -15,15 +15,16 @@ use Rattle.scp_wire.specs.Message.{message_reading}
 use Rattle.scp_wire.specs.Reading.{reading_of}
 use Rattle.scp_wire.specs.Connections.{conn_at}
 use Rattle.scp_kv.specs.Map.{KvMap}
+use Rattle.scp_kv.specs.State.{fold_of}
 use Rattle.scp_pending.specs.Line.{count_held}
+use Rattle.scp_apply.specs.Applied.{values_of}
 use Rattle.scp_core.specs.declared.config.Config.{Config}
 use Rattle.scp_core.specs.declared.event.Event.{Event}
 use Rattle.scp_core.specs.declared.event.Event.TheVariants as event
 use Rattle.scp_core.specs.declared.event.Reply.{Reply}
 use Rattle.scp_core.specs.declared.event.Reply.TheVariants.{Accepted, Full}
-use Rattle.scp_core.specs.Node.{NodeView, LinkView, is_full, lives_at}
-use Rattle.scp_core.specs.Theorem.{LedgerTheorem}
-use Rattle.scp_core.specs.Ledger.{HoldsLedger}
+use Rattle.scp_core.specs.Node.{LinkView, is_full, lives_at}
+use Rattle.scp_core.specs.Kv.{NodeView, LedgerTheorem, HoldsLedger}
 use Rattle.scp_script.specs.declared.command.Command.{Command}
 use Rattle.scp_script.specs.declared.command.Command.TheVariants as script
 use Rattle.scp_script.specs.Words.{hex_bytes}
@@ -138,9 +139,9 @@ parked_from v to from = if nat_eq from to then [] else flat_map (λ life. parked
 abbrev pub parked_in : ℕ → ℕ → NodeView → List Parked
 parked_in count number v = flat_map (parked_from v number) (numbers count)
 
--- the state of a node that runs; none of one that failed
+-- the state of a node that runs, which the values that it applied make; none of one that failed
 abbrev pub running_state : NodeView → Option KvMap
-running_state node = if node.failed then None else node.applier.state
+running_state node = if node.failed then None else Some (fold_of (values_of node.applier.applied))
 
 -- what a node's report tells, of so many nodes
 abbrev pub view_of_node : ℕ → ℕ → NodeView → ReportView

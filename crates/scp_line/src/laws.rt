@@ -3,7 +3,7 @@ ghost use Rattle.scp_turn.specs.Watch.{notes};
 ghost use Rattle.scp_line.specs.Headlines.{PlayingKeepsHeadlines, ReportingKeepsHeadlines};
 ghost use Rattle.scp_line.specs.Laws.{LinesHaveRoom, NothingIsPlayed, LineIsPlayed, QuietLineIsPlayed, LineIsStopped};
 
-use scp_core::{each_node_holds_its_headline, each_node_holds_its_ledger};
+use scp_core::{KvDriver, each_node_holds_its_headline, each_node_holds_its_ledger};
 use scp_gather::what_is_reported_keeps_the_headline;
 use scp_turn::Watch;
 
@@ -14,7 +14,7 @@ pub fn a_script_has_room()
 
 /// A script is played line by line: a new network has played nothing, and one that did the next line has played that one too; else
 /// the line stopped it. Whoever watches it, of any kind, noted the steps that were heard of the line.
-pub fn a_line_more_is_played<W: Watch>()
+pub fn a_line_more_is_played<W: Watch<KvDriver>>()
     ensures nothing { NothingIsPlayed }
     ensures played { LineIsPlayed (notes W.notes_before W.notes_after) }
     ensures quiet { QuietLineIsPlayed }
@@ -27,7 +27,7 @@ pub fn what_is_played_keeps_the_headlines()
     ensures played { PlayingKeepsHeadlines }
     ensures reported { ReportingKeepsHeadlines }
 {
-    each_node_holds_its_ledger();
-    each_node_holds_its_headline();
-    what_is_reported_keeps_the_headline();
+    each_node_holds_its_ledger::<KvDriver>();
+    each_node_holds_its_headline::<KvDriver>();
+    what_is_reported_keeps_the_headline::<KvDriver>();
 }

@@ -11,7 +11,7 @@ ghost use Rattle.scp_line.specs.inside.Nodes.{IsPlayed, IsStopped};
 use crate::playing::PlayFault;
 use crate::report::{ReportParts, write_report};
 use crate::waiting::parked_at;
-use scp_core::{Capacities, Command as LocalCommand, Config, Event, Node, Peers, Reply};
+use scp_core::{Capacities, Command as LocalCommand, Config, Event, KvDriver, Node, Peers, Reply};
 use scp_network::{Network, link_from};
 use scp_script::{Command, capacities_of, count_of_nodes, id_from, peers_of_node, set_of_node};
 use scp_turn::{NoWatch, Watch};
@@ -56,7 +56,7 @@ fn new_node(alloc: Global, commands: &[Command], count: u8, number: u8) -> Resul
     ensures only_memory { IsOkUnless result Fault.NoMemory }
 {
     let config = config_from(alloc, commands, count, number)?;
-    Node::new(alloc, config)
+    Node::new(alloc, config, KvDriver)
 }
 
 /// The nodes of a script, which have heard nothing.
@@ -141,7 +141,7 @@ fn event_of(command: &Command) -> Result<Option<(u8, Event)>, Fault>
 
 /// Offers the event of a command to its node, of which the watch is told, and answers the node's number with its reply; `None` where
 /// the command is no event. The one refusal is `NoMemory`, and then nothing was offered.
-fn offer<W: Watch>(
+fn offer<W: Watch<KvDriver>>(
     network: &mut Network,
     watch: &mut W,
     command: &Command,
@@ -163,7 +163,7 @@ fn offer<W: Watch>(
 
 /// Brings the nodes to rest, of which the watch is told, and answers whether they came to it. Refused by `Failed` where a node failed,
 /// which is named.
-fn settle<W: Watch>(network: &mut Network, watch: &mut W) -> Result<bool, PlayFault>
+fn settle<W: Watch<KvDriver>>(network: &mut Network, watch: &mut W) -> Result<bool, PlayFault>
     ensures { Settles (notes W.notes_before W.notes_after) (moment network.old watch.old) (moment network.new watch.new) result }
 {
     match network.settle_with(watch) {
@@ -176,7 +176,7 @@ fn settle<W: Watch>(network: &mut Network, watch: &mut W) -> Result<bool, PlayFa
 }
 
 /// Does what a line says where its event found no room: the nodes come to rest, and it is offered once again.
-fn act_again<W: Watch>(
+fn act_again<W: Watch<KvDriver>>(
     network: &mut Network,
     watch: &mut W,
     command: &Command,
@@ -207,7 +207,7 @@ fn is_rest(command: &Command) -> bool
 /// whether the nodes came to rest, where the line brought them to it: `false` only where each of 100,000 rounds moved something. Refused
 /// by `Failed` where a node failed or didn't take the line's event, which is named, by `Full` where its queue had no room also after a
 /// settle, and by `NoMemory`.
-pub fn act_with<W: Watch>(
+pub fn act_with<W: Watch<KvDriver>>(
     network: &mut Network,
     watch: &mut W,
     command: &Command,

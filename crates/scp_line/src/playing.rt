@@ -14,7 +14,7 @@ ghost use Rattle.scp_line.specs.Play.{AreReports, Stops, Overflows, IsShown, IsU
 use crate::laws::what_is_played_keeps_the_headlines;
 use crate::messages::line_of;
 use crate::nodes::{act_all, new_network, write_reports};
-use scp_core::each_node_holds_its_ledger;
+use scp_core::{KvDriver, each_node_holds_its_ledger};
 use scp_device::{ReportOut, SCRIPT_LIMIT, ScriptIn, read_script, write_text};
 use scp_script::{bytes_of, parse};
 use scp_types::Fault;
@@ -54,7 +54,7 @@ fn played(alloc: Global, text: &[u8]) -> Result<String, PlayFault>
     let commands = script.as_slice();
     let mut network = new_network(alloc, commands)?;
     act_all(&mut network, commands)?;
-    each_node_holds_its_ledger();
+    each_node_holds_its_ledger::<KvDriver>();
     what_is_played_keeps_the_headlines();
     let mut printed = String::new(alloc);
     match write_reports(network.nodes(), &mut printed, commands) {

@@ -10,11 +10,12 @@ use Rattle.scp_timers.specs.declared.running.Timer.{Timer}
 use Rattle.scp_core.specs.declared.event.Event.{Event}
 use Rattle.scp_core.specs.declared.event.Reply.{Reply}
 use Rattle.scp_core.specs.History.{Exchange}
-use Rattle.scp_core.specs.Node.{NodeView}
-use Rattle.scp_turn.specs.Turn.{Goes}
+use Rattle.scp_core.specs.Kv.{NodeView}
+use Rattle.scp_turn.specs.Kv.{Goes}
 use Rattle.scp_episode.specs.declared.sending.Sending.{Sending}
 use Rattle.scp_episode.specs.declared.playing.Played.{Played}
-use Rattle.scp_episode.specs.Episode.{IsEpisode, finds_full, sent_in}
+use Rattle.scp_episode.specs.Episode.{finds_full, sent_in}
+use Rattle.scp_episode.specs.Kv.{IsEpisode}
 use Rattle.scp_told.specs.Timers.{changes}
 use Rattle.scp_live.specs.Live.{IsTold, refusal, sent_line, new_fates, new_decisions, newly_applied, told_of}
 

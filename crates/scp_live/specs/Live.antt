@@ -7,9 +7,10 @@ use Rattle.scp_core.specs.declared.event.Event.{Event}
 use Rattle.scp_core.specs.declared.event.Reply.{Reply}
 use Rattle.scp_core.specs.declared.event.Reply.TheVariants as reply
 use Rattle.scp_core.specs.History.{Exchange}
-use Rattle.scp_core.specs.Node.{NodeView}
+use Rattle.scp_core.specs.Kv.{NodeView}
 use Rattle.scp_episode.specs.declared.sending.Sending.{Sending}
-use Rattle.scp_episode.specs.Episode.{IsEpisode, sent_in}
+use Rattle.scp_episode.specs.Episode.{sent_in}
+use Rattle.scp_episode.specs.Kv.{IsEpisode}
 use Rattle.scp_told.specs.Names.{name_at}
 use Rattle.scp_told.specs.Sent.{send_line}
 use Rattle.scp_told.specs.Fates.{fate_line}

@@ -1,8 +1,10 @@
 -- What a host is answered that asks where a node stands.
-use Rattle.std.specs.Prelude.{ℕ, zero, suc, ◌-◌, List, [], ◌++◌, Option, Some, None, length, drop, flat_map}
+use Rattle.std.specs.Prelude.{ℕ, zero, suc, ◌-◌, List, [], ◌++◌, length, drop, flat_map}
 use Rattle.std.specs.FinMap as map
-use Rattle.scp_kv.specs.Map.{KvMap}
-use Rattle.scp_core.specs.Node.{NodeView, accepts_at, lives_at}
+use Rattle.scp_kv.specs.State.{fold_of}
+use Rattle.scp_apply.specs.Applied.{values_of}
+use Rattle.scp_core.specs.Node.{accepts_at, lives_at}
+use Rattle.scp_core.specs.Kv.{NodeView}
 use Rattle.scp_turn.specs.Turn.{links_of}
 use Rattle.scp_told.specs.Names.{name_at}
 use Rattle.scp_told.specs.Fates.{fate_line}
@@ -27,13 +29,8 @@ state_of v =
 abbrev pub applied_from : NodeView → ℕ → List ℕ
 applied_from v slot = flat_map applied_line (drop (slot - 1) v.applier.applied)
 
--- the keys with their values; of a state that can't be read none
-abbrev pub keys_of : Option KvMap → List (List ℕ × List ℕ)
-keys_of None = []
-keys_of (Some state) = map.entries state
-
--- all that became of what came, in order, all that was applied, and the state
+-- all that became of what came, in order, all that was applied, and the state that it made: the keys with their values
 abbrev pub report_of : LiveView → List ℕ
 report_of v =
     flat_map (fate_line v.names v.node.config.peers) v.node.ledger.journal ++ flat_map applied_line v.node.applier.applied
-    ++ flat_map key_line (keys_of v.node.applier.state)
+    ++ flat_map key_line (map.entries (fold_of (values_of v.node.applier.applied)))

@@ -2,14 +2,14 @@
 ghost use Rattle.std.specs.Prelude.{◌≡◌, ◌⊎◌, ◌↔◌, ◌++◌, false, true, IfOk, IfErr, OnOk, IsErrOf, IsOkUnless, map, flat_map, string_bytes};
 ghost use Rattle.sha2.specs.Sha256.{sha256};
 ghost use Rattle.scp_types.specs.declared.fault.Fault.{Fault};
-ghost use Rattle.scp_turn.specs.Turn.{Goes};
-ghost use Rattle.scp_turn.specs.Watch.{notes, Watched};
+ghost use Rattle.scp_turn.specs.Kv.{Goes, Watched};
+ghost use Rattle.scp_turn.specs.Watch.{notes};
 ghost use Rattle.scp_episode.specs.Episode.{IsOfHost, finds_full};
 ghost use Rattle.scp_told.specs.Timers.{changes};
 ghost use Rattle.scp_live.specs.Live.{IsTold, AreTimersOf, refusal, sent_line, new_fates, new_decisions, newly_applied};
 
 use crate::telling::{Marks, digest_from, tell_new, tell_refusal, tell_sent};
-use scp_core::{Event, Node};
+use scp_core::{Event, KvDriver, Node};
 use scp_episode::{Played, play, play_with};
 use scp_timers::{Timer, timers};
 use scp_told::write_changes;
@@ -72,7 +72,7 @@ fn tell(
 }
 
 /// The event, and all that is told of it; the watch is told of each step. A full journal is told as want of memory.
-pub fn act_with<W: Watch>(
+pub fn act_with<W: Watch<KvDriver>>(
     alloc: Global,
     node: &mut Node,
     names: &[String],

@@ -3,14 +3,15 @@ ghost use Rattle.std.specs.Prelude.{◌≡◌, ◌⊎◌, ◌↔◌, [], true, f
 ghost use Rattle.scp_types.specs.declared.fault.Fault.{Fault};
 ghost use Rattle.scp_core.specs.Config.{IsConfig};
 ghost use Rattle.scp_core.specs.Node.{accepts_at};
-ghost use Rattle.scp_core.specs.Theorem.{LedgerTheorem};
-ghost use Rattle.scp_turn.specs.Turn.{Goes, links_of};
-ghost use Rattle.scp_turn.specs.Watch.{notes, Watched};
+ghost use Rattle.scp_core.specs.Kv.{LedgerTheorem};
+ghost use Rattle.scp_turn.specs.Turn.{links_of};
+ghost use Rattle.scp_turn.specs.Kv.{Goes, Watched};
+ghost use Rattle.scp_turn.specs.Watch.{notes};
 ghost use Rattle.scp_episode.specs.Episode.{IsOfHost, finds_full};
 ghost use Rattle.scp_live.specs.Live.{IsTold, AreTimersOf};
 
 use crate::acting;
-use scp_core::{Config, Event, Node, PEER_LIMIT};
+use scp_core::{Config, Event, KvDriver, Node, PEER_LIMIT};
 use scp_timers::{Timer, timers};
 use scp_turn::Watch;
 use scp_types::{Fault, Hash};
@@ -29,12 +30,15 @@ pub struct Live {
 impl Model for Live {
     ghost use Rattle.std.specs.Prelude.{map, string_bytes};
     ghost use Rattle.std.specs.Coded.{codes};
-    ghost use Rattle.scp_core.specs.contracts.node.Node as core_node;
+    ghost use Rattle.scp_xdr.specs.inside.TreeModel.{coded_row};
+    ghost use Rattle.scp_quorum.specs.inside.QuorumTree.{coded_level};
+    ghost use Rattle.scp_driver.specs.contracts.kv_driver.KvDriver as driver;
+    ghost use Rattle.scp_ledger.specs.inside.Coding.{machine_code};
     ghost use Rattle.scp_live.specs.Live.{LiveView};
 
     ghost Value = { LiveView };
 
-    ghost coded = { Prim.hlevel (codes, core_node.the_row.coded) };
+    ghost coded = { Prim.hlevel (codes, machine_code driver.the_row.coded, coded_row coded_level) };
 
     ghost view = { λ a. record { node = a.node; names = map string_bytes a.names.items; timers = a.timers.items } };
 }
@@ -52,7 +56,7 @@ impl Live {
         ensures refused { result ≡ Err Fault.BadConfig ↔ ¬ (IsConfig config) }
         ensures only { IfErr result (λ f. (f ≡ Fault.BadConfig) ⊎ (f ≡ Fault.NoMemory)) }
     {
-        let node = Node::new(alloc, config)?;
+        let node = Node::new(alloc, config, KvDriver)?;
         let timers = timers(alloc, node.ledger())?;
         Ok(Live {
             alloc,
@@ -89,7 +93,7 @@ impl Live {
     }
 
     /// The event, and all that follows of it, as `act` plays it; the watch is told of each step. A full journal is told as want of memory.
-    pub fn act_with<W: Watch>(
+    pub fn act_with<W: Watch<KvDriver>>(
         &mut self,
         event: Event,
         text: &mut String,

@@ -6,8 +6,9 @@ use Rattle.scp_core.specs.declared.event.Event.{Event}
 use Rattle.scp_core.specs.declared.event.Event.TheVariants as event
 use Rattle.scp_core.specs.declared.event.Reply.{Reply}
 use Rattle.scp_core.specs.declared.event.Reply.TheVariants as reply
-use Rattle.scp_core.specs.Node.{NodeView, accepts_at}
-use Rattle.scp_turn.specs.Watch.{Noting}
+use Rattle.scp_core.specs.Node.{accepts_at}
+use Rattle.scp_core.specs.Kv.{NodeView}
+use Rattle.scp_turn.specs.Kv.{Noting}
 use Rattle.scp_turn.specs.Turn.{IsStillReply}
 use Rattle.scp_network.specs.Heard.{Nodes, Heard, IsHeard, IsOne, Noted, With}
 use Rattle.scp_network.specs.Rounds.{IsStill, link_of, is_driven, AcceptsNothing, IsShut, drain_of, send_of, Carries}

@@ -2,7 +2,7 @@
 use Rattle.std.proofs.Common.{◌≡◌, ◌+◌, ℕ, suc, Bool, true, false, List, [], ◌∷◌, ◌++◌, length, refl, sym, ◌∙◌, ap, subst, append_assoc, append-nil, arith}
 use Rattle.std.specs.Prelude.{◌||◌, ◌↔◌}
 use Rattle.std.specs.List.{AllByRecursion}
-use Rattle.scp_turn.specs.Watch.{Noting}
+use Rattle.scp_turn.specs.Kv.{Noting}
 use Rattle.scp_turn.specs.Turn.{IsStillReply}
 use Rattle.scp_network.specs.Heard.{Nodes, Heard, HaveHeard, Then, InOrder, Noted, With}
 use Rattle.scp_network.specs.Rounds.{IsStill}

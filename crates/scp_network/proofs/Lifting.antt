@@ -10,10 +10,9 @@ use Rattle.std.proofs.lemmas.List.{length-set, get_or-set_same, get_or-set_other
 use Rattle.scp_core.specs.declared.event.Event.{Event}
 use Rattle.scp_core.specs.declared.event.Reply.{Reply}
 use Rattle.scp_core.specs.History.{Exchange}
-use Rattle.scp_core.specs.Node.{NodeView, Step}
-use Rattle.scp_core.specs.Theorem.{LedgerTheorem}
-use Rattle.scp_turn.specs.Watch.{Noting, Watched}
-use Rattle.scp_turn.specs.Turn.{Goes, IsStillReply, events_of, stage_events}
+use Rattle.scp_core.specs.Kv.{NodeView, Step, LedgerTheorem}
+use Rattle.scp_turn.specs.Kv.{Noting, Watched, Goes}
+use Rattle.scp_turn.specs.Turn.{IsStillReply, events_of, stage_events}
 use Rattle.scp_turn.specs.Turn.{IsStill as IsStillAlone}
 use Rattle.scp_network.specs.Heard.{Nodes, Heard, exchange_at, past_at, HaveHeard, IsHeard, Noted}
 use Rattle.scp_network.specs.Rounds.{HearsAll, IsStill}

@@ -7,7 +7,8 @@ use Rattle.scp_core.specs.declared.event.Event.{Event}
 use Rattle.scp_core.specs.declared.event.Event.TheVariants as event
 use Rattle.scp_core.specs.declared.event.Reply.{Reply}
 use Rattle.scp_core.specs.declared.event.Reply.TheVariants as reply
-use Rattle.scp_core.specs.Node.{NodeView, LinkView, Step, accepts_at, accepts_of}
+use Rattle.scp_core.specs.Node.{LinkView, accepts_at, accepts_of}
+use Rattle.scp_core.specs.Kv.{NodeView, Step}
 use Rattle.scp_turn.specs.Turn.{IsStillReply}
 
 still_else : (r : Reply) → r ≢ reply.Moved → ((bytes : Bytes) → r ≢ reply.Sent bytes) → IsStillReply r

@@ -1,7 +1,7 @@
 -- Rounds, one after the other, until the nodes come to rest.
 use Rattle.std.proofs.Common.{◌≡◌, ◌⊎◌, ◌<◌, ◌+◌, ℕ, suc, Bool, true, false, List, length, refl, sym, ◌∙◌, subst, arith}
 use Rattle.std.specs.Prelude.{◌↔◌}
-use Rattle.scp_turn.specs.Watch.{Noting}
+use Rattle.scp_turn.specs.Kv.{Noting}
 use Rattle.scp_network.specs.Heard.{Nodes, Heard, Noted, With}
 use Rattle.scp_network.specs.Rounds.{IsStill, IsRound, AreRounds, AllRun, RestsAs, Breaks, HasFailed}
 use Rattle.scp_network.specs.Network.{Hear}

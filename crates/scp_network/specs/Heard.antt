@@ -3,9 +3,8 @@ use Rattle.std.specs.Prelude.{ℕ, ◌+◌, ◌<◌, ◌≡◌, List, zero, suc,
 use Rattle.scp_core.specs.declared.event.Event.{Event}
 use Rattle.scp_core.specs.declared.event.Reply.{Reply}
 use Rattle.scp_core.specs.History.{Exchange}
-use Rattle.scp_core.specs.Node.{NodeView, Step}
-use Rattle.scp_core.specs.Theorem.{LedgerTheorem}
-use Rattle.scp_turn.specs.Watch.{Noting}
+use Rattle.scp_core.specs.Kv.{NodeView, Step, LedgerTheorem}
+use Rattle.scp_turn.specs.Kv.{Noting}
 
 -- the nodes, node 1 first
 abbrev pub Nodes : Type 0

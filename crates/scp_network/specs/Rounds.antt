@@ -6,7 +6,8 @@ use Rattle.scp_core.specs.declared.event.Event.{Event}
 use Rattle.scp_core.specs.declared.event.Event.TheVariants as event
 use Rattle.scp_core.specs.declared.event.Reply.{Reply}
 use Rattle.scp_core.specs.declared.event.Reply.TheVariants as reply
-use Rattle.scp_core.specs.Node.{NodeView, accepts_at}
+use Rattle.scp_core.specs.Node.{accepts_at}
+use Rattle.scp_core.specs.Kv.{NodeView}
 use Rattle.scp_turn.specs.Turn.{IsStillReply, stage_events}
 use Rattle.scp_network.specs.Heard.{Nodes, Heard, Then, IsNothing, IsOne, InOrder}
 

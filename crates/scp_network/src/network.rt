@@ -9,7 +9,7 @@ ghost use Rattle.scp_network.specs.Linked.{IsNetwork};
 use crate::linked::{MOST_NODES, is_network};
 use crate::rounds;
 use crate::turn::hear;
-use scp_core::{Event, Node, Reply};
+use scp_core::{Event, KvDriver, Node, Reply};
 use scp_turn::{NoWatch, Watch};
 use scp_types::Fault;
 use std::alloc::Global;
@@ -30,9 +30,12 @@ impl Model for Network {
 
     ghost use Rattle.std.specs.Prelude.{◌≡◌, ◌≤◌, length};
     ghost use Rattle.std.specs.Coded.{codes};
-    ghost use Rattle.scp_core.specs.contracts.node.Node as node;
+    ghost use Rattle.scp_xdr.specs.inside.TreeModel.{coded_row};
+    ghost use Rattle.scp_quorum.specs.inside.QuorumTree.{coded_level};
+    ghost use Rattle.scp_driver.specs.contracts.kv_driver.KvDriver as driver;
+    ghost use Rattle.scp_ledger.specs.inside.Coding.{machine_code};
 
-    ghost coded = { Prim.hlevel (codes, node.the_row.coded) };
+    ghost coded = { Prim.hlevel (codes, machine_code driver.the_row.coded, coded_row coded_level) };
 
     ghost view = { λ a. record { nodes = a.nodes.items; driven = a.driven.items } };
 
@@ -81,7 +84,12 @@ impl Network {
 
     /// Offers an event to the node of a number, of which the watch is told, and answers its reply; `None` where it isn't there,
     /// and then the watch is told of nothing.
-    pub fn offer_with<W: Watch>(&mut self, watch: &mut W, number: u8, event: Event) -> Option<Reply>
+    pub fn offer_with<W: Watch<KvDriver>>(
+        &mut self,
+        watch: &mut W,
+        number: u8,
+        event: Event,
+    ) -> Option<Reply>
         ensures offered { Offered (Noted (notes W.notes_before W.notes_after) watch.old watch.new) self.old number event result self.new }
         ensures untold { result ≡ None → watch.new ≡ watch.old }
     {
@@ -101,7 +109,7 @@ impl Network {
 
     /// Brings the nodes to rest: rounds, until one moves nothing and sends nothing, or 100,000; the watch is told of each step.
     /// Answers whether they came to rest. Refused by the number of the first node that failed.
-    pub fn settle_with<W: Watch>(&mut self, watch: &mut W) -> Result<bool, u8>
+    pub fn settle_with<W: Watch<KvDriver>>(&mut self, watch: &mut W) -> Result<bool, u8>
         ensures settled { Settled (Noted (notes W.notes_before W.notes_after) watch.old watch.new) self.old.driven self.old.nodes result self.new.nodes }
         ensures same { self.new.driven ≡ self.old.driven }
     {

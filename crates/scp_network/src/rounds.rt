@@ -8,7 +8,7 @@ ghost use Rattle.scp_network.specs.Heard.{Noted};
 ghost use Rattle.scp_network.specs.Network.{Settled};
 
 use crate::turn::{either, hear, work};
-use scp_core::{Event, Node, Reply};
+use scp_core::{Event, KvDriver, Node, Reply};
 use scp_turn::Watch;
 
 /// The most rounds of one settle.
@@ -40,7 +40,12 @@ fn drives(driven: &[bool], from: usize, to: usize) -> bool
 }
 
 /// What a node sends is drained, and sent where the link goes. Whether anything was sent.
-fn transmit<W: Watch>(nodes: &mut Vec<Node>, watch: &mut W, from: usize, to: usize) -> bool
+fn transmit<W: Watch<KvDriver>>(
+    nodes: &mut Vec<Node>,
+    watch: &mut W,
+    from: usize,
+    to: usize,
+) -> bool
     requires few { length nodes.old.items ≤ 8 }
     requires from { from < length nodes.old.items }
     requires to { to < length nodes.old.items }
@@ -58,7 +63,7 @@ fn transmit<W: Watch>(nodes: &mut Vec<Node>, watch: &mut W, from: usize, to: usi
 }
 
 /// What goes over the link from a node to another in a turn. Whether anything was sent.
-fn carry<W: Watch>(
+fn carry<W: Watch<KvDriver>>(
     nodes: &mut Vec<Node>,
     watch: &mut W,
     driven: &[bool],
@@ -77,7 +82,12 @@ fn carry<W: Watch>(
 }
 
 /// What a node sends in its turn, to each other node in the order of their numbers. Whether anything was sent.
-fn carry_all<W: Watch>(nodes: &mut Vec<Node>, watch: &mut W, driven: &[bool], from: usize) -> bool
+fn carry_all<W: Watch<KvDriver>>(
+    nodes: &mut Vec<Node>,
+    watch: &mut W,
+    driven: &[bool],
+    from: usize,
+) -> bool
     requires few { length nodes.old.items ≤ 8 }
     requires from { from < length nodes.old.items }
     ensures { Acts (Noted (notes W.notes_before W.notes_after) watch.old watch.new) nodes.old.items nodes.new.items (InOrder (Carries driven.now (from + 1)) (length nodes.old.items)) result }
@@ -91,7 +101,12 @@ fn carry_all<W: Watch>(nodes: &mut Vec<Node>, watch: &mut W, driven: &[bool], fr
 }
 
 /// A node's turn. Whether anything moved or was sent.
-fn turn<W: Watch>(nodes: &mut Vec<Node>, watch: &mut W, driven: &[bool], index: usize) -> bool
+fn turn<W: Watch<KvDriver>>(
+    nodes: &mut Vec<Node>,
+    watch: &mut W,
+    driven: &[bool],
+    index: usize,
+) -> bool
     requires few { length nodes.old.items ≤ 8 }
     requires index { index < length nodes.old.items }
     ensures { Acts (Noted (notes W.notes_before W.notes_after) watch.old watch.new) nodes.old.items nodes.new.items (IsTurn driven.now (length nodes.old.items) (index + 1)) result }
@@ -103,7 +118,7 @@ fn turn<W: Watch>(nodes: &mut Vec<Node>, watch: &mut W, driven: &[bool], index: 
 }
 
 /// A round of all nodes. Whether anything moved or was sent.
-fn round<W: Watch>(nodes: &mut Vec<Node>, watch: &mut W, driven: &[bool]) -> bool
+fn round<W: Watch<KvDriver>>(nodes: &mut Vec<Node>, watch: &mut W, driven: &[bool]) -> bool
     requires few { length nodes.old.items ≤ 8 }
     ensures { Acts (Noted (notes W.notes_before W.notes_after) watch.old watch.new) nodes.old.items nodes.new.items (IsRound driven.now (length nodes.old.items)) result }
 {
@@ -131,7 +146,11 @@ fn failed(nodes: &[Node]) -> Option<u8>
 
 /// Brings the nodes to rest: rounds, until one moves nothing and sends nothing, or 100,000. Whether they came to rest. Refused
 /// by the number of a node that failed.
-pub fn settle<W: Watch>(nodes: &mut Vec<Node>, watch: &mut W, driven: &[bool]) -> Result<bool, u8>
+pub fn settle<W: Watch<KvDriver>>(
+    nodes: &mut Vec<Node>,
+    watch: &mut W,
+    driven: &[bool],
+) -> Result<bool, u8>
     requires few { length nodes.old.items ≤ 8 }
     ensures { Settled (Noted (notes W.notes_before W.notes_after) watch.old watch.new) driven.now nodes.old.items result nodes.new.items }
 {

@@ -7,11 +7,16 @@ ghost use Rattle.scp_network.specs.Rounds.{HearsAll};
 ghost use Rattle.scp_network.specs.Network.{IsAnswered};
 ghost use Rattle.scp_network.specs.inside.Acting.{Acts};
 
-use scp_core::{Event, Node, Reply};
+use scp_core::{Event, KvDriver, Node, Reply};
 use scp_turn::{Watch, step_with};
 
 /// One event: the node heard one exchange more, and the watch was told of it.
-pub fn hear<W: Watch>(nodes: &mut Vec<Node>, watch: &mut W, index: usize, event: Event) -> Reply
+pub fn hear<W: Watch<KvDriver>>(
+    nodes: &mut Vec<Node>,
+    watch: &mut W,
+    index: usize,
+    event: Event,
+) -> Reply
     requires few { length nodes.old.items ≤ 8 }
     requires index { index < length nodes.old.items }
     ensures { IsAnswered (Noted (notes W.notes_before W.notes_after) watch.old watch.new) nodes.old.items (index + 1) event result nodes.new.items }
@@ -27,7 +32,12 @@ pub fn either(first: bool, second: bool) -> bool
 }
 
 /// What the stages of a node with so many links do in its turn. Whether anything moved.
-pub fn work<W: Watch>(nodes: &mut Vec<Node>, watch: &mut W, index: usize, links: u8) -> bool
+pub fn work<W: Watch<KvDriver>>(
+    nodes: &mut Vec<Node>,
+    watch: &mut W,
+    index: usize,
+    links: u8,
+) -> bool
     requires few { length nodes.old.items ≤ 8 }
     requires index { index < length nodes.old.items }
     ensures { Acts (Noted (notes W.notes_before W.notes_after) watch.old watch.new) nodes.old.items nodes.new.items (HearsAll (index + 1) (stage_events links)) result }

@@ -5,9 +5,8 @@ use Rattle.scp_types.specs.declared.fault.Fault.{Fault}
 use Rattle.scp_types.specs.declared.fault.Fault.TheVariants.{NoMemory, TooLong, JournalFull, Device}
 use Rattle.scp_core.specs.declared.event.Event.{Event as Happening}
 use Rattle.scp_core.specs.History.{Exchange}
-use Rattle.scp_core.specs.Node.{NodeView}
-use Rattle.scp_turn.specs.Turn.{Goes}
-use Rattle.scp_turn.specs.Watch.{Noting}
+use Rattle.scp_core.specs.Kv.{NodeView}
+use Rattle.scp_turn.specs.Kv.{Goes, Noting}
 use Rattle.scp_episode.specs.Episode.{finds_full}
 use Rattle.scp_log.specs.Log.{EntryView}
 use Rattle.scp_wire.specs.declared.message.Message.{Message}

@@ -1,9 +1,8 @@
 -- A node that was made of settings, and ran.
 use Rattle.std.proofs.Common.{◌≡◌, ℕ, List, [], Option, subst}
 use Rattle.std.specs.Prelude.{Result, Ok, Err, OnOk}
-use Rattle.scp_core.specs.Ledger.{TheoremGivesLedger}
-use Rattle.scp_core.specs.Headline.{LedgerGivesHeadline}
-use Rattle.scp_turn.specs.Watch.{Noting, Watched}
+use Rattle.scp_core.specs.Kv.{TheoremGivesLedger, LedgerGivesHeadline}
+use Rattle.scp_turn.specs.Kv.{Noting, Watched}
 use Rattle.scp_log.specs.declared.kept.Kept.{Kept}
 use Rattle.scp_log.specs.declared.kept.LogFault.{LogFault}
 use Rattle.scp_config.specs.declared.settings.Settings.{Settings}

@@ -6,8 +6,9 @@ use Rattle.scp_core.specs.declared.event.Event.TheVariants as event
 use Rattle.scp_core.specs.declared.event.Reply.{Reply}
 use Rattle.scp_core.specs.declared.event.Reply.TheVariants as reply
 use Rattle.scp_core.specs.History.{Exchange}
-use Rattle.scp_core.specs.Node.{NodeView, Accepts, Moves, SendsOut, PendBrings, PendTakes, Step}
-use Rattle.scp_turn.specs.Turn.{Does}
+use Rattle.scp_core.specs.Node.{Accepts, SendsOut, PendBrings, PendTakes}
+use Rattle.scp_core.specs.Kv.{NodeView, Moves, Step}
+use Rattle.scp_turn.specs.Kv.{Does}
 
 abbrev config : NodeView → Config
 config v = v.config

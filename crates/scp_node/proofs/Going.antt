@@ -3,9 +3,8 @@ use Rattle.std.proofs.Common.{◌≡◌, Bool, true, false, List, [], ◌∷◌,
 use Rattle.std.specs.Prelude.{◌||◌}
 use Rattle.scp_episode.specs.Episode.{finds_full, is_full_reply}
 use Rattle.scp_core.specs.History.{Exchange}
-use Rattle.scp_core.specs.Node.{NodeView}
-use Rattle.scp_turn.specs.Turn.{Goes}
-use Rattle.scp_turn.specs.Watch.{Noting, Watched}
+use Rattle.scp_core.specs.Kv.{NodeView}
+use Rattle.scp_turn.specs.Kv.{Goes, Noting, Watched}
 use Rattle.scp_begin.proofs.Going.{Heard, heard_nothing, heard_as, heard_then, watched_on}
 
 or_true : (b : Bool) → (b || true) ≡ true

@@ -6,9 +6,9 @@ use Rattle.scp_types.specs.declared.fault.Fault.TheVariants.{JournalFull}
 use Rattle.scp_core.specs.declared.event.Event.{Event}
 use Rattle.scp_core.specs.declared.event.Reply.{Reply}
 use Rattle.scp_core.specs.History.{Exchange}
-use Rattle.scp_core.specs.Node.{NodeView}
-use Rattle.scp_turn.specs.Turn.{Goes}
-use Rattle.scp_turn.specs.Watch.{notes, Watched}
+use Rattle.scp_core.specs.Kv.{NodeView}
+use Rattle.scp_turn.specs.Kv.{Goes, Watched}
+use Rattle.scp_turn.specs.Watch.{notes}
 use Rattle.scp_episode.specs.Episode.{finds_full, is_full_reply}
 use Rattle.scp_node.specs.declared.fullness.JournalWatch.{JournalWatch}
 use Rattle.scp_node.specs.Noticing.{before_in, after_in}

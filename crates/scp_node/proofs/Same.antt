@@ -4,7 +4,7 @@ use Rattle.std.specs.Prelude.{◌<◌, ◌⊎◌, map, option_map, slice_get}
 use Rattle.std.proofs.lemmas.Option.{slice_get-map}
 use Rattle.scp_core.specs.declared.event.Event.{Event as Happening}
 use Rattle.scp_core.specs.History.{Exchange}
-use Rattle.scp_core.specs.Node.{NodeView}
+use Rattle.scp_core.specs.Kv.{NodeView}
 use Rattle.scp_log.specs.Log.{EntryView}
 use Rattle.scp_asked.specs.declared.asked.Asked.TheVariants.{Event}
 use Rattle.scp_asked.specs.Says.{Says}

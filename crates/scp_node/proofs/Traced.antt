@@ -1,7 +1,7 @@
 -- A node that ran, and whose steps were written.
 use Rattle.std.proofs.Common.{◌≡◌, ℕ, false, List, [], Option, get_or, sym, ◌∙◌, ap, subst}
 use Rattle.scp_core.specs.declared.config.Config.{Config}
-use Rattle.scp_turn.specs.Watch.{Watched}
+use Rattle.scp_turn.specs.Kv.{Watched}
 use Rattle.scp_trace_slot.specs.Names.{AreNames}
 use Rattle.scp_trace_live.specs.Tracing.{IsTraced}
 use Rattle.scp_trace_live.specs.Watching.{TraceView, noting, TracedIsWhatHappened}

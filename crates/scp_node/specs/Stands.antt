@@ -1,6 +1,6 @@
 -- Where a node as a process stands, told by numbers as the nodes of a script are (this project's profile).
 use Rattle.std.specs.Prelude.{ℕ, ◌≡◌, ◌≤◌, ◌+◌, ◌⊎◌, List, [], length, get_or, codes}
-use Rattle.scp_core.specs.Node.{NodeView}
+use Rattle.scp_core.specs.Kv.{NodeView}
 use Rattle.scp_script.specs.Nodes.{id_of, peers_of}
 use Rattle.scp_trace_slot.specs.declared.names.Names.{Names}
 use Rattle.scp_trace_slot.specs.Names.{AreNames}

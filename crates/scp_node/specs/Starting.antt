@@ -3,7 +3,7 @@ use Rattle.std.specs.Prelude.{ℕ, ◌≡◌, ◌<◌, false, List, [], ◌++◌
 use Rattle.std.specs.Fmt.{decimal}
 use Rattle.scp_core.specs.History.{Exchange}
 use Rattle.scp_core.specs.Node.{accepts_at}
-use Rattle.scp_core.specs.Theorem.{LedgerTheorem}
+use Rattle.scp_core.specs.Kv.{LedgerTheorem}
 use Rattle.scp_core.specs.Headline.{HoldsHeadline}
 use Rattle.scp_turn.specs.Turn.{links_of}
 use Rattle.scp_device.specs.Device.{Gains}

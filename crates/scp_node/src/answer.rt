@@ -1,8 +1,8 @@
 //! What the lines of a host are answered.
 ghost use Rattle.std.specs.Prelude.{◌≡◌, ◌⊎◌, false, true, IfOk, IfErr, OnOk, IsErrOf};
 ghost use Rattle.scp_log.specs.Log.{IsLine};
-ghost use Rattle.scp_turn.specs.Turn.{Goes};
-ghost use Rattle.scp_turn.specs.Watch.{notes, Watched};
+ghost use Rattle.scp_turn.specs.Kv.{Goes, Watched};
+ghost use Rattle.scp_turn.specs.Watch.{notes};
 ghost use Rattle.scp_episode.specs.Episode.{finds_full};
 ghost use Rattle.scp_asked.specs.Says.{Says};
 ghost use Rattle.scp_node.specs.Answers.{IsDone, IsAnswered, AreAnswered, next_number};
@@ -14,6 +14,7 @@ use crate::batch::Batch;
 use crate::fullness::JournalWatch;
 use scp_asked::{Asked, BadLine, read_line};
 use scp_batches::Line;
+use scp_core::KvDriver;
 use scp_live::Live;
 use scp_turn::Watch;
 use scp_types::Fault;
@@ -22,7 +23,7 @@ use scp_types::Fault;
 const SHORTER: &str = "a line of at most 262144 bytes";
 
 /// Does what a line asks for; the watch is told of each step.
-fn done<V: Watch>(
+fn done<V: Watch<KvDriver>>(
     batch: &mut Batch,
     live: &mut Live,
     asked: Asked,
@@ -43,7 +44,7 @@ fn done<V: Watch>(
 }
 
 /// Adds the answer to the line of this number.
-fn answer<V: Watch>(
+fn answer<V: Watch<KvDriver>>(
     batch: &mut Batch,
     live: &mut Live,
     number: u64,
@@ -76,7 +77,7 @@ fn next(number: u64) -> u64
 }
 
 /// Adds the answers to lines, the first of which has this number; answers the number of the next line. The watch is told of each step.
-pub fn answer_all<V: Watch>(
+pub fn answer_all<V: Watch<KvDriver>>(
     batch: &mut Batch,
     live: &mut Live,
     number: u64,

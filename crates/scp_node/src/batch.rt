@@ -2,8 +2,8 @@
 ghost use Rattle.std.specs.Prelude.{◌≡◌, ◌⊎◌, ◌++◌, ◌∷◌, [], false, true, IfErr, OnOk, IsErrOf, IsOkUnless, All, string_bytes};
 ghost use Rattle.hex.specs.Hex.{IsBytes};
 ghost use Rattle.scp_log.specs.Log.{IsEntry, IsLine};
-ghost use Rattle.scp_turn.specs.Turn.{Goes};
-ghost use Rattle.scp_turn.specs.Watch.{notes, Watched};
+ghost use Rattle.scp_turn.specs.Kv.{Goes, Watched};
+ghost use Rattle.scp_turn.specs.Watch.{notes};
 ghost use Rattle.scp_episode.specs.Episode.{IsOfHost, finds_full};
 ghost use Rattle.scp_told.specs.Replies.{ok_line};
 ghost use Rattle.scp_node.specs.Answers.{IsPlayed, bad_line, Replies};
@@ -14,7 +14,7 @@ use crate::fullness::{JournalWatch, act};
 use crate::stand::tell_stand;
 use crate::telling::write_bad;
 use scp_asked::Asked;
-use scp_core::Event;
+use scp_core::{Event, KvDriver};
 use scp_live::Live;
 use scp_log::Entry;
 use scp_told::write_ok;
@@ -95,7 +95,7 @@ impl Batch {
     }
 
     /// Plays an event that a line says, and the watch is told of each step: what is told of it, and its entry.
-    pub fn play<V: Watch>(
+    pub fn play<V: Watch<KvDriver>>(
         &mut self,
         live: &mut Live,
         event: Event,

@@ -1,11 +1,11 @@
 //! A watch that notices a full journal besides.
 ghost use Rattle.std.specs.Prelude.{◌≡◌, ◌⊎◌, false, true, IfOk, IfErr, OnOk, IsErrOf, string_bytes};
-ghost use Rattle.scp_turn.specs.Turn.{Goes};
-ghost use Rattle.scp_turn.specs.Watch.{notes, Watched};
+ghost use Rattle.scp_turn.specs.Kv.{Goes, Watched};
+ghost use Rattle.scp_turn.specs.Watch.{notes};
 ghost use Rattle.scp_episode.specs.Episode.{IsOfHost, finds_full, is_full_reply};
 ghost use Rattle.scp_live.specs.Live.{IsTold};
 
-use scp_core::{Event, Node, Reply};
+use scp_core::{Event, KvDriver, Node, Reply};
 use scp_live::Live;
 use scp_turn::Watch;
 use scp_types::{Fault, Hash};
@@ -24,7 +24,7 @@ fn is_journal_full(reply: &Reply) -> bool
     matches!(reply, Reply::JournalFull)
 }
 
-impl<V: Watch> Watch for JournalWatch<V> {
+impl<V: Watch<KvDriver>> Watch<KvDriver> for JournalWatch<V> {
     ghost use Rattle.scp_node.specs.Noticing.{before_in, after_in};
 
     ghost notes_before = { before_in V.notes_before };
@@ -43,7 +43,7 @@ impl<V: Watch> Watch for JournalWatch<V> {
 
 /// The event, and all that follows of it, as `Live::act_with` plays it; the watch is told of each step. Refused by `JournalFull` where a step found
 /// the journal full, else by `NoMemory`.
-pub fn act<V: Watch>(
+pub fn act<V: Watch<KvDriver>>(
     live: &mut Live,
     event: Event,
     text: &mut String,

@@ -1,7 +1,7 @@
 //! A node of a configuration starts, and serves its host until that ends.
 ghost use Rattle.std.specs.Prelude.{◌≡◌, IfOk, OnOk, string_bytes};
-ghost use Rattle.scp_turn.specs.Turn.{Goes};
-ghost use Rattle.scp_turn.specs.Watch.{notes, Watched};
+ghost use Rattle.scp_turn.specs.Kv.{Goes, Watched};
+ghost use Rattle.scp_turn.specs.Watch.{notes};
 ghost use Rattle.scp_log.specs.Log.{IsLine};
 ghost use Rattle.scp_begin.specs.Living.{IsLive};
 ghost use Rattle.scp_node.specs.Starting.{greeting, HasRun, RunsAs, IsRun};
@@ -11,7 +11,7 @@ use crate::serving::serve;
 use crate::starting::restart;
 use scp_begin::{begun, fail, header, refuse, settings_of};
 use scp_config::Settings;
-use scp_core::{each_node_holds_its_headline, each_node_holds_its_ledger};
+use scp_core::{KvDriver, each_node_holds_its_headline, each_node_holds_its_ledger};
 use scp_device::{ReportOut, ScriptIn, write_text};
 use scp_live::Live;
 use scp_log::{EventLog, Kept, LogFault};
@@ -32,7 +32,7 @@ fn greeting_of(alloc: Global, live: &Live, count: usize) -> Result<String, Alloc
 }
 
 /// Starts with the log, tells where the node stands, and serves the host; the watch is told of each step.
-fn run<L: EventLog, R: ScriptIn, W: ReportOut, V: Watch>(
+fn run<L: EventLog, R: ScriptIn, W: ReportOut, V: Watch<KvDriver>>(
     alloc: Global,
     live: &mut Live,
     kept: &mut Kept<L>,
@@ -53,7 +53,7 @@ fn run<L: EventLog, R: ScriptIn, W: ReportOut, V: Watch>(
 }
 
 /// Runs a node of this configuration; the watch is told of each step.
-pub fn run_settings<L: EventLog + Drop, R: ScriptIn, W: ReportOut, V: Watch>(
+pub fn run_settings<L: EventLog + Drop, R: ScriptIn, W: ReportOut, V: Watch<KvDriver>>(
     alloc: Global,
     settings: &Settings,
     log: L,
@@ -63,8 +63,8 @@ pub fn run_settings<L: EventLog + Drop, R: ScriptIn, W: ReportOut, V: Watch>(
 ) -> Result<(), LogFault>
     ensures ran { OnOk result ((runs : RunsAs L.holds L.may_leave settings.now (R.left reader.old) (W.written writer.old) (W.written writer.new) log) × Watched (notes V.notes_before V.notes_after) 1 watch.old.watch runs.begun.node runs.heard runs.node.node watch.new.watch) }
 {
-    each_node_holds_its_ledger();
-    each_node_holds_its_headline();
+    each_node_holds_its_ledger::<KvDriver>();
+    each_node_holds_its_headline::<KvDriver>();
     let mut live = begun(alloc, settings)?;
     let line = header(alloc, &settings.digest(alloc)?)?;
     let mut kept = Kept::new(log);

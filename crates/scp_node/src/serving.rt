@@ -1,8 +1,8 @@
 //! A node serves its host.
 ghost use Rattle.std.specs.Prelude.{◌≡◌, ◌⊎◌, false, true, IfOk, IfErr, OnOk, OnErr, IsErrOf};
 ghost use Rattle.scp_device.specs.Device.{Gains, GainsPart, Fails};
-ghost use Rattle.scp_turn.specs.Turn.{Goes};
-ghost use Rattle.scp_turn.specs.Watch.{notes, Watched};
+ghost use Rattle.scp_turn.specs.Kv.{Goes, Watched};
+ghost use Rattle.scp_turn.specs.Watch.{notes};
 ghost use Rattle.scp_episode.specs.Episode.{finds_full};
 ghost use Rattle.scp_node.specs.Serving.{HasServed, HasServedPart};
 ghost use Rattle.scp_node.specs.inside.Batches.{number_behind, IsBatch, StaysDurable};
@@ -12,6 +12,7 @@ use crate::answer::answer_all;
 use crate::batch::Batch;
 use crate::fullness::JournalWatch;
 use scp_batches::{Line, Lines};
+use scp_core::KvDriver;
 use scp_device::{ReportOut, ScriptIn};
 use scp_live::Live;
 use scp_log::{EventLog, Kept};
@@ -20,7 +21,7 @@ use scp_types::Fault;
 use std::alloc::Global;
 
 /// Answers the lines that a read brought, keeps their events, and writes what they were answered. Answers the number of the next line.
-fn serve_batch<L: EventLog, W: ReportOut, V: Watch>(
+fn serve_batch<L: EventLog, W: ReportOut, V: Watch<KvDriver>>(
     alloc: Global,
     live: &mut Live,
     kept: &mut Kept<L>,
@@ -57,7 +58,7 @@ fn serve_batch<L: EventLog, W: ReportOut, V: Watch>(
 /// among them are kept. The watch is told of each step of the node. Refused by `Device` where the reader, the writer or the log failed; by `JournalFull` where a step found the journal full,
 /// which failed the node; by `NoMemory`; and by `TooLong` where a statement that is said once more fits no link, or after 2^64 - 1 reads. After
 /// a refusal the node is done: what it was told last may not be kept.
-pub fn serve<L: EventLog, R: ScriptIn, W: ReportOut, V: Watch>(
+pub fn serve<L: EventLog, R: ScriptIn, W: ReportOut, V: Watch<KvDriver>>(
     alloc: Global,
     live: &mut Live,
     kept: &mut Kept<L>,

@@ -5,8 +5,9 @@ ghost use Rattle.scp_asked.specs.declared.asked.Asked.TheVariants as asked;
 ghost use Rattle.scp_asked.specs.Says.{Says};
 ghost use Rattle.scp_episode.specs.Episode.{IsOfHost};
 ghost use Rattle.scp_core.specs.Node.{accepts_at};
-ghost use Rattle.scp_turn.specs.Turn.{Goes, links_of};
-ghost use Rattle.scp_turn.specs.Watch.{notes, Watched};
+ghost use Rattle.scp_turn.specs.Turn.{links_of};
+ghost use Rattle.scp_turn.specs.Kv.{Goes, Watched};
+ghost use Rattle.scp_turn.specs.Watch.{notes};
 ghost use Rattle.scp_log.specs.declared.kept.LogFault.TheVariants.{Another};
 ghost use Rattle.scp_log.specs.Kept.{IsAnother};
 ghost use Rattle.scp_log.specs.Log.{IsLine};
@@ -18,7 +19,7 @@ use crate::batch::Batch;
 use crate::fullness::JournalWatch;
 use scp_asked::{Asked, BadLine, read_line};
 use scp_begin::replay;
-use scp_core::Event;
+use scp_core::{Event, KvDriver};
 use scp_live::Live;
 use scp_log::{EventLog, Kept, LogFault};
 use scp_turn::Watch;
@@ -58,7 +59,7 @@ fn event_of(alloc: Global, live: &Live, line: &[u8]) -> Result<Event, Fault>
 }
 
 /// Closes the connection of a link, if it is open: the event is played, and its entry added.
-fn close<V: Watch>(
+fn close<V: Watch<KvDriver>>(
     batch: &mut Batch,
     live: &mut Live,
     link: u8,
@@ -80,7 +81,7 @@ fn close<V: Watch>(
 }
 
 /// Closes all connections that are open.
-fn close_all<V: Watch>(
+fn close_all<V: Watch<KvDriver>>(
     batch: &mut Batch,
     live: &mut Live,
     watch: &mut JournalWatch<V>,
@@ -110,7 +111,7 @@ fn has_open(live: &Live) -> bool
 /// Plays what the log says again, and closes all connections, which didn't outlive the process; the watch is told of each step. Answers how
 /// many events the log has then. Refused by `Another` for the log of another configuration; by `Damaged` where the entry of that place doesn't fit the ones before it,
 /// says no event, or where anything else is sent of it; by `Failed` where the disk failed, a step found the journal full, or memory ran out.
-pub fn restart<L: EventLog, V: Watch>(
+pub fn restart<L: EventLog, V: Watch<KvDriver>>(
     alloc: Global,
     live: &mut Live,
     kept: &mut Kept<L>,

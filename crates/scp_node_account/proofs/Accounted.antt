@@ -2,12 +2,9 @@
 use Rattle.std.proofs.Common.{◌≡◌, ℕ, false, List, [], ◌∷◌, ◌++◌, Option, sym, ◌∙◌, ap, subst}
 use Rattle.std.specs.Prelude.{Result, Ok, Err, OnOk}
 use Rattle.scp_core.specs.History.{Exchange}
-use Rattle.scp_core.specs.Node.{NodeView}
-use Rattle.scp_core.specs.Headline.{LedgerGivesHeadline}
-use Rattle.scp_core.specs.Ledger.{TheoremGivesLedger}
+use Rattle.scp_core.specs.Kv.{NodeView, LedgerGivesHeadline, TheoremGivesLedger}
 use Rattle.scp_device.specs.Device.{Gains}
-use Rattle.scp_turn.specs.Turn.{Goes}
-use Rattle.scp_turn.specs.Watch.{Watched}
+use Rattle.scp_turn.specs.Kv.{Goes, Watched}
 use Rattle.scp_log.specs.declared.kept.Kept.{Kept}
 use Rattle.scp_log.specs.declared.kept.LogFault.{LogFault}
 use Rattle.scp_log.specs.Kept.{IsAllAndMore}

@@ -3,7 +3,7 @@ use Rattle.std.specs.Prelude.{ℕ, ◌≡◌, List, [], ◌∷◌, ◌++◌, Opt
 use Rattle.scp_core.specs.History.{Exchange}
 use Rattle.scp_core.specs.Headline.{HoldsHeadline}
 use Rattle.scp_device.specs.Device.{Gains}
-use Rattle.scp_turn.specs.Watch.{Watched}
+use Rattle.scp_turn.specs.Kv.{Watched}
 use Rattle.scp_log.specs.declared.kept.Kept.{Kept}
 use Rattle.scp_log.specs.Kept.{IsAllAndMore}
 use Rattle.scp_log.specs.Log.{EntryView, Marked, AreEntries, entries_of, log_of}

@@ -1,7 +1,7 @@
 //! The account of a node by its log.
 ghost use Rattle.std.specs.Prelude.{◌≡◌, IfOk, OnOk, string_bytes};
 ghost use Rattle.scp_device.specs.Device.{Gains};
-ghost use Rattle.scp_turn.specs.Turn.{Goes};
+ghost use Rattle.scp_turn.specs.Kv.{Goes};
 ghost use Rattle.scp_log.specs.Log.{IsLine};
 ghost use Rattle.scp_node_account.specs.Accounts.{IsAccountOf, AccountsFor, IsAccounted};
 ghost use Rattle.scp_begin.specs.Living.{IsLive};
@@ -9,7 +9,7 @@ ghost use Rattle.scp_begin.specs.Living.{IsLive};
 use scp_account::account;
 use scp_begin::{begun, fail, header, refuse, replay, settings_of};
 use scp_config::Settings;
-use scp_core::{each_node_holds_its_headline, each_node_holds_its_ledger};
+use scp_core::{KvDriver, each_node_holds_its_headline, each_node_holds_its_ledger};
 use scp_device::{ReportOut, write_text};
 use scp_kept::{KeepingWatch, what_is_kept_is_what_happened};
 use scp_live::Live;
@@ -50,8 +50,8 @@ fn account_settings<L: EventLog + Drop, W: ReportOut>(
 ) -> Result<(), LogFault>
     ensures accounted { OnOk result (AccountsFor L.holds settings.now (W.written writer.old) (W.written writer.new) log) }
 {
-    each_node_holds_its_ledger();
-    each_node_holds_its_headline();
+    each_node_holds_its_ledger::<KvDriver>();
+    each_node_holds_its_headline::<KvDriver>();
     let mut live = begun(alloc, settings)?;
     let line = header(alloc, &settings.digest(alloc)?)?;
     let mut kept = Kept::new(log);

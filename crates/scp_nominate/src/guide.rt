@@ -65,9 +65,9 @@ impl<D: Driver> Guide<D> {
     fn vote_first(&self, alloc: Global, board: &Board, lists: &mut Lists) -> Result<(), Fault>
         requires ascending { IsStrictlySortedBy node_cmp self.now.leaders.items }
         ensures voting { OnOk result (IsVoting lists.old lists.new) }
-        ensures voted { OnOk result (lists.old.candidates.values.items ≡ [] → IsVoted (IsFull (D.level self.now.driver) self.now.slot.0) (λ node. Contains self.now.leaders.items node) self.now.proposal (heard board.now) lists.new) }
-        ensures only { OnOk result (VotesFor (MayVote (IsFull (D.level self.now.driver) self.now.slot.0) (D.extracted self.now.driver self.now.slot.0) (λ node. Contains self.now.leaders.items node) self.now.proposal (heard board.now)) (own_lists lists.old) (own_lists lists.new)) }
-        ensures exact { OnOk result (VotesFirst (IsFull (D.level self.now.driver) self.now.slot.0) (D.extracted self.now.driver self.now.slot.0) (λ node. Contains self.now.leaders.items node) self.now.proposal (heard board.now) (own_lists lists.old) (own_lists lists.new)) }
+        ensures voted { OnOk result (lists.old.candidates.values.items ≡ [] → IsVoted (IsFull (D.says.level self.now.driver) self.now.slot.0) (λ node. Contains self.now.leaders.items node) self.now.proposal (heard board.now) lists.new) }
+        ensures only { OnOk result (VotesFor (MayVote (IsFull (D.says.level self.now.driver) self.now.slot.0) (D.says.extracted self.now.driver self.now.slot.0) (λ node. Contains self.now.leaders.items node) self.now.proposal (heard board.now)) (own_lists lists.old) (own_lists lists.new)) }
+        ensures exact { OnOk result (VotesFirst (IsFull (D.says.level self.now.driver) self.now.slot.0) (D.says.extracted self.now.driver self.now.slot.0) (λ node. Contains self.now.leaders.items node) self.now.proposal (heard board.now) (own_lists lists.old) (own_lists lists.new)) }
         ensures only_memory { IsOkUnless result Fault.NoMemory }
     {
         if lists.candidates.len() > 0 {
@@ -95,12 +95,12 @@ impl<D: Driver> Guide<D> {
         known: &ValueSet,
         lists: &mut Lists,
     ) -> Result<(), Fault>
-        requires known { IsKnown (IsFull (D.level self.now.driver) self.now.slot.0) (heard board.now) known.now }
+        requires known { IsKnown (IsFull (D.says.level self.now.driver) self.now.slot.0) (heard board.now) known.now }
         requires ascending { IsStrictlySortedBy node_cmp self.now.leaders.items }
-        ensures passes { OnOk result (Passes (IsFull (D.level self.now.driver) self.now.slot.0) (heard board.now) lists.old lists.new) }
-        ensures owed { OnOk result (OwesNothing (IsFull (D.level self.now.driver) self.now.slot.0) (λ node. Contains self.now.leaders.items node) self.now.proposal (heard board.now) (own_lists lists.new)) }
-        ensures votes { OnOk result (VotesFor (MayVote (IsFull (D.level self.now.driver) self.now.slot.0) (D.extracted self.now.driver self.now.slot.0) (λ node. Contains self.now.leaders.items node) self.now.proposal (heard board.now)) (own_lists lists.old) (own_lists lists.new)) }
-        ensures exact { OnOk result (StepsOnce (record { full = IsFull (D.level self.now.driver) self.now.slot.0; extracted = D.extracted self.now.driver self.now.slot.0; leads = λ node. Contains self.now.leaders.items node; proposal = self.now.proposal }) (heard board.now) (own_lists lists.old) (own_lists lists.new)) }
+        ensures passes { OnOk result (Passes (IsFull (D.says.level self.now.driver) self.now.slot.0) (heard board.now) lists.old lists.new) }
+        ensures owed { OnOk result (OwesNothing (IsFull (D.says.level self.now.driver) self.now.slot.0) (λ node. Contains self.now.leaders.items node) self.now.proposal (heard board.now) (own_lists lists.new)) }
+        ensures votes { OnOk result (VotesFor (MayVote (IsFull (D.says.level self.now.driver) self.now.slot.0) (D.says.extracted self.now.driver self.now.slot.0) (λ node. Contains self.now.leaders.items node) self.now.proposal (heard board.now)) (own_lists lists.old) (own_lists lists.new)) }
+        ensures exact { OnOk result (StepsOnce (record { full = IsFull (D.says.level self.now.driver) self.now.slot.0; extracted = D.says.extracted self.now.driver self.now.slot.0; leads = λ node. Contains self.now.leaders.items node; proposal = self.now.proposal }) (heard board.now) (own_lists lists.old) (own_lists lists.new)) }
         ensures only_memory { IsOkUnless result Fault.NoMemory }
     {
         self.vote_first(alloc, board, lists)?;

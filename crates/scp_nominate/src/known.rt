@@ -17,7 +17,7 @@ fn know_one<D: Driver>(
     value: &Value,
     known: &mut ValueSet,
 ) -> Result<(), Fault>
-    ensures learns { OnOk result (Learns (IsFull (D.level driver.now) slot.0) (λ v. value.now ≡ v) known.old known.new) }
+    ensures learns { OnOk result (Learns (IsFull (D.says.level driver.now) slot.0) (λ v. value.now ≡ v) known.old known.new) }
     ensures only_memory { IsOkUnless result Fault.NoMemory }
 {
     if driver.validate(slot, value) != Level::FullyValidated {
@@ -34,7 +34,7 @@ pub(crate) fn know<D: Driver>(
     values: &[Value],
     known: &mut ValueSet,
 ) -> Result<(), Fault>
-    ensures learns { OnOk result (Learns (IsFull (D.level driver.now) slot.0) (λ v. Contains values.now v) known.old known.new) }
+    ensures learns { OnOk result (Learns (IsFull (D.says.level driver.now) slot.0) (λ v. Contains values.now v) known.old known.new) }
     ensures only_memory { IsOkUnless result Fault.NoMemory }
 {
     for value in values {

@@ -53,9 +53,9 @@ fn vote_of<D: Driver>(
     votes: &mut ValueSet,
 ) -> Result<(), Fault>
     ensures more { OnOk result (MoreVotes votes.old votes.new) }
-    ensures tried { OnOk result (IsFull (D.level driver.now) slot.0 value.now → IsTried votes.new value.now) }
-    ensures only { OnOk result ((v : List ℕ) → Has votes.new v → Has votes.old v ⊎ Gives (IsFull (D.level driver.now) slot.0) (D.extracted driver.now slot.0) value.now v) }
-    ensures exact { OnOk result (VotesNamed (IsFull (D.level driver.now) slot.0) (D.extracted driver.now slot.0) value.now (items votes.old) (items votes.new)) }
+    ensures tried { OnOk result (IsFull (D.says.level driver.now) slot.0 value.now → IsTried votes.new value.now) }
+    ensures only { OnOk result ((v : List ℕ) → Has votes.new v → Has votes.old v ⊎ Gives (IsFull (D.says.level driver.now) slot.0) (D.says.extracted driver.now slot.0) value.now v) }
+    ensures exact { OnOk result (VotesNamed (IsFull (D.says.level driver.now) slot.0) (D.says.extracted driver.now slot.0) value.now (items votes.old) (items votes.new)) }
     ensures only_memory { IsOkUnless result Fault.NoMemory }
 {
     if driver.validate(slot, value) == Level::FullyValidated {
@@ -76,9 +76,9 @@ pub(crate) fn vote_all<D: Driver>(
     votes: &mut ValueSet,
 ) -> Result<(), Fault>
     ensures more { OnOk result (MoreVotes votes.old votes.new) }
-    ensures tried { OnOk result ((v : List ℕ) → Contains values.now v → IsFull (D.level driver.now) slot.0 v → IsTried votes.new v) }
-    ensures only { OnOk result ((v : List ℕ) → Has votes.new v → Has votes.old v ⊎ ((w : List ℕ) × Contains values.now w × Gives (IsFull (D.level driver.now) slot.0) (D.extracted driver.now slot.0) w v)) }
-    ensures exact { OnOk result (InTurn (λ v s t. VotesNamed (IsFull (D.level driver.now) slot.0) (D.extracted driver.now slot.0) v s t) values.now (items votes.old) (items votes.new)) }
+    ensures tried { OnOk result ((v : List ℕ) → Contains values.now v → IsFull (D.says.level driver.now) slot.0 v → IsTried votes.new v) }
+    ensures only { OnOk result ((v : List ℕ) → Has votes.new v → Has votes.old v ⊎ ((w : List ℕ) × Contains values.now w × Gives (IsFull (D.says.level driver.now) slot.0) (D.says.extracted driver.now slot.0) w v)) }
+    ensures exact { OnOk result (InTurn (λ v s t. VotesNamed (IsFull (D.says.level driver.now) slot.0) (D.says.extracted driver.now slot.0) v s t) values.now (items votes.old) (items votes.new)) }
     ensures only_memory { IsOkUnless result Fault.NoMemory }
 {
     for value in values {
@@ -125,9 +125,9 @@ pub(crate) fn vote_leader<D: Driver>(
     votes: &mut ValueSet,
 ) -> Result<(), Fault>
     ensures more { OnOk result (MoreVotes votes.old votes.new) }
-    ensures tried { OnOk result ((v : List ℕ) → IsFull (D.level driver.now) slot.0 v → Names (heard board.now) leader.now v → IsTried votes.new v) }
-    ensures only { OnOk result ((v : List ℕ) → Has votes.new v → Has votes.old v ⊎ ((w : List ℕ) × Names (heard board.now) leader.now w × Gives (IsFull (D.level driver.now) slot.0) (D.extracted driver.now slot.0) w v)) }
-    ensures exact { OnOk result ((values : List (List ℕ)) × AreNamedBy (heard board.now) leader.now values × InTurn (λ v s t. VotesNamed (IsFull (D.level driver.now) slot.0) (D.extracted driver.now slot.0) v s t) values (items votes.old) (items votes.new)) }
+    ensures tried { OnOk result ((v : List ℕ) → IsFull (D.says.level driver.now) slot.0 v → Names (heard board.now) leader.now v → IsTried votes.new v) }
+    ensures only { OnOk result ((v : List ℕ) → Has votes.new v → Has votes.old v ⊎ ((w : List ℕ) × Names (heard board.now) leader.now w × Gives (IsFull (D.says.level driver.now) slot.0) (D.says.extracted driver.now slot.0) w v)) }
+    ensures exact { OnOk result ((values : List (List ℕ)) × AreNamedBy (heard board.now) leader.now values × InTurn (λ v s t. VotesNamed (IsFull (D.says.level driver.now) slot.0) (D.says.extracted driver.now slot.0) v s t) values (items votes.old) (items votes.new)) }
     ensures only_memory { IsOkUnless result Fault.NoMemory }
 {
     match statement_of(board, leader) {
@@ -149,9 +149,9 @@ fn vote_other<D: Driver>(
     votes: &mut ValueSet,
 ) -> Result<(), Fault>
     ensures more { OnOk result (MoreVotes votes.old votes.new) }
-    ensures tried { OnOk result (leader.now ≢ (heard board.now).me → (v : List ℕ) → IsFull (D.level driver.now) slot.0 v → Names (heard board.now) leader.now v → IsTried votes.new v) }
-    ensures only { OnOk result ((v : List ℕ) → Has votes.new v → Has votes.old v ⊎ Suggests (IsFull (D.level driver.now) slot.0) (D.extracted driver.now slot.0) (heard board.now) leader.now v) }
-    ensures exact { OnOk result (VotesAfter (IsFull (D.level driver.now) slot.0) (D.extracted driver.now slot.0) (heard board.now) leader.now (items votes.old) (items votes.new)) }
+    ensures tried { OnOk result (leader.now ≢ (heard board.now).me → (v : List ℕ) → IsFull (D.says.level driver.now) slot.0 v → Names (heard board.now) leader.now v → IsTried votes.new v) }
+    ensures only { OnOk result ((v : List ℕ) → Has votes.new v → Has votes.old v ⊎ Suggests (IsFull (D.says.level driver.now) slot.0) (D.says.extracted driver.now slot.0) (heard board.now) leader.now v) }
+    ensures exact { OnOk result (VotesAfter (IsFull (D.says.level driver.now) slot.0) (D.says.extracted driver.now slot.0) (heard board.now) leader.now (items votes.old) (items votes.new)) }
     ensures only_memory { IsOkUnless result Fault.NoMemory }
 {
     if *leader == me_of(board) {
@@ -170,9 +170,9 @@ pub(crate) fn vote_leaders<D: Driver>(
     votes: &mut ValueSet,
 ) -> Result<(), Fault>
     ensures more { OnOk result (MoreVotes votes.old votes.new) }
-    ensures tried { OnOk result ((node : NodeId) → Contains leaders.now node → node ≢ (heard board.now).me → (v : List ℕ) → IsFull (D.level driver.now) slot.0 v → Names (heard board.now) node v → IsTried votes.new v) }
-    ensures only { OnOk result ((v : List ℕ) → Has votes.new v → Has votes.old v ⊎ ((node : NodeId) × Contains leaders.now node × Suggests (IsFull (D.level driver.now) slot.0) (D.extracted driver.now slot.0) (heard board.now) node v)) }
-    ensures exact { OnOk result (InTurn (λ node s t. VotesAfter (IsFull (D.level driver.now) slot.0) (D.extracted driver.now slot.0) (heard board.now) node s t) leaders.now (items votes.old) (items votes.new)) }
+    ensures tried { OnOk result ((node : NodeId) → Contains leaders.now node → node ≢ (heard board.now).me → (v : List ℕ) → IsFull (D.says.level driver.now) slot.0 v → Names (heard board.now) node v → IsTried votes.new v) }
+    ensures only { OnOk result ((v : List ℕ) → Has votes.new v → Has votes.old v ⊎ ((node : NodeId) × Contains leaders.now node × Suggests (IsFull (D.says.level driver.now) slot.0) (D.says.extracted driver.now slot.0) (heard board.now) node v)) }
+    ensures exact { OnOk result (InTurn (λ node s t. VotesAfter (IsFull (D.says.level driver.now) slot.0) (D.says.extracted driver.now slot.0) (heard board.now) node s t) leaders.now (items votes.old) (items votes.new)) }
     ensures only_memory { IsOkUnless result Fault.NoMemory }
 {
     for leader in leaders {

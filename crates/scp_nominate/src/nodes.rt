@@ -56,7 +56,7 @@ pub(crate) fn add_leader<D: Driver>(
     requires round { 1 ≤ round }
     requires some { 1 ≤ length nodes.now }
     requires ascending { IsStrictlySortedBy node_cmp leaders.old.items }
-    ensures added { OnOk result ((v : NodeId) → Contains leaders.new.items v ↔ (Contains leaders.old.items v ⊎ (slice_get nodes.now (D.place driver.now slot.0 round (length nodes.now)) ≡ Some v))) }
+    ensures added { OnOk result ((v : NodeId) → Contains leaders.new.items v ↔ (Contains leaders.old.items v ⊎ (slice_get nodes.now (D.says.place driver.now slot.0 round (length nodes.now)) ≡ Some v))) }
     ensures ascending { OnOk result (IsStrictlySortedBy node_cmp leaders.new.items) }
     ensures only_memory { IsOkUnless result Fault.NoMemory }
 {

@@ -50,7 +50,7 @@ impl<D: Driver + Drop> Nominator<D> {
     ) -> Result<Nominator<D>, Fault>
         ensures begins { IfOk result (λ made. Begins me slot.0 local.value (nomination made)) }
         ensures driver { IfOk result (λ made. driver_of made ≡ driver) }
-        ensures sound { IfOk result (λ made. IsSound D.level D.place made) }
+        ensures sound { IfOk result (λ made. IsSound D.says.level D.says.place made) }
         ensures only_memory { IsOkUnless result Fault.NoMemory }
     {
         let nodes = nodes_with(me, local.set())?;
@@ -88,8 +88,8 @@ impl<D: Driver + Drop> Nominator<D> {
 
     /// The leaders of the rounds so far, ascending. Of a nominator that failed no clause says them.
     pub fn leaders(&self) -> &[NodeId]
-        ensures leaders { IsSound D.level D.place self.now → (nomination self.now).failed ≡ false → (node : NodeId) → Contains result.now node ↔ Leads (D.place (driver_of self.now) (nomination self.now).slot) (nomination self.now).nodes (nomination self.now).rounds node }
-        ensures ascending { IsSound D.level D.place self.now → (nomination self.now).failed ≡ false → IsStrictlySortedBy node_cmp result.now }
+        ensures leaders { IsSound D.says.level D.says.place self.now → (nomination self.now).failed ≡ false → (node : NodeId) → Contains result.now node ↔ Leads (D.says.place (driver_of self.now) (nomination self.now).slot) (nomination self.now).nodes (nomination self.now).rounds node }
+        ensures ascending { IsSound D.says.level D.says.place self.now → (nomination self.now).failed ≡ false → IsStrictlySortedBy node_cmp result.now }
     {
         self.guide.leaders.as_slice()
     }
@@ -132,8 +132,8 @@ impl<D: Driver + Drop> Nominator<D> {
     /// This node proposes the value; the first proposal is kept, and a later one changes nothing. Refused by `Failed` once a
     /// call was refused, else by `NoMemory`.
     pub fn propose(&mut self, value: Value) -> Result<Nominated, Fault>
-        requires sound { IsSound D.level D.place self.old }
-        ensures advances { IfOk result (λ given. Advances (D.combined (driver_of self.old) (nomination self.old).slot) (own (nomination self.old)) (nomination self.old).lists (nomination self.new) given) }
+        requires sound { IsSound D.says.level D.says.place self.old }
+        ensures advances { IfOk result (λ given. Advances (D.says.combined (driver_of self.old) (nomination self.old).slot) (own (nomination self.old)) (nomination self.old).lists (nomination self.new) given) }
         ensures proposal { OnOk result ((nomination self.new).proposal ≡ first_of (nomination self.old).proposal value) }
         ensures later { OnOk result (IsSome (nomination self.old).proposal → self.new ≡ self.old) }
         ensures rounds { OnOk result ((nomination self.new).rounds ≡ (nomination self.old).rounds) }
@@ -142,15 +142,15 @@ impl<D: Driver + Drop> Nominator<D> {
         ensures driver { OnOk result (driver_of self.new ≡ driver_of self.old) }
         ensures stands { OnOk result (SaysItsLists (nomination self.new)) }
         ensures counted { OnOk result (KeepsOwn (nomination self.new).board) }
-        ensures lists { OnOk result (HasOwnLists D.level self.new) }
-        ensures votes { OnOk result (VotesWell D.level D.extracted D.place (nomination self.old).lists self.new) }
-        ensures exact { OnOk result ((nomination self.old).proposal ≡ None → ComesFrom D.level D.extracted D.place (nomination self.old) (nomination self.old).board self.new) }
-        ensures paid { OnOk result (IsPaid D.level D.place self.new) }
+        ensures lists { OnOk result (HasOwnLists D.says.level self.new) }
+        ensures votes { OnOk result (VotesWell D.says.level D.says.extracted D.says.place (nomination self.old).lists self.new) }
+        ensures exact { OnOk result ((nomination self.old).proposal ≡ None → ComesFrom D.says.level D.says.extracted D.says.place (nomination self.old) (nomination self.old).board self.new) }
+        ensures paid { OnOk result (IsPaid D.says.level D.says.place self.new) }
         ensures refused { IfErr result (λ f. ((f ≡ Fault.Failed) × ((nomination self.old).failed ≡ true)) ⊎ ((f ≡ Fault.NoMemory) × ((nomination self.old).failed ≡ false))) }
         ensures working { OnOk result (((nomination self.old).failed ≡ false) × ((nomination self.new).failed ≡ false)) }
         ensures failed { OnErr result ((nomination self.new).failed ≡ true) }
         ensures same { (nomination self.old).failed ≡ true → self.new ≡ self.old }
-        ensures sound { IsSound D.level D.place self.new }
+        ensures sound { IsSound D.says.level D.says.place self.new }
     {
         if self.failed {
             return Err(Fault::Failed);
@@ -172,10 +172,10 @@ impl<D: Driver + Drop> Nominator<D> {
         envelope: SharedEnvelope,
         delivered: Arc<SaneSet>,
     ) -> Result<Nominated, Fault>
-        requires sound { IsSound D.level D.place self.old }
+        requires sound { IsSound D.says.level D.says.place self.old }
         requires nominate { kind_of_pledges envelope.statement.pledges ≡ Nomination }
         requires other { envelope.statement.node ≢ (nomination self.old).board.me }
-        ensures advances { IfOk result (λ given. Advances (D.combined (driver_of self.old) (nomination self.old).slot) (own (nomination self.old)) (nomination self.old).lists (nomination self.new) given) }
+        ensures advances { IfOk result (λ given. Advances (D.says.combined (driver_of self.old) (nomination self.old).slot) (own (nomination self.old)) (nomination self.old).lists (nomination self.new) given) }
         ensures proposal { OnOk result ((nomination self.new).proposal ≡ (nomination self.old).proposal) }
         ensures rounds { OnOk result ((nomination self.new).rounds ≡ (nomination self.old).rounds) }
         ensures others { OnOk result (Hears (nomination self.old).board (nomination self.new).board envelope.statement.node envelope.statement.pledges (counted_of_other envelope.statement.node envelope.statement.pledges delivered.value)) }
@@ -183,15 +183,15 @@ impl<D: Driver + Drop> Nominator<D> {
         ensures driver { OnOk result (driver_of self.new ≡ driver_of self.old) }
         ensures stands { OnOk result (SaysItsLists (nomination self.new)) }
         ensures counted { OnOk result (KeepsOwn (nomination self.new).board) }
-        ensures lists { OnOk result (HasOwnLists D.level self.new) }
-        ensures votes { OnOk result (VotesWell D.level D.extracted D.place (nomination self.old).lists self.new) }
-        ensures exact { OnOk result (ComesFromHearing D.level D.extracted D.place (nomination self.old) envelope delivered.value self.new) }
-        ensures paid { OnOk result (IsPaid D.level D.place self.new) }
+        ensures lists { OnOk result (HasOwnLists D.says.level self.new) }
+        ensures votes { OnOk result (VotesWell D.says.level D.says.extracted D.says.place (nomination self.old).lists self.new) }
+        ensures exact { OnOk result (ComesFromHearing D.says.level D.says.extracted D.says.place (nomination self.old) envelope delivered.value self.new) }
+        ensures paid { OnOk result (IsPaid D.says.level D.says.place self.new) }
         ensures refused { IfErr result (λ f. ((f ≡ Fault.Failed) × ((nomination self.old).failed ≡ true)) ⊎ ((f ≡ Fault.NoMemory) × ((nomination self.old).failed ≡ false))) }
         ensures working { OnOk result (((nomination self.old).failed ≡ false) × ((nomination self.new).failed ≡ false)) }
         ensures failed { OnErr result ((nomination self.new).failed ≡ true) }
         ensures same { (nomination self.old).failed ≡ true → self.new ≡ self.old }
-        ensures sound { IsSound D.level D.place self.new }
+        ensures sound { IsSound D.says.level D.says.place self.new }
     {
         if self.failed {
             return Err(Fault::Failed);
@@ -206,8 +206,8 @@ impl<D: Driver + Drop> Nominator<D> {
     /// Adds one round and its leader, up to as many rounds as there are nodes that lead in turn; beyond that nothing changes.
     /// Refused by `Failed` once a call was refused, else by `NoMemory`.
     pub fn round(&mut self) -> Result<Nominated, Fault>
-        requires sound { IsSound D.level D.place self.old }
-        ensures advances { IfOk result (λ given. Advances (D.combined (driver_of self.old) (nomination self.old).slot) (own (nomination self.old)) (nomination self.old).lists (nomination self.new) given) }
+        requires sound { IsSound D.says.level D.says.place self.old }
+        ensures advances { IfOk result (λ given. Advances (D.says.combined (driver_of self.old) (nomination self.old).slot) (own (nomination self.old)) (nomination self.old).lists (nomination self.new) given) }
         ensures proposal { OnOk result ((nomination self.new).proposal ≡ (nomination self.old).proposal) }
         ensures more { OnOk result ((nomination self.old).rounds < length (nomination self.old).nodes → (nomination self.new).rounds ≡ (nomination self.old).rounds + 1) }
         ensures beyond { OnOk result (length (nomination self.old).nodes ≤ (nomination self.old).rounds → self.new ≡ self.old) }
@@ -216,15 +216,15 @@ impl<D: Driver + Drop> Nominator<D> {
         ensures driver { OnOk result (driver_of self.new ≡ driver_of self.old) }
         ensures stands { OnOk result (SaysItsLists (nomination self.new)) }
         ensures counted { OnOk result (KeepsOwn (nomination self.new).board) }
-        ensures lists { OnOk result (HasOwnLists D.level self.new) }
-        ensures votes { OnOk result (VotesWell D.level D.extracted D.place (nomination self.old).lists self.new) }
-        ensures exact { OnOk result ((nomination self.old).rounds < length (nomination self.old).nodes → ComesFrom D.level D.extracted D.place (nomination self.old) (nomination self.old).board self.new) }
-        ensures paid { OnOk result (IsPaid D.level D.place self.new) }
+        ensures lists { OnOk result (HasOwnLists D.says.level self.new) }
+        ensures votes { OnOk result (VotesWell D.says.level D.says.extracted D.says.place (nomination self.old).lists self.new) }
+        ensures exact { OnOk result ((nomination self.old).rounds < length (nomination self.old).nodes → ComesFrom D.says.level D.says.extracted D.says.place (nomination self.old) (nomination self.old).board self.new) }
+        ensures paid { OnOk result (IsPaid D.says.level D.says.place self.new) }
         ensures refused { IfErr result (λ f. ((f ≡ Fault.Failed) × ((nomination self.old).failed ≡ true)) ⊎ ((f ≡ Fault.NoMemory) × ((nomination self.old).failed ≡ false))) }
         ensures working { OnOk result (((nomination self.old).failed ≡ false) × ((nomination self.new).failed ≡ false)) }
         ensures failed { OnErr result ((nomination self.new).failed ≡ true) }
         ensures same { (nomination self.old).failed ≡ true → self.new ≡ self.old }
-        ensures sound { IsSound D.level D.place self.new }
+        ensures sound { IsSound D.says.level D.says.place self.new }
     {
         if self.failed {
             return Err(Fault::Failed);

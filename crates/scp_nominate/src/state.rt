@@ -92,7 +92,7 @@ impl State {
 
     /// Puts the own statement of the lists on the board.
     fn renew<D: Driver>(&mut self, guide: &Guide<D>) -> Result<(), Fault>
-        ensures renews { OnOk result (Renews (IsFull (D.level guide.now.driver) guide.now.slot.0) self.old self.new) }
+        ensures renews { OnOk result (Renews (IsFull (D.says.level guide.now.driver) guide.now.slot.0) self.old self.new) }
         ensures only_memory { IsOkUnless result Fault.NoMemory }
     {
         let envelope = SharedEnvelope::new(self.alloc, self.own(guide.slot)?)?;
@@ -105,12 +105,12 @@ impl State {
 
     /// Repeats the steps until none changes the own lists, which then are on the board. Whether the own statement changed.
     fn settle<D: Driver>(&mut self, guide: &Guide<D>) -> Result<bool, Fault>
-        requires rest { IsAtRest (IsFull (D.level guide.now.driver) guide.now.slot.0) self.old }
+        requires rest { IsAtRest (IsFull (D.says.level guide.now.driver) guide.now.slot.0) self.old }
         requires ascending { IsStrictlySortedBy node_cmp guide.now.leaders.items }
-        ensures settled { IfOk result (λ renewed. IsSettling (IsFull (D.level guide.now.driver) guide.now.slot.0) self.old self.new renewed) }
-        ensures owed { OnOk result (OwesNothing (IsFull (D.level guide.now.driver) guide.now.slot.0) (λ node. Contains guide.now.leaders.items node) guide.now.proposal (heard self.new.board) (own_lists self.new.lists)) }
-        ensures votes { OnOk result (VotesFor (MayVote (IsFull (D.level guide.now.driver) guide.now.slot.0) (D.extracted guide.now.driver guide.now.slot.0) (λ node. Contains guide.now.leaders.items node) guide.now.proposal (heard self.new.board)) (own_lists self.old.lists) (own_lists self.new.lists)) }
-        ensures exact { OnOk result (LeadsTo (record { full = IsFull (D.level guide.now.driver) guide.now.slot.0; extracted = D.extracted guide.now.driver guide.now.slot.0; leads = λ node. Contains guide.now.leaders.items node; proposal = guide.now.proposal }) self.old.hash (heard self.old.board) (own_lists self.old.lists) (heard self.new.board) (own_lists self.new.lists)) }
+        ensures settled { IfOk result (λ renewed. IsSettling (IsFull (D.says.level guide.now.driver) guide.now.slot.0) self.old self.new renewed) }
+        ensures owed { OnOk result (OwesNothing (IsFull (D.says.level guide.now.driver) guide.now.slot.0) (λ node. Contains guide.now.leaders.items node) guide.now.proposal (heard self.new.board) (own_lists self.new.lists)) }
+        ensures votes { OnOk result (VotesFor (MayVote (IsFull (D.says.level guide.now.driver) guide.now.slot.0) (D.says.extracted guide.now.driver guide.now.slot.0) (λ node. Contains guide.now.leaders.items node) guide.now.proposal (heard self.new.board)) (own_lists self.old.lists) (own_lists self.new.lists)) }
+        ensures exact { OnOk result (LeadsTo (record { full = IsFull (D.says.level guide.now.driver) guide.now.slot.0; extracted = D.says.extracted guide.now.driver guide.now.slot.0; leads = λ node. Contains guide.now.leaders.items node; proposal = guide.now.proposal }) self.old.hash (heard self.old.board) (own_lists self.old.lists) (heard self.new.board) (own_lists self.new.lists)) }
         ensures only_memory { IsOkUnless result Fault.NoMemory }
     {
         let mut renewed = false;
@@ -142,7 +142,7 @@ impl State {
     /// What all candidates are combined to, where there are more than so many.
     fn composite<D: Driver>(&self, guide: &Guide<D>, before: usize) -> Result<Option<Value>, Fault>
         ensures more { IfOk result (λ found. IsSome found ↔ (before < length self.now.lists.candidates.values.items)) }
-        ensures all { IfOk result (λ found. ForSome found (λ v. v ≡ D.combined guide.now.driver guide.now.slot.0 self.now.lists.candidates.values.items)) }
+        ensures all { IfOk result (λ found. ForSome found (λ v. v ≡ D.says.combined guide.now.driver guide.now.slot.0 self.now.lists.candidates.values.items)) }
         ensures only_memory { IsOkUnless result Fault.NoMemory }
     {
         let candidates = self.lists.candidates.as_slice();
@@ -155,15 +155,15 @@ impl State {
 
     /// Repeats the steps after an input, and what it gives.
     pub(crate) fn advance<D: Driver>(&mut self, guide: &Guide<D>) -> Result<Nominated, Fault>
-        requires rest { IsAtRest (IsFull (D.level guide.now.driver) guide.now.slot.0) self.old }
+        requires rest { IsAtRest (IsFull (D.says.level guide.now.driver) guide.now.slot.0) self.old }
         requires ascending { IsStrictlySortedBy node_cmp guide.now.leaders.items }
-        ensures settled { IfOk result (λ given. IsSettling (IsFull (D.level guide.now.driver) guide.now.slot.0) self.old self.new (is_some given.statement)) }
-        ensures owed { OnOk result (OwesNothing (IsFull (D.level guide.now.driver) guide.now.slot.0) (λ node. Contains guide.now.leaders.items node) guide.now.proposal (heard self.new.board) (own_lists self.new.lists)) }
-        ensures votes { OnOk result (VotesFor (MayVote (IsFull (D.level guide.now.driver) guide.now.slot.0) (D.extracted guide.now.driver guide.now.slot.0) (λ node. Contains guide.now.leaders.items node) guide.now.proposal (heard self.new.board)) (own_lists self.old.lists) (own_lists self.new.lists)) }
-        ensures exact { OnOk result (LeadsTo (record { full = IsFull (D.level guide.now.driver) guide.now.slot.0; extracted = D.extracted guide.now.driver guide.now.slot.0; leads = λ node. Contains guide.now.leaders.items node; proposal = guide.now.proposal }) self.old.hash (heard self.old.board) (own_lists self.old.lists) (heard self.new.board) (own_lists self.new.lists)) }
+        ensures settled { IfOk result (λ given. IsSettling (IsFull (D.says.level guide.now.driver) guide.now.slot.0) self.old self.new (is_some given.statement)) }
+        ensures owed { OnOk result (OwesNothing (IsFull (D.says.level guide.now.driver) guide.now.slot.0) (λ node. Contains guide.now.leaders.items node) guide.now.proposal (heard self.new.board) (own_lists self.new.lists)) }
+        ensures votes { OnOk result (VotesFor (MayVote (IsFull (D.says.level guide.now.driver) guide.now.slot.0) (D.says.extracted guide.now.driver guide.now.slot.0) (λ node. Contains guide.now.leaders.items node) guide.now.proposal (heard self.new.board)) (own_lists self.old.lists) (own_lists self.new.lists)) }
+        ensures exact { OnOk result (LeadsTo (record { full = IsFull (D.says.level guide.now.driver) guide.now.slot.0; extracted = D.says.extracted guide.now.driver guide.now.slot.0; leads = λ node. Contains guide.now.leaders.items node; proposal = guide.now.proposal }) self.old.hash (heard self.old.board) (own_lists self.old.lists) (heard self.new.board) (own_lists self.new.lists)) }
         ensures own { IfOk result (λ given. ForSome given.statement (λ e. IsOwnOf self.new guide.now.slot.0 e)) }
         ensures more { IfOk result (λ given. IsSome given.composite ↔ (length self.old.lists.candidates.values.items < length self.new.lists.candidates.values.items)) }
-        ensures all { IfOk result (λ given. ForSome given.composite (λ v. v ≡ D.combined guide.now.driver guide.now.slot.0 self.new.lists.candidates.values.items)) }
+        ensures all { IfOk result (λ given. ForSome given.composite (λ v. v ≡ D.says.combined guide.now.driver guide.now.slot.0 self.new.lists.candidates.values.items)) }
         ensures only_memory { IsOkUnless result Fault.NoMemory }
     {
         let before = self.lists.candidates.len();
@@ -184,7 +184,7 @@ impl State {
         delivered: Arc<SaneSet>,
     ) -> Result<(), Fault>
         requires nominate { kind_of_pledges envelope.statement.pledges ≡ Nomination }
-        ensures heard { OnOk result (HearsOne (IsFull (D.level guide.now.driver) guide.now.slot.0) self.old self.new envelope.statement.node envelope.statement.pledges delivered.value) }
+        ensures heard { OnOk result (HearsOne (IsFull (D.says.level guide.now.driver) guide.now.slot.0) self.old self.new envelope.statement.node envelope.statement.pledges delivered.value) }
         ensures only_memory { IsOkUnless result Fault.NoMemory }
     {
         let values = named(self.alloc, &envelope.get().statement.pledges)?;

@@ -7,7 +7,7 @@ use Rattle.scp_ledger.specs.declared.journal.Decision.{Decision}
 use Rattle.scp_ledger.specs.declared.journal.Origin.{Origin}
 use Rattle.scp_ledger.specs.declared.journal.Origin.TheVariants.{Machine, Named}
 use Rattle.scp_core.specs.History.{peer_at}
-use Rattle.scp_core.specs.Node.{NodeView}
+use Rattle.scp_core.specs.Kv.{NodeView}
 use Rattle.scp_trace_slot.specs.declared.names.Names.{Names}
 use Rattle.scp_facts.specs.declared.fact.Fact.{Fact}
 use Rattle.scp_facts.specs.declared.fact.Fact.TheVariants.{Says, Decided, Sent}

@@ -1,7 +1,7 @@
 -- The page of a run (this project's profile): its sections, of what is of no slot and of each slot, in the order in which they begin.
 use Rattle.std.specs.Prelude.{ℕ, zero, suc, ◌+◌, Bool, true, false, List, [], ◌∷◌, ◌++◌, Option, Some, None, codes, filter, flat_map, length, nat_le, if◌then◌else◌}
 use Rattle.std.specs.Fmt.{decimal}
-use Rattle.scp_core.specs.Node.{NodeView}
+use Rattle.scp_core.specs.Kv.{NodeView}
 use Rattle.scp_trace_slot.specs.declared.names.Names.{Names}
 use Rattle.scp_facts.specs.declared.fact.Telling.{Telling}
 use Rattle.scp_svg.specs.Pieces.{escaped, down_text, letters_text}

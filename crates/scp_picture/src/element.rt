@@ -2,7 +2,7 @@
 ghost use Rattle.std.specs.Prelude.{◌≡◌, ◌++◌, ◌-◌, IfOk, OnOk, IsOkUnless, Some, flat_map, option_copied, slice_get, string_bytes};
 ghost use Rattle.scp_svg.specs.Pieces.{escaped};
 ghost use Rattle.scp_core.specs.History.{peer_at};
-ghost use Rattle.scp_core.specs.Node.{NodeView};
+ghost use Rattle.scp_core.specs.Kv.{NodeView};
 ghost use Rattle.scp_marks.specs.Topics.{came_by as came_by_fact};
 ghost use Rattle.scp_looks.specs.Looks.{sign_of as sign_by, is_sent as is_sent_so, is_against as is_against_so};
 ghost use Rattle.scp_picture.specs.Elements.{column as column_of, number_of as number_by, toward as toward_side, rule_text, bar_of, arrow_from, stroke_of, ring_at, rings_of_origin, rings_of_decision, rings_of, sign_text, sender_class, front_text, title_text, shapes_text, back_text, fact_element, told_element, telling_element, element as element_of};

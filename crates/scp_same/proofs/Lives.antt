@@ -1,22 +1,26 @@
 -- Two nodes with one past have the same episodes of the same events.
 use Rattle.std.proofs.Common.{◌≡◌, ℕ, zero, suc, false, List, [], ◌∷◌, ◌++◌, refl, sym, ◌∙◌, ap, subst}
 use Rattle.std.specs.Prelude.{replicate, slice_get, if◌then◌else◌}
+use Rattle.scp_driver.specs.Kv.{kv_says}
 use Rattle.scp_outboxes.specs.Handing.{waiting_at}
 use Rattle.scp_core.specs.declared.event.Event.{Event}
 use Rattle.scp_core.specs.declared.event.Event.TheVariants as event
 use Rattle.scp_core.specs.declared.event.Reply.{Reply}
 use Rattle.scp_core.specs.declared.event.Reply.TheVariants.{Failed, NoLink, AlreadyOpen, LivesSpent, NotOpen, Full, Accepted, Blocked, Idle, Moved, Sent, JournalFull, NoMemory}
 use Rattle.scp_core.specs.History.{Exchange}
-use Rattle.scp_core.specs.Node.{NodeView, accepts_of}
-use Rattle.scp_turn.specs.Turn.{Does, events_of, links_of}
-use Rattle.scp_episode.specs.Episode.{Follows, FollowsOn, drains_of, leaving_at}
+use Rattle.scp_core.specs.Node.{accepts_of}
+use Rattle.scp_core.specs.Kv.{NodeView}
+use Rattle.scp_turn.specs.Turn.{events_of, links_of}
+use Rattle.scp_turn.specs.Kv.{Does}
+use Rattle.scp_episode.specs.Episode.{Follows, drains_of, leaving_at}
+use Rattle.scp_episode.specs.Kv.{FollowsOn}
 use Rattle.scp_same.specs.Episodes.{AnEpisode, AreEpisodes, SameEventsSameEpisodes}
 use Rattle.scp_same.proofs.Steps.{Laws, Both, Same, does_on, does_run, same_steps, then_same}
 use Rattle.scp_same.proofs.Turns.{rests_does, same_links, same_rest}
 
 -- ---- what follows is steps
 
-follows_does : (a v : NodeView) (heard : List Exchange) → Follows a heard v → Does a heard v
+follows_does : (a v : NodeView) (heard : List Exchange) → Follows kv_says a heard v → Does a heard v
 follows_does a v heard f = subst (λ (h : List Exchange). Does a h v) (sym f.split) (does_on a f.rested v f.turns f.drains (rests_does f.calm a f.rested f.turns f.rests) f.does)
 
 nothing_does : (a v : NodeView) (heard : List Exchange) → (heard ≡ []) × (v ≡ a) → Does a heard v
@@ -58,7 +62,7 @@ same_drains v w e (suc n) = let before = same_drains v w e n in let count = e n 
 same_nothing : Laws → (p x y : List Exchange) (a b v w : NodeView) → Both p a b → (x ≡ []) × (v ≡ a) → (y ≡ []) × (w ≡ b) → v.failed ≡ false → w.failed ≡ false → Same p x y v w
 same_nothing law p x y a b v w both f g run runs = same_steps law p x y a b v w both (ap events_of (f.0 ∙ sym g.0)) (nothing_does a v x f) (nothing_does b w y g) run runs
 
-same_follows : Laws → (p x y : List Exchange) (a b v w : NodeView) → Both p a b → Follows a x v → Follows b y w → v.failed ≡ false → w.failed ≡ false → Same p x y v w
+same_follows : Laws → (p x y : List Exchange) (a b v w : NodeView) → Both p a b → Follows kv_says a x v → Follows kv_says b y w → v.failed ≡ false → w.failed ≡ false → Same p x y v w
 same_follows law p x y a b v w both f g run runs =
     let here : f.rested.failed ≡ false = (does_run f.drains f.rested v f.does run).0 in
     let there : g.rested.failed ≡ false = (does_run g.drains g.rested w g.does runs).0 in

@@ -8,10 +8,11 @@ use Rattle.scp_core.specs.declared.event.Event.TheVariants.{Open, Send, Close, L
 use Rattle.scp_core.specs.declared.event.Reply.{Reply}
 use Rattle.scp_core.specs.declared.event.Reply.TheVariants.{Failed, NoLink, AlreadyOpen, LivesSpent, NotOpen, Full, Accepted, Blocked, Idle, Moved, Sent, JournalFull, NoMemory}
 use Rattle.scp_core.specs.History.{Exchange}
-use Rattle.scp_core.specs.Node.{NodeView, Accepts, Moves, SendsOut, Step}
-use Rattle.scp_core.specs.Same.{ShowSameNode, NoneLackedMemory, SameEventsSameReplies, event_of}
-use Rattle.scp_core.specs.Theorem.{LedgerTheorem, StepsKeep}
-use Rattle.scp_turn.specs.Turn.{Does, events_of}
+use Rattle.scp_core.specs.Node.{Accepts, SendsOut}
+use Rattle.scp_core.specs.Kv.{NodeView, Moves, Step, SameEventsSameReplies, LedgerTheorem, StepsKeep}
+use Rattle.scp_core.specs.Same.{ShowSameNode, NoneLackedMemory, event_of}
+use Rattle.scp_turn.specs.Turn.{events_of}
+use Rattle.scp_turn.specs.Kv.{Does}
 
 -- ---- a step keeps the configuration
 
@@ -136,7 +137,7 @@ same_steps law p x y a b v w both events d e run runs =
     let enough : NoneLackedMemory (p ++ x) = all_on (λ (h : Exchange). h.1 ≢ NoMemory) p x both.enough (does_run x a v d run).1 in
     let ample : NoneLackedMemory (p ++ y) = all_on (λ (h : Exchange). h.1 ≢ NoMemory) p y both.enough (does_run y b w e runs).1 in
     let came : map event_of (p ++ x) ≡ map event_of (p ++ y) = map-append event_of p x ∙ ap (λ (es : List Event). map event_of p ++ es) events ∙ sym (map-append event_of p y) in
-    let told = law.same (p ++ x) (p ++ y) v w one other config came enough ample in
+    let told = law.same (p ++ x) (p ++ y) v w one other refl config came enough ample in
     record {
       same = append_cancel_left p x y told.0;
       both = record { one = one; other = subst (λ (q : List Exchange). LedgerTheorem q w) (sym told.0) other; config = config; enough = enough };

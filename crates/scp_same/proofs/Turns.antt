@@ -3,12 +3,14 @@ use Rattle.std.proofs.Common.{◌≡◌, ◌<◌, ℕ, zero, suc, Bool, true, fa
 use Rattle.std.specs.Prelude.{min, length}
 use Rattle.std.proofs.lemmas.Bool.{cases_order}
 use Rattle.std.proofs.lemmas.List.{map-append}
+use Rattle.scp_driver.specs.Kv.{kv_says}
 use Rattle.scp_types.specs.declared.limits.TheConstants.{PEER_LIMIT}
 use Rattle.scp_core.specs.declared.config.Config.{Config}
 use Rattle.scp_core.specs.History.{Exchange}
-use Rattle.scp_core.specs.Node.{NodeView}
-use Rattle.scp_turn.specs.Turn.{Does, IsStill, IsTurn, events_of, links_of, stage_events}
-use Rattle.scp_turn.specs.Rest.{AreMovingTurns, IsStillTurn, Rests, Then}
+use Rattle.scp_core.specs.Kv.{NodeView}
+use Rattle.scp_turn.specs.Turn.{IsStill, IsTurn, events_of, links_of, stage_events}
+use Rattle.scp_turn.specs.Kv.{Does, AreMovingTurns, Rests}
+use Rattle.scp_turn.specs.Rest.{IsStillTurn, Then}
 use Rattle.scp_same.proofs.Steps.{Laws, Both, Same, both_turned, does_config, does_on, does_run, same_steps}
 
 -- ---- turns are steps
@@ -67,7 +69,7 @@ begun (suc m) n a b heard lt t = elim (cases_order n m) [
 ]
 
 -- where one came to rest the other doesn't go on
-goes_no_further : Laws → (m n : ℕ) (p f l y : List Exchange) (a b mid v w : NodeView) → n < m → Both p a b → AreMovingTurns n a f mid → IsStillTurn mid l v → AreMovingTurns m b y w → v.failed ≡ false → w.failed ≡ false → ⊥
+goes_no_further : Laws → (m n : ℕ) (p f l y : List Exchange) (a b mid v w : NodeView) → n < m → Both p a b → AreMovingTurns n a f mid → IsStillTurn kv_says mid l v → AreMovingTurns m b y w → v.failed ≡ false → w.failed ≡ false → ⊥
 goes_no_further law m n p f l y a b mid v w lt both turns still others run runs =
     let start = begun m n b w y lt others in
     let t = start.one in
@@ -79,13 +81,13 @@ goes_no_further law m n p f l y a b mid v w lt both turns still others run runs 
     t.two.2 (subst (λ (h : List Exchange). IsStill h) last.same still.2)
 
 -- both came to rest behind so many turns
-rest_events : (k : ℕ) (a b v w : NodeView) (x y : List Exchange) → a.config ≡ b.config → Then (AreMovingTurns k) IsStillTurn a x v → Then (AreMovingTurns k) IsStillTurn b y w → events_of x ≡ events_of y
+rest_events : (k : ℕ) (a b v w : NodeView) (x y : List Exchange) → a.config ≡ b.config → Then (AreMovingTurns k) (IsStillTurn kv_says) a x v → Then (AreMovingTurns k) (IsStillTurn kv_says) b y w → events_of x ≡ events_of y
 rest_events k a b v w x y e s t =
     more_turns x y s.first s.rest t.first t.rest a b s.mid t.mid v w e s.split t.split (moving_events k a b s.mid t.mid s.first t.first e s.one t.one)
     (moving_does k a s.mid s.first s.one) (moving_does k b t.mid t.first t.one) s.two.1 t.two.1
 
 -- the node behind the turns that move something runs, where that at rest does
-ran_before : (k : ℕ) (a v : NodeView) (x : List Exchange) → (t : Then (AreMovingTurns k) IsStillTurn a x v) → v.failed ≡ false → t.mid.failed ≡ false
+ran_before : (k : ℕ) (a v : NodeView) (x : List Exchange) → (t : Then (AreMovingTurns k) (IsStillTurn kv_says) a x v) → v.failed ≡ false → t.mid.failed ≡ false
 ran_before k a v x t run = (does_run t.rest t.mid v t.two.0 run).0
 
 as_many : Laws → (p x y : List Exchange) (a b v w : NodeView) → Both p a b → (r : Rests true a x v) → (s : Rests true b y w) → v.failed ≡ false → w.failed ≡ false → r.0 ≡ s.0
@@ -100,7 +102,7 @@ as_many law p x y a b v w both r s run runs = elim (cases_order r.0 s.0) [
 rests_events : Laws → (calm stopped : Bool) (p x y : List Exchange) (a b v w : NodeView) → Both p a b → Rests calm a x v → Rests stopped b y w → v.failed ≡ false → w.failed ≡ false → events_of x ≡ events_of y
 rests_events law true true p x y a b v w both r s run runs =
     let e : r.0 ≡ s.0 = as_many law p x y a b v w both r s run runs in
-    rest_events s.0 a b v w x y both.config (subst (λ (k : ℕ). Then (AreMovingTurns k) IsStillTurn a x v) e r.2) s.2
+    rest_events s.0 a b v w x y both.config (subst (λ (k : ℕ). Then (AreMovingTurns k) (IsStillTurn kv_says) a x v) e r.2) s.2
 rests_events law true false p x y a b v w both r s run runs = absurd (goes_no_further law 100000 r.0 p r.2.first r.2.rest y a b r.2.mid v w r.1 both r.2.one r.2.two s run runs)
 rests_events law false true p x y a b v w both r s run runs = absurd (goes_no_further law 100000 s.0 p s.2.first s.2.rest x b a s.2.mid w v s.1 (both_turned p a b both) s.2.one s.2.two r runs run)
 rests_events law false false p x y a b v w both r s run runs = moving_events 100000 a b v w x y both.config r s

@@ -3,11 +3,10 @@ use Rattle.std.specs.Prelude.{◌≡◌, false, List, [], ◌∷◌}
 use Rattle.scp_core.specs.declared.event.Event.{Event}
 use Rattle.scp_core.specs.declared.event.Reply.{Reply}
 use Rattle.scp_core.specs.History.{Exchange}
-use Rattle.scp_core.specs.Node.{NodeView}
+use Rattle.scp_core.specs.Kv.{NodeView, LedgerTheorem}
 use Rattle.scp_core.specs.Same.{ShowSameNode}
-use Rattle.scp_core.specs.Theorem.{LedgerTheorem}
 use Rattle.scp_turn.specs.Rest.{Then}
-use Rattle.scp_episode.specs.Episode.{IsEpisode}
+use Rattle.scp_episode.specs.Kv.{IsEpisode}
 
 -- an episode of this event, whatever its reply
 abbrev pub AnEpisode : Event → NodeView → List Exchange → NodeView → Type 0

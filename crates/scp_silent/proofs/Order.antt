@@ -5,12 +5,10 @@ use Rattle.std.proofs.lemmas.Option.{slice_get-get_or}
 use Rattle.scp_ledger.specs.declared.journal.Decision.{Decision}
 use Rattle.scp_apply.specs.Applied.{AreInOrder}
 use Rattle.scp_core.specs.History.{Exchange}
-use Rattle.scp_core.specs.Ledger.{HoldsLedger, FailedAfter, TheoremGivesLedger}
-use Rattle.scp_core.specs.Node.{NodeView}
+use Rattle.scp_core.specs.Kv.{HoldsLedger, FailedAfter, TheoremGivesLedger, NodeView}
 use Rattle.scp_network.specs.Heard.{past_at}
 use Rattle.scp_network.specs.Network.{NetworkView}
-use Rattle.scp_gather.specs.declared.gathering.NodeReport.{NodeReport}
-use Rattle.scp_gather.specs.Headline.{ReportsKeepHeadline}
+use Rattle.scp_gather.specs.Kv.{NodeReport, ReportsKeepHeadline}
 use Rattle.scp_threaded_script.specs.Reported.{AreNodesReported}
 use Rattle.scp_script.specs.declared.command.Command.{Command}
 use Rattle.scp_script.specs.Nodes.{id_of, peers_of, set_at}
@@ -34,4 +32,4 @@ reports_in_order law commands reports reported = λ k d within.
     let r = get_or reports k d in
     let one = reported.reported k r (slice_get-get_or reports k d within) in
     let ended = one.2.ended in
-    (law (id_of (k + 1)) (set_at (k + 1) commands) (peers_of (node_count commands) (k + 1)) one.0 r.journal.items r.parked.items r.applied.items r.state ended.report).in_order
+    (law (id_of (k + 1)) (set_at (k + 1) commands) (peers_of (node_count commands) (k + 1)) one.0 r.journal.items r.parked.items r.applied.items ended.report).in_order

@@ -6,8 +6,8 @@ use Rattle.scp_core.specs.declared.event.Event.{Event}
 use Rattle.scp_core.specs.declared.event.Event.TheVariants.{SlotTake}
 use Rattle.scp_core.specs.declared.event.Reply.{Reply}
 use Rattle.scp_core.specs.declared.event.Reply.TheVariants.{Moved}
-use Rattle.scp_core.specs.Node.{NodeView}
-use Rattle.scp_turn.specs.Watch.{Noting}
+use Rattle.scp_core.specs.Kv.{NodeView}
+use Rattle.scp_turn.specs.Kv.{Noting}
 use Rattle.scp_script.specs.declared.command.Command.{Command}
 use Rattle.scp_script.specs.declared.command.Command.TheVariants.{Propose, Round, Timer, Ask}
 use Rattle.scp_silent.specs.declared.commands.Told.{Told}

@@ -16,7 +16,7 @@ use crate::disagreeing::add_disagreements;
 use crate::lost::add_lost;
 use crate::notice::Notice;
 use crate::watch::CommandWatch;
-use scp_core::each_node_holds_its_ledger;
+use scp_core::{KvDriver, each_node_holds_its_ledger};
 use scp_line::{
     PlayFault, a_line_more_is_played, a_script_has_room, act_with, new_network,
     what_is_played_keeps_the_headlines,
@@ -219,7 +219,7 @@ fn played(alloc: Global, script: Script) -> Result<Ran, RunFault>
     let mut network = new_network(alloc, script.commands.as_slice())?;
     let mut watch = CommandWatch::new(alloc);
     a_line_more_is_played::<CommandWatch>();
-    each_node_holds_its_ledger();
+    each_node_holds_its_ledger::<KvDriver>();
     what_is_played_keeps_the_headlines();
     let cut = play_lines(alloc, &mut network, &mut watch, &script)?;
     let notices = notices_of(alloc, &script, &network, watch.told(), cut.as_slice())?;

@@ -16,7 +16,7 @@ use crate::disagreeing::add_disagreements;
 use crate::lost::add_lost;
 use crate::notice::Notice;
 use crate::playing::RunFault;
-use scp_core::CommandFate;
+use scp_core::{CommandFate, KvDriver};
 use scp_gather::{NodeReport, what_is_reported_keeps_the_headline};
 use scp_line::{
     PlayFault, a_script_has_room, run_in_threads as play_in_threads,
@@ -167,7 +167,7 @@ fn played<T: Threads + Wait + Sync>(
         Ok(ran) => ran,
         Err(fault) => return Err(ended(fault)),
     };
-    what_is_reported_keeps_the_headline();
+    what_is_reported_keeps_the_headline::<KvDriver>();
     what_is_played_keeps_the_headlines();
     let notices = notices_of(
         alloc,

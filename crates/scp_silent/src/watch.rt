@@ -3,7 +3,7 @@ ghost use Rattle.std.specs.Prelude.{◌≡◌, [], false};
 ghost use Rattle.scp_silent.specs.inside.Watching.{Adds, fates_told};
 
 use crate::commands::Told;
-use scp_core::{CommandFate, Event, Node, Reply};
+use scp_core::{CommandFate, Event, KvDriver, Node, Reply};
 use scp_turn::Watch;
 use std::alloc::Global;
 use std::marker::Model;
@@ -65,7 +65,7 @@ impl CommandWatch {
     }
 }
 
-impl Watch for CommandWatch {
+impl Watch<KvDriver> for CommandWatch {
     ghost use Rattle.std.specs.Prelude.{◌≡◌};
     ghost use Rattle.scp_silent.specs.inside.Watching.{is_slot_take, notes_step};
 

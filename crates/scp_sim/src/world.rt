@@ -8,7 +8,7 @@ use crate::due::{Agenda, Due};
 use crate::links::Links;
 use rand_chacha::ChaCha12Rng;
 use rand_core::SeedableRng;
-use scp_core::{Capacities, Config, Node, Peers};
+use scp_core::{Capacities, Config, KvDriver, Node, Peers};
 use scp_line::{PlayFault, a_script_has_room, new_network};
 use scp_network::Network;
 use scp_plan::{Plan, is_marked};
@@ -126,7 +126,7 @@ fn twin_of(alloc: Global, script: &Script, count: u8, number: u8) -> Result<Node
             decided: capacities.decided,
         },
     };
-    Node::new(alloc, config)
+    Node::new(alloc, config, KvDriver)
 }
 
 /// Someone who did nothing yet.

@@ -9,14 +9,14 @@ use scp_types::{Ballot, Slot, Value};
 
 /// Whether the driver calls the value invalid.
 fn is_invalid<D: Driver>(driver: &D, slot: Slot, value: &Value) -> bool
-    ensures { IsTrue result ↔ IsInvalid (D.level driver.now slot.0) value.now }
+    ensures { IsTrue result ↔ IsInvalid (D.says.level driver.now slot.0) value.now }
 {
     driver.validate(slot, value) == Level::Invalid
 }
 
 /// Whether the ballot, if there is one, has an invalid value.
 fn has_invalid_value<D: Driver>(driver: &D, slot: Slot, ballot: &Option<Ballot>) -> bool
-    ensures { IsTrue result ↔ IsSomeAnd ballot.now (λ b. IsInvalid (D.level driver.now slot.0) b.value) }
+    ensures { IsTrue result ↔ IsSomeAnd ballot.now (λ b. IsInvalid (D.says.level driver.now slot.0) b.value) }
 {
     match ballot {
         Some(ballot) => is_invalid(driver, slot, ballot.value.get()),
@@ -26,7 +26,7 @@ fn has_invalid_value<D: Driver>(driver: &D, slot: Slot, ballot: &Option<Ballot>)
 
 /// Whether a PREPARE has an invalid value.
 fn is_bad_prepare<D: Driver>(driver: &D, slot: Slot, prepare: &Prepare) -> bool
-    ensures { IsTrue result ↔ HasInvalid (D.level driver.now slot.0) (Pledges.Prepare prepare.now) }
+    ensures { IsTrue result ↔ HasInvalid (D.says.level driver.now slot.0) (Pledges.Prepare prepare.now) }
 {
     is_invalid(driver, slot, prepare.ballot.value.get())
         || has_invalid_value(driver, slot, &prepare.prepared)
@@ -35,7 +35,7 @@ fn is_bad_prepare<D: Driver>(driver: &D, slot: Slot, prepare: &Prepare) -> bool
 
 /// Whether they are of a ballot statement that has an invalid value.
 pub(crate) fn has_invalid<D: Driver>(driver: &D, slot: Slot, pledges: &Pledges) -> bool
-    ensures { IsTrue result ↔ HasInvalid (D.level driver.now slot.0) pledges.now }
+    ensures { IsTrue result ↔ HasInvalid (D.says.level driver.now slot.0) pledges.now }
 {
     match pledges {
         Pledges::Prepare(prepare) => is_bad_prepare(driver, slot, prepare),

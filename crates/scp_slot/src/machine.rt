@@ -37,7 +37,7 @@ impl<D: Driver + Drop> SlotMachine<D> {
         ensures begins { IfOk result (λ made. Begins me slot.0 set.value (slot_view made)) }
         ensures driver { IfOk result (λ made. driver_of made ≡ driver) }
         ensures running { IfOk result (λ made. IsRunning (slot_view made)) }
-        ensures sound { IfOk result (λ made. IsSound D.level D.place made) }
+        ensures sound { IfOk result (λ made. IsSound D.says.level D.says.place made) }
         ensures only_memory { IsOkUnless result Fault.NoMemory }
     {
         let state = State::new(alloc, me, slot, set, driver)?;
@@ -83,10 +83,10 @@ impl<D: Driver + Drop> SlotMachine<D> {
     /// those that `Verdict` lists for it; only what is fresh, and a timer, is taken in; after the decision nothing changes any
     /// more. Refused by `Failed` once a call was refused, else by `NoMemory`.
     pub fn input(&mut self, input: SlotInput) -> Result<SlotOutput, Fault>
-        requires sound { IsSound D.level D.place self.old }
+        requires sound { IsSound D.says.level D.says.place self.old }
         requires of_slot { IsOfSlot (slot_view self.old).slot input }
         // The verdict, what is taken in, and what is given.
-        ensures takes { IfOk result (λ out. Takes (D.level (driver_of self.old) (slot_view self.old).slot) (D.combined (driver_of self.old) (slot_view self.old).nomination.slot) input (slot_view self.old) out (slot_view self.new)) }
+        ensures takes { IfOk result (λ out. Takes (D.says.level (driver_of self.old) (slot_view self.old).slot) (D.says.combined (driver_of self.old) (slot_view self.old).nomination.slot) input (slot_view self.old) out (slot_view self.new)) }
         // A decision comes once, with its certificate.
         ensures decides { IfOk result (λ out. Decides (slot_view self.old) out (slot_view self.new)) }
         // The boards are those of the newest fresh envelopes, and the ballots owe nothing on them.
@@ -94,17 +94,17 @@ impl<D: Driver + Drop> SlotMachine<D> {
         // What is emitted, and what a decision has, keeps the limits of a link.
         ensures fits { IfOk result (λ out. KeepsLimits out) }
         // Each new vote has its reason.
-        ensures votes { OnOk result (VotesWell D.level D.extracted D.place (slot_view self.old) self.new) }
+        ensures votes { OnOk result (VotesWell D.says.level D.says.extracted D.says.place (slot_view self.old) self.new) }
         // The votes, the accepted values and the candidates are those that the steps of nomination come to.
-        ensures nominates { OnOk result (NominatesExactly D.level D.extracted D.place (slot_view self.old) input self.new) }
+        ensures nominates { OnOk result (NominatesExactly D.says.level D.says.extracted D.says.place (slot_view self.old) input self.new) }
         // Nomination owes nothing.
-        ensures owed { OnOk result (OwesNoVote D.level D.place self.new) }
+        ensures owed { OnOk result (OwesNoVote D.says.level D.says.place self.new) }
         ensures driver { OnOk result (driver_of self.new ≡ driver_of self.old) }
         ensures refused { IfErr result (λ f. ((f ≡ Fault.Failed) × ((slot_view self.old).failed ≡ true)) ⊎ ((f ≡ Fault.NoMemory) × ((slot_view self.old).failed ≡ false))) }
         ensures whole { OnOk result (((slot_view self.old).failed ≡ false) × ((slot_view self.new).failed ≡ false)) }
         ensures failed { OnErr result ((slot_view self.new).failed ≡ true) }
         ensures same { (slot_view self.old).failed ≡ true → self.new ≡ self.old }
-        ensures sound { IsSound D.level D.place self.new }
+        ensures sound { IsSound D.says.level D.says.place self.new }
     {
         if self.failed {
             return Err(Fault::Failed);

@@ -56,7 +56,7 @@ impl<D: Driver + Drop> State<D> {
     ) -> Result<State<D>, Fault>
         ensures begins { IfOk result (λ made. Begins me slot.0 set.value (view_of made false)) }
         ensures driver { IfOk result (λ made. nominate.driver_of made.nominator ≡ driver) }
-        ensures sound { IfOk result (λ made. nominate.IsSound D.level D.place made.nominator) }
+        ensures sound { IfOk result (λ made. nominate.IsSound D.says.level D.says.place made.nominator) }
         ensures blank { IfOk result (λ made. BeginsBlank (ballot.ballots made.balloter)) }
         ensures only_memory { IsOkUnless result Fault.NoMemory }
     {
@@ -90,14 +90,14 @@ impl<D: Driver + Drop> State<D> {
 
     /// Whether the value is fully validated.
     fn is_full(&self, value: &Value) -> bool
-        ensures { IsTrue result ↔ IsFull (D.level (nominate.driver_of self.now.nominator)) self.now.slot.0 value.now }
+        ensures { IsTrue result ↔ IsFull (D.says.level (nominate.driver_of self.now.nominator)) self.now.slot.0 value.now }
     {
         self.nominator.driver().validate(self.slot, value) == Level::FullyValidated
     }
 
     /// Whether they are of a ballot statement with an invalid value.
     fn has_invalid(&self, pledges: &Pledges) -> bool
-        ensures { IsTrue result ↔ HasInvalid (D.level (nominate.driver_of self.now.nominator) self.now.slot.0) pledges.now }
+        ensures { IsTrue result ↔ HasInvalid (D.says.level (nominate.driver_of self.now.nominator) self.now.slot.0) pledges.now }
     {
         has_invalid(self.nominator.driver(), self.slot, pledges)
     }
@@ -114,7 +114,7 @@ impl<D: Driver + Drop> State<D> {
 
     /// The verdict on an envelope's statement: the first that fits.
     fn judge(&self, statement: &Statement) -> Verdict
-        ensures { IsJudged (D.level (nominate.driver_of self.now.nominator) self.now.slot.0) self.now.me (newest_of self.now.newest (kind_of_pledges statement.now.pledges) statement.now.node) statement.now result }
+        ensures { IsJudged (D.says.level (nominate.driver_of self.now.nominator) self.now.slot.0) self.now.me (newest_of self.now.newest (kind_of_pledges statement.now.pledges) statement.now.node) statement.now result }
     {
         if self.is_own(statement) {
             Verdict::Own
@@ -201,12 +201,12 @@ impl<D: Driver + Drop> State<D> {
 
     /// This node proposes a value.
     fn propose(&mut self, value: Value) -> Result<SlotOutput, Fault>
-        requires working { IsWorking D.level D.place self.old }
-        ensures takes { IfOk result (λ out. TakesInput (D.level (nominate.driver_of self.old.nominator) self.old.slot.0) (D.combined (nominate.driver_of self.old.nominator) (nominate.nomination self.old.nominator).slot) (Propose value) (view_of self.old false) out (view_of self.new false)) }
+        requires working { IsWorking D.says.level D.says.place self.old }
+        ensures takes { IfOk result (λ out. TakesInput (D.says.level (nominate.driver_of self.old.nominator) self.old.slot.0) (D.says.combined (nominate.driver_of self.old.nominator) (nominate.nomination self.old.nominator).slot) (Propose value) (view_of self.old false) out (view_of self.new false)) }
         ensures driver { OnOk result (nominate.driver_of self.new.nominator ≡ nominate.driver_of self.old.nominator) }
-        ensures sound { OnOk result (nominate.IsSound D.level D.place self.new.nominator) }
-        ensures votes { OnOk result (nominate.VotesWell D.level D.extracted D.place (nominate.nomination self.old.nominator).lists self.new.nominator) }
-        ensures nominates { OnOk result (NominatesBy D.level D.extracted D.place (nominate.nomination self.old.nominator) (Propose value) self.new.nominator) }
+        ensures sound { OnOk result (nominate.IsSound D.says.level D.says.place self.new.nominator) }
+        ensures votes { OnOk result (nominate.VotesWell D.says.level D.says.extracted D.says.place (nominate.nomination self.old.nominator).lists self.new.nominator) }
+        ensures nominates { OnOk result (NominatesBy D.says.level D.says.extracted D.says.place (nominate.nomination self.old.nominator) (Propose value) self.new.nominator) }
         ensures only_memory { IsOkUnless result Fault.NoMemory }
     {
         if !self.is_full(&value) {
@@ -222,12 +222,12 @@ impl<D: Driver + Drop> State<D> {
 
     /// One more round of nomination.
     fn round(&mut self) -> Result<SlotOutput, Fault>
-        requires working { IsWorking D.level D.place self.old }
-        ensures takes { IfOk result (λ out. TakesInput (D.level (nominate.driver_of self.old.nominator) self.old.slot.0) (D.combined (nominate.driver_of self.old.nominator) (nominate.nomination self.old.nominator).slot) (Round) (view_of self.old false) out (view_of self.new false)) }
+        requires working { IsWorking D.says.level D.says.place self.old }
+        ensures takes { IfOk result (λ out. TakesInput (D.says.level (nominate.driver_of self.old.nominator) self.old.slot.0) (D.says.combined (nominate.driver_of self.old.nominator) (nominate.nomination self.old.nominator).slot) (Round) (view_of self.old false) out (view_of self.new false)) }
         ensures driver { OnOk result (nominate.driver_of self.new.nominator ≡ nominate.driver_of self.old.nominator) }
-        ensures sound { OnOk result (nominate.IsSound D.level D.place self.new.nominator) }
-        ensures votes { OnOk result (nominate.VotesWell D.level D.extracted D.place (nominate.nomination self.old.nominator).lists self.new.nominator) }
-        ensures nominates { OnOk result (NominatesBy D.level D.extracted D.place (nominate.nomination self.old.nominator) (Round) self.new.nominator) }
+        ensures sound { OnOk result (nominate.IsSound D.says.level D.says.place self.new.nominator) }
+        ensures votes { OnOk result (nominate.VotesWell D.says.level D.says.extracted D.says.place (nominate.nomination self.old.nominator).lists self.new.nominator) }
+        ensures nominates { OnOk result (NominatesBy D.says.level D.says.extracted D.says.place (nominate.nomination self.old.nominator) (Round) self.new.nominator) }
         ensures only_memory { IsOkUnless result Fault.NoMemory }
     {
         if self.nominator.is_last_round() {
@@ -240,12 +240,12 @@ impl<D: Driver + Drop> State<D> {
 
     /// The ballot timer ran out.
     fn timer(&mut self) -> Result<SlotOutput, Fault>
-        requires working { IsWorking D.level D.place self.old }
-        ensures takes { IfOk result (λ out. TakesInput (D.level (nominate.driver_of self.old.nominator) self.old.slot.0) (D.combined (nominate.driver_of self.old.nominator) (nominate.nomination self.old.nominator).slot) (Timer) (view_of self.old false) out (view_of self.new false)) }
+        requires working { IsWorking D.says.level D.says.place self.old }
+        ensures takes { IfOk result (λ out. TakesInput (D.says.level (nominate.driver_of self.old.nominator) self.old.slot.0) (D.says.combined (nominate.driver_of self.old.nominator) (nominate.nomination self.old.nominator).slot) (Timer) (view_of self.old false) out (view_of self.new false)) }
         ensures driver { OnOk result (nominate.driver_of self.new.nominator ≡ nominate.driver_of self.old.nominator) }
-        ensures sound { OnOk result (nominate.IsSound D.level D.place self.new.nominator) }
-        ensures votes { OnOk result (nominate.VotesWell D.level D.extracted D.place (nominate.nomination self.old.nominator).lists self.new.nominator) }
-        ensures nominates { OnOk result (NominatesBy D.level D.extracted D.place (nominate.nomination self.old.nominator) (Timer) self.new.nominator) }
+        ensures sound { OnOk result (nominate.IsSound D.says.level D.says.place self.new.nominator) }
+        ensures votes { OnOk result (nominate.VotesWell D.says.level D.says.extracted D.says.place (nominate.nomination self.old.nominator).lists self.new.nominator) }
+        ensures nominates { OnOk result (NominatesBy D.says.level D.says.extracted D.says.place (nominate.nomination self.old.nominator) (Timer) self.new.nominator) }
         ensures only_memory { IsOkUnless result Fault.NoMemory }
     {
         let given = self.balloter.timer()?;
@@ -276,12 +276,12 @@ impl<D: Driver + Drop> State<D> {
     ) -> Result<SlotOutput, Fault>
         requires kind { kind_of_pledges envelope.statement.pledges ≡ Nomination }
         requires other { envelope.statement.node ≢ self.old.me }
-        requires working { IsWorking D.level D.place self.old }
-        ensures takes { IfOk result (λ out. HearsNomination (D.combined (nominate.driver_of self.old.nominator) (nominate.nomination self.old.nominator).slot) envelope set (view_of self.old false) out (view_of self.new false)) }
+        requires working { IsWorking D.says.level D.says.place self.old }
+        ensures takes { IfOk result (λ out. HearsNomination (D.says.combined (nominate.driver_of self.old.nominator) (nominate.nomination self.old.nominator).slot) envelope set (view_of self.old false) out (view_of self.new false)) }
         ensures driver { OnOk result (nominate.driver_of self.new.nominator ≡ nominate.driver_of self.old.nominator) }
-        ensures sound { OnOk result (nominate.IsSound D.level D.place self.new.nominator) }
-        ensures votes { OnOk result (nominate.VotesWell D.level D.extracted D.place (nominate.nomination self.old.nominator).lists self.new.nominator) }
-        ensures nominates { OnOk result (NominatesBy D.level D.extracted D.place (nominate.nomination self.old.nominator) (Enveloped envelope set) self.new.nominator) }
+        ensures sound { OnOk result (nominate.IsSound D.says.level D.says.place self.new.nominator) }
+        ensures votes { OnOk result (nominate.VotesWell D.says.level D.says.extracted D.says.place (nominate.nomination self.old.nominator).lists self.new.nominator) }
+        ensures nominates { OnOk result (NominatesBy D.says.level D.says.extracted D.says.place (nominate.nomination self.old.nominator) (Enveloped envelope set) self.new.nominator) }
         ensures only_memory { IsOkUnless result Fault.NoMemory }
     {
         self.note(&envelope, &set)?;
@@ -300,12 +300,12 @@ impl<D: Driver + Drop> State<D> {
         requires other { envelope.statement.node ≢ self.old.me }
         requires of_slot { envelope.statement.slot.0 ≡ self.old.slot.0 }
         requires undecided { self.old.decided ≡ false }
-        requires working { IsWorking D.level D.place self.old }
+        requires working { IsWorking D.says.level D.says.place self.old }
         ensures takes { IfOk result (λ out. HearsBallot envelope set (view_of self.old false) out (view_of self.new false)) }
         ensures driver { OnOk result (nominate.driver_of self.new.nominator ≡ nominate.driver_of self.old.nominator) }
-        ensures sound { OnOk result (nominate.IsSound D.level D.place self.new.nominator) }
-        ensures votes { OnOk result (nominate.VotesWell D.level D.extracted D.place (nominate.nomination self.old.nominator).lists self.new.nominator) }
-        ensures nominates { OnOk result (NominatesBy D.level D.extracted D.place (nominate.nomination self.old.nominator) (Enveloped envelope set) self.new.nominator) }
+        ensures sound { OnOk result (nominate.IsSound D.says.level D.says.place self.new.nominator) }
+        ensures votes { OnOk result (nominate.VotesWell D.says.level D.says.extracted D.says.place (nominate.nomination self.old.nominator).lists self.new.nominator) }
+        ensures nominates { OnOk result (NominatesBy D.says.level D.says.extracted D.says.place (nominate.nomination self.old.nominator) (Enveloped envelope set) self.new.nominator) }
         ensures only_memory { IsOkUnless result Fault.NoMemory }
     {
         self.note(&envelope, &set)?;
@@ -318,12 +318,12 @@ impl<D: Driver + Drop> State<D> {
         requires other { envelope.statement.node ≢ self.old.me }
         requires of_slot { envelope.statement.slot.0 ≡ self.old.slot.0 }
         requires undecided { self.old.decided ≡ false }
-        requires working { IsWorking D.level D.place self.old }
-        ensures takes { IfOk result (λ out. HearsFresh (D.combined (nominate.driver_of self.old.nominator) (nominate.nomination self.old.nominator).slot) envelope set (view_of self.old false) out (view_of self.new false)) }
+        requires working { IsWorking D.says.level D.says.place self.old }
+        ensures takes { IfOk result (λ out. HearsFresh (D.says.combined (nominate.driver_of self.old.nominator) (nominate.nomination self.old.nominator).slot) envelope set (view_of self.old false) out (view_of self.new false)) }
         ensures driver { OnOk result (nominate.driver_of self.new.nominator ≡ nominate.driver_of self.old.nominator) }
-        ensures sound { OnOk result (nominate.IsSound D.level D.place self.new.nominator) }
-        ensures votes { OnOk result (nominate.VotesWell D.level D.extracted D.place (nominate.nomination self.old.nominator).lists self.new.nominator) }
-        ensures nominates { OnOk result (NominatesBy D.level D.extracted D.place (nominate.nomination self.old.nominator) (Enveloped envelope set) self.new.nominator) }
+        ensures sound { OnOk result (nominate.IsSound D.says.level D.says.place self.new.nominator) }
+        ensures votes { OnOk result (nominate.VotesWell D.says.level D.says.extracted D.says.place (nominate.nomination self.old.nominator).lists self.new.nominator) }
+        ensures nominates { OnOk result (NominatesBy D.says.level D.says.extracted D.says.place (nominate.nomination self.old.nominator) (Enveloped envelope set) self.new.nominator) }
         ensures only_memory { IsOkUnless result Fault.NoMemory }
     {
         match kind_of_pledges(&envelope.get().statement.pledges) {
@@ -342,12 +342,12 @@ impl<D: Driver + Drop> State<D> {
     fn hear(&mut self, envelope: SharedEnvelope, set: Arc<SaneSet>) -> Result<SlotOutput, Fault>
         requires of_slot { envelope.statement.slot.0 ≡ self.old.slot.0 }
         requires undecided { self.old.decided ≡ false }
-        requires working { IsWorking D.level D.place self.old }
-        ensures takes { IfOk result (λ out. TakesInput (D.level (nominate.driver_of self.old.nominator) self.old.slot.0) (D.combined (nominate.driver_of self.old.nominator) (nominate.nomination self.old.nominator).slot) (Enveloped envelope set) (view_of self.old false) out (view_of self.new false)) }
+        requires working { IsWorking D.says.level D.says.place self.old }
+        ensures takes { IfOk result (λ out. TakesInput (D.says.level (nominate.driver_of self.old.nominator) self.old.slot.0) (D.says.combined (nominate.driver_of self.old.nominator) (nominate.nomination self.old.nominator).slot) (Enveloped envelope set) (view_of self.old false) out (view_of self.new false)) }
         ensures driver { OnOk result (nominate.driver_of self.new.nominator ≡ nominate.driver_of self.old.nominator) }
-        ensures sound { OnOk result (nominate.IsSound D.level D.place self.new.nominator) }
-        ensures votes { OnOk result (nominate.VotesWell D.level D.extracted D.place (nominate.nomination self.old.nominator).lists self.new.nominator) }
-        ensures nominates { OnOk result (NominatesBy D.level D.extracted D.place (nominate.nomination self.old.nominator) (Enveloped envelope set) self.new.nominator) }
+        ensures sound { OnOk result (nominate.IsSound D.says.level D.says.place self.new.nominator) }
+        ensures votes { OnOk result (nominate.VotesWell D.says.level D.says.extracted D.says.place (nominate.nomination self.old.nominator).lists self.new.nominator) }
+        ensures nominates { OnOk result (NominatesBy D.says.level D.says.extracted D.says.place (nominate.nomination self.old.nominator) (Enveloped envelope set) self.new.nominator) }
         ensures only_memory { IsOkUnless result Fault.NoMemory }
     {
         let verdict = self.judge(&envelope.get().statement);
@@ -362,12 +362,12 @@ impl<D: Driver + Drop> State<D> {
     fn enter_undecided(&mut self, input: SlotInput) -> Result<SlotOutput, Fault>
         requires undecided { self.old.decided ≡ false }
         requires of_slot { IsOfSlot self.old.slot.0 input }
-        requires working { IsWorking D.level D.place self.old }
-        ensures takes { IfOk result (λ out. TakesInput (D.level (nominate.driver_of self.old.nominator) self.old.slot.0) (D.combined (nominate.driver_of self.old.nominator) (nominate.nomination self.old.nominator).slot) (input) (view_of self.old false) out (view_of self.new false)) }
+        requires working { IsWorking D.says.level D.says.place self.old }
+        ensures takes { IfOk result (λ out. TakesInput (D.says.level (nominate.driver_of self.old.nominator) self.old.slot.0) (D.says.combined (nominate.driver_of self.old.nominator) (nominate.nomination self.old.nominator).slot) (input) (view_of self.old false) out (view_of self.new false)) }
         ensures driver { OnOk result (nominate.driver_of self.new.nominator ≡ nominate.driver_of self.old.nominator) }
-        ensures sound { OnOk result (nominate.IsSound D.level D.place self.new.nominator) }
-        ensures votes { OnOk result (nominate.VotesWell D.level D.extracted D.place (nominate.nomination self.old.nominator).lists self.new.nominator) }
-        ensures nominates { OnOk result (NominatesBy D.level D.extracted D.place (nominate.nomination self.old.nominator) input self.new.nominator) }
+        ensures sound { OnOk result (nominate.IsSound D.says.level D.says.place self.new.nominator) }
+        ensures votes { OnOk result (nominate.VotesWell D.says.level D.says.extracted D.says.place (nominate.nomination self.old.nominator).lists self.new.nominator) }
+        ensures nominates { OnOk result (NominatesBy D.says.level D.says.extracted D.says.place (nominate.nomination self.old.nominator) input self.new.nominator) }
         ensures only_memory { IsOkUnless result Fault.NoMemory }
     {
         match input {
@@ -381,12 +381,12 @@ impl<D: Driver + Drop> State<D> {
     /// One input; after the decision nothing changes any more.
     pub(crate) fn enter(&mut self, input: SlotInput) -> Result<SlotOutput, Fault>
         requires of_slot { IsOfSlot self.old.slot.0 input }
-        requires working { IsWorking D.level D.place self.old }
-        ensures takes { IfOk result (λ out. Takes (D.level (nominate.driver_of self.old.nominator) self.old.slot.0) (D.combined (nominate.driver_of self.old.nominator) (nominate.nomination self.old.nominator).slot) (input) (view_of self.old false) out (view_of self.new false)) }
+        requires working { IsWorking D.says.level D.says.place self.old }
+        ensures takes { IfOk result (λ out. Takes (D.says.level (nominate.driver_of self.old.nominator) self.old.slot.0) (D.says.combined (nominate.driver_of self.old.nominator) (nominate.nomination self.old.nominator).slot) (input) (view_of self.old false) out (view_of self.new false)) }
         ensures driver { OnOk result (nominate.driver_of self.new.nominator ≡ nominate.driver_of self.old.nominator) }
-        ensures working { OnOk result (IsWorking D.level D.place self.new) }
-        ensures votes { OnOk result (nominate.VotesWell D.level D.extracted D.place (nominate.nomination self.old.nominator).lists self.new.nominator) }
-        ensures nominates { OnOk result (NominatesBy D.level D.extracted D.place (nominate.nomination self.old.nominator) input self.new.nominator) }
+        ensures working { OnOk result (IsWorking D.says.level D.says.place self.new) }
+        ensures votes { OnOk result (nominate.VotesWell D.says.level D.says.extracted D.says.place (nominate.nomination self.old.nominator).lists self.new.nominator) }
+        ensures nominates { OnOk result (NominatesBy D.says.level D.says.extracted D.says.place (nominate.nomination self.old.nominator) input self.new.nominator) }
         ensures only_memory { IsOkUnless result Fault.NoMemory }
     {
         if self.decided {

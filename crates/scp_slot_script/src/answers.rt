@@ -166,10 +166,10 @@ fn answer<D: Driver + Drop>(
     input: SlotInput,
     out: &mut String,
 ) -> Result<(), Fault>
-    requires sound { IsSound D.level D.place machine.old }
-    ensures answer { OnOk result (Appends (λ text. IsAnswer (D.level (driver_of machine.old)) (D.combined (driver_of machine.old)) input (slot_view machine.old) text (slot_view machine.new)) (string_bytes out.old) (string_bytes out.new)) }
+    requires sound { IsSound D.says.level D.says.place machine.old }
+    ensures answer { OnOk result (Appends (λ text. IsAnswer (D.says.level (driver_of machine.old)) (D.says.combined (driver_of machine.old)) input (slot_view machine.old) text (slot_view machine.new)) (string_bytes out.old) (string_bytes out.new)) }
     ensures driver { OnOk result (driver_of machine.new ≡ driver_of machine.old) }
-    ensures sound { IsSound D.level D.place machine.new }
+    ensures sound { IsSound D.says.level D.says.place machine.new }
 {
     if machine.is_decided() {
         write_done(out)?;
@@ -190,7 +190,7 @@ fn answers<D: Driver + Drop>(
     setup: Setup,
     inputs: Vec<SlotInput>,
 ) -> Result<String, Fault>
-    ensures { IfOk result (λ text. Answers (D.level driver) (D.combined driver) setup inputs.items (string_bytes text)) }
+    ensures { IfOk result (λ text. Answers (D.says.level driver) (D.says.combined driver) setup inputs.items (string_bytes text)) }
 {
     let Setup { me, slot, set } = setup;
     let mut machine = SlotMachine::new(alloc, me, slot, set, driver)?;

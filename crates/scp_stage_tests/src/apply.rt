@@ -1,6 +1,7 @@
 ghost use Rattle.std.specs.Prelude.{◌≡◌, IfOk};
 
 use scp_apply::Applier;
+use scp_driver::KvDriver;
 use scp_kv::KvState;
 use scp_ledger::{Decision, Onward, Origin, SharedDecision};
 use scp_types::{ConnId, Fault, NodeId, Seq, Slot, Value};
@@ -53,7 +54,12 @@ fn decision(alloc: Global, slot: u64, short: u8) -> Result<SharedDecision, Fault
 }
 
 /// Takes the decision where it can be taken, and tells whether that was so.
-fn decide(alloc: Global, applier: &mut Applier, slot: u64, short: u8) -> Result<bool, Fault> {
+fn decide(
+    alloc: Global,
+    applier: &mut Applier<KvDriver>,
+    slot: u64,
+    short: u8,
+) -> Result<bool, Fault> {
     let decision = decision(alloc, slot, short)?;
     if !applier.can_take(Slot(slot)) {
         return Ok(false);
@@ -62,7 +68,11 @@ fn decide(alloc: Global, applier: &mut Applier, slot: u64, short: u8) -> Result<
 }
 
 /// Takes a decision of each slot, with the value of the number beside it.
-fn decide_all(alloc: Global, applier: &mut Applier, slots: &[(u64, u8)]) -> Result<bool, Fault> {
+fn decide_all(
+    alloc: Global,
+    applier: &mut Applier<KvDriver>,
+    slots: &[(u64, u8)],
+) -> Result<bool, Fault> {
     for (slot, short) in slots {
         if !decide(alloc, applier, *slot, *short)? {
             return Ok(false);
@@ -72,7 +82,7 @@ fn decide_all(alloc: Global, applier: &mut Applier, slots: &[(u64, u8)]) -> Resu
 }
 
 /// Whether just the slots up to this one are applied, in order.
-fn has_applied(applier: &Applier, last: u64) -> bool {
+fn has_applied(applier: &Applier<KvDriver>, last: u64) -> bool {
     for (place, decision) in applier.applied().iter().enumerate() {
         if decision.slot.0 != place as u64 + 1 {
             return false;
@@ -118,14 +128,14 @@ fn is_answer(answer: &Option<(u8, Message)>, slot: Slot, short: u8) -> bool {
 }
 
 /// Asks for the slot on link 3, which is answered by the value of this number, or not where it is 0.
-fn asks(applier: &mut Applier, slot: u64, short: u8) -> Result<bool, Fault> {
+fn asks(applier: &mut Applier<KvDriver>, slot: u64, short: u8) -> Result<bool, Fault> {
     let slot = Slot(slot);
     let answer = applier.take(Onward::Asked { link: 3, slot })?;
     Ok(is_answer(&answer, slot, short))
 }
 
 fn applies_in_order(alloc: Global) -> Result<bool, Fault> {
-    let mut applier = Applier::new(alloc);
+    let mut applier = Applier::<KvDriver>::new(alloc);
     let waits = decide_all(alloc, &mut applier, &[(3, 3), (2, 2), (16, 9)])?
         && has_applied(&applier, 0)
         && asks(&mut applier, 3, 0)?;
@@ -152,7 +162,7 @@ fn slots_are_applied_in_order(rt: HostRuntime) -> Result<(), Fail> {
 
 /// The slots that can be taken, before and after one is applied.
 fn has_window(alloc: Global) -> Result<bool, Fault> {
-    let mut applier = Applier::new(alloc);
+    let mut applier = Applier::<KvDriver>::new(alloc);
     let first = !applier.can_take(Slot(0))
         && applier.can_take(Slot(1))
         && applier.can_take(Slot(16))
@@ -177,7 +187,7 @@ fn sixteen_slots_can_be_taken(rt: HostRuntime) -> Result<(), Fail> {
 /// Whether two slots are applied, or for want of memory the applier is failed, with what was applied before.
 fn applies_or_fails(alloc: Global) -> Result<bool, Fault> {
     let second = decision(alloc, 2, 1)?;
-    let mut applier = Applier::new(alloc);
+    let mut applier = Applier::<KvDriver>::new(alloc);
     if !decide(alloc, &mut applier, 1, 2)? || !applier.can_take(Slot(2)) {
         return Ok(false);
     }

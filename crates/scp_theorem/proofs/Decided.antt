@@ -66,5 +66,4 @@ module _ {D : Type 0} {level : D → ℕ → List ℕ → Level} {extracted : D 
     decided = in_decisions;
     shared_out = shared_at;
     next_missing = All-weaker (λ (d : Decision). IsLater (length a.applier.applied) d.slot.0) (λ (d : Decision). d.slot.0 ≡ length a.applier.applied + 1 → ⊥) (λ d later. isnt_next (length a.applier.applied) d later) a.applier.buffer r.applies.running.in_window;
-    folded = r.applies.running.folded;
   }

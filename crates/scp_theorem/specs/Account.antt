@@ -37,7 +37,7 @@ pub record Account (D : Type 0) : Type 0 where
   pub ledger : LedgerView D
   -- what is between the slot stage and the applier
   pub onward : List Onward
-  -- the applier: what is applied, and the state
+  -- the applier: what is applied
   pub applier : ApplierView
 
 -- Each link carries what its tail may send; each stage took, in order, what the one before it gave, but for what lies between

@@ -6,7 +6,6 @@ use Rattle.scp_types.specs.declared.limits.TheConstants.{CARRIED_LIMIT}
 use Rattle.scp_types.specs.declared.names.ConnId.{ConnId}
 use Rattle.scp_types.specs.declared.names.NodeId.{NodeId}
 use Rattle.scp_driver.specs.declared.driver.Level.{Level}
-use Rattle.scp_kv.specs.State.{fold_of}
 use Rattle.scp_quorum.specs.Sane.{IsSane}
 use Rattle.scp_wire.specs.declared.carried.Carried.{Carried}
 use Rattle.scp_wire.specs.declared.message.Message.{Message}
@@ -39,7 +38,7 @@ use Rattle.scp_ledger.specs.Onwards.{decisions_on}
 use Rattle.scp_ledger.specs.Runs.{Taking, things, nothing_taken, Leads, stood_by, verdict_in, verdict_by, AreJudged}
 use Rattle.scp_ledger.specs.Seen.{is_asked}
 use Rattle.scp_ledger.specs.Verdicts.{HasItsSet, link_of}
-use Rattle.scp_apply.specs.Applied.{AreInOrder, values_of}
+use Rattle.scp_apply.specs.Applied.{AreInOrder}
 use Rattle.scp_theorem.specs.Account.{Account, Ran}
 use Rattle.scp_theorem.specs.Fates.{Fates, conn_of, IsOfLink, FateHasCause, ways_on}
 
@@ -132,13 +131,12 @@ module _ {D : Type 0} where
   -- ---- what is applied
 
   -- Slots 1 to n are applied once each, in order, each with its decision. Every other decision is buffered or on its way to the
-  -- applier, and slot n + 1 isn't buffered. The state is the fold of the applied values.
+  -- applier, and slot n + 1 isn't buffered.
   pub record AreApplied (a : Account D) : Type 0 where
     pub in_order : AreInOrder 1 a.applier.applied
     pub decided : All (Contains a.ledger.decisions) a.applier.applied
     pub shared_out : IsPermutation a.ledger.decisions (a.applier.applied ++ (a.applier.buffer ++ decisions_on a.onward))
     pub next_missing : All (λ d. d.slot.0 ≢ length a.applier.applied + 1) a.applier.buffer
-    pub folded : a.applier.state ≡ Some (fold_of (values_of a.applier.applied))
 
   -- ---- the theorem
 
@@ -162,7 +160,7 @@ module _ {D : Type 0} where
     pub verdicts : AreJudgedInTurn level extracted combined place a
     -- each decision is the one of its slot, certified by a quorum or named by a taken record
     pub decisions : AreDecided a
-    -- slots 1 to n are applied, in order, and the state is their fold
+    -- slots 1 to n are applied, in order
     pub applied : AreApplied a
 
 -- what ran so keeps the ledger

@@ -16,7 +16,7 @@ use scp_wire::{
 /// Where each link carries what its tail may send, each stage took in order what the one before it gave, but for what lies between
 /// them, and each stands to what it took and gave as its calls promise: the ledger theorem.
 pub fn what_ran_keeps_the_ledger<D: Driver + Drop + Copy>()
-    ensures { RanKeepsLedger D.level D.extracted D.combined D.place }
+    ensures { RanKeepsLedger D.says.level D.says.extracted D.says.combined D.says.place }
 {
     what_is_read_keeps_the_shape();
     what_is_read_is_what_was_sent();
@@ -38,5 +38,5 @@ pub fn what_ran_keeps_the_ledger<D: Driver + Drop + Copy>()
 /// What is asked of a run can be met: a node to which nothing was sent ran so, whoever it and its peers are, wherever its stages
 /// stand so to having taken and given nothing.
 pub fn there_are_runs<D: Driver + Drop + Copy>()
-    ensures { NothingSentRan D.level D.extracted D.combined D.place }
+    ensures { NothingSentRan D.says.level D.says.extracted D.says.combined D.says.place }
 {}

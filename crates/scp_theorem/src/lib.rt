@@ -7,7 +7,7 @@
 //! - the node's own quorum set is sane; and a slot whose quorum set is never found delays no other slot;
 //! - each fate has its cause among what came, each taken envelope its quorum set, and each verdict is the first that fits;
 //! - slots 1 to n are applied once each, in order, each with its slot's one decision, certified by a quorum or named by a taken
-//!   record; and the state is their fold.
+//!   record. The state that they make is told where it is read.
 //!
 //! It doesn't matter who moves the things from stage to stage: one caller, event by event, or threads.
 #![tactic(auto)]

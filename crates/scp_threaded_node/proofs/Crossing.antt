@@ -223,10 +223,10 @@ reading_send l = declared_send reading.the_type (search sendable depth 20, (sear
 pub its_reading_send : IsSend reading.the_row
 its_reading_send = reading_send its_link_reader_send
 
-slots_send : IsSend (ledger.the_row driver.the_row ghosts) → IsSend slots_stage.the_row
-slots_send l = declared_send slots_stage.the_type (search sendable depth 20, (search (sendable, crosses, command_fates.the_send) depth 20, tt))
+slots_send : IsSend (ledger.the_row driver.the_row ghosts) → IsSend (slots_stage.the_row driver.the_row ghosts)
+slots_send l = declared_send (slots_stage.the_type driver.the_row ghosts) (search sendable depth 20, (search (sendable, crosses, command_fates.the_send) depth 20, tt))
 
-pub its_slots_send : IsSend slots_stage.the_row
+pub its_slots_send : IsSend (slots_stage.the_row driver.the_row ghosts)
 its_slots_send = slots_send its_ledger_send
 
 courier_inside_send : EndsCross → IsSend courier_inside.the_row

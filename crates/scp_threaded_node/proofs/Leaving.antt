@@ -22,7 +22,7 @@ use Rattle.scp_workers.specs.Slot.{IsFor as JournalsFor}
 use Rattle.scp_workers.specs.Working.{End, Work, Holds, IsLeftOf}
 use Rattle.scp_courier.specs.Carrying.{IsSameLink}
 use Rattle.scp_desk.specs.Ends.{TakerView}
-use Rattle.scp_gather.specs.Left.{Left}
+use Rattle.scp_gather.specs.Kv.{Left}
 use Rattle.scp_pending.specs.Peers.{AreApart}
 use Rattle.scp_gather.specs.Node.{IsLinkAt, IsNode}
 use Rattle.scp_gather.specs.Report.{IsJoined, AreJoined, SendsTo, keeps_by}
@@ -107,7 +107,7 @@ module _ (me : NodeId) (set : QuorumTree) (peers : List NodeId) (caps : Capaciti
     ready = left.slot.input.producers ∙ runs.stages.ready.1;
     decided = left.apply.input.producers ∙ runs.stages.decided.1;
     pends_for = subst (λ (v : PendingView). PendsFor me peers set v) (sym left.pend.first) runs.stages.pend_of;
-    journals_for = subst (λ (s : SlotStage). JournalsFor me peers set s.ledger) (sym left.slot.first) runs.stages.slot_of;
+    journals_for = subst (λ (s : SlotStage _). JournalsFor me peers set s.ledger) (sym left.slot.first) runs.stages.slot_of;
   }
 
   -- and each has the room of its channel

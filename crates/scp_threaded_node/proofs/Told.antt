@@ -14,11 +14,10 @@ use Rattle.scp_ends.specs.Links.{LinkEnd}
 use Rattle.scp_workers.specs.Reading.{ReaderEnd}
 use Rattle.scp_workers.specs.Working.{Holds}
 use Rattle.scp_workers.specs.Pending.{PendEnd}
-use Rattle.scp_workers.specs.Slot.{SlotEnd}
+use Rattle.scp_gather.specs.Kv.{SlotEnd, Left}
 use Rattle.scp_workers.specs.Apply.{ApplyEnd}
 use Rattle.scp_wire.specs.declared.link.Inbound.{Inbound}
 use Rattle.scp_ends.specs.Ends.{Sender}
-use Rattle.scp_gather.specs.Left.{Left}
 use Rattle.scp_threaded_node.specs.declared.node.Node.{Node}
 use Rattle.scp_gather.specs.Report.{has_failed, first_so}
 use Rattle.scp_threaded_node.specs.declared.ending.Stood.{Stood}

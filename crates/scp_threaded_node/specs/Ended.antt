@@ -3,13 +3,14 @@ use Rattle.std.specs.Prelude.{◌≡◌, ℕ, Bool, true, false, List, length, m
 use Rattle.std.specs.List.{AllByRecursion}
 use Rattle.scp_types.specs.declared.names.NodeId.{NodeId}
 use Rattle.scp_quorum.specs.QuorumTree.{QuorumTree}
+use Rattle.scp_kv.specs.State.{fold_of}
 use Rattle.scp_wire.specs.declared.link.Inbound.{Inbound}
 use Rattle.scp_wire.specs.declared.link.LinkItem.{LinkItem}
+use Rattle.scp_apply.specs.Applied.{values_of}
 use Rattle.scp_ends.specs.Links.{LinkEnd}
 use Rattle.scp_courier.specs.Carrying.{IsCarried}
-use Rattle.scp_gather.specs.declared.gathering.NodeReport.{NodeReport}
-use Rattle.scp_gather.specs.Left.{Left}
-use Rattle.scp_gather.specs.Report.{IsReportOf, AreFatesOf, AreCame, AreKept, keeps_by}
+use Rattle.scp_gather.specs.Kv.{NodeReport, Left, IsReportOf, AreFatesOf}
+use Rattle.scp_gather.specs.Report.{AreCame, AreKept, keeps_by}
 use Rattle.scp_script.specs.declared.command.Capacities.{Capacities}
 use Rattle.scp_threaded_node.specs.declared.ending.Stood.{Stood}
 use Rattle.scp_threaded_node.specs.Seats.{Each}
@@ -31,11 +32,12 @@ pub record AreSized (caps : Capacities) (e : Left) : Type 0 where
   pub ready : e.slot.input.room ≡ caps.ready
   pub decided : e.apply.input.room ≡ caps.decided
 
--- It is the report of a node of these peers, gathered from this, which its threads left, a link for each peer, and channels of these capacities, each of
--- which held no more than that. Its own commands were these, of which became what it tells, and so was all that went over the links that
--- the script drives. And it tells what came over a link just where the link's reader was to keep it.
+-- It is the report of a node of these peers, with the state that its applied values make, gathered from this, which its threads left, a link for
+-- each peer, and channels of these capacities, each of which held no more than that. Its own commands were these, of which became what it tells,
+-- and so was all that went over the links that the script drives. And it tells what came over a link just where the link's reader was to keep it.
 pub record IsEnded (me : NodeId) (set : QuorumTree) (peers : List NodeId) (caps : Capacities) (commands : List Inbound) (driven : ℕ → Bool) (sent : ℕ → List LinkItem) (stood : List Stood) (left : Left) (r : NodeReport) : Type 0 where
-  pub report : IsReportOf me set peers left r.journal.items r.parked.items r.applied.items r.state
+  pub report : IsReportOf me set peers left r.journal.items r.parked.items r.applied.items
+  pub state_is : r.state ≡ fold_of (values_of r.applied.items)
   pub sized : AreSized caps left
   pub commands_are : left.local.sent ≡ commands
   pub fates_are : AreFatesOf me set peers left r.commands.items

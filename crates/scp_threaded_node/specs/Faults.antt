@@ -12,7 +12,7 @@ use Rattle.scp_ends.specs.Links.{LinkEnd}
 use Rattle.scp_workers.specs.Working.{Holds}
 use Rattle.scp_workers.specs.Reading.{ReaderEnd}
 use Rattle.scp_workers.specs.Pending.{PendEnd}
-use Rattle.scp_workers.specs.Slot.{SlotEnd}
+use Rattle.scp_gather.specs.Kv.{SlotEnd}
 use Rattle.scp_workers.specs.Apply.{ApplyEnd}
 use Rattle.scp_courier.specs.Carrying.{CourierEnd}
 use Rattle.scp_courier.specs.Carrying.{Holds as HoldsCourier}

@@ -9,9 +9,8 @@ use Rattle.scp_ends.specs.Links.{LinkEnd}
 use Rattle.scp_workers.specs.Working.{AreSameOutlets}
 use Rattle.scp_workers.specs.Reading.{ReaderWork}
 use Rattle.scp_courier.specs.Carrying.{HasCarried, IsSameTaker}
-use Rattle.scp_gather.specs.Left.{Left}
+use Rattle.scp_gather.specs.Kv.{Left, ArePutOut}
 use Rattle.scp_gather.specs.Report.{keeps_by}
-use Rattle.scp_gather.specs.Sending.{ArePutOut}
 use Rattle.scp_threaded_node.specs.declared.make.Lane.{Lane}
 use Rattle.scp_threaded_node.specs.declared.node.Node.{Node}
 use Rattle.scp_threaded_node.specs.declared.node.Running.{Running}

@@ -11,7 +11,8 @@ use Rattle.scp_script.specs.declared.command.Capacities.{Capacities}
 use Rattle.scp_workers.specs.Working.{Work}
 use Rattle.scp_workers.specs.Reading.{ReaderWork}
 use Rattle.scp_workers.specs.Pending.{PendWork, IsFor as PendsFor}
-use Rattle.scp_workers.specs.Slot.{SlotWork, IsFor as JournalsFor}
+use Rattle.scp_workers.specs.Slot.{IsFor as JournalsFor}
+use Rattle.scp_gather.specs.Kv.{SlotWork}
 use Rattle.scp_workers.specs.Apply.{ApplyWork}
 use Rattle.scp_threaded_node.specs.declared.make.Lane.{Lane}
 use Rattle.scp_threaded_node.specs.declared.node.Tail.{Tail}

@@ -15,7 +15,7 @@ ghost use Rattle.scp_desk.specs.Ends.{TakerView};
 ghost use Rattle.scp_pending.specs.Peers.{AreApart};
 ghost use Rattle.scp_gather.specs.Report.{has_failed as failed, first_so};
 ghost use Rattle.scp_threaded_node.specs.Seats.{AreDriven, IsDriven, Runs, tail_of};
-ghost use Rattle.scp_gather.specs.Left.{Left as WhatIsLeft};
+ghost use Rattle.scp_gather.specs.Kv.{Left as WhatIsLeft};
 ghost use Rattle.scp_threaded_node.specs.Ended.{IsEnded, IsSentBy, AreSentBy};
 ghost use Rattle.scp_threaded_node.specs.Outlets.{IsHandedBack, AreHandedBack, given_to, taker_of, taker_in};
 ghost use Rattle.scp_threaded_node.specs.Faults.{NodeEnd, IsNodeEnd, IsTold, courier_fault, fault_by, fault_of, local_fault};

@@ -13,6 +13,7 @@ ghost use Rattle.scp_threaded_node.specs.Outlets.{AllKeep, keeps_from};
 
 use scp_desk::Putter;
 use scp_desks::Outlets;
+use scp_driver::KvDriver;
 use scp_ends::{
     DecidedRx, DecidedTx, InboxRx, InboxTx, LinkRx, LinkTx, LocalTx, ReadyRx, ReadyTx, decided,
     inbox, link, ready,
@@ -193,7 +194,7 @@ fn make_slot(
     ensures stage { IfOk result (λ w. JournalsFor me peers.now set.value w.first.ledger) }
 {
     let known = Vec::from_slice(alloc, peers)?;
-    Ok(slots(alloc, me, known, set, outlets, rx, tx))
+    Ok(slots(alloc, me, set, KvDriver, known, outlets, rx, tx))
 }
 
 /// The slot stage and the applier, and the end that sends to them.

@@ -6,6 +6,7 @@ ghost use Rattle.scp_courier.specs.Carrying as carrying;
 use scp_apply::Applier;
 use scp_courier::{Courier, CourierEnded};
 use scp_desk::ends_cross_threads;
+use scp_driver::KvDriver;
 use scp_ends::{Any, InWindow, Law};
 use scp_gate::Gate;
 use scp_ledger::Onward;
@@ -51,7 +52,7 @@ pub type PendThread = WorkerThread<Inbound, Any, Ready, Any, Pending>;
 
 pub type SlotThread = WorkerThread<Ready, Any, Onward, InWindow, SlotStage>;
 
-pub type ApplyThread = WorkerThread<Onward, InWindow, Nothing, Any, Applier>;
+pub type ApplyThread = WorkerThread<Onward, InWindow, Nothing, Any, Applier<KvDriver>>;
 
 pub type CourierThread = PromisedHandle<CourierEnded, HoldsCourier>;
 

@@ -4,6 +4,7 @@ use Rattle.std.specs.Prelude.{map, slice_get}
 use Rattle.std.specs.Global.{Vec}
 use Rattle.std.proofs.lemmas.List.{length-map}
 use Rattle.std.proofs.lemmas.Option.{slice_get_within}
+use Rattle.scp_driver.specs.Kv.{kv_says}
 use Rattle.scp_wire.specs.declared.link.Inbound.{Inbound}
 use Rattle.scp_wire.specs.declared.link.LinkItem.{LinkItem}
 use Rattle.scp_wire.specs.LinkReading.{unread, readings}
@@ -23,8 +24,8 @@ use Rattle.scp_workers.specs.Working.{HavePut, AreSameOutlets}
 use Rattle.scp_courier.specs.Carrying.{HasCarried, IsSameTaker}
 use Rattle.scp_travel.specs.Sent.{WhatIsCarriedIsSentOut, bytes_among}
 use Rattle.scp_travel.specs.Theirs.{AreTheirs, WhatIsReadIsTheirs}
-use Rattle.scp_gather.specs.declared.gathering.NodeReport.{NodeReport}
-use Rattle.scp_gather.specs.Left.{Left, items_of}
+use Rattle.scp_gather.specs.Kv.{NodeReport, Left}
+use Rattle.scp_gather.specs.Left.{items_of}
 use Rattle.scp_script.specs.declared.command.Command.{Command}
 use Rattle.scp_script.specs.Nodes.{id_of, peers_of}
 use Rattle.scp_script.specs.Script.{node_count}
@@ -169,7 +170,7 @@ module _ (commands : List Command) (nodes : List Node) (first markers : List (Ve
   came_back k None back g e h = let no : None ≡ Some g = e in cc
   came_back k (Some f) back g e h = (h.0, h.1, h.3)
 
-  module _ (may : HandedOutMayGo) (law : WhatIsCarriedIsSentOut) (read : WhatIsReadIsTheirs) (came : AllCameOut count outlets takers) where
+  module _ (may : HandedOutMayGo kv_says) (law : WhatIsCarriedIsSentOut) (read : WhatIsReadIsTheirs) (came : AllCameOut count outlets takers) where
     -- what the receiver took of the sender is what it read of the link
     heard_of : (i : ℕ) → i < count → (left : Left) (o : Outlets) (t : Vec (Option TakerView)) → IsAt i left o t → (place : ℕ) → place + 1 < count → (from : ℕ) → peer_at place (i + 1) ≡ from
         → (g : Grounds) (link : ℕ) (k : LinkEnd) → slice_get left.links place ≡ Some k → IsSentOut g link (bytes_among k.tail.sent) → AreTheirs g link (of_peer (id_of from) (values left.pend.input.got))
@@ -204,7 +205,7 @@ module _ (commands : List Command) (nodes : List Node) (first markers : List (Ve
         (put_at from l o.pend.items sender.pend.outlets put.replies own.pend.many l_in back.outlets_are.0 put.replies_put)
         (put_at from l o.slot.items sender.slot.outlets put.said own.slot.many l_in back.outlets_are.1 put.said_put)
         (put_at from l o.apply.items sender.apply.outlets put.answers own.apply.many l_in back.outlets_are.2 put.answers_put) in
-        let handed : AreHandedOut (grounds_at commands from sender) put.replies put.said put.answers = subst (λ (n : ℕ). AreHandedOut (grounds_at commands n sender) put.replies put.said put.answers) n_from put.handed in
+        let handed : AreHandedOut kv_says (grounds_at commands from sender) put.replies put.said put.answers = subst (λ (n : ℕ). AreHandedOut kv_says (grounds_at commands n sender) put.replies put.said put.answers) n_from put.handed in
         let sent = law (grounds_at commands from sender) l (handed_by put.replies l) (handed_by put.said l) (handed_by put.answers l) b.0.gave k.0 (may (grounds_at commands from sender) put.replies put.said put.answers handed l) out b.2 in
         record {
           replies = put.replies;

@@ -1,5 +1,6 @@
 -- What travels between the nodes of a script whose stages run in threads.
 use Rattle.std.specs.Prelude.{◌≡◌, ℕ, List, Some, slice_get}
+use Rattle.scp_driver.specs.Kv.{kv_says}
 use Rattle.scp_wire.specs.Shape.{of_peer}
 use Rattle.scp_outbox.specs.declared.mark.Out.{Out}
 use Rattle.scp_desks.specs.Places.{link_of}
@@ -13,7 +14,7 @@ use Rattle.scp_ends.specs.Order.{values}
 use Rattle.scp_courier.specs.Carrying.{HasCarried}
 use Rattle.scp_travel.specs.Sent.{bytes_among}
 use Rattle.scp_travel.specs.Theirs.{AreTheirs}
-use Rattle.scp_gather.specs.Left.{Left}
+use Rattle.scp_gather.specs.Kv.{Left}
 use Rattle.scp_gather.specs.Sending.{grounds_gathered}
 use Rattle.scp_script.specs.declared.command.Command.{Command}
 use Rattle.scp_script.specs.Nodes.{id_of, peers_of, set_at}
@@ -31,7 +32,7 @@ pub record Travels (commands : List Command) (from to : ℕ) (sender receiver : 
   pub replies : List Outgoing
   pub said : List Outgoing
   pub answers : List Outgoing
-  pub handed : AreHandedOut (grounds_at commands from sender) replies said answers
+  pub handed : AreHandedOut kv_says (grounds_at commands from sender) replies said answers
   pub gave : List Out
   pub came_out : CameOut (handed_by replies (link_of to from)) (handed_by said (link_of to from)) (handed_by answers (link_of to from)) gave
   pub link : LinkEnd

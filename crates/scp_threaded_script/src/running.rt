@@ -5,7 +5,7 @@ ghost use Rattle.std.specs.Result.{result_err};
 ghost use Rattle.scp_script.specs.declared.command.Command.{Command};
 ghost use Rattle.scp_script.specs.Script.{AreAdmitted, node_count};
 ghost use Rattle.scp_script.specs.Nodes.{NamesNodes, capacities_in, id_of, peers_of, set_at};
-ghost use Rattle.scp_gather.specs.declared.gathering.NodeReport.{NodeReport};
+ghost use Rattle.scp_gather.specs.Kv.{NodeReport};
 ghost use Rattle.scp_threaded_node.specs.Seats.{Runs, AreDriven};
 ghost use Rattle.scp_threaded_node.specs.Sources.{AreSources, HaveRoom, taker_from};
 ghost use Rattle.std.specs.Global.{Vec};
@@ -29,6 +29,7 @@ use crate::lines::act_all;
 use crate::outboxes::{all_losses, is_driven, stood_of, stop_all};
 use scp_desk::{Marker, Taker};
 use scp_desks::{Made, Outlets, link_of, make_all, peer_at, take_all_back};
+use scp_driver::KvDriver;
 use scp_gate::Gate;
 use scp_gather::NodeReport;
 use scp_grounds::what_is_handed_out_may_be_sent;
@@ -450,7 +451,7 @@ fn run_in<'s, E, R: Threads + Wait + Sync, G: Gate + Sync>(
 {
     what_is_carried_is_sent_out();
     what_is_read_is_the_senders_own();
-    what_is_handed_out_may_be_sent();
+    what_is_handed_out_may_be_sent::<KvDriver>();
     let count = count_of_nodes(commands);
     let Made {
         outlets,

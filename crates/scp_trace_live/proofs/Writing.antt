@@ -2,7 +2,7 @@
 use Rattle.std.proofs.Common.{◌≡◌, ◌∙◌, ℕ, false, List, Option, flat_map, sym, ap, subst}
 use Rattle.std.specs.Prelude.{Result, Ok, Err, OnOk}
 use Rattle.scp_types.specs.declared.fault.Fault.{Fault}
-use Rattle.scp_core.specs.Node.{NodeView}
+use Rattle.scp_core.specs.Kv.{NodeView}
 use Rattle.scp_device.specs.Device.{Gains}
 use Rattle.scp_facts.specs.declared.fact.Telling.{Telling}
 use Rattle.scp_facts.specs.Watching.{WatchView}

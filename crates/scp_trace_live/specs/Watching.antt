@@ -3,9 +3,10 @@ use Rattle.std.specs.Prelude.{ℕ, ◌≡◌, ◌⊎◌, Bool, true, false, List
 use Rattle.scp_core.specs.declared.event.Event.{Event}
 use Rattle.scp_core.specs.declared.event.Reply.{Reply}
 use Rattle.scp_core.specs.History.{Exchange}
-use Rattle.scp_core.specs.Node.{NodeView}
+use Rattle.scp_core.specs.Kv.{NodeView}
 use Rattle.scp_device.specs.Device.{Gains}
-use Rattle.scp_turn.specs.Watch.{Noting, notes, Watched}
+use Rattle.scp_turn.specs.Watch.{notes}
+use Rattle.scp_turn.specs.Kv.{Noting, Watched}
 use Rattle.scp_trace_slot.specs.declared.names.Names.{Names}
 use Rattle.scp_facts.specs.declared.fact.Telling.{Telling}
 use Rattle.scp_facts.specs.declared.fact.Telling.TheVariants.{Line, Of}

@@ -3,7 +3,7 @@ ghost use Rattle.std.specs.Prelude.{◌≡◌, OnOk};
 ghost use Rattle.scp_trace_live.specs.Watching.{untold, WritesStep};
 
 use crate::lines::lines_of;
-use scp_core::{Event, Node, Reply};
+use scp_core::{Event, KvDriver, Node, Reply};
 use scp_device::{ReportOut, write_text};
 use scp_facts::FactWatch;
 use scp_trace_slot::Names;
@@ -85,7 +85,7 @@ impl<T: ReportOut + Drop> TracingWatch<T> {
     }
 }
 
-impl<T: ReportOut + Drop> Watch for TracingWatch<T> {
+impl<T: ReportOut + Drop> Watch<KvDriver> for TracingWatch<T> {
     ghost use Rattle.scp_trace_live.specs.Watching.{AwaitsStep, TracesStep};
 
     ghost notes_before = { AwaitsStep };

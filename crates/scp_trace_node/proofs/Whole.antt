@@ -6,7 +6,7 @@ use Rattle.scp_types.specs.declared.names.NodeId.{NodeId}
 use Rattle.scp_nominate.specs.Turns.{AreInTurn}
 use Rattle.scp_ledger.specs.Decisions.{is_at}
 use Rattle.scp_ledger.specs.Seen.{machine_at}
-use Rattle.scp_core.specs.Node.{NodeView}
+use Rattle.scp_core.specs.Kv.{NodeView}
 use Rattle.scp_script.specs.declared.command.Command.{Command}
 use Rattle.scp_script.specs.Nodes.{id_of}
 use Rattle.scp_trace_slot.specs.declared.names.Names.{Names}

@@ -7,7 +7,7 @@ use Rattle.scp_types.specs.declared.names.Seq.{Seq}
 use Rattle.scp_fetch.specs.declared.want.Want.{Want}
 use Rattle.scp_pending.specs.Queues.{parked_of, first_waiting}
 use Rattle.scp_pending.specs.Line.{count_held}
-use Rattle.scp_core.specs.Node.{NodeView}
+use Rattle.scp_core.specs.Kv.{NodeView}
 use Rattle.scp_network.specs.Rounds.{link_of}
 use Rattle.scp_script.specs.Nodes.{numbers}
 use Rattle.scp_trace_slot.specs.declared.names.Names.{Names}

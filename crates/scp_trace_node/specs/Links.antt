@@ -9,7 +9,8 @@ use Rattle.scp_wire.specs.declared.link.Cause.TheVariants.{Malformed, Link, Spen
 use Rattle.scp_wire.specs.Connections.{conn_at, same_conn}
 use Rattle.scp_ledger.specs.declared.journal.Fate.{Fate}
 use Rattle.scp_ledger.specs.declared.journal.Fate.TheVariants.{Taken, Dropped, Closed}
-use Rattle.scp_core.specs.Node.{NodeView, lives_at, queued_at}
+use Rattle.scp_core.specs.Node.{lives_at, queued_at}
+use Rattle.scp_core.specs.Kv.{NodeView}
 use Rattle.scp_outboxes.specs.Handing.{waiting_at}
 use Rattle.scp_network.specs.Rounds.{link_of}
 use Rattle.scp_script.specs.declared.command.Command.{Command}

@@ -14,7 +14,7 @@ use Rattle.scp_ledger.specs.declared.journal.Verdict.TheVariants.{OldSlot, FarSl
 use Rattle.scp_ledger.specs.declared.journal.Decision.{Decision}
 use Rattle.scp_ledger.specs.Decisions.{is_at}
 use Rattle.scp_ledger.specs.Seen.{is_asked, machine_at}
-use Rattle.scp_core.specs.Node.{NodeView}
+use Rattle.scp_core.specs.Kv.{NodeView}
 use Rattle.scp_network.specs.Rounds.{link_of}
 use Rattle.scp_text.specs.Values.{value_text}
 use Rattle.scp_script.specs.declared.command.Command.{Command}

@@ -3,8 +3,9 @@ use Rattle.std.specs.Prelude.{ℕ, ◌≤◌, ◌≡◌, false, List, ◌++◌, 
 use Rattle.std.specs.Fmt.{decimal}
 use Rattle.scp_types.specs.declared.names.NodeId.{NodeId}
 use Rattle.scp_nominate.specs.Turns.{AreInTurn}
-use Rattle.scp_core.specs.Node.{NodeView}
-use Rattle.scp_ledger.specs.Kv.{KvRuns}
+use Rattle.scp_core.specs.Kv.{NodeView}
+use Rattle.scp_driver.specs.Kv.{kv_says}
+use Rattle.scp_ledger.specs.By.{RunsBy}
 use Rattle.scp_text.specs.Sets.{set_text}
 use Rattle.scp_script.specs.declared.command.Command.{Command}
 use Rattle.scp_script.specs.Nodes.{id_of}
@@ -17,7 +18,7 @@ use Rattle.scp_trace_node.specs.Slots.{IsTextAbove, AreTexts}
 pub record IsSeen (count : ℕ) (v : NodeView) : Type 0 where
   pub few : count ≤ 8
   pub runs : v.failed ≡ false
-  pub ledger : KvRuns v.ledger
+  pub ledger : RunsBy kv_says v.ledger
 
 -- the words of the first line before the quorum set
 unfoldable pub stands_words : ℕ → ℕ → ℕ → List ℕ

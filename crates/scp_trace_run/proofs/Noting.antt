@@ -2,7 +2,7 @@
 use Rattle.std.proofs.Common.{◌≡◌, ◌≢◌, ◌∙◌, List, [], ◌∷◌, ◌++◌, Bool, true, false, map, refl, sym, ap, subst, inl, inr}
 use Rattle.std.specs.Prelude.{Err}
 use Rattle.scp_types.specs.declared.fault.Fault.TheVariants.{NoMemory}
-use Rattle.scp_turn.specs.Watch.{Noting}
+use Rattle.scp_turn.specs.Kv.{Noting}
 use Rattle.scp_network.specs.Heard.{Nodes, Heard, Noted}
 use Rattle.scp_script.specs.declared.command.Command.{Command}
 use Rattle.scp_line.specs.declared.playing.PlayFault.{PlayFault}

@@ -5,7 +5,7 @@ use Rattle.std.proofs.lemmas.List.{length-take-le, take_more, take-append-drop}
 use Rattle.std.proofs.lemmas.Option.{slice_get_read}
 use Rattle.scp_types.specs.declared.fault.Fault.{Fault}
 use Rattle.scp_types.specs.declared.fault.Fault.TheVariants.{NoMemory}
-use Rattle.scp_core.specs.Ledger.{TheoremGivesLedger}
+use Rattle.scp_core.specs.Kv.{TheoremGivesLedger}
 use Rattle.scp_turn.specs.Watch.{unwatched}
 use Rattle.scp_network.specs.Heard.{Nodes as NodeList, Heard, Noted}
 use Rattle.scp_network.specs.Network.{NetworkView}

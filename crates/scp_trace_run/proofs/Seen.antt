@@ -3,10 +3,9 @@ use Rattle.std.proofs.Common.{◌≡◌, refl, [], ◌+◌, ◌-◌, ◌<◌, �
 use Rattle.std.specs.Prelude.{Result, Ok, Err, OnOk, slice_get}
 use Rattle.std.proofs.lemmas.Option.{slice_get_within, slice_get_read, get_or_from_slice_get}
 use Rattle.scp_types.specs.declared.fault.Fault.{Fault}
-use Rattle.scp_core.specs.Ledger.{TheoremGivesLedger}
-use Rattle.scp_core.specs.Node.{NodeView}
-use Rattle.scp_ledger.specs.Kv.{KvRuns}
-use Rattle.scp_core.specs.Theorem.{LedgerTheorem}
+use Rattle.scp_core.specs.Kv.{TheoremGivesLedger, NodeView, LedgerTheorem}
+use Rattle.scp_driver.specs.Kv.{kv_says}
+use Rattle.scp_ledger.specs.By.{RunsBy}
 use Rattle.scp_network.specs.Heard.{Nodes, past_at}
 use Rattle.scp_network.specs.Network.{NetworkView}
 use Rattle.scp_script.specs.declared.command.Command.{Command}
@@ -29,7 +28,7 @@ seen_at count commands played network i v playing at =
     record {
       few = playing.few;
       runs = runs;
-      ledger = subst (λ (u : NodeView). KvRuns u.ledger) (sym (theorem.now runs)) theorem.flows.journal.running;
+      ledger = subst (λ (u : NodeView). RunsBy kv_says u.ledger) (sym (theorem.now runs)) theorem.flows.journal.running;
     }
 
 pub have_played : TheoremGivesLedger → (commands played : List Command) (network : NetworkView) (far : HasPlayed commands played network) → HavePlayed commands played (moment_at far.heard network)

@@ -1,7 +1,7 @@
 -- Where the nodes of a script stand, at a moment of its run and at its end (this project's profile).
 use Rattle.std.specs.Prelude.{ℕ, ◌+◌, ◌-◌, ◌≡◌, Bool, true, false, not, ◌&&◌, ◌||◌, List, [], ◌∷◌, ◌++◌, Some, codes, nat_eq, slice_get}
 use Rattle.std.specs.List.{list_any}
-use Rattle.scp_core.specs.Node.{NodeView}
+use Rattle.scp_core.specs.Kv.{NodeView}
 use Rattle.scp_network.specs.Heard.{Nodes as NodeList, Heard}
 use Rattle.scp_script.specs.declared.command.Command.{Command}
 use Rattle.scp_script.specs.declared.command.Command.TheVariants.{Report}

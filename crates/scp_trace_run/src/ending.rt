@@ -7,7 +7,7 @@ ghost use Rattle.scp_trace_run.specs.Standing.{acts as acts_by, asks_for, is_tol
 ghost use Rattle.scp_trace_run.specs.Playing.{IsPlaying, moment_at};
 
 use crate::standing::{Playing, write_node};
-use scp_core::each_node_holds_its_ledger;
+use scp_core::{KvDriver, each_node_holds_its_ledger};
 use scp_network::Network;
 use scp_script::Command;
 use scp_trace_lint::is_scripted;
@@ -89,7 +89,7 @@ pub fn write_end(out: &mut String, playing: Playing<'_>, network: &Network) -> R
     ensures added { (so_far : HasPlayed playing.entry.commands.now playing.entry.commands.now network.now) → OnOk result (Adds (string_bytes out.old) (string_bytes out.new) (IsEnd playing.entry.names.now playing.entry.commands.now (moment_at so_far.heard network.now))) }
     ensures only_memory { IsOkUnless result Fault.NoMemory }
 {
-    each_node_holds_its_ledger();
+    each_node_holds_its_ledger::<KvDriver>();
     out.push_str("end\n")?;
     write_all(out, playing, network)
 }

@@ -19,7 +19,7 @@ use crate::ending::{acts, write_end};
 use crate::laws::what_is_noted_is_told;
 use crate::lines::write_begin;
 use crate::standing::{Playing, write_node};
-use scp_core::each_node_holds_its_ledger;
+use scp_core::{KvDriver, each_node_holds_its_ledger};
 use scp_fact_lines::{Scene, write_facts};
 use scp_facts::FactWatch;
 use scp_line::{PlayFault, a_line_more_is_played, a_script_has_room, act, act_with, new_network};
@@ -164,7 +164,7 @@ fn write_behind(
     ensures added { (so_far : HasPlayed playing.entry.commands.now playing.entry.played.now network.now) → OnOk result (Adds (string_bytes out.old) (string_bytes out.new) (IsStandBehind playing.entry.names.now playing.entry.commands.now playing.entry.played.now (moment_at so_far.heard network.now) command.now)) }
     ensures only_memory { IsOkUnless result Fault.NoMemory }
 {
-    each_node_holds_its_ledger();
+    each_node_holds_its_ledger::<KvDriver>();
     match command {
         Command::Report(number) => write_node(out, playing, network, *number),
         _ => Ok(()),

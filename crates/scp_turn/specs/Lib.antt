@@ -2,4 +2,5 @@ pub mod Watch
 pub mod Turn
 pub mod Rest
 pub mod Laws
+pub mod Kv
 pub mod inside

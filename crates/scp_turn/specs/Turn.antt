@@ -2,6 +2,7 @@
 use Rattle.std.specs.Prelude.{ℕ, ◌≡◌, zero, suc, min, List, [], ◌∷◌, ◌++◌, map, length}
 use Rattle.scp_types.specs.declared.limits.TheConstants.{PEER_LIMIT}
 use Rattle.std.specs.List.{AllByRecursion}
+use Rattle.scp_driver.specs.Driver.{Says}
 use Rattle.scp_core.specs.declared.event.Event.{Event}
 use Rattle.scp_core.specs.declared.event.Event.TheVariants as event
 use Rattle.scp_core.specs.declared.event.Reply.{Reply}
@@ -10,18 +11,19 @@ use Rattle.scp_core.specs.History.{Exchange}
 use Rattle.scp_core.specs.Node.{NodeView, Step}
 use Rattle.scp_core.specs.Theorem.{LedgerTheorem}
 
--- these exchanges are steps of a node, each from what the one before it left
-abbrev pub Does : NodeView → List Exchange → NodeView → Type 0
-Does old [] new = new ≡ old
-Does old (x ∷ heard) new = (mid : NodeView) × Step old x.0 x.1 mid × Does mid heard new
+module _ {D : Type 0} (says : Says D) where
+  -- these exchanges are steps of a node, each from what the one before it left
+  abbrev pub Does : NodeView D → List Exchange → NodeView D → Type 0
+  Does old [] new = new ≡ old
+  Does old (x ∷ heard) new = (mid : NodeView D) × Step says old x.0 x.1 mid × Does mid heard new
 
--- A node heard more, of which this holds: steps, one after the other; and what it heard before and this together are what the ledger theorem
--- holds for.
-pub record Goes (old new : NodeView) (Is : NodeView → List Exchange → NodeView → Type 0) : Type 0 where
-  pub heard : List Exchange
-  pub is : Is old heard new
-  pub does : Does old heard new
-  pub theorem : (past : List Exchange) → LedgerTheorem past old → LedgerTheorem (past ++ heard) new
+  -- A node heard more, of which this holds: steps, one after the other; and what it heard before and this together are what the ledger theorem
+  -- holds for.
+  pub record Goes (old new : NodeView D) (Is : NodeView D → List Exchange → NodeView D → Type 0) : Type 0 where
+    pub heard : List Exchange
+    pub is : Is old heard new
+    pub does : Does old heard new
+    pub theorem : (past : List Exchange) → LedgerTheorem says past old → LedgerTheorem says (past ++ heard) new
 
 -- nothing moves with this reply, and nothing is sent
 abbrev pub IsStillReply : Reply → Type 0
@@ -46,10 +48,11 @@ reader_events (suc link) = reader_events link ++ event.ReaderTake link ∷ event
 abbrev pub stage_events : ℕ → List Event
 stage_events links = reader_events links ++ event.PendTake ∷ event.PendPut ∷ event.SlotTake ∷ event.SlotPut ∷ event.ApplyTake ∷ []
 
--- how many links a node has: one from each of its peers, of which there are at most seven
-abbrev pub links_of : NodeView → ℕ
-links_of v = min (length v.config.peers) PEER_LIMIT
+module _ {D : Type 0} where
+  -- how many links a node has: one from each of its peers, of which there are at most seven
+  abbrev pub links_of : NodeView D → ℕ
+  links_of v = min (length v.config.peers) PEER_LIMIT
 
--- a node's turn: its stages do one step each, a reader for each link
-abbrev pub IsTurn : NodeView → List Exchange → NodeView → Type 0
-IsTurn old heard new = events_of heard ≡ stage_events (links_of old)
+  -- a node's turn: its stages do one step each, a reader for each link
+  abbrev pub IsTurn : NodeView D → List Exchange → NodeView D → Type 0
+  IsTurn old heard new = events_of heard ≡ stage_events (links_of old)

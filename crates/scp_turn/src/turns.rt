@@ -10,15 +10,21 @@ ghost use Rattle.scp_turn.specs.inside.Acting.{Acts, IsStage};
 
 use crate::watch::{NoWatch, Watch};
 use scp_core::{Event, Node, PEER_LIMIT, Reply};
+use scp_driver::Application;
 
 /// The most turns of one settle.
 const MOST_TURNS: u32 = 100_000;
 
 /// One event at a node of this number, of which the watch is told before it and after it.
-pub fn step_with<W: Watch>(node: &mut Node, number: u8, watch: &mut W, event: Event) -> Reply
-    ensures step { Step node.old event result node.new }
+pub fn step_with<A: Application + Drop + Copy, W: Watch<A>>(
+    node: &mut Node<A>,
+    number: u8,
+    watch: &mut W,
+    event: Event,
+) -> Reply
+    ensures step { Step A.says node.old event result node.new }
     // What holds of a list of events holds of the list with one more.
-    ensures theorem { (past : List Exchange) → LedgerTheorem past node.old → LedgerTheorem (past ++ (event, result) ∷ []) node.new }
+    ensures theorem { (past : List Exchange) → LedgerTheorem A.says past node.old → LedgerTheorem A.says (past ++ (event, result) ∷ []) node.new }
     ensures noted { notes W.notes_before W.notes_after watch.old number event result node.old node.new watch.new }
 {
     watch.before(number, &event, node);
@@ -35,16 +41,21 @@ fn either(first: bool, second: bool) -> bool
 }
 
 /// One step of a stage. Whether it moved anything.
-fn stage<W: Watch>(node: &mut Node, number: u8, watch: &mut W, event: Event) -> bool
+fn stage<A: Application + Drop + Copy, W: Watch<A>>(
+    node: &mut Node<A>,
+    number: u8,
+    watch: &mut W,
+    event: Event,
+) -> bool
     requires stage { IsStage event }
-    ensures { Acts (notes W.notes_before W.notes_after) number watch.old node.old (event ∷ []) result node.new watch.new }
+    ensures { Acts A.says (notes W.notes_before W.notes_after) number watch.old node.old (event ∷ []) result node.new watch.new }
 {
     matches!(step_with(node, number, watch, event), Reply::Moved)
 }
 
 /// A step of a stage that takes, and one that puts. Whether anything moved.
-fn take_and_put<W: Watch>(
-    node: &mut Node,
+fn take_and_put<A: Application + Drop + Copy, W: Watch<A>>(
+    node: &mut Node<A>,
     number: u8,
     watch: &mut W,
     take: Event,
@@ -52,7 +63,7 @@ fn take_and_put<W: Watch>(
 ) -> bool
     requires takes { IsStage take }
     requires puts { IsStage put }
-    ensures { Acts (notes W.notes_before W.notes_after) number watch.old node.old (take ∷ put ∷ []) result node.new watch.new }
+    ensures { Acts A.says (notes W.notes_before W.notes_after) number watch.old node.old (take ∷ put ∷ []) result node.new watch.new }
 {
     let took = stage(node, number, watch, take);
     let put = stage(node, number, watch, put);
@@ -60,8 +71,13 @@ fn take_and_put<W: Watch>(
 }
 
 /// What each link's reader does in a turn, in the order of the links. Whether anything moved.
-fn read<W: Watch>(node: &mut Node, number: u8, watch: &mut W, links: u8) -> bool
-    ensures { Acts (notes W.notes_before W.notes_after) number watch.old node.old (reader_events links) result node.new watch.new }
+fn read<A: Application + Drop + Copy, W: Watch<A>>(
+    node: &mut Node<A>,
+    number: u8,
+    watch: &mut W,
+    links: u8,
+) -> bool
+    ensures { Acts A.says (notes W.notes_before W.notes_after) number watch.old node.old (reader_events links) result node.new watch.new }
 {
     let mut moved = false;
     for link in 0..links {
@@ -73,8 +89,12 @@ fn read<W: Watch>(node: &mut Node, number: u8, watch: &mut W, links: u8) -> bool
 }
 
 /// What the pending stage and the slot stage do in a turn. Whether anything moved.
-fn decide<W: Watch>(node: &mut Node, number: u8, watch: &mut W) -> bool
-    ensures { Acts (notes W.notes_before W.notes_after) number watch.old node.old (Event.PendTake ∷ Event.PendPut ∷ Event.SlotTake ∷ Event.SlotPut ∷ []) result node.new watch.new }
+fn decide<A: Application + Drop + Copy, W: Watch<A>>(
+    node: &mut Node<A>,
+    number: u8,
+    watch: &mut W,
+) -> bool
+    ensures { Acts A.says (notes W.notes_before W.notes_after) number watch.old node.old (Event.PendTake ∷ Event.PendPut ∷ Event.SlotTake ∷ Event.SlotPut ∷ []) result node.new watch.new }
 {
     let has_pended = take_and_put(node, number, watch, Event::PendTake, Event::PendPut);
     let has_decided = take_and_put(node, number, watch, Event::SlotTake, Event::SlotPut);
@@ -83,8 +103,12 @@ fn decide<W: Watch>(node: &mut Node, number: u8, watch: &mut W) -> bool
 
 /// What the stages behind the readers do in a turn: the pending stage, the slot stage and the applier. Whether anything
 /// moved.
-fn pass_on<W: Watch>(node: &mut Node, number: u8, watch: &mut W) -> bool
-    ensures { Acts (notes W.notes_before W.notes_after) number watch.old node.old (Event.PendTake ∷ Event.PendPut ∷ Event.SlotTake ∷ Event.SlotPut ∷ Event.ApplyTake ∷ []) result node.new watch.new }
+fn pass_on<A: Application + Drop + Copy, W: Watch<A>>(
+    node: &mut Node<A>,
+    number: u8,
+    watch: &mut W,
+) -> bool
+    ensures { Acts A.says (notes W.notes_before W.notes_after) number watch.old node.old (Event.PendTake ∷ Event.PendPut ∷ Event.SlotTake ∷ Event.SlotPut ∷ Event.ApplyTake ∷ []) result node.new watch.new }
 {
     let has_decided = decide(node, number, watch);
     let has_applied = stage(node, number, watch, Event::ApplyTake);
@@ -93,8 +117,13 @@ fn pass_on<W: Watch>(node: &mut Node, number: u8, watch: &mut W) -> bool
 
 /// What the stages of a node of this number do in a turn, with a reader for each of so many links: one step each, of which the watch is
 /// told. Whether anything moved.
-pub fn work<W: Watch>(node: &mut Node, number: u8, watch: &mut W, links: u8) -> bool
-    ensures { Goes node.old node.new (λ a heard b. (events_of heard ≡ stage_events links) × Watched (notes W.notes_before W.notes_after) number watch.old a heard b watch.new × ((result ≡ false) ↔ IsStill heard)) }
+pub fn work<A: Application + Drop + Copy, W: Watch<A>>(
+    node: &mut Node<A>,
+    number: u8,
+    watch: &mut W,
+    links: u8,
+) -> bool
+    ensures { Goes A.says node.old node.new (λ a heard b. (events_of heard ≡ stage_events links) × Watched A.says (notes W.notes_before W.notes_after) number watch.old a heard b watch.new × ((result ≡ false) ↔ IsStill heard)) }
 {
     let has_read = read(node, number, watch, links);
     let has_passed = pass_on(node, number, watch);
@@ -102,23 +131,27 @@ pub fn work<W: Watch>(node: &mut Node, number: u8, watch: &mut W, links: u8) -> 
 }
 
 /// A turn of a node of this number: each stage does one step, of which the watch is told. Whether anything moved.
-pub fn turn_with<W: Watch>(node: &mut Node, number: u8, watch: &mut W) -> bool
-    ensures { Goes node.old node.new (λ a heard b. IsTurn a heard b × Watched (notes W.notes_before W.notes_after) number watch.old a heard b watch.new × ((result ≡ false) ↔ IsStill heard)) }
+pub fn turn_with<A: Application + Drop + Copy, W: Watch<A>>(
+    node: &mut Node<A>,
+    number: u8,
+    watch: &mut W,
+) -> bool
+    ensures { Goes A.says node.old node.new (λ a heard b. IsTurn a heard b × Watched A.says (notes W.notes_before W.notes_after) number watch.old a heard b watch.new × ((result ≡ false) ↔ IsStill heard)) }
 {
     let links = node.peers().len().min(PEER_LIMIT) as u8;
     work(node, number, watch, links)
 }
 
 /// A turn of a node: each stage does one step. Whether anything moved.
-pub fn turn(node: &mut Node) -> bool
-    ensures { Goes node.old node.new (λ a heard b. IsTurn a heard b × ((result ≡ false) ↔ IsStill heard)) }
+pub fn turn<A: Application + Drop + Copy>(node: &mut Node<A>) -> bool
+    ensures { Goes A.says node.old node.new (λ a heard b. IsTurn a heard b × ((result ≡ false) ↔ IsStill heard)) }
 {
     turn_with(node, 1, &mut NoWatch)
 }
 
 /// Brings a node to rest: turns, until one moves nothing, or 100,000. Whether it came to rest.
-pub fn settle(node: &mut Node) -> bool
-    ensures { Goes node.old node.new (Rests result) }
+pub fn settle<A: Application + Drop + Copy>(node: &mut Node<A>) -> bool
+    ensures { Goes A.says node.old node.new (Rests A.says result) }
 {
     for _ in 0..MOST_TURNS {
         if !turn(node) {

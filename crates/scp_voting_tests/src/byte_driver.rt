@@ -14,13 +14,12 @@ const LIMIT: usize = 4_096;
 pub struct ByteDriver;
 
 impl Driver for ByteDriver {
-    ghost level = { λ d slot v. byte_level v };
-
-    ghost extracted = { λ d slot v. first_byte v };
-
-    ghost combined = { λ d slot vs. first_value vs };
-
-    ghost place = { λ d slot round n. turn round n };
+    ghost says = { record {
+      level = λ d slot v. byte_level v;
+      extracted = λ d slot v. first_byte v;
+      combined = λ d slot vs. first_value vs;
+      place = λ d slot round n. turn round n;
+    } };
 
     fn validate(&self, _slot: Slot, value: &Value) -> Level {
         match value.as_slice() {

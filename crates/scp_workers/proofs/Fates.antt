@@ -3,6 +3,7 @@ use Rattle.std.proofs.Common.{◌≡◌, List, [], ◌∷◌, ◌++◌, refl, sy
 use Rattle.std.specs.Prelude.{option_to_list}
 use Rattle.std.proofs.lemmas.Grind.{flat_map-append}
 use Rattle.std.proofs.lemmas.List.{map-append}
+use Rattle.scp_driver.specs.Driver.{Says}
 use Rattle.scp_types.specs.declared.names.NodeId.{NodeId}
 use Rattle.scp_quorum.specs.QuorumTree.{QuorumTree}
 use Rattle.scp_pending.specs.declared.ready.Ready.{Ready}
@@ -10,34 +11,37 @@ use Rattle.scp_ledger.specs.declared.took.CommandFate.{CommandFate}
 use Rattle.scp_ledger.specs.declared.took.Onward.{Onward}
 use Rattle.scp_ledger.specs.declared.took.Outgoing.{Outgoing}
 use Rattle.scp_ledger.specs.declared.took.Took.{Took}
-use Rattle.scp_ledger.specs.Kv.{KvLedger, KvTakes, KvTells}
+use Rattle.scp_ledger.specs.Seen.{LedgerView}
+use Rattle.scp_ledger.specs.By.{TakesBy, TellsBy}
 use Rattle.scp_ledger.specs.Runs.{Taking, thing_of, onward_of, nothing_taken}
 use Rattle.scp_grounds.specs.Handed.{out_by}
 use Rattle.scp_workers.specs.Slot.{fate_of, TellsEach, HaveFates}
+use Rattle.scp_workers.proofs.Driving.{driver_stays}
 
-tells_more : (first old new : KvLedger) (takes : List Taking) (t : Taking) → TellsEach first takes old → KvTakes old t.thing t.gave new → KvTells old t.thing t.gave → TellsEach first (takes ++ t ∷ []) new
-tells_more first old new [] t e goes tells = (new, subst (λ (v : KvLedger). KvTakes v t.thing t.gave new) e goes, subst (λ (v : KvLedger). KvTells v t.thing t.gave) e tells, refl)
-tells_more first old new (u ∷ takes) t e goes tells = (e.0, e.1, e.2, tells_more e.0 old new takes t e.3 goes tells)
+module _ {D : Type 0} (says : Says D) where
+  tells_more : (first old new : LedgerView D) (takes : List Taking) (t : Taking) → TellsEach says first takes old → TakesBy says old t.thing t.gave new → TellsBy says old t.thing t.gave → TellsEach says first (takes ++ t ∷ []) new
+  tells_more first old new [] t e goes tells = (new, subst (λ (v : LedgerView D). TakesBy says v t.thing t.gave new) e goes, subst (λ (v : LedgerView D). TellsBy says v t.thing t.gave) e tells, refl)
+  tells_more first old new (u ∷ takes) t e goes tells = (e.0, e.1, e.2, tells_more e.0 old new takes t e.3 goes tells)
 
-pub fates_more : (me : NodeId) (local : QuorumTree) (peers : List NodeId) (took : List Ready) (sent : List Onward) (out : List Outgoing) (fates more : List CommandFate) (old new : KvLedger) (x : Ready) (t : Took)
-    → KvTakes old x t new → KvTells old x t → more ≡ fates ++ option_to_list t.command → HaveFates me local peers took sent out fates old → HaveFates me local peers (took ++ x ∷ []) (sent ++ option_to_list t.onward) (out ++ t.outgoing) more new
-fates_more me local peers took sent out fates more old new x t goes tells e h =
-    let last : Taking = record { thing = x; gave = t } in record {
-      takes = h.takes ++ last ∷ [];
-      took_are = map-append thing_of h.takes (last ∷ []) ∙ ap (λ (xs : List Ready). xs ++ x ∷ []) h.took_are;
-      onwards_are = flat_map-append onward_of h.takes (last ∷ []) ∙ ap (λ (ys : List Onward). ys ++ (option_to_list t.onward ++ [])) h.onwards_are ∙ ap (λ (ys : List Onward). sent ++ ys) (append-nil (option_to_list t.onward));
-      outs_are = flat_map-append out_by h.takes (last ∷ []) ∙ ap (λ (os : List Outgoing). os ++ (t.outgoing ++ [])) h.outs_are ∙ ap (λ (os : List Outgoing). out ++ os) (append-nil t.outgoing);
-      fates_are = flat_map-append fate_of h.takes (last ∷ []) ∙ ap (λ (ys : List CommandFate). ys ++ (option_to_list t.command ++ [])) h.fates_are ∙ ap (λ (ys : List CommandFate). fates ++ ys) (append-nil (option_to_list t.command)) ∙ sym e;
-      told = tells_more (nothing_taken me local new.driver peers) old new h.takes last h.told goes tells;
-    }
+  pub fates_more : (me : NodeId) (local : QuorumTree) (peers : List NodeId) (took : List Ready) (sent : List Onward) (out : List Outgoing) (fates more : List CommandFate) (old new : LedgerView D) (x : Ready) (t : Took)
+      → TakesBy says old x t new → TellsBy says old x t → more ≡ fates ++ option_to_list t.command → HaveFates says me local peers took sent out fates old → HaveFates says me local peers (took ++ x ∷ []) (sent ++ option_to_list t.onward) (out ++ t.outgoing) more new
+  fates_more me local peers took sent out fates more old new x t goes tells e h =
+      let last : Taking = record { thing = x; gave = t } in record {
+        takes = h.takes ++ last ∷ [];
+        took_are = map-append thing_of h.takes (last ∷ []) ∙ ap (λ (xs : List Ready). xs ++ x ∷ []) h.took_are;
+        onwards_are = flat_map-append onward_of h.takes (last ∷ []) ∙ ap (λ (ys : List Onward). ys ++ (option_to_list t.onward ++ [])) h.onwards_are ∙ ap (λ (ys : List Onward). sent ++ ys) (append-nil (option_to_list t.onward));
+        outs_are = flat_map-append out_by h.takes (last ∷ []) ∙ ap (λ (os : List Outgoing). os ++ (t.outgoing ++ [])) h.outs_are ∙ ap (λ (os : List Outgoing). out ++ os) (append-nil t.outgoing);
+        fates_are = flat_map-append fate_of h.takes (last ∷ []) ∙ ap (λ (ys : List CommandFate). ys ++ (option_to_list t.command ++ [])) h.fates_are ∙ ap (λ (ys : List CommandFate). fates ++ ys) (append-nil (option_to_list t.command)) ∙ sym e;
+        told = subst (λ (driver : D). TellsEach says (nothing_taken me local driver peers) (h.takes ++ last ∷ []) new) (sym (driver_stays says old t new x goes)) (tells_more (nothing_taken me local old.driver peers) old new h.takes last h.told goes tells);
+      }
 
-pub fates_begin : (me : NodeId) (local set : QuorumTree) (peers known : List NodeId) (got : List Ready) (sent : List Onward) (fates : List CommandFate) (v : KvLedger)
-    → got ≡ [] → sent ≡ [] → fates ≡ [] → set ≡ local → known ≡ peers → v ≡ nothing_taken me local v.driver peers → HaveFates me set known got sent [] fates v
-fates_begin me local set peers known got sent fates v e f g s k is = record {
-  takes = [];
-  took_are = sym e;
-  onwards_are = sym f;
-  outs_are = refl;
-  fates_are = sym g;
-  told = is ∙ ap (λ (q : QuorumTree). nothing_taken me q v.driver peers) (sym s) ∙ ap (λ (ps : List NodeId). nothing_taken me set v.driver ps) (sym k);
-}
+  pub fates_begin : (me : NodeId) (local set : QuorumTree) (peers known : List NodeId) (got : List Ready) (sent : List Onward) (fates : List CommandFate) (v : LedgerView D)
+      → got ≡ [] → sent ≡ [] → fates ≡ [] → set ≡ local → known ≡ peers → v ≡ nothing_taken me local v.driver peers → HaveFates says me set known got sent [] fates v
+  fates_begin me local set peers known got sent fates v e f g s k is = record {
+    takes = [];
+    took_are = sym e;
+    onwards_are = sym f;
+    outs_are = refl;
+    fates_are = sym g;
+    told = is ∙ ap (λ (q : QuorumTree). nothing_taken me q v.driver peers) (sym s) ∙ ap (λ (ps : List NodeId). nothing_taken me set v.driver ps) (sym k);
+  }

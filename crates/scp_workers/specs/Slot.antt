@@ -1,5 +1,6 @@
 -- The stage that runs the slots.
 use Rattle.std.specs.Prelude.{◌≡◌, List, [], ◌∷◌, flat_map, option_to_list}
+use Rattle.scp_driver.specs.Driver.{Says}
 use Rattle.scp_types.specs.declared.names.NodeId.{NodeId}
 use Rattle.scp_quorum.specs.QuorumTree.{QuorumTree}
 use Rattle.scp_pending.specs.declared.ready.Ready.{Ready}
@@ -7,18 +8,19 @@ use Rattle.scp_ledger.specs.declared.took.CommandFate.{CommandFate}
 use Rattle.scp_ledger.specs.declared.took.Onward.{Onward}
 use Rattle.scp_ledger.specs.declared.took.Outgoing.{Outgoing}
 use Rattle.scp_ledger.specs.Runs.{Taking, things, onwards_of, nothing_taken}
-use Rattle.scp_ledger.specs.Kv.{KvLedger, KvJournals, KvTakes, KvTells}
+use Rattle.scp_ledger.specs.Seen.{LedgerView}
+use Rattle.scp_ledger.specs.By.{JournalsBy, TakesBy, TellsBy}
 use Rattle.scp_grounds.specs.Handed.{outs_of}
 use Rattle.scp_workers.specs.declared.slot.SlotStage.{SlotStage}
 use Rattle.scp_workers.specs.Working.{Work, End, HasRun}
 
 -- what contracts see of the worker of the slot stage
-abbrev pub SlotWork : Type 0
-SlotWork = Work Ready Onward SlotStage
+abbrev pub SlotWork : Type 0 → Type 0
+SlotWork D = Work Ready Onward (SlotStage D)
 
 -- and of what it ends with
-abbrev pub SlotEnd : Type 0
-SlotEnd = End Ready Onward SlotStage
+abbrev pub SlotEnd : Type 0 → Type 0
+SlotEnd D = End Ready Onward (SlotStage D)
 
 -- ---- what became of commands
 
@@ -30,40 +32,44 @@ fate_of t = option_to_list t.gave.command
 abbrev pub fates_of : List Taking → List CommandFate
 fates_of takes = flat_map fate_of takes
 
--- each was taken by the ledger that the one before it left, and of each that ledger told, as it stood then, what became of it
-abbrev pub TellsEach : KvLedger → List Taking → KvLedger → Type 0
-TellsEach old [] new = new ≡ old
-TellsEach old (t ∷ takes) new = (between : KvLedger) × KvTakes old t.thing t.gave between × KvTells old t.thing t.gave × TellsEach between takes new
+module _ {D : Type 0} (says : Says D) where
+  -- each was taken by the ledger that the one before it left, and of each that ledger told, as it stood then, what became of it
+  abbrev pub TellsEach : LedgerView D → List Taking → LedgerView D → Type 0
+  TellsEach old [] new = new ≡ old
+  TellsEach old (t ∷ takes) new = (between : LedgerView D) × TakesBy says old t.thing t.gave between × TellsBy says old t.thing t.gave × TellsEach between takes new
 
--- A ledger of this node that had taken nothing took these, one after another, gave these on, and is this one now. This is what it handed out with
--- them; and these are the fates of the commands among them, one each, in order; a Tick has none.
-pub record HaveFates (me : NodeId) (local : QuorumTree) (peers : List NodeId) (took : List Ready) (onwards : List Onward) (outs : List Outgoing) (fates : List CommandFate) (v : KvLedger) : Type 0 where
-  pub takes : List Taking
-  pub took_are : things takes ≡ took
-  pub onwards_are : onwards_of takes ≡ onwards
-  pub outs_are : outs_of takes ≡ outs
-  pub fates_are : fates_of takes ≡ fates
-  pub told : TellsEach (nothing_taken me local v.driver peers) takes v
+  -- A ledger of this node that had taken nothing took these, one after another, gave these on, and is this one now. This is what it handed out with
+  -- them; and these are the fates of the commands among them, one each, in order; a Tick has none.
+  pub record HaveFates (me : NodeId) (local : QuorumTree) (peers : List NodeId) (took : List Ready) (onwards : List Onward) (outs : List Outgoing) (fates : List CommandFate) (v : LedgerView D) : Type 0 where
+    pub takes : List Taking
+    pub took_are : things takes ≡ took
+    pub onwards_are : onwards_of takes ≡ onwards
+    pub outs_are : outs_of takes ≡ outs
+    pub fates_are : fates_of takes ≡ fates
+    pub told : TellsEach (nothing_taken me local v.driver peers) takes v
 
--- ---- all that it did
+  -- ---- all that it did
 
--- a ledger of the first one's node took these, gave these on and handed these out, and the fates of the commands among them are those that are kept
-pub record JournalsFrom (first : SlotStage) (took : List Ready) (gave : List Onward) (out : List Outgoing) (now : SlotStage) : Type 0 where
-  pub journals : KvJournals first.ledger.me first.ledger.local first.ledger.peers took gave now.ledger
-  pub told : HaveFates first.ledger.me first.ledger.local first.ledger.peers took gave out now.fates.items now.ledger
+  -- a ledger of the first one's node took these, gave these on and handed these out, and the fates of the commands among them are those that are kept
+  pub record JournalsFrom (first : SlotStage D) (took : List Ready) (gave : List Onward) (out : List Outgoing) (now : SlotStage D) : Type 0 where
+    pub journals : JournalsBy says first.ledger.me first.ledger.local first.ledger.peers took gave now.ledger
+    pub told : HaveFates first.ledger.me first.ledger.local first.ledger.peers took gave out now.fates.items now.ledger
 
--- what it gives it gives at once
-abbrev pub HasNoneLeft : SlotStage → Type 0
-HasNoneLeft now = Unit {0}
+module _ {D : Type 0} where
+  -- what it gives it gives at once
+  abbrev pub HasNoneLeft : SlotStage D → Type 0
+  HasNoneLeft now = Unit {0}
 
--- the pending stage ended; the ledger took what was received, gave what was sent, and handed out what was put into the outboxes
-abbrev pub HasJournaledAll : SlotEnd → Type 0
-HasJournaledAll e = HasRun JournalsFrom HasNoneLeft e
+module _ {D : Type 0} (says : Says D) where
+  -- the pending stage ended; the ledger took what was received, gave what was sent, and handed out what was put into the outboxes
+  abbrev pub HasJournaledAll : SlotEnd D → Type 0
+  HasJournaledAll e = HasRun (JournalsFrom says) HasNoneLeft e
 
 -- ---- whose it is
 
--- the ledger is that of this node
-pub record IsFor (me : NodeId) (peers : List NodeId) (local : QuorumTree) (v : KvLedger) : Type 0 where
-  pub me_is : v.me ≡ me
-  pub peers_are : v.peers ≡ peers
-  pub local_is : v.local ≡ local
+module _ {D : Type 0} where
+  -- the ledger is that of this node
+  pub record IsFor (me : NodeId) (peers : List NodeId) (local : QuorumTree) (v : LedgerView D) : Type 0 where
+    pub me_is : v.me ≡ me
+    pub peers_are : v.peers ≡ peers
+    pub local_is : v.local ≡ local

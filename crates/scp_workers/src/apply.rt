@@ -7,6 +7,7 @@ use crate::stage::{Given, Stage};
 use crate::worker::{Ended, Worker};
 use scp_apply::{Applier, what_holds_of_an_applier_holds_with_one_thing_more};
 use scp_desk::Putter;
+use scp_driver::{Application, KvDriver};
 use scp_ends::{Any, DecidedRx, InWindow};
 use scp_gate::Stage as Place;
 use scp_ledger::Onward;
@@ -18,12 +19,12 @@ use std::alloc::Global;
 pub enum Nothing {}
 
 /// The worker of the applier.
-pub type ApplyWorker = Worker<Onward, InWindow, Nothing, Any, Applier>;
+pub type ApplyWorker<A = KvDriver> = Worker<Onward, InWindow, Nothing, Any, Applier<A>>;
 
 /// What it ends with.
-pub type ApplyEnded = Ended<Onward, InWindow, Nothing, Any, Applier>;
+pub type ApplyEnded<A = KvDriver> = Ended<Onward, InWindow, Nothing, Any, Applier<A>>;
 
-impl Stage<Onward, InWindow, Nothing, Any> for Applier {
+impl<A: Application> Stage<Onward, InWindow, Nothing, Any> for Applier<A> {
     ghost use Rattle.scp_workers.specs.Apply.{AppliesFrom, GivesNothing};
 
     ghost runs = { AppliesFrom };
@@ -50,7 +51,12 @@ impl Stage<Onward, InWindow, Nothing, Any> for Applier {
 
 /// The worker of this node's applier, behind the slot stage; its end carried nothing yet. `outlets[l]` is an end of the outbox of link l that put
 /// nothing yet. Takes no memory.
-pub fn applier(alloc: Global, node: NodeId, outlets: Vec<Putter>, rx: DecidedRx) -> ApplyWorker
+pub fn applier<A: Application>(
+    alloc: Global,
+    node: NodeId,
+    outlets: Vec<Putter>,
+    rx: DecidedRx,
+) -> ApplyWorker<A>
     requires unused { rx.got ≡ [] }
     requires outlets { AreUnused outlets.items }
     requires one { rx.producers ≡ 1 }

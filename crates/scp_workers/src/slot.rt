@@ -6,7 +6,7 @@ ghost use Rattle.scp_workers.specs.Working.{AreUnused};
 use crate::stage::{Given, Outs, Stage};
 use crate::worker::{Ended, Worker};
 use scp_desk::Putter;
-use scp_driver::KvDriver;
+use scp_driver::{Driver, KvDriver};
 use scp_ends::{Any, DecidedTx, InWindow, ReadyRx};
 use scp_gate::Stage as Place;
 use scp_ledger::{
@@ -21,16 +21,16 @@ use std::sync::Arc;
 
 /// The ledger, and what became of each command that it took, in their order.
 #[derive(Drop)]
-pub struct SlotStage {
-    pub ledger: Ledger<KvDriver>,
+pub struct SlotStage<D: Driver + Drop + Copy = KvDriver> {
+    pub ledger: Ledger<D>,
     pub fates: Vec<CommandFate>,
 }
 
 /// The worker of the slot stage.
-pub type SlotWorker = Worker<Ready, Any, Onward, InWindow, SlotStage>;
+pub type SlotWorker<D = KvDriver> = Worker<Ready, Any, Onward, InWindow, SlotStage<D>>;
 
 /// What it ends with.
-pub type SlotEnded = Ended<Ready, Any, Onward, InWindow, SlotStage>;
+pub type SlotEnded<D = KvDriver> = Ended<Ready, Any, Onward, InWindow, SlotStage<D>>;
 
 /// Keeps what became of a command, if it was one.
 fn keep(fates: &mut Vec<CommandFate>, fate: Option<CommandFate>) -> Result<(), AllocError>
@@ -42,17 +42,17 @@ fn keep(fates: &mut Vec<CommandFate>, fate: Option<CommandFate>) -> Result<(), A
     Ok(())
 }
 
-impl Stage<Ready, Any, Onward, InWindow> for SlotStage {
+impl<D: Driver + Drop + Copy> Stage<Ready, Any, Onward, InWindow> for SlotStage<D> {
     ghost use Rattle.scp_workers.specs.Slot.{JournalsFrom, HasNoneLeft};
 
-    ghost runs = { JournalsFrom };
+    ghost runs = { JournalsFrom D.says };
 
     ghost rests = { HasNoneLeft };
 
     /// Takes a thing into the ledger, keeps what became of it, and hands out what goes to peers.
     fn take(&mut self, ready: Ready) -> Option<Given<Onward>> {
-        what_holds_of_a_ledger_holds_with_one_thing_more::<KvDriver>();
-        what_is_given_on_keeps_the_window::<KvDriver>();
+        what_holds_of_a_ledger_holds_with_one_thing_more::<D>();
+        what_is_given_on_keeps_the_window::<D>();
         let Ok(took) = self.ledger.take(ready) else {
             return None;
         };
@@ -79,15 +79,16 @@ impl Stage<Ready, Any, Onward, InWindow> for SlotStage {
 
 /// The worker of this node's slot stage, between the pending stage and the applier; both ends carried nothing yet. `peers[l]` is the sender
 /// of link l, and `outlets[l]` an end of the outbox of link l that put nothing yet; `local` is the node's own quorum set. Takes no memory.
-pub fn slots(
+pub fn slots<D: Driver + Drop + Copy>(
     alloc: Global,
     node: NodeId,
-    peers: Vec<NodeId>,
     local: Arc<SaneSet>,
+    driver: D,
+    peers: Vec<NodeId>,
     outlets: Vec<Putter>,
     rx: ReadyRx,
     tx: DecidedTx,
-) -> SlotWorker
+) -> SlotWorker<D>
     requires few { length peers.items ≤ 255 }
     requires unused { (rx.got ≡ []) × (tx.sent ≡ []) }
     requires outlets { AreUnused outlets.items }
@@ -97,9 +98,9 @@ pub fn slots(
     ensures stage { IsFor node peers.items local.value result.first.ledger }
     ensures works { (result.failed ≡ false) × (result.cut_off ≡ false) }
 {
-    what_holds_of_a_ledger_holds_with_one_thing_more::<KvDriver>();
+    what_holds_of_a_ledger_holds_with_one_thing_more::<D>();
     let stage = SlotStage {
-        ledger: Ledger::new(alloc, node, local, KvDriver, peers),
+        ledger: Ledger::new(alloc, node, local, driver, peers),
         fates: Vec::new(alloc),
     };
     Worker::new(node, Place::Slot, stage, outlets, rx, 1, Some(tx))

@@ -1,18 +1,16 @@
 -- What an applier keeps; nothing here need be believed.
-use Rattle.std.specs.Prelude.{ℕ, ◌+◌, ◌<◌, ◌≤◌, ◌≡◌, ◌≢◌, Bool, false, List, [], ◌∷◌, ◌++◌, Some, None, All, length, remove, slice_index_or, if◌then◌else◌}
+use Rattle.std.specs.Prelude.{ℕ, ◌+◌, ◌<◌, ◌≤◌, ◌≡◌, ◌≢◌, Bool, false, List, [], ◌∷◌, ◌++◌, All, length, remove, slice_index_or}
 use Rattle.std.specs.List.Sorted.{IsPermutation}
-use Rattle.scp_kv.specs.State.{fold_of, after_value}
 use Rattle.scp_ledger.specs.declared.journal.Decision.{Decision}
 use Rattle.scp_ledger.specs.Decisions.{OnePerSlot}
 use Rattle.scp_apply.specs.declared.slots.Slots.{Slots}
 use Rattle.scp_apply.specs.declared.applier.Applier.TheInside as applier
-use Rattle.scp_apply.specs.Applied.{AreInOrder, values_of}
+use Rattle.scp_apply.specs.Applied.{AreInOrder, made_of}
 use Rattle.scp_apply.specs.Applier.{ApplierView}
 
--- slots 1 to n in order, the state is their fold, and what is buffered is of the 16 slots from n + 1 on, no slot twice
+-- slots 1 to n in order, and what is buffered is of the 16 slots from n + 1 on, no slot twice
 pub record IsApplied (s : Slots) : Type 0 where
   pub in_order : AreInOrder 1 s.applied.items
-  pub folded : s.state ≡ fold_of (values_of s.applied.items)
   pub above : All (λ d. length s.applied.items < d.slot.0) s.buffer.items
   pub near : All (λ d. d.slot.0 ≤ length s.applied.items + 16) s.buffer.items
   pub one : OnePerSlot s.buffer.items
@@ -22,39 +20,41 @@ pub record IsSound (s : Slots) : Type 0 where
   pub is_applied : IsApplied s
   pub next_missing : All (λ d. d.slot.0 ≢ length s.applied.items + 1) s.buffer.items
 
--- one buffered decision was applied
-pub record AppliesOne (old : Slots) (place : ℕ) (new : Slots) : Type 0 where
+-- one buffered decision was applied to the state
+pub record AppliesOne {S : Type 0} (after' : S → List ℕ → S) (old : Slots) (before : S) (place : ℕ) (new : Slots) (state : S) : Type 0 where
   pub decision : Decision
   pub is : slice_index_or old.buffer.items place decision ≡ decision
   pub applied : new.applied.items ≡ old.applied.items ++ decision ∷ []
   pub buffer : new.buffer.items ≡ remove old.buffer.items place
-  pub state : new.state ≡ after_value old.state decision.value
+  pub state_is : state ≡ after' before decision.value
 
--- some buffered decisions were applied
-pub record Advances (old new : Slots) : Type 0 where
+-- some buffered decisions were applied to the state, in order
+pub record Advances {S : Type 0} (after' : S → List ℕ → S) (old : Slots) (before : S) (new : Slots) (state : S) : Type 0 where
   pub sound : IsSound new
   pub shared_out : IsPermutation (old.applied.items ++ old.buffer.items) (new.applied.items ++ new.buffer.items)
   pub more : List Decision
   pub grows : new.applied.items ≡ old.applied.items ++ more
+  pub state_is : state ≡ made_of before after' more
 
--- a decision was taken
-pub record Enters (old : Slots) (d : Decision) (new : Slots) : Type 0 where
+-- a decision was taken, and what is next was applied to the state
+pub record Enters {S : Type 0} (after' : S → List ℕ → S) (old : Slots) (before : S) (d : Decision) (new : Slots) (state : S) : Type 0 where
   pub sound : IsSound new
   pub shared_out : IsPermutation (old.applied.items ++ (old.buffer.items ++ d ∷ [])) (new.applied.items ++ new.buffer.items)
   pub more : List Decision
   pub grows : new.applied.items ≡ old.applied.items ++ more
+  pub state_is : state ≡ made_of before after' more
+
+-- the state is what the applied values make
+abbrev pub IsMade : {S : Type 0} → S → (S → List ℕ → S) → Slots → S → Type 0
+IsMade first after' s state = state ≡ made_of first after' s.applied.items
 
 abbrev pub slots_view : Bool → Slots → ApplierView
-slots_view failed s = record {
-  failed = failed;
-  applied = s.applied.items;
-  buffer = s.buffer.items;
-  state = if failed then None else Some s.state;
-}
+slots_view failed s = record { failed = failed; applied = s.applied.items; buffer = s.buffer.items }
 
-abbrev pub applier_view : applier.Inside → ApplierView
+abbrev pub applier_view : {A S : Type 0} → applier.Inside A S → ApplierView
 applier_view a = slots_view a.failed a.slots
 
-pub record IsWell (a : applier.Inside) : Type 0 where
+pub record IsWell {A S : Type 0} (first : S) (after' : S → List ℕ → S) (a : applier.Inside A S) : Type 0 where
   pub in_order : AreInOrder 1 a.slots.applied.items
   pub sound : a.failed ≡ false → IsSound a.slots
+  pub made : a.failed ≡ false → IsMade first after' a.slots a.state

@@ -8,7 +8,7 @@ use Rattle.scp_prompt.specs.declared.failure.Failure.TheVariants.{Line, NoMemory
 use Rattle.scp_shorthand.specs.declared.expanded.Expanded.{Expanded}
 use Rattle.scp_silent.specs.declared.playing.RunFault.{RunFault}
 use Rattle.scp_silent.specs.declared.playing.RunFault.TheVariants as runs
-use Rattle.scp_gather.specs.declared.gathering.NodeReport.{NodeReport}
+use Rattle.scp_gather.specs.Kv.{NodeReport}
 use Rattle.scp_network.specs.Network.{NetworkView}
 use Rattle.scp_script.specs.declared.command.Command.{Command}
 use Rattle.scp_line.specs.declared.playing.PlayFault.{PlayFault}

@@ -3,6 +3,7 @@ use Rattle.std.proofs.Common.{◌≡◌, ℕ, List, [], ◌∷◌, ◌++◌, ref
 use Rattle.std.specs.Prelude.{None, fold, length}
 use Rattle.std.specs.List.{AllByRecursion}
 use Rattle.std.proofs.lemmas.Grind.{flat_map-append}
+use Rattle.scp_driver.specs.Driver.{Says}
 use Rattle.scp_grounds.specs.Grounds.{IsSentOut}
 use Rattle.scp_grounds.proofs.Basics.{none_some}
 use Rattle.scp_grounds.proofs.Fit.{first_fit}
@@ -22,41 +23,44 @@ use Rattle.scp_core.proofs.grounds.Stepping.{State, state_of, at_arrived, state_
 
 -- ---- the node as it was made
 
-made_stands : Laws → (c : Config) → State nothing_heard (λ link. []) (made c)
-made_stands law c = state_of nothing_heard (λ link. []) (made c) [] refl (record {
-  handed = [];
-  boxes = first_boxes law.empty (length c.peers);
-  fit = first_fit (grounds_of (made c) []) (made c).ledger;
-  machines = λ at machine e. none_some None machine refl e;
-})
+module _ {D : Type 0} (says : Says D) where
+  made_stands : Laws says → (driver : D) (c : Config) → State nothing_heard (λ link. []) (made driver c)
+  made_stands law driver c = state_of nothing_heard (λ link. []) (made driver c) [] refl (record {
+    handed = [];
+    boxes = first_boxes law.empty (length c.peers);
+    fit = first_fit (grounds_of (made driver c) []) (made driver c).ledger;
+    machines = λ at machine e. none_some None machine refl e;
+  })
 
 -- ---- each exchange after it
 
--- the same bytes
-same_bytes : (p : Past) (sent same : ℕ → List (List ℕ)) (v : NodeView) → ((link : ℕ) → same link ≡ sent link) → State p sent v → State p same v
-same_bytes p sent same v e s = record {
-  taken = s.taken;
-  waiting = s.waiting;
-  came = s.came;
-  out = λ link. subst (λ (bytes : List (List ℕ)). IsSentOut (grounds_of v s.taken) link bytes) (sym (e link)) (s.out link);
-  now = λ runs. ((s.now runs).0, stands_sent sent same (grounds_of v s.taken) v.ledger v.outboxes e (s.now runs).1);
-}
+module _ {D : Type 0} where
+  -- the same bytes
+  same_bytes : (p : Past) (sent same : ℕ → List (List ℕ)) (v : NodeView D) → ((link : ℕ) → same link ≡ sent link) → State p sent v → State p same v
+  same_bytes p sent same v e s = record {
+    taken = s.taken;
+    waiting = s.waiting;
+    came = s.came;
+    out = λ link. subst (λ (bytes : List (List ℕ)). IsSentOut (grounds_of v s.taken) link bytes) (sym (e link)) (s.out link);
+    now = λ runs. ((s.now runs).0, stands_sent sent same (grounds_of v s.taken) v.ledger v.outboxes e (s.now runs).1);
+  }
 
-along : Laws → (c : Config) (xs : List Exchange) (p : Past) (sent : ℕ → List (List ℕ)) (v last : NodeView) → AreSteps c p v xs last → State p sent v → State (fold (λ q x. hears c q x.0 x.1) p xs) (λ link. sent link ++ sent_to link xs) last
-along law c [] p sent v last a s = subst (λ (w : NodeView). State p (λ link. sent link ++ []) w) (sym a) (same_bytes p sent (λ link. sent link ++ []) v (λ link. append-nil (sent link)) s)
-along law c (x ∷ xs) p sent v last a s =
-    let next : State (hears c p x.0 x.1) (λ link. sent link ++ sent_by link x.0 x.1) a.0 = state_step law c p sent v x.0 x.1 a.0 a.1 s in
-    let all = along law c xs (hears c p x.0 x.1) (λ link. sent link ++ sent_by link x.0 x.1) a.0 last a.2 next in
-    same_bytes (fold (λ q y. hears c q y.0 y.1) (hears c p x.0 x.1) xs) (λ link. (sent link ++ sent_by link x.0 x.1) ++ sent_to link xs) (λ link. sent link ++ sent_to link (x ∷ xs)) last (λ link. sym (append_assoc (sent link) (sent_by link x.0 x.1) (sent_to link xs))) all
+module _ {D : Type 0} (says : Says D) where
+  along : Laws says → (c : Config) (xs : List Exchange) (p : Past) (sent : ℕ → List (List ℕ)) (v last : NodeView D) → AreSteps says c p v xs last → State p sent v → State (fold (λ q x. hears c q x.0 x.1) p xs) (λ link. sent link ++ sent_to link xs) last
+  along law c [] p sent v last a s = subst (λ (w : NodeView D). State p (λ link. sent link ++ []) w) (sym a) (same_bytes p sent (λ link. sent link ++ []) v (λ link. append-nil (sent link)) s)
+  along law c (x ∷ xs) p sent v last a s =
+      let next : State (hears c p x.0 x.1) (λ link. sent link ++ sent_by link x.0 x.1) a.0 = state_step says law c p sent v x.0 x.1 a.0 a.1 s in
+      let all = along law c xs (hears c p x.0 x.1) (λ link. sent link ++ sent_by link x.0 x.1) a.0 last a.2 next in
+      same_bytes (fold (λ q y. hears c q y.0 y.1) (hears c p x.0 x.1) xs) (λ link. (sent link ++ sent_by link x.0 x.1) ++ sent_to link xs) (λ link. sent link ++ sent_to link (x ∷ xs)) last (λ link. sym (append_assoc (sent link) (sent_by link x.0 x.1) (sent_to link xs))) all
 
--- ---- all that was sent
+  -- ---- all that was sent
 
--- by the exchanges and the node that they left, while it runs
-pub sent_at : Laws → (past : List Exchange) (v : NodeView) → LedgerTheorem past v → (f : Flows (past_of v.config past) v) → (link : ℕ) → IsSentOut (grounds_of v f.arrived) link (sent_to link past)
-sent_at law past v h f =
-    let s : State (past_of v.config past) (λ link. sent_to link past) v = along law v.config past nothing_heard (λ link. []) (made v.config) v h.replies (made_stands law v.config) in
-    let st = at_arrived (past_of v.config past) (λ link. sent_to link past) v f s in
-    sent_out (λ link. sent_to link past) (grounds_of v f.arrived) v.ledger v.outboxes st
+  -- by the exchanges and the node that they left, while it runs
+  pub sent_at : Laws says → (past : List Exchange) (v : NodeView D) → LedgerTheorem says past v → (f : Flows says (past_of v.config past) v) → (link : ℕ) → IsSentOut (grounds_of v f.arrived) link (sent_to link past)
+  sent_at law past v h f =
+      let s : State (past_of v.config past) (λ link. sent_to link past) v = along law v.config past nothing_heard (λ link. []) (made h.driver v.config) v h.replies (made_stands says law h.driver v.config) in
+      let st = at_arrived says (past_of v.config past) (λ link. sent_to link past) v f s in
+      sent_out (λ link. sent_to link past) (grounds_of v f.arrived) v.ledger v.outboxes st
 
 -- nothing was sent by a step that failed the node
 none_sent : (link : ℕ) (event : Event) (reply : Reply) → IsFailure reply → sent_by link event reply ≡ []

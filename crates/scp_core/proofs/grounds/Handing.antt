@@ -13,7 +13,7 @@ use Rattle.scp_outboxes.specs.Waiting.{Sends}
 use Rattle.scp_outboxes.specs.Laws.{EmptySends, PutsKeepSends, GivesKeepSends}
 use Rattle.scp_pending.specs.Queues.{hash_of}
 use Rattle.scp_ledger.specs.declared.took.Outgoing.{Outgoing}
-use Rattle.scp_ledger.specs.Kv.{KvLedger}
+use Rattle.scp_ledger.specs.Seen.{LedgerView}
 use Rattle.scp_grounds.specs.Grounds.{Grounds, MaySend, IsSentOut}
 use Rattle.scp_grounds.specs.Handed.{messages_for, handed_by}
 use Rattle.scp_grounds.proofs.Basics.{there_is, none_some, some_same}
@@ -28,12 +28,13 @@ pub record Boxes (sent : ℕ → List (List ℕ)) (boxes : List OutboxView) (han
   pub sends : (link : ℕ) (o : OutboxView) → slice_get boxes link ≡ Some o → Sends (handed_by handed link) (sent link) o
   pub none : (link : ℕ) → slice_get boxes link ≡ None → sent link ≡ []
 
--- of a node that runs: its outboxes, its machines, and what was handed out
-pub record Stands (sent : ℕ → List (List ℕ)) (g : Grounds) (v : KvLedger) (outboxes : List OutboxView) : Type 0 where
-  pub handed : List Outgoing
-  pub boxes : Boxes sent outboxes handed
-  pub fit : AreFit g v handed
-  pub machines : AreMine g.who.me (hash_of g.who.set) v
+module _ {D : Type 0} where
+  -- of a node that runs: its outboxes, its machines, and what was handed out
+  pub record Stands (sent : ℕ → List (List ℕ)) (g : Grounds) (v : LedgerView D) (outboxes : List OutboxView) : Type 0 where
+    pub handed : List Outgoing
+    pub boxes : Boxes sent outboxes handed
+    pub fit : AreFit g v handed
+    pub machines : AreMine g.who.me (hash_of g.who.set) v
 
 -- ---- at first, and with nothing more sent
 
@@ -55,8 +56,9 @@ boxes_sent sent same boxes handed e b = record {
   none = λ link there. e link ∙ b.none link there;
 }
 
-pub stands_sent : (sent same : ℕ → List (List ℕ)) (g : Grounds) (v : KvLedger) (outboxes : List OutboxView) → ((link : ℕ) → same link ≡ sent link) → Stands sent g v outboxes → Stands same g v outboxes
-stands_sent sent same g v outboxes e st = record { handed = st.handed; boxes = boxes_sent sent same outboxes st.handed e st.boxes; fit = st.fit; machines = st.machines }
+module _ {D : Type 0} where
+  pub stands_sent : (sent same : ℕ → List (List ℕ)) (g : Grounds) (v : LedgerView D) (outboxes : List OutboxView) → ((link : ℕ) → same link ≡ sent link) → Stands sent g v outboxes → Stands same g v outboxes
+  stands_sent sent same g v outboxes e st = record { handed = st.handed; boxes = boxes_sent sent same outboxes st.handed e st.boxes; fit = st.fit; machines = st.machines }
 
 -- ---- what was sent
 
@@ -68,15 +70,16 @@ sent_of g link handed sent allowed s = record {
   newer = s.newer;
 }
 
-pub sent_out : (sent : ℕ → List (List ℕ)) (g : Grounds) (v : KvLedger) (outboxes : List OutboxView) → Stands sent g v outboxes → (link : ℕ) → IsSentOut g link (sent link)
-sent_out sent g v outboxes st link = by_there (slice_get outboxes link) refl
-  where
-    nothing_sent : IsSentOut g link []
-    nothing_sent = record { messages = []; spelt = tt; allowed = All-nil (MaySend g link); newer = none_newer }
+module _ {D : Type 0} where
+  pub sent_out : (sent : ℕ → List (List ℕ)) (g : Grounds) (v : LedgerView D) (outboxes : List OutboxView) → Stands sent g v outboxes → (link : ℕ) → IsSentOut g link (sent link)
+  sent_out sent g v outboxes st link = by_there (slice_get outboxes link) refl
+    where
+      nothing_sent : IsSentOut g link []
+      nothing_sent = record { messages = []; spelt = tt; allowed = All-nil (MaySend g link); newer = none_newer }
 
-    by_there : (o : Option OutboxView) → slice_get outboxes link ≡ o → IsSentOut g link (sent link)
-    by_there None e = subst (λ (s : List (List ℕ)). IsSentOut g link s) (sym (st.boxes.none link e)) nothing_sent
-    by_there (Some o) e = sent_of g link (handed_by st.handed link) (sent link) (st.fit.allowed link) (st.boxes.sends link o e).sent
+      by_there : (o : Option OutboxView) → slice_get outboxes link ≡ o → IsSentOut g link (sent link)
+      by_there None e = subst (λ (s : List (List ℕ)). IsSentOut g link s) (sym (st.boxes.none link e)) nothing_sent
+      by_there (Some o) e = sent_of g link (handed_by st.handed link) (sent link) (st.fit.allowed link) (st.boxes.sends link o e).sent
 
 -- ---- one thing is handed out
 

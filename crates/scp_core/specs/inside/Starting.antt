@@ -1,6 +1,6 @@
 -- What a new node is, and what one event of a run does; nothing here need be believed.
-use Rattle.std.specs.Prelude.{◌≡◌, false, List, [], ◌∷◌, ◌++◌, Some, None, length, replicate}
-use Rattle.std.specs.FinMap as map
+use Rattle.std.specs.Prelude.{◌≡◌, false, List, [], ◌∷◌, ◌++◌, None, length, replicate}
+use Rattle.scp_driver.specs.Driver.{Says}
 use Rattle.scp_pending.specs.Pends.{Pends}
 use Rattle.scp_pending.specs.Rules.{fresh}
 use Rattle.scp_ledger.specs.Ledger.{IsLedger}
@@ -12,31 +12,32 @@ use Rattle.scp_core.specs.Config.{IsFit}
 use Rattle.scp_core.specs.History.{Exchange}
 use Rattle.scp_core.specs.Theorem.{LedgerTheorem}
 use Rattle.scp_apply.specs.Applies.{Applies}
-use Rattle.scp_ledger.specs.Kv.{KvRuns}
+use Rattle.scp_ledger.specs.By.{RunsBy}
 use Rattle.scp_core.specs.Node.{NodeView, new_link}
 
-pub record IsNew (v : NodeView) : Type 0 where
-  pub fit : IsFit v.config.me v.config.peers v.config.capacities
-  pub runs : v.failed ≡ false
-  pub links : v.links ≡ replicate (length v.config.peers) (new_link v.config.capacities.link)
-  pub inbox : (v.inbox ≡ []) × (v.inbox_room ≡ v.config.capacities.inbox)
-  pub ready : (v.ready ≡ []) × (v.ready_room ≡ v.config.capacities.ready)
-  pub decided : (v.decided ≡ []) × (v.decided_room ≡ v.config.capacities.decided)
-  pub hands : (v.pend_hand ≡ None) × (v.slot_hand ≡ None)
-  pub settled : v.pending.settled ≡ fresh v.config.me v.config.peers v.config.set
-  pub leaving : v.pending.leaving ≡ []
-  pub pending : Pends v.config.me v.config.peers [] [] v.pending
-  pub ledger : v.ledger ≡ nothing_taken v.config.me v.config.set (record {}) v.config.peers
-  pub known : IsLedger v.ledger
-  pub deciding : KvRuns v.ledger
-  pub told : v.last_command ≡ None
-  pub said : v.last_said ≡ []
-  pub applier : Applies [] v.applier
-  pub applier_is : v.applier ≡ record { failed = false; applied = []; buffer = []; state = Some map.empty }
-  pub outboxes : v.outboxes ≡ replicate (length v.config.peers) empty_outbox
+module _ {D : Type 0} (says : Says D) where
+  pub record IsNew (v : NodeView D) : Type 0 where
+    pub fit : IsFit v.config.me v.config.peers v.config.capacities
+    pub runs : v.failed ≡ false
+    pub links : v.links ≡ replicate (length v.config.peers) (new_link v.config.capacities.link)
+    pub inbox : (v.inbox ≡ []) × (v.inbox_room ≡ v.config.capacities.inbox)
+    pub ready : (v.ready ≡ []) × (v.ready_room ≡ v.config.capacities.ready)
+    pub decided : (v.decided ≡ []) × (v.decided_room ≡ v.config.capacities.decided)
+    pub hands : (v.pend_hand ≡ None) × (v.slot_hand ≡ None)
+    pub settled : v.pending.settled ≡ fresh v.config.me v.config.peers v.config.set
+    pub leaving : v.pending.leaving ≡ []
+    pub pending : Pends v.config.me v.config.peers [] [] v.pending
+    pub ledger : v.ledger ≡ nothing_taken v.config.me v.config.set v.ledger.driver v.config.peers
+    pub known : IsLedger v.ledger
+    pub deciding : RunsBy says v.ledger
+    pub told : v.last_command ≡ None
+    pub said : v.last_said ≡ []
+    pub applier : Applies [] v.applier
+    pub applier_is : v.applier ≡ record { failed = false; applied = []; buffer = [] }
+    pub outboxes : v.outboxes ≡ replicate (length v.config.peers) empty_outbox
 
--- one event more was played, and its reply was added
-pub record Answers (event : Event) (old : NodeView) (before : List Reply) (new : NodeView) (after' : List Reply) : Type 0 where
-  pub reply : Reply
-  pub added : after' ≡ before ++ reply ∷ []
-  pub theorem : (past : List Exchange) → LedgerTheorem past old → LedgerTheorem (past ++ (event, reply) ∷ []) new
+  -- one event more was played, and its reply was added
+  pub record Answers (event : Event) (old : NodeView D) (before : List Reply) (new : NodeView D) (after' : List Reply) : Type 0 where
+    pub reply : Reply
+    pub added : after' ≡ before ++ reply ∷ []
+    pub theorem : (past : List Exchange) → LedgerTheorem says past old → LedgerTheorem says (past ++ (event, reply) ∷ []) new

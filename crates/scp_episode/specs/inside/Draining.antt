@@ -1,6 +1,7 @@
 -- How what waits goes out, link by link.
 -- Here stands what no public clause reaches: nothing here need be believed.
 use Rattle.std.specs.Prelude.{ℕ, ◌≡◌, ◌≢◌, ◌≤◌, List, ◌++◌, Result, OnOk}
+use Rattle.scp_driver.specs.Driver.{Says}
 use Rattle.scp_types.specs.declared.fault.Fault.{Fault}
 use Rattle.scp_core.specs.declared.event.Event.{Event}
 use Rattle.scp_core.specs.declared.event.Reply.{Reply}
@@ -17,19 +18,22 @@ pub record Drained (events : List Event) (before after' : List Sending) (heard :
   pub sent : AreSent heard
   pub added : after' ≡ before ++ sent_in heard
 
--- A node heard what, unless it was refused, this holds of; and a watch was told of each step.
-abbrev pub GoesDraws : {W : Type 0} {T : Type 0} → Noting W → Result T Fault → W → NodeView → NodeView → (List Exchange → Type 0) → W → Type 0
-GoesDraws {W} {T} Note result w old new P z = Goes old new (λ a heard b. OnOk result (P heard) × Watched Note 1 w a heard b z)
+module _ {D : Type 0} (says : Says D) where
+  -- A node heard what, unless it was refused, this holds of; and a watch was told of each step.
+  abbrev pub GoesDraws : {W : Type 0} {T : Type 0} → Noting D W → Result T Fault → W → NodeView D → NodeView D → (List Exchange → Type 0) → W → Type 0
+  GoesDraws {W} {T} Note result w old new P z = Goes says old new (λ a heard b. OnOk result (P heard) × Watched says Note 1 w a heard b z)
 
--- over each other link just as much is leaving
-abbrev pub OthersStay : ℕ → NodeView → NodeView → Type 0
-OthersStay l a b = (m : ℕ) → m ≢ l → leaving_at b m ≡ leaving_at a m
+module _ {D : Type 0} where
+  -- over each other link just as much is leaving
+  abbrev pub OthersStay : ℕ → NodeView D → NodeView D → Type 0
+  OthersStay l a b = (m : ℕ) → m ≢ l → leaving_at b m ≡ leaving_at a m
 
--- over links from this number on just as much is leaving
-abbrev pub RestStay : ℕ → NodeView → NodeView → Type 0
-RestStay l a b = (m : ℕ) → l ≤ m → leaving_at b m ≡ leaving_at a m
+  -- over links from this number on just as much is leaving
+  abbrev pub RestStay : ℕ → NodeView D → NodeView D → Type 0
+  RestStay l a b = (m : ℕ) → l ≤ m → leaving_at b m ≡ leaving_at a m
 
--- Where it isn't refused, this followed of an event with that reply, and what was sent was added; and a watch was told of each step.
-abbrev pub GoesFollowed : {W : Type 0} → Noting W → Result (Unit {0}) Fault → Reply → W → NodeView → NodeView → List Sending → List Sending → W → Type 0
-GoesFollowed {W} Note result reply w old new before after' z =
-    Goes old new (λ a heard b. OnOk result (FollowsOn reply a heard b × (after' ≡ before ++ sent_in heard)) × Watched Note 1 w a heard b z)
+module _ {D : Type 0} (says : Says D) where
+  -- Where it isn't refused, this followed of an event with that reply, and what was sent was added; and a watch was told of each step.
+  abbrev pub GoesFollowed : {W : Type 0} → Noting D W → Result (Unit {0}) Fault → Reply → W → NodeView D → NodeView D → List Sending → List Sending → W → Type 0
+  GoesFollowed {W} Note result reply w old new before after' z =
+      Goes says old new (λ a heard b. OnOk result (FollowsOn says reply a heard b × (after' ≡ before ++ sent_in heard)) × Watched says Note 1 w a heard b z)

@@ -10,6 +10,7 @@ use Rattle.scp_episode.specs.Episode.{is_full_reply}
 abbrev pub full_after : Fullness → Reply → Fullness
 full_after old reply = if is_full_reply reply then record { is_full = true } else old
 
--- what it notes of a step
-abbrev pub notes_full : Noting Fullness
-notes_full = notes (λ old number event node new. new ≡ old) (λ old number reply node new. new ≡ full_after old reply)
+module _ {D : Type 0} where
+  -- what it notes of a step
+  abbrev pub notes_full : Noting D Fullness
+  notes_full = notes (λ old number event node new. new ≡ old) (λ old number reply node new. new ≡ full_after old reply)

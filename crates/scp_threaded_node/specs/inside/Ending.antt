@@ -3,7 +3,7 @@
 use Rattle.std.specs.Prelude.{◌≡◌, Bool, List, Option, None}
 use Rattle.std.specs.List.{list_any}
 use Rattle.scp_types.specs.declared.fault.Fault.{Fault}
-use Rattle.scp_gather.specs.Left.{Left}
+use Rattle.scp_gather.specs.Kv.{Left}
 use Rattle.scp_gather.specs.Report.{first_failed}
 use Rattle.scp_threaded_node.specs.declared.ending.Stood.{Stood}
 use Rattle.scp_threaded_node.specs.declared.node.Running.{Running}

@@ -6,7 +6,7 @@ use Rattle.scp_ends.specs.Links.{LinkEnd}
 use Rattle.scp_workers.specs.Working.{Holds}
 use Rattle.scp_workers.specs.Reading.{ReaderEnd}
 use Rattle.scp_courier.specs.Carrying.{IsSameLink}
-use Rattle.scp_gather.specs.Left.{Left}
+use Rattle.scp_gather.specs.Kv.{Left}
 use Rattle.scp_threaded_node.specs.declared.node.Node.{Node}
 use Rattle.scp_threaded_node.specs.declared.node.Running.{Running}
 use Rattle.scp_threaded_node.specs.Outlets.{IsHandedBack, taker_in}

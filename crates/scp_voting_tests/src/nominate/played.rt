@@ -137,9 +137,9 @@ fn put<D: Driver + Drop>(
     set: &Arc<SaneSet>,
     input: Input,
 ) -> Result<Nominated, Fault>
-    requires sound { IsSound D.level D.place nominator.old }
+    requires sound { IsSound D.says.level D.says.place nominator.old }
     requires me { (nomination nominator.old).board.me ≡ me }
-    ensures sound { IsSound D.level D.place nominator.new }
+    ensures sound { IsSound D.says.level D.says.place nominator.new }
     ensures me { OnOk result ((nomination nominator.new).board.me ≡ me) }
 {
     match input {

@@ -1,6 +1,6 @@
 use Rattle.std.proofs.Common.{◌<◌, ◌+◌, List, length, map, refl, arith, subst}
 use Rattle.serde_json.specs.View.{view}
-use Rattle.scp_gather.specs.declared.gathering.NodeReport.{NodeReport}
+use Rattle.scp_gather.specs.Kv.{NodeReport}
 use Rattle.scp_account.specs.Fits.{FitReports}
 use Rattle.scp_account.specs.Gathered.{all_gathered, gathered_json}
 use Rattle.scp_account.proofs.Rows.{next_of, rows_more, seen_more}

@@ -1,6 +1,7 @@
 use Rattle.std.proofs.Common.{[], arith, refl, take}
 use Rattle.std.proofs.lemmas.Result.{err_from_is_err_and}
-use Rattle.scp_turn.specs.Watch.{notes, Watched}
+use Rattle.scp_turn.specs.Watch.{notes}
+use Rattle.scp_turn.specs.Kv.{Watched}
 use Rattle.scp_begin.specs.Replays.{AreReplayed}
 use Rattle.scp_begin.proofs.Going.{heard_nothing}
 use Rattle.scp_begin.proofs.Replaying.{one_replayed, refused_after}

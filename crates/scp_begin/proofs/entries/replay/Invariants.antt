@@ -1,5 +1,6 @@
 use Rattle.std.proofs.Common.{take}
-use Rattle.scp_turn.specs.Watch.{notes, Watched}
+use Rattle.scp_turn.specs.Watch.{notes}
+use Rattle.scp_turn.specs.Kv.{Watched}
 use Rattle.scp_begin.specs.Living.{IsLive}
 use Rattle.scp_begin.specs.Replays.{AreReplayed}
 use Rattle.scp_begin.proofs.Going.{Heard}

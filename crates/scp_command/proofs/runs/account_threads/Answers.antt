@@ -1,5 +1,5 @@
 use Rattle.std.proofs.Common.{◌≡◌, ℕ, List, subst, string_bytes}
-use Rattle.scp_gather.specs.declared.gathering.NodeReport.{NodeReport}
+use Rattle.scp_gather.specs.Kv.{NodeReport}
 use Rattle.scp_script.specs.declared.command.Command.{Command}
 use Rattle.scp_command.specs.Answers.{gathered_in}
 use Rattle.scp_prompt.specs.declared.asked.Mode.TheVariants.{Threads}

@@ -2,6 +2,6 @@ use Rattle.scp_core.proofs.Headlines.{ledger_gives_headline}
 use Rattle.scp_core.proofs.laws.each_node_holds_its_headline.Goals as goal
 
 pub returns : goal.returns
-returns c = record {
-  headline = ledger_gives_headline c.what_keeps_the_ledger_keeps_the_headline.ensures.headline;
+returns g c = record {
+  headline = ledger_gives_headline g.D.Driver.says c.what_keeps_the_ledger_keeps_the_headline.ensures.headline;
 }

@@ -2,8 +2,8 @@ use Rattle.scp_core.proofs.Keeping.{theorem_gives_ledger}
 use Rattle.scp_core.proofs.laws.each_node_holds_its_ledger.Goals as goal
 
 pub returns : goal.returns
-returns c = record {
-  ledger = theorem_gives_ledger (record {
+returns g c = record {
+  ledger = theorem_gives_ledger g.D.Driver.says (record {
     read = record {
       grow = c.what_is_read_grows_with_the_items.ensures.more;
       one = c.what_is_read_grows_with_the_items.ensures.one;

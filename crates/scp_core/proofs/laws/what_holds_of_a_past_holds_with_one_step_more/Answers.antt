@@ -2,7 +2,7 @@ use Rattle.scp_core.proofs.Holding.{steps_keep}
 use Rattle.scp_core.proofs.laws.what_holds_of_a_past_holds_with_one_step_more.Goals as goal
 
 pub returns : goal.returns
-returns c = steps_keep (record {
+returns g c = steps_keep g.D.Driver.says (record {
   read = record {
     grow = c.what_is_read_grows_with_the_items.ensures.more;
     one = c.what_is_read_grows_with_the_items.ensures.one;

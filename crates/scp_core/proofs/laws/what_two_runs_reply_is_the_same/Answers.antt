@@ -2,8 +2,8 @@ use Rattle.scp_core.proofs.same.Law.{same_replies}
 use Rattle.scp_core.proofs.laws.what_two_runs_reply_is_the_same.Goals as goal
 
 pub returns : goal.returns
-returns c = record {
-  same = same_replies (record {
+returns g c = record {
+  same = same_replies g.D.Driver.says (record {
     slots = record {
       coming = c.an_input_is_a_function.ensures.coming;
       hearing = c.an_input_is_a_function.ensures.hearing;

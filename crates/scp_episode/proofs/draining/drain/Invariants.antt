@@ -8,7 +8,7 @@ use Rattle.scp_episode.proofs.draining.drain.Given as goal
 -- what was leaving over the links so far went out
 abbrev pub invariant-loop-link : goal.invariant-loop-link
 invariant-loop-link g l = record {
-  drained : GoesDraws (notes g.W.Watch.notes_before g.W.Watch.notes_after) done l.fn.watch l.fn.node l.node (λ heard. Drained (drains_of l.fn.node l.link) l.fn.sent.items l.sent.items heard) l.watch;
+  drained : GoesDraws g.A.Driver.says (notes g.W.Watch.notes_before g.W.Watch.notes_after) done l.fn.watch l.fn.node l.node (λ heard. Drained (drains_of l.fn.node l.link) l.fn.sent.items l.sent.items heard) l.watch;
   rest : RestStay l.link l.fn.node l.node;
   runs : l.node.failed ≡ l.fn.node.failed;
 }

@@ -9,13 +9,13 @@ use Rattle.scp_episode.proofs.Draws.{done, draws_none, draws_then, draws_err, dr
 use Rattle.scp_episode.proofs.draining.draw_all.Goals as goal
 
 pub loop-init : goal.loop-init
-loop-init g c = record { drawn = draws_none (notes g.W.Watch.notes_before g.W.Watch.notes_after) c.args.watch.now c.args.node.now c.args.sent.now.items; others = λ m apart. refl; runs = refl }
+loop-init g c = record { drawn = draws_none g.A.Driver.says (notes g.W.Watch.notes_before g.W.Watch.notes_after) c.args.watch.now c.args.node.now c.args.sent.now.items; others = λ m apart. refl; runs = refl }
 
 pub returns-in_err-draw-clause-drawn : goal.returns-in_err-draw-clause-drawn
 returns-in_err-draw-clause-drawn g c =
     let p = err_from_is_err_and c.from_residual.result c.from_residual.ensures.1 in
     let l = c.args.link in
-    rw p.1 (draws_err (notes g.W.Watch.notes_before g.W.Watch.notes_after) p.0 done c.draw.result c.args.watch.now c.loop.watch c.draw.new.watch c.args.node.now c.loop.node c.draw.new.node
+    rw p.1 (draws_err g.A.Driver.says (notes g.W.Watch.notes_before g.W.Watch.notes_after) p.0 done c.draw.result c.args.watch.now c.loop.watch c.draw.new.watch c.args.node.now c.loop.node c.draw.new.node
     (λ heard. Drained (replicate c.loop.counter (Drain l)) c.args.sent.now.items c.loop.sent.items heard)
     (λ heard. Drained (Drain l ∷ []) c.loop.sent.items c.draw.new.sent.items heard)
     (λ heard. Drained (replicate c.args.count (Drain l)) c.args.sent.now.items c.draw.new.sent.items heard)
@@ -28,8 +28,8 @@ loop-preserved g c =
     let a = c.args.node.now in
     let n = c.draw.new.node in
     record {
-      drawn = draws_as (notes g.W.Watch.notes_before g.W.Watch.notes_after) done c.args.watch.now c.draw.new.watch a n (replicate k (Drain l) ++ Drain l ∷ []) (replicate (k + 1) (Drain l)) c.args.sent.now.items c.draw.new.sent.items (sym (replicate_next k (Drain l)))
-          (draws_then (notes g.W.Watch.notes_before g.W.Watch.notes_after) done c.args.watch.now c.loop.watch c.draw.new.watch a c.loop.node n (replicate k (Drain l)) (Drain l ∷ []) c.args.sent.now.items c.loop.sent.items c.draw.new.sent.items c.loop.invariant.drawn c.in_ok-draw.ensures.drawn);
+      drawn = draws_as g.A.Driver.says (notes g.W.Watch.notes_before g.W.Watch.notes_after) done c.args.watch.now c.draw.new.watch a n (replicate k (Drain l) ++ Drain l ∷ []) (replicate (k + 1) (Drain l)) c.args.sent.now.items c.draw.new.sent.items (sym (replicate_next k (Drain l)))
+          (draws_then g.A.Driver.says (notes g.W.Watch.notes_before g.W.Watch.notes_after) done c.args.watch.now c.loop.watch c.draw.new.watch a c.loop.node n (replicate k (Drain l)) (Drain l ∷ []) c.args.sent.now.items c.loop.sent.items c.draw.new.sent.items c.loop.invariant.drawn c.in_ok-draw.ensures.drawn);
       others = stay_on l a c.loop.node n c.loop.invariant.others c.in_ok-draw.ensures.others;
       runs = c.in_ok-draw.ensures.runs ∙ c.loop.invariant.runs;
     }

@@ -9,7 +9,7 @@ use Rattle.scp_episode.proofs.draining.draw_all.Given as goal
 -- so many went out so far
 abbrev pub invariant-loop : goal.invariant-loop
 invariant-loop g l = record {
-  drawn : GoesDraws (notes g.W.Watch.notes_before g.W.Watch.notes_after) done l.fn.watch l.fn.node l.node (λ heard. Drained (replicate l.counter (Drain l.link)) l.fn.sent.items l.sent.items heard) l.watch;
+  drawn : GoesDraws g.A.Driver.says (notes g.W.Watch.notes_before g.W.Watch.notes_after) done l.fn.watch l.fn.node l.node (λ heard. Drained (replicate l.counter (Drain l.link)) l.fn.sent.items l.sent.items heard) l.watch;
   others : OthersStay l.link l.fn.node l.node;
   runs : l.node.failed ≡ l.fn.node.failed;
 }

@@ -5,9 +5,9 @@ use Rattle.scp_episode.proofs.playing.follow.Goals as goal
 
 pub returns-then-has_failed-clause-followed : goal.returns-then-has_failed-clause-followed
 returns-then-has_failed-clause-followed g c =
-    rests_and_fails (notes g.W.Watch.notes_before g.W.Watch.notes_after) Failed c.rest-calm.result c.args.watch.now c.rest-calm.new.watch c.args.node.now c.rest-calm.new.node c.args.sent.now.items c.args.sent.now.items c.rest-calm.ensures
+    rests_and_fails g.A.Driver.says (notes g.W.Watch.notes_before g.W.Watch.notes_after) Failed c.rest-calm.result c.args.watch.now c.rest-calm.new.watch c.args.node.now c.rest-calm.new.node c.args.sent.now.items c.args.sent.now.items c.rest-calm.ensures
 
 pub returns-clause-followed : goal.returns-clause-followed
 returns-clause-followed g c =
-    rests_and_drains (notes g.W.Watch.notes_before g.W.Watch.notes_after) c.drain.result c.rest-calm.result c.args.watch.now c.rest-calm.new.watch c.drain.new.watch c.args.node.now c.rest-calm.new.node c.drain.new.node c.args.sent.now.items c.drain.new.sent.items
+    rests_and_drains g.A.Driver.says (notes g.W.Watch.notes_before g.W.Watch.notes_after) c.drain.result c.rest-calm.result c.args.watch.now c.rest-calm.new.watch c.drain.new.watch c.args.node.now c.rest-calm.new.node c.drain.new.node c.args.sent.now.items c.drain.new.sent.items
     c.rest-calm.ensures c.drain.ensures.drained

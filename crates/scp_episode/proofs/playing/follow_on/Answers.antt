@@ -4,7 +4,7 @@ use Rattle.scp_episode.proofs.playing.follow_on.Goals as goal
 
 pub returns-in_default : goal.returns-in_default
 returns-in_default g c = record {
-  followed = none_follows (notes g.W.Watch.notes_before g.W.Watch.notes_after) c.args.reply.now c.args.watch.now c.args.node.now c.args.sent.now.items c.in_default.not-Accepted;
+  followed = none_follows g.A.Driver.says (notes g.W.Watch.notes_before g.W.Watch.notes_after) c.args.reply.now c.args.watch.now c.args.node.now c.args.sent.now.items c.in_default.not-Accepted;
   runs = c.requires.runs;
   only = tt;
 }

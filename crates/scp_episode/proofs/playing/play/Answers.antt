@@ -9,21 +9,21 @@ use Rattle.scp_episode.proofs.Episodes.{GoesWatched, nothing_played, found_full,
 use Rattle.scp_episode.proofs.playing.play.Goals as goal
 
 pub returns-then-has_failed-clause-episode : goal.returns-then-has_failed-clause-episode
-returns-then-has_failed-clause-episode c = nothing_played c.args.event c.args.node.now
+returns-then-has_failed-clause-episode g c = nothing_played g.A.Driver.says c.args.event c.args.node.now
 
 pub returns-then-fullness-clause-episode : goal.returns-then-fullness-clause-episode
-returns-then-fullness-clause-episode c =
-    found_full c.play_with-result.result c.args.event c.args.node.now c.play_with-result.new.node (record { is_full = false }) c.play_with-result.new.watch refl c.if-fullness.true c.play_with-result.ensures.episode
+returns-then-fullness-clause-episode g c =
+    found_full g.A.Driver.says c.play_with-result.result c.args.event c.args.node.now c.play_with-result.new.node (record { is_full = false }) c.play_with-result.new.watch refl c.if-fullness.true c.play_with-result.ensures.episode
 
 pub returns-in-Ok-clause-episode : goal.returns-in-Ok-clause-episode
-returns-in-Ok-clause-episode c =
+returns-in-Ok-clause-episode g c =
     let w : Fullness = record { is_full = false } in
     let a = c.args.node.now in
     let b = c.play_with-result.new.node in
     let z = c.play_with-result.new.watch in
-    full_nowhere (Ok c.in-Ok.played) c.args.event a b w z refl c.if-fullness.false (λ is. absurd cc)
-    (subst (λ (r : Result Played Fault). GoesWatched notes_full r c.args.event w a b z) c.in-Ok.is c.play_with-result.ensures.episode)
+    full_nowhere g.A.Driver.says (Ok c.in-Ok.played) c.args.event a b w z refl c.if-fullness.false (λ is. absurd cc)
+    (subst (λ (r : Result Played Fault). GoesWatched g.A.Driver.says notes_full r c.args.event w a b z) c.in-Ok.is c.play_with-result.ensures.episode)
 
 pub returns-in-Err-clause-episode : goal.returns-in-Err-clause-episode
-returns-in-Err-clause-episode c =
-    told_as NoMemory c.play_with-result.result c.args.event c.args.node.now c.play_with-result.new.node (record { is_full = false }) c.play_with-result.new.watch refl c.if-fullness.false (λ is. absurd cc) c.play_with-result.ensures.episode
+returns-in-Err-clause-episode g c =
+    told_as g.A.Driver.says NoMemory c.play_with-result.result c.args.event c.args.node.now c.play_with-result.new.node (record { is_full = false }) c.play_with-result.new.watch refl c.if-fullness.false (λ is. absurd cc) c.play_with-result.ensures.episode

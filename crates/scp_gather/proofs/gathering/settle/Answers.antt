@@ -11,17 +11,17 @@ use Rattle.scp_gather.proofs.Settling.{AllWell, none_failed}
 use Rattle.scp_gather.proofs.gathering.settle.Goals as goal
 
 pub take_each_back-requires-clause-joined : goal.take_each_back-requires-clause-joined
-take_each_back-requires-clause-joined c =
+take_each_back-requires-clause-joined g c =
     let joined = subst AreJoined (sym c.ends.view_is) c.requires.joined in
     λ l k there r there'. subst (λ (x : Receiver Inbound). IsJoined x.line k r) (sym c.into_parts-inbox.ensures.parts.0) (joined.links l k there r there')
 
 pub take_each_back-requires-clause-well : goal.take_each_back-requires-clause-well
-take_each_back-requires-clause-well c = (subst AllWell (sym c.ends.view_is) (none_failed c.args.ends c.requires.well)).readers
+take_each_back-requires-clause-well g c = (subst AllWell (sym c.ends.view_is) (none_failed c.args.ends c.requires.well)).readers
 
 pub returns-clause-ended : goal.returns-clause-ended
-returns-clause-ended c =
+returns-clause-ended g c =
     let all = subst AllWell (sym c.ends.view_is) (none_failed c.args.ends c.requires.well) in
-    subst EndWell c.ends.view_is (record {
+    subst (EndWell g.A.Driver.says) c.ends.view_is (record {
       lanes = λ l k there r there'. subst (λ (x : Receiver Inbound). IsReadOut x k r) c.into_parts-inbox.ensures.parts.0 (c.in_ok-came.ensures.read_out l k there r there');
       commands = c.return_to.ensures.commands;
       told = subst (λ (x : Receiver Inbound). IsQueued x c.ends.inside.local) (c.take_each_back.ensures.same ∙ c.into_parts-inbox.ensures.parts.0) c.return_to.ensures.queued;
@@ -37,7 +37,7 @@ returns-clause-ended c =
     })
 
 pub unreachable-requires-in_default-onward : goal.unreachable-requires-in_default-onward
-unreachable-requires-in_default-onward c =
+unreachable-requires-in_default-onward g c =
     let all = subst AllWell (sym c.ends.view_is) (none_failed c.args.ends c.requires.well) in
     let joined = subst AreJoined (sym c.ends.view_is) c.requires.joined in
     let there = joined.decided (c.into_parts-ready.ensures.well all.slot).ended in
@@ -45,7 +45,7 @@ unreachable-requires-in_default-onward c =
     cc
 
 pub take_back-requires-2 : goal.take_back-requires-2
-take_back-requires-2 c =
+take_back-requires-2 g c =
     let all = subst AllWell (sym c.ends.view_is) (none_failed c.args.ends c.requires.well) in
     let joined = subst AreJoined (sym c.ends.view_is) c.requires.joined in
     let there = joined.decided (c.into_parts-ready.ensures.well all.slot).ended in
@@ -56,12 +56,12 @@ take_back-requires-2 c =
     some_is x y e = cc
 
 pub returns-in_err-came-clause-only_memory : goal.returns-in_err-came-clause-only_memory
-returns-in_err-came-clause-only_memory c =
+returns-in_err-came-clause-only_memory g c =
     let p = err_from_is_err_and c.from_residual.result c.from_residual.ensures.1 in
     rw (p.1, p.2) c.in_err-came.ensures.only_memory
 
 pub take_back-requires : goal.take_back-requires
-take_back-requires c =
+take_back-requires g c =
     let all = subst AllWell (sym c.ends.view_is) (none_failed c.args.ends c.requires.well) in
     let joined = subst AreJoined (sym c.ends.view_is) c.requires.joined in
     let there = joined.ready (c.into_parts-inbox.ensures.well all.pend).ended in

@@ -2,7 +2,7 @@ use Rattle.scp_gather.proofs.Joining.{gathered}
 use Rattle.scp_gather.proofs.laws.what_ends_well_is_gathered.Goals as goal
 
 pub returns : goal.returns
-returns c = gathered (record {
+returns g c = gathered g.D.Driver.says (record {
   ran = c.what_ran_keeps_the_ledger.ensures;
   in_order = c.what_is_read_keeps_the_shape.ensures;
   sent_is = c.what_is_read_is_what_was_sent.ensures;

@@ -3,6 +3,6 @@ use Rattle.scp_ledger.proofs.laws.what_holds_of_a_ledger_holds_with_one_thing_mo
 
 pub returns : goal.returns
 returns g c = record {
-  journals = journals_pass g.D.Driver.level g.D.Driver.extracted g.D.Driver.combined g.D.Driver.place;
-  grows = takes_grow g.D.Driver.level g.D.Driver.extracted g.D.Driver.combined g.D.Driver.place;
+  journals = journals_pass g.D.Driver.says.level g.D.Driver.says.extracted g.D.Driver.says.combined g.D.Driver.says.place;
+  grows = takes_grow g.D.Driver.says.level g.D.Driver.says.extracted g.D.Driver.says.combined g.D.Driver.says.place;
 }

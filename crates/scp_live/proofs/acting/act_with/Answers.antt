@@ -1,6 +1,7 @@
 use Rattle.std.proofs.Common.{string_bytes}
 use Rattle.std.specs.Prelude.{map}
-use Rattle.scp_turn.specs.Watch.{notes, Watched}
+use Rattle.scp_turn.specs.Watch.{notes}
+use Rattle.scp_turn.specs.Kv.{Watched}
 use Rattle.scp_live.proofs.Texts.{acts_beside, refuses_beside}
 use Rattle.scp_live.proofs.acting.act_with.Goals as goal
 

@@ -1,7 +1,7 @@
 use Rattle.std.proofs.Common.{List, [], ◌∷◌, refl, sym, ◌∙◌, ap, subst, string_bytes}
 use Rattle.std.proofs.lemmas.Result.{err_from_is_err_and}
-use Rattle.scp_core.specs.Node.{NodeView}
-use Rattle.scp_turn.specs.Watch.{Watched}
+use Rattle.scp_core.specs.Kv.{NodeView}
+use Rattle.scp_turn.specs.Kv.{Watched}
 use Rattle.scp_log.specs.Log.{EntryView}
 use Rattle.scp_kept.specs.declared.happening.Kept.{Kept as Happened}
 use Rattle.scp_kept.specs.Watching.{WatchView, noting}

@@ -14,7 +14,7 @@ use Rattle.scp_nominate.proofs.leaders.vote_leaders.Given as goal
 abbrev pub invariant-loop-leader : goal.invariant-loop-leader
 invariant-loop-leader g l = record {
   more : MoreVotes l.fn.votes l.votes;
-  only : (v : List ℕ) → Has l.votes v → Has l.fn.votes v ⊎ ((node : NodeId) × Contains l.leaders node × Suggests (IsFull (g.D.Driver.level l.driver) l.slot.0) (g.D.Driver.extracted l.driver l.slot.0) (heard l.board) node v);
-  exact : GoesOn (λ node s t. VotesAfter (IsFull (g.D.Driver.level l.driver) l.slot.0) (g.D.Driver.extracted l.driver l.slot.0) (heard l.board) node s t) l.leaders l.leader-index (items l.fn.votes) (items l.votes);
-  heard : (k : ℕ) (d : NodeId) → k < l.leader-index → IsHeard (IsFull (g.D.Driver.level l.driver) l.slot.0) (heard l.board) l.votes (get_or l.leaders k d);
+  only : (v : List ℕ) → Has l.votes v → Has l.fn.votes v ⊎ ((node : NodeId) × Contains l.leaders node × Suggests (IsFull (g.D.Driver.says.level l.driver) l.slot.0) (g.D.Driver.says.extracted l.driver l.slot.0) (heard l.board) node v);
+  exact : GoesOn (λ node s t. VotesAfter (IsFull (g.D.Driver.says.level l.driver) l.slot.0) (g.D.Driver.says.extracted l.driver l.slot.0) (heard l.board) node s t) l.leaders l.leader-index (items l.fn.votes) (items l.votes);
+  heard : (k : ℕ) (d : NodeId) → k < l.leader-index → IsHeard (IsFull (g.D.Driver.says.level l.driver) l.slot.0) (heard l.board) l.votes (get_or l.leaders k d);
 }

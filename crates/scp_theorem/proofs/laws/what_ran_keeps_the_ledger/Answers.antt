@@ -24,4 +24,4 @@ returns g c = ran_keeps_ledger (record {
   links = c.nothing_is_of_a_stranger.ensures.links;
   parked = c.what_is_parked_came.ensures.parked;
   live = c.what_is_live_is_so_by_its_place.ensures.places;
-}) g.D.Driver.level g.D.Driver.extracted g.D.Driver.combined g.D.Driver.place
+}) g.D.Driver.says.level g.D.Driver.says.extracted g.D.Driver.says.combined g.D.Driver.says.place

@@ -29,6 +29,7 @@ returns-clause-ended g c = λ me set peers caps apart runs driven sent all.
       e,
       record {
         report = c.in_ok-report.ensures.theorem me set peers node;
+        state_is = c.in_ok-report.ensures.state;
         sized = sized me set peers caps c.args.node e takers runs left;
         commands_are = ap (λ (s : Sender Inbound). s.sent) left.local;
         fates_are = c.in_ok-report.ensures.commands me set peers node;
@@ -59,7 +60,7 @@ told_by x stage r is none refused only =
 pub returns-clause-fault : goal.returns-clause-fault
 returns-clause-fault g c =
     let x = c.in_ok-ends.ensures.ended in
-    let r : Result Gathering Fault = Ok c.in_ok-report.field-0 in
+    let r : Result (Gathering _ _) Fault = Ok c.in_ok-report.field-0 in
     (x.0, x.1, told_by x.0 (first_failed c.in_ok-ends.ends) r x.2.0 x.2.1 c.in_ok-report.ensures.refused c.in_ok-report.ensures.only)
 
 pub returns-in_err-ends-clause-fault : goal.returns-in_err-ends-clause-fault
@@ -71,6 +72,6 @@ returns-in_err-ends-clause-fault g c =
 pub returns-in_err-report-clause-fault : goal.returns-in_err-report-clause-fault
 returns-in_err-report-clause-fault g c =
     let x = c.in_ok-ends.ensures.ended in
-    let r : Result Gathering Fault = Err c.in_err-report.field-0.0 in
+    let r : Result (Gathering _ _) Fault = Err c.in_err-report.field-0.0 in
     let p = err_from_is_err_and c.from_residual-in_err-report.result c.from_residual-in_err-report.ensures.1 in
     (x.0, x.1, rw (p.1, p.2) (told_by x.0 (first_failed c.in_ok-ends.ends) r x.2.0 x.2.1 c.in_err-report.ensures.refused c.in_err-report.ensures.only))

@@ -4,4 +4,4 @@ use Rattle.scp_turn.proofs.turns.settle.Given as goal
 
 -- the turns so far moved something
 abbrev pub invariant-loop : goal.invariant-loop
-invariant-loop l = Goes l.fn.node l.node (AreMovingTurns l.counter)
+invariant-loop g l = Goes g.A.Driver.says l.fn.node l.node (AreMovingTurns g.A.Driver.says l.counter)

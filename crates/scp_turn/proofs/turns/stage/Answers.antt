@@ -6,7 +6,7 @@ use Rattle.scp_turn.proofs.turns.stage.Goals as goal
 
 pub returns : goal.returns
 returns g c =
-    acts_moved (notes g.W.Watch.notes_before g.W.Watch.notes_after) c.args.number c.args.watch.now c.step_with.new.watch c.args.node.now c.step_with.new.node c.args.event c.step_with.result c.match-matches.matches c.requires.stage
+    acts_moved g.A.Driver.says (notes g.W.Watch.notes_before g.W.Watch.notes_after) c.args.number c.args.watch.now c.step_with.new.watch c.args.node.now c.step_with.new.node c.args.event c.step_with.result c.match-matches.matches c.requires.stage
     (λ calm is. elim c.match-matches.branch [
       | in-Moved w ↦ let e : false ≡ true = sym calm ∙ w.matches-is in cc
       | in_default w ↦ w.in_default.not-Moved is

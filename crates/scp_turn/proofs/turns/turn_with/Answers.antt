@@ -11,7 +11,7 @@ returns g c =
     let old = c.args.node.now in
     let new = c.work.new.node in
     let count : c.min-links.result ≡ links_of old = search rules in
-    goes_as old new
-    (λ a heard b. (events_of heard ≡ stage_events c.min-links.result) × Watched Note c.args.number c.args.watch.now a heard b c.work.new.watch × ((c.work.result ≡ false) ↔ IsStill heard))
-    (λ a heard b. IsTurn a heard b × Watched Note c.args.number c.args.watch.now a heard b c.work.new.watch × ((c.work.result ≡ false) ↔ IsStill heard))
+    goes_as g.A.Driver.says old new
+    (λ a heard b. (events_of heard ≡ stage_events c.min-links.result) × Watched g.A.Driver.says Note c.args.number c.args.watch.now a heard b c.work.new.watch × ((c.work.result ≡ false) ↔ IsStill heard))
+    (λ a heard b. IsTurn a heard b × Watched g.A.Driver.says Note c.args.number c.args.watch.now a heard b c.work.new.watch × ((c.work.result ≡ false) ↔ IsStill heard))
     (λ heard done p. (p.0 ∙ ap (λ n. stage_events n) count, p.1, p.2)) c.work.ensures

@@ -5,13 +5,13 @@ use Rattle.scp_apply.proofs.Applying.{begins, goes_on, ends}
 use Rattle.scp_apply.proofs.slots.Slots.advance.Goals as goal
 
 pub loop-place-init : goal.loop-place-init
-loop-place-init c = begins c.args.self.now c.requires.is_applied
+loop-place-init g c = begins g.A.Application.after c.args.self.now c.args.state.now c.requires.is_applied
 
 pub loop-place-preserved : goal.loop-place-preserved
-loop-place-preserved c =
+loop-place-preserved g c =
     let buffer = c.loop-place.self.buffer.items in
     let next = is_at (length c.loop-place.self.applied.items + 1) in
-    goes_on c.args.self.now c.loop-place.self c.in-Some.place c.apply_at.new.self (position-Some next buffer c.in-Some.place c.in_ok-apply_at.ensures.ok.decision (sym c.in-Some.ensures)).0 (λ d. (position-Some next buffer c.in-Some.place d (sym c.in-Some.ensures)).1) c.in_ok-apply_at.ensures.ok c.loop-place.invariant
+    goes_on g.A.Application.after c.args.self.now c.args.state.now c.loop-place.self c.loop-place.state c.in-Some.place c.apply_at.new.self c.apply_at.new.state (position-Some next buffer c.in-Some.place c.in_ok-apply_at.ensures.ok.decision (sym c.in-Some.ensures)).0 (λ d. (position-Some next buffer c.in-Some.place d (sym c.in-Some.ensures)).1) c.in_ok-apply_at.ensures.ok c.loop-place.invariant
 
 pub returns-clause-ok : goal.returns-clause-ok
-returns-clause-ok c = ends c.args.self.now c.loop-place.self (sym c.in_default.ensures) c.loop-place.invariant
+returns-clause-ok g c = ends g.A.Application.after c.args.self.now c.args.state.now c.loop-place.self c.loop-place.state (sym c.in_default.ensures) c.loop-place.invariant

@@ -4,15 +4,15 @@ use Rattle.scp_core.proofs.Deciding.{sound_take}
 use Rattle.scp_core.proofs.decider.Decider.take.Goals as goal
 
 pub take-requires : goal.take-requires
-take-requires c = record { runs = (c.self.invariant (ap (λ (v : DeciderView). v.failed) c.self.view_is ∙ c.requires.runs)).ledger_runs }
+take-requires g c = record { runs = (c.self.invariant (ap (λ (v : DeciderView _). v.failed) c.self.view_is ∙ c.requires.runs)).ledger_runs }
 
 pub invariant_of-self : goal.invariant_of-self
-invariant_of-self c = λ runs.
+invariant_of-self g c = λ runs.
     let t = c.in-Ok.ensures.takes in
-    rw (← t.onward_is, ← t.command_is, ← t.said_is) (sound_take c.what_holds_of_a_ledger_holds_with_one_thing_more.ensures.grows _ _ t.took _ (ap (λ (v : DeciderView). v.hand) c.self.view_is ∙ c.requires.empty) t.takes t.known t.running (c.self.invariant runs))
+    rw (← t.onward_is, ← t.command_is, ← t.said_is) (sound_take g.A.Driver.says c.what_holds_of_a_ledger_holds_with_one_thing_more.ensures.grows _ _ t.took _ (ap (λ (v : DeciderView _). v.hand) c.self.view_is ∙ c.requires.empty) t.takes t.known t.running (c.self.invariant runs))
 
 pub returns-in-Ok : goal.returns-in-Ok
-returns-in-Ok c =
+returns-in-Ok g c =
     let t = c.in-Ok.ensures.takes in (
       t.took,
       rw (← c.self.view_is) t.takes,

@@ -7,6 +7,6 @@ use Rattle.scp_core.proofs.Handlers.{close-step}
 use Rattle.scp_core.proofs.node.Node.close.Goals as goal
 
 pub returns : goal.returns
-returns c =
-    let from = c.peer-from.ensures ∙ ap (λ (v : NodeView). peer_at v.config c.args.link) (sym c.self.view_is) in
-    rw (← c.self.view_is) (close-step _ c.args.link _ _ (ap (λ (v : NodeView). v.failed) c.self.view_is ∙ c.requires) (subst (λ (q : NodeId). OnLinks (Closes q c.self.inside.me) c.self.inside.links.items c.args.link c.close.result c.close.new.links.items) from c.close.ensures))
+returns g c =
+    let from = c.peer-from.ensures ∙ ap (λ (v : NodeView _). peer_at v.config c.args.link) (sym c.self.view_is) in
+    rw (← c.self.view_is) (close-step g.A.Driver.says _ c.args.link _ _ (ap (λ (v : NodeView _). v.failed) c.self.view_is ∙ c.requires) (subst (λ (q : NodeId). OnLinks (Closes q c.self.inside.me) c.self.inside.links.items c.args.link c.close.result c.close.new.links.items) from c.close.ensures))

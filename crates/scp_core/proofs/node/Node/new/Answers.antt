@@ -5,4 +5,4 @@ use Rattle.scp_core.proofs.Starting.{new_holds, if_ok}
 use Rattle.scp_core.proofs.node.Node.new.Goals as goal
 
 pub returns-clause-theorem : goal.returns-clause-theorem
-returns-clause-theorem c = if_ok IsNew (LedgerTheorem []) c.with_set.result (λ v n. new_holds c.what_holds_of_a_ledger_holds_with_one_thing_more.ensures.journals v n) c.with_set.ensures.new
+returns-clause-theorem g c = if_ok (IsNew g.A.Driver.says) (LedgerTheorem g.A.Driver.says []) c.with_set.result (λ v n. new_holds g.A.Driver.says c.what_holds_of_a_ledger_holds_with_one_thing_more.ensures.journals v n) c.with_set.ensures.new

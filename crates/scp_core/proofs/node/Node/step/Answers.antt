@@ -1,4 +1,4 @@
 use Rattle.scp_core.proofs.node.Node.step.Goals as goal
 
 pub returns-clause-theorem : goal.returns-clause-theorem
-returns-clause-theorem c = λ past h. c.what_holds_of_a_past_holds_with_one_step_more.ensures past c.args.self.now _ c.args.event c.perform.result c.perform.ensures h
+returns-clause-theorem g c = λ past h. c.what_holds_of_a_past_holds_with_one_step_more.ensures past c.args.self.now _ c.args.event c.perform.result c.perform.ensures h

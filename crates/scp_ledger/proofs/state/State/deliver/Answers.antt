@@ -12,9 +12,9 @@ returns-in-Some-clause-takes g c =
     let parts = c.into_parts-message.result in
     let are = c.into_parts-message.ensures in
     if_ok c.take_envelope.result
-    (λ took. TakesEnvelope g.D.Driver.level g.D.Driver.extracted g.D.Driver.combined g.D.Driver.place v parts.0 parts.1 c.in-Envelope.envelope (Some c.in-Some.set.value) took w)
-    (λ took. TakesMessage g.D.Driver.level g.D.Driver.extracted g.D.Driver.combined g.D.Driver.place v d.conn d.seq d.message d.set took w)
-    (λ took t. delivered_envelope g.D.Driver.level g.D.Driver.extracted g.D.Driver.combined g.D.Driver.place v w took d.conn parts.0 d.seq parts.1 d.message parts.2 d.set parts.3 c.in-Envelope.envelope c.in-Some.set are.conn are.seq are.message c.in-Envelope.is are.set c.in-Some.is t)
+    (λ took. TakesEnvelope g.D.Driver.says.level g.D.Driver.says.extracted g.D.Driver.says.combined g.D.Driver.says.place v parts.0 parts.1 c.in-Envelope.envelope (Some c.in-Some.set.value) took w)
+    (λ took. TakesMessage g.D.Driver.says.level g.D.Driver.says.extracted g.D.Driver.says.combined g.D.Driver.says.place v d.conn d.seq d.message d.set took w)
+    (λ took t. delivered_envelope g.D.Driver.says.level g.D.Driver.says.extracted g.D.Driver.says.combined g.D.Driver.says.place v w took d.conn parts.0 d.seq parts.1 d.message parts.2 d.set parts.3 c.in-Envelope.envelope c.in-Some.set are.conn are.seq are.message c.in-Envelope.is are.set c.in-Some.is t)
     c.take_envelope.ensures.takes
 
 pub returns-in-Record-clause-takes : goal.returns-in-Record-clause-takes
@@ -26,6 +26,6 @@ returns-in-Record-clause-takes g c =
     let are = c.into_parts-message.ensures in
     if_ok c.take_record.result
     (λ took. TakesRecord v parts.0 parts.1 c.in-Record.slot c.in-Record.value parts.3 took w)
-    (λ took. TakesMessage g.D.Driver.level g.D.Driver.extracted g.D.Driver.combined g.D.Driver.place v d.conn d.seq d.message d.set took w)
-    (λ took t. delivered_record g.D.Driver.level g.D.Driver.extracted g.D.Driver.combined g.D.Driver.place v w took d.conn parts.0 d.seq parts.1 d.message parts.2 d.set parts.3 c.in-Record.slot c.in-Record.value are.conn are.seq are.message c.in-Record.is are.set t)
+    (λ took. TakesMessage g.D.Driver.says.level g.D.Driver.says.extracted g.D.Driver.says.combined g.D.Driver.says.place v d.conn d.seq d.message d.set took w)
+    (λ took t. delivered_record g.D.Driver.says.level g.D.Driver.says.extracted g.D.Driver.says.combined g.D.Driver.says.place v w took d.conn parts.0 d.seq parts.1 d.message parts.2 d.set parts.3 c.in-Record.slot c.in-Record.value are.conn are.seq are.message c.in-Record.is are.set t)
     c.take_record.ensures.takes

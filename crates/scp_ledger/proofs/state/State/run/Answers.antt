@@ -21,7 +21,7 @@ returns-clause-ran g c =
     let put : (s : ℕ) → machine_at mid s ≡ cond (tree.is_at (nat_cmp c.args.slot.0) s) (Some n) (machine_at old s) = (written.3 (subst (λ o. IsSome o) (sym there) refl)).0 in
     record {
       before = m;
-      taken = subst (λ o. IsTakenOut g.D.Driver.level g.D.Driver.place c.args.self.now c.args.slot o m) (sym there) refl;
+      taken = subst (λ o. IsTakenOut g.D.Driver.says.level g.D.Driver.says.place c.args.self.now c.args.slot o m) (sym there) refl;
       after = n;
       takes = c.in_ok-out-in-Some.ensures.takes;
       decides = c.in_ok-out-in-Some.ensures.decides;

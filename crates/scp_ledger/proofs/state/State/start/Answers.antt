@@ -21,7 +21,7 @@ returns-clause-ran g c =
     let new = c.keep.new.self.machines.entries in
     record {
       before = c.in_ok-machine.machine;
-      taken = subst (λ o. IsTakenOut g.D.Driver.level g.D.Driver.place c.args.self.now c.args.slot o c.in_ok-machine.machine) (sym c.requires.none) c.in_ok-machine.ensures.made;
+      taken = subst (λ o. IsTakenOut g.D.Driver.says.level g.D.Driver.says.place c.args.self.now c.args.slot o c.in_ok-machine.machine) (sym c.requires.none) c.in_ok-machine.ensures.made;
       after = c.enter.new.machine;
       takes = c.in_ok-out.ensures.takes;
       decides = c.in_ok-out.ensures.decides;

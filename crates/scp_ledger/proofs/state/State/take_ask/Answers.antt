@@ -15,7 +15,7 @@ returns-clause-takes g c =
     let w = state_view false c.ask_or_pass.new.self in
     let took = c.in_ok-took.took in
     subst (λ (t : Took). TakesAsk v c.args.link c.args.slot t w) (sym c.told.ensures)
-    (ask_told g.D.Driver.level g.D.Driver.extracted g.D.Driver.combined g.D.Driver.place v w c.args.link c.args.slot took (Some (fate_by took.verdict fate.AskedBefore fate.Asked)) c.in_ok-took.ensures.takes)
+    (ask_told g.D.Driver.says.level g.D.Driver.says.extracted g.D.Driver.says.combined g.D.Driver.says.place v w c.args.link c.args.slot took (Some (fate_by took.verdict fate.AskedBefore fate.Asked)) c.in_ok-took.ensures.takes)
 
 pub returns-clause-tells : goal.returns-clause-tells
 returns-clause-tells g c =
@@ -23,4 +23,4 @@ returns-clause-tells g c =
     let w = state_view false c.ask_or_pass.new.self in
     let took = c.in_ok-took.took in
     subst (λ (t : Took). IsSomeAnd t.command (IsAskFate v c.args.link c.args.slot)) (sym c.told.ensures)
-    (asked_told g.D.Driver.level g.D.Driver.extracted g.D.Driver.combined g.D.Driver.place v w c.args.slot took c.requires.sound.machines c.args.link c.in_ok-took.ensures.takes)
+    (asked_told g.D.Driver.says.level g.D.Driver.says.extracted g.D.Driver.says.combined g.D.Driver.says.place v w c.args.slot took c.requires.sound.machines c.args.link c.in_ok-took.ensures.takes)

@@ -15,13 +15,13 @@ returns-clause-takes g c =
     let v = state_view false c.args.self.now in
     let w = state_view false c.take_command.new.self in
     let took = c.in_ok-took.took in
-    subst (λ (t : Took). Commands g.D.Driver.level g.D.Driver.extracted g.D.Driver.combined g.D.Driver.place v c.args.slot (Propose c.args.value) t w) (sym c.told.ensures)
-    (commands_told g.D.Driver.level g.D.Driver.extracted g.D.Driver.combined g.D.Driver.place v w c.args.slot (Propose c.args.value) took (Some (fate_by took.verdict fate.ProposedBefore fate.Proposed)) c.in_ok-took.ensures.takes)
+    subst (λ (t : Took). Commands g.D.Driver.says.level g.D.Driver.says.extracted g.D.Driver.says.combined g.D.Driver.says.place v c.args.slot (Propose c.args.value) t w) (sym c.told.ensures)
+    (commands_told g.D.Driver.says.level g.D.Driver.says.extracted g.D.Driver.says.combined g.D.Driver.says.place v w c.args.slot (Propose c.args.value) took (Some (fate_by took.verdict fate.ProposedBefore fate.Proposed)) c.in_ok-took.ensures.takes)
 
 pub returns-clause-tells : goal.returns-clause-tells
 returns-clause-tells g c =
     let v = state_view false c.args.self.now in
     let w = state_view false c.take_command.new.self in
     let took = c.in_ok-took.took in
-    subst (λ (t : Took). IsSomeAnd t.command (IsProposalFate g.D.Driver.level v c.args.slot c.args.value)) (sym c.told.ensures)
-    (proposal_told g.D.Driver.level g.D.Driver.extracted g.D.Driver.combined g.D.Driver.place v w c.args.slot took c.requires.sound.machines c.args.value c.in_ok-took.ensures.takes)
+    subst (λ (t : Took). IsSomeAnd t.command (IsProposalFate g.D.Driver.says.level v c.args.slot c.args.value)) (sym c.told.ensures)
+    (proposal_told g.D.Driver.says.level g.D.Driver.says.extracted g.D.Driver.says.combined g.D.Driver.says.place v w c.args.slot took c.requires.sound.machines c.args.value c.in_ok-took.ensures.takes)

@@ -15,8 +15,8 @@ returns-clause-takes g c =
     let v = state_view false c.args.self.now in
     let w = state_view false c.take_command.new.self in
     let took = c.in_ok-took.took in
-    subst (λ (t : Took). Commands g.D.Driver.level g.D.Driver.extracted g.D.Driver.combined g.D.Driver.place v c.args.slot Timer t w) (sym c.told.ensures)
-    (commands_told g.D.Driver.level g.D.Driver.extracted g.D.Driver.combined g.D.Driver.place v w c.args.slot Timer took (Some (fate_by took.verdict c.idle_timer-idle.result fate.BallotMoved)) c.in_ok-took.ensures.takes)
+    subst (λ (t : Took). Commands g.D.Driver.says.level g.D.Driver.says.extracted g.D.Driver.says.combined g.D.Driver.says.place v c.args.slot Timer t w) (sym c.told.ensures)
+    (commands_told g.D.Driver.says.level g.D.Driver.says.extracted g.D.Driver.says.combined g.D.Driver.says.place v w c.args.slot Timer took (Some (fate_by took.verdict c.idle_timer-idle.result fate.BallotMoved)) c.in_ok-took.ensures.takes)
 
 pub returns-clause-tells : goal.returns-clause-tells
 returns-clause-tells g c =
@@ -24,4 +24,4 @@ returns-clause-tells g c =
     let w = state_view false c.take_command.new.self in
     let took = c.in_ok-took.took in
     subst (λ (t : Took). IsSomeAnd t.command (IsTimerFate v c.args.slot t.outgoing)) (sym c.told.ensures)
-    (timer_told g.D.Driver.level g.D.Driver.extracted g.D.Driver.combined g.D.Driver.place v w c.args.slot took c.requires.sound.machines c.idle_timer-idle.result c.idle_timer-idle.ensures c.in_ok-took.ensures.takes)
+    (timer_told g.D.Driver.says.level g.D.Driver.says.extracted g.D.Driver.says.combined g.D.Driver.says.place v w c.args.slot took c.requires.sound.machines c.idle_timer-idle.result c.idle_timer-idle.ensures c.in_ok-took.ensures.takes)

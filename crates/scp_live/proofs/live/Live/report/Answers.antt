@@ -2,6 +2,8 @@ use Rattle.std.proofs.Common.{◌≡◌, ◌++◌, ◌∙◌, false, ap, sym, st
 use Rattle.std.specs.Prelude.{map, flat_map, Some, None}
 use Rattle.std.specs.FinMap as map_of
 use Rattle.std.proofs.lemmas.Result.{on_ok_weaker}
+use Rattle.scp_kv.specs.State.{fold_of}
+use Rattle.scp_apply.specs.Applied.{values_of}
 use Rattle.scp_told.specs.State.{key_line}
 use Rattle.scp_live.specs.Live.{LiveView}
 use Rattle.scp_live.proofs.Reports.{state_is, report_is}
@@ -22,7 +24,7 @@ returns-in-Some c =
     (c.peers.ensures ∙ ap (λ (u : LiveView). u.node.config.peers) c.self.view_is)
     (c.journal.ensures ∙ ap (λ (u : LiveView). u.node.ledger.journal) c.self.view_is)
     (c.applied.ensures ∙ ap (λ (u : LiveView). u.node.applier.applied) c.self.view_is)
-    (state_is (Some state) c.self.inside.node.failed c.self.inside.node.applier.state is (ap (λ (u : LiveView). u.node.failed) c.self.view_is ∙ run) ∙ ap (λ (u : LiveView). u.node.applier.state) c.self.view_is)
+    (state_is (Some state) c.self.inside.node.failed (Some (fold_of (values_of c.self.inside.node.applier.applied))) is (ap (λ (u : LiveView). u.node.failed) c.self.view_is ∙ run) ∙ ap (λ (u : LiveView). Some (fold_of (values_of u.node.applier.applied))) c.self.view_is)
     c.in_ok-tell_fates.ensures c.in_ok-tell_applied.ensures q)
     c.tell_keys.ensures
 
@@ -38,5 +40,5 @@ returns-in-None c =
     (c.peers.ensures ∙ ap (λ (u : LiveView). u.node.config.peers) c.self.view_is)
     (c.journal.ensures ∙ ap (λ (u : LiveView). u.node.ledger.journal) c.self.view_is)
     (c.applied.ensures ∙ ap (λ (u : LiveView). u.node.applier.applied) c.self.view_is)
-    (state_is None c.self.inside.node.failed c.self.inside.node.applier.state is (ap (λ (u : LiveView). u.node.failed) c.self.view_is ∙ run) ∙ ap (λ (u : LiveView). u.node.applier.state) c.self.view_is)
+    (state_is None c.self.inside.node.failed (Some (fold_of (values_of c.self.inside.node.applier.applied))) is (ap (λ (u : LiveView). u.node.failed) c.self.view_is ∙ run) ∙ ap (λ (u : LiveView). Some (fold_of (values_of u.node.applier.applied))) c.self.view_is)
     c.in_ok-tell_fates.ensures c.in_ok-tell_applied.ensures (sym (append-nil before))

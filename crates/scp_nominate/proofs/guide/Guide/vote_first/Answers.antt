@@ -39,7 +39,7 @@ returns-clause-exact g c =
         own = subst (λ (n : NodeId). VotesOwn (Contains c.args.self.now.leaders.items n) c.args.self.now.proposal (items c.args.lists.now.votes) (items c.vote_own.new.votes)) c.me_of.ensures c.in_ok-vote_own.ensures.exact;
         leaders = c.args.self.now.leaders.items;
         lead = record { ascend = c.requires.ascending; all = λ v. (λ h. h, λ h. h) };
-        others = subst (λ (ns : List NodeId). InTurn (λ node s t. VotesAfter (IsFull (g.D.Driver.level c.args.self.now.driver) c.args.self.now.slot.0) (g.D.Driver.extracted c.args.self.now.driver c.args.self.now.slot.0) (heard c.args.board.now) node s t) ns (items c.vote_own.new.votes) (items c.vote_leaders.new.votes)) c.as_slice-leaders.ensures.value c.in_ok-vote_leaders.ensures.exact;
+        others = subst (λ (ns : List NodeId). InTurn (λ node s t. VotesAfter (IsFull (g.D.Driver.says.level c.args.self.now.driver) c.args.self.now.slot.0) (g.D.Driver.says.extracted c.args.self.now.driver c.args.self.now.slot.0) (heard c.args.board.now) node s t) ns (items c.vote_own.new.votes) (items c.vote_leaders.new.votes)) c.as_slice-leaders.ensures.value c.in_ok-vote_leaders.ensures.exact;
       },
       refl,
     )

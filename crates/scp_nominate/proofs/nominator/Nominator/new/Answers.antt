@@ -18,9 +18,9 @@ returns-clause-sound g c e =
     let m = c.in_ok-new.field-0 in
     let turns : AreInTurn c.args.me c.args.local.value c.in_ok-nodes.nodes.items = search rules in
     record {
-      paid = begins_paid (IsFull (g.D.Driver.level c.args.driver) c.args.slot.0) (Leads (g.D.Driver.place c.args.driver c.args.slot.0) c.in_ok-nodes.nodes.items 1) c.args.me c.args.local.value m begins;
-      rest = begins_rests (IsFull (g.D.Driver.level c.args.driver) c.args.slot.0) c.args.me c.args.local.value m begins;
-      leaders = first_leads (g.D.Driver.place c.args.driver c.args.slot.0) c.in_ok-nodes.nodes.items c.new-leaders.result.items (λ v. Contains c.add_leader.new.leaders.items v) c.new-leaders.ensures.items (subst (λ xs. (v : NodeId) → Contains c.add_leader.new.leaders.items v ↔ (Contains c.new-leaders.result.items v ⊎ (slice_get xs ((g.D.Driver.place c.args.driver c.args.slot.0) 1 (length xs)) ≡ Some v))) c.as_slice.ensures.value c.in_ok-add_leader.ensures.added);
+      paid = begins_paid (IsFull (g.D.Driver.says.level c.args.driver) c.args.slot.0) (Leads (g.D.Driver.says.place c.args.driver c.args.slot.0) c.in_ok-nodes.nodes.items 1) c.args.me c.args.local.value m begins;
+      rest = begins_rests (IsFull (g.D.Driver.says.level c.args.driver) c.args.slot.0) c.args.me c.args.local.value m begins;
+      leaders = first_leads (g.D.Driver.says.place c.args.driver c.args.slot.0) c.in_ok-nodes.nodes.items c.new-leaders.result.items (λ v. Contains c.add_leader.new.leaders.items v) c.new-leaders.ensures.items (subst (λ xs. (v : NodeId) → Contains c.add_leader.new.leaders.items v ↔ (Contains c.new-leaders.result.items v ⊎ (slice_get xs ((g.D.Driver.says.place c.args.driver c.args.slot.0) 1 (length xs)) ≡ Some v))) c.as_slice.ensures.value c.in_ok-add_leader.ensures.added);
       nodes = subst (λ v. AreInTurn v (heard m.board).local c.in_ok-nodes.nodes.items) (sym begins.board.me) (subst (λ (s : QuorumTree). AreInTurn c.args.me s c.in_ok-nodes.nodes.items) (sym begins.board.local) turns);
       rounds = some_turn c.args.me c.args.local.value c.in_ok-nodes.nodes.items c.in_ok-nodes.nodes.items refl turns;
       ascending = c.in_ok-add_leader.ensures.ascending;

@@ -11,10 +11,10 @@ use Rattle.scp_nominate.proofs.nominator.Nominator.propose.Goals as goal
 pub returns-then-is_some-clause-advances : goal.returns-then-is_some-clause-advances
 returns-then-is_some-clause-advances g c =
     let whole : c.args.self.now.failed ≡ false = search rules in
-    unchanged (IsFull (g.D.Driver.level c.args.self.now.guide.driver) c.args.self.now.guide.slot.0) (g.D.Driver.combined c.args.self.now.guide.driver c.args.self.now.guide.slot.0) c.args.self.now.state c.args.self.now.guide.slot.0 c.args.self.now.guide.proposal c.args.self.now.nodes.items c.args.self.now.rounds c.args.self.now.failed c.nothing.result c.nothing.ensures.statement c.nothing.ensures.composite (c.requires.sound whole).rest
+    unchanged (IsFull (g.D.Driver.says.level c.args.self.now.guide.driver) c.args.self.now.guide.slot.0) (g.D.Driver.says.combined c.args.self.now.guide.driver c.args.self.now.guide.slot.0) c.args.self.now.state c.args.self.now.guide.slot.0 c.args.self.now.guide.proposal c.args.self.now.nodes.items c.args.self.now.rounds c.args.self.now.failed c.nothing.result c.nothing.ensures.statement c.nothing.ensures.composite (c.requires.sound whole).rest
 
 pub returns-clause-advances : goal.returns-clause-advances
-returns-clause-advances g c = advances (IsFull (g.D.Driver.level c.args.self.now.guide.driver) c.args.self.now.guide.slot.0) (g.D.Driver.combined c.args.self.now.guide.driver c.args.self.now.guide.slot.0) c.args.self.now.state c.advance.new.self c.args.self.now.guide.slot.0 (Some c.args.value) c.args.self.now.nodes.items c.args.self.now.rounds false c.in_ok-given.given c.in_ok-given.ensures.settled c.in_ok-given.ensures.own c.in_ok-given.ensures.more c.in_ok-given.ensures.all
+returns-clause-advances g c = advances (IsFull (g.D.Driver.says.level c.args.self.now.guide.driver) c.args.self.now.guide.slot.0) (g.D.Driver.says.combined c.args.self.now.guide.driver c.args.self.now.guide.slot.0) c.args.self.now.state c.advance.new.self c.args.self.now.guide.slot.0 (Some c.args.value) c.args.self.now.nodes.items c.args.self.now.rounds false c.in_ok-given.given c.in_ok-given.ensures.settled c.in_ok-given.ensures.own c.in_ok-given.ensures.more c.in_ok-given.ensures.all
 
 pub returns-clause-others : goal.returns-clause-others
 returns-clause-others g c = keeps_others (heard c.args.self.now.state.board) (heard c.advance.new.self.board) _ c.in_ok-given.ensures.settled.chain.board
@@ -25,12 +25,12 @@ returns-clause-making g c = record { slot = refl; hash = c.in_ok-given.ensures.s
 pub returns-clause-sound : goal.returns-clause-sound
 returns-clause-sound g c e =
     let whole : c.args.self.now.failed ≡ false = search rules in
-    works g.D.Driver.level g.D.Driver.place _ c.args.self.now.state _ c.in_ok-given.ensures.settled c.in_ok-given.ensures.owed (c.requires.sound whole).leaders (c.requires.sound whole).nodes (c.requires.sound whole).rounds (c.requires.sound whole).ascending
+    works g.D.Driver.says.level g.D.Driver.says.place _ c.args.self.now.state _ c.in_ok-given.ensures.settled c.in_ok-given.ensures.owed (c.requires.sound whole).leaders (c.requires.sound whole).nodes (c.requires.sound whole).rounds (c.requires.sound whole).ascending
 
 pub returns-clause-paid : goal.returns-clause-paid
 returns-clause-paid g c =
     let whole : c.args.self.now.failed ≡ false = search rules in
-    paid_by (IsFull (g.D.Driver.level c.args.self.now.guide.driver) c.args.self.now.guide.slot.0) (λ node. Contains c.args.self.now.guide.leaders.items node) (Leads (g.D.Driver.place c.args.self.now.guide.driver c.args.self.now.guide.slot.0) c.args.self.now.nodes.items c.args.self.now.rounds) (Some c.args.value) (heard c.advance.new.self.board) (own_lists c.advance.new.self.lists) (λ v l. ((c.requires.sound whole).leaders v).1 l) c.in_ok-given.ensures.owed
+    paid_by (IsFull (g.D.Driver.says.level c.args.self.now.guide.driver) c.args.self.now.guide.slot.0) (λ node. Contains c.args.self.now.guide.leaders.items node) (Leads (g.D.Driver.says.place c.args.self.now.guide.driver c.args.self.now.guide.slot.0) c.args.self.now.nodes.items c.args.self.now.rounds) (Some c.args.value) (heard c.advance.new.self.board) (own_lists c.advance.new.self.lists) (λ v l. ((c.requires.sound whole).leaders v).1 l) c.in_ok-given.ensures.owed
 
 pub returns-then-is_some-clause-stands : goal.returns-then-is_some-clause-stands
 returns-then-is_some-clause-stands g c =
@@ -40,18 +40,18 @@ returns-then-is_some-clause-stands g c =
 pub returns-then-is_some-clause-lists : goal.returns-then-is_some-clause-lists
 returns-then-is_some-clause-lists g c =
     let whole : c.args.self.now.failed ≡ false = search rules in
-    own_lists_of (IsFull (g.D.Driver.level c.args.self.now.guide.driver) c.args.self.now.guide.slot.0) c.args.self.now.state.lists (c.requires.sound whole).rest.ready
+    own_lists_of (IsFull (g.D.Driver.says.level c.args.self.now.guide.driver) c.args.self.now.guide.slot.0) c.args.self.now.state.lists (c.requires.sound whole).rest.ready
 
 pub returns-clause-stands : goal.returns-clause-stands
 returns-clause-stands g c = c.in_ok-given.ensures.settled.stands
 
 pub returns-clause-lists : goal.returns-clause-lists
-returns-clause-lists g c = own_lists_of (IsFull (g.D.Driver.level c.args.self.now.guide.driver) c.args.self.now.guide.slot.0) c.advance.new.self.lists c.in_ok-given.ensures.settled.ready
+returns-clause-lists g c = own_lists_of (IsFull (g.D.Driver.says.level c.args.self.now.guide.driver) c.args.self.now.guide.slot.0) c.advance.new.self.lists c.in_ok-given.ensures.settled.ready
 
 pub returns-clause-votes : goal.returns-clause-votes
 returns-clause-votes g c =
     let whole : c.args.self.now.failed ≡ false = search rules in
-    votes_led (IsFull (g.D.Driver.level c.args.self.now.guide.driver) c.args.self.now.guide.slot.0) (g.D.Driver.extracted c.args.self.now.guide.driver c.args.self.now.guide.slot.0) (Some c.args.value) (λ v. Contains c.args.self.now.guide.leaders.items v) (Leads (g.D.Driver.place c.args.self.now.guide.driver c.args.self.now.guide.slot.0) c.args.self.now.nodes.items c.args.self.now.rounds) (heard c.advance.new.self.board) c.args.self.now.state.lists c.advance.new.self.lists (c.requires.sound whole).leaders c.in_ok-given.ensures.votes
+    votes_led (IsFull (g.D.Driver.says.level c.args.self.now.guide.driver) c.args.self.now.guide.slot.0) (g.D.Driver.says.extracted c.args.self.now.guide.driver c.args.self.now.guide.slot.0) (Some c.args.value) (λ v. Contains c.args.self.now.guide.leaders.items v) (Leads (g.D.Driver.says.place c.args.self.now.guide.driver c.args.self.now.guide.slot.0) c.args.self.now.nodes.items c.args.self.now.rounds) (heard c.advance.new.self.board) c.args.self.now.state.lists c.advance.new.self.lists (c.requires.sound whole).leaders c.in_ok-given.ensures.votes
 
 pub returns-then-is_some-clause-counted : goal.returns-then-is_some-clause-counted
 returns-then-is_some-clause-counted g c =
@@ -64,4 +64,4 @@ returns-clause-counted g c = c.in_ok-given.ensures.settled.chain.keeps
 pub returns-clause-exact : goal.returns-clause-exact
 returns-clause-exact g c none =
     let whole : c.args.self.now.failed ≡ false = search rules in
-    leads_to (IsFull (g.D.Driver.level c.args.self.now.guide.driver) c.args.self.now.guide.slot.0) (g.D.Driver.extracted c.args.self.now.guide.driver c.args.self.now.guide.slot.0) (Some c.args.value) (λ v. Contains c.args.self.now.guide.leaders.items v) (Leads (g.D.Driver.place c.args.self.now.guide.driver c.args.self.now.guide.slot.0) c.args.self.now.nodes.items c.args.self.now.rounds) (c.requires.sound whole).leaders c.args.self.now.state.hash (heard c.args.self.now.state.board) (own_lists c.args.self.now.state.lists) (heard c.advance.new.self.board) (own_lists c.advance.new.self.lists) c.in_ok-given.ensures.exact
+    leads_to (IsFull (g.D.Driver.says.level c.args.self.now.guide.driver) c.args.self.now.guide.slot.0) (g.D.Driver.says.extracted c.args.self.now.guide.driver c.args.self.now.guide.slot.0) (Some c.args.value) (λ v. Contains c.args.self.now.guide.leaders.items v) (Leads (g.D.Driver.says.place c.args.self.now.guide.driver c.args.self.now.guide.slot.0) c.args.self.now.nodes.items c.args.self.now.rounds) (c.requires.sound whole).leaders c.args.self.now.state.hash (heard c.args.self.now.state.board) (own_lists c.args.self.now.state.lists) (heard c.advance.new.self.board) (own_lists c.advance.new.self.lists) c.in_ok-given.ensures.exact

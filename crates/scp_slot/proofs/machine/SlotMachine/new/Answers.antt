@@ -10,5 +10,5 @@ returns-clause-running g c = subst (λ (s : State _). IsRunning (view_of s false
 
 pub returns-clause-sound : goal.returns-clause-sound
 returns-clause-sound g c e =
-    subst (λ (s : State _). IsWorking g.D.Driver.level g.D.Driver.place s × HoldsShort (view_of s false)) (sym c.in_ok-boxed.ensures.ok)
+    subst (λ (s : State _). IsWorking g.D.Driver.says.level g.D.Driver.says.place s × HoldsShort (view_of s false)) (sym c.in_ok-boxed.ensures.ok)
     (record { running = begins_running c.args.me c.args.slot.0 c.args.set.value _ c.in_ok-state.ensures.begins; nominator = c.in_ok-state.ensures.sound }, begins_short c.args.me c.args.slot.0 c.args.set.value _ c.in_ok-state.ensures.begins c.in_ok-state.ensures.blank)

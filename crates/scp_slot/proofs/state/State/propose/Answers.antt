@@ -37,10 +37,10 @@ returns-clause-takes g c =
     )
 
 pub returns-clause-votes : goal.returns-clause-votes
-returns-clause-votes g c = subst (λ m. nominate.VotesWell g.D.Driver.level g.D.Driver.extracted g.D.Driver.place (nominate.nomination c.args.self.now.nominator).lists m) (sym (ap (λ (s : State _). s.nominator) c.in_ok-out.ensures.rest)) c.in_ok-given.ensures.votes
+returns-clause-votes g c = subst (λ m. nominate.VotesWell g.D.Driver.says.level g.D.Driver.says.extracted g.D.Driver.says.place (nominate.nomination c.args.self.now.nominator).lists m) (sym (ap (λ (s : State _). s.nominator) c.in_ok-out.ensures.rest)) c.in_ok-given.ensures.votes
 
 pub returns-clause-nominates : goal.returns-clause-nominates
 returns-clause-nominates g c =
     let old : SlotView = view_of c.args.self.now false in
     let none : ¬ (IsSome old.nomination.proposal) = λ some. let t = c.has_proposal.ensures.exact.1 some in cc (t, c.if-has_proposal.false) in
-    subst (λ m. NominatesBy g.D.Driver.level g.D.Driver.extracted g.D.Driver.place (nominate.nomination c.args.self.now.nominator) (Propose c.args.value) m) (sym (ap (λ (s : State _). s.nominator) c.in_ok-out.ensures.rest)) (inr (c.in_ok-given.ensures.exact (none_proposed old.nomination.proposal none)))
+    subst (λ m. NominatesBy g.D.Driver.says.level g.D.Driver.says.extracted g.D.Driver.says.place (nominate.nomination c.args.self.now.nominator) (Propose c.args.value) m) (sym (ap (λ (s : State _). s.nominator) c.in_ok-out.ensures.rest)) (inr (c.in_ok-given.ensures.exact (none_proposed old.nomination.proposal none)))

@@ -24,15 +24,15 @@ returns-clause-takes g c =
     nominated_by _ c.args.envelope c.args.set old noted mid c.in_ok-out.out new c.in_ok-given.given
     (ap (λ (v : SlotView). v.me) e1) (ap (λ (v : SlotView). v.slot) e1) (ap (λ (v : SlotView). v.nomination) e1) (ap (λ (v : SlotView). v.ballots) e1) (ap (λ (v : SlotView). v.more) e1) (ap (λ (v : SlotView). v.decided) e1) c.in_ok-note.ensures.enters
     (ap (λ (v : SlotView). v.me) e) (ap (λ (v : SlotView). v.slot) e) is (ap (λ (v : SlotView). v.newest) e)
-    (subst (λ x. nominate.Advances (g.D.Driver.combined (nominate.driver_of x) (nominate.nomination x).slot) (nominate.own noted.nomination) noted.nomination.lists mid.nomination c.in_ok-given.given) (same_nominator _ _ c.in_ok-note.ensures.rest) c.in_ok-given.ensures.advances)
+    (subst (λ x. nominate.Advances (g.D.Driver.says.combined (nominate.driver_of x) (nominate.nomination x).slot) (nominate.own noted.nomination) noted.nomination.lists mid.nomination c.in_ok-given.given) (same_nominator _ _ c.in_ok-note.ensures.rest) c.in_ok-given.ensures.advances)
     c.in_ok-given.ensures.making c.in_ok-given.ensures.working.1 c.in_ok-given.ensures.proposal c.in_ok-given.ensures.rounds c.in_ok-given.ensures.others c.in_ok-out.ensures.passes c.in_ok-out.ensures.emitted c.in_ok-out.ensures.verdict
 
 pub returns-clause-votes : goal.returns-clause-votes
 returns-clause-votes g c =
-    subst (λ m. nominate.VotesWell g.D.Driver.level g.D.Driver.extracted g.D.Driver.place (nominate.nomination c.args.self.now.nominator).lists m) (sym (ap (λ (s : State _). s.nominator) c.in_ok-out.ensures.rest))
-    (subst (λ m. nominate.VotesWell g.D.Driver.level g.D.Driver.extracted g.D.Driver.place (nominate.nomination m).lists c.take.new.self) (ap (λ (s : State _). s.nominator) c.in_ok-note.ensures.rest) c.in_ok-given.ensures.votes)
+    subst (λ m. nominate.VotesWell g.D.Driver.says.level g.D.Driver.says.extracted g.D.Driver.says.place (nominate.nomination c.args.self.now.nominator).lists m) (sym (ap (λ (s : State _). s.nominator) c.in_ok-out.ensures.rest))
+    (subst (λ m. nominate.VotesWell g.D.Driver.says.level g.D.Driver.says.extracted g.D.Driver.says.place (nominate.nomination m).lists c.take.new.self) (ap (λ (s : State _). s.nominator) c.in_ok-note.ensures.rest) c.in_ok-given.ensures.votes)
 
 pub returns-clause-nominates : goal.returns-clause-nominates
 returns-clause-nominates g c =
-    subst (λ m. NominatesBy g.D.Driver.level g.D.Driver.extracted g.D.Driver.place (nominate.nomination c.args.self.now.nominator) (Envelope c.args.envelope c.args.set) m) (sym (ap (λ (s : State _). s.nominator) c.in_ok-out.ensures.rest))
-    (inr (subst (λ m. nominate.ComesFromHearing g.D.Driver.level g.D.Driver.extracted g.D.Driver.place (nominate.nomination m) c.args.envelope c.args.set.value c.take.new.self) (ap (λ (s : State _). s.nominator) c.in_ok-note.ensures.rest) c.in_ok-given.ensures.exact))
+    subst (λ m. NominatesBy g.D.Driver.says.level g.D.Driver.says.extracted g.D.Driver.says.place (nominate.nomination c.args.self.now.nominator) (Envelope c.args.envelope c.args.set) m) (sym (ap (λ (s : State _). s.nominator) c.in_ok-out.ensures.rest))
+    (inr (subst (λ m. nominate.ComesFromHearing g.D.Driver.says.level g.D.Driver.says.extracted g.D.Driver.says.place (nominate.nomination m) c.args.envelope c.args.set.value c.take.new.self) (ap (λ (s : State _). s.nominator) c.in_ok-note.ensures.rest) c.in_ok-given.ensures.exact))

@@ -4,6 +4,6 @@ use Rattle.scp_voting_tests.proofs.nominate.played.gives.Given as goal
 
 abbrev pub invariant-loop-row : goal.invariant-loop-row
 invariant-loop-row g l = record {
-  sound : IsSound g.D.Driver.level g.D.Driver.place l.nominator;
+  sound : IsSound g.D.Driver.says.level g.D.Driver.says.place l.nominator;
   me : (nomination l.nominator).board.me ≡ l.me;
 }
