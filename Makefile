@@ -4,21 +4,22 @@ KILLS ?= 200
 
 .PHONY: run quick build test check try network kills bench wrong-bodies pages
 
-# prints the report of the first script, on an unproved build, within two minutes
+# prints the report of the first script, on an unproved build of the small program, in some two minutes the first time
 run:
 	@scripts/run
 
-# leaves the programs unproved as out/unproved/scp and out/unproved/scp_line, in some minutes for each
+# leaves the programs unproved as out/unproved/bowls and out/unproved/scp_line, in some minutes for each
 quick:
 	@scripts/quick
 
-# proves and builds what the programs stand on, and leaves them as out/scp and out/scp_line
+# proves and builds what the programs stand on, and leaves them as out/bowls and out/scp_line
 build:
 	@scripts/build
 
-# the whole gate: the edits, every proof, the tests, then every script under examples/ against its stored report, and the calls of examples/*.calls
+# the whole gate: every proof, the tests, the edits that aren't on record and an eighth of the others, then every script under examples/ against its
+# stored report, and the calls of examples/*.calls; with ANEW=1 all is proved, whatever this machine has kept
 test:
-	@scripts/gate
+	@scripts/gate $(if $(ANEW),--anew)
 
 # what an edit needs: every crate, lowest first, over what earlier checks kept
 check:
@@ -28,7 +29,7 @@ check:
 try:
 	@scripts/run $(SCRIPT)
 
-# runs four nodes as processes over loopback, kills one and brings it back: on out/scp, or else on an unproved build
+# runs four nodes as processes over loopback, kills one and brings it back: on out/bowls, or else on an unproved build
 network:
 	@scripts/network show
 
@@ -36,9 +37,10 @@ network:
 kills:
 	@KILLS=$(KILLS) scripts/network kills
 
-# the wrong bodies that the gate doesn't try, of all crates or of some: make wrong-bodies CRATE="scp_kv scp_wire"
+# the wrong bodies that the gate doesn't try, of all crates or of some: make wrong-bodies CRATE="scp_kv scp_wire"; with ALL=1 all those of the gate,
+# whatever their record says, where `rt ci` ran: it is written anew
 wrong-bodies:
-	@scripts/wrong-bodies $(CRATE)
+	@$(if $(ALL),scripts/refused --all,scripts/wrong-bodies) $(CRATE)
 
 # counts, growth and memory of each workload
 bench:

@@ -1,6 +1,5 @@
 //! Nodes that exchange all they say until each has decided, slot after slot.
 use crate::envelope::Envelope;
-use crate::hearing::value_of;
 use crate::quorum::{QuorumSet, SaneSet};
 use crate::slot::{SlotInput, SlotMachine, SlotOutput};
 use crate::types::{Fault, NodeId, Slot, Value};
@@ -19,6 +18,14 @@ struct Meeting {
     machines: Vec<SlotMachine>,
     said: VecDeque<(usize, Envelope)>,
     decided: usize,
+}
+
+/// The value that puts "1" at a key of 4 bytes, which is the slot's own.
+fn value_of(slot: u32) -> Value {
+    let [e, f, g, h] = slot.to_be_bytes();
+    Value(vec![
+        0, 0, 0, 1, 0, 0, 0, 0, 0, 0, 0, 4, e, f, g, h, 0, 0, 0, 1, b'1', 0, 0, 0,
+    ])
 }
 
 fn node(place: usize) -> NodeId {
@@ -85,10 +92,7 @@ pub fn decide_slots(nodes: u32, size: u32) -> Result<String, Fault> {
     for slot in 1..=size as u64 {
         let mut meeting = Meeting::new(count, slot, &set);
         let leader = (slot - 1) as usize % count;
-        meeting.enter(
-            leader,
-            SlotInput::Propose(Value(value_of(slot as u32).to_vec())),
-        );
+        meeting.enter(leader, SlotInput::Propose(value_of(slot as u32)));
         meeting.exchange(&mut consensus);
         consensus.decided += meeting.decided as u64;
     }

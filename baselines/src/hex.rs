@@ -14,12 +14,6 @@ pub fn write(out: &mut Vec<u8>, bytes: &[u8]) {
     }
 }
 
-pub fn encode(bytes: &[u8]) -> String {
-    let mut digits = Vec::with_capacity(2 * bytes.len());
-    write(&mut digits, bytes);
-    String::from_utf8(digits).expect("digits are ASCII")
-}
-
 fn digit(byte: u8) -> Option<u8> {
     match byte {
         b'0'..=b'9' => Some(byte - b'0'),

@@ -160,6 +160,7 @@ pub struct Ledger {
     local: Arc<SaneSet>,
     peers: Vec<NodeId>,
     journal: Vec<Fate>,
+    /// Kept, as the crates keep them, though nothing here reads them.
     decisions: Vec<Arc<Decision>>,
     window: Window,
     machines: BTreeMap<u64, SlotMachine>,
@@ -204,10 +205,6 @@ impl Ledger {
 
     pub fn journal(&self) -> &[Fate] {
         &self.journal
-    }
-
-    pub fn decisions(&self) -> &[Arc<Decision>] {
-        &self.decisions
     }
 
     fn link(&self, conn: &ConnId) -> u8 {

@@ -67,10 +67,6 @@ impl Link {
         }
     }
 
-    pub fn room(&self) -> usize {
-        self.room - self.queue.len()
-    }
-
     /// Whether what is sent now would be accepted.
     pub fn accepts(&self) -> bool {
         self.is_open && self.queue.len() < self.room

@@ -146,10 +146,6 @@ impl Node {
         self.ledger.journal()
     }
 
-    pub fn decisions(&self) -> &[Arc<Decision>] {
-        self.ledger.decisions()
-    }
-
     pub fn applied(&self) -> &[Arc<Decision>] {
         &self.applier.applied
     }
@@ -160,11 +156,6 @@ impl Node {
 
     pub fn links(&self) -> &[Link] {
         &self.links
-    }
-
-    /// How many items the link's queue can still take.
-    pub fn room(&self, link: u8) -> usize {
-        self.links.get(link as usize).map_or(0, Link::room)
     }
 
     pub fn parked(&self, conn: &ConnId) -> usize {

@@ -130,10 +130,10 @@ def judge_bench(what, ample, ended):
     if (ended.status, ended.out) == (ample.status, ample.out):
         return "whole", ""
     if ended.status == 3 and what.startswith("allocation"):
-        for line, kind in ((b"fault 1\n", "fault 1"), (b"fault 10 node 0\n", "fault 10"), (b"out of memory\n", "out of memory")):
-            before = ended.out[: len(ended.out) - len(line)]
-            if ended.out.endswith(line) and begins(before, ample.out) and (not before or before.endswith(b"\n")):
-                return (kind, "") if ended.kept == ample.kept else ("DEFECT", f"{kind}, kept {ended.kept}")
+        line = b"fault 1\n"
+        before = ended.out[: len(ended.out) - len(line)]
+        if ended.out.endswith(line) and begins(before, ample.out) and (not before or before.endswith(b"\n")):
+            return ("fault 1", "") if ended.kept == ample.kept else ("DEFECT", f"fault 1, kept {ended.kept}")
     if ended.status == 3 and what.startswith("write"):
         if ended.out.endswith(b"fault 14\n") and begins(ended.out[: -len(b"fault 14\n")], ample.out):
             return "fault 14", ""
@@ -235,7 +235,7 @@ def main():
     for program in asked.programs:
         jobs += [(os.path.abspath(program), *case, asked.budget, False) for case in cases_of(os.path.abspath(asked.examples), scripts)]
     for program in asked.bench:
-        for words in ("decode 3", "records 20", "batches 20", "envelopes 20", "script 20", "quorum-shared 5", "quorum-own 5", "quorum-chain 5", "quorum-missing 5", "quorums 5", "decode x", ""):
+        for words in ("decode 3", "quorum-shared 5", "quorum-own 5", "quorum-chain 5", "quorum-missing 5", "votes-one 1000", "votes-each 1000", "consensus-4 2", "votes 5", "decode x", ""):
             jobs.append((os.path.abspath(program), f"bench {words}", words.split(), "/dev/null", asked.budget, True))
     jobs = [job for job in jobs if asked.only in job[1]]
     bad = False

@@ -31,9 +31,9 @@ use Rattle.scp_gather.specs.Kv.{NodeReport}
 use Rattle.scp_script.specs.declared.command.Command.{Command as Line}
 use Rattle.scp_script.specs.Script.{node_count}
 use Rattle.scp_script.specs.Nodes.{id_of, peers_of}
-use Rattle.scp_line.specs.declared.report.Parked.{Parked}
-use Rattle.scp_line.specs.Parts.{entries_of}
-use Rattle.scp_line.specs.Play.{running_state}
+use Rattle.scp_kept.specs.scp_line.specs.declared.report.Parked.{Parked}
+use Rattle.scp_kept.specs.scp_line.specs.Parts.{entries_of}
+use Rattle.scp_kept.specs.scp_line.specs.Play.{running_state}
 use Rattle.scp_kept.specs.declared.happening.Happening.{Happening}
 use Rattle.scp_kept.specs.declared.happening.Happening.TheVariants as happening
 use Rattle.scp_kept.specs.declared.happening.Kept.{Kept}

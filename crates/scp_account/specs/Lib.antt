@@ -1,3 +1,4 @@
+pub use Rattle.scp_kept
 pub mod Pieces
 pub mod Entries
 pub mod Commands

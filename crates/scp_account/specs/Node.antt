@@ -5,8 +5,8 @@ use Rattle.serde_json.specs.View.{items_of}
 use Rattle.scp_types.specs.declared.limits.TheConstants.{PEER_LIMIT}
 use Rattle.scp_ledger.specs.declared.journal.Decision.{Decision}
 use Rattle.scp_core.specs.Kv.{NodeView}
-use Rattle.scp_line.specs.Parts.{entries_of}
-use Rattle.scp_line.specs.Play.{running_state}
+use Rattle.scp_kept.specs.scp_line.specs.Parts.{entries_of}
+use Rattle.scp_kept.specs.scp_line.specs.Play.{running_state}
 use Rattle.scp_kept.specs.declared.happening.Happening.{Happening}
 use Rattle.scp_kept.specs.Taken.{ticks}
 use Rattle.scp_kept.specs.Waiting.{parked_in}

@@ -5,7 +5,7 @@ use Rattle.scp_types.specs.declared.names.Hash.{Hash}
 use Rattle.scp_types.specs.declared.names.Seq.{Seq}
 use Rattle.scp_pending.specs.Rules.{PendingView}
 use Rattle.scp_pending.specs.Queues.{parked_of, first_waiting as first_that_waits}
-use Rattle.scp_line.specs.declared.report.Parked.{Parked}
+use Rattle.scp_kept.specs.scp_line.specs.declared.report.Parked.{Parked}
 use Rattle.scp_account.specs.Pieces.{count, digits, id_json}
 
 -- the number of the first message that waits, if one does

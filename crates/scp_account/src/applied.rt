@@ -1,9 +1,9 @@
 //! What a node applied, as JSON.
-ghost use Rattle.std.specs.Prelude.{◌≡◌, codes, IfOk, map};
+ghost use Rattle.std.specs.Prelude.{◌≡◌, IfOk, map};
 ghost use Rattle.std.specs.FinMap as fin;
 ghost use Rattle.serde_json.specs.Data.{array};
 ghost use Rattle.serde_json.specs.View.{view, items_of};
-ghost use Rattle.scp_line.specs.Parts.{state_of};
+ghost use Rattle.scp_kept.specs.scp_line.specs.Parts.{state_of};
 ghost use Rattle.scp_account.specs.Node.{applied_json, key_json};
 
 use crate::digits::digits_of;
@@ -18,8 +18,7 @@ fn applied_value(alloc: Global, applied: &Decision) -> Result<Value, AllocError>
     ensures { IfOk result (λ v. view v ≡ applied_json applied.now) }
 {
     let slot = applied.slot.0;
-    let value = digits_of(alloc, applied.value.as_slice())?;
-    json!(in alloc; {"slot": slot, "value": value})
+    json!(in alloc; {"slot": slot, "value": digits_of(alloc, applied.value.as_slice())?})
 }
 
 /// The applied slots, in their order.
@@ -37,9 +36,7 @@ pub fn applied_values(alloc: Global, applied: &[SharedDecision]) -> Result<Value
 fn key_value(alloc: Global, key: &Bytes, value: &Bytes) -> Result<Value, AllocError>
     ensures { IfOk result (λ v. view v ≡ key_json (key.now, value.now)) }
 {
-    let key = digits_of(alloc, key.as_slice())?;
-    let value = digits_of(alloc, value.as_slice())?;
-    json!(in alloc; {"key": key, "value": value})
+    json!(in alloc; {"key": digits_of(alloc, key.as_slice())?, "value": digits_of(alloc, value.as_slice())?})
 }
 
 /// The keys of a state with their values, ascending by key.

@@ -65,13 +65,6 @@ fn arrived_value(
     }
 }
 
-/// A link, by what came over it.
-fn arrival_with(alloc: Global, came: Value, peer: Value) -> Result<Value, AllocError>
-    ensures { IfOk result (λ v. view v ≡ object (member (codes "came") (view came) (member (codes "peer") (view peer) no_members))) }
-{
-    json!(in alloc; {"came": came, "peer": peer})
-}
-
 /// The link of this number, to this peer.
 fn arrival_value(
     alloc: Global,
@@ -81,9 +74,7 @@ fn arrival_value(
 ) -> Result<Value, AllocError>
     ensures { IfOk result (λ v. view v ≡ arrival_json came.now link peer.now) }
 {
-    let came = arrived_value(alloc, came, link)?;
-    let peer = id_value(alloc, peer)?;
-    arrival_with(alloc, came, peer)
+    json!(in alloc; {"came": arrived_value(alloc, came, link)?, "peer": id_value(alloc, peer)?})
 }
 
 /// The links to these peers, in their order.

@@ -20,28 +20,37 @@ pub fn fate_value(alloc: Global, fate: CommandFate) -> Result<Value, AllocError>
 }
 
 /// A proposal.
-fn proposal(alloc: Global, slot: Slot, value: &Bytes, fate: Value) -> Result<Value, AllocError>
-    ensures { IfOk result (λ v. view v ≡ object (member (codes "command") (string (codes "propose")) (member (codes "fate") (view fate) (member (codes "slot") (count slot.0) (member (codes "value") (digits value.now) no_members))))) }
+fn proposal(
+    alloc: Global,
+    slot: Slot,
+    value: &Bytes,
+    fate: CommandFate,
+) -> Result<Value, AllocError>
+    ensures { IfOk result (λ v. view v ≡ object (member (codes "command") (string (codes "propose")) (member (codes "fate") (fate_json fate) (member (codes "slot") (count slot.0) (member (codes "value") (digits value.now) no_members))))) }
 {
     let number = slot.0;
-    let digits = digits_of(alloc, value.as_slice())?;
-    json!(in alloc; {"command": "propose", "fate": fate, "slot": number, "value": digits})
+    json!(in alloc; {"command": "propose", "fate": fate_value(alloc, fate)?, "slot": number, "value": digits_of(alloc, value.as_slice())?})
 }
 
 /// A command for a slot that says no more.
-fn plain(alloc: Global, word: &'static str, slot: Slot, fate: Value) -> Result<Value, AllocError>
-    ensures { IfOk result (λ v. view v ≡ object (member (codes "command") (string word.now) (member (codes "fate") (view fate) (member (codes "slot") (count slot.0) no_members)))) }
+fn plain(
+    alloc: Global,
+    word: &'static str,
+    slot: Slot,
+    fate: CommandFate,
+) -> Result<Value, AllocError>
+    ensures { IfOk result (λ v. view v ≡ object (member (codes "command") (string word.now) (member (codes "fate") (fate_json fate) (member (codes "slot") (count slot.0) no_members)))) }
 {
     let number = slot.0;
-    json!(in alloc; {"command": word, "fate": fate, "slot": number})
+    json!(in alloc; {"command": word, "fate": fate_value(alloc, fate)?, "slot": number})
 }
 
 /// A request for a record.
-fn request(alloc: Global, link: u8, slot: Slot, fate: Value) -> Result<Value, AllocError>
-    ensures { IfOk result (λ v. view v ≡ object (member (codes "command") (string (codes "ask")) (member (codes "fate") (view fate) (member (codes "link") (count link) (member (codes "slot") (count slot.0) no_members))))) }
+fn request(alloc: Global, link: u8, slot: Slot, fate: CommandFate) -> Result<Value, AllocError>
+    ensures { IfOk result (λ v. view v ≡ object (member (codes "command") (string (codes "ask")) (member (codes "fate") (fate_json fate) (member (codes "link") (count link) (member (codes "slot") (count slot.0) no_members))))) }
 {
     let number = slot.0;
-    json!(in alloc; {"command": "ask", "fate": fate, "link": link, "slot": number})
+    json!(in alloc; {"command": "ask", "fate": fate_value(alloc, fate)?, "link": link, "slot": number})
 }
 
 /// A command, and what became of it.
@@ -52,9 +61,8 @@ pub fn command_value(
 ) -> Result<Value, AllocError>
     ensures { IfOk result (λ v. view v ≡ command_json command.now fate) }
 {
-    let fate = fate_value(alloc, fate)?;
     match command {
-        Command::Tick => json!(in alloc; {"command": "tick", "fate": fate}),
+        Command::Tick => json!(in alloc; {"command": "tick", "fate": fate_value(alloc, fate)?}),
         Command::Propose(slot, value) => proposal(alloc, *slot, value, fate),
         Command::Round(slot) => plain(alloc, "round", *slot, fate),
         Command::Timer(slot) => plain(alloc, "timer", *slot, fate),

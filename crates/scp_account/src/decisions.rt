@@ -3,15 +3,16 @@ ghost use Rattle.std.specs.Prelude.{◌≡◌, ◌++◌, All, List, codes, IfOk,
 ghost use Rattle.serde_json.specs.Data.{array, object, member, no_members, string};
 ghost use Rattle.serde_json.specs.View.{view, items_of};
 ghost use Rattle.scp_ledger.specs.declared.journal.Fate.{Fate};
-ghost use Rattle.scp_account.specs.Pieces.{count, id_json};
+ghost use Rattle.scp_account.specs.Pieces.{count, id_json, set_json};
 ghost use Rattle.scp_account.specs.Decisions.{decision_json, ground, ground_of, origin_json};
-ghost use Rattle.scp_account.specs.Fits.{FitsEntry, FitsOrigin, FitsOwn};
+ghost use Rattle.scp_account.specs.Fits.{FitsEntry, FitsOrigin, FitsOwn, FitsSet};
 ghost use Rattle.scp_account.specs.inside.Spoken.{AreSpoken, FitsIf, spoken as spoken_in, spoken_at};
 
 use crate::digits::{digits_of, id_value, own_value, set_value};
 use crate::spoken::last_of;
 use scp_envelope::SharedEnvelope;
 use scp_ledger::{Decision, Fate, Origin, Quorum, SharedDecision};
+use scp_quorum::QuorumSet;
 use scp_types::{ConnId, Fault, NodeId};
 use serde_json::{Value, json};
 use std::alloc::{AllocError, Global};
@@ -21,23 +22,30 @@ use std::collections::BTreeMap;
 fn named(alloc: Global, conn: &ConnId, number: u64) -> Result<Value, AllocError>
     ensures { IfOk result (λ v. view v ≡ object (member (codes "from") (id_json conn.now.from) (member (codes "kind") (string (codes "record")) (member (codes "life") (count conn.now.life) (member (codes "message") (count number) no_members))))) }
 {
-    let from = id_value(alloc, &conn.from)?;
     let life = conn.life;
-    json!(in alloc; {"from": from, "kind": "record", "life": life, "message": number})
+    json!(in alloc; {"from": id_value(alloc, &conn.from)?, "kind": "record", "life": life, "message": number})
 }
 
-/// An entry on which a certificate rests, by its parts.
-fn ground_with(
+/// An entry on which a member's place in a certificate rests: a message that was taken with its set.
+fn ground_value(
     alloc: Global,
-    from: Value,
-    life: u32,
+    conn: &ConnId,
     number: u64,
-    node: Value,
-    set: Value,
-) -> Result<Value, AllocError>
-    ensures { IfOk result (λ v. view v ≡ object (member (codes "from") (view from) (member (codes "life") (count life) (member (codes "message") (count number) (member (codes "node") (view node) (member (codes "set") (view set) no_members)))))) }
+    node: &NodeId,
+    set: &QuorumSet,
+) -> Result<Value, Fault>
+    ensures value { IfOk result (λ v. view v ≡ object (member (codes "from") (id_json conn.now.from) (member (codes "life") (count conn.now.life) (member (codes "message") (count number) (member (codes "node") (id_json node.now) (member (codes "set") (set_json set.now) no_members)))))) }
+    ensures only_memory { FitsSet set.now → IsOkUnless result Fault.NoMemory }
 {
-    json!(in alloc; {"from": from, "life": life, "message": number, "node": node, "set": set})
+    let life = conn.life;
+    let value = json!(in alloc; {
+        "from": id_value(alloc, &conn.from)?,
+        "life": life,
+        "message": number,
+        "node": id_value(alloc, node)?,
+        "set": set_value(alloc, set)?
+    })?;
+    Ok(value)
 }
 
 /// Adds the entry on which a member's place in a certificate rests, if it is a message that was taken with its set.
@@ -61,10 +69,7 @@ fn add_ground(
     else {
         return Ok(());
     };
-    let from = id_value(alloc, &conn.from)?;
-    let node = id_value(alloc, member)?;
-    let set = set_value(alloc, set.set())?;
-    values.push(ground_with(alloc, from, conn.life, seq.0, node, set)?)?;
+    values.push(ground_value(alloc, conn, seq.0, member, set.set())?)?;
     Ok(())
 }
 
@@ -113,19 +118,6 @@ fn ids(alloc: Global, nodes: &[NodeId]) -> Result<Value, AllocError>
     Ok(Value::from(values))
 }
 
-/// A machine that decided, by its parts.
-fn machine_with(
-    alloc: Global,
-    counter: u32,
-    own: Value,
-    quorum: Value,
-    rests_on: Value,
-) -> Result<Value, AllocError>
-    ensures { IfOk result (λ v. view v ≡ object (member (codes "counter") (count counter) (member (codes "kind") (string (codes "machine")) (member (codes "own") (view own) (member (codes "quorum") (view quorum) (member (codes "rests_on") (view rests_on) no_members)))))) }
-{
-    json!(in alloc; {"counter": counter, "kind": "machine", "own": own, "quorum": quorum, "rests_on": rests_on})
-}
-
 /// A machine that decided.
 fn machine(
     alloc: Global,
@@ -139,10 +131,15 @@ fn machine(
     ensures only_memory { FitsOwn own.now → All FitsEntry (map (λ fate. fate.now) entries.now) → IsOkUnless result Fault.NoMemory }
 {
     let members = quorum.nodes(alloc)?;
-    let envelope = own_value(alloc, own.get())?;
-    let nodes = ids(alloc, members.as_slice())?;
-    let rests_on = grounds(alloc, me, entries, members.as_slice())?;
-    Ok(machine_with(alloc, n, envelope, nodes, rests_on)?)
+    let members = members.as_slice();
+    let value = json!(in alloc; {
+        "counter": n,
+        "kind": "machine",
+        "own": own_value(alloc, own.get())?,
+        "quorum": ids(alloc, members)?,
+        "rests_on": grounds(alloc, me, entries, members)?
+    })?;
+    Ok(value)
 }
 
 /// What a decision rests on.
@@ -161,13 +158,6 @@ fn origin_value(
     }
 }
 
-/// A decision, by what it rests on.
-fn decision_with(alloc: Global, origin: Value, slot: u64, value: Value) -> Result<Value, AllocError>
-    ensures { IfOk result (λ v. view v ≡ object (member (codes "origin") (view origin) (member (codes "slot") (count slot) (member (codes "value") (view value) no_members)))) }
-{
-    json!(in alloc; {"origin": origin, "slot": slot, "value": value})
-}
-
 /// A decision, by the ballot statements of its slot.
 fn decision_by(
     alloc: Global,
@@ -179,8 +169,10 @@ fn decision_by(
     ensures only_memory { FitsOrigin decision.now.origin → All FitsEntry (map (λ fate. fate.now) entries.now) → IsOkUnless result Fault.NoMemory }
 {
     let origin = origin_value(alloc, me, entries, &decision.origin)?;
-    let value = digits_of(alloc, decision.value.as_slice())?;
-    Ok(decision_with(alloc, origin, decision.slot.0, value)?)
+    let slot = decision.slot.0;
+    let value =
+        json!(in alloc; {"origin": origin, "slot": slot, "value": digits_of(alloc, decision.value.as_slice())?})?;
+    Ok(value)
 }
 
 /// A decision.

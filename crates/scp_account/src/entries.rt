@@ -89,25 +89,21 @@ fn taken_with(
 }
 
 /// A message that was dropped.
-fn dropped(
-    alloc: Global,
-    from: Value,
-    life: u32,
-    number: u64,
-    cause: DropCause,
-) -> Result<Value, AllocError>
-    ensures { IfOk result (λ v. view v ≡ object (member (codes "cause") (string (drop_word cause)) (member (codes "fate") (string (codes "dropped")) (member (codes "from") (view from) (member (codes "life") (count life) (member (codes "message") (count number) no_members)))))) }
+fn dropped(alloc: Global, conn: &ConnId, number: u64, cause: DropCause) -> Result<Value, AllocError>
+    ensures { IfOk result (λ v. view v ≡ object (member (codes "cause") (string (drop_word cause)) (member (codes "fate") (string (codes "dropped")) (member (codes "from") (id_json conn.now.from) (member (codes "life") (count conn.now.life) (member (codes "message") (count number) no_members)))))) }
 {
     let word = word_of_drop(cause);
-    json!(in alloc; {"cause": word, "fate": "dropped", "from": from, "life": life, "message": number})
+    let life = conn.life;
+    json!(in alloc; {"cause": word, "fate": "dropped", "from": id_value(alloc, &conn.from)?, "life": life, "message": number})
 }
 
 /// The end of a connection.
-fn closed(alloc: Global, from: Value, life: u32, cause: Cause) -> Result<Value, AllocError>
-    ensures { IfOk result (λ v. view v ≡ object (member (codes "cause") (string (cause_word cause)) (member (codes "fate") (string (codes "closed")) (member (codes "from") (view from) (member (codes "life") (count life) no_members))))) }
+fn closed(alloc: Global, conn: &ConnId, cause: Cause) -> Result<Value, AllocError>
+    ensures { IfOk result (λ v. view v ≡ object (member (codes "cause") (string (cause_word cause)) (member (codes "fate") (string (codes "closed")) (member (codes "from") (id_json conn.now.from) (member (codes "life") (count conn.now.life) no_members))))) }
 {
     let word = word_of_cause(cause);
-    json!(in alloc; {"cause": word, "fate": "closed", "from": from, "life": life})
+    let life = conn.life;
+    json!(in alloc; {"cause": word, "fate": "closed", "from": id_value(alloc, &conn.from)?, "life": life})
 }
 
 /// A message that was taken.
@@ -142,13 +138,7 @@ pub fn entry_value(alloc: Global, fate: &Fate) -> Result<Value, Fault>
             set,
             verdict,
         } => taken(alloc, conn, seq.0, message, set, *verdict),
-        Fate::Dropped { conn, seq, cause } => {
-            let from = id_value(alloc, &conn.from)?;
-            Ok(dropped(alloc, from, conn.life, seq.0, *cause)?)
-        }
-        Fate::Closed { conn, cause } => {
-            let from = id_value(alloc, &conn.from)?;
-            Ok(closed(alloc, from, conn.life, *cause)?)
-        }
+        Fate::Dropped { conn, seq, cause } => Ok(dropped(alloc, conn, seq.0, *cause)?),
+        Fate::Closed { conn, cause } => Ok(closed(alloc, conn, *cause)?),
     }
 }

@@ -29,27 +29,16 @@ use scp_wire::{Carried, LinkItem};
 use serde_json::{Value, json};
 use std::alloc::{AllocError, Global};
 
-/// A message that waits, by its parts.
-fn waiting_with(
-    alloc: Global,
-    bytes: Value,
-    from: Value,
-    life: u32,
-    number: u64,
-) -> Result<Value, AllocError>
-    ensures { IfOk result (λ v. view v ≡ object (member (codes "bytes") (view bytes) (member (codes "from") (view from) (member (codes "life") (count life) (member (codes "message") (count number) no_members))))) }
-{
-    json!(in alloc; {"bytes": bytes, "from": from, "life": life, "message": number})
-}
-
 /// A message that waits.
 fn waiting_value(alloc: Global, carried: &Carried) -> Result<Value, Fault>
     ensures value { IfOk result (λ v. view v ≡ waiting_json carried.now) }
     ensures only_memory { IsOkUnless result Fault.NoMemory }
 {
+    let life = carried.conn.life;
+    let number = carried.seq.0;
     let bytes = message_value(alloc, carried.message.get())?;
-    let from = id_value(alloc, &carried.conn.from)?;
-    let value = waiting_with(alloc, bytes, from, carried.conn.life, carried.seq.0)?;
+    let value =
+        json!(in alloc; {"bytes": bytes, "from": id_value(alloc, &carried.conn.from)?, "life": life, "message": number})?;
     Ok(value)
 }
 

@@ -24,3 +24,4 @@ mod taken;
 pub use document::account;
 pub use gathered::account_gathered;
 pub use laws::what_counts_is_the_newest;
+pub use scp_kept::{Kept, play_kept};

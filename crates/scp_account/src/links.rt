@@ -1,9 +1,8 @@
 //! What went over the links of a node, as JSON.
-ghost use Rattle.std.specs.Prelude.{◌≡◌, ◌++◌, IfOk, OnOk, codes, flat_map, map, take};
-ghost use Rattle.serde_json.specs.Data.{array, object, member, no_members, string};
+ghost use Rattle.std.specs.Prelude.{◌≡◌, ◌++◌, IfOk, OnOk, flat_map, map, take};
+ghost use Rattle.serde_json.specs.Data.{array, string};
 ghost use Rattle.serde_json.specs.View.{view, items_of};
 ghost use Rattle.scp_types.specs.declared.limits.TheConstants.{PEER_LIMIT};
-ghost use Rattle.scp_account.specs.Pieces.{count, id_json};
 ghost use Rattle.scp_account.specs.Links.{came as came_in, sent as sent_in, link_json, links_json};
 ghost use Rattle.scp_account.specs.inside.Happened.{happened};
 
@@ -80,20 +79,6 @@ fn sent(alloc: Global, link: u8, happenings: &[&Happening]) -> Result<Value, All
     Ok(Value::from(values))
 }
 
-/// A link, by what went over it.
-fn link_with(
-    alloc: Global,
-    came: Value,
-    overwritten: u64,
-    peer: Value,
-    sent: Value,
-    waiting: usize,
-) -> Result<Value, AllocError>
-    ensures { IfOk result (λ v. view v ≡ object (member (codes "came") (view came) (member (codes "overwritten") (count overwritten) (member (codes "peer") (view peer) (member (codes "sent") (view sent) (member (codes "waiting") (count waiting) no_members)))))) }
-{
-    json!(in alloc; {"came": came, "overwritten": overwritten, "peer": peer, "sent": sent, "waiting": waiting})
-}
-
 /// A link.
 fn link_value(
     alloc: Global,
@@ -104,17 +89,15 @@ fn link_value(
 ) -> Result<Value, AllocError>
     ensures { IfOk result (λ v. view v ≡ link_json node.now.outboxes (happened happenings.now) link peer.now) }
 {
-    let came = came(alloc, link, happenings)?;
-    let peer = id_value(alloc, peer)?;
-    let sent = sent(alloc, link, happenings)?;
-    link_with(
-        alloc,
-        came,
-        node.overwritten(link),
-        peer,
-        sent,
-        node.waiting(link),
-    )
+    let overwritten = node.overwritten(link);
+    let waiting = node.waiting(link);
+    json!(in alloc; {
+        "came": came(alloc, link, happenings)?,
+        "overwritten": overwritten,
+        "peer": id_value(alloc, peer)?,
+        "sent": sent(alloc, link, happenings)?,
+        "waiting": waiting
+    })
 }
 
 /// The links of a node, in their order.

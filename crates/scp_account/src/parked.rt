@@ -7,7 +7,7 @@ ghost use Rattle.scp_account.specs.Parked.{hash_json, number_json, parked_json};
 
 use crate::digits::{digits_of, id_value};
 use scp_core::Node;
-use scp_line::Parked;
+use scp_kept::Parked;
 use scp_types::{ConnId, Hash, Seq};
 use serde_json::{Value, json};
 use std::alloc::{AllocError, Global};
@@ -17,23 +17,21 @@ fn waiting(
     alloc: Global,
     count: usize,
     first: u64,
-    from: Value,
     hash: &Hash,
-    life: u32,
+    conn: &ConnId,
 ) -> Result<Value, AllocError>
-    ensures { IfOk result (λ v. view v ≡ object (member (codes "count") (number count) (member (codes "first") (number first) (member (codes "from") (view from) (member (codes "hash") (digits hash.now.0) (member (codes "life") (number life) no_members)))))) }
+    ensures { IfOk result (λ v. view v ≡ object (member (codes "count") (number count) (member (codes "first") (number first) (member (codes "from") (id_json conn.now.from) (member (codes "hash") (digits hash.now.0) (member (codes "life") (number conn.now.life) no_members)))))) }
 {
-    let hash = digits_of(alloc, &hash.0)?;
-    json!(in alloc; {"count": count, "first": first, "from": from, "hash": hash, "life": life})
+    let life = conn.life;
+    json!(in alloc; {"count": count, "first": first, "from": id_value(alloc, &conn.from)?, "hash": digits_of(alloc, &hash.0)?, "life": life})
 }
 
 /// What is held of a connection of which nothing waits.
-fn ready(alloc: Global, count: usize, from: Value, life: u32) -> Result<Value, AllocError>
-    ensures { IfOk result (λ v. view v ≡ object (member (codes "count") (number count) (member (codes "first") null (member (codes "from") (view from) (member (codes "hash") null (member (codes "life") (number life) no_members)))))) }
+fn ready(alloc: Global, count: usize, conn: &ConnId) -> Result<Value, AllocError>
+    ensures { IfOk result (λ v. view v ≡ object (member (codes "count") (number count) (member (codes "first") null (member (codes "from") (id_json conn.now.from) (member (codes "hash") null (member (codes "life") (number conn.now.life) no_members)))))) }
 {
-    let first = Value::Null;
-    let hash = Value::Null;
-    json!(in alloc; {"count": count, "first": first, "from": from, "hash": hash, "life": life})
+    let life = conn.life;
+    json!(in alloc; {"count": count, "first": null, "from": id_value(alloc, &conn.from)?, "hash": null, "life": life})
 }
 
 /// What is held of a connection.
@@ -45,10 +43,9 @@ fn parked_with(
 ) -> Result<Value, AllocError>
     ensures { IfOk result (λ v. view v ≡ object (member (codes "count") (number count) (member (codes "first") (number_json first) (member (codes "from") (id_json conn.now.from) (member (codes "hash") (hash_json first) (member (codes "life") (number conn.now.life) no_members)))))) }
 {
-    let from = id_value(alloc, &conn.from)?;
     match first {
-        Some((seq, hash)) => waiting(alloc, count, seq.0, from, &hash, conn.life),
-        None => ready(alloc, count, from, conn.life),
+        Some((seq, hash)) => waiting(alloc, count, seq.0, &hash, conn),
+        None => ready(alloc, count, conn),
     }
 }
 

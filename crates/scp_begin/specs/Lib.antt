@@ -1,3 +1,4 @@
+pub use Rattle.scp_live
 pub mod Living
 pub mod Beginning
 pub mod Replays

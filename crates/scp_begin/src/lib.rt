@@ -16,4 +16,5 @@ pub use check::check_config;
 pub use entries::replay;
 pub use failing::{fail, refuse};
 pub use nolog::NoLog;
+pub use scp_live::Live;
 pub use settings::{begun, header, settings_of};

@@ -1,94 +1,42 @@
-use crate::workload::{SMALL, Workload};
+use crate::workload::Workload;
 use clap::error::ErrorKind;
 use clap::{Arg, ArgAction, Command, Error};
-use scp_bench_parts::{Shape, Sharing};
 use scp_types::Fault;
 use std::alloc::{AllocError, Global};
 
 /// What the words of a command line ask for.
-#[derive(Clone, Copy, Debug, PartialEq, Eq)]
-pub enum Asked {
+pub enum Asked<'a> {
     /// Every workload, small.
     All,
     /// One workload of a size.
-    One(Workload, u32),
+    One(Workload<'a>, u32),
     /// None of these.
     Usage,
 }
 
-static WORKLOADS: [&str; 21] = [
-    "decode",
-    "records",
-    "batches",
-    "envelopes",
-    "flow",
-    "parked",
-    "script",
-    "quorum-shared",
-    "quorum-own",
-    "quorum-chain",
-    "quorum-missing",
-    "votes-one",
-    "votes-each",
-    "consensus-4",
-    "consensus-8",
-    "consensus-16",
-    "decide",
-    "network",
-    "threads",
-    "fed",
-    "serial",
-];
-
+/// The words that may be given: a workload, and its size.
 fn command<'a>(alloc: Global) -> Result<Command<'a>, AllocError> {
-    let workload = Arg::new(alloc, "workload")
-        .value_parser(WORKLOADS.as_slice())
-        .action(ArgAction::Set);
-    let size = Arg::new(alloc, "size").action(ArgAction::Set);
-    Command::new(alloc, "scp_bench").arg(workload)?.arg(size)
-}
-
-/// A size in digits.
-fn size_in(word: Option<&str>) -> Option<u32> {
-    match word {
-        Some(word) => word.parse::<u32>().ok(),
-        None => Some(SMALL),
-    }
+    let workload = Arg::new(alloc, "workload").action(ArgAction::Set);
+    let command = Command::new(alloc, "scp_bench").arg(workload)?;
+    // (made behind the `?`: what is alive there has to be dropped, and the proof would go through all its parts)
+    command.arg(Arg::new(alloc, "size").action(ArgAction::Set))
 }
 
 /// A workload by its name, of a size in digits.
-fn one(name: &str, size: Option<&str>) -> Asked {
-    let workload = match name {
-        "decode" => Workload::Decode,
-        "records" => Workload::Records,
-        "batches" => Workload::Batches,
-        "envelopes" => Workload::Envelopes,
-        "flow" => Workload::Flow,
-        "parked" => Workload::Parked,
-        "script" => Workload::Script,
-        "quorum-shared" => Workload::Quorum(Shape::Shared),
-        "quorum-own" => Workload::Quorum(Shape::Own),
-        "quorum-chain" => Workload::Quorum(Shape::Chain),
-        "quorum-missing" => Workload::Quorum(Shape::Missing),
-        "votes-one" => Workload::Votes(Sharing::One),
-        "votes-each" => Workload::Votes(Sharing::Each),
-        "consensus-4" => Workload::Consensus(4),
-        "consensus-8" => Workload::Consensus(8),
-        "consensus-16" => Workload::Consensus(16),
-        "decide" => Workload::Decide,
-        "network" => Workload::Network,
-        "threads" => Workload::Threads,
-        "fed" => Workload::Fed,
-        "serial" => Workload::Serial,
-        _ => return Asked::Usage,
+fn one<'a>(name: &'a str, size: Option<&str>) -> Asked<'a> {
+    let Some(workload) = Workload::named(name) else {
+        return Asked::Usage;
     };
-    match size_in(size) {
-        Some(size) => Asked::One(workload, size),
-        None => Asked::Usage,
+    let Some(digits) = size else {
+        return Asked::One(workload, workload.small());
+    };
+    match digits.parse::<u32>() {
+        Ok(size) => Asked::One(workload, size),
+        Err(_) => Asked::Usage,
     }
 }
 
-fn parsed<'a>(alloc: Global, words: &'a [&'a str]) -> Result<Asked, Error> {
+fn parsed<'a>(alloc: Global, words: &'a [&'a str]) -> Result<Asked<'a>, Error> {
     let matches = command(alloc)?.try_get_matches_from(words)?;
     let asked = match matches.get_str("workload") {
         Some(name) => one(name, matches.get_str("size")),
@@ -98,7 +46,7 @@ fn parsed<'a>(alloc: Global, words: &'a [&'a str]) -> Result<Asked, Error> {
 }
 
 /// Reads the words of a command line, the program's own name first.
-pub fn read_words<'a>(alloc: Global, words: &'a [&'a str]) -> Result<Asked, Fault> {
+pub fn read_words<'a>(alloc: Global, words: &'a [&'a str]) -> Result<Asked<'a>, Fault> {
     match parsed(alloc, words) {
         Ok(asked) => Ok(asked),
         Err(error) if error.kind() == ErrorKind::OutOfMemory => Err(Fault::NoMemory),

@@ -1,101 +1,70 @@
-//! Runs one workload of the pipeline at a size that the caller gives, and prints what was done, in counts.
+//! Runs one workload of the parts of a node at a size that the caller gives, and prints what was done, in counts: reading messages,
+//! quorums, votes, and slots' machines that decide. What whole nodes do is measured by scripts (scripts/workload).
 //!
-//! What is promised: each call is safe and returns. Words that ask for no workload, want of memory and an output that
-//! fails each end in an exit status of their own.
+//! What is promised: each call is safe and returns. No clause says what is counted. Words that ask for no workload end in status 2, no
+//! memory and an output that fails in status 3.
 #![tactic(auto)]
 
 mod asked;
-mod batches;
-mod decide;
-mod envelopes;
-mod fed;
-mod hearing;
-mod network;
-mod parked;
-mod records;
-mod script;
-mod threads;
+mod consensus;
+mod decode;
+mod quorum;
+mod votes;
 mod workload;
 
 use crate::asked::{Asked, read_words};
-use crate::workload::{write_all, write_one};
-use scp_line::{Process, ReportOut, line_of_fault, status, write_text};
+use crate::workload::run_all;
 use scp_types::Fault;
-use std::alloc::{AllocError, Global};
+use std::alloc::AllocError;
+use std::env;
 use std::io::ErrorKind;
 use std::process::ExitCode;
-use std::sync::Wait;
-use std::thread::Threads;
-use std::{env, io};
 
 /// What is printed where no workload is asked for.
 const USAGE: &str =
-    "usage: scp_bench [decode|records|batches|envelopes|flow|parked|script|quorum-shared|quorum-own|quorum-chain|quorum-missing|votes-one|votes-each|consensus-4|consensus-8|consensus-16|decide|network|threads|fed|serial [SIZE]]\n";
-
-/// What is printed where there is no memory for a fault's line.
-const NO_MEMORY: &str = "out of memory\n";
+    "usage: scp_bench [decode|quorum-shared|quorum-own|quorum-chain|quorum-missing|votes-one|votes-each|consensus-4|consensus-8|consensus-16 [SIZE]]";
 
 /// The words of the command line; none where one isn't UTF-8.
-fn words_of(rt: &HostRuntime, alloc: Global) -> Result<Option<Vec<String>>, AllocError> {
+fn words_of(rt: &HostRuntime) -> Result<Option<Vec<String>>, AllocError> {
     match env::args(rt) {
-        Ok(words) => Ok(Some(words.collect(alloc)?)),
+        Ok(words) => Ok(Some(words.collect(rt.alloc())?)),
         Err(error) if error.kind() == ErrorKind::OutOfMemory => Err(AllocError),
         Err(_) => Ok(None),
     }
 }
 
-/// Does what the words of the command line ask for, and answers the exit status. Words that aren't UTF-8 ask for nothing.
-fn answer<T: Threads + Wait + Sync, W: ReportOut>(
-    rt: &HostRuntime,
-    threads: &T,
-    writer: &mut W,
-) -> Result<u8, AllocError> {
-    let alloc = rt.alloc();
-    let Some(words) = words_of(rt, alloc)? else {
-        return Ok(tell_usage(writer));
-    };
-    let words: Vec<&str> = words.iter().map(|word| word.as_str()).collect(alloc)?;
-    Ok(serve(threads, alloc, words.as_slice(), writer))
-}
-
-fn main(rt: HostRuntime) -> ExitCode {
-    let mut writer = Process::new(io::writer(&rt));
-    match answer(&rt, &rt, &mut writer) {
-        Ok(status) => ExitCode::from(status),
-        Err(_) => ExitCode::from(refuse(rt.alloc(), Fault::NoMemory, &mut writer)),
-    }
-}
-
-/// Tells which words there are, and answers the exit status.
-fn tell_usage<W: ReportOut>(writer: &mut W) -> u8 {
-    let _ = write_text(writer, USAGE);
+/// Prints which words there are, and answers the exit status.
+fn tell_usage(rt: &HostRuntime) -> u8 {
+    let _ = println!(rt; "{USAGE}");
     2
 }
 
 /// Does what the words ask for, and answers the exit status.
-fn serve<T: Threads + Wait + Sync, W: ReportOut>(
-    rt: &T,
-    alloc: Global,
-    words: &[&str],
-    writer: &mut W,
-) -> u8 {
-    let done = match read_words(alloc, words) {
-        Ok(Asked::All) => write_all(rt, alloc, writer),
-        Ok(Asked::One(workload, size)) => write_one(rt, alloc, workload, size, writer),
-        Ok(Asked::Usage) => return tell_usage(writer),
-        Err(fault) => Err(fault),
-    };
-    match done {
-        Ok(()) => 0,
-        Err(fault) => refuse(alloc, fault, writer),
+fn serve(rt: &HostRuntime, words: &[String]) -> Result<u8, Fault> {
+    let alloc = rt.alloc();
+    let words: Vec<&str> = words.iter().map(|word| word.as_str()).collect(alloc)?;
+    match read_words(alloc, words.as_slice())? {
+        Asked::All => run_all(rt)?,
+        Asked::One(workload, size) => workload.run(rt, size)?,
+        Asked::Usage => return Ok(tell_usage(rt)),
+    }
+    Ok(0)
+}
+
+/// Does what the words of the command line ask for, and answers the exit status. Words that aren't UTF-8 ask for nothing.
+fn answer(rt: &HostRuntime) -> Result<u8, Fault> {
+    match words_of(rt)? {
+        Some(words) => serve(rt, words.as_slice()),
+        None => Ok(tell_usage(rt)),
     }
 }
 
-/// Tells a fault, and answers its exit status.
-fn refuse<W: ReportOut>(alloc: Global, fault: Fault, writer: &mut W) -> u8 {
-    let _ = match line_of_fault(alloc, 0, fault) {
-        Ok(line) => write_text(writer, line.as_str()),
-        Err(_) => write_text(writer, NO_MEMORY),
-    };
-    status(fault)
+fn main(rt: HostRuntime) -> ExitCode {
+    match answer(&rt) {
+        Ok(status) => ExitCode::from(status),
+        Err(fault) => {
+            let _ = println!(&rt; "fault {}", fault.number());
+            ExitCode::from(3)
+        }
+    }
 }

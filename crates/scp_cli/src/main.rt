@@ -7,9 +7,11 @@
 
 mod files;
 mod sim;
+mod version;
 
 use crate::files::{failed, failure_of, text_of_file, told, unopened_file, wrong};
 use crate::sim::with_sim;
+use crate::version::VERSION;
 use scp_begin::{NoLog, check_config};
 use scp_command::{Order, serve, serve_plain};
 use scp_device::ScriptIn;
@@ -27,14 +29,6 @@ use std::process::ExitCode;
 use std::sync::Wait;
 use std::thread::Threads;
 use std::{env, fs, io};
-
-/// The version, which a build that nothing is proved of says.
-fn version_of(own: Option<&str>) -> &'static str {
-    match own {
-        Some(path) if path.contains("unproved/") => "1.0 (unproved)",
-        _ => "1.0",
-    }
-}
 
 /// Does what is asked, with this input.
 fn done<T: Threads + Wait + Sync, R: ScriptIn + Cause>(
@@ -242,8 +236,7 @@ fn served<T: Threads + Wait + Sync>(
 ) -> Result<u8, AllocError> {
     let alloc = rt.alloc();
     let words: Vec<&str> = words.iter().map(|word| word.as_str()).collect(alloc)?;
-    let version = version_of(words.first().copied());
-    match read_words(alloc, version, words.as_slice()) {
+    match read_words(alloc, VERSION, words.as_slice()) {
         Ok(Wanted::Script(asked)) => answer(rt, threads, &asked),
         Ok(Wanted::Node(asked)) => Ok(with_node(rt, &asked)),
         Ok(Wanted::Sim(asked)) => with_sim(rt, asked),
@@ -263,10 +256,10 @@ fn main(rt: HostRuntime) -> ExitCode {
             Err(_) => Err(AllocError),
         },
         Err(error) if error.kind() == ErrorKind::OutOfMemory => Err(AllocError),
-        Err(_) => Ok(wrong(&rt, "scp: a word of the command line isn't UTF-8\n", 2)),
+        Err(_) => Ok(wrong(&rt, "bowls: a word of the command line isn't UTF-8\n", 2)),
     };
     match status {
         Ok(status) => ExitCode::from(status),
-        Err(_) => ExitCode::from(wrong(&rt, "scp: memory ran out\n", 3)),
+        Err(_) => ExitCode::from(wrong(&rt, "bowls: memory ran out\n", 3)),
     }
 }

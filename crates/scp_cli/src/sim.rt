@@ -1,12 +1,11 @@
 //! Simulates what is asked for.
 
 use crate::files::{failed, text_of_file, told, unopened_file, wrong};
-use scp_findings::shrunk;
-use scp_prompt::{Failure, SimAsked, Stream, write_bytes};
-use scp_simulated::{
-    BadSets, Table, Told, ToldFault, bad_set_line, judging_of, sets_of, stand_of, tell_run,
+use scp_findings::{
+    BadSets, Table, Told, ToldFault, bad_set_line, judging_of, sets_of, shrunk, stand_of, tell_run,
     write_row,
 };
+use scp_prompt::{Failure, SimAsked, Stream, write_bytes};
 use std::alloc::AllocError;
 use std::fs::OpenOptions;
 use std::time::Instant;
@@ -20,8 +19,8 @@ fn unsimulated(rt: &HostRuntime, asked: &SimAsked<'_>, fault: ToldFault) -> u8 {
     match (bad_set_line(fault), fault) {
         (Some(line), _) => failed(rt, path, "", &Failure::Line(line)),
         (None, ToldFault::NoMemory) => failed(rt, "sim", "", &Failure::NoMemory),
-        (None, ToldFault::Sim(_)) => wrong(rt, "scp: a node failed, so the run has no end\n", 3),
-        (None, ToldFault::Replay(_)) => wrong(rt, "scp: the script came to something else\n", 3),
+        (None, ToldFault::Sim(_)) => wrong(rt, "bowls: a node failed, so the run has no end\n", 3),
+        (None, ToldFault::Replay(_)) => wrong(rt, "bowls: the script came to something else\n", 3),
     }
 }
 

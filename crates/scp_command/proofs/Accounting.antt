@@ -6,13 +6,13 @@ use Rattle.scp_types.specs.declared.fault.Fault.TheVariants as faults
 use Rattle.scp_gather.specs.Kv.{NodeReport}
 use Rattle.scp_network.specs.Network.{NetworkView}
 use Rattle.scp_script.specs.declared.command.Command.{Command}
-use Rattle.scp_line.specs.declared.playing.PlayFault.{PlayFault}
-use Rattle.scp_line.specs.Nodes.{IsStoppedAt}
+use Rattle.scp_silent.specs.scp_line.specs.declared.playing.PlayFault.{PlayFault}
+use Rattle.scp_silent.specs.scp_line.specs.Nodes.{IsStoppedAt}
 use Rattle.scp_threaded_script.specs.Reported.{AreNodesReported}
-use Rattle.scp_kept.specs.declared.happening.Kept.{Kept}
-use Rattle.scp_kept.specs.Kept.{IsKept}
+use Rattle.scp_account.specs.scp_kept.specs.declared.happening.Kept.{Kept}
+use Rattle.scp_account.specs.scp_kept.specs.Kept.{IsKept}
 use Rattle.scp_account.specs.Fits.{FitReports, FitsNode}
-use Rattle.scp_prompt.specs.declared.asked.Form.{Form}
+use Rattle.scp_account.specs.Gathered.{gathered_text as accounts_text}
 use Rattle.scp_prompt.specs.declared.asked.Mode.{Mode}
 use Rattle.scp_prompt.specs.declared.asked.Mode.TheVariants.{Serial, Threads}
 use Rattle.scp_prompt.specs.declared.asked.Shape.{Shape}
@@ -28,14 +28,14 @@ use Rattle.scp_silent.specs.Threads.{IsRanInThreads}
 use Rattle.scp_command.specs.declared.answer.Answer.{Answer}
 use Rattle.scp_command.specs.declared.given.Given.{Given}
 use Rattle.scp_command.specs.Given.{IsGiven, stop_of}
-use Rattle.scp_command.specs.Answers.{placed_notice, gathered_in, IsAccountAnswer, IsThreadsAccount}
+use Rattle.scp_command.specs.Answers.{placed_notice, IsAccountAnswer, IsThreadsAccount}
 use Rattle.scp_command.specs.Causes.{Fails}
 use Rattle.scp_command.specs.inside.Runs.{IsAccountOf, IsUntold, IsUntoldOf}
 
 -- of a script that was played one step after another
-pub account_answer : (form : Form) (input : List ℕ) (given : Given) (script : Script) (network : NetworkView) (notices : List Notice) (text : List ℕ) (r : Result Answer Failure) → IsGiven input given → IsRan given.text.items script network notices → IsAccountOf form script.commands.items text
-    → IfOk r (λ answer. answer.text.items ≡ text) → IfOk r (λ answer. string_bytes answer.notices ≡ notices_text (map (placed_notice given.expanded.lines) notices)) → IfOk r (IsAccountAnswer form input)
-account_answer form input given script network notices text (Ok answer) g ran made same told = record {
+pub account_answer : (input : List ℕ) (given : Given) (script : Script) (network : NetworkView) (notices : List Notice) (text : List ℕ) (r : Result Answer Failure) → IsGiven input given → IsRan given.text.items script network notices → IsAccountOf script.commands.items text
+    → IfOk r (λ answer. answer.text.items ≡ text) → IfOk r (λ answer. string_bytes answer.notices ≡ notices_text (map (placed_notice given.expanded.lines) notices)) → IfOk r (IsAccountAnswer input)
+account_answer input given script network notices text (Ok answer) g ran made same told = record {
   given = given;
   is_given = g;
   script = script;
@@ -48,13 +48,13 @@ account_answer form input given script network notices text (Ok answer) g ran ma
   account = same ∙ made.3;
   told = told;
 }
-account_answer form input given script network notices text (Err failure) g ran made same told = tt
+account_answer input given script network notices text (Err failure) g ran made same told = tt
 
 -- of one whose nodes ran in threads
-pub threads_account : (form : Form) (input : List ℕ) (given : Given) (script : Script) (nodes : List NodeReport) (notices : List Notice) (text : List ℕ) (r : Result Answer Failure) → IsGiven input given → IsRanInThreads given.text.items script nodes notices → text ≡ gathered_in form script.commands.items nodes
-    → IfOk r (λ answer. answer.text.items ≡ text) → IfOk r (λ answer. string_bytes answer.notices ≡ notices_text (map (placed_notice given.expanded.lines) notices)) → IfOk r (IsThreadsAccount form input)
-threads_account form input given script nodes notices text (Ok answer) g ran is same told = record { given = given; is_given = g; script = script; nodes = nodes; notices = notices; ran = ran; account = same ∙ is; told = told }
-threads_account form input given script nodes notices text (Err failure) g ran is same told = tt
+pub threads_account : (input : List ℕ) (given : Given) (script : Script) (nodes : List NodeReport) (notices : List Notice) (text : List ℕ) (r : Result Answer Failure) → IsGiven input given → IsRanInThreads given.text.items script nodes notices → text ≡ accounts_text script.commands.items nodes
+    → IfOk r (λ answer. answer.text.items ≡ text) → IfOk r (λ answer. string_bytes answer.notices ≡ notices_text (map (placed_notice given.expanded.lines) notices)) → IfOk r (IsThreadsAccount input)
+threads_account input given script nodes notices text (Ok answer) g ran is same told = record { given = given; is_given = g; script = script; nodes = nodes; notices = notices; ran = ran; account = same ∙ is; told = told }
+threads_account input given script nodes notices text (Err failure) g ran is same told = tt
 
 -- ---- why there is none
 
@@ -106,15 +106,15 @@ reports_untold commands nodes fault failure stop want only = elim (told_so {P = 
 ]
 
 -- what keeps a script from being played keeps it from being told
-pub not_run : (mode : Mode) (shape : Shape) (form : Form) (input : List ℕ) (failure : Failure) → Fails (Run mode shape) input failure → Fails (Account mode form) input failure
-not_run mode shape form input failure (inl bad) = inl bad
-not_run mode shape form input failure (inr stopped) = inr (inl stopped)
+pub not_run : (mode : Mode) (shape : Shape) (input : List ℕ) (failure : Failure) → Fails (Run mode shape) input failure → Fails (Account mode) input failure
+not_run mode shape input failure (inl bad) = inl bad
+not_run mode shape input failure (inr stopped) = inr (inl stopped)
 
 -- so does what follows the play
-pub not_told : (form : Form) (input : List ℕ) (given : Given) (commands : List Command) (lines : List ℕ) (failure : Failure) → IsGiven input given → IsSaid given.text.items commands lines → IsUntold commands failure → Fails (Account Serial form) input failure
-not_told form input given commands lines failure g said (inl e) = inl (inl e)
-not_told form input given commands lines failure g said (inr (inl stop)) = inr (inr (inl (record { given = given; is_given = g; commands = commands; lines = lines; said = said; before = stop.0; fault = stop.1; stopped = stop.2; of_stop = stop.3 })))
-not_told form input given commands lines failure g said (inr (inr unfit)) = inr (inr (inr (record {
+pub not_told : (input : List ℕ) (given : Given) (commands : List Command) (lines : List ℕ) (failure : Failure) → IsGiven input given → IsSaid given.text.items commands lines → IsUntold commands failure → Fails (Account Serial) input failure
+not_told input given commands lines failure g said (inl e) = inl (inl e)
+not_told input given commands lines failure g said (inr (inl stop)) = inr (inr (inl (record { given = given; is_given = g; commands = commands; lines = lines; said = said; before = stop.0; fault = stop.1; stopped = stop.2; of_stop = stop.3 })))
+not_told input given commands lines failure g said (inr (inr unfit)) = inr (inr (inr (record {
   given = given;
   is_given = g;
   commands = commands;
@@ -126,9 +126,9 @@ not_told form input given commands lines failure g said (inr (inr unfit)) = inr 
 })))
 
 -- and in threads
-pub threads_not_told : (form : Form) (input : List ℕ) (given : Given) (commands : List Command) (lines : List ℕ) (nodes : List NodeReport) (failure : Failure) → IsGiven input given → IsSaid given.text.items commands lines → AreNodesReported commands nodes → IsUntoldOf commands nodes failure → Fails (Account Threads form) input failure
-threads_not_told form input given commands lines nodes failure g said reported (inl e) = inl (inl e)
-threads_not_told form input given commands lines nodes failure g said reported (inr unfit) = inr (inr (inr (record {
+pub threads_not_told : (input : List ℕ) (given : Given) (commands : List Command) (lines : List ℕ) (nodes : List NodeReport) (failure : Failure) → IsGiven input given → IsSaid given.text.items commands lines → AreNodesReported commands nodes → IsUntoldOf commands nodes failure → Fails (Account Threads) input failure
+threads_not_told input given commands lines nodes failure g said reported (inl e) = inl (inl e)
+threads_not_told input given commands lines nodes failure g said reported (inr unfit) = inr (inr (inr (record {
   given = given;
   is_given = g;
   commands = commands;
@@ -140,6 +140,6 @@ threads_not_told form input given commands lines nodes failure g said reported (
 })))
 
 -- want of memory is one reason
-pub want_fails : (mode : Mode) (form : Form) (input : List ℕ) (r : Result Answer Failure) → IfErr r (λ failure. failure ≡ NoMemory) → IfErr r (Fails (Account mode form) input)
-want_fails mode form input (Ok answer) e = tt
-want_fails mode form input (Err failure) e = inl (inl e)
+pub want_fails : (mode : Mode) (input : List ℕ) (r : Result Answer Failure) → IfErr r (λ failure. failure ≡ NoMemory) → IfErr r (Fails (Account mode) input)
+want_fails mode input (Ok answer) e = tt
+want_fails mode input (Err failure) e = inl (inl e)

@@ -1,7 +1,6 @@
 -- What a command answers to a script that is played is of nodes that hold their headlines.
 use Rattle.std.proofs.Common.{ℕ, List}
-use Rattle.scp_line.specs.Headlines.{PlayingKeepsHeadlines, ReportingKeepsHeadlines}
-use Rattle.scp_prompt.specs.declared.asked.Form.{Form}
+use Rattle.scp_silent.specs.scp_line.specs.Headlines.{PlayingKeepsHeadlines, ReportingKeepsHeadlines}
 use Rattle.scp_prompt.specs.declared.asked.Mode.{Mode}
 use Rattle.scp_prompt.specs.declared.asked.Mode.TheVariants.{Serial, Threads}
 use Rattle.scp_prompt.specs.declared.asked.Shape.{Shape}
@@ -36,8 +35,8 @@ threads_headlined law shape input answer is = record {
   reports = is.reports;
 }
 
-account_headlined : PlayingKeepsHeadlines → (form : Form) (input : List ℕ) (answer : Answer) → IsAccountAnswer form input answer → IsHeadlinedAccount form input answer
-account_headlined law form input answer is =
+account_headlined : PlayingKeepsHeadlines → (input : List ℕ) (answer : Answer) → IsAccountAnswer input answer → IsHeadlinedAccount input answer
+account_headlined law input answer is =
     let played = is.is_kept.played in
     record {
       given = is.given;
@@ -52,8 +51,8 @@ account_headlined law form input answer is =
       account = is.account;
     }
 
-threads_account_headlined : ReportingKeepsHeadlines → (form : Form) (input : List ℕ) (answer : Answer) → IsThreadsAccount form input answer → IsHeadlinedThreadsAccount form input answer
-threads_account_headlined law form input answer is = record {
+threads_account_headlined : ReportingKeepsHeadlines → (input : List ℕ) (answer : Answer) → IsThreadsAccount input answer → IsHeadlinedThreadsAccount input answer
+threads_account_headlined law input answer is = record {
   given = is.given;
   is_given = is.is_given;
   commands = is.script.commands.items;
@@ -67,8 +66,8 @@ threads_account_headlined law form input answer is = record {
 pub headlined : PlayingKeepsHeadlines → ReportingKeepsHeadlines → (task : Task) (input : List ℕ) (answer : Answer) → Answers task input answer → IsHeadlinedFor task input answer
 headlined played reported (Run Serial shape) input answer is = run_headlined played shape input answer is
 headlined played reported (Run Threads shape) input answer is = threads_headlined reported shape input answer is
-headlined played reported (Account Serial form) input answer is = account_headlined played form input answer is
-headlined played reported (Account Threads form) input answer is = threads_account_headlined reported form input answer is
+headlined played reported (Account Serial) input answer is = account_headlined played input answer is
+headlined played reported (Account Threads) input answer is = threads_account_headlined reported input answer is
 headlined played reported Check input answer is = tt
 headlined played reported Stand input answer is = tt
 headlined played reported Trace input answer is = tt

@@ -6,15 +6,13 @@ use Rattle.scp_network.specs.Heard.{Nodes}
 use Rattle.scp_network.specs.Network.{NetworkView}
 use Rattle.scp_script.specs.declared.command.Command.{Command}
 use Rattle.scp_script.specs.Nodes.{reports_in}
-use Rattle.scp_line.specs.Headlines.{AreNodesHeadlined, AreReportsHeadlined}
-use Rattle.scp_line.specs.Play.{report_at, view_of_node}
-use Rattle.scp_line.specs.Threads.{report_gathered_at, view_gathered}
+use Rattle.scp_silent.specs.scp_line.specs.Headlines.{AreNodesHeadlined, AreReportsHeadlined}
+use Rattle.scp_silent.specs.scp_line.specs.Play.{report_at, view_of_node}
+use Rattle.scp_silent.specs.scp_line.specs.Threads.{report_gathered_at, view_gathered}
 use Rattle.scp_account.specs.Account.{account_text}
 use Rattle.scp_account.specs.Gathered.{gathered_text as accounts_text}
-use Rattle.scp_full.specs.Lines.{full_text}
-use Rattle.scp_full.specs.Gathered.{full_gathered_text}
-use Rattle.scp_kept.specs.declared.happening.Kept.{Kept}
-use Rattle.scp_kept.specs.Kept.{IsKept}
+use Rattle.scp_account.specs.scp_kept.specs.declared.happening.Kept.{Kept}
+use Rattle.scp_account.specs.scp_kept.specs.Kept.{IsKept}
 use Rattle.scp_shown.specs.Reports.{views_in}
 use Rattle.scp_shown.specs.Text.{text_report_of}
 use Rattle.scp_shown.specs.Json.{document_text}
@@ -31,11 +29,11 @@ use Rattle.scp_trace_lint.specs.declared.warning.Warning.{Warning}
 use Rattle.scp_trace_lint.specs.Lines.{IsSaid}
 use Rattle.scp_trace_lint.specs.Texts.{warnings_text}
 use Rattle.scp_trace_lint.specs.Warnings.{AreWarnings}
-use Rattle.scp_trace_run.specs.declared.depth.Depth.{Depth}
-use Rattle.scp_trace_run.specs.declared.depth.Depth.TheVariants.{Stands, Whole}
-use Rattle.scp_trace_run.specs.declared.playing.Traced.{Traced}
-use Rattle.scp_trace_run.specs.Traced.{IsTraced}
-use Rattle.scp_draw.specs.Drawn.{IsDrawn}
+use Rattle.scp_picture.specs.scp_trace_run.specs.declared.depth.Depth.{Depth}
+use Rattle.scp_picture.specs.scp_trace_run.specs.declared.depth.Depth.TheVariants.{Stands, Whole}
+use Rattle.scp_picture.specs.scp_trace_run.specs.declared.playing.Traced.{Traced}
+use Rattle.scp_picture.specs.scp_trace_run.specs.Traced.{IsTraced}
+use Rattle.scp_picture.specs.Drawn.{IsDrawn}
 use Rattle.scp_quorums.specs.Told.{members_in, TellsQuorums}
 use Rattle.scp_shorthand.specs.declared.placed.PlacedLine.{PlacedLine}
 use Rattle.scp_shorthand.specs.Hexing.{IsHexed}
@@ -50,8 +48,6 @@ use Rattle.scp_decoded.specs.declared.bytes.Spelling.TheVariants as spellings
 use Rattle.scp_decoded.specs.Decoding.{IsDecoded, IsEncoded}
 use Rattle.scp_prompt.specs.declared.asked.Task.{Task}
 use Rattle.scp_prompt.specs.declared.asked.Task.TheVariants.{Run, Account, Check, Stand, Trace, Draw, Slot, Quorums, Hex, Text, Decode, Encode}
-use Rattle.scp_prompt.specs.declared.asked.Form.{Form}
-use Rattle.scp_prompt.specs.declared.asked.Form.TheVariants as forms
 use Rattle.scp_prompt.specs.declared.asked.Mode.{Mode}
 use Rattle.scp_prompt.specs.declared.asked.Mode.TheVariants.{Serial, Threads}
 use Rattle.scp_prompt.specs.declared.asked.Shape.{Shape}
@@ -116,18 +112,8 @@ IsRunBy Threads shape input answer = IsThreadsAnswer shape input answer
 
 -- ---- accounts
 
--- the account of nodes that were played one step after another, in this form
-abbrev pub account_in : Form → Nodes → List Kept → List ℕ
-account_in forms.Document nodes kept = account_text nodes kept
-account_in forms.Lines nodes kept = full_text nodes kept
-
--- the account of what the threads of nodes left, in this form
-abbrev pub gathered_in : Form → List Command → List NodeReport → List ℕ
-gathered_in forms.Document commands nodes = accounts_text commands nodes
-gathered_in forms.Lines commands nodes = full_gathered_text commands nodes
-
 -- The input is a script, which is played twice: for the notices, and for the account of its nodes, with all that happened at them.
-pub record IsAccountAnswer (form : Form) (input : List ℕ) (answer : Answer) : Type 0 where
+pub record IsAccountAnswer (input : List ℕ) (answer : Answer) : Type 0 where
   pub given : Given
   pub is_given : IsGiven input given
   pub script : Script
@@ -137,27 +123,27 @@ pub record IsAccountAnswer (form : Form) (input : List ℕ) (answer : Answer) : 
   pub again : NetworkView
   pub kept : List Kept
   pub is_kept : IsKept script.commands.items again kept
-  pub account : answer.text.items ≡ account_in form again.nodes kept
+  pub account : answer.text.items ≡ account_text again.nodes kept
   pub told : string_bytes answer.notices ≡ notices_text (map (placed_notice given.expanded.lines) notices)
 
 -- The input is a script, and the answer is the account of what the threads of its nodes left, with the notices of these.
-pub record IsThreadsAccount (form : Form) (input : List ℕ) (answer : Answer) : Type 0 where
+pub record IsThreadsAccount (input : List ℕ) (answer : Answer) : Type 0 where
   pub given : Given
   pub is_given : IsGiven input given
   pub script : Script
   pub nodes : List NodeReport
   pub notices : List Notice
   pub ran : IsRanInThreads given.text.items script nodes notices
-  pub account : answer.text.items ≡ gathered_in form script.commands.items nodes
+  pub account : answer.text.items ≡ accounts_text script.commands.items nodes
   pub told : string_bytes answer.notices ≡ notices_text (map (placed_notice given.expanded.lines) notices)
 
 -- the account of a script that is played, by how
-abbrev pub IsAccountBy : Mode → Form → List ℕ → Answer → Type 0
-IsAccountBy Serial form input answer = IsAccountAnswer form input answer
-IsAccountBy Threads form input answer = IsThreadsAccount form input answer
+abbrev pub IsAccountBy : Mode → List ℕ → Answer → Type 0
+IsAccountBy Serial input answer = IsAccountAnswer input answer
+IsAccountBy Threads input answer = IsThreadsAccount input answer
 
 -- The input is a script, and the answer is the account of nodes that played just its lines, each of which holds its headline.
-pub record IsHeadlinedAccount (form : Form) (input : List ℕ) (answer : Answer) : Type 0 where
+pub record IsHeadlinedAccount (input : List ℕ) (answer : Answer) : Type 0 where
   pub given : Given
   pub is_given : IsGiven input given
   pub commands : List Command
@@ -167,10 +153,10 @@ pub record IsHeadlinedAccount (form : Form) (input : List ℕ) (answer : Answer)
   pub kept : List Kept
   pub is_kept : IsKept commands network kept
   pub each : AreNodesHeadlined commands network.nodes
-  pub account : answer.text.items ≡ account_in form network.nodes kept
+  pub account : answer.text.items ≡ account_text network.nodes kept
 
 -- The input is a script, and the answer is the account of what the threads of its nodes left, each of which holds its node's headline.
-pub record IsHeadlinedThreadsAccount (form : Form) (input : List ℕ) (answer : Answer) : Type 0 where
+pub record IsHeadlinedThreadsAccount (input : List ℕ) (answer : Answer) : Type 0 where
   pub given : Given
   pub is_given : IsGiven input given
   pub commands : List Command
@@ -178,12 +164,12 @@ pub record IsHeadlinedThreadsAccount (form : Form) (input : List ℕ) (answer : 
   pub said : IsSaid given.text.items commands lines
   pub nodes : List NodeReport
   pub each : AreReportsHeadlined commands nodes
-  pub account : answer.text.items ≡ gathered_in form commands nodes
+  pub account : answer.text.items ≡ accounts_text commands nodes
 
 -- so of a script that is played, by how
-abbrev pub IsHeadlinedAccountBy : Mode → Form → List ℕ → Answer → Type 0
-IsHeadlinedAccountBy Serial form input answer = IsHeadlinedAccount form input answer
-IsHeadlinedAccountBy Threads form input answer = IsHeadlinedThreadsAccount form input answer
+abbrev pub IsHeadlinedAccountBy : Mode → List ℕ → Answer → Type 0
+IsHeadlinedAccountBy Serial input answer = IsHeadlinedAccount input answer
+IsHeadlinedAccountBy Threads input answer = IsHeadlinedThreadsAccount input answer
 
 -- ---- headlines
 
@@ -217,7 +203,7 @@ IsHeadlinedBy Threads shape input answer = IsHeadlinedInThreads shape input answ
 -- what is answered holds the headlines, where a script was to be played
 abbrev pub IsHeadlinedFor : Task → List ℕ → Answer → Type 0
 IsHeadlinedFor (Run mode shape) input answer = IsHeadlinedBy mode shape input answer
-IsHeadlinedFor (Account mode form) input answer = IsHeadlinedAccountBy mode form input answer
+IsHeadlinedFor (Account mode) input answer = IsHeadlinedAccountBy mode input answer
 IsHeadlinedFor task input answer = Unit {0}
 
 -- ---- what is told of scripts
@@ -315,7 +301,7 @@ AreEach Is (line ∷ lines) out = (first rest : List ℕ) × IsOne Is (is_skippe
 -- what a command makes of an input
 abbrev pub Answers : Task → List ℕ → Answer → Type 0
 Answers (Run mode shape) input answer = IsRunBy mode shape input answer
-Answers (Account mode form) input answer = IsAccountBy mode form input answer
+Answers (Account mode) input answer = IsAccountBy mode input answer
 Answers Check input answer = IsCheckAnswer input answer
 Answers Stand input answer = IsTraceAnswer Stands input answer
 Answers Trace input answer = IsTraceAnswer Whole input answer

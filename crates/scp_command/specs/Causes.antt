@@ -3,11 +3,11 @@ use Rattle.std.specs.Prelude.{ℕ, ◌+◌, ◌≡◌, ◌⊎◌, ◌≤◌, ◌
 use Rattle.scp_gather.specs.Kv.{NodeReport}
 use Rattle.scp_network.specs.Network.{NetworkView}
 use Rattle.scp_script.specs.declared.command.Command.{Command}
-use Rattle.scp_line.specs.declared.playing.PlayFault.{PlayFault}
-use Rattle.scp_line.specs.Nodes.{IsStoppedAt}
+use Rattle.scp_silent.specs.scp_line.specs.declared.playing.PlayFault.{PlayFault}
+use Rattle.scp_silent.specs.scp_line.specs.Nodes.{IsStoppedAt}
 use Rattle.scp_threaded_script.specs.Reported.{AreNodesReported}
-use Rattle.scp_kept.specs.declared.happening.Kept.{Kept}
-use Rattle.scp_kept.specs.Kept.{IsKept}
+use Rattle.scp_account.specs.scp_kept.specs.declared.happening.Kept.{Kept}
+use Rattle.scp_account.specs.scp_kept.specs.Kept.{IsKept}
 use Rattle.scp_account.specs.Fits.{FitReports, FitsNode}
 use Rattle.scp_text.specs.declared.refusal.Refusal.{Refusal}
 use Rattle.scp_text.specs.declared.refusal.TextError.TheVariants.{Refused as RefusedText}
@@ -31,10 +31,10 @@ use Rattle.scp_decoded.specs.declared.decoding.DecodeError.TheVariants as decodi
 use Rattle.scp_decoded.specs.Decoding.{IsUndecoded, IsDecoded, IsEncoded}
 use Rattle.scp_trace_lint.specs.declared.fault.BadLine.{BadLine}
 use Rattle.scp_trace_lint.specs.Lines.{IsFirstBad, IsBadAt, IsSaid}
-use Rattle.scp_trace_run.specs.declared.depth.Depth.{Depth}
-use Rattle.scp_trace_run.specs.declared.depth.Depth.TheVariants.{Stands, Whole}
-use Rattle.scp_trace_run.specs.declared.playing.Traced.{Traced}
-use Rattle.scp_trace_run.specs.Traced.{IsTraced}
+use Rattle.scp_picture.specs.scp_trace_run.specs.declared.depth.Depth.{Depth}
+use Rattle.scp_picture.specs.scp_trace_run.specs.declared.depth.Depth.TheVariants.{Stands, Whole}
+use Rattle.scp_picture.specs.scp_trace_run.specs.declared.playing.Traced.{Traced}
+use Rattle.scp_picture.specs.scp_trace_run.specs.Traced.{IsTraced}
 use Rattle.scp_prompt.specs.declared.asked.Task.{Task}
 use Rattle.scp_prompt.specs.declared.asked.Task.TheVariants.{Run, Account, Check, Stand, Trace, Draw, Slot, Quorums, Hex, Text, Decode, Encode}
 use Rattle.scp_prompt.specs.declared.asked.Mode.{Mode}
@@ -205,7 +205,7 @@ IsNoneOf Is IsNot lines failure = (failure ≡ NoMemory) ⊎ IsFirstWithout Is I
 -- why a command fails on an input
 abbrev pub Fails : Task → List ℕ → Failure → Type 0
 Fails (Run mode shape) input failure = IsNoScript input failure ⊎ IsNotRun mode input failure
-Fails (Account mode form) input failure = IsNoScript input failure ⊎ (IsNotRun mode input failure ⊎ IsNotTold input failure)
+Fails (Account mode) input failure = IsNoScript input failure ⊎ (IsNotRun mode input failure ⊎ IsNotTold input failure)
 Fails Check input failure = IsNoScript input failure
 Fails Stand input failure = IsNotTraced Stands input failure
 Fails Trace input failure = IsNotTraced Whole input failure

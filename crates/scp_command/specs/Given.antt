@@ -1,6 +1,6 @@
 -- Scripts that people give, and the places of what is wrong in them (this project's profile).
 use Rattle.std.specs.Prelude.{ℕ, ◌≡◌, nat_le, Bool, true, false, List, Option, Some, None}
-use Rattle.scp_line.specs.declared.playing.PlayFault.{PlayFault}
+use Rattle.scp_silent.specs.scp_line.specs.declared.playing.PlayFault.{PlayFault}
 use Rattle.scp_prompt.specs.declared.failure.Failure.{Failure}
 use Rattle.scp_prompt.specs.declared.failure.Failure.TheVariants.{Word, Line, Stopped}
 use Rattle.scp_rewrite.specs.declared.script.ScriptRefusal.{ScriptRefusal}

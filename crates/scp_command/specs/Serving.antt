@@ -6,17 +6,17 @@ use Rattle.scp_prompt.specs.declared.asked.Task.TheVariants.{Check, Trace, Slot,
 use Rattle.scp_prompt.specs.declared.failure.Failure.{Failure}
 use Rattle.scp_prompt.specs.declared.failure.Failure.TheVariants.{TooLong, NoMemory, Unread, Line}
 use Rattle.scp_prompt.specs.Failing.{IsToldLine, settled_line}
-use Rattle.scp_line.specs.declared.playing.PlayFault.{PlayFault}
-use Rattle.scp_line.specs.Outcome.{fault_line}
+use Rattle.scp_silent.specs.scp_line.specs.declared.playing.PlayFault.{PlayFault}
+use Rattle.scp_silent.specs.scp_line.specs.Outcome.{fault_line}
 use Rattle.scp_slot_script.specs.declared.script.Script.{Script as SlotScript}
 use Rattle.scp_slot_script.specs.Answers.{IsPlayed}
 use Rattle.scp_trace_lint.specs.declared.fault.BadLine.{BadLine}
 use Rattle.scp_trace_lint.specs.Lines.{IsFirstBad, IsBadAt, MayWant}
 use Rattle.scp_trace_lint.specs.Texts.{IsLinted}
-use Rattle.scp_trace_run.specs.declared.depth.Depth.{Depth}
-use Rattle.scp_trace_run.specs.declared.depth.Depth.TheVariants.{Stands, Whole}
-use Rattle.scp_trace_run.specs.declared.playing.Traced.{Traced}
-use Rattle.scp_trace_run.specs.Traced.{IsTraced}
+use Rattle.scp_picture.specs.scp_trace_run.specs.declared.depth.Depth.{Depth}
+use Rattle.scp_picture.specs.scp_trace_run.specs.declared.depth.Depth.TheVariants.{Stands, Whole}
+use Rattle.scp_picture.specs.scp_trace_run.specs.declared.playing.Traced.{Traced}
+use Rattle.scp_picture.specs.scp_trace_run.specs.Traced.{IsTraced}
 use Rattle.scp_command.specs.Given.{IsOfReason}
 use Rattle.scp_command.specs.Answers.{lines_of}
 

@@ -7,9 +7,9 @@ ghost use Rattle.scp_command.specs.Given.{IsGiven, placed, IsOfShorthand, IsOfRe
 ghost use Rattle.scp_command.specs.Causes.{IsNoScript};
 ghost use Rattle.scp_command.specs.inside.Given.{IsOfLint, IsStartFault};
 
-use scp_line::PlayFault;
 use scp_prompt::{BadWord, Failure, Stop};
 use scp_shorthand::{Expanded, LineRefusal, expand};
+use scp_silent::PlayFault;
 use scp_trace_lint::{BadLine, LintFault, Reason, Script, read};
 use scp_types::Fault;
 use std::alloc::{AllocError, Global};

@@ -8,20 +8,19 @@ ghost use Rattle.scp_trace_lint.specs.Warnings.{AreWarnings};
 ghost use Rattle.scp_hints.specs.declared.hint.Hint.{Hint};
 ghost use Rattle.scp_hints.specs.Hints.{AreHints};
 ghost use Rattle.scp_hints.specs.Texts.{hints_text};
-ghost use Rattle.scp_trace_run.specs.Traced.{IsTraceFault};
-ghost use Rattle.scp_draw.specs.Drawn.{IsDrawFault};
+ghost use Rattle.scp_picture.specs.scp_trace_run.specs.Traced.{IsTraceFault};
+ghost use Rattle.scp_picture.specs.Drawn.{IsDrawFault};
 ghost use Rattle.scp_command.specs.Given.{IsGiven};
 ghost use Rattle.scp_command.specs.Answers.{IsCheckAnswer, IsTraceAnswer, IsDrawAnswer, IsQuorumsAnswer};
 ghost use Rattle.scp_command.specs.Causes.{IsNoScript, IsNotTraced, Fails};
 
 use crate::answer::Answer;
 use crate::given::{Given, commands_of, given_by, of_bad, of_play, place_of};
-use scp_draw::{DrawFault, draw};
 use scp_hints::{hints, text_of_hints};
+use scp_picture::{Depth, DrawFault, TraceFault, draw, trace};
 use scp_prompt::{Failure, Task};
 use scp_quorums::quorums_text;
 use scp_trace_lint::{Script, text_of_warnings, warnings};
-use scp_trace_run::{Depth, TraceFault, trace};
 use scp_types::Fault;
 use std::alloc::Global;
 

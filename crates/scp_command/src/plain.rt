@@ -1,7 +1,7 @@
 //! The commands that tell all on one stream, in the settled words.
 ghost use Rattle.std.specs.Prelude.{◌≡◌, ◌≢◌, ◌≤◌, ◌⊎◌, ◌++◌, ℕ, List, length, IfOk, IfErr, string_bytes};
 ghost use Rattle.scp_device.specs.Device.{Gains, Fails as HasFailed, IsAll};
-ghost use Rattle.scp_line.specs.Outcome.{fault_line};
+ghost use Rattle.scp_silent.specs.scp_line.specs.Outcome.{fault_line};
 ghost use Rattle.scp_prompt.specs.Failing.{status_of as failure_status};
 ghost use Rattle.scp_command.specs.Given.{IsOfReason};
 ghost use Rattle.scp_command.specs.Serving.{IsPlain, IsPlainUpTo, IsNotPlain, IsNotPlainScript, IsUnread, IsSettled, IsWritten};
@@ -11,10 +11,10 @@ use crate::forms::played_slot;
 use crate::given::of_reason;
 use crate::serving::read_short;
 use scp_device::{ReportOut, SCRIPT_LIMIT, ScriptIn};
-use scp_line::line_of_fault;
+use scp_picture::{Depth, TraceFault, Traced, trace};
 use scp_prompt::{Failure, Task, status, write_bytes, write_settled};
+use scp_silent::line_of_fault;
 use scp_trace_lint::{LintFault, lint};
-use scp_trace_run::{Depth, TraceFault, Traced, trace};
 use scp_types::Fault;
 use std::alloc::{AllocError, Global};
 

@@ -2,30 +2,29 @@
 ghost use Rattle.std.specs.Prelude.{◌≡◌, ◌≤◌, ◌∷◌, ℕ, List, [], All, IfOk, IfErr, IsOk, IsOkUnless, length, map, string_bytes};
 ghost use Rattle.scp_script.specs.Nodes.{NamesNodes};
 ghost use Rattle.scp_script.specs.Script.{AreAdmitted};
-ghost use Rattle.scp_line.specs.Nodes.{HaveRoom};
-ghost use Rattle.scp_account.specs.Fits.{FitReports, FitsNode};
+ghost use Rattle.scp_silent.specs.scp_line.specs.Nodes.{HaveRoom};
+ghost use Rattle.scp_account.specs.Fits.{FitReports};
+ghost use Rattle.scp_account.specs.Gathered.{gathered_text as accounts_text};
 ghost use Rattle.scp_silent.specs.Texts.{notices_text};
 ghost use Rattle.scp_silent.specs.Run.{IsRunFault};
 ghost use Rattle.scp_silent.specs.Threads.{IsThreadsFault};
 ghost use Rattle.scp_command.specs.Given.{IsGiven};
-ghost use Rattle.scp_command.specs.Answers.{reports_text, gathered_text, account_in, gathered_in, placed_notice, IsRunAnswer, IsThreadsAnswer, IsRunBy, IsAccountAnswer, IsThreadsAccount, IsAccountBy};
+ghost use Rattle.scp_command.specs.Answers.{reports_text, gathered_text, placed_notice, IsRunAnswer, IsThreadsAnswer, IsRunBy, IsAccountAnswer, IsThreadsAccount, IsAccountBy};
 ghost use Rattle.scp_command.specs.Causes.{Fails};
 ghost use Rattle.scp_command.specs.inside.Runs.{IsOfRun, IsAccountOf, IsUntold, IsUntoldOf};
 
 use crate::answer::Answer;
 use crate::given::{Given, given_by, of_bad, of_play, place_of};
-use scp_account::{account as account_text, account_gathered};
+use scp_account::{Kept, account as account_text, account_gathered, play_kept};
 use scp_core::Node;
-use scp_full::{full, full_gathered};
 use scp_gather::NodeReport;
-use scp_kept::{Kept, play_kept};
-use scp_line::{PlayFault, write_all_gathered, write_reports};
-use scp_prompt::{Failure, Form, Mode, Shape, Task};
+use scp_prompt::{Failure, Mode, Shape, Task};
 use scp_script::{Command, count_of_nodes};
 use scp_shorthand::Expanded;
 use scp_shown::{json_report, text_report};
 use scp_silent::{
-    Notice, Ran, RanInThreads, RunFault, run as run_script, run_in_threads, text_of_notices,
+    Notice, PlayFault, Ran, RanInThreads, RunFault, run as run_script, run_in_threads,
+    text_of_notices, write_all_gathered, write_reports,
 };
 use scp_types::Fault;
 use std::alloc::{AllocError, Global};
@@ -235,59 +234,28 @@ pub fn run<T: Threads + Wait + Sync>(
     }
 }
 
-/// The account of nodes that were played one step after another.
-fn account_as(alloc: Global, form: Form, nodes: &[Node], kept: &[Kept]) -> Result<String, Fault>
-    requires few { length nodes.now ≤ 8 }
-    ensures text { IfOk result (λ text. string_bytes text ≡ account_in form nodes.now kept.now) }
-    ensures only_memory { All FitsNode nodes.now → IsOkUnless result Fault.NoMemory }
-{
-    match form {
-        Form::Document => account_text(alloc, nodes, kept),
-        Form::Lines => full(alloc, nodes, kept),
-    }
-}
-
-/// The account of what the threads of nodes left.
-fn gathered_as(
-    alloc: Global,
-    form: Form,
-    commands: &[Command],
-    reports: &[NodeReport],
-) -> Result<String, Fault>
-    requires names { All NamesNodes commands.now }
-    requires admitted { AreAdmitted [] commands.now }
-    requires few { length reports.now ≤ 8 }
-    ensures text { IfOk result (λ text. string_bytes text ≡ gathered_in form commands.now reports.now) }
-    ensures only_memory { FitReports commands.now 0 reports.now → IsOkUnless result Fault.NoMemory }
-{
-    match form {
-        Form::Document => account_gathered(alloc, commands, reports),
-        Form::Lines => full_gathered(alloc, commands, reports),
-    }
-}
-
 /// The account of nodes that play a script.
-fn account_of(alloc: Global, form: Form, commands: &[Command]) -> Result<String, Failure>
+fn account_of(alloc: Global, commands: &[Command]) -> Result<String, Failure>
     requires names { All NamesNodes commands.now }
     requires admitted { AreAdmitted [] commands.now }
     requires room { HaveRoom commands.now }
-    ensures account { IfOk result (λ text. IsAccountOf form commands.now (string_bytes text)) }
+    ensures account { IfOk result (λ text. IsAccountOf commands.now (string_bytes text)) }
     ensures cause { IfErr result (IsUntold commands.now) }
 {
     let run = match play_kept(alloc, commands) {
         Ok(run) => run,
         Err(fault) => return Err(of_play(None, fault)),
     };
-    match account_as(alloc, form, run.network.nodes(), run.kept.as_slice()) {
+    match account_text(alloc, run.network.nodes(), run.kept.as_slice()) {
         Ok(text) => Ok(text),
         Err(fault) => Err(of_play(None, PlayFault::from(fault))),
     }
 }
 
 /// The account of a script that is played one step after another: it is played for the notices, and once more for the account.
-fn account_serial(alloc: Global, form: Form, given: &Given) -> Result<Answer, Failure>
-    ensures answer { (input : List ℕ) → IsGiven input given.now → IfOk result (IsAccountAnswer form input) }
-    ensures cause { (input : List ℕ) → IsGiven input given.now → IfErr result (Fails (Task.Account Mode.Serial form) input) }
+fn account_serial(alloc: Global, given: &Given) -> Result<Answer, Failure>
+    ensures answer { (input : List ℕ) → IsGiven input given.now → IfOk result (IsAccountAnswer input) }
+    ensures cause { (input : List ℕ) → IsGiven input given.now → IfErr result (Fails (Task.Account Mode.Serial) input) }
 {
     let ran = match run_script(alloc, given.text.as_slice()) {
         Ok(ran) => ran,
@@ -298,7 +266,7 @@ fn account_serial(alloc: Global, form: Form, given: &Given) -> Result<Answer, Fa
         notices,
         ..
     } = ran;
-    match account_of(alloc, form, script.commands.as_slice()) {
+    match account_of(alloc, script.commands.as_slice()) {
         Ok(text) => answer_of(alloc, &given.expanded, Ok(text), notices),
         Err(failure) => Err(failure),
     }
@@ -307,17 +275,16 @@ fn account_serial(alloc: Global, form: Form, given: &Given) -> Result<Answer, Fa
 /// The account of what the threads of the nodes of a script left.
 fn gathered_account(
     alloc: Global,
-    form: Form,
     commands: &[Command],
     reports: &[NodeReport],
 ) -> Result<String, Failure>
     requires names { All NamesNodes commands.now }
     requires admitted { AreAdmitted [] commands.now }
     requires few { length reports.now ≤ 8 }
-    ensures account { IfOk result (λ text. string_bytes text ≡ gathered_in form commands.now reports.now) }
+    ensures account { IfOk result (λ text. string_bytes text ≡ accounts_text commands.now reports.now) }
     ensures cause { IfErr result (IsUntoldOf commands.now reports.now) }
 {
-    match gathered_as(alloc, form, commands, reports) {
+    match account_gathered(alloc, commands, reports) {
         Ok(text) => Ok(text),
         Err(fault) => Err(of_play(None, PlayFault::from(fault))),
     }
@@ -327,11 +294,10 @@ fn gathered_account(
 fn account_threads<T: Threads + Wait + Sync>(
     rt: &T,
     alloc: Global,
-    form: Form,
     given: &Given,
 ) -> Result<Answer, Failure>
-    ensures answer { (input : List ℕ) → IsGiven input given.now → IfOk result (IsThreadsAccount form input) }
-    ensures cause { (input : List ℕ) → IsGiven input given.now → IfErr result (Fails (Task.Account Mode.Threads form) input) }
+    ensures answer { (input : List ℕ) → IsGiven input given.now → IfOk result (IsThreadsAccount input) }
+    ensures cause { (input : List ℕ) → IsGiven input given.now → IfErr result (Fails (Task.Account Mode.Threads) input) }
 {
     let ran = match run_in_threads(rt, alloc, given.text.as_slice(), true) {
         Ok(ran) => ran,
@@ -344,7 +310,7 @@ fn account_threads<T: Threads + Wait + Sync>(
     } = ran;
     let commands = script.commands.as_slice();
     let _count = count_of_nodes(commands);
-    match gathered_account(alloc, form, commands, reports.as_slice()) {
+    match gathered_account(alloc, commands, reports.as_slice()) {
         Ok(text) => answer_of(alloc, &given.expanded, Ok(text), notices),
         Err(failure) => Err(failure),
     }
@@ -355,15 +321,14 @@ pub fn account<T: Threads + Wait + Sync>(
     rt: &T,
     alloc: Global,
     mode: Mode,
-    form: Form,
     text: &[u8],
 ) -> Result<Answer, Failure>
-    ensures answer { IfOk result (IsAccountBy mode form text.now) }
-    ensures cause { IfErr result (Fails (Task.Account mode form) text.now) }
+    ensures answer { IfOk result (IsAccountBy mode text.now) }
+    ensures cause { IfErr result (Fails (Task.Account mode) text.now) }
 {
     let given = given_by(alloc, text)?;
     match mode {
-        Mode::Serial => account_serial(alloc, form, &given),
-        Mode::Threads => account_threads(rt, alloc, form, &given),
+        Mode::Serial => account_serial(alloc, &given),
+        Mode::Threads => account_threads(rt, alloc, &given),
     }
 }

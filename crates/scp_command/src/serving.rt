@@ -13,11 +13,11 @@ use crate::looks::{checked, drawn, quorums, traced};
 use crate::messages::{decoded, encoded};
 use crate::runs::{account, run};
 use scp_device::{ReportOut, SCRIPT_LIMIT, ScriptIn, read_script, write_text};
-use scp_line::what_is_played_keeps_the_headlines;
+use scp_picture::Depth;
 use scp_prompt::{
     Cause, Failure, LONG_LIMIT, Task, read_within, status, write_bytes, write_failure,
 };
-use scp_trace_run::Depth;
+use scp_silent::what_is_played_keeps_the_headlines;
 use scp_types::Fault;
 use std::alloc::Global;
 use std::sync::Wait;
@@ -94,7 +94,7 @@ fn answer<T: Threads + Wait + Sync>(
 {
     match task {
         Task::Run(mode, shape) => run(rt, alloc, mode, shape, text),
-        Task::Account(mode, form) => account(rt, alloc, mode, form, text),
+        Task::Account(mode) => account(rt, alloc, mode, text),
         Task::Check => checked(alloc, text),
         Task::Stand => traced(alloc, Depth::Stands, text),
         Task::Trace => traced(alloc, Depth::Whole, text),

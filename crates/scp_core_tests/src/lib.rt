@@ -1,5 +1,14 @@
-//! The tests of `scp_core`, by its public calls.
+//! Tests of `scp_core`, for what only the caller of a node sees. What becomes of messages and what is sent is shown by
+//! examples/stages.calls, examples/node.calls and the scripts of examples/.
 #![tactic(auto)]
 
 #[cfg(test)]
-mod tests;
+mod between;
+#[cfg(test)]
+mod parts;
+#[cfg(test)]
+mod refused;
+#[cfg(test)]
+mod replies;
+#[cfg(test)]
+mod telling;

@@ -48,12 +48,23 @@ fn is_of_host(event: &Event) -> bool
 }
 
 /// A node with all that its host told it, so that it can be made again.
-#[derive(Drop)]
 pub struct Host {
     alloc: Global,
     number: u8,
     node: Node<Counter>,
     told: Vec<Event>,
+}
+
+// (written out, so that whoever lets one go has one call to prove, and not each part of a node)
+impl Drop for Host {
+    fn drop(self) {
+        let Host {
+            alloc: _,
+            number: _,
+            node: _,
+            told: _,
+        } = self;
+    }
 }
 
 impl Host {

@@ -13,7 +13,5 @@
 #![tactic(auto)]
 
 mod courier;
-#[cfg(test)]
-mod tests;
 
 pub use courier::{Courier, CourierEnded};

@@ -1,56 +1,9 @@
-mod again;
-mod copies;
-
+use crate::twice::{ballot_of, is_right_or_out_of_memory};
 use scp_types::*;
 use std::alloc::Global;
 use std::cmp::Ordering;
-use std::collections::{BTreeMap, BTreeSet};
+use std::collections::BTreeSet;
 use std::test::*;
-
-fn value_of(alloc: Global, bytes: &[u8]) -> Result<Value, Fault> {
-    Ok(Value::new(Vec::from_slice(alloc, bytes)?))
-}
-
-fn ballot_of(alloc: Global, counter: u32, bytes: &[u8]) -> Result<Ballot, Fault> {
-    Ok(Ballot {
-        counter,
-        value: SharedValue::new(alloc, value_of(alloc, bytes)?)?,
-    })
-}
-
-/// Counts 1 for the value of two bytes, and 2 for its prefix.
-fn count_two(alloc: Global, counts: &mut BTreeMap<Value, u64>) -> Result<(), Fault> {
-    counts.insert(value_of(alloc, &[1, 2])?, 1)?;
-    counts.insert(value_of(alloc, &[1])?, 2)?;
-    Ok(())
-}
-
-/// The count of the value of these bytes.
-fn count_of(
-    alloc: Global,
-    counts: &BTreeMap<Value, u64>,
-    bytes: &[u8],
-) -> Result<Option<u64>, Fault> {
-    let key = value_of(alloc, bytes)?;
-    Ok(counts.get(&key).copied())
-}
-
-#[test]
-fn values_are_keys(rt: HostRuntime) -> Result<(), Fail> {
-    let mut counts = BTreeMap::new(rt.alloc());
-    count_two(rt.alloc(), &mut counts)?;
-    assert_eq!(rt; count_of(rt.alloc(), &counts, &[1])?, Some(2));
-    assert_eq!(rt; counts.len(), 2);
-    Ok(())
-}
-
-#[test]
-fn ballots_are_members(rt: HostRuntime) -> Result<(), Fail> {
-    let mut ballots = BTreeSet::new(rt.alloc());
-    ballots.insert(ballot_of(rt.alloc(), 1, &[1])?)?;
-    assert_eq!(rt; ballots.len(), 1);
-    Ok(())
-}
 
 /// Whether the one is less than the other, by each way to ask.
 fn is_less<T: Ord>(low: &T, high: &T) -> bool {
@@ -60,35 +13,36 @@ fn is_less<T: Ord>(low: &T, high: &T) -> bool {
         && low.cmp(low) == Ordering::Equal
 }
 
-/// Whether the value of the one bytes is less than that of the other.
-fn is_value_less(alloc: Global, low: &[u8], high: &[u8]) -> Result<bool, Fault> {
-    let low = value_of(alloc, low)?;
-    Ok(is_less(&low, &value_of(alloc, high)?))
+/// A counter, and the bytes of a value.
+type Short = (u32, &'static [u8]);
+
+/// Whether the ballot is less than the other one, and where their counters are equal its value than the other's.
+fn is_below(alloc: Global, low: &Ballot, high: Short) -> Result<bool, Fault> {
+    let (counter, bytes) = high;
+    let high = ballot_of(alloc, counter, bytes)?;
+    let is_value_less = low.counter != counter || is_less(low.value.get(), high.value.get());
+    Ok(is_value_less && is_less(low, &high))
 }
+
+/// Each is less than the next: a ballot by its counter first, and a value that begins another one.
+const ASCENDING: [Short; 6] = [
+    (1, &[9, 9]),
+    (2, &[]),
+    (2, &[1]),
+    (2, &[1, 0]),
+    (2, &[2]),
+    (u32::MAX, &[1]),
+];
 
 #[test]
-fn values_are_ordered_by_bytes(rt: HostRuntime) -> Result<(), Fail> {
-    for (low, high) in [
-        ([].as_slice(), [1].as_slice()),
-        (&[1], &[1, 0]),
-        (&[1, 0], &[2]),
-    ] {
-        assert!(rt; is_value_less(rt.alloc(), low, high)?);
+fn ballots_are_ordered_by_counter_and_bytes(rt: HostRuntime) -> Result<(), Fail> {
+    let mut ballots = BTreeSet::new(rt.alloc());
+    for ((counter, bytes), high) in ASCENDING.iter().zip(ASCENDING.iter().skip(1)) {
+        let low = ballot_of(rt.alloc(), *counter, bytes)?;
+        assert!(rt; is_below(rt.alloc(), &low, *high)?, "{high:?}");
+        ballots.insert(low)?;
     }
-    Ok(())
-}
-
-/// Whether the ballot is less than the one of counter 2 and these bytes.
-fn is_ballot_less(alloc: Global, low: &Ballot, high: &[u8]) -> Result<bool, Fault> {
-    Ok(is_less(low, &ballot_of(alloc, 2, high)?))
-}
-
-#[test]
-fn ballots_are_ordered_by_counter_first(rt: HostRuntime) -> Result<(), Fail> {
-    for (counter, low, high) in [(1, [9, 9].as_slice(), [1].as_slice()), (2, &[1], &[1, 0])] {
-        let low = ballot_of(rt.alloc(), counter, low)?;
-        assert!(rt; is_ballot_less(rt.alloc(), &low, high)?);
-    }
+    assert_eq!(rt; ballots.len(), 5);
     Ok(())
 }
 
@@ -110,24 +64,49 @@ fn names_are_ordered_by_their_parts(rt: HostRuntime) {
     assert!(rt; life(low, high, 1) < life(low, high, 2));
 }
 
-/// Whether the value has these bytes, and a copy of it gives them back.
-fn gives_back(value: &Value, bytes: &[u8]) -> Result<bool, Fault> {
-    Ok(value.as_slice() == bytes && value.copy()?.into_vec().as_slice() == bytes)
-}
-
-/// Whether a copy of the ballot equals it and has a value of these bytes.
-fn is_copied(ballot: &Ballot, bytes: &[u8]) -> Result<bool, Fault> {
-    let copy = ballot.copy()?;
-    if copy != *ballot {
-        return Ok(false);
+/// So many bytes that aren't all alike.
+fn counted(alloc: Global, len: u32) -> Result<Vec<u8>, Fault> {
+    let mut bytes = Vec::new(alloc);
+    for number in 0..len {
+        let [_, _, high, low] = number.to_be_bytes();
+        bytes.push(high ^ low)?;
     }
-    gives_back(copy.value.get(), bytes)
+    Ok(bytes)
 }
 
+/// Whether a copy of the ballot equals it, and a copy of a copy of its value has these bytes.
+fn is_copied(ballot: &Ballot, bytes: &[u8]) -> Result<bool, Fault> {
+    let value = ballot.value.get().copy()?.copy()?;
+    let is_value = value.as_slice() == bytes && value == *ballot.value.get();
+    Ok(ballot.copy()? == *ballot && is_value && value.into_vec().as_slice() == bytes)
+}
+
+/// Of values of each length, and ballots of each counter. A copy that is refused is made again.
 #[test]
 fn copies_are_the_same(rt: HostRuntime) -> Result<(), Fail> {
-    assert!(rt; is_copied(&ballot_of(rt.alloc(), u32::MAX, b"abc")?, b"abc")?);
-    assert!(rt; gives_back(&value_of(rt.alloc(), &[])?, &[])?);
+    for (counter, len) in [
+        (0, 0),
+        (1, 1),
+        (u32::MAX, 2),
+        (0, 3),
+        (1, 31),
+        (2, 32),
+        (3, 33),
+        (1, 255),
+        (1, 256),
+        (1, 4_095),
+        (0, 4_096),
+        (1, 4_097),
+        (u32::MAX, 70_000),
+    ] {
+        let bytes = counted(rt.alloc(), len)?;
+        let ballot = ballot_of(rt.alloc(), counter, &bytes)?;
+        assert!(rt;
+            is_right_or_out_of_memory(is_copied(&ballot, &bytes)),
+            "of {len} bytes"
+        );
+        assert!(rt; is_copied(&ballot, &bytes)?, "of {len} bytes");
+    }
     Ok(())
 }
 
@@ -158,12 +137,5 @@ fn faults_have_their_numbers_and_texts(rt: HostRuntime) -> Result<(), Fail> {
         assert_eq!(rt; fault.number(), number);
         assert!(rt; is_shown(rt.alloc(), fault, text)?, "{text}");
     }
-    Ok(())
-}
-
-#[test]
-fn long_values_and_ballots_of_counter_0_are_copied(rt: HostRuntime) -> Result<(), Fail> {
-    let ballot = ballot_of(rt.alloc(), 0, &[7; 4_096])?;
-    assert!(rt; is_copied(&ballot, &[7; 4_096])?);
     Ok(())
 }

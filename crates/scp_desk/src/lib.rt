@@ -19,8 +19,6 @@ mod laws;
 mod making;
 mod rule;
 mod taking;
-#[cfg(test)]
-mod tests;
 mod turn;
 
 pub use ends::{Marker, Putter, Taker};

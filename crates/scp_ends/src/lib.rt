@@ -19,8 +19,6 @@ mod item;
 mod make;
 mod rule;
 mod tail;
-#[cfg(test)]
-mod tests;
 mod waiting;
 mod window;
 

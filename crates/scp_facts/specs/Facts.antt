@@ -41,13 +41,13 @@ use Rattle.scp_ledger.specs.declared.journal.Verdict.{Verdict}
 use Rattle.scp_ledger.specs.declared.journal.Verdict.TheVariants.{Stale}
 use Rattle.scp_ledger.specs.Seen.{machine_at}
 use Rattle.scp_apply.specs.Applied.{value_of}
-use Rattle.scp_core.specs.declared.event.Event.{Event}
-use Rattle.scp_core.specs.declared.event.Event.TheVariants as event
-use Rattle.scp_core.specs.declared.event.Reply.{Reply}
-use Rattle.scp_core.specs.declared.event.Reply.TheVariants as reply
-use Rattle.scp_core.specs.History.{peer_at}
-use Rattle.scp_core.specs.Node.{lives_at, item_at, has_read_at}
-use Rattle.scp_core.specs.Kv.{NodeView}
+use Rattle.scp_turn.specs.scp_core.specs.declared.event.Event.{Event}
+use Rattle.scp_turn.specs.scp_core.specs.declared.event.Event.TheVariants as event
+use Rattle.scp_turn.specs.scp_core.specs.declared.event.Reply.{Reply}
+use Rattle.scp_turn.specs.scp_core.specs.declared.event.Reply.TheVariants as reply
+use Rattle.scp_turn.specs.scp_core.specs.History.{peer_at}
+use Rattle.scp_turn.specs.scp_core.specs.Node.{lives_at, item_at, has_read_at}
+use Rattle.scp_turn.specs.scp_core.specs.Kv.{NodeView}
 use Rattle.scp_facts.specs.declared.fact.Fact.{Fact}
 use Rattle.scp_facts.specs.declared.fact.Fact.TheVariants.{Full, Came, Given, Discarded, Opened, Parked, Heard, Ticked, Missed, Entered, Obeyed, Says, Decided, Applied, Answers, Sent}
 use Rattle.scp_facts.specs.Standing.{in_the_way}

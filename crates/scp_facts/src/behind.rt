@@ -4,8 +4,8 @@ ghost use Rattle.scp_facts.specs.Facts.{offered as offered_by, drained as draine
 
 use crate::fact::{Fact, FactList};
 use crate::standing::way_of_entry;
-use scp_core::{Command, CommandFate, Node, Reply};
 use scp_envelope::SharedEnvelope;
+use scp_turn::{Command, CommandFate, Node, Reply};
 use scp_types::{ConnId, Fault, Slot};
 use std::alloc::Global;
 

@@ -1,8 +1,8 @@
 //! What the steps of a node tell.
 
-use scp_core::CommandFate;
 use scp_envelope::SharedEnvelope;
 use scp_pending::{Becoming, Why};
+use scp_turn::CommandFate;
 use scp_types::{ConnId, Hash, Seq, Slot};
 use scp_wire::{Bytes, Command, Message, SideMessage};
 use std::marker::Model;

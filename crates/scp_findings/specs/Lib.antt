@@ -2,3 +2,4 @@ pub mod Fates
 pub mod Outcome
 pub mod Replayed
 pub mod Shrunk
+pub mod Told

@@ -1,3 +1,4 @@
+pub use Rattle.scp_line
 pub mod Kept
 pub mod Taken
 pub mod Waiting

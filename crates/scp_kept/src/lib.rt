@@ -17,6 +17,7 @@ mod watch;
 pub use happening::{Happening, Kept};
 pub use laws::what_is_kept_is_what_happened;
 pub use playing::{KeptRun, play_kept};
+pub use scp_line::Parked;
 pub use taken::{commands_of, happenings_at, ticks_of};
 pub use waiting::{first_peers, parked_at};
 pub use watch::KeepingWatch;

@@ -25,12 +25,22 @@ pub enum Awaited {
 }
 
 /// Keeps what happens at nodes, in the order of the steps.
-#[derive(Drop)]
 pub struct KeepingWatch {
     kept: Vec<Kept>,
     awaited: Awaited,
     /// Whether there was no memory for what happened.
     lacks_memory: bool,
+}
+
+// (written out, so that whoever lets one go has one call to prove)
+impl Drop for KeepingWatch {
+    fn drop(self) {
+        let KeepingWatch {
+            kept: _,
+            awaited: _,
+            lacks_memory: _,
+        } = self;
+    }
 }
 
 impl Model for KeepingWatch {
@@ -104,7 +114,12 @@ impl KeepingWatch {
     pub fn into_kept(self) -> Vec<Kept>
         ensures { result.items ≡ self.kept }
     {
-        self.kept
+        let KeepingWatch {
+            kept,
+            awaited: _,
+            lacks_memory: _,
+        } = self;
+        kept
     }
 
     /// Keeps what happened at the node of this number, if anything did.

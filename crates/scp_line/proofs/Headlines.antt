@@ -1,11 +1,11 @@
 -- What is printed of a script is of nodes that hold their headlines.
 use Rattle.std.proofs.Common.{◌≡◌, ◌+◌, ◌∙◌, ℕ, List, get_or, ap, subst}
 use Rattle.std.specs.Prelude.{flat_map}
-use Rattle.scp_core.specs.Kv.{LedgerGivesHeadline, TheoremGivesLedger}
+use Rattle.scp_network.specs.scp_core.specs.Kv.{LedgerGivesHeadline, TheoremGivesLedger}
 use Rattle.scp_network.specs.Heard.{past_at}
 use Rattle.scp_network.specs.Network.{NetworkView}
-use Rattle.scp_gather.specs.Kv.{NodeReport, ReportsKeepHeadline, Left}
-use Rattle.scp_threaded_node.specs.Seats.{Each}
+use Rattle.scp_threaded_script.specs.scp_gather.specs.Kv.{NodeReport, ReportsKeepHeadline, Left}
+use Rattle.scp_threaded_script.specs.scp_threaded_node.specs.Seats.{Each}
 use Rattle.scp_threaded_script.specs.Reported.{AreNodesReported, AreSoReported}
 use Rattle.scp_script.specs.declared.command.Command.{Command}
 use Rattle.scp_script.specs.Nodes.{id_of, peers_of, reports_in, set_at}

@@ -9,8 +9,8 @@ use Rattle.std.proofs.lemmas.List.{map-append, length-map, length-append, get_or
 use Rattle.scp_types.specs.declared.names.NodeId.{NodeId}
 use Rattle.scp_types.specs.declared.fault.Fault.{Fault}
 use Rattle.scp_types.specs.declared.fault.Fault.TheVariants.{NoMemory, BadConfig}
-use Rattle.scp_core.specs.declared.config.Config.{Config}
-use Rattle.scp_core.specs.Kv.{NodeView}
+use Rattle.scp_network.specs.scp_core.specs.declared.config.Config.{Config}
+use Rattle.scp_network.specs.scp_core.specs.Kv.{NodeView}
 use Rattle.scp_network.specs.Heard.{Nodes}
 use Rattle.scp_network.specs.Network.{NetworkView}
 use Rattle.scp_network.specs.Linked.{ids_of, IsNetwork}

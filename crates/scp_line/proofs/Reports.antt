@@ -2,7 +2,7 @@
 use Rattle.std.proofs.Common.{◌≡◌, ◌<◌, ◌≤◌, ◌+◌, ◌-◌, ℕ, [], Option, Some, None, length, get_or, refl, ◌∙◌, ap, subst, append-nil, arith}
 use Rattle.std.specs.Prelude.{flat_map, slice_get, option_to_list}
 use Rattle.std.proofs.lemmas.Option.{slice_get_read, slice_get_past}
-use Rattle.scp_core.specs.Kv.{NodeView}
+use Rattle.scp_network.specs.scp_core.specs.Kv.{NodeView}
 use Rattle.scp_network.specs.Heard.{Nodes}
 use Rattle.scp_line.specs.Play.{report_at, report_of_node}
 

@@ -3,11 +3,11 @@ use Rattle.std.proofs.Common.{◌≡◌, ◌<◌, ◌+◌, ℕ, suc, Bool, true,
 use Rattle.std.specs.Prelude.{Ok, Err, All, IfSome, flat_map, ◌≤◌}
 use Rattle.std.proofs.Math.Seq.{take-length}
 use Rattle.std.proofs.lemmas.List.{take_more, take-append-drop}
-use Rattle.scp_core.specs.declared.event.Event.{Event}
+use Rattle.scp_network.specs.scp_core.specs.declared.event.Event.{Event}
 use Rattle.scp_device.specs.declared.device.TheConstants.{SCRIPT_LIMIT}
-use Rattle.scp_core.specs.Kv.{TheoremGivesLedger}
-use Rattle.scp_turn.specs.Watch.{unwatched}
-use Rattle.scp_turn.specs.Kv.{Noting}
+use Rattle.scp_network.specs.scp_core.specs.Kv.{TheoremGivesLedger}
+use Rattle.scp_network.specs.scp_turn.specs.Watch.{unwatched}
+use Rattle.scp_network.specs.scp_turn.specs.Kv.{Noting}
 use Rattle.scp_network.specs.Heard.{Heard, past_at}
 use Rattle.scp_network.specs.Network.{NetworkView}
 use Rattle.scp_script.specs.declared.command.Command.{Command}

@@ -4,8 +4,8 @@ use Rattle.std.specs.Prelude.{flat_map, slice_get, option_to_list}
 use Rattle.std.proofs.lemmas.Option.{slice_get_read, slice_get_past}
 use Rattle.scp_types.specs.declared.fault.Fault.{Fault}
 use Rattle.scp_types.specs.declared.fault.Fault.TheVariants.{NoMemory, Malformed, TooLong, Insane, Full, NotOpen, AlreadyOpen, LivesSpent, BadConfig, Failed, JournalFull, BadScript, Refused, Device}
-use Rattle.scp_gather.specs.Kv.{NodeReport}
-use Rattle.scp_threaded_node.specs.Sources.{HaveRoom}
+use Rattle.scp_threaded_script.specs.scp_gather.specs.Kv.{NodeReport}
+use Rattle.scp_threaded_script.specs.scp_threaded_node.specs.Sources.{HaveRoom}
 use Rattle.scp_types.specs.declared.fault.Stage.{Stage}
 use Rattle.scp_types.specs.declared.fault.Stage.TheVariants.{Reader, Pend, Slot, Apply}
 use Rattle.scp_threaded_script.specs.declared.running.NodeFault.{NodeFault}

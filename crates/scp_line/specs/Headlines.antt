@@ -3,14 +3,14 @@ use Rattle.std.specs.Prelude.{ℕ, ◌+◌, ◌<◌, ◌≡◌, List, flat_map, 
 use Rattle.scp_kv.specs.State.{fold_of}
 use Rattle.scp_apply.specs.Applied.{values_of}
 use Rattle.scp_headline.specs.Headline.{Headline}
-use Rattle.scp_core.specs.Headline.{HoldsHeadline}
-use Rattle.scp_core.specs.Kv.{NodeView}
+use Rattle.scp_network.specs.scp_core.specs.Headline.{HoldsHeadline}
+use Rattle.scp_network.specs.scp_core.specs.Kv.{NodeView}
 use Rattle.scp_network.specs.Heard.{Heard, Nodes, past_at}
-use Rattle.scp_gather.specs.Kv.{NodeReport, Left}
-use Rattle.scp_gather.specs.Headline.{books_reported}
-use Rattle.scp_threaded_node.specs.declared.ending.Stood.{Stood}
-use Rattle.scp_threaded_node.specs.Ended.{AreSentBy}
-use Rattle.scp_threaded_node.specs.Seats.{Each}
+use Rattle.scp_threaded_script.specs.scp_gather.specs.Kv.{NodeReport, Left}
+use Rattle.scp_threaded_script.specs.scp_gather.specs.Headline.{books_reported}
+use Rattle.scp_threaded_script.specs.scp_threaded_node.specs.declared.ending.Stood.{Stood}
+use Rattle.scp_threaded_script.specs.scp_threaded_node.specs.Ended.{AreSentBy}
+use Rattle.scp_threaded_script.specs.scp_threaded_node.specs.Seats.{Each}
 use Rattle.scp_threaded_script.specs.Lines.{driven_to, items_to}
 use Rattle.scp_threaded_script.specs.Reported.{AreNodesReported, AreStood}
 use Rattle.scp_script.specs.declared.command.Command.{Command}

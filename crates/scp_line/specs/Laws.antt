@@ -1,6 +1,6 @@
 -- What the definitions give together: a script is played line by line.
 use Rattle.std.specs.Prelude.{ℕ, ◌≡◌, Bool, false, List, [], ◌∷◌, ◌++◌, All, None, Ok, Err}
-use Rattle.scp_turn.specs.Kv.{Noting}
+use Rattle.scp_network.specs.scp_turn.specs.Kv.{Noting}
 use Rattle.scp_network.specs.Heard.{Heard, Noted}
 use Rattle.scp_network.specs.Network.{NetworkView}
 use Rattle.scp_script.specs.declared.command.Command.{Command}

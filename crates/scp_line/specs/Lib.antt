@@ -1,3 +1,4 @@
+pub use Rattle.scp_threaded_script
 pub mod Outcome
 pub mod Report
 pub mod Parts

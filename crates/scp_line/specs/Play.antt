@@ -18,13 +18,13 @@ use Rattle.scp_kv.specs.Map.{KvMap}
 use Rattle.scp_kv.specs.State.{fold_of}
 use Rattle.scp_pending.specs.Line.{count_held}
 use Rattle.scp_apply.specs.Applied.{values_of}
-use Rattle.scp_core.specs.declared.config.Config.{Config}
-use Rattle.scp_core.specs.declared.event.Event.{Event}
-use Rattle.scp_core.specs.declared.event.Event.TheVariants as event
-use Rattle.scp_core.specs.declared.event.Reply.{Reply}
-use Rattle.scp_core.specs.declared.event.Reply.TheVariants.{Accepted, Full}
-use Rattle.scp_core.specs.Node.{LinkView, is_full, lives_at}
-use Rattle.scp_core.specs.Kv.{NodeView, LedgerTheorem, HoldsLedger}
+use Rattle.scp_network.specs.scp_core.specs.declared.config.Config.{Config}
+use Rattle.scp_network.specs.scp_core.specs.declared.event.Event.{Event}
+use Rattle.scp_network.specs.scp_core.specs.declared.event.Event.TheVariants as event
+use Rattle.scp_network.specs.scp_core.specs.declared.event.Reply.{Reply}
+use Rattle.scp_network.specs.scp_core.specs.declared.event.Reply.TheVariants.{Accepted, Full}
+use Rattle.scp_network.specs.scp_core.specs.Node.{LinkView, is_full, lives_at}
+use Rattle.scp_network.specs.scp_core.specs.Kv.{NodeView, LedgerTheorem, HoldsLedger}
 use Rattle.scp_script.specs.declared.command.Command.{Command}
 use Rattle.scp_script.specs.declared.command.Command.TheVariants as script
 use Rattle.scp_script.specs.Words.{hex_bytes}

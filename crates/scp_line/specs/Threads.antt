@@ -7,7 +7,7 @@ use Rattle.scp_types.specs.declared.fault.Fault.{Fault}
 use Rattle.scp_types.specs.declared.fault.Fault.TheVariants.{NoMemory, TooLong, Device, Full, NotOpen, BadScript, Refused}
 use Rattle.scp_wire.specs.declared.carried.Carried.{Carried}
 use Rattle.scp_pending.specs.Messages.{messages_on}
-use Rattle.scp_gather.specs.Kv.{NodeReport}
+use Rattle.scp_threaded_script.specs.scp_gather.specs.Kv.{NodeReport}
 use Rattle.scp_threaded_script.specs.Reported.{AreNodesReported, IsGivenUp}
 use Rattle.scp_script.specs.Script.{IsScript, commands_in}
 use Rattle.scp_script.specs.Nodes.{reports_in}

@@ -9,8 +9,8 @@ ghost use Rattle.scp_line.specs.Report.{report_of};
 ghost use Rattle.scp_line.specs.Threads.{conns_waiting, parked_counts, count_on, view_gathered, report_gathered, report_gathered_at};
 
 use crate::report::{Parked, ReportParts, write_report};
-use scp_gather::NodeReport;
 use scp_script::Command;
+use scp_threaded_script::NodeReport;
 use scp_types::ConnId;
 use scp_wire::Carried;
 use std::alloc::{AllocError, Global};

@@ -1,11 +1,10 @@
 //! Laws of the definitions, each the contract of a function that does nothing.
-ghost use Rattle.scp_turn.specs.Watch.{notes};
+ghost use Rattle.scp_network.specs.scp_turn.specs.Watch.{notes};
 ghost use Rattle.scp_line.specs.Headlines.{PlayingKeepsHeadlines, ReportingKeepsHeadlines};
 ghost use Rattle.scp_line.specs.Laws.{LinesHaveRoom, NothingIsPlayed, LineIsPlayed, QuietLineIsPlayed, LineIsStopped};
 
-use scp_core::{KvDriver, each_node_holds_its_headline, each_node_holds_its_ledger};
-use scp_gather::what_is_reported_keeps_the_headline;
-use scp_turn::Watch;
+use scp_network::{KvDriver, Watch, each_node_holds_its_headline, each_node_holds_its_ledger};
+use scp_threaded_script::what_is_reported_keeps_the_headline;
 
 /// What the lines of a script say of the queues of its nodes is in range.
 pub fn a_script_has_room()

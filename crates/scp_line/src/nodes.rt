@@ -2,19 +2,20 @@
 ghost use Rattle.std.specs.Prelude.{◌≡◌, ◌≢◌, ◌⊎◌, ◌≤◌, ◌++◌, [], ℕ, List, All, OnOk, IfOk, IfErr, IfSome, IsOkUnless, string_bytes, flat_map, length, replicate, false};
 ghost use Rattle.scp_script.specs.Script.{AreAdmitted, node_count};
 ghost use Rattle.scp_script.specs.Nodes.{NamesNodes, IsSmall, reports_in};
-ghost use Rattle.scp_core.specs.Config.{IsConfig};
+ghost use Rattle.scp_network.specs.scp_core.specs.Config.{IsConfig};
 ghost use Rattle.scp_line.specs.Play.{config_of, driven_in, event_by, IsNew, AreNew, Played, report_of_node, report_at};
-ghost use Rattle.scp_turn.specs.Watch.{notes};
+ghost use Rattle.scp_network.specs.scp_turn.specs.Watch.{notes};
 ghost use Rattle.scp_line.specs.Nodes.{HaveRoom, AreMade, moment, Offers, Settles, Acts, ActsAlone, ActsAgain, brings_to_rest};
 ghost use Rattle.scp_line.specs.inside.Nodes.{IsPlayed, IsStopped};
 
 use crate::playing::PlayFault;
 use crate::report::{ReportParts, write_report};
 use crate::waiting::parked_at;
-use scp_core::{Capacities, Command as LocalCommand, Config, Event, KvDriver, Node, Peers, Reply};
-use scp_network::{Network, link_from};
+use scp_network::{
+    Capacities, Command as LocalCommand, Config, Event, KvDriver, Network, NoWatch, Node, Peers,
+    Reply, Watch, link_from,
+};
 use scp_script::{Command, capacities_of, count_of_nodes, id_from, peers_of_node, set_of_node};
-use scp_turn::{NoWatch, Watch};
 use scp_types::{Fault, Slot};
 use std::alloc::{AllocError, Global};
 

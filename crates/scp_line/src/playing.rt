@@ -14,8 +14,8 @@ ghost use Rattle.scp_line.specs.Play.{AreReports, Stops, Overflows, IsShown, IsU
 use crate::laws::what_is_played_keeps_the_headlines;
 use crate::messages::line_of;
 use crate::nodes::{act_all, new_network, write_reports};
-use scp_core::{KvDriver, each_node_holds_its_ledger};
 use scp_device::{ReportOut, SCRIPT_LIMIT, ScriptIn, read_script, write_text};
+use scp_network::{KvDriver, each_node_holds_its_ledger};
 use scp_script::{bytes_of, parse};
 use scp_types::Fault;
 use scp_wire::{Message, decode};

@@ -12,8 +12,8 @@ ghost use Rattle.scp_types.specs.Order.{conn_cmp};
 ghost use Rattle.scp_line.specs.Parts.{view_of};
 ghost use Rattle.scp_line.specs.inside.Parts.{lines_at};
 
-use scp_core::{Decision, Fate, Origin, SharedDecision};
 use scp_kv::KvState;
+use scp_network::{Decision, Fate, Origin, SharedDecision};
 use scp_types::{ConnId, NodeId};
 use scp_words::{word_of_cause, word_of_drop, word_of_verdict, write_hex};
 use std::alloc::{AllocError, Global};

@@ -1,13 +1,12 @@
 //! The messages that wait at a node.
 ghost use Rattle.std.specs.Prelude.{◌≡◌, ◌≢◌, ◌≤◌, ◌++◌, IfOk, OnOk, flat_map};
 ghost use Rattle.scp_wire.specs.Connections.{conn_at};
-ghost use Rattle.scp_core.specs.Node.{lives_at};
+ghost use Rattle.scp_network.specs.scp_core.specs.Node.{lives_at};
 ghost use Rattle.scp_script.specs.Nodes.{IsSmall, id_of, numbers};
 ghost use Rattle.scp_line.specs.Play.{parked_of, parked_from, parked_in};
 
 use crate::report::Parked;
-use scp_core::Node;
-use scp_network::link_from;
+use scp_network::{Node, link_from};
 use scp_script::id_from;
 use scp_types::ConnId;
 use std::alloc::{AllocError, Global};

@@ -1,10 +1,19 @@
 //! The program: plays or checks a script from standard input, or shows a message, and answers by its exit status.
 //!
-//! What it promises: it is safe and returns, and what it plays, checks and shows is what `serve` of `scp_serve` promises. Which words ask for what, and the statuses of the whole program, are shown by tests.
+//! What it promises:
+//! - each thing that words can ask for is a call of its own (`serving.rt`), which answers 0 only where it was done: a script was played and
+//!   its reports written, in the one mode or the other, a script was checked, a message was shown, each as `scp_line` promises it;
+//! - `serve` answers 2 only with `usage` and with nothing read, and 1 or 3 only of a fault;
+//! - a fault is told once, by its own line and its status, and a node that failed by its number.
+//!
+//! Not claimed: which words ask for what, and the statuses of the whole program, which its calls show.
 #![tactic(auto)]
 
+mod asked;
+mod serving;
+
+use crate::serving::serve;
 use scp_line::{Process, write_text};
-use scp_serve::serve;
 use std::alloc::{AllocError, Global};
 use std::io::ErrorKind;
 use std::process::ExitCode;

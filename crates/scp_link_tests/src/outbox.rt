@@ -1,74 +1,64 @@
-use scp_envelope::{Envelope, Nominate, Pledges, Prepare, Signature, Statement, ValueList};
+//! What an outbox gives, and when.
+use crate::short::{Short, message};
+use scp_envelope::Pledges;
 use scp_outbox::{Mark, Out, Outbox};
-use scp_types::{Ballot, Fault, Hash, NodeId, SharedValue, Slot, Value};
-use scp_wire::{BoxedEnvelope, FittingMessage, Message, encode};
+use scp_outboxes::Outboxes;
+use scp_types::{Fault, Hash};
+use scp_wire::{BoxedEnvelope, FittingMessage, Message};
 use std::alloc::Global;
 use std::process::Abort;
 use std::test::*;
 
-/// A value of so many bytes.
-fn value(alloc: Global, count: usize) -> Result<Value, Fault> {
-    Ok(Value::new(vec![in alloc; 7; count]?))
+/// What is given, in short: a mark, the first byte of a hash that is asked for, the first slot and the count of a batch, or
+/// the slot and the count of votes or the ballot's counter of a statement.
+#[derive(Clone, Copy, Debug, PartialEq, Eq)]
+enum Given {
+    Mark(Mark),
+    Asks(u8),
+    Records(u64, usize),
+    Nominates(u64, usize),
+    Prepares(u64, u32),
+    Other,
+    Nothing,
 }
 
-/// The pledges as a message of node 1.
-fn said(alloc: Global, slot: u64, pledges: Pledges) -> Result<Message, Fault> {
-    let statement = Statement {
-        node: NodeId([1; 32]),
-        slot: Slot(slot),
-        pledges,
-    };
-    let envelope = Envelope {
-        statement,
-        signature: Signature::new(Vec::new(alloc)),
-    };
-    Ok(Message::Envelope(BoxedEnvelope::new(alloc, envelope)?))
+/// What is done, or is seen then.
+#[derive(Clone, Copy, Debug)]
+enum Step {
+    Puts(Short),
+    Marks(Mark),
+    /// A mark is refused.
+    IsFull,
+    Gives(Given),
+    /// So many statements were lost.
+    Lost(u64),
 }
 
-/// A nomination of so many values of 1, 2, .. bytes.
-pub(crate) fn nomination(alloc: Global, slot: u64, votes: usize) -> Result<Message, Fault> {
-    let mut values = Vec::new(alloc);
-    for count in 0..votes {
-        values.push(value(alloc, count + 1)?)?;
+fn statement(envelope: &BoxedEnvelope) -> Given {
+    let statement = &envelope.get().statement;
+    match &statement.pledges {
+        Pledges::Nominate(nominate) => {
+            Given::Nominates(statement.slot.0, nominate.votes.as_slice().len())
+        }
+        Pledges::Prepare(prepare) => Given::Prepares(statement.slot.0, prepare.ballot.counter),
+        _ => Given::Other,
     }
-    let nominate = Nominate {
-        set_hash: Hash([0; 32]),
-        votes: ValueList::new(values),
-        accepted: ValueList::new(Vec::new(alloc)),
-    };
-    said(alloc, slot, Pledges::Nominate(nominate))
 }
 
-/// A batch of so many values of one byte, from the slot on.
-fn batch(alloc: Global, first: u64, count: usize) -> Result<Message, Fault> {
-    let mut values = Vec::new(alloc);
-    for _ in 0..count {
-        values.push(value(alloc, 1)?)?;
+fn in_short(out: &Out) -> Given {
+    match out {
+        Out::Mark(mark) => Given::Mark(*mark),
+        Out::Message(Message::GetSet(hash)) => Given::Asks(hash.0[0]),
+        Out::Message(Message::Records { first, values }) => {
+            Given::Records(first.0, values.as_slice().len())
+        }
+        Out::Message(Message::Envelope(envelope)) => statement(envelope),
+        Out::Message(_) => Given::Other,
+        Out::Nothing => Given::Nothing,
     }
-    Ok(Message::Records {
-        first: Slot(first),
-        values: ValueList::new(values),
-    })
 }
 
-/// A PREPARE of the ballot of this counter.
-fn prepare(alloc: Global, slot: u64, counter: u32) -> Result<Message, Fault> {
-    let ballot = Ballot {
-        counter,
-        value: SharedValue::new(alloc, value(alloc, 1)?)?,
-    };
-    let prepare = Prepare {
-        set_hash: Hash([0; 32]),
-        ballot,
-        prepared: None,
-        prepared_prime: None,
-        n_commit: 0,
-        n_high: 0,
-    };
-    said(alloc, slot, Pledges::Prepare(prepare))
-}
-
-/// Puts a message that fits; whether it fits.
+/// Puts a message; whether it fits.
 fn put(outbox: &mut Outbox, message: Message) -> bool {
     match FittingMessage::new(message) {
         Ok(fitting) => {
@@ -79,207 +69,148 @@ fn put(outbox: &mut Outbox, message: Message) -> bool {
     }
 }
 
-/// What was given, in short: a mark, the first byte of a hash that is asked for, the first slot and the count of a batch, or
-/// the slot and the count of votes or the ballot's counter of a statement.
-#[derive(Clone, Copy, Debug, PartialEq, Eq)]
-pub(crate) enum Given {
-    Mark(Mark),
-    Asks(u8),
-    Records(u64, usize),
-    Nominates(u64, usize),
-    Prepares(u64, u32),
-    Other,
-    Nothing,
-}
-
-fn next(outbox: &mut Outbox) -> Given {
-    in_short(outbox.next())
-}
-
-pub(crate) fn in_short(out: Out) -> Given {
-    match out {
-        Out::Mark(mark) => Given::Mark(mark),
-        Out::Message(Message::GetSet(hash)) => Given::Asks(hash.0[0]),
-        Out::Message(Message::Records { first, values }) => {
-            Given::Records(first.0, values.as_slice().len())
-        }
-        Out::Message(Message::Envelope(envelope)) => statement(&envelope.get().statement),
-        Out::Message(_) => Given::Other,
-        Out::Nothing => Given::Nothing,
+/// Does the step. Whether it is as is said.
+fn does(outbox: &mut Outbox, alloc: Global, step: Step) -> Result<bool, Fault> {
+    match step {
+        Step::Puts(short) => Ok(put(outbox, message(alloc, short)?)),
+        Step::Marks(mark) => Ok(outbox.mark(mark).is_ok()),
+        Step::IsFull => Ok(outbox.mark(Mark::Closed) == Err(Fault::Full)),
+        Step::Gives(given) => Ok(in_short(&outbox.next()) == given),
+        Step::Lost(count) => Ok(outbox.overwritten() == count),
     }
 }
 
-fn statement(statement: &Statement) -> Given {
-    match &statement.pledges {
-        Pledges::Nominate(nominate) => {
-            Given::Nominates(statement.slot.0, nominate.votes.as_slice().len())
-        }
-        Pledges::Prepare(prepare) => Given::Prepares(statement.slot.0, prepare.ballot.counter),
-        _ => Given::Other,
-    }
-}
-
-/// Asks for the hashes of equal bytes from `first` on, below `end`; whether all fit.
-fn ask(outbox: &mut Outbox, first: u8, end: u8) -> bool {
-    let mut all = true;
-    for byte in first..end {
-        if !put(outbox, Message::GetSet(Hash([byte; 32]))) {
-            all = false;
+/// The first step of a new outbox that isn't as is said.
+fn first_wrong(alloc: Global, live: bool, steps: &[Step]) -> Result<Option<usize>, Fault> {
+    let mut outbox = Outbox::new(alloc, live)?;
+    for (place, next) in steps.iter().enumerate() {
+        if !does(&mut outbox, alloc, *next)? {
+            return Ok(Some(place));
         }
     }
-    all
+    Ok(None)
 }
+
+/// Marks come first, then requests and answers in order, then statements.
+const IN_TURN: [Step; 14] = [
+    Step::Puts(Short::Votes(1, 1, 1)),
+    Step::Puts(Short::AsksSet(5)),
+    Step::Puts(Short::Batch(4, 2, 1)),
+    Step::Puts(Short::AsksSet(6)),
+    Step::Marks(Mark::Opened),
+    Step::Marks(Mark::Stop),
+    Step::Gives(Given::Mark(Mark::Opened)),
+    Step::Gives(Given::Mark(Mark::Stop)),
+    Step::Gives(Given::Asks(5)),
+    Step::Gives(Given::Records(4, 2)),
+    Step::Gives(Given::Asks(6)),
+    Step::Gives(Given::Nominates(1, 1)),
+    Step::Gives(Given::Nothing),
+    Step::Lost(0),
+];
+
+/// A link that isn't live is given no message.
+const NOT_LIVE: [Step; 10] = [
+    Step::Puts(Short::AsksSet(5)),
+    Step::Puts(Short::AsksSet(6)),
+    Step::Puts(Short::Votes(1, 1, 1)),
+    Step::Gives(Given::Nothing),
+    Step::Marks(Mark::Opened),
+    Step::Gives(Given::Mark(Mark::Opened)),
+    Step::Gives(Given::Asks(5)),
+    Step::Marks(Mark::Closed),
+    Step::Gives(Given::Mark(Mark::Closed)),
+    Step::Gives(Given::Nothing),
+];
+
+/// A statement whose slot and kind are there takes their place, where it is newer.
+const KEEPS_ITS_PLACE: [Step; 11] = [
+    Step::Puts(Short::Votes(1, 1, 1)),
+    Step::Puts(Short::Prepares(1, 4)),
+    Step::Puts(Short::Votes(2, 1, 1)),
+    Step::Puts(Short::Votes(1, 3, 1)),
+    Step::Puts(Short::Votes(1, 2, 1)),
+    Step::Puts(Short::Prepares(1, 3)),
+    Step::Lost(1),
+    Step::Gives(Given::Nominates(1, 3)),
+    Step::Gives(Given::Prepares(1, 4)),
+    Step::Gives(Given::Nominates(2, 1)),
+    Step::Gives(Given::Nothing),
+];
 
 #[test]
-fn marks_come_first_then_requests_then_statements(rt: HostRuntime) -> Result<(), Fail> {
-    let alloc = rt.alloc();
-    let mut outbox = Outbox::new(alloc, true)?;
-    assert!(rt; put(&mut outbox, nomination(alloc, 1, 1)?));
-    assert!(rt; ask(&mut outbox, 5, 7));
-    outbox.mark(Mark::Opened)?;
-    outbox.mark(Mark::Stop)?;
-    assert_eq!(rt; next(&mut outbox), Given::Mark(Mark::Opened));
-    assert_eq!(rt; next(&mut outbox), Given::Mark(Mark::Stop));
-    assert_eq!(rt; next(&mut outbox), Given::Asks(5));
-    assert_eq!(rt; next(&mut outbox), Given::Asks(6));
-    assert_eq!(rt; next(&mut outbox), Given::Nominates(1, 1));
-    assert_eq!(rt; next(&mut outbox), Given::Nothing);
-    Ok(())
-}
-
-#[test]
-fn a_link_that_is_not_live_is_given_no_message(rt: HostRuntime) -> Result<(), Fail> {
-    let alloc = rt.alloc();
-    let mut outbox = Outbox::new(alloc, false)?;
-    assert!(rt; ask(&mut outbox, 5, 7));
-    assert!(rt; put(&mut outbox, nomination(alloc, 1, 1)?));
-    assert_eq!(rt; next(&mut outbox), Given::Nothing);
-    outbox.mark(Mark::Opened)?;
-    assert_eq!(rt; next(&mut outbox), Given::Mark(Mark::Opened));
-    assert_eq!(rt; next(&mut outbox), Given::Asks(5));
-    outbox.mark(Mark::Closed)?;
-    assert_eq!(rt; next(&mut outbox), Given::Mark(Mark::Closed));
-    assert_eq!(rt; next(&mut outbox), Given::Nothing);
-    Ok(())
-}
-
-#[test]
-fn of_65_requests_the_oldest_is_overwritten(rt: HostRuntime) -> Result<(), Fail> {
-    let mut outbox = Outbox::new(rt.alloc(), true)?;
-    assert!(rt; ask(&mut outbox, 1, 66));
-    assert_eq!(rt; outbox.overwritten(), 0);
-    for byte in 2..66u8 {
-        assert_eq!(rt; next(&mut outbox), Given::Asks(byte));
-    }
-    assert_eq!(rt; next(&mut outbox), Given::Nothing);
-    Ok(())
-}
-
-#[test]
-fn a_slot_and_kind_that_is_there_keeps_its_place(rt: HostRuntime) -> Result<(), Fail> {
-    let alloc = rt.alloc();
-    let mut outbox = Outbox::new(alloc, true)?;
-    assert!(rt; put(&mut outbox, nomination(alloc, 1, 1)?));
-    assert!(rt; put(&mut outbox, prepare(alloc, 1, 4)?));
-    assert!(rt; put(&mut outbox, nomination(alloc, 2, 1)?));
-    assert!(rt; put(&mut outbox, nomination(alloc, 1, 3)?));
-    // Older ones change nothing.
-    assert!(rt; put(&mut outbox, nomination(alloc, 1, 2)?));
-    assert!(rt; put(&mut outbox, prepare(alloc, 1, 3)?));
-    assert_eq!(rt; outbox.overwritten(), 1);
-    assert_eq!(rt; next(&mut outbox), Given::Nominates(1, 3));
-    assert_eq!(rt; next(&mut outbox), Given::Prepares(1, 4));
-    assert_eq!(rt; next(&mut outbox), Given::Nominates(2, 1));
-    assert_eq!(rt; next(&mut outbox), Given::Nothing);
-    Ok(())
-}
-
-/// Puts a PREPARE for each of the slots from 1 to this one; whether all fit.
-fn fill(alloc: Global, outbox: &mut Outbox, last: u64) -> Result<bool, Fault> {
-    let mut all = true;
-    for slot in 0..last {
-        if !put(outbox, prepare(alloc, slot + 1, 1)?) {
-            all = false;
-        }
-    }
-    Ok(all)
-}
-
-#[test]
-fn of_65_slots_the_first_is_dropped(rt: HostRuntime) -> Result<(), Fail> {
-    let alloc = rt.alloc();
-    let mut outbox = Outbox::new(alloc, true)?;
-    assert!(rt; fill(alloc, &mut outbox, 65)?);
-    assert_eq!(rt; outbox.overwritten(), 1);
-    for slot in 2..66u64 {
-        assert_eq!(rt; next(&mut outbox), Given::Prepares(slot, 1));
-    }
-    assert_eq!(rt; next(&mut outbox), Given::Nothing);
-    Ok(())
-}
-
-#[test]
-fn the_17th_mark_is_refused(rt: HostRuntime) -> Result<(), Fail> {
-    let mut outbox = Outbox::new(rt.alloc(), true)?;
-    for _ in 0..16u8 {
-        outbox.mark(Mark::Stop)?;
-    }
-    assert!(rt; outbox.mark(Mark::Closed) == Err(Fault::Full));
-    for _ in 0..16u8 {
-        assert_eq!(rt; next(&mut outbox), Given::Mark(Mark::Stop));
-    }
-    assert_eq!(rt; next(&mut outbox), Given::Nothing);
-    Ok(())
-}
-
-/// Whether the message fits as it should: `encode` writes just what fits.
-fn fits_as_it_is_written(alloc: Global, message: Message, fits: bool) -> Result<bool, Fault> {
-    let written = match encode(alloc, &message) {
-        Ok(_) => true,
-        Err(Fault::TooLong) => false,
-        Err(other) => return Err(other),
-    };
-    Ok(written == fits && FittingMessage::new(message).is_ok() == fits)
-}
-
-#[test]
-fn what_fits_is_what_is_written(rt: HostRuntime) -> Result<(), Fail> {
-    let alloc = rt.alloc();
-    let at_limit = Message::Record(Slot(1), value(alloc, 4096)?);
-    assert!(rt; fits_as_it_is_written(alloc, at_limit, true)?);
-    let over = Message::Record(Slot(1), value(alloc, 4097)?);
-    assert!(rt; fits_as_it_is_written(alloc, over, false)?);
-    assert!(rt; fits_as_it_is_written(alloc, Message::GetRecord(Slot(0)), true)?);
-    assert!(rt; fits_as_it_is_written(alloc, nomination(alloc, 1, 64)?, true)?);
-    assert!(rt; fits_as_it_is_written(alloc, nomination(alloc, 1, 65)?, false)?);
-    Ok(())
-}
-
-#[test]
-fn a_batch_waits_among_the_answers(rt: HostRuntime) -> Result<(), Fail> {
-    let alloc = rt.alloc();
-    let mut outbox = Outbox::new(alloc, true)?;
-    assert!(rt; put(&mut outbox, nomination(alloc, 1, 1)?));
-    assert!(rt; put(&mut outbox, batch(alloc, 4, 2)?));
-    assert!(rt; ask(&mut outbox, 5, 6));
-    assert_eq!(rt; next(&mut outbox), Given::Records(4, 2));
-    assert_eq!(rt; next(&mut outbox), Given::Asks(5));
-    assert_eq!(rt; next(&mut outbox), Given::Nominates(1, 1));
-    Ok(())
-}
-
-#[test]
-fn a_batch_that_fits_is_one_that_is_written(rt: HostRuntime) -> Result<(), Fail> {
-    let alloc = rt.alloc();
-    for (first, count, fits) in [
-        (1, 0, false),
-        (1, 1, true),
-        (1, 32, true),
-        (1, 33, false),
-        (u64::MAX, 1, true),
-        (u64::MAX, 2, false),
+fn an_outbox_gives_in_turn(rt: HostRuntime) -> Result<(), Fail> {
+    for (live, steps) in [
+        (true, IN_TURN.as_slice()),
+        (false, &NOT_LIVE),
+        (true, &KEEPS_ITS_PLACE),
     ] {
-        assert!(rt; fits_as_it_is_written(alloc, batch(alloc, first, count)?, fits)?);
+        let wrong = first_wrong(rt.alloc(), live, steps)?;
+        assert!(rt; wrong.is_none(), "{wrong:?} of {steps:?}");
     }
+    Ok(())
+}
+
+#[test]
+fn of_65_the_first_is_lost_and_of_17_marks_the_last_is_refused(
+    rt: HostRuntime,
+) -> Result<(), Fail> {
+    let mut asks = [Step::Gives(Given::Nothing); 131];
+    let mut slots = [Step::Gives(Given::Nothing); 131];
+    for number in 0..65u8 {
+        asks[usize::from(number)] = Step::Puts(Short::AsksSet(number));
+        slots[usize::from(number)] = Step::Puts(Short::Prepares(u64::from(number), 1));
+    }
+    asks[65] = Step::Lost(0);
+    slots[65] = Step::Lost(1);
+    for number in 1..65u8 {
+        asks[usize::from(number) + 65] = Step::Gives(Given::Asks(number));
+        slots[usize::from(number) + 65] = Step::Gives(Given::Prepares(u64::from(number), 1));
+    }
+    let mut marks = [Step::Gives(Given::Nothing); 34];
+    for place in 0..16 {
+        marks[place] = Step::Marks(Mark::Stop);
+        marks[place + 17] = Step::Gives(Given::Mark(Mark::Stop));
+    }
+    marks[16] = Step::IsFull;
+    for steps in [asks.as_slice(), &slots, &marks] {
+        let wrong = first_wrong(rt.alloc(), true, steps)?;
+        assert!(rt; wrong.is_none(), "{wrong:?} of {steps:?}");
+    }
+    Ok(())
+}
+
+/// Asks the link for the set whose hash has 32 such bytes.
+fn ask(outboxes: &mut Outboxes, link: u8, byte: u8) {
+    outboxes.put(link, FittingMessage::of(Message::GetSet(Hash([byte; 32]))));
+}
+
+/// The first byte of the hash that is asked for next at the link.
+fn next(outboxes: &mut Outboxes, link: u8) -> Option<u8> {
+    match outboxes.next(link) {
+        Some(Message::GetSet(hash)) => Some(hash.0[0]),
+        _ => None,
+    }
+}
+
+#[test]
+fn each_link_has_its_own_messages(rt: HostRuntime) -> Result<(), Fail> {
+    let mut outboxes = Outboxes::new(rt.alloc(), 2)?;
+    assert_eq!(rt; outboxes.len(), 2);
+    for (link, byte) in [(1, 5), (0, 6), (1, 7), (2, 8)] {
+        ask(&mut outboxes, link, byte);
+    }
+    for (link, byte) in [
+        (0, Some(6)),
+        (0, None),
+        (1, Some(5)),
+        (1, Some(7)),
+        (1, None),
+        (2, None),
+    ] {
+        assert_eq!(rt; next(&mut outboxes, link), byte);
+    }
+    assert_eq!(rt; outboxes.overwritten(1), 0);
+    assert_eq!(rt; outboxes.overwritten(2), 0);
     Ok(())
 }

@@ -1,10 +1,9 @@
 -- What is told of an episode, put together.
-use Rattle.std.proofs.Common.{◌≡◌, ℕ, true, List, ◌++◌, ◌∙◌, ap, subst, append_assoc, arith}
-use Rattle.std.specs.Prelude.{Result, Ok, Err, IfOk, IsErrOf, IsOkUnless, ◌↔◌, length, flat_map}
+use Rattle.std.proofs.Common.{◌≡◌, ℕ, List, ◌++◌, ◌∙◌, ap, subst, append_assoc}
+use Rattle.std.specs.Prelude.{Result, Ok, Err, IfOk, length, flat_map}
 use Rattle.std.proofs.lemmas.Result.{IfOk-at_ok}
 use Rattle.sha2.specs.Sha256.{sha256}
 use Rattle.scp_types.specs.declared.fault.Fault.{Fault}
-use Rattle.scp_types.specs.declared.fault.Fault.TheVariants.{JournalFull, NoMemory}
 use Rattle.scp_types.specs.declared.names.Hash.{Hash}
 use Rattle.scp_timers.specs.declared.running.Timer.{Timer}
 use Rattle.scp_core.specs.declared.event.Event.{Event}
@@ -14,7 +13,7 @@ use Rattle.scp_core.specs.Kv.{NodeView}
 use Rattle.scp_turn.specs.Kv.{Goes}
 use Rattle.scp_episode.specs.declared.sending.Sending.{Sending}
 use Rattle.scp_episode.specs.declared.playing.Played.{Played}
-use Rattle.scp_episode.specs.Episode.{finds_full, sent_in}
+use Rattle.scp_episode.specs.Episode.{sent_in}
 use Rattle.scp_episode.specs.Kv.{IsEpisode}
 use Rattle.scp_told.specs.Timers.{changes}
 use Rattle.scp_live.specs.Live.{IsTold, refusal, sent_line, new_fates, new_decisions, newly_applied, told_of}
@@ -35,24 +34,6 @@ lines_are names before after' reply old new heard sent f d a text longer s p q r
     ∙ ap (λ (n : ℕ). longer_by names before after' reply (sent_in heard) (length old.ledger.journal) (length old.ledger.decisions) n new text) r
     ∙ regrouped text (refusal reply) (flat_map (sent_line names) (sent_in heard)) (new_fates names (length old.ledger.journal) new) (new_decisions names (length old.ledger.decisions) new) (newly_applied (length old.applier.applied) new) (changes before after')
 
--- what a node heard, of which this holds where it isn't refused, and which is told as a full journal exactly where one was found
-abbrev pub GoesTold : {T : Type 0} → Result T Fault → NodeView → NodeView → (T → NodeView → List Exchange → NodeView → Type 0) → Type 0
-GoesTold r old new P = Goes old new (λ a heard b. IfOk r (λ x. P x a heard b) × (IsErrOf r JournalFull ↔ (finds_full heard ≡ true)))
-
-told_as : {T U : Type 0} (r : Result T Fault) (s : Result U Fault) (old new : NodeView) (P : T → NodeView → List Exchange → NodeView → Type 0) (Q : U → NodeView → List Exchange → NodeView → Type 0) → ((heard : List Exchange) → IfOk r (λ x. P x old heard new) → IfOk s (λ y. Q y old heard new)) → (IsErrOf s JournalFull ↔ IsErrOf r JournalFull) → GoesTold r old new P → GoesTold s old new Q
-told_as r s old new P Q f same g = record {
-  heard = g.heard;
-  is = (f g.heard g.is.0, (λ e. g.is.1.0 (same.0 e), λ found. same.1 (g.is.1.1 found)));
-  does = g.does;
-  theorem = g.theorem;
-}
-
-no_err : {T : Type 0} (r : Result T Fault) (x : T) → r ≡ Ok x → IsErrOf r JournalFull → ⊥
-no_err r x is err = cc
-
-memory_not_full : {T : Type 0} (r : Result T Fault) → IsOkUnless r NoMemory → IsErrOf r JournalFull → ⊥
-memory_not_full r only err = grind arith
-
 -- what was told of an episode, where all of it was
 told_so : (s : Result Hash Fault) (played : Played) (event : Event) (names : List (List ℕ)) (before after' : List Timer) (old new : NodeView) (heard : List Exchange) (f d a : ℕ) (text longer : List ℕ) → f ≡ length old.ledger.journal → d ≡ length old.ledger.decisions → a ≡ length old.applier.applied → IsEpisode event played.reply old heard new × (played.sent.items ≡ sent_in heard)
     → IfOk s (λ hash. longer ≡ longer_by names before after' played.reply played.sent.items f d a new text) → IfOk s (λ hash. hash.0 ≡ sha256 (flat_map (sent_line names) played.sent.items)) → IfOk s (λ hash. IsTold event names before after' old heard new text longer hash.0)
@@ -63,30 +44,6 @@ told_so (Ok hash) played event names before after' old new heard f d a text long
   digest_is = h ∙ ap (λ (x : List Sending). sha256 (flat_map (sent_line names) x)) e.1;
 }
 told_so (Err fault) played event names before after' old new heard f d a text longer p q t e l h = tt
-
--- all of it was told, or there was no memory to tell it
-pub acts : (r : Result Played Fault) (s : Result Hash Fault) (played : Played) (event : Event) (names : List (List ℕ)) (before after' : List Timer) (old new : NodeView) (f d a : ℕ) (text longer : List ℕ) → r ≡ Ok played → IsOkUnless s NoMemory → f ≡ length old.ledger.journal → d ≡ length old.ledger.decisions → a ≡ length old.applier.applied
-    → IfOk s (λ hash. longer ≡ longer_by names before after' played.reply played.sent.items f d a new text) → IfOk s (λ hash. hash.0 ≡ sha256 (flat_map (sent_line names) played.sent.items))
-    → GoesTold r old new (λ p o heard n. IsEpisode event p.reply o heard n × (p.sent.items ≡ sent_in heard)) → GoesTold s old new (λ hash o heard n. IsTold event names before after' o heard n text longer hash.0)
-acts r s played event names before after' old new f d a text longer is only p q t lines digest g =
-    told_as r s old new (λ p o heard n. IsEpisode event p.reply o heard n × (p.sent.items ≡ sent_in heard)) (λ hash o heard n. IsTold event names before after' o heard n text longer hash.0)
-    (λ heard e. told_so s played event names before after' old new heard f d a text longer p q t (IfOk-at_ok (λ (x : Played). IsEpisode event x.reply old heard new × (x.sent.items ≡ sent_in heard)) is e) lines digest)
-    (λ e. absurd (memory_not_full s only e), λ e. absurd (no_err r played is e)) g
-
--- it was refused
-pub refuses : (r : Result Played Fault) (fault : Fault) (event : Event) (names : List (List ℕ)) (before after' : List Timer) (old new : NodeView) (text longer : List ℕ) → r ≡ Err fault → GoesTold r old new (λ p o heard n. IsEpisode event p.reply o heard n × (p.sent.items ≡ sent_in heard)) → GoesTold {T = Hash} (Err fault) old new (λ hash o heard n. IsTold event names before after' o heard n text longer hash.0)
-refuses r fault event names before after' old new text longer is g =
-    told_as {U = Hash} r (Err fault) old new (λ p o heard n. IsEpisode event p.reply o heard n × (p.sent.items ≡ sent_in heard)) (λ hash o heard n. IsTold event names before after' o heard n text longer hash.0)
-    (λ heard e. tt) (λ e. let same : fault ≡ JournalFull = cc in is ∙ ap (λ (x : Fault). Err x) same, λ e. let same : fault ≡ JournalFull = cc in ap (λ (x : Fault). Err x) same) g
-
--- the same of equal names, timers and nodes
-pub acts_as : (r : Result Hash Fault) (event : Event) (names names' : List (List ℕ)) (before before' after' : List Timer) (old old' new : NodeView) (text longer : List ℕ) → names ≡ names' → before ≡ before' → old ≡ old' → GoesTold r old new (λ hash o heard n. IsTold event names before after' o heard n text longer hash.0) → GoesTold r old' new (λ hash o heard n. IsTold event names' before' after' o heard n text longer hash.0)
-acts_as r event names names' before before' after' old old' new text longer p q s g =
-    subst (λ (m : NodeView). GoesTold r m new (λ hash o heard n. IsTold event names' before' after' o heard n text longer hash.0)) s
-    (subst (λ (ts : List Timer). GoesTold r old new (λ hash o heard n. IsTold event names' ts after' o heard n text longer hash.0)) q
-    (subst (λ (ns : List (List ℕ)). GoesTold r old new (λ hash o heard n. IsTold event ns before after' o heard n text longer hash.0)) p g))
-
--- ---- a node that is watched
 
 -- what a node heard, of which this holds where it isn't refused; and of all of it this holds besides
 abbrev pub GoesBeside : {T : Type 0} → Result T Fault → NodeView → NodeView → (T → NodeView → List Exchange → NodeView → Type 0) → (NodeView → List Exchange → NodeView → Type 0) → Type 0

@@ -1,16 +1,16 @@
 //! An event, and all that is told of it.
-ghost use Rattle.std.specs.Prelude.{◌≡◌, ◌⊎◌, ◌↔◌, ◌++◌, false, true, IfOk, IfErr, OnOk, IsErrOf, IsOkUnless, map, flat_map, string_bytes};
+ghost use Rattle.std.specs.Prelude.{◌≡◌, ◌++◌, false, IfOk, OnOk, IsOkUnless, map, flat_map, string_bytes};
 ghost use Rattle.sha2.specs.Sha256.{sha256};
 ghost use Rattle.scp_types.specs.declared.fault.Fault.{Fault};
 ghost use Rattle.scp_turn.specs.Kv.{Goes, Watched};
 ghost use Rattle.scp_turn.specs.Watch.{notes};
-ghost use Rattle.scp_episode.specs.Episode.{IsOfHost, finds_full};
+ghost use Rattle.scp_episode.specs.Episode.{IsOfHost};
 ghost use Rattle.scp_told.specs.Timers.{changes};
 ghost use Rattle.scp_live.specs.Live.{IsTold, AreTimersOf, refusal, sent_line, new_fates, new_decisions, newly_applied};
 
 use crate::telling::{Marks, digest_from, tell_new, tell_refusal, tell_sent};
 use scp_core::{Event, KvDriver, Node};
-use scp_episode::{Played, play, play_with};
+use scp_episode::{Played, play_with};
 use scp_timers::{Timer, timers};
 use scp_told::write_changes;
 use scp_turn::Watch;
@@ -88,29 +88,6 @@ pub fn act_with<W: Watch<KvDriver>>(
 {
     let marks = Marks::of(node);
     match play_with(alloc, node, event, watch) {
-        Ok(played) => tell(alloc, text, names, node, marks, &played, running),
-        Err(fault) => Err(fault),
-    }
-}
-
-/// The event, and all that is told of it.
-pub fn act(
-    alloc: Global,
-    node: &mut Node,
-    names: &[String],
-    running: &mut Vec<Timer>,
-    event: Event,
-    text: &mut String,
-) -> Result<Hash, Fault>
-    requires { IsOfHost event }
-    ensures told { Goes node.old node.new (λ a heard b. IfOk result (λ hash. IsTold event (map string_bytes names.now) running.old.items running.new.items a heard b (string_bytes text.old) (string_bytes text.new) hash.0) × (IsErrOf result Fault.JournalFull ↔ (finds_full heard ≡ true))) }
-    ensures timers { OnOk result (AreTimersOf node.new running.new.items) }
-    ensures runs { OnOk result (node.new.failed ≡ false) }
-    ensures failed { IsErrOf result Fault.Failed ↔ (node.old.failed ≡ true) }
-    ensures only { IfErr result (λ f. (f ≡ Fault.NoMemory) ⊎ ((f ≡ Fault.JournalFull) ⊎ (f ≡ Fault.Failed))) }
-{
-    let marks = Marks::of(node);
-    match play(alloc, node, event) {
         Ok(played) => tell(alloc, text, names, node, marks, &played, running),
         Err(fault) => Err(fault),
     }

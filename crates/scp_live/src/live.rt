@@ -1,5 +1,5 @@
 //! A live node.
-ghost use Rattle.std.specs.Prelude.{◌≡◌, ◌⊎◌, ◌↔◌, [], true, false, map, IfOk, IfErr, OnOk, IsErrOf, Err, string_bytes};
+ghost use Rattle.std.specs.Prelude.{◌≡◌, ◌⊎◌, ◌↔◌, [], false, map, IfOk, IfErr, OnOk, Err, string_bytes};
 ghost use Rattle.scp_types.specs.declared.fault.Fault.{Fault};
 ghost use Rattle.scp_core.specs.Config.{IsConfig};
 ghost use Rattle.scp_core.specs.Node.{accepts_at};
@@ -7,7 +7,7 @@ ghost use Rattle.scp_core.specs.Kv.{LedgerTheorem};
 ghost use Rattle.scp_turn.specs.Turn.{links_of};
 ghost use Rattle.scp_turn.specs.Kv.{Goes, Watched};
 ghost use Rattle.scp_turn.specs.Watch.{notes};
-ghost use Rattle.scp_episode.specs.Episode.{IsOfHost, finds_full};
+ghost use Rattle.scp_episode.specs.Episode.{IsOfHost};
 ghost use Rattle.scp_live.specs.Live.{IsTold, AreTimersOf};
 
 use crate::acting;
@@ -19,12 +19,23 @@ use std::alloc::Global;
 use std::marker::Model;
 
 /// A node, the names of its peers, and the timers that its host was last told to run.
-#[derive(Drop)]
 pub struct Live {
     pub(crate) alloc: Global,
     pub(crate) node: Node,
     pub(crate) names: Vec<String>,
     pub(crate) timers: Vec<Timer>,
+}
+
+// (written out, so that whoever lets one go has one call to prove, and not each part of a node)
+impl Drop for Live {
+    fn drop(self) {
+        let Live {
+            alloc: _,
+            node: _,
+            names: _,
+            timers: _,
+        } = self;
+    }
 }
 
 impl Model for Live {
@@ -66,33 +77,10 @@ impl Live {
         })
     }
 
-    /// The event, and all that follows of it. What is told of it goes behind the text, and the SHA-256 of the lines of what was sent is
-    /// answered. Refused by `Failed` where the node had failed before; by `JournalFull` where a step found its journal full, and by
-    /// `NoMemory` where a step lacked memory, each of which failed it; and by `NoMemory` where there is none for what is told. After a
-    /// refusal not all is told of what the node did.
-    pub fn act(&mut self, event: Event, text: &mut String) -> Result<Hash, Fault>
-        requires { IsOfHost event }
-        // What the node heard is an episode of the event, and its lines are told; also where it is refused, the ledger theorem goes on.
-        ensures told { Goes self.old.node self.new.node (λ a heard b. IfOk result (λ hash. IsTold event self.old.names self.old.timers self.new.timers a heard b (string_bytes text.old) (string_bytes text.new) hash.0) × (IsErrOf result Fault.JournalFull ↔ (finds_full heard ≡ true))) }
-        // The host was told to run just the timers that should run.
-        ensures timers { OnOk result (AreTimersOf self.new.node self.new.timers) }
-        ensures names { self.new.names ≡ self.old.names }
-        // A node that failed isn't told to have played it.
-        ensures runs { OnOk result (self.new.node.failed ≡ false) }
-        ensures failed { IsErrOf result Fault.Failed ↔ (self.old.node.failed ≡ true) }
-        ensures only { IfErr result (λ f. (f ≡ Fault.NoMemory) ⊎ ((f ≡ Fault.JournalFull) ⊎ (f ≡ Fault.Failed))) }
-    {
-        acting::act(
-            self.alloc,
-            &mut self.node,
-            self.names.as_slice(),
-            &mut self.timers,
-            event,
-            text,
-        )
-    }
-
-    /// The event, and all that follows of it, as `act` plays it; the watch is told of each step. A full journal is told as want of memory.
+    /// The event, and all that follows of it; the watch is told of each step. What is told of it goes behind the text, and the SHA-256 of
+    /// the lines of what was sent is answered. Refused by `Failed` where the node had failed before; and by `NoMemory` where a step lacked
+    /// memory or found its journal full, each of which failed it, or where there is none for what is told. After a refusal not all is told
+    /// of what the node did.
     pub fn act_with<W: Watch<KvDriver>>(
         &mut self,
         event: Event,

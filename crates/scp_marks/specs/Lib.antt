@@ -1,2 +1,4 @@
 pub mod Topics
 pub mod Places
+pub mod Pieces
+pub mod Looks

@@ -1,8 +1,8 @@
 -- What holds with nobody told.
 use Rattle.std.proofs.Common.{ℕ, Bool, List, Option, Some, None}
 use Rattle.std.specs.Prelude.{Result, Ok, Err, length}
-use Rattle.scp_core.specs.declared.event.Event.{Event}
-use Rattle.scp_core.specs.declared.event.Reply.{Reply}
+use Rattle.scp_turn.specs.scp_core.specs.declared.event.Event.{Event}
+use Rattle.scp_turn.specs.scp_core.specs.declared.event.Reply.{Reply}
 use Rattle.scp_network.specs.Heard.{Nodes, Heard, Anything, IsOne, With}
 use Rattle.scp_network.specs.Rounds.{RestsAs, Breaks}
 use Rattle.scp_network.specs.Network.{Hear, NetworkView, Offered, Settled}

@@ -7,10 +7,10 @@ use Rattle.std.proofs.lemmas.Bool.Decides.{nat_tests}
 use Rattle.std.proofs.lemmas.Grind.{flat_map-append}
 use Rattle.std.proofs.lemmas.Option.{get_or_from_slice_get, slice_get_within}
 use Rattle.std.proofs.lemmas.List.{length-set, get_or-set_same, get_or-set_other}
-use Rattle.scp_core.specs.declared.event.Event.{Event}
-use Rattle.scp_core.specs.declared.event.Reply.{Reply}
-use Rattle.scp_core.specs.History.{Exchange}
-use Rattle.scp_core.specs.Kv.{NodeView, Step, LedgerTheorem}
+use Rattle.scp_turn.specs.scp_core.specs.declared.event.Event.{Event}
+use Rattle.scp_turn.specs.scp_core.specs.declared.event.Reply.{Reply}
+use Rattle.scp_turn.specs.scp_core.specs.History.{Exchange}
+use Rattle.scp_turn.specs.scp_core.specs.Kv.{NodeView, Step, LedgerTheorem}
 use Rattle.scp_turn.specs.Kv.{Noting, Watched, Goes}
 use Rattle.scp_turn.specs.Turn.{IsStillReply, events_of, stage_events}
 use Rattle.scp_turn.specs.Turn.{IsStill as IsStillAlone}

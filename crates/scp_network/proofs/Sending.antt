@@ -3,12 +3,12 @@ use Rattle.std.proofs.Common.{◌≡◌, ◌≢◌, ◌<◌, ℕ, Bool, true, fa
 use Rattle.std.specs.Prelude.{slice_get, ◌&&◌, nat_lt, if◌then◌else◌}
 use Rattle.std.proofs.lemmas.Bool.Decides.{nat_tests}
 use Rattle.scp_wire.specs.declared.link.Bytes.{Bytes}
-use Rattle.scp_core.specs.declared.event.Event.{Event}
-use Rattle.scp_core.specs.declared.event.Event.TheVariants as event
-use Rattle.scp_core.specs.declared.event.Reply.{Reply}
-use Rattle.scp_core.specs.declared.event.Reply.TheVariants as reply
-use Rattle.scp_core.specs.Node.{LinkView, accepts_at, accepts_of}
-use Rattle.scp_core.specs.Kv.{NodeView, Step}
+use Rattle.scp_turn.specs.scp_core.specs.declared.event.Event.{Event}
+use Rattle.scp_turn.specs.scp_core.specs.declared.event.Event.TheVariants as event
+use Rattle.scp_turn.specs.scp_core.specs.declared.event.Reply.{Reply}
+use Rattle.scp_turn.specs.scp_core.specs.declared.event.Reply.TheVariants as reply
+use Rattle.scp_turn.specs.scp_core.specs.Node.{LinkView, accepts_at, accepts_of}
+use Rattle.scp_turn.specs.scp_core.specs.Kv.{NodeView, Step}
 use Rattle.scp_turn.specs.Turn.{IsStillReply}
 
 still_else : (r : Reply) → r ≢ reply.Moved → ((bytes : Bytes) → r ≢ reply.Sent bytes) → IsStillReply r

@@ -1,9 +1,9 @@
 -- What several nodes hear, one event after the other.
 use Rattle.std.specs.Prelude.{ℕ, ◌+◌, ◌<◌, ◌≡◌, List, zero, suc, [], ◌∷◌, ◌++◌, Some, length, flat_map, get_or, nat_eq, slice_get, slice_set, if◌then◌else◌}
-use Rattle.scp_core.specs.declared.event.Event.{Event}
-use Rattle.scp_core.specs.declared.event.Reply.{Reply}
-use Rattle.scp_core.specs.History.{Exchange}
-use Rattle.scp_core.specs.Kv.{NodeView, Step, LedgerTheorem}
+use Rattle.scp_turn.specs.scp_core.specs.declared.event.Event.{Event}
+use Rattle.scp_turn.specs.scp_core.specs.declared.event.Reply.{Reply}
+use Rattle.scp_turn.specs.scp_core.specs.History.{Exchange}
+use Rattle.scp_turn.specs.scp_core.specs.Kv.{NodeView, Step, LedgerTheorem}
 use Rattle.scp_turn.specs.Kv.{Noting}
 
 -- the nodes, node 1 first

@@ -1,7 +1,7 @@
 -- What the nodes heard more, while something was done.
 use Rattle.std.specs.Prelude.{ℕ, ◌≡◌, ◌⊎◌, ◌<◌, Bool, true, List, ◌++◌, Option, Some, None, Result, Ok, Err, length, slice_set, ◌&&◌, nat_le, if◌then◌else◌}
-use Rattle.scp_core.specs.declared.event.Event.{Event}
-use Rattle.scp_core.specs.declared.event.Reply.{Reply}
+use Rattle.scp_turn.specs.scp_core.specs.declared.event.Event.{Event}
+use Rattle.scp_turn.specs.scp_core.specs.declared.event.Reply.{Reply}
 use Rattle.scp_network.specs.Heard.{Nodes, Heard, HaveHeard, IsOne, With}
 use Rattle.scp_network.specs.Rounds.{RestsAs, Breaks, AllRun, place_of}
 

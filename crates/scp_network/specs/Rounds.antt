@@ -2,12 +2,12 @@
 use Rattle.std.specs.Prelude.{ℕ, ◌+◌, ◌-◌, ◌*◌, ◌<◌, ◌≤◌, ◌≡◌, ◌≢◌, ◌⊎◌, Bool, true, false, List, [], ◌∷◌, Option, Some, None, get_or, slice_get, nat_lt, if◌then◌else◌}
 use Rattle.std.specs.List.{AllByRecursion}
 use Rattle.scp_wire.specs.declared.link.Bytes.{Bytes}
-use Rattle.scp_core.specs.declared.event.Event.{Event}
-use Rattle.scp_core.specs.declared.event.Event.TheVariants as event
-use Rattle.scp_core.specs.declared.event.Reply.{Reply}
-use Rattle.scp_core.specs.declared.event.Reply.TheVariants as reply
-use Rattle.scp_core.specs.Node.{accepts_at}
-use Rattle.scp_core.specs.Kv.{NodeView}
+use Rattle.scp_turn.specs.scp_core.specs.declared.event.Event.{Event}
+use Rattle.scp_turn.specs.scp_core.specs.declared.event.Event.TheVariants as event
+use Rattle.scp_turn.specs.scp_core.specs.declared.event.Reply.{Reply}
+use Rattle.scp_turn.specs.scp_core.specs.declared.event.Reply.TheVariants as reply
+use Rattle.scp_turn.specs.scp_core.specs.Node.{accepts_at}
+use Rattle.scp_turn.specs.scp_core.specs.Kv.{NodeView}
 use Rattle.scp_turn.specs.Turn.{IsStillReply, stage_events}
 use Rattle.scp_network.specs.Heard.{Nodes, Heard, Then, IsNothing, IsOne, InOrder}
 

@@ -17,3 +17,7 @@ mod turn;
 
 pub use linked::link_from;
 pub use network::Network;
+pub use scp_turn::{
+    Capacities, Command, Config, Decision, Event, Fate, KvDriver, NoWatch, Node, Origin, Peers,
+    Reply, SharedDecision, Watch, each_node_holds_its_headline, each_node_holds_its_ledger,
+};

@@ -3,7 +3,7 @@ ghost use Rattle.std.specs.Prelude.{◌≡◌, ◌<◌, ◌↔◌, ℕ, length, 
 ghost use Rattle.scp_network.specs.Rounds.{link_of};
 ghost use Rattle.scp_network.specs.Linked.{ids_of, HasOthers, IsNetwork};
 
-use scp_core::Node;
+use scp_turn::Node;
 use scp_types::NodeId;
 
 /// The most nodes: one, and its seven peers.

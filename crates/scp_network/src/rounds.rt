@@ -8,8 +8,7 @@ ghost use Rattle.scp_network.specs.Heard.{Noted};
 ghost use Rattle.scp_network.specs.Network.{Settled};
 
 use crate::turn::{either, hear, work};
-use scp_core::{Event, KvDriver, Node, Reply};
-use scp_turn::Watch;
+use scp_turn::{Event, KvDriver, Node, Reply, Watch};
 
 /// The most rounds of one settle.
 const MOST_ROUNDS: u32 = 100_000;

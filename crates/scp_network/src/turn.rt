@@ -7,8 +7,7 @@ ghost use Rattle.scp_network.specs.Rounds.{HearsAll};
 ghost use Rattle.scp_network.specs.Network.{IsAnswered};
 ghost use Rattle.scp_network.specs.inside.Acting.{Acts};
 
-use scp_core::{Event, KvDriver, Node, Reply};
-use scp_turn::{Watch, step_with};
+use scp_turn::{Event, KvDriver, Node, Reply, Watch, step_with};
 
 /// One event: the node heard one exchange more, and the watch was told of it.
 pub fn hear<W: Watch<KvDriver>>(

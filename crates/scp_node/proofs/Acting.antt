@@ -12,8 +12,8 @@ use Rattle.scp_log.specs.Log.{EntryView}
 use Rattle.scp_wire.specs.declared.message.Message.{Message}
 use Rattle.scp_told.specs.Sent.{again_line}
 use Rattle.std.specs.Prelude.{flat_map}
-use Rattle.scp_live.specs.Live.{LiveView, IsTold}
-use Rattle.scp_live.specs.Again.{SaysAgain}
+use Rattle.scp_begin.specs.scp_live.specs.Live.{LiveView, IsTold}
+use Rattle.scp_begin.specs.scp_live.specs.Again.{SaysAgain}
 use Rattle.scp_asked.specs.declared.asked.Asked.{Asked}
 use Rattle.scp_asked.specs.declared.asked.Asked.TheVariants.{Event, Again, State, Report, Stand, Applied, Nothing}
 use Rattle.scp_asked.specs.declared.bad.BadLine.{BadLine}

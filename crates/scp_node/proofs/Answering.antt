@@ -17,7 +17,7 @@ use Rattle.scp_asked.specs.Bad.{IsFirstBad, words_of}
 use Rattle.scp_told.specs.Replies.{ok_line}
 use Rattle.scp_timers.specs.declared.running.Timer.{Timer}
 use Rattle.scp_core.specs.Kv.{NodeView}
-use Rattle.scp_live.specs.Live.{LiveView, IsTold, told_of}
+use Rattle.scp_begin.specs.scp_live.specs.Live.{LiveView, IsTold, told_of}
 use Rattle.scp_node.specs.Answers.{IsQuiet, Replies, IsDone, IsAnswered, AreAnswered, next_number, bad_line, long_line}
 use Rattle.scp_node.specs.inside.Adding.{BatchView, TellsMore, Adds, Asks}
 use Rattle.scp_node.specs.inside.Batches.{number_behind}

@@ -6,7 +6,7 @@ use Rattle.scp_turn.specs.Kv.{Noting, Watched}
 use Rattle.scp_log.specs.declared.kept.Kept.{Kept}
 use Rattle.scp_log.specs.declared.kept.LogFault.{LogFault}
 use Rattle.scp_config.specs.declared.settings.Settings.{Settings}
-use Rattle.scp_live.specs.Live.{LiveView}
+use Rattle.scp_begin.specs.scp_live.specs.Live.{LiveView}
 use Rattle.scp_begin.specs.Beginning.{IsNew, digest_of, header_of}
 use Rattle.scp_node.specs.Starting.{HasRun, RunsAs}
 use Rattle.scp_node.proofs.Configs.{steps_keep_the_config}

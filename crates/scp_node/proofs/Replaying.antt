@@ -8,7 +8,7 @@ use Rattle.scp_batches.specs.declared.line.TheConstants.{LINE_LIMIT}
 use Rattle.scp_asked.specs.declared.asked.Asked.{Asked}
 use Rattle.scp_asked.specs.declared.asked.Asked.TheVariants.{Event, Again, State, Report, Stand, Applied, Nothing}
 use Rattle.scp_asked.specs.Says.{Says}
-use Rattle.scp_live.specs.Live.{LiveView}
+use Rattle.scp_begin.specs.scp_live.specs.Live.{LiveView}
 use Rattle.scp_begin.specs.Replays.{AreReplayed}
 use Rattle.scp_begin.proofs.Replaying.{replayed_one, replayed_on}
 use Rattle.scp_node.specs.Answers.{IsQuiet, IsPlayed, IsDone, IsServed, IsRefused, IsTooLong, IsAnswered, next_number}

@@ -11,7 +11,7 @@ use Rattle.scp_asked.specs.Says.{Says}
 use Rattle.scp_config.specs.Names.{Identity, NoTwo}
 use Rattle.scp_same.specs.Episodes.{AreEpisodes, SameEventsSameEpisodes}
 use Rattle.scp_same.specs.Lines.{AreNamedApart, LinesSayOneThing}
-use Rattle.scp_live.specs.Live.{LiveView}
+use Rattle.scp_begin.specs.scp_live.specs.Live.{LiveView}
 use Rattle.scp_begin.specs.Replays.{AreReplayed}
 use Rattle.scp_node.specs.Laws.{LogsMakeOneNode}
 

@@ -11,7 +11,7 @@ use Rattle.scp_log.specs.Disk.{StartsWith, LeavesOnly}
 use Rattle.scp_log.specs.Kept.{IsSettled}
 use Rattle.scp_log.specs.Log.{EntryView, Marked, batch_of, log_of}
 use Rattle.scp_batches.specs.Lines.{Gives, IsRead}
-use Rattle.scp_live.specs.Live.{LiveView}
+use Rattle.scp_begin.specs.scp_live.specs.Live.{LiveView}
 use Rattle.scp_node.specs.Answers.{AreAnswered}
 use Rattle.scp_node.specs.Serving.{entries_in, marked_in, IsAnswer, HasServed, HasServedPart}
 use Rattle.scp_node.specs.inside.Adding.{BatchView, Adds}

@@ -11,7 +11,7 @@ use Rattle.scp_log.specs.Log.{EntryView, Marked, AreEntries, marked_from, batch_
 use Rattle.scp_asked.specs.declared.asked.Asked.TheVariants.{Event}
 use Rattle.scp_asked.specs.Says.{Says}
 use Rattle.scp_device.specs.Device.{Gains}
-use Rattle.scp_live.specs.Live.{LiveView}
+use Rattle.scp_begin.specs.scp_live.specs.Live.{LiveView}
 use Rattle.scp_node.specs.Answers.{IsPlayed}
 use Rattle.scp_begin.specs.Replays.{AreReplayed}
 use Rattle.scp_node.specs.Serving.{HasServed}

@@ -12,9 +12,9 @@ use Rattle.scp_asked.specs.Says.{Says}
 use Rattle.scp_asked.specs.Bad.{IsFirstBad, words_of}
 use Rattle.scp_told.specs.Names.{name_at}
 use Rattle.scp_told.specs.Replies.{ok_line}
-use Rattle.scp_live.specs.Live.{LiveView, IsTold}
-use Rattle.scp_live.specs.Again.{SaysAgain, again_of}
-use Rattle.scp_live.specs.Questions.{state_of, report_of, applied_from}
+use Rattle.scp_begin.specs.scp_live.specs.Live.{LiveView, IsTold}
+use Rattle.scp_begin.specs.scp_live.specs.Again.{SaysAgain, again_of}
+use Rattle.scp_begin.specs.scp_live.specs.Questions.{state_of, report_of, applied_from}
 use Rattle.scp_node.specs.Stands.{TellsStand}
 
 -- nothing happened at the node, and nothing is kept

@@ -4,7 +4,7 @@ use Rattle.scp_core.specs.History.{Exchange}
 use Rattle.scp_log.specs.Log.{EntryView}
 use Rattle.scp_core.specs.Same.{ShowSameNode}
 use Rattle.scp_config.specs.declared.settings.Settings.{Settings}
-use Rattle.scp_live.specs.Live.{LiveView}
+use Rattle.scp_begin.specs.scp_live.specs.Live.{LiveView}
 use Rattle.scp_node.specs.Answers.{AreAnswered}
 use Rattle.scp_begin.specs.Replays.{AreReplayed}
 use Rattle.scp_begin.specs.Beginning.{Configures, IsNew}

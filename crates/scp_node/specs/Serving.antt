@@ -9,7 +9,7 @@ use Rattle.scp_log.specs.Disk.{StartsWith}
 use Rattle.scp_log.specs.Kept.{IsSettled}
 use Rattle.scp_log.specs.Log.{EntryView, Marked, batch_of, log_of}
 use Rattle.scp_batches.specs.Lines.{Gives}
-use Rattle.scp_live.specs.Live.{LiveView}
+use Rattle.scp_begin.specs.scp_live.specs.Live.{LiveView}
 use Rattle.scp_node.specs.Answers.{AreAnswered}
 
 -- the entries of batches, in order

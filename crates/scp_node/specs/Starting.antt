@@ -12,8 +12,8 @@ use Rattle.scp_log.specs.Kept.{IsRecovered, IsAllAndMore}
 use Rattle.scp_log.specs.Log.{EntryView, Marked, AreEntries, entries_of, log_of}
 use Rattle.scp_config.specs.declared.settings.Settings.{Settings}
 use Rattle.scp_told.specs.Replies.{ok_line}
-use Rattle.scp_live.specs.Live.{LiveView}
-use Rattle.scp_live.specs.Questions.{state_of}
+use Rattle.scp_begin.specs.scp_live.specs.Live.{LiveView}
+use Rattle.scp_begin.specs.scp_live.specs.Questions.{state_of}
 use Rattle.scp_trace_slot.specs.declared.names.Names.{Names}
 use Rattle.scp_trace_slot.specs.Names.{AreNames}
 use Rattle.scp_trace_live.specs.Tracing.{IsTraced}

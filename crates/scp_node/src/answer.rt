@@ -14,8 +14,8 @@ use crate::batch::Batch;
 use crate::fullness::JournalWatch;
 use scp_asked::{Asked, BadLine, read_line};
 use scp_batches::Line;
+use scp_begin::Live;
 use scp_core::KvDriver;
-use scp_live::Live;
 use scp_turn::Watch;
 use scp_types::Fault;
 

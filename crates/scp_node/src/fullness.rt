@@ -3,10 +3,10 @@ ghost use Rattle.std.specs.Prelude.{◌≡◌, ◌⊎◌, false, true, IfOk, IfE
 ghost use Rattle.scp_turn.specs.Kv.{Goes, Watched};
 ghost use Rattle.scp_turn.specs.Watch.{notes};
 ghost use Rattle.scp_episode.specs.Episode.{IsOfHost, finds_full, is_full_reply};
-ghost use Rattle.scp_live.specs.Live.{IsTold};
+ghost use Rattle.scp_begin.specs.scp_live.specs.Live.{IsTold};
 
+use scp_begin::Live;
 use scp_core::{Event, KvDriver, Node, Reply};
-use scp_live::Live;
 use scp_turn::Watch;
 use scp_types::{Fault, Hash};
 

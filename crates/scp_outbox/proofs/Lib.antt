@@ -2,4 +2,3 @@ mod OneEach
 pub mod Kept
 pub mod Waiting
 pub mod Giving
-pub mod Crossing

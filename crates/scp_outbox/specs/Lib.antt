@@ -1,4 +1,3 @@
 pub mod Outbox
 pub mod Laws
-pub mod Crossing
 pub mod inside

@@ -1,5 +1,4 @@
 //! Laws of the definitions, each the contract of a function that does nothing.
-ghost use Rattle.scp_outbox.specs.Crossing.{SharedCrosses};
 ghost use Rattle.scp_outbox.specs.Laws.{PutsAddTheMessage, GivesAreOfWhatWaits, GivesAddNothing, StatementsKeepOneEach, PutsKeepOneEach, GivesKeepOneEach, GivesTakeOne, GivesMessagesWhileLive};
 
 /// What waits after a put waited before or was put, what is given waited, and what waits then waited before: so each
@@ -21,9 +20,4 @@ pub fn one_statement_waits_of_each_slot_and_kind()
 pub fn what_is_given_is_gone()
     ensures gone { GivesTakeOne }
     ensures live { GivesMessagesWhileLive }
-{}
-
-/// A shared outbox may be moved to another thread, and threads may share it.
-pub fn a_shared_outbox_crosses_threads()
-    ensures crosses { SharedCrosses }
 {}

@@ -5,7 +5,7 @@ use Rattle.scp_types.specs.declared.fault.Fault.{Fault}
 use Rattle.scp_core.specs.Kv.{NodeView}
 use Rattle.scp_trace_slot.specs.declared.names.Names.{Names}
 use Rattle.scp_facts.specs.declared.fact.Telling.{Telling}
-use Rattle.scp_svg.specs.Pieces.{escaped}
+use Rattle.scp_marks.specs.Pieces.{escaped}
 use Rattle.scp_marks.specs.declared.marks.Mark.{Mark}
 use Rattle.scp_marks.specs.declared.marks.Pen.{Pen}
 use Rattle.scp_marks.specs.Places.{DrawingView}

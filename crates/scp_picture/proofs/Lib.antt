@@ -1,1 +1,4 @@
 pub mod Adding
+pub mod Runs
+pub mod Leaving
+pub mod Pages

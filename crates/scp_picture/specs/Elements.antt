@@ -14,11 +14,11 @@ use Rattle.scp_facts.specs.declared.fact.Fact.TheVariants.{Says, Decided, Sent}
 use Rattle.scp_facts.specs.declared.fact.Told.{Told}
 use Rattle.scp_facts.specs.declared.fact.Telling.{Telling}
 use Rattle.scp_facts.specs.declared.fact.Telling.TheVariants.{Line, Of}
-use Rattle.scp_fact_lines.specs.Facts.{told_line}
-use Rattle.scp_svg.specs.Pieces.{escaped, line_text, across_text, bar_text, ring_text, letters_text}
+use Rattle.scp_trace_run.specs.scp_fact_lines.specs.Facts.{told_line}
+use Rattle.scp_marks.specs.Pieces.{escaped, line_text, across_text, bar_text, ring_text, letters_text}
 use Rattle.scp_marks.specs.declared.marks.Mark.{Mark}
 use Rattle.scp_marks.specs.Topics.{came_by}
-use Rattle.scp_looks.specs.Looks.{kind_word, sign_of, is_sent, is_against, fact_class}
+use Rattle.scp_marks.specs.Looks.{kind_word, sign_of, is_sent, is_against, fact_class}
 
 -- ---- columns
 

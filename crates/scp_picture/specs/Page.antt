@@ -4,12 +4,12 @@ use Rattle.std.specs.Fmt.{decimal}
 use Rattle.scp_core.specs.Kv.{NodeView}
 use Rattle.scp_trace_slot.specs.declared.names.Names.{Names}
 use Rattle.scp_facts.specs.declared.fact.Telling.{Telling}
-use Rattle.scp_svg.specs.Pieces.{escaped, down_text, letters_text}
+use Rattle.scp_marks.specs.Pieces.{escaped, down_text, letters_text}
 use Rattle.scp_marks.specs.declared.marks.Mark.{Mark}
 use Rattle.scp_marks.specs.declared.marks.Pen.{Pen}
 use Rattle.scp_marks.specs.Topics.{same_slot}
 use Rattle.scp_marks.specs.Places.{DrawingView, drawn}
-use Rattle.scp_looks.specs.Looks.{decides}
+use Rattle.scp_marks.specs.Looks.{decides}
 use Rattle.scp_picture.specs.Elements.{column, element}
 use Rattle.scp_picture.specs.Frame.{head, legend, stands_head, tail}
 

@@ -1,18 +1,19 @@
 //! The elements of facts.
 ghost use Rattle.std.specs.Prelude.{◌≡◌, ◌++◌, ◌-◌, IfOk, OnOk, IsOkUnless, Some, flat_map, option_copied, slice_get, string_bytes};
-ghost use Rattle.scp_svg.specs.Pieces.{escaped};
+ghost use Rattle.scp_marks.specs.Pieces.{escaped};
 ghost use Rattle.scp_core.specs.History.{peer_at};
 ghost use Rattle.scp_core.specs.Kv.{NodeView};
 ghost use Rattle.scp_marks.specs.Topics.{came_by as came_by_fact};
-ghost use Rattle.scp_looks.specs.Looks.{sign_of as sign_by, is_sent as is_sent_so, is_against as is_against_so};
+ghost use Rattle.scp_marks.specs.Looks.{sign_of as sign_by, is_sent as is_sent_so, is_against as is_against_so};
 ghost use Rattle.scp_picture.specs.Elements.{column as column_of, number_of as number_by, toward as toward_side, rule_text, bar_of, arrow_from, stroke_of, ring_at, rings_of_origin, rings_of_decision, rings_of, sign_text, sender_class, front_text, title_text, shapes_text, back_text, fact_element, told_element, telling_element, element as element_of};
 
 use scp_core::{Node, Origin};
-use scp_fact_lines::{Scene, write_told};
 use scp_facts::{Fact, Telling, Told};
-use scp_looks::{is_against, is_sent, sign_of, word_of_kind, write_class};
-use scp_marks::{Mark, came_by};
-use scp_svg::{write_across, write_bar, write_escaped, write_letters, write_line, write_ring};
+use scp_marks::{
+    Mark, came_by, is_against, is_sent, sign_of, word_of_kind, write_across, write_bar,
+    write_class, write_escaped, write_letters, write_line, write_ring,
+};
+use scp_trace_run::{Scene, write_told};
 use scp_trace_slot::Names;
 use scp_types::{ConnId, Fault, NodeId};
 use std::alloc::Global;

@@ -2,7 +2,7 @@
 ghost use Rattle.std.specs.Prelude.{◌≡◌, ◌++◌, OnOk, IsOkUnless, string_bytes};
 ghost use Rattle.scp_marks.specs.Places.{DrawingView};
 ghost use Rattle.scp_picture.specs.Frame.{head, legend, stands_head, tail};
-ghost use Rattle.scp_svg.specs.Pieces.{escaped};
+ghost use Rattle.scp_marks.specs.Pieces.{escaped};
 ghost use Rattle.scp_picture.specs.Page.{for_nodes, box_text, drawn_page, page_text};
 
 use crate::element::Picture;
@@ -10,8 +10,7 @@ use crate::frame::{head_text, legend_text, stands_head_text, tail_text};
 use crate::section::{write_boxes, write_sections};
 use scp_core::Node;
 use scp_facts::Telling;
-use scp_marks::{Mark, Pen, drawing_of};
-use scp_svg::write_escaped;
+use scp_marks::{Mark, Pen, drawing_of, write_escaped};
 use scp_trace_slot::Names;
 use scp_types::Fault;
 use std::alloc::Global;

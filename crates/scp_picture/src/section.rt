@@ -5,9 +5,7 @@ ghost use Rattle.scp_picture.specs.Elements.{element};
 ghost use Rattle.scp_picture.specs.Page.{for_nodes, box_text, label_text, stem_text, elements_of, slot_heading, heading, open_text, room_text, section_front, section_text};
 
 use crate::element::{Picture, column, write_element};
-use scp_looks::decided_count;
-use scp_marks::{Mark, Pen, same_slot};
-use scp_svg::{write_down, write_letters};
+use scp_marks::{Mark, Pen, decided_count, same_slot, write_down, write_letters};
 use scp_types::Fault;
 
 /// Adds a box by which a node is hidden.

@@ -1,14 +1,14 @@
 //! What is simulated.
 
 /// From the one to the other, both included. Of time these are milliseconds.
-#[derive(Clone, Copy, Debug, PartialEq, Eq)]
+#[derive(Clone, Copy)]
 pub struct Span {
     pub from: u64,
     pub to: u64,
 }
 
 /// Who proposes a value for a slot: each node, the leader of its first round, or one by chance.
-#[derive(Clone, Copy, Debug, PartialEq, Eq)]
+#[derive(Clone, Copy)]
 pub enum Proposers {
     All,
     Leader,
@@ -16,21 +16,21 @@ pub enum Proposers {
 }
 
 /// A node stops, and comes back as it was. What travels to it and from it is lost.
-#[derive(Clone, Copy, Debug, PartialEq, Eq)]
+#[derive(Clone, Copy)]
 pub struct Crash {
     pub node: u8,
     pub span: Span,
 }
 
 /// Nodes of different sides aren't linked; those of side 0 are linked to all.
-#[derive(Clone, Copy, Debug, PartialEq, Eq)]
+#[derive(Clone, Copy)]
 pub struct Partition {
     pub sides: [u8; 8],
     pub span: Span,
 }
 
 /// What is simulated: nodes, what becomes of their messages, and which of them are faulty.
-#[derive(Debug, Drop)]
+#[derive(Drop)]
 pub struct Plan {
     /// How many nodes, from 1 to 8, and how many of them the quorum set of each needs.
     pub nodes: u8,

@@ -1,13 +1,13 @@
 //! What the words of a command line ask for.
 
 use crate::commands::command_line;
-use crate::sim::{BadOption, SimAsked, Unplanned, sim_by};
 use clap::error::ErrorKind;
 use clap::{ArgMatches, Error};
+use scp_plan::{BadOption, SimAsked, Unplanned, sim_by};
 use std::alloc::{AllocError, Global};
 
 /// How a script is played.
-#[derive(Clone, Copy, Debug, PartialEq, Eq)]
+#[derive(Clone, Copy)]
 pub enum Mode {
     /// One step after another.
     Serial,
@@ -16,7 +16,7 @@ pub enum Mode {
 }
 
 /// How reports are written.
-#[derive(Clone, Copy, Debug, PartialEq, Eq)]
+#[derive(Clone, Copy)]
 pub enum Shape {
     /// As they are settled, with values, keys and messages in digits.
     Settled,
@@ -26,17 +26,8 @@ pub enum Shape {
     Json,
 }
 
-/// How an account is written.
-#[derive(Clone, Copy, Debug, PartialEq, Eq)]
-pub enum Form {
-    /// As one JSON document.
-    Document,
-    /// As lines that people read, with messages, values and keys as text.
-    Lines,
-}
-
 /// How the bytes of a message are written.
-#[derive(Clone, Copy, Debug, PartialEq, Eq)]
+#[derive(Clone, Copy)]
 pub enum Coding {
     /// In hexadecimal digits.
     Hex,
@@ -45,12 +36,12 @@ pub enum Coding {
 }
 
 /// What is done with the input.
-#[derive(Clone, Copy, Debug, PartialEq, Eq)]
+#[derive(Clone, Copy)]
 pub enum Task {
     /// A script is played, and its reports are written.
     Run(Mode, Shape),
     /// A script is played, and the account of its nodes is written.
-    Account(Mode, Form),
+    Account(Mode),
     /// What is wrong with a script is told.
     Check,
     /// Where the nodes of a script stand is told.
@@ -74,7 +65,7 @@ pub enum Task {
 }
 
 /// Where the input comes from.
-#[derive(Debug, Drop)]
+#[derive(Drop)]
 pub enum Source<'a> {
     /// The standard input.
     Input,
@@ -85,7 +76,7 @@ pub enum Source<'a> {
 }
 
 /// What is asked of scripts or messages.
-#[derive(Debug, Drop)]
+#[derive(Drop)]
 pub struct Asked<'a> {
     pub task: Task,
     /// What goes wrong is told on the standard output by its settled line.
@@ -96,7 +87,7 @@ pub struct Asked<'a> {
 }
 
 /// What is done with a node.
-#[derive(Clone, Copy, Debug, PartialEq, Eq)]
+#[derive(Clone, Copy)]
 pub enum NodeTask<'a> {
     /// What is wrong with its configuration is told, or the configuration's digest.
     Check,
@@ -115,7 +106,7 @@ pub enum NodeTask<'a> {
 }
 
 /// What is asked of a node.
-#[derive(Clone, Copy, Debug, PartialEq, Eq)]
+#[derive(Clone, Copy)]
 pub struct NodeAsked<'a> {
     /// The path of its configuration.
     pub config: &'a str,
@@ -123,7 +114,7 @@ pub struct NodeAsked<'a> {
 }
 
 /// What the words of a command line ask for.
-#[derive(Debug, Drop)]
+#[derive(Drop)]
 pub enum Wanted<'a> {
     /// A task on scripts or messages.
     Script(Asked<'a>),
@@ -134,7 +125,7 @@ pub enum Wanted<'a> {
 }
 
 /// What words are answered with that ask for nothing.
-#[derive(Debug, Drop)]
+#[derive(Drop)]
 pub enum Unasked {
     /// The help or the version, which was asked for.
     Told(String),
@@ -185,10 +176,7 @@ fn shape_of(matches: &ArgMatches<'_>) -> Shape {
 fn run_of(matches: &ArgMatches<'_>) -> Task {
     let mode = mode_of(matches);
     if matches.get_flag("account") {
-        return Task::Account(mode, Form::Document);
-    }
-    if matches.get_flag("full") {
-        return Task::Account(mode, Form::Lines);
+        return Task::Account(mode);
     }
     Task::Run(mode, shape_of(matches))
 }
@@ -307,7 +295,7 @@ fn bad_option(alloc: Global, bad: &BadOption) -> Unasked {
     let (option, expected) = (bad.option, bad.expected);
     match writeln!(
         text,
-        "error: --{option}: expected {expected}; see scp sim --help"
+        "error: --{option}: expected {expected}; see bowls sim --help"
     ) {
         Ok(()) => Unasked::Wrong(text),
         Err(_) => Unasked::NoMemory,
@@ -346,7 +334,7 @@ fn parsed<'a>(
 
 /// What is told of words that name no command.
 fn no_command(alloc: Global) -> Unasked {
-    match "error: there is no command; see scp --help\n".to_string(alloc) {
+    match "error: there is no command; see bowls --help\n".to_string(alloc) {
         Ok(text) => Unasked::Wrong(text),
         Err(_) => Unasked::NoMemory,
     }

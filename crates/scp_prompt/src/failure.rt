@@ -11,7 +11,7 @@ use scp_types::{Fault, Stage};
 use std::alloc::Global;
 
 /// A word of an input that is refused.
-#[derive(Clone, Copy, Debug, PartialEq, Eq)]
+#[derive(Clone, Copy)]
 pub struct BadWord {
     /// Its line, from 1 on.
     pub line: usize,
@@ -24,7 +24,7 @@ pub struct BadWord {
 }
 
 /// What stopped a play.
-#[derive(Clone, Copy, Debug, PartialEq, Eq)]
+#[derive(Clone, Copy)]
 pub struct Stop {
     /// The line, from 1 on, where it is known.
     pub line: Option<usize>,
@@ -35,7 +35,7 @@ pub struct Stop {
 }
 
 /// Why a command failed.
-#[derive(Clone, Copy, Debug, PartialEq, Eq)]
+#[derive(Clone, Copy)]
 pub enum Failure {
     /// A word of the input is refused.
     Word(BadWord),

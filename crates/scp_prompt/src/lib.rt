@@ -13,15 +13,13 @@ mod bytes;
 mod commands;
 mod failure;
 mod places;
-mod sim;
 mod stream;
 
 pub use asked::{
-    Asked, Coding, Form, Mode, NodeAsked, NodeTask, Shape, Source, Task, Unasked, Wanted,
-    read_words,
+    Asked, Coding, Mode, NodeAsked, NodeTask, Shape, Source, Task, Unasked, Wanted, read_words,
 };
 pub use bytes::{LONG_LIMIT, read_within, write_bytes};
 pub use failure::{BadWord, Failure, Stop, status, write_failure, write_settled};
 pub use places::{Place, word_at, write_place};
-pub use sim::SimAsked;
+pub use scp_plan::SimAsked;
 pub use stream::{Cause, Stream, Unopened};

@@ -12,7 +12,7 @@ use std::alloc::{AllocError, Global};
 const SHOWN_LIMIT: usize = 40;
 
 /// The place of a word: the input's name, the line and the word in it, each from 1 on.
-#[derive(Clone, Copy, Debug)]
+#[derive(Clone, Copy)]
 pub struct Place<'a> {
     pub name: &'a str,
     pub line: usize,

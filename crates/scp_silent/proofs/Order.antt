@@ -9,7 +9,7 @@ use Rattle.scp_core.specs.Kv.{HoldsLedger, FailedAfter, TheoremGivesLedger, Node
 use Rattle.scp_network.specs.Heard.{past_at}
 use Rattle.scp_network.specs.Network.{NetworkView}
 use Rattle.scp_gather.specs.Kv.{NodeReport, ReportsKeepHeadline}
-use Rattle.scp_threaded_script.specs.Reported.{AreNodesReported}
+use Rattle.scp_line.specs.scp_threaded_script.specs.Reported.{AreNodesReported}
 use Rattle.scp_script.specs.declared.command.Command.{Command}
 use Rattle.scp_script.specs.Nodes.{id_of, peers_of, set_at}
 use Rattle.scp_script.specs.Script.{node_count}

@@ -1,3 +1,4 @@
+pub use Rattle.scp_line
 pub mod Texts
 pub mod Disagreeing
 pub mod Lost

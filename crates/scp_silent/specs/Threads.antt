@@ -3,8 +3,8 @@ use Rattle.std.specs.Prelude.{ℕ, ◌≡◌, ◌≢◌, Bool, true, false, List
 use Rattle.std.specs.List.{list_any}
 use Rattle.scp_types.specs.declared.fault.Fault.TheVariants.{NoMemory as no_memory}
 use Rattle.scp_gather.specs.Kv.{NodeReport}
-use Rattle.scp_threaded_script.specs.Reported.{AreNodesReported, IsGivenUp}
-use Rattle.scp_threaded_script.specs.Waits.{AreWaits}
+use Rattle.scp_line.specs.scp_threaded_script.specs.Reported.{AreNodesReported, IsGivenUp}
+use Rattle.scp_line.specs.scp_threaded_script.specs.Waits.{AreWaits}
 use Rattle.scp_script.specs.declared.command.Command.{Command}
 use Rattle.scp_script.specs.declared.command.Command.TheVariants.{Wait}
 use Rattle.scp_script.specs.Script.{node_count}

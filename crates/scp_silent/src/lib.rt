@@ -26,5 +26,8 @@ mod watch;
 
 pub use notice::{Notice, Numbers, Side, Sides};
 pub use playing::{Ran, RunFault, run};
+pub use scp_line::{
+    PlayFault, line_of_fault, what_is_played_keeps_the_headlines, write_all_gathered, write_reports,
+};
 pub use text::text_of_notices;
 pub use threads::{RanInThreads, run_in_threads};

@@ -6,7 +6,7 @@ ghost use Rattle.scp_script.specs.Script.{AreAdmitted};
 ghost use Rattle.scp_script.specs.Nodes.{NamesNodes};
 ghost use Rattle.scp_line.specs.Headlines.{AreReportsHeadlined};
 ghost use Rattle.scp_line.specs.Nodes.{HaveRoom};
-ghost use Rattle.scp_threaded_script.specs.Reported.{AreAllKept};
+ghost use Rattle.scp_line.specs.scp_threaded_script.specs.Reported.{AreAllKept};
 ghost use Rattle.scp_silent.specs.Ignoring.{told_by};
 ghost use Rattle.scp_silent.specs.Threads.{told_in, is_wait, no_wait, gave_up_at, gave_up, threads_notices, ShowsThreads, IsRanInThreads, IsThreadsFault};
 ghost use Rattle.scp_silent.specs.inside.Threads.{ended_by, IsEnding};

@@ -10,10 +10,10 @@ use scp_script::Command;
 
 impl<'a> World<'a> {
     /// Does what a line says, and writes it down.
-    pub fn act(&mut self, command: &Command) -> Result<(), SimFault> {
-        if is_named(command) {
-            write_line(self.alloc, &mut self.script, command)?;
-            act(&mut self.network, command)?;
+    pub fn act(&mut self, command: Command) -> Result<(), SimFault> {
+        if is_named(&command) {
+            write_line(self.alloc, &mut self.script, &command)?;
+            act(&mut self.network, &command)?;
         }
         Ok(())
     }
@@ -48,15 +48,15 @@ impl<'a> World<'a> {
             return Ok(());
         }
         match command {
-            LocalCommand::Round(slot) => self.act(&Command::Round {
+            LocalCommand::Round(slot) => self.act(Command::Round {
                 node: number,
                 slot: slot.0,
             }),
-            LocalCommand::Timer(slot) => self.act(&Command::Timer {
+            LocalCommand::Timer(slot) => self.act(Command::Timer {
                 node: number,
                 slot: slot.0,
             }),
-            LocalCommand::Propose(slot, value) => self.act(&Command::Propose {
+            LocalCommand::Propose(slot, value) => self.act(Command::Propose {
                 node: number,
                 slot: slot.0,
                 value,

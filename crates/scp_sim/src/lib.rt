@@ -19,5 +19,5 @@ mod travel;
 mod voices;
 mod world;
 
-pub use run::{Simulated, simulate};
-pub use world::{Counts, SimFault};
+pub use run::simulate;
+pub use world::{Counts, SimFault, Simulated};

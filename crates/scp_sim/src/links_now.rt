@@ -62,10 +62,10 @@ impl<'a> World<'a> {
         self.links.put(from, to, link);
         self.tell_twins(to, &event)?;
         if is_linked {
-            self.act(&Command::Open { from, to })?;
+            self.act(Command::Open { from, to })?;
             self.say_again(from, to)
         } else {
-            self.act(&Command::Close { from, to })
+            self.act(Command::Close { from, to })
         }
     }
 

@@ -15,7 +15,7 @@ impl<'a> World<'a> {
         let last = there.min(here.saturating_add(16));
         for slot in here..last {
             self.counts.asked = self.counts.asked.saturating_add(1);
-            self.act(&Command::Ask {
+            self.act(Command::Ask {
                 from: node,
                 to: of,
                 slot: (slot as u64).saturating_add(1),
@@ -46,7 +46,7 @@ impl<'a> World<'a> {
                 self.say_again(node, to)?;
             }
         }
-        self.act(&Command::Tick(node))?;
+        self.act(Command::Tick(node))?;
         for of in 1..=count {
             if of != node && self.ask(node, of)? {
                 return Ok(());

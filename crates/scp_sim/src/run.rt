@@ -2,7 +2,7 @@
 ghost use Rattle.std.specs.Prelude.{◌≤◌, All, IfOk};
 ghost use Rattle.scp_script.specs.Nodes.{NamesNodes};
 
-use crate::world::{Counts, SimFault, World};
+use crate::world::{SimFault, Simulated, World};
 use scp_line::write_reports;
 use scp_network::Network;
 use scp_plan::Plan;
@@ -16,18 +16,6 @@ const MOST_TIMES: u32 = 10_000_000;
 /// The most nodes of a network.
 const MOST_NODES: usize = 8;
 
-/// What was simulated.
-#[derive(Drop)]
-pub struct Simulated {
-    /// The script of all that happened, in digits.
-    pub script: String,
-    /// The reports of its nodes.
-    pub reports: String,
-    /// How long it took, in milliseconds.
-    pub time: u64,
-    pub counts: Counts,
-}
-
 /// Over a link on which nothing was sent nothing goes: what its sender says doesn't travel when the script is played.
 fn mute(world: &mut World<'_>, from: u8, to: u8) -> Result<(), SimFault> {
     let link = world.links.get(from, to);
@@ -35,10 +23,10 @@ fn mute(world: &mut World<'_>, from: u8, to: u8) -> Result<(), SimFault> {
         return Ok(());
     }
     if !link.is_open {
-        world.act(&Command::Open { from, to })?;
+        world.act(Command::Open { from, to })?;
     }
     let bytes = Bytes::new(Vec::new(world.alloc));
-    world.act(&Command::Send { from, to, bytes })
+    world.act(Command::Send { from, to, bytes })
 }
 
 /// Over all links on which nothing was sent nothing goes.
@@ -60,9 +48,8 @@ fn ask_all(world: &mut World<'_>, count: u8) -> Result<Vec<Command>, SimFault>
 {
     let mut commands = Vec::new(world.alloc);
     for node in 1..=count {
-        let command = Command::Report(node);
-        world.act(&command)?;
-        commands.push(command)?;
+        world.act(Command::Report(node))?;
+        commands.push(Command::Report(node))?;
     }
     Ok(commands)
 }
@@ -79,17 +66,11 @@ fn reports_of(alloc: Global, network: &Network, commands: &[Command]) -> Result<
 }
 
 /// The last lines of the script, and the reports.
-fn finish(mut world: World<'_>) -> Result<Simulated, SimFault> {
+fn finish(world: &mut World<'_>) -> Result<String, SimFault> {
     let count = world.plan.nodes.min(8);
-    mute_all(&mut world, count)?;
-    let commands = ask_all(&mut world, count)?;
-    let reports = reports_of(world.alloc, &world.network, commands.as_slice())?;
-    Ok(Simulated {
-        script: world.script,
-        reports,
-        time: world.now,
-        counts: world.counts,
-    })
+    mute_all(world, count)?;
+    let commands = ask_all(world, count)?;
+    Ok(reports_of(world.alloc, &world.network, commands.as_slice())?)
 }
 
 /// Simulates a plan by a seed.
@@ -101,5 +82,6 @@ pub fn simulate(alloc: Global, plan: &Plan, seed: u64) -> Result<Simulated, SimF
             break;
         }
     }
-    finish(world)
+    let reports = finish(&mut world)?;
+    Ok(world.into_simulated(reports))
 }

@@ -25,7 +25,7 @@ impl<'a> World<'a> {
 
     /// All come to rest, and what they have to say goes out.
     pub fn rest(&mut self) -> Result<(), SimFault> {
-        self.act(&Command::Settle)?;
+        self.act(Command::Settle)?;
         for actor in self.actors.as_mut_slice() {
             if let Some(twin) = &mut actor.twin {
                 scp_turn::settle(twin);

@@ -59,6 +59,6 @@ impl<'a> World<'a> {
         self.links.put(from, to, link);
         let event = Event::Send(link_from(from, to), bytes.copy()?);
         self.tell_twins(to, &event)?;
-        self.act(&Command::Send { from, to, bytes })
+        self.act(Command::Send { from, to, bytes })
     }
 }

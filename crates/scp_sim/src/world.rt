@@ -82,8 +82,19 @@ pub struct Counts {
     pub asked: u64,
 }
 
-/// Nodes, their links, and what is to happen.
+/// What was simulated.
 #[derive(Drop)]
+pub struct Simulated {
+    /// The script of all that happened, in digits.
+    pub script: String,
+    /// The reports of its nodes.
+    pub reports: String,
+    /// How long it took, in milliseconds.
+    pub time: u64,
+    pub counts: Counts,
+}
+
+/// Nodes, their links, and what is to happen.
 pub struct World<'a> {
     pub alloc: Global,
     pub plan: &'a Plan,
@@ -97,6 +108,25 @@ pub struct World<'a> {
     pub counts: Counts,
     /// When a judged node applied a slot last.
     pub moved: u64,
+}
+
+// (written out, so that whoever lets one go has one call to prove)
+impl<'a> Drop for World<'a> {
+    fn drop(self) {
+        let World {
+            alloc: _,
+            plan: _,
+            rng: _,
+            now: _,
+            network: _,
+            script: _,
+            agenda: _,
+            links: _,
+            actors: _,
+            counts: _,
+            moved: _,
+        } = self;
+    }
 }
 
 /// The first lines of the script: how many nodes there are, and their quorum sets.
@@ -203,6 +233,29 @@ impl<'a> World<'a> {
             },
             moved: 0,
         })
+    }
+
+    /// What was simulated, with these reports of its nodes.
+    pub fn into_simulated(self, reports: String) -> Simulated {
+        let World {
+            alloc: _,
+            plan: _,
+            rng: _,
+            now,
+            network: _,
+            script,
+            agenda: _,
+            links: _,
+            actors: _,
+            counts,
+            moved: _,
+        } = self;
+        Simulated {
+            script,
+            reports,
+            time: now,
+            counts,
+        }
     }
 
     /// What is to happen from the start on.

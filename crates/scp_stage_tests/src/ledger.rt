@@ -1,50 +1,28 @@
-ghost use Rattle.std.specs.Prelude.{◌≡◌, [], false, IfOk};
-
+//! The answers of a ledger, and what its refusals leave.
+use crate::parts::{FOUR, ME, THREE, TWO, carried, conn, hash, own, says, stage, value};
 use Act::*;
 use On::*;
 use Verdict::*;
 use scp_driver::KvDriver;
-use scp_envelope::{Envelope, Externalize, Nominate, Pledges, Signature, Statement, ValueList};
-use scp_ledger::{CommandFate, Ledger, Onward, Origin, Outgoing, SharedDecision, Took, Verdict};
+use scp_envelope::{Externalize, Pledges};
+use scp_ledger::{CommandFate, Ledger, Onward, Origin, SharedDecision, Verdict};
 use scp_pending::{DropCause, Pending, Ready};
-use scp_quorum::{QuorumSet, SaneSet};
-use scp_types::{Ballot, ConnId, Fault, NodeId, Seq, SharedValue, Slot, Value};
-use scp_wire::{BoxedEnvelope, Carried, Cause, Command, FittingMessage, Inbound, Message};
+use scp_types::{Ballot, Fault, NodeId, Seq, SharedValue, Slot};
+use scp_wire::{Cause, Command, Inbound, Message};
 use std::alloc::Global;
 use std::process::Abort;
-use std::sync::Arc;
 use std::test::*;
 
-const ME: NodeId = NodeId([1; 32]);
-
-const TWO: NodeId = NodeId([2; 32]);
-
-const THREE: NodeId = NodeId([3; 32]);
-
-/// A node that is no peer of the ledger.
-const FOUR: NodeId = NodeId([4; 32]);
-
-/// One operation: put a 1.
-const PUT_A: [u8; 24] = [
-    0, 0, 0, 1, 0, 0, 0, 0, 0, 0, 0, 1, 97, 0, 0, 0, 0, 0, 0, 1, 49, 0, 0, 0,
-];
-
-/// What is taken: a message of a node, or what isn't one.
+/// What a ledger takes: a message of a node, or something else. Its peers are nodes 2 and 3, but not node 4.
 #[derive(Clone, Copy)]
 enum Act {
     Record(NodeId, u64),
     GetRecord(NodeId, u64),
-    /// A nomination of this node for this slot, which votes for the first value, or for none.
-    Nomination(NodeId, u64, bool),
-    /// An EXTERNALIZE of this node for this slot, of a commit of the value with counter 1.
-    Externalizes(NodeId, u64),
+    /// An EXTERNALIZE of node 2 for this slot, of a commit of the value with counter 1.
+    Externalizes(u64),
     Drop,
     Close,
     Tick,
-    /// A proposal of the value, or of no bytes.
-    Proposes(u64, bool),
-    Rounds(u64),
-    Times(u64),
     Ask(u8, u64),
 }
 
@@ -56,64 +34,11 @@ enum On {
     Asks(u8, u64),
 }
 
-fn conn(from: NodeId) -> ConnId {
-    ConnId {
-        from,
-        to: ME,
-        life: 1,
-    }
-}
+/// What is taken, so many times, and the answer each time.
+type Row = (u32, Act, Option<Verdict>, Option<CommandFate>, On);
 
-/// Both of nodes 1 and 2.
-fn set(alloc: Global) -> Result<QuorumSet, Fault> {
-    Ok(QuorumSet::of_nodes(2, Vec::from_slice(alloc, &[ME, TWO])?))
-}
-
-fn shared_set(alloc: Global) -> Result<Arc<SaneSet>, Fault> {
-    let Ok(own) = set(alloc)?.into_sane() else {
-        return Err(Fault::NoMemory);
-    };
-    Ok(Arc::new(alloc, own)?)
-}
-
-/// A pending stage with links from nodes 2, 3 and 4.
-fn stage(alloc: Global) -> Result<Pending, Fault>
-    ensures runs { IfOk result (λ pending. pending.failed ≡ false) }
-    ensures ready { IfOk result (λ pending. pending.leaving ≡ []) }
-{
-    let peers = Vec::from_slice(alloc, &[TWO, THREE, FOUR])?;
-    Ok(Pending::new(alloc, ME, peers, shared_set(alloc)?))
-}
-
-/// What the pending stage gives of a message that is the first of its connection.
-fn delivered(alloc: Global, from: NodeId, message: Carried) -> Result<Option<Ready>, Fault> {
-    let mut pending = stage(alloc)?;
-    let _ = pending.take(Inbound::Opened(conn(from)))?;
-    if pending.next_ready().is_some() {
-        return Ok(None);
-    }
-    let _ = pending.take(Inbound::Carried(message))?;
-    Ok(pending.next_ready())
-}
-
-fn value(alloc: Global) -> Result<Value, Fault> {
-    Ok(Value::new(Vec::from_slice(alloc, &PUT_A)?))
-}
-
-fn nomination(alloc: Global, node: NodeId, slot: u64, votes: bool) -> Result<Message, Fault> {
-    let mut values = Vec::new(alloc);
-    if votes {
-        values.push(value(alloc)?)?;
-    }
-    let pledges = Pledges::Nominate(Nominate {
-        set_hash: set(alloc)?.hash()?,
-        votes: ValueList::new(values),
-        accepted: ValueList::new(Vec::new(alloc)),
-    });
-    message(alloc, node, slot, pledges)
-}
-
-fn externalize(alloc: Global, node: NodeId, slot: u64) -> Result<Message, Fault> {
+fn externalize(alloc: Global, slot: u64) -> Result<Message, Fault> {
+    let set_hash = hash(alloc, 1)?;
     let commit = Ballot {
         counter: 1,
         value: SharedValue::new(alloc, value(alloc)?)?,
@@ -121,76 +46,77 @@ fn externalize(alloc: Global, node: NodeId, slot: u64) -> Result<Message, Fault>
     let pledges = Pledges::Externalize(Externalize {
         commit,
         n_high: 1,
-        set_hash: set(alloc)?.hash()?,
+        set_hash,
     });
-    message(alloc, node, slot, pledges)
+    says(alloc, TWO, slot, pledges)
 }
 
-fn message(alloc: Global, node: NodeId, slot: u64, pledges: Pledges) -> Result<Message, Fault> {
-    let statement = Statement {
-        node,
-        slot: Slot(slot),
-        pledges,
-    };
-    let signature = Signature::new(Vec::new(alloc));
-    let envelope = Envelope {
-        statement,
-        signature,
-    };
-    Ok(Message::Envelope(BoxedEnvelope::new(alloc, envelope)?))
+/// The message that an act is, if it is one, as the first of its node's connection.
+fn message(alloc: Global, act: Act) -> Result<Inbound, Fault> {
+    match act {
+        Record(from, slot) => {
+            let message = Message::Record(Slot(slot), value(alloc)?);
+            carried(conn(from, 1), 0, message)
+        }
+        GetRecord(from, slot) => carried(conn(from, 1), 0, Message::GetRecord(Slot(slot))),
+        Externalizes(slot) => carried(conn(TWO, 1), 0, externalize(alloc, slot)?),
+        _ => Err(Fault::BadConfig),
+    }
+}
+
+/// What a pending stage gives for that message, once its connection is open.
+fn delivered(
+    alloc: Global,
+    pending: &mut Pending,
+    from: NodeId,
+    act: Act,
+) -> Result<Option<Ready>, Fault> {
+    if pending.next_ready().is_some() {
+        return Ok(None);
+    }
+    let _ = pending.take(Inbound::Opened(conn(from, 1)))?;
+    if pending.next_ready().is_some() {
+        return Ok(None);
+    }
+    let message = message(alloc, act)?;
+    let _ = pending.take(message)?;
+    Ok(pending.next_ready())
+}
+
+fn came(alloc: Global, from: NodeId, act: Act) -> Result<Option<Ready>, Fault> {
+    let mut pending = stage(alloc)?;
+    delivered(alloc, &mut pending, from, act)
 }
 
 fn ready(alloc: Global, act: Act) -> Result<Option<Ready>, Fault> {
-    let seq = Seq(0);
     match act {
-        Record(from, slot) => { came(alloc, from, Message::Record(Slot(slot), value(alloc)?)) }
-        GetRecord(from, slot) => { came(alloc, from, Message::GetRecord(Slot(slot))) }
-        Nomination(node, slot, votes) => came(alloc, TWO, nomination(alloc, node, slot, votes)?),
-        Externalizes(node, slot) => came(alloc, TWO, externalize(alloc, node, slot)?),
+        Record(from, _) | GetRecord(from, _) => came(alloc, from, act),
+        Externalizes(_) => came(alloc, TWO, act),
         Drop => Ok(Some(Ready::Dropped {
-            conn: conn(TWO),
-            seq,
+            conn: conn(TWO, 1),
+            seq: Seq(0),
             cause: DropCause::GaveUp,
         })),
         Close => Ok(Some(Ready::Closed {
-            conn: conn(TWO),
+            conn: conn(TWO, 1),
             cause: Cause::Link,
         })),
         Tick => Ok(Some(Ready::Local(Command::Tick))),
-        Proposes(slot, is_good) => {
-            let value = if is_good {
-                value(alloc)?
-            } else {
-                Value::new(Vec::new(alloc))
-            };
-            Ok(Some(Ready::Local(Command::Propose(Slot(slot), value))))
-        }
-        Rounds(slot) => Ok(Some(Ready::Local(Command::Round(Slot(slot))))),
-        Times(slot) => Ok(Some(Ready::Local(Command::Timer(Slot(slot))))),
         Ask(link, slot) => Ok(Some(Ready::Local(Command::Ask(link, Slot(slot))))),
     }
 }
 
-/// What the pending stage gives of a message of the node's connection.
-fn came(alloc: Global, from: NodeId, message: Message) -> Result<Option<Ready>, Fault> {
-    let Ok(message) = FittingMessage::new(message) else {
-        return Ok(None);
-    };
-    if !message.get().is_carried() {
-        return Ok(None);
-    }
-    let carried = Carried {
-        conn: conn(from),
-        seq: Seq(0),
-        message,
-    };
-    delivered(alloc, from, carried)
-}
-
-fn ledger(alloc: Global) -> Result<Ledger<KvDriver>, Fault> {
+/// Whether the closure holds of a new ledger. No test owns one: the proof of dropping it is here, once.
+fn is_so<F: FnOnce(&mut Ledger<KvDriver>) -> Result<bool, Fault>>(
+    alloc: Global,
+    told: F,
+) -> Result<bool, Fault>
+    requires { F.IsAlwaysCallable told }
+{
+    let local = own(alloc)?;
     let peers = Vec::from_slice(alloc, &[TWO, THREE])?;
-    let local = shared_set(alloc)?;
-    Ok(Ledger::new(alloc, ME, local, KvDriver, peers))
+    let mut ledger = Ledger::new(alloc, ME, local, KvDriver, peers);
+    told(&mut ledger)
 }
 
 fn kind_of(onward: &Option<Onward>) -> On {
@@ -201,267 +127,99 @@ fn kind_of(onward: &Option<Onward>) -> On {
     }
 }
 
-/// Takes what the act says; whether just this verdict and this onward come of it.
-fn takes(
-    alloc: Global,
-    ledger: &mut Ledger<KvDriver>,
-    act: Act,
-    verdict: Option<Verdict>,
-    onward: On,
-) -> Result<bool, Fault> {
-    let Some(ready) = ready(alloc, act)? else {
-        return Ok(false);
-    };
-    let took = ledger.take(ready)?;
-    Ok(took.verdict == verdict && kind_of(&took.onward) == onward)
-}
-
-/// Whether each act has its verdict, and this goes on, on a ledger that took nothing.
-fn run(
-    alloc: Global,
-    ledger: &mut Ledger<KvDriver>,
-    acts: &[(Act, Option<Verdict>, On)],
-) -> Result<bool, Fault> {
-    for (act, verdict, onward) in acts {
-        if !takes(alloc, ledger, *act, *verdict, *onward)? {
+/// Whether the row is taken and answered as written.
+fn takes(alloc: Global, ledger: &mut Ledger<KvDriver>, row: &Row) -> Result<bool, Fault> {
+    let (times, act, verdict, command, onward) = *row;
+    for _ in 0..times {
+        let Some(ready) = ready(alloc, act)? else {
+            return Ok(false);
+        };
+        let took = ledger.take(ready)?;
+        if took.verdict != verdict || took.command != command || kind_of(&took.onward) != onward {
             return Ok(false);
         }
     }
     Ok(true)
 }
 
-/// The slots of the decisions, in their order.
-fn has_slots(decisions: &[SharedDecision], slots: &[u64]) -> bool {
-    for (decision, slot) in decisions.iter().zip(slots) {
-        if decision.slot.0 != *slot {
-            return false;
+fn takes_all(alloc: Global, ledger: &mut Ledger<KvDriver>, rows: &[Row]) -> Result<bool, Fault> {
+    for row in rows {
+        if !takes(alloc, ledger, row)? {
+            return Ok(false);
         }
     }
-    decisions.len() == slots.len()
+    Ok(true)
 }
 
-/// Whether these decisions, this lowest slot and so many entries come of the acts.
-fn leaves(
-    alloc: Global,
-    acts: &[(Act, Option<Verdict>, On)],
-    slots: &[u64],
-    lowest: u64,
-    entries: usize,
-) -> Result<bool, Fault> {
-    let mut ledger = ledger(alloc)?;
+/// Messages, commands, and what is neither.
+const EACH_KIND: [Row; 11] = [
+    (1, GetRecord(TWO, 7), Some(Forwarded), None, Asks(0, 7)),
+    (1, GetRecord(THREE, 8), Some(Forwarded), None, Asks(1, 8)),
+    (1, GetRecord(FOUR, 8), Some(Forwarded), None, Asks(2, 8)),
+    (1, Drop, None, None, Nothing),
+    (1, Tick, None, None, Nothing),
+    (1, Close, None, None, Nothing),
+    (1, Ask(1, 2), Some(Fresh), Some(CommandFate::Asked), Nothing),
+    (1, Record(TWO, 2), Some(Unasked), None, Nothing),
+    (1, Record(THREE, 2), Some(Decided), None, On::Slot(2)),
+    (
+        1,
+        Ask(1, 2),
+        Some(Already),
+        Some(CommandFate::Decided),
+        Nothing,
+    ),
+    (1, Externalizes(1), Some(Fresh), None, On::Slot(1)),
+];
+
+/// Whether all that is answered so, and the decisions are in the order in which they came.
+fn answers(alloc: Global, ledger: &mut Ledger<KvDriver>) -> Result<bool, Fault> {
+    if !takes_all(alloc, ledger, &EACH_KIND)? {
+        return Ok(false);
+    }
+    let is_it = match ledger.decisions() {
+        [first, second] => first.slot == Slot(2) && is_by_both(alloc, second)?,
+        _ => false,
+    };
+    Ok(is_it && ledger.lowest() == 3 && ledger.journal().len() == 8)
+}
+
+/// Whether it decides slot 1 by the votes of nodes 1 and 2, for the commit with counter 1.
+fn is_by_both(alloc: Global, decision: &SharedDecision) -> Result<bool, Fault> {
+    let Origin::Machine { n, quorum, own } = &decision.origin else {
+        return Ok(false);
+    };
+    let nodes = quorum.nodes(alloc)?;
     Ok(
-        run(alloc, &mut ledger, acts)?
-            && has_slots(ledger.decisions(), slots)
-            && ledger.lowest() == lowest
-            && ledger.journal().len() == entries,
+        decision.slot == Slot(1)
+            && *n == 1
+            && nodes.as_slice() == [ME, TWO].as_slice()
+            && quorum.count() == 2
+            && quorum.contains(ME)
+            && quorum.contains(TWO)
+            && own.statement.node == ME,
     )
 }
 
 #[test]
-fn records_decide_in_the_window(rt: HostRuntime) -> Result<(), Fail> {
-    let acts = [
-        (Ask(0, 1), Some(Fresh), Nothing),
-        (Ask(0, 16), Some(Fresh), Nothing),
-        (Ask(1, 2), Some(Fresh), Nothing),
-        (Ask(0, 17), Some(FarSlot), Nothing),
-        (Record(TWO, 17), Some(FarSlot), Nothing),
-        (Record(TWO, 16), Some(Decided), On::Slot(16)),
-        (Record(TWO, 2), Some(Unasked), Nothing),
-        (Record(THREE, 2), Some(Decided), On::Slot(2)),
-        (Record(TWO, 2), Some(Already), Nothing),
-        (Record(TWO, 0), Some(Already), Nothing),
-        (Record(TWO, 1), Some(Decided), On::Slot(1)),
-        (Record(TWO, 19), Some(FarSlot), Nothing),
-        (Ask(0, 18), Some(Fresh), Nothing),
-        (Ask(0, 18), Some(Idle), Nothing),
-        (Ask(0, 2), Some(Already), Nothing),
-        (Record(TWO, 18), Some(Decided), On::Slot(18)),
-        (Record(TWO, 1), Some(Already), Nothing),
-    ];
-    assert!(rt; leaves(rt.alloc(), &acts, &[16, 2, 1, 18], 3, 10)?);
+fn each_kind_has_its_answer(rt: HostRuntime) -> Result<(), Fail> {
+    let alloc = rt.alloc();
+    assert!(rt; is_so(alloc, |ledger| answers(alloc, ledger))?);
     Ok(())
 }
 
-#[test]
-fn envelopes_have_their_verdicts(rt: HostRuntime) -> Result<(), Fail> {
-    let acts = [
-        (Nomination(TWO, 1, true), Some(Fresh), Nothing),
-        (Nomination(TWO, 1, true), Some(Stale), Nothing),
-        (Nomination(THREE, 1, true), Some(Fresh), Nothing),
-        (Nomination(ME, 1, true), Some(Own), Nothing),
-        (Nomination(TWO, 2, false), Some(BadStatement), Nothing),
-        (Nomination(TWO, 16, true), Some(Fresh), Nothing),
-        (Nomination(TWO, 17, true), Some(FarSlot), Nothing),
-        (Ask(0, 2), Some(Fresh), Nothing),
-        (Ask(0, 1), Some(Fresh), Nothing),
-        (Record(TWO, 2), Some(Decided), On::Slot(2)),
-        (Nomination(TWO, 2, true), Some(Already), Nothing),
-        (Record(TWO, 1), Some(Decided), On::Slot(1)),
-        (Nomination(TWO, 1, true), Some(OldSlot), Nothing),
-    ];
-    assert!(rt; leaves(rt.alloc(), &acts, &[2, 1], 3, 11)?);
-    Ok(())
-}
+/// The end of a connection adds an entry; an ask and a tick add none.
+const END: Row = (1, Close, None, None, Nothing);
 
-#[test]
-fn requests_go_on_for_their_link(rt: HostRuntime) -> Result<(), Fail> {
-    let acts = [
-        (GetRecord(TWO, 7), Some(Forwarded), Asks(0, 7)),
-        (GetRecord(THREE, 8), Some(Forwarded), Asks(1, 8)),
-        (GetRecord(FOUR, 8), Some(Forwarded), Asks(2, 8)),
-        (Drop, None, Nothing),
-        (Tick, None, Nothing),
-        (Close, None, Nothing),
-    ];
-    assert!(rt; leaves(rt.alloc(), &acts, &[], 1, 5)?);
-    Ok(())
-}
+const ENDS: Row = (1_000_000, Close, None, None, Nothing);
 
-#[test]
-fn commands_have_their_verdicts(rt: HostRuntime) -> Result<(), Fail> {
-    let acts = [
-        (Proposes(1, false), Some(BadValue), Nothing),
-        (Proposes(1, true), Some(Fresh), Nothing),
-        (Proposes(1, true), Some(Idle), Nothing),
-        (Rounds(1), Some(Fresh), Nothing),
-        (Rounds(1), Some(Idle), Nothing),
-        (Times(1), Some(Idle), Nothing),
-        (Times(0), Some(OldSlot), Nothing),
-        (Rounds(17), Some(FarSlot), Nothing),
-        (Externalizes(TWO, 1), Some(Fresh), On::Slot(1)),
-        (Proposes(1, true), Some(OldSlot), Nothing),
-        (Externalizes(TWO, 3), Some(Fresh), On::Slot(3)),
-        (Times(3), Some(Already), Nothing),
-        (Externalizes(TWO, 3), Some(Already), Nothing),
-    ];
-    assert!(rt; leaves(rt.alloc(), &acts, &[1, 3], 2, 3)?);
-    Ok(())
-}
+const ASK: Row = (1, Ask(0, 1), Some(Fresh), Some(CommandFate::Asked), Nothing);
 
-/// Whether it is one own EXTERNALIZE, for all.
-fn is_externalize(outgoing: &[Outgoing]) -> bool {
-    match outgoing {
-        [Outgoing::ToAll(own)] => {
-            own.statement.node == ME
-                && own.statement.slot == Slot(1)
-                && matches!(&own.statement.pledges, Pledges::Externalize(e) if e.n_high == 1)
-        }
-        _ => false,
-    }
-}
+const TICK: Row = (1, Tick, None, None, Nothing);
 
-/// Whether it is by nodes 1 and 2, of the commit of number 1.
-fn is_by_both(alloc: Global, decision: &SharedDecision) -> Result<bool, Fault> {
-    match &decision.origin {
-        Origin::Machine { n, quorum, own } => {
-            let nodes = quorum.nodes(alloc)?;
-            Ok(
-                *n == 1
-                    && nodes.as_slice() == [ME, TWO].as_slice()
-                    && quorum.count() == 2
-                    && quorum.contains(ME)
-                    && quorum.contains(TWO)
-                    && own.statement.node == ME,
-            )
-        }
-        Origin::Named { .. } => Ok(false),
-    }
-}
-
-fn took(alloc: Global, ledger: &mut Ledger<KvDriver>, act: Act) -> Result<Option<Took>, Fault> {
-    match ready(alloc, act)? {
-        Some(ready) => Ok(Some(ledger.take(ready)?)),
-        None => Ok(None),
-    }
-}
-
-/// Whether just this became of each, one after the other, on a ledger that took nothing.
-fn are_told(alloc: Global, acts: &[(Act, Option<CommandFate>)]) -> Result<bool, Fault> {
-    let mut ledger = ledger(alloc)?;
-    for (act, fate) in acts {
-        let Some(took) = took(alloc, &mut ledger, *act)? else {
-            return Ok(false);
-        };
-        if took.command != *fate {
-            return Ok(false);
-        }
-    }
-    Ok(true)
-}
-
-#[test]
-fn commands_are_told_what_became_of_them(rt: HostRuntime) -> Result<(), Fail> {
-    let acts = [
-        (Proposes(1, false), Some(CommandFate::BadValue)),
-        (Proposes(1, true), Some(CommandFate::Proposed)),
-        (Proposes(1, true), Some(CommandFate::ProposedBefore)),
-        (Rounds(1), Some(CommandFate::RoundAdded)),
-        (Rounds(1), Some(CommandFate::NoRoundLeft)),
-        (Times(1), Some(CommandFate::NoBallot)),
-        (Times(0), Some(CommandFate::OldSlot)),
-        (Rounds(17), Some(CommandFate::FarSlot)),
-        (Ask(0, 4), Some(CommandFate::Asked)),
-        (Ask(0, 4), Some(CommandFate::AskedBefore)),
-        (Ask(0, 17), Some(CommandFate::FarSlot)),
-        (Externalizes(TWO, 1), None),
-        (Ask(0, 1), Some(CommandFate::Decided)),
-        (Proposes(1, true), Some(CommandFate::OldSlot)),
-        (Externalizes(TWO, 3), None),
-        (Times(3), Some(CommandFate::Decided)),
-        (Tick, None),
-    ];
-    assert!(rt; are_told(rt.alloc(), &acts)?);
-    Ok(())
-}
-
-/// Whether another node's EXTERNALIZE decides, with the certificate of both.
-fn decides_by_both(alloc: Global) -> Result<bool, Fault> {
-    let mut ledger = ledger(alloc)?;
-    let Some(took) = took(alloc, &mut ledger, Externalizes(TWO, 1))? else {
-        return Ok(false);
-    };
-    let is_right = took.verdict == Some(Fresh) && is_externalize(took.outgoing.as_slice());
-    let is_one = ledger.decisions().len() == 1 && ledger.lowest() == 2;
-    match ledger.decisions().first() {
-        Some(decision) => Ok(is_right && is_one && is_by_both(alloc, decision)?),
-        None => Ok(false),
-    }
-}
-
-#[test]
-fn an_externalize_decides_with_its_certificate(rt: HostRuntime) -> Result<(), Fail> {
-    assert!(rt; decides_by_both(rt.alloc())?);
-    Ok(())
-}
-
-/// Whether a fresh ask sends its request to its link, and a proposal its nomination to all.
-fn sends(alloc: Global) -> Result<bool, Fault> {
-    let mut ledger = ledger(alloc)?;
-    let Some(asked) = took(alloc, &mut ledger, Ask(1, 4))? else {
-        return Ok(false);
-    };
-    let Some(proposed) = took(alloc, &mut ledger, Proposes(1, true))? else {
-        return Ok(false);
-    };
-    let is_request = matches!(
-        asked.outgoing.as_slice(),
-        [Outgoing::To(1, Message::GetRecord(Slot(4)))]
-    );
-    let is_nomination = matches!(proposed.outgoing.as_slice(), [Outgoing::ToAll(_)]);
-    Ok(is_request && is_nomination && ledger.journal().is_empty())
-}
-
-#[test]
-fn what_goes_out_is_given(rt: HostRuntime) -> Result<(), Fail> {
-    assert!(rt; sends(rt.alloc())?);
-    Ok(())
-}
-
-/// Whether a record is taken right, or for want of memory leaves the ledger failed, with its entries.
-fn is_taken_or_fails(alloc: Global) -> Result<bool, Fault> {
-    let mut ledger = ledger(alloc)?;
-    let entered = takes(alloc, &mut ledger, Close, None, Nothing)?
-        && takes(alloc, &mut ledger, Ask(0, 1), Some(Fresh), Nothing)?;
+/// Whether a record is taken, or the ledger runs out of memory, is failed, and keeps its entries.
+fn is_taken_or_fails(alloc: Global, ledger: &mut Ledger<KvDriver>) -> Result<bool, Fault> {
+    let entered = takes_all(alloc, ledger, &[END, ASK])?;
     let Some(record) = ready(alloc, Record(TWO, 1))? else {
         return Ok(false);
     };
@@ -479,42 +237,33 @@ fn is_taken_or_fails(alloc: Global) -> Result<bool, Fault> {
 
 #[test]
 fn a_ledger_without_memory_fails(rt: HostRuntime) -> Result<(), Fail> {
-    assert!(rt; is_taken_or_fails(rt.alloc())?);
+    let alloc = rt.alloc();
+    assert!(rt; is_so(alloc, |ledger| is_taken_or_fails(alloc, ledger))?);
     Ok(())
 }
 
-/// Takes so many ends of a connection, each of which adds an entry.
-fn fill(alloc: Global, ledger: &mut Ledger<KvDriver>, count: u32) -> Result<bool, Fault> {
-    for _ in 0..count {
-        if !takes(alloc, ledger, Close, None, Nothing)? {
-            return Ok(false);
-        }
-    }
-    Ok(true)
-}
-
-/// Whether one more end is refused, since the journal is full, and leaves its entries.
-fn is_full(alloc: Global, ledger: &mut Ledger<KvDriver>, entries: usize) -> Result<bool, Fault> {
-    match takes(alloc, ledger, Close, None, Nothing) {
+/// Whether the full journal refuses one more end, and keeps its entries.
+fn is_full(alloc: Global, ledger: &mut Ledger<KvDriver>) -> Result<bool, Fault> {
+    match takes(alloc, ledger, &END) {
         Ok(_) => Ok(false),
-        Err(Fault::JournalFull) => Ok(ledger.journal().len() == entries),
+        Err(Fault::JournalFull) => Ok(ledger.journal().len() == 1_000_000),
         Err(fault) => Err(fault),
     }
 }
 
-/// Whether a journal of so many entries takes no more, asked twice, and what adds no entry still.
-fn takes_no_more(alloc: Global, count: u32, entries: usize) -> Result<bool, Fault> {
-    let mut ledger = ledger(alloc)?;
+/// Whether a journal of 1,000,000 entries refuses one more, twice, and still takes what adds none.
+fn takes_no_more(alloc: Global, ledger: &mut Ledger<KvDriver>) -> Result<bool, Fault> {
     Ok(
-        fill(alloc, &mut ledger, count)?
-            && is_full(alloc, &mut ledger, entries)?
-            && is_full(alloc, &mut ledger, entries)?
-            && takes(alloc, &mut ledger, Tick, None, Nothing)?,
+        takes(alloc, ledger, &ENDS)?
+            && is_full(alloc, ledger)?
+            && is_full(alloc, ledger)?
+            && takes(alloc, ledger, &TICK)?,
     )
 }
 
 #[test]
 fn a_full_journal_takes_no_more(rt: HostRuntime) -> Result<(), Fail> {
-    assert!(rt; takes_no_more(rt.alloc(), 1_000_000, 1_000_000)?);
+    let alloc = rt.alloc();
+    assert!(rt; is_so(alloc, |ledger| takes_no_more(alloc, ledger))?);
     Ok(())
 }

@@ -1,3 +1,5 @@
+pub use Rattle.scp_workers
+pub use Rattle.scp_gather
 pub mod Seats
 pub mod Sources
 pub mod Outlets

@@ -21,6 +21,7 @@ pub use acting::{Act, act_at, flush, is_carried_at, tell};
 pub use ending::{Over, Stood, end};
 pub use make::{Lane, Parts, make_parts};
 pub use node::{Node, Running, Source, Tail, start};
+pub use scp_gather::{NodeReport, what_is_reported_keeps_the_headline};
 pub use starting::{
     ApplyThread, CourierThread, HoldsCourier, HoldsEnds, PendThread, ReaderThread, SlotThread,
 };

@@ -7,7 +7,7 @@ use Rattle.std.proofs.lemmas.Option.{slice_get_within}
 use Rattle.scp_desk.specs.Ends.{TakerView}
 use Rattle.scp_desks.specs.declared.outlets.Outlets.{Outlets}
 use Rattle.scp_wire.specs.declared.link.LinkItem.{LinkItem}
-use Rattle.scp_gather.specs.Kv.{NodeReport}
+use Rattle.scp_threaded_node.specs.scp_gather.specs.Kv.{NodeReport}
 use Rattle.scp_script.specs.declared.command.Command.{Command}
 use Rattle.scp_threaded_node.specs.declared.make.Lane.{Lane}
 use Rattle.scp_threaded_node.specs.Outlets.{AllKeep, GivenEnds, keeps_from}

@@ -7,7 +7,7 @@ use Rattle.std.proofs.lemmas.Option.{slice_get_read, slice_get_within}
 use Rattle.scp_types.specs.declared.fault.Fault.{Fault}
 use Rattle.scp_desk.specs.Ends.{TakerView}
 use Rattle.scp_desks.specs.declared.outlets.Outlets.{Outlets}
-use Rattle.scp_gather.specs.Kv.{NodeReport, Left}
+use Rattle.scp_threaded_node.specs.scp_gather.specs.Kv.{NodeReport, Left}
 use Rattle.scp_script.specs.declared.command.Command.{Command}
 use Rattle.scp_script.specs.Nodes.{capacities_in, id_of, peers_of, set_at}
 use Rattle.scp_script.specs.Script.{node_count}

@@ -9,7 +9,7 @@ use Rattle.scp_desk.specs.Ends.{PutterView, MarkerView, TakerView}
 use Rattle.scp_desks.specs.Places.{Each, link_of, peer_at}
 use Rattle.scp_desks.specs.declared.outlets.Outlets.{Outlets}
 use Rattle.scp_desks.specs.Table.{at_place, desk_of, desk_at, AreRows, ArePuttersOf, AreOutletsOf, IsTakerOf, IsAnyTakerOf}
-use Rattle.scp_workers.specs.Working.{AreSameOutlets}
+use Rattle.scp_threaded_node.specs.scp_workers.specs.Working.{AreSameOutlets}
 use Rattle.scp_threaded_node.specs.declared.node.Source.{Source}
 use Rattle.scp_threaded_node.specs.Outlets.{GivenEnds}
 use Rattle.scp_threaded_node.specs.Sources.{AreFresh, IsFresh, taker_from}

@@ -14,8 +14,8 @@ use Rattle.scp_ends.specs.Order.{values}
 use Rattle.scp_courier.specs.Carrying.{HasCarried}
 use Rattle.scp_travel.specs.Sent.{bytes_among}
 use Rattle.scp_travel.specs.Theirs.{AreTheirs}
-use Rattle.scp_gather.specs.Kv.{Left}
-use Rattle.scp_gather.specs.Sending.{grounds_gathered}
+use Rattle.scp_threaded_node.specs.scp_gather.specs.Kv.{Left}
+use Rattle.scp_threaded_node.specs.scp_gather.specs.Sending.{grounds_gathered}
 use Rattle.scp_script.specs.declared.command.Command.{Command}
 use Rattle.scp_script.specs.Nodes.{id_of, peers_of, set_at}
 use Rattle.scp_script.specs.Script.{node_count}

@@ -26,3 +26,4 @@ mod running;
 
 pub use gate::{Counting, MOST_YIELDS};
 pub use running::{NodeFault, Ran, run_lines};
+pub use scp_threaded_node::{NodeReport, what_is_reported_keeps_the_headline};

@@ -1,3 +1,5 @@
+pub use Rattle.scp_fact_lines
+pub use Rattle.scp_line
 pub mod Lines
 pub mod Standing
 pub mod Playing

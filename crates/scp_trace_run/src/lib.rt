@@ -25,4 +25,6 @@ pub use depth::Depth;
 pub use ending::write_end;
 pub use laws::what_is_noted_is_told;
 pub use playing::{TraceFault, Traced, trace, write_warnings};
+pub use scp_fact_lines::{Scene, write_told};
+pub use scp_line::{PlayFault, a_line_more_is_played, a_script_has_room, act_with, new_network};
 pub use standing::Playing;

@@ -1,3 +1,4 @@
+pub use Rattle.scp_core
 pub mod Watch
 pub mod Turn
 pub mod Rest

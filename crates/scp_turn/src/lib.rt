@@ -13,5 +13,9 @@ mod turns;
 mod watch;
 
 pub use laws::what_is_still_is_at_rest;
+pub use scp_core::{
+    Capacities, Command, CommandFate, Config, Decision, Event, Fate, KvDriver, Node, Origin, Peers,
+    Reply, SharedDecision, Verdict, each_node_holds_its_headline, each_node_holds_its_ledger,
+};
 pub use turns::{settle, step_with, turn, turn_with, work};
 pub use watch::{NoWatch, Watch};

@@ -1,159 +1,139 @@
-mod played;
+//! Inputs to a nominator, each with what it must give: values that may be valid, of which the product's driver has none.
+ghost use Rattle.std.specs.Prelude.{◌≡◌, OnOk};
+ghost use Rattle.scp_nominate.specs.Nomination.{nomination, IsSound};
 
 use crate::byte_driver::ByteDriver;
-use played::{Input, Row, Values, gives, node};
-use scp_driver::KvDriver;
+use crate::short::{Said, ShortSet, Values, envelope, set, value};
+use scp_driver::Driver;
+use scp_envelope::{Envelope, Pledges};
+use scp_nominate::{Nominated, Nominator};
+use scp_types::{Fault, Hash, NodeId, Slot, Value};
+use scp_vote::{StatementKind, kind_of_pledges};
+use std::alloc::Global;
 use std::process::Abort;
-use std::test::Fail;
+use std::test::*;
 
-/// One operation: put a 1.
-const PUT_A: &[u8] = &[
-    0, 0, 0, 1, 0, 0, 0, 0, 0, 0, 0, 1, 97, 0, 0, 0, 0, 0, 0, 1, 49, 0, 0, 0,
-];
+/// What a nominator is given: another node's votes and accepted values, or a proposal.
+#[derive(Clone, Copy, Debug)]
+enum Input {
+    Hears(u8, Values, Values),
+    Proposes(&'static [u8]),
+}
 
-/// One operation: put b 2.
-const PUT_B: &[u8] = &[
-    0, 0, 0, 1, 0, 0, 0, 0, 0, 0, 0, 1, 98, 0, 0, 0, 0, 0, 0, 1, 50, 0, 0, 0,
-];
+/// An input, and the votes and accepted values of the statement that it must give, if any.
+type Row = (Input, Option<(Values, Values)>);
 
-/// An input that gives neither a statement nor a composite.
-const fn nothing(input: Input) -> Row {
-    Row {
-        input,
-        said: None,
-        composite: None,
+/// Whether these are the values.
+fn are(values: &[Value], want: Values) -> bool {
+    let mut all = values.len() == want.len();
+    for (value, bytes) in values.iter().zip(want) {
+        if value.as_slice() != *bytes {
+            all = false;
+        }
+    }
+    all
+}
+
+/// Whether the node says these votes and accepted values on slot 7, names this set, and signs nothing.
+fn says(envelope: &Envelope, number: u8, set_hash: Hash, want: (Values, Values)) -> bool {
+    let statement = &envelope.statement;
+    match &statement.pledges {
+        Pledges::Nominate(own) => {
+            statement.node == NodeId([number; 32])
+                && statement.slot == Slot(7)
+                && envelope.signature.as_slice().is_empty()
+                && own.set_hash == set_hash
+                && are(own.votes.as_slice(), want.0)
+                && are(own.accepted.as_slice(), want.1)
+        }
+        _ => false,
     }
 }
 
-/// An input that gives a statement alone.
-const fn says(input: Input, votes: Values, accepted: Values) -> Row {
-    Row {
-        input,
-        said: Some((votes, accepted)),
-        composite: None,
+/// Whether no composite was given, and the node's statement is as is wanted.
+fn is_wanted(
+    given: &Nominated,
+    number: u8,
+    set_hash: Hash,
+    want: Option<(Values, Values)>,
+) -> bool {
+    let is_said = match (&given.statement, want) {
+        (Some(envelope), Some(want)) => says(envelope.get(), number, set_hash, want),
+        (None, None) => true,
+        _ => false,
+    };
+    is_said && given.composite.is_none()
+}
+
+/// Both of nodes 1 and 2.
+const BOTH: ShortSet = (2, &[1, 2]);
+
+/// One input to this node's nominator. Refused where it hears itself.
+fn put<D: Driver + Drop>(
+    alloc: Global,
+    nominator: &mut Nominator<D>,
+    me: NodeId,
+    input: Input,
+) -> Result<Nominated, Fault>
+    requires sound { IsSound D.says.level D.says.place nominator.old }
+    requires me { (nomination nominator.old).board.me ≡ me }
+    ensures sound { IsSound D.says.level D.says.place nominator.new }
+    ensures me { OnOk result ((nomination nominator.new).board.me ≡ me) }
+{
+    match input {
+        Input::Hears(number, votes, accepted) => {
+            let heard = envelope(alloc, number, Said::Nominate(votes, accepted))?;
+            let statement = &heard.get().statement;
+            if kind_of_pledges(&statement.pledges) != StatementKind::Nomination
+                || statement.node == me
+            {
+                return Err(Fault::BadConfig);
+            }
+            nominator.take(heard, set(alloc, BOTH)?)
+        }
+        Input::Proposes(bytes) => nominator.propose(value(alloc, bytes)?),
     }
 }
 
-#[test]
-fn a_value_is_voted_for_then_accepted_then_confirmed(rt: HostRuntime) -> Result<(), Fail> {
-    let rows = [
-        says(Input::Propose(PUT_A), &[PUT_A], &[]),
-        nothing(Input::Propose(PUT_B)),
-        says(Input::Hear(node(2), &[PUT_A], &[]), &[PUT_A], &[PUT_A]),
-        Row {
-            input: Input::Hear(node(2), &[PUT_A], &[PUT_A]),
-            said: None,
-            composite: Some(PUT_A),
-        },
-    ];
-    assert!(rt; gives(rt.alloc(), KvDriver, node(1), &rows)?);
-    Ok(())
+/// Whether a nominator of this node on slot 7, whose set is both of nodes 1 and 2, gives what each row wants, in order.
+fn gives<D: Driver + Drop>(
+    alloc: Global,
+    driver: D,
+    number: u8,
+    rows: &[Row],
+) -> Result<bool, Fault> {
+    let local = set(alloc, BOTH)?;
+    let set_hash = local.hash();
+    let me = NodeId([number; 32]);
+    let mut nominator = Nominator::new(alloc, me, Slot(7), local, driver)?;
+    let mut all = true;
+    for row in rows {
+        let given = put(alloc, &mut nominator, me, row.0)?;
+        if !is_wanted(&given, number, set_hash, row.1) {
+            all = false;
+        }
+    }
+    Ok(all)
 }
 
-#[test]
-fn a_node_votes_for_its_proposal_from_its_round_on(rt: HostRuntime) -> Result<(), Fail> {
-    let rows = [
-        nothing(Input::Propose(PUT_B)),
-        says(Input::Round, &[PUT_B], &[]),
-        nothing(Input::Round),
-    ];
-    assert!(rt; gives(rt.alloc(), KvDriver, node(2), &rows)?);
-    Ok(())
-}
+/// Of a value that may be valid what is taken of it is voted for, and accepted once it is named itself.
+const TAKEN: [Row; 2] = [
+    (Input::Hears(1, &[&[], &[8, 9]], &[]), Some((&[&[8]], &[]))),
+    (
+        Input::Hears(1, &[&[], &[8], &[8, 9]], &[]),
+        Some((&[&[8]], &[&[8]])),
+    ),
+];
+
+/// A value that may be valid is voted for where this node proposed it, and not accepted.
+const NOT_ACCEPTED: [Row; 2] = [
+    (Input::Proposes(&[8, 9]), Some((&[&[8, 9]], &[]))),
+    (Input::Hears(2, &[&[8, 9]], &[&[8, 9]]), None),
+];
 
 #[test]
-fn the_composite_is_of_all_candidates(rt: HostRuntime) -> Result<(), Fail> {
-    let rows = [
-        Row {
-            input: Input::Hear(node(1), &[PUT_B], &[PUT_B]),
-            said: Some((&[PUT_B], &[PUT_B])),
-            composite: Some(PUT_B),
-        },
-        Row {
-            input: Input::Hear(node(1), &[PUT_A, PUT_B], &[PUT_A, PUT_B]),
-            said: Some((&[PUT_A, PUT_B], &[PUT_A, PUT_B])),
-            composite: Some(PUT_B),
-        },
-    ];
-    assert!(rt; gives(rt.alloc(), KvDriver, node(2), &rows)?);
-    Ok(())
-}
-
-#[test]
-fn the_first_seven_values_of_a_leader_are_voted_for(rt: HostRuntime) -> Result<(), Fail> {
-    let eight: Values = &[&[1], &[2], &[3], &[4], &[5], &[6], &[7], &[8]];
-    let seven: Values = &[&[1], &[2], &[3], &[4], &[5], &[6], &[7]];
-    let rows = [says(Input::Hear(node(1), eight, &[]), seven, seven)];
-    assert!(rt; gives(rt.alloc(), ByteDriver, node(2), &rows)?);
-    Ok(())
-}
-
-#[test]
-fn the_first_seven_values_that_a_blocking_node_accepts_are_accepted(
-    rt: HostRuntime,
-) -> Result<(), Fail> {
-    let eight: Values = &[&[1], &[2], &[3], &[4], &[5], &[6], &[7], &[8]];
-    let seven: Values = &[&[1], &[2], &[3], &[4], &[5], &[6], &[7]];
-    let rows = [Row {
-        input: Input::Hear(node(2), &[], eight),
-        said: Some((seven, seven)),
-        composite: Some(&[1]),
-    }];
-    assert!(rt; gives(rt.alloc(), ByteDriver, node(1), &rows)?);
-    Ok(())
-}
-
-#[test]
-fn the_leader_of_the_first_round_fills_the_votes_first(rt: HostRuntime) -> Result<(), Fail> {
-    let later: Values = &[&[1], &[2], &[3], &[4]];
-    let first: Values = &[&[5], &[6], &[7], &[8]];
-    let seven: Values = &[&[1], &[2], &[3], &[5], &[6], &[7], &[8]];
-    let rows = [
-        nothing(Input::Hear(node(2), later, &[])),
-        says(Input::Hear(node(1), first, &[]), first, &[]),
-        says(Input::Round, seven, &[]),
-        nothing(Input::Round),
-    ];
-    assert!(rt; gives(rt.alloc(), ByteDriver, node(3), &rows)?);
-    Ok(())
-}
-
-#[test]
-fn of_a_value_that_may_be_valid_another_is_taken(rt: HostRuntime) -> Result<(), Fail> {
-    let rows = [
-        says(Input::Hear(node(1), &[&[], &[8, 9]], &[]), &[&[8]], &[]),
-        says(
-            Input::Hear(node(1), &[&[], &[8], &[8, 9]], &[]),
-            &[&[8]],
-            &[&[8]],
-        ),
-    ];
-    assert!(rt; gives(rt.alloc(), ByteDriver, node(2), &rows)?);
-    Ok(())
-}
-
-#[test]
-fn what_is_not_fully_validated_is_not_accepted(rt: HostRuntime) -> Result<(), Fail> {
-    let rows = [
-        says(Input::Propose(&[8, 9]), &[&[8, 9]], &[]),
-        nothing(Input::Hear(node(2), &[&[8, 9]], &[&[8, 9]])),
-    ];
-    assert!(rt; gives(rt.alloc(), ByteDriver, node(1), &rows)?);
-    Ok(())
-}
-
-#[test]
-fn a_node_with_a_candidate_votes_for_no_more(rt: HostRuntime) -> Result<(), Fail> {
-    let rows = [
-        Row {
-            input: Input::Hear(node(1), &[&[2]], &[&[2]]),
-            said: Some((&[&[2]], &[&[2]])),
-            composite: Some(&[2]),
-        },
-        nothing(Input::Hear(node(1), &[&[1], &[2]], &[&[2]])),
-        nothing(Input::Propose(&[3])),
-        nothing(Input::Round),
-    ];
-    assert!(rt; gives(rt.alloc(), ByteDriver, node(2), &rows)?);
+fn values_that_may_be_valid(rt: HostRuntime) -> Result<(), Fail> {
+    assert!(rt; gives(rt.alloc(), ByteDriver, 2, &TAKEN)?);
+    assert!(rt; gives(rt.alloc(), ByteDriver, 1, &NOT_ACCEPTED)?);
     Ok(())
 }

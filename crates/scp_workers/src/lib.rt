@@ -25,8 +25,6 @@ mod sending;
 mod slot;
 mod stage;
 mod telling;
-#[cfg(test)]
-mod tests;
 mod worker;
 
 pub use apply::{ApplyEnded, ApplyWorker, Nothing, applier};

@@ -1,10 +1,10 @@
 -- What is told on one stream.
 -- Here stands what no public clause reaches: nothing here need be believed.
 use Rattle.std.specs.Prelude.{ℕ, ◌≡◌, List, ◌++◌, Some, None, string_bytes}
-use Rattle.scp_line.specs.Outcome.{fault_line}
-use Rattle.scp_line.specs.declared.playing.PlayFault.{PlayFault}
-use Rattle.scp_trace_run.specs.declared.depth.Depth.{Depth}
-use Rattle.scp_trace_run.specs.declared.playing.Traced.{Traced}
+use Rattle.scp_silent.specs.scp_line.specs.Outcome.{fault_line}
+use Rattle.scp_silent.specs.scp_line.specs.declared.playing.PlayFault.{PlayFault}
+use Rattle.scp_picture.specs.scp_trace_run.specs.declared.depth.Depth.{Depth}
+use Rattle.scp_picture.specs.scp_trace_run.specs.declared.playing.Traced.{Traced}
 use Rattle.scp_prompt.specs.declared.asked.Task.{Task}
 use Rattle.scp_command.specs.declared.plain.Telling.{Telling}
 use Rattle.scp_command.specs.declared.plain.Telling.TheVariants.{Whole, Part}

@@ -2,7 +2,6 @@
 -- Here stands what no public clause reaches: nothing here need be believed.
 use Rattle.std.specs.Prelude.{ℕ, ◌≡◌, ◌≢◌, ◌⊎◌, All, List, Some, None}
 use Rattle.scp_types.specs.declared.fault.Fault.TheVariants as faults
-use Rattle.scp_prompt.specs.declared.asked.Form.{Form}
 use Rattle.scp_prompt.specs.declared.failure.Failure.{Failure}
 use Rattle.scp_prompt.specs.declared.failure.Failure.TheVariants.{Line, NoMemory}
 use Rattle.scp_shorthand.specs.declared.expanded.Expanded.{Expanded}
@@ -11,13 +10,13 @@ use Rattle.scp_silent.specs.declared.playing.RunFault.TheVariants as runs
 use Rattle.scp_gather.specs.Kv.{NodeReport}
 use Rattle.scp_network.specs.Network.{NetworkView}
 use Rattle.scp_script.specs.declared.command.Command.{Command}
-use Rattle.scp_line.specs.declared.playing.PlayFault.{PlayFault}
-use Rattle.scp_line.specs.Nodes.{IsStoppedAt}
-use Rattle.scp_kept.specs.declared.happening.Kept.{Kept}
-use Rattle.scp_kept.specs.Kept.{IsKept}
+use Rattle.scp_silent.specs.scp_line.specs.declared.playing.PlayFault.{PlayFault}
+use Rattle.scp_silent.specs.scp_line.specs.Nodes.{IsStoppedAt}
+use Rattle.scp_account.specs.scp_kept.specs.declared.happening.Kept.{Kept}
+use Rattle.scp_account.specs.scp_kept.specs.Kept.{IsKept}
 use Rattle.scp_account.specs.Fits.{FitReports, FitsNode}
 use Rattle.scp_command.specs.Given.{IsOfBad, placed, stop_of}
-use Rattle.scp_command.specs.Answers.{account_in}
+use Rattle.scp_account.specs.Account.{account_text}
 
 -- the failure of a script that wasn't played to its end
 abbrev pub IsOfRun : Expanded → RunFault → Failure → Type 0
@@ -29,9 +28,9 @@ IsOfRun expanded (runs.GivenUp fault) failure = fault.fault ≢ faults.NoMemory 
 
 -- ---- accounts
 
--- the text is the account, in this form, of nodes that played these commands
-abbrev pub IsAccountOf : Form → List Command → List ℕ → Type 0
-IsAccountOf form commands text = (network : NetworkView) × (kept : List Kept) × IsKept commands network kept × (text ≡ account_in form network.nodes kept)
+-- the text is the account of nodes that played these commands
+abbrev pub IsAccountOf : List Command → List ℕ → Type 0
+IsAccountOf commands text = (network : NetworkView) × (kept : List Kept) × IsKept commands network kept × (text ≡ account_text network.nodes kept)
 
 -- a line of these wasn't done, and the failure says so
 abbrev pub IsStopOf : List Command → Failure → Type 0

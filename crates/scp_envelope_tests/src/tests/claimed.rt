@@ -1,14 +1,55 @@
+//! What statements vote for and accept.
 use super::*;
+use std::process::Abort;
 use std::test::*;
 
 const MAX: u32 = u32::MAX;
 
-#[test]
-fn a_prepare_votes_up_to_its_ballot(rt: HostRuntime) -> Result<(), Fail> {
-    expect_prepares(
-        &rt,
-        rt.alloc(),
+/// What a claim is of: a ballot to prepare, a counter and a value to commit, or a value to nominate.
+#[derive(Clone, Copy, Debug)]
+enum Of {
+    Prepare,
+    Commit,
+    Nominate,
+}
+
+/// Whether the statement votes for this of the ballot, and whether it accepts it.
+fn claims(statement: &Statement, of: Of, ballot: &Ballot) -> (bool, bool) {
+    let counter = ballot.counter;
+    let value = ballot.value.get();
+    match of {
+        Of::Prepare => (
+            statement.votes_prepare(ballot),
+            statement.accepts_prepare(ballot),
+        ),
+        Of::Commit => (
+            statement.votes_commit(counter, value),
+            statement.accepts_commit(counter, value),
+        ),
+        Of::Nominate => (statement.votes_value(value), statement.accepts_value(value)),
+    }
+}
+
+/// Whether the statement claims this of the ballot as the row says: whether it votes for it, and whether it accepts it.
+fn is_claimed(
+    alloc: Global,
+    statement: &Statement,
+    of: Of,
+    row: &(Short, bool, bool),
+) -> Result<bool, Fault> {
+    let (short, votes, accepts) = row;
+    let ballot = ballot(alloc, *short)?;
+    Ok(claims(statement, of, &ballot) == (*votes, *accepts))
+}
+
+/// Of a statement what it claims of some ballots.
+type Claims = (Said, Of, &'static [(Short, bool, bool)]);
+
+const PREPARED: [Claims; 10] = [
+    // up to its ballot
+    (
         Said::Prepare((3, 5), None, None, 0, 0),
+        Of::Prepare,
         &[
             ((0, 5), true, false),
             ((2, 5), true, false),
@@ -18,47 +59,34 @@ fn a_prepare_votes_up_to_its_ballot(rt: HostRuntime) -> Result<(), Fail> {
             ((3, 4), false, false),
             ((MAX, 5), false, false),
         ],
-    )?;
-    expect_prepares(
-        &rt,
-        rt.alloc(),
+    ),
+    (
         Said::Prepare((MAX, 5), None, None, 0, 0),
+        Of::Prepare,
         &[((MAX, 5), true, false), ((MAX, 4), false, false)],
-    )?;
-    Ok(())
-}
-
-#[test]
-fn one_of_prepared_and_prepared_prime_is_enough(rt: HostRuntime) -> Result<(), Fail> {
-    expect_prepares(
-        &rt,
-        rt.alloc(),
+    ),
+    // one of prepared and preparedPrime is enough
+    (
         Said::Prepare((9, 9), Some((MAX, 5)), None, 0, 0),
+        Of::Prepare,
         &[
             ((0, 5), false, true),
             ((MAX, 5), false, true),
             ((MAX, 4), false, false),
         ],
-    )?;
-    expect_prepares(
-        &rt,
-        rt.alloc(),
+    ),
+    (
         Said::Prepare((9, 9), None, Some((MAX, 4)), 0, 0),
+        Of::Prepare,
         &[
             ((0, 4), false, true),
             ((MAX, 4), false, true),
             ((MAX, 5), false, false),
         ],
-    )?;
-    Ok(())
-}
-
-#[test]
-fn a_prepare_accepts_up_to_prepared_and_prepared_prime(rt: HostRuntime) -> Result<(), Fail> {
-    expect_prepares(
-        &rt,
-        rt.alloc(),
+    ),
+    (
         Said::Prepare((9, 9), Some((3, 5)), Some((2, 4)), 0, 0),
+        Of::Prepare,
         &[
             ((3, 5), false, true),
             ((1, 5), false, true),
@@ -68,16 +96,11 @@ fn a_prepare_accepts_up_to_prepared_and_prepared_prime(rt: HostRuntime) -> Resul
             ((1, 6), false, false),
             ((1, 9), true, false),
         ],
-    )?;
-    Ok(())
-}
-
-#[test]
-fn a_confirm_votes_each_counter_and_accepts_some(rt: HostRuntime) -> Result<(), Fail> {
-    expect_prepares(
-        &rt,
-        rt.alloc(),
+    ),
+    // a CONFIRM votes for each counter, and accepts some
+    (
         Said::Confirm((3, 5), 4, 2, 3),
+        Of::Prepare,
         &[
             ((0, 5), true, true),
             ((4, 5), true, true),
@@ -85,56 +108,49 @@ fn a_confirm_votes_each_counter_and_accepts_some(rt: HostRuntime) -> Result<(), 
             ((MAX, 5), true, false),
             ((1, 4), false, false),
         ],
-    )?;
-    expect_prepares(
-        &rt,
-        rt.alloc(),
+    ),
+    (
         Said::Confirm((3, 5), 0, 2, 3),
+        Of::Prepare,
         &[((0, 5), true, true), ((1, 5), true, false)],
-    )?;
-    expect_prepares(
-        &rt,
-        rt.alloc(),
+    ),
+    (
         Said::Confirm((3, 5), MAX, 2, 3),
+        Of::Prepare,
         &[((MAX, 5), true, true), ((MAX, 4), false, false)],
-    )?;
-    Ok(())
-}
-
-#[test]
-fn an_externalize_accepts_each_counter(rt: HostRuntime) -> Result<(), Fail> {
-    expect_prepares(
-        &rt,
-        rt.alloc(),
+    ),
+    // an EXTERNALIZE accepts each counter
+    (
         Said::Externalize((3, 5), 4),
+        Of::Prepare,
         &[
             ((0, 5), false, true),
             ((3, 5), false, true),
             ((MAX, 5), false, true),
             ((3, 4), false, false),
         ],
-    )?;
-    Ok(())
-}
+    ),
+    (
+        Said::Nominate(b"a", b"a"),
+        Of::Prepare,
+        &[((1, b'a'), false, false)],
+    ),
+];
 
-/// Each claim is of a counter and a value to commit.
-#[test]
-fn a_prepare_votes_to_commit_within_its_range(rt: HostRuntime) -> Result<(), Fail> {
-    let alloc = rt.alloc();
-    expect_commits(
-        &rt,
-        alloc,
+const COMMITTED: [Claims; 11] = [
+    // a PREPARE votes for those within its range
+    (
         Said::Prepare((3, 5), None, None, 0, 3),
+        Of::Commit,
         &[
             ((0, 5), false, false),
             ((2, 5), false, false),
             ((3, 5), false, false),
         ],
-    )?;
-    expect_commits(
-        &rt,
-        alloc,
+    ),
+    (
         Said::Prepare((3, 5), None, None, 2, 3),
+        Of::Commit,
         &[
             ((1, 5), false, false),
             ((2, 5), true, false),
@@ -142,39 +158,31 @@ fn a_prepare_votes_to_commit_within_its_range(rt: HostRuntime) -> Result<(), Fai
             ((4, 5), false, false),
             ((2, 4), false, false),
         ],
-    )?;
-    expect_commits(
-        &rt,
-        alloc,
+    ),
+    (
         Said::Prepare((3, 5), None, None, 3, 3),
+        Of::Commit,
         &[
             ((2, 5), false, false),
             ((3, 5), true, false),
             ((4, 5), false, false),
             ((MAX, 5), false, false),
         ],
-    )?;
-    expect_commits(
-        &rt,
-        alloc,
+    ),
+    (
         Said::Prepare((3, 5), None, None, 1, MAX),
+        Of::Commit,
         &[((MAX, 5), true, false)],
-    )?;
-    expect_commits(
-        &rt,
-        alloc,
+    ),
+    (
         Said::Prepare((MAX, 5), None, None, MAX, MAX),
+        Of::Commit,
         &[((MAX - 1, 5), false, false), ((MAX, 5), true, false)],
-    )?;
-    Ok(())
-}
-
-#[test]
-fn a_confirm_commits_from_its_lowest_on(rt: HostRuntime) -> Result<(), Fail> {
-    expect_commits(
-        &rt,
-        rt.alloc(),
+    ),
+    // a CONFIRM from its lowest on
+    (
         Said::Confirm((9, 5), 9, 2, 3),
+        Of::Commit,
         &[
             ((1, 5), false, false),
             ((2, 5), true, true),
@@ -183,38 +191,25 @@ fn a_confirm_commits_from_its_lowest_on(rt: HostRuntime) -> Result<(), Fail> {
             ((MAX, 5), true, false),
             ((2, 4), false, false),
         ],
-    )?;
-    Ok(())
-}
-
-#[test]
-fn a_range_of_a_confirm_may_be_one_counter_or_all(rt: HostRuntime) -> Result<(), Fail> {
-    let alloc = rt.alloc();
-    expect_commits(
-        &rt,
-        alloc,
+    ),
+    (
         Said::Confirm((9, 5), 9, 3, 3),
+        Of::Commit,
         &[
             ((2, 5), false, false),
             ((3, 5), true, true),
             ((4, 5), true, false),
         ],
-    )?;
-    expect_commits(
-        &rt,
-        alloc,
+    ),
+    (
         Said::Confirm((9, 5), 9, 0, MAX),
+        Of::Commit,
         &[((0, 5), true, true), ((MAX, 5), true, true)],
-    )?;
-    Ok(())
-}
-
-#[test]
-fn an_externalize_accepts_from_its_commit_on(rt: HostRuntime) -> Result<(), Fail> {
-    expect_commits(
-        &rt,
-        rt.alloc(),
+    ),
+    // an EXTERNALIZE accepts from its commit on
+    (
         Said::Externalize((3, 5), 4),
+        Of::Commit,
         &[
             ((2, 5), false, false),
             ((3, 5), false, true),
@@ -222,24 +217,66 @@ fn an_externalize_accepts_from_its_commit_on(rt: HostRuntime) -> Result<(), Fail
             ((MAX, 5), false, true),
             ((3, 4), false, false),
         ],
-    )?;
-    expect_commits(
-        &rt,
-        rt.alloc(),
+    ),
+    (
         Said::Externalize((MAX, 5), MAX),
+        Of::Commit,
         &[((MAX - 1, 5), false, false), ((MAX, 5), false, true)],
-    )?;
+    ),
+    (
+        Said::Nominate(b"a", b"a"),
+        Of::Commit,
+        &[((1, b'a'), false, false)],
+    ),
+];
+
+const NOMINATED: [Claims; 4] = [
+    (
+        Said::Nominate(b"ab", b"bc"),
+        Of::Nominate,
+        &[
+            ((0, b'a'), true, false),
+            ((0, b'b'), true, true),
+            ((0, b'c'), false, true),
+            ((0, b'd'), false, false),
+        ],
+    ),
+    // ballot statements claim no values
+    (
+        Said::Prepare((3, 5), Some((3, 5)), None, 1, 3),
+        Of::Nominate,
+        &[((0, 5), false, false)],
+    ),
+    (
+        Said::Confirm((3, 5), 3, 1, 3),
+        Of::Nominate,
+        &[((0, 5), false, false)],
+    ),
+    (
+        Said::Externalize((3, 5), 3),
+        Of::Nominate,
+        &[((0, 5), false, false)],
+    ),
+];
+
+/// Each statement claims what its rows say.
+fn expect_claims(rt: &impl Abort, alloc: Global, each: &[Claims]) -> Result<(), Fault> {
+    for (said, of, rows) in each {
+        let statement = stated(alloc, *said)?;
+        for row in *rows {
+            assert!(rt;
+                is_claimed(alloc, &statement, *of, row)?,
+                "{said:?} {of:?} {row:?}"
+            );
+        }
+    }
     Ok(())
 }
 
 #[test]
-fn ballot_statements_claim_no_values(rt: HostRuntime) -> Result<(), Fail> {
-    for said in [
-        Said::Prepare((3, 5), Some((3, 5)), None, 1, 3),
-        Said::Confirm((3, 5), 3, 1, 3),
-        Said::Externalize((3, 5), 3),
-    ] {
-        expect_nominates(&rt, rt.alloc(), said, &[(5, false, false)])?;
-    }
+fn statements_claim_what_they_say(rt: HostRuntime) -> Result<(), Fail> {
+    expect_claims(&rt, rt.alloc(), &PREPARED)?;
+    expect_claims(&rt, rt.alloc(), &COMMITTED)?;
+    expect_claims(&rt, rt.alloc(), &NOMINATED)?;
     Ok(())
 }

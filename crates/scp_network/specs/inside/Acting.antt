@@ -1,8 +1,8 @@
 -- What the nodes heard more, while something was done.
 -- Here stands what no public clause reaches: nothing here need be believed.
 use Rattle.std.specs.Prelude.{ℕ, ◌≡◌, ◌⊎◌, ◌↔◌, Bool, true, false, List, Some, slice_get}
-use Rattle.scp_core.specs.Node.{accepts_at}
-use Rattle.scp_core.specs.Kv.{NodeView}
+use Rattle.scp_turn.specs.scp_core.specs.Node.{accepts_at}
+use Rattle.scp_turn.specs.scp_core.specs.Kv.{NodeView}
 use Rattle.scp_network.specs.Heard.{Nodes, Heard, With}
 use Rattle.scp_network.specs.Rounds.{IsStill, IsDry, IsSent}
 use Rattle.scp_network.specs.Network.{Hear}

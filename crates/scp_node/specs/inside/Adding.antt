@@ -4,7 +4,7 @@ use Rattle.scp_core.specs.History.{Exchange}
 use Rattle.scp_log.specs.Log.{EntryView}
 use Rattle.scp_asked.specs.declared.asked.Asked.{Asked}
 use Rattle.scp_asked.specs.declared.asked.Asked.TheVariants.{Event}
-use Rattle.scp_live.specs.Live.{LiveView}
+use Rattle.scp_begin.specs.scp_live.specs.Live.{LiveView}
 
 -- what was told so far, and what is to be kept
 pub record BatchView : Type 0 where

@@ -5,7 +5,7 @@ use Rattle.scp_log.specs.declared.kept.Kept.{Kept}
 use Rattle.scp_log.specs.Disk.{StartsWith}
 use Rattle.scp_log.specs.Kept.{IsSettled}
 use Rattle.scp_log.specs.Log.{EntryView, Marked, batch_of, log_of}
-use Rattle.scp_live.specs.Live.{LiveView}
+use Rattle.scp_begin.specs.scp_live.specs.Live.{LiveView}
 use Rattle.scp_node.specs.Answers.{AreAnswered, next_number}
 
 -- the number of the line behind these, the first of which has this number

@@ -2,7 +2,7 @@
 use Rattle.std.specs.Prelude.{◌≡◌, List, ◌++◌}
 use Rattle.scp_core.specs.History.{Exchange}
 use Rattle.scp_log.specs.Log.{EntryView}
-use Rattle.scp_live.specs.Live.{LiveView}
+use Rattle.scp_begin.specs.scp_live.specs.Live.{LiveView}
 use Rattle.scp_begin.specs.Replays.{AreReplayed}
 use Rattle.scp_node.specs.inside.Adding.{BatchView}
 

@@ -3,7 +3,7 @@
 use Rattle.std.specs.Prelude.{◌≢◌, List}
 use Rattle.scp_types.specs.declared.fault.Fault.{Fault}
 use Rattle.scp_types.specs.declared.fault.Fault.TheVariants.{NoMemory as no_memory}
-use Rattle.scp_threaded_script.specs.Reported.{IsGivenUp}
+use Rattle.scp_line.specs.scp_threaded_script.specs.Reported.{IsGivenUp}
 use Rattle.scp_script.specs.declared.command.Command.{Command}
 use Rattle.scp_line.specs.declared.playing.PlayFault.{PlayFault}
 use Rattle.scp_silent.specs.declared.playing.RunFault.{RunFault}

@@ -4,7 +4,7 @@ use Rattle.std.specs.Prelude.{◌≡◌, ℕ, ◌+◌, List, length, Option, Som
 use Rattle.std.specs.Global.{Vec}
 use Rattle.scp_desk.specs.Ends.{TakerView}
 use Rattle.scp_desks.specs.declared.outlets.Outlets.{Outlets}
-use Rattle.scp_gather.specs.Kv.{NodeReport, Left}
+use Rattle.scp_threaded_node.specs.scp_gather.specs.Kv.{NodeReport, Left}
 use Rattle.scp_script.specs.declared.command.Command.{Command}
 use Rattle.scp_script.specs.Nodes.{id_of, peers_of, set_at}
 use Rattle.scp_script.specs.Script.{node_count}

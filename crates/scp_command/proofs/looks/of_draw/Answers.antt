@@ -1,5 +1,5 @@
 use Rattle.std.proofs.Common.{inl, inr, ap, subst}
-use Rattle.scp_draw.specs.Drawn.{IsDrawFault}
+use Rattle.scp_picture.specs.Drawn.{IsDrawFault}
 use Rattle.scp_prompt.specs.declared.failure.Failure.TheVariants.{Line}
 use Rattle.scp_command.proofs.looks.of_draw.Goals as goal
 

@@ -1,5 +1,5 @@
 use Rattle.std.proofs.Common.{inl, inr, ap, subst}
-use Rattle.scp_trace_run.specs.Traced.{IsTraceFault}
+use Rattle.scp_picture.specs.scp_trace_run.specs.Traced.{IsTraceFault}
 use Rattle.scp_prompt.specs.declared.failure.Failure.TheVariants.{Line}
 use Rattle.scp_command.proofs.looks.of_trace.Goals as goal
 

@@ -9,22 +9,22 @@ use Rattle.scp_command.proofs.Accounting.{account_answer, not_run, not_told, wan
 use Rattle.scp_command.proofs.runs.account_serial.Goals as goal
 
 pub returns-in-Err-clause-cause : goal.returns-in-Err-clause-cause
-returns-in-Err-clause-cause c = λ input h. not_run Serial Settled c.args.form input c.of_run.result (c.of_run.ensures input Settled h (subst (λ (text : List ℕ). IsRunFault text c.in-Err.fault) c.as_slice.ensures.value c.in-Err.ensures.cause))
+returns-in-Err-clause-cause c = λ input h. not_run Serial Settled input c.of_run.result (c.of_run.ensures input Settled h (subst (λ (text : List ℕ). IsRunFault text c.in-Err.fault) c.as_slice.ensures.value c.in-Err.ensures.cause))
 
 pub returns-in-Ok-account_of-clause-answer : goal.returns-in-Ok-account_of-clause-answer
 returns-in-Ok-account_of-clause-answer c = λ input h.
     let ran = c.in-Ok.ran in
-    account_answer c.args.form input c.args.given.now ran.script ran.network ran.notices.items (string_bytes c.in-Ok-account_of.text) c.answer_of.result h
+    account_answer input c.args.given.now ran.script ran.network ran.notices.items (string_bytes c.in-Ok-account_of.text) c.answer_of.result h
     (subst (λ (text : List ℕ). IsRan text ran.script ran.network ran.notices.items) c.as_slice.ensures.value c.in-Ok.ensures.ran)
-    (subst (λ (l : List Command). IsAccountOf c.args.form l (string_bytes c.in-Ok-account_of.text)) c.as_slice-2.ensures.value c.in-Ok-account_of.ensures.account)
+    (subst (λ (l : List Command). IsAccountOf l (string_bytes c.in-Ok-account_of.text)) c.as_slice-2.ensures.value c.in-Ok-account_of.ensures.account)
     c.answer_of.ensures.text c.answer_of.ensures.notices
 
 pub returns-in-Ok-account_of-clause-cause : goal.returns-in-Ok-account_of-clause-cause
-returns-in-Ok-account_of-clause-cause c = λ input h. want_fails Serial c.args.form input c.answer_of.result c.answer_of.ensures.cause
+returns-in-Ok-account_of-clause-cause c = λ input h. want_fails Serial input c.answer_of.result c.answer_of.ensures.cause
 
 pub returns-clause-cause : goal.returns-clause-cause
 returns-clause-cause c = λ input h.
     let script = c.in-Ok.ran.script in
-    not_told c.args.form input c.args.given.now script.commands.items script.lines.items c.in-Err-account_of.failure h
+    not_told input c.args.given.now script.commands.items script.lines.items c.in-Err-account_of.failure h
     (subst (λ (text : List ℕ). IsSaid text script.commands.items script.lines.items) c.as_slice.ensures.value c.in-Ok.ensures.ran.said)
     (subst (λ (l : List Command). IsUntold l c.in-Err-account_of.failure) c.as_slice-2.ensures.value c.in-Err-account_of.ensures.cause)

@@ -1,7 +1,7 @@
 use Rattle.std.proofs.Common.{◌≡◌, ℕ, List, subst, string_bytes}
 use Rattle.scp_gather.specs.Kv.{NodeReport}
 use Rattle.scp_script.specs.declared.command.Command.{Command}
-use Rattle.scp_command.specs.Answers.{gathered_in}
+use Rattle.scp_account.specs.Gathered.{gathered_text as accounts_text}
 use Rattle.scp_prompt.specs.declared.asked.Mode.TheVariants.{Threads}
 use Rattle.scp_prompt.specs.declared.asked.Shape.TheVariants.{Settled}
 use Rattle.scp_silent.specs.Threads.{IsRanInThreads, IsThreadsFault}
@@ -11,27 +11,27 @@ use Rattle.scp_command.proofs.Accounting.{threads_account, not_run, threads_not_
 use Rattle.scp_command.proofs.runs.account_threads.Goals as goal
 
 pub returns-in-Err-clause-cause : goal.returns-in-Err-clause-cause
-returns-in-Err-clause-cause g c = λ input h. not_run Threads Settled c.args.form input c.of_threads.result (c.of_threads.ensures input Settled h (subst (λ (text : List ℕ). IsThreadsFault text c.in-Err.fault) c.as_slice.ensures.value c.in-Err.ensures.cause))
+returns-in-Err-clause-cause g c = λ input h. not_run Threads Settled input c.of_threads.result (c.of_threads.ensures input Settled h (subst (λ (text : List ℕ). IsThreadsFault text c.in-Err.fault) c.as_slice.ensures.value c.in-Err.ensures.cause))
 
 pub returns-in-Ok-gathered_account-clause-answer : goal.returns-in-Ok-gathered_account-clause-answer
 returns-in-Ok-gathered_account-clause-answer g c = λ input h.
     let ran = c.in-Ok.ran in
     let text = string_bytes c.in-Ok-gathered_account.text in
-    threads_account c.args.form input c.args.given.now ran.script ran.reports.items ran.notices.items text c.answer_of.result h
+    threads_account input c.args.given.now ran.script ran.reports.items ran.notices.items text c.answer_of.result h
     (subst (λ (t : List ℕ). IsRanInThreads t ran.script ran.reports.items ran.notices.items) c.as_slice.ensures.value c.in-Ok.ensures.ran)
-    (subst (λ (nodes : List NodeReport). text ≡ gathered_in c.args.form ran.script.commands.items nodes) c.as_slice-2.ensures.value
-    (subst (λ (l : List Command). text ≡ gathered_in c.args.form l c.as_slice-2.result.now) c.as_slice-commands.ensures.value c.in-Ok-gathered_account.ensures.account))
+    (subst (λ (nodes : List NodeReport). text ≡ accounts_text ran.script.commands.items nodes) c.as_slice-2.ensures.value
+    (subst (λ (l : List Command). text ≡ accounts_text l c.as_slice-2.result.now) c.as_slice-commands.ensures.value c.in-Ok-gathered_account.ensures.account))
     c.answer_of.ensures.text c.answer_of.ensures.notices
 
 pub returns-in-Ok-gathered_account-clause-cause : goal.returns-in-Ok-gathered_account-clause-cause
-returns-in-Ok-gathered_account-clause-cause g c = λ input h. want_fails Threads c.args.form input c.answer_of.result c.answer_of.ensures.cause
+returns-in-Ok-gathered_account-clause-cause g c = λ input h. want_fails Threads input c.answer_of.result c.answer_of.ensures.cause
 
 pub returns-clause-cause : goal.returns-clause-cause
 returns-clause-cause g c = λ input h.
     let ran = c.in-Ok.ran in
     let script = ran.script in
     let failure = c.in-Err-gathered_account.failure in
-    threads_not_told c.args.form input c.args.given.now script.commands.items script.lines.items ran.reports.items failure h
+    threads_not_told input c.args.given.now script.commands.items script.lines.items ran.reports.items failure h
     (subst (λ (text : List ℕ). IsSaid text script.commands.items script.lines.items) c.as_slice.ensures.value c.in-Ok.ensures.ran.said)
     c.in-Ok.ensures.ran.shows.reported
     (subst (λ (nodes : List NodeReport). IsUntoldOf script.commands.items nodes failure) c.as_slice-2.ensures.value

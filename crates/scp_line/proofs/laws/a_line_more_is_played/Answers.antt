@@ -1,4 +1,4 @@
-use Rattle.scp_turn.specs.Watch.{notes}
+use Rattle.scp_network.specs.scp_turn.specs.Watch.{notes}
 use Rattle.scp_line.proofs.Scripts.{nothing_is_played, line_is_played, quiet_line_is_played, line_is_stopped}
 use Rattle.scp_line.proofs.laws.a_line_more_is_played.Goals as goal
 

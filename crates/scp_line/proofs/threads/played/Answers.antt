@@ -1,5 +1,5 @@
 use Rattle.std.proofs.Common.{◌≡◌, ◌++◌, ◌∙◌, ℕ, List, string_bytes, flat_map, ap, sym, subst}
-use Rattle.scp_gather.specs.Kv.{NodeReport}
+use Rattle.scp_threaded_script.specs.scp_gather.specs.Kv.{NodeReport}
 use Rattle.scp_threaded_script.specs.Reported.{AreNodesReported}
 use Rattle.scp_script.specs.Script.{commands_in}
 use Rattle.scp_script.specs.Nodes.{reports_in}

@@ -1,7 +1,7 @@
 use Rattle.std.proofs.Common.{inl, inr, ◌≡◌, ◌∙◌, ◌+◌, false, Some, ap, sym}
 use Rattle.std.specs.Prelude.{slice_get}
 use Rattle.std.proofs.lemmas.Option.{slice_get-get_or}
-use Rattle.scp_core.specs.Node.{accepts_at}
+use Rattle.scp_turn.specs.scp_core.specs.Node.{accepts_at}
 use Rattle.scp_network.specs.Rounds.{link_of}
 use Rattle.scp_network.proofs.Acting.{shut_at, carries_nothing}
 use Rattle.scp_turn.specs.Watch.{notes}

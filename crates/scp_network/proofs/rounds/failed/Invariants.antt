@@ -1,6 +1,6 @@
 use Rattle.std.proofs.Common.{◌≡◌, ◌<◌, ℕ, false, Some}
 use Rattle.std.specs.Prelude.{slice_get}
-use Rattle.scp_core.specs.Kv.{NodeView}
+use Rattle.scp_turn.specs.scp_core.specs.Kv.{NodeView}
 use Rattle.scp_network.proofs.rounds.failed.Given as goal
 
 -- none of those so far failed

@@ -1,6 +1,6 @@
 use Rattle.std.proofs.Common.{◌+◌, ℕ, subst}
-use Rattle.scp_core.specs.declared.event.Event.TheVariants.{Drain, Send}
-use Rattle.scp_core.specs.declared.event.Reply.TheVariants.{Sent}
+use Rattle.scp_turn.specs.scp_core.specs.declared.event.Event.TheVariants.{Drain, Send}
+use Rattle.scp_turn.specs.scp_core.specs.declared.event.Reply.TheVariants.{Sent}
 use Rattle.scp_network.specs.Rounds.{link_of}
 use Rattle.scp_network.specs.Heard.{Noted}
 use Rattle.scp_network.specs.Network.{IsAnswered}

@@ -1,5 +1,5 @@
 use Rattle.std.proofs.Common.{◌≡◌, ◌∙◌, List, ℕ, string_bytes}
-use Rattle.scp_looks.specs.Looks.{is_sent, is_against}
+use Rattle.scp_marks.specs.Looks.{is_sent, is_against}
 use Rattle.scp_picture.specs.Elements.{front_text, title_text, back_text}
 use Rattle.scp_picture.proofs.Adding.{filled}
 use Rattle.scp_picture.proofs.element.write_fact_element.Goals as goal

@@ -6,8 +6,8 @@ use Rattle.scp_apply.specs.Applied.{AreInOrder}
 use Rattle.scp_gather.specs.Kv.{NodeReport}
 use Rattle.scp_script.specs.declared.command.Command.{Command}
 use Rattle.scp_script.specs.Script.{node_count}
-use Rattle.scp_threaded_script.specs.Reported.{AreNodesReported}
-use Rattle.scp_threaded_script.specs.Waits.{AreWaits}
+use Rattle.scp_line.specs.scp_threaded_script.specs.Reported.{AreNodesReported}
+use Rattle.scp_line.specs.scp_threaded_script.specs.Waits.{AreWaits}
 use Rattle.scp_silent.specs.Threads.{threads_notices}
 use Rattle.scp_silent.proofs.Order.{reports_in_order}
 use Rattle.scp_silent.proofs.threads.played.Goals as goal

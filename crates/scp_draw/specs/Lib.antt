@@ -1,3 +1,0 @@
-pub mod Lines
-pub mod inside
-pub mod Drawn

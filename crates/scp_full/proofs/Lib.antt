@@ -1,4 +1,0 @@
-pub mod Joining
-pub mod Limits
-pub mod Rows
-pub mod Taking

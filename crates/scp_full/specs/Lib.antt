@@ -1,4 +1,0 @@
-pub mod Words
-pub mod Lines
-pub mod Arrived
-pub mod Gathered

@@ -1,0 +1,4 @@
+//! A node as a process.
+mod devices;
+mod faults;
+mod inputs;

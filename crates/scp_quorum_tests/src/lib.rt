@@ -1,5 +1,0 @@
-//! The tests of `scp_quorum`, by its public calls.
-#![tactic(auto)]
-
-#[cfg(test)]
-mod tests;

@@ -1,0 +1,11 @@
+//! The tests of `scp_desk`, `scp_ends`, `scp_workers` and `scp_courier`, by their public calls.
+#![tactic(auto)]
+
+#[cfg(test)]
+mod courier;
+#[cfg(test)]
+mod desk;
+#[cfg(test)]
+mod ends;
+#[cfg(test)]
+mod workers;
