@@ -40,7 +40,7 @@ kills:
 # the wrong bodies that the gate doesn't try, of all crates or of some: make wrong-bodies CRATE="scp_kv scp_wire"; with ALL=1 all those of the gate,
 # whatever their record says, where `rt ci` ran: it is written anew
 wrong-bodies:
-	@$(if $(ALL),scripts/refused --all,scripts/wrong-bodies) $(CRATE)
+	@$(if $(ALL),scripts/check_refused --all,scripts/wrong-bodies) $(CRATE)
 
 # counts, growth and memory of each workload
 bench:
@@ -48,4 +48,4 @@ bench:
 
 # writes the definitions and the promises from the source, into out/pages, in some seconds: believe.html first (docs/BELIEVE.md)
 pages:
-	@scripts/told
+	@scripts/definitions

@@ -11,7 +11,7 @@ EXAMPLES are folders of scripts, PROGRAM is scp_line_cli as it was built. For ea
 Where that would take longer than the budget, the first 100 are tried, then every so many.
 
 An outcome is one of
-  whole          status 0, and the stored report, where the script prints the same in both modes (scripts/one_source); of those in a folder threads/
+  whole          status 0, and the stored report, where the script prints the same in both modes (scripts/lib/one_source); of those in a folder threads/
                  what each node applied, and its state; of the others a report of each node that is asked for
   fault 1, fault 13       that line alone, with the node and the stage that failed, status 3
   fault 14       where a read or a write failed: behind what was written before, status 3
@@ -65,7 +65,7 @@ class Wanted:
         with open(path[:-4] + ".report", "rb") as it:
             self.report = it.read()
         self.nodes = asked_in(path)
-        said = subprocess.run([f"{HERE}/../one_source", path], capture_output=True, text=True, check=True).stdout
+        said = subprocess.run([f"{HERE}/../lib/one_source", path], capture_output=True, text=True, check=True).stdout
         self.is_same, self.is_agreed = bool(said), os.path.basename(os.path.dirname(os.path.abspath(path))) == "threads"
 
     def is_whole(self, report):
