@@ -5,6 +5,7 @@ use std::alloc::Global;
 use std::sync::Wait;
 use std::test::*;
 use std::thread;
+use std::thread::{JoinHandle, Threads};
 
 const ME: NodeId = NodeId([1; 32]);
 
@@ -29,6 +30,139 @@ fn lone(alloc: Global, room: usize) -> Result<(InboxTx, InboxRx), Fault> {
         Some(end) => Ok((end, rx)),
         None => Err(Fault::BadConfig),
     }
+}
+
+/// Puts the lives 0 to 999, and ends. Whether all went.
+fn put_all<R: Wait>(rt: &R, mut end: InboxTx) -> bool {
+    for life in 0..1000u32 {
+        if end.send_as(rt, end_of(life)).is_err() {
+            return false;
+        }
+    }
+    end.stop(rt).is_ok()
+}
+
+/// A thread that puts all.
+fn putting<R: Threads + Wait + Copy + Send + 'static>(
+    rt: R,
+    end: InboxTx,
+) -> Result<JoinHandle<bool>, Fail> {
+    Ok(thread::spawn(&rt, move || put_all(&rt, end))?)
+}
+
+/// The producer of the next item, and the life that it names; no life at its end.
+fn next<R: Wait>(rt: &R, rx: &mut InboxRx) -> Option<(u8, Option<u32>)> {
+    match rx.recv_as(rt) {
+        Ok(Item::One(number, Inbound::Closed { conn, .. })) => Some((number, Some(conn.life))),
+        Ok(Item::Stop(number)) => Some((number, None)),
+        _ => None,
+    }
+}
+
+/// Hands on what comes, and ends behind its producer. Whether all went.
+fn hand_on<R: Wait>(rt: &R, mut rx: InboxRx, mut end: InboxTx) -> bool {
+    for _ in rt.forever() {
+        match rx.recv_before(rt, &mut end) {
+            Ok(Item::One(_, thing)) => {
+                if end.send_as(rt, thing).is_err() {
+                    return false;
+                }
+            }
+            Ok(Item::Stop(_)) => return end.stop(rt).is_ok(),
+            Err(_) => return false,
+        }
+    }
+    false
+}
+
+/// A thread that hands on.
+fn handing<R: Threads + Wait + Copy + Send + 'static>(
+    rt: R,
+    between: InboxRx,
+    onward: InboxTx,
+) -> Result<JoinHandle<bool>, Fail> {
+    Ok(thread::spawn(&rt, move || hand_on(&rt, between, onward))?)
+}
+
+/// Puts three lives and tells of them, and receives each. Whoever hands them on has gone to sleep then, and has told of them before.
+fn send_three<R: Wait>(rt: &R, end: &mut InboxTx, rx: &mut InboxRx) -> bool {
+    for life in 0..3u32 {
+        if end.send_as(rt, end_of(life)).is_err() {
+            return false;
+        }
+    }
+    end.flush();
+    for life in 0..3u32 {
+        if next(rt, rx) != Some((0, Some(life))) {
+            return false;
+        }
+    }
+    true
+}
+
+/// Does that so often, and ends. Whether each came, and the end.
+fn send_and_wait<R: Wait>(rt: &R, mut end: InboxTx, rx: &mut InboxRx) -> bool {
+    for _ in 0..200u32 {
+        if !send_three(rt, &mut end, rx) {
+            return false;
+        }
+    }
+    end.stop(rt).is_ok() && next(rt, rx) == Some((0, None))
+}
+
+#[test]
+fn who_waits_has_told_of_what_it_put(rt: HostRuntime) -> Result<(), Fail> {
+    for room in [1usize, 2, 64] {
+        let (end, between) = lone(rt.alloc(), room)?;
+        let (onward, mut rx) = lone(rt.alloc(), room)?;
+        let handing = handing(rt, between, onward)?;
+        assert!(rt; send_and_wait(&rt, end, &mut rx));
+        assert!(rt; handing.join(&rt));
+    }
+    Ok(())
+}
+
+/// The ends of the two producers of an inbox with room for one, and the inbox.
+fn two_to_one(alloc: Global) -> Result<(InboxTx, InboxTx, InboxRx), Fault> {
+    let (mut ends, rx) = inbox(alloc, 2, 1)?;
+    match (ends.pop(), ends.pop()) {
+        (Some(second), Some(first)) => Ok((first, second, rx)),
+        _ => Err(Fault::BadConfig),
+    }
+}
+
+/// Whether the lives 0 to 999 of each of two producers come in their order, and then its end.
+fn come_in_order<R: Wait>(rt: &R, rx: &mut InboxRx) -> bool {
+    let mut seen = [0u32; 2];
+    let mut stops = [false; 2];
+    for _ in 0..2002u32 {
+        match next(rt, rx) {
+            Some((number, life)) if number < 2 => {
+                let place = usize::from(number);
+                if stops[place] {
+                    return false;
+                }
+                match life {
+                    Some(life) if life == seen[place] => seen[place] = life.saturating_add(1),
+                    None if seen[place] == 1000 => stops[place] = true,
+                    _ => return false,
+                }
+            }
+            _ => return false,
+        }
+    }
+    stops[0] && stops[1]
+}
+
+#[test]
+fn each_producers_items_come_out_in_its_order(rt: HostRuntime) -> Result<(), Fail> {
+    let (first, second, mut rx) = two_to_one(rt.alloc())?;
+    let one = putting(rt, first)?;
+    let other = putting(rt, second)?;
+    assert!(rt; come_in_order(&rt, &mut rx));
+    assert!(rt; one.join(&rt));
+    assert!(rt; other.join(&rt));
+    Ok(())
 }
 
 #[test]
