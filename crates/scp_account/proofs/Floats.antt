@@ -37,7 +37,7 @@ use Rattle.scp_kept.specs.scp_line.specs.Play.{running_state}
 use Rattle.scp_kept.specs.declared.happening.Happening.{Happening}
 use Rattle.scp_kept.specs.declared.happening.Happening.TheVariants as happening
 use Rattle.scp_kept.specs.declared.happening.Kept.{Kept}
-use Rattle.scp_kept.specs.Taken.{given, happenings_at, in_order}
+use Rattle.scp_kept.specs.Taken.{happenings_at, in_order}
 use Rattle.scp_kept.specs.Waiting.{parked_in}
 use Rattle.scp_account.specs.Account.{accounts_behind, account_of, account_text}
 use Rattle.scp_account.specs.Arrived.{arrival_json, arrivals_json, arrived_json, item_json}
@@ -93,17 +93,16 @@ command_none (Round slot) fate = refl
 command_none (Timer slot) fate = refl
 command_none (Ask link slot) fate = refl
 
-order_none : (happenings : List Happening) (entries : List Fate) (commands : List Command) → NoFloats (in_order entry_json command_json happenings entries commands)
-order_none [] entries commands = none_each entry_json entries entry_none
-order_none (happening.Entered ∷ more) [] commands = order_none more [] commands
-order_none (happening.Entered ∷ more) (entry ∷ entries) commands = none_more (entry_json entry) (in_order entry_json command_json more entries commands) (entry_none entry) (order_none more entries commands)
-order_none (happening.Obeyed fate ∷ more) entries [] = order_none more entries []
-order_none (happening.Obeyed fate ∷ more) entries (command ∷ commands) = none_more (command_json command fate) (in_order entry_json command_json more entries commands) (command_none command fate) (order_none more entries commands)
-order_none (happening.Opened link ∷ more) entries commands = order_none more entries commands
-order_none (happening.Came link bytes ∷ more) entries commands = order_none more entries commands
-order_none (happening.Closed link ∷ more) entries commands = order_none more entries commands
-order_none (happening.Given command ∷ more) entries commands = order_none more entries commands
-order_none (happening.Sent link bytes ∷ more) entries commands = order_none more entries commands
+order_none : (happenings : List Happening) (entries : List Fate) → NoFloats (in_order entry_json command_json happenings entries)
+order_none [] entries = none_each entry_json entries entry_none
+order_none (happening.Entered ∷ more) [] = order_none more []
+order_none (happening.Entered ∷ more) (entry ∷ entries) = none_more (entry_json entry) (in_order entry_json command_json more entries) (entry_none entry) (order_none more entries)
+order_none (happening.Obeyed command fate ∷ more) entries = none_more (command_json command fate) (in_order entry_json command_json more entries) (command_none command fate) (order_none more entries)
+order_none (happening.Opened link ∷ more) entries = order_none more entries
+order_none (happening.Came link bytes ∷ more) entries = order_none more entries
+order_none (happening.Closed link ∷ more) entries = order_none more entries
+order_none (happening.Given command ∷ more) entries = order_none more entries
+order_none (happening.Sent link bytes ∷ more) entries = order_none more entries
 
 -- ---- links
 
@@ -117,7 +116,7 @@ came_none link (happening.Came at bytes) = none_if (nat_eq at link) _ refl
 came_none link (happening.Closed at) = none_if (nat_eq at link) _ refl
 came_none link (happening.Given command) = refl
 came_none link happening.Entered = refl
-came_none link (happening.Obeyed fate) = refl
+came_none link (happening.Obeyed command fate) = refl
 came_none link (happening.Sent at bytes) = refl
 
 sent_none : (link : ℕ) (h : Happening) → NoFloats (sent link h)
@@ -126,7 +125,7 @@ sent_none link (happening.Came at bytes) = refl
 sent_none link (happening.Closed at) = refl
 sent_none link (happening.Given command) = refl
 sent_none link happening.Entered = refl
-sent_none link (happening.Obeyed fate) = refl
+sent_none link (happening.Obeyed command fate) = refl
 sent_none link (happening.Sent at bytes) = none_if (nat_eq at link) _ refl
 
 link_none : (outboxes : List OutboxView) (happenings : List Happening) (link : ℕ) (peer : NodeId) → has_float (link_json outboxes happenings link peer) ≡ false
@@ -183,7 +182,7 @@ node_none number v happenings =
       links_none v.outboxes happenings 0 (take PEER_LIMIT v.config.peers),
       none_each (parked_json v.pending) (parked_in v) (parked_none v.pending),
       none_each key_json (entries_of (running_state v)) (λ entry. refl),
-      order_none happenings v.ledger.journal (flat_map given happenings),
+      order_none happenings v.ledger.journal,
     ) refl
 
 accounts_none : (kept : List Kept) (number : ℕ) (nodes : Nodes) → NoFloats (accounts_behind kept number nodes)

@@ -8,17 +8,17 @@ use Rattle.scp_kept.specs.declared.happening.Kept.{Kept}
 use Rattle.scp_kept.specs.Taken.{happenings_at}
 use Rattle.scp_account.specs.Node.{node_json}
 
--- these nodes, the first of which comes behind the one of this number
+-- The accounts of these nodes. The first of them has the number after this one.
 abbrev pub accounts_behind : List Kept → ℕ → Nodes → List Data
 accounts_behind kept number [] = []
 accounts_behind kept number (node ∷ nodes) = node_json (number + 1) node (happenings_at (number + 1) kept) ∷ accounts_behind kept (number + 1) nodes
 
--- the document of nodes that were played one step after another, of which this was kept
+-- The document of nodes that were played one step after another, of whose steps this was kept.
 abbrev pub account_of : Nodes → List Kept → Data
 account_of nodes kept =
     object (member (codes "mode") (string (codes "serial"))
     (member (codes "nodes") (array (items_of (accounts_behind kept 0 nodes))) no_members))
 
--- its text, with no space, in a line
+-- The text of the document: compact JSON, in one line with its line end.
 abbrev pub account_text : Nodes → List Kept → List ℕ
 account_text nodes kept = compact_text (account_of nodes kept) ++ codes "\n"

@@ -8,25 +8,25 @@ use Rattle.scp_wire.specs.declared.link.LinkItem.{LinkItem}
 use Rattle.scp_wire.specs.declared.link.LinkItem.TheVariants as item
 use Rattle.scp_account.specs.Pieces.{digits, id_json}
 
--- that the peer opened the link, the bytes of a message, or that the peer closed it
+-- An item that came on a link: that the peer opened it, the bytes of a message, or that the peer closed it.
 abbrev pub item_json : LinkItem → Data
 item_json (item.Opened conn) = string (codes "open")
 item_json (item.Bytes conn bytes) = digits bytes
 item_json (item.Closed conn) = string (codes "close")
 
--- what came over a link, in order; null where it wasn't kept
+-- What came on a link, in order, or null if it wasn't kept.
 abbrev pub arrived_json : Option (Option (Vec LinkItem)) → Data
 arrived_json None = null
 arrived_json (Some None) = null
 arrived_json (Some (Some items)) = array (items_of (map item_json items.items))
 
--- the link of this number, to this peer, by what was kept of each
+-- The link with this number to this peer, from what was kept of each link.
 abbrev pub arrival_json : List (Option (Vec LinkItem)) → ℕ → NodeId → Data
 arrival_json came link peer =
     object (member (codes "came") (arrived_json (slice_get came link))
     (member (codes "peer") (id_json peer) no_members))
 
--- the links to these peers, the first of which has this number
+-- The links to these peers. The first link has this number.
 abbrev pub arrivals_json : List (Option (Vec LinkItem)) → ℕ → List NodeId → List Data
 arrivals_json came link [] = []
 arrivals_json came link (peer ∷ peers) = arrival_json came link peer ∷ arrivals_json came (link + 1) peers

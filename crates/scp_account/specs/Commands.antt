@@ -1,4 +1,4 @@
--- A command in an account, with what became of it (this project's profile).
+-- A command in an account, and what became of it (this project's profile).
 use Rattle.std.specs.Prelude.{codes}
 use Rattle.serde_json.specs.Data.{Data, string, object, member, no_members}
 use Rattle.scp_wire.specs.declared.link.Command.{Command}
@@ -7,11 +7,11 @@ use Rattle.scp_ledger.specs.declared.took.CommandFate.{CommandFate}
 use Rattle.scp_words.specs.Words.{fate_word}
 use Rattle.scp_account.specs.Pieces.{count, digits}
 
--- what became of a command, by the words of notices
+-- What became of a command, in the words of notices.
 abbrev pub fate_json : CommandFate → Data
 fate_json fate = string (fate_word fate)
 
--- a command, and what became of it
+-- A command, and what became of it.
 abbrev pub command_json : Command → CommandFate → Data
 command_json Tick fate = object (member (codes "command") (string (codes "tick")) (member (codes "fate") (fate_json fate) no_members))
 command_json (Propose slot value) fate =

@@ -1,4 +1,4 @@
--- A decision and its grounds (this project's profile).
+-- A decision and the entries that justify it (this project's profile).
 use Rattle.std.specs.Prelude.{ℕ, List, [], ◌∷◌, Option, Some, None, map, flat_map, codes, if◌then◌else◌}
 use Rattle.serde_json.specs.Data.{Data, string, array, object, member, no_members}
 use Rattle.serde_json.specs.View.{items_of}
@@ -12,7 +12,7 @@ use Rattle.scp_ledger.specs.declared.journal.Decision.{Decision}
 use Rattle.scp_account.specs.Pieces.{count, digits, id_json, set_json, own_json}
 use Rattle.scp_account.specs.Spoken.{counting}
 
--- the entry on which a member's place in a certificate rests: a message that was taken, with its set
+-- The entry that justifies a member's place in a certificate, if it is a message that was taken with its set. Otherwise nothing.
 abbrev pub entry_ground : NodeId → Fate → List Data
 entry_ground node (Taken conn seq message (Some set) verdict) =
     object (member (codes "from") (id_json conn.from)
@@ -24,17 +24,17 @@ entry_ground node (Taken conn seq message None verdict) = []
 entry_ground node (Dropped conn seq cause) = []
 entry_ground node (Closed conn cause) = []
 
--- so of the entry that counts for it, if there is one
+-- The same for the entry that counts for the member, if there is one.
 abbrev pub ground : NodeId → Option Fate → List Data
 ground node None = []
 ground node (Some fate) = entry_ground node fate
 
--- so of each member but this node
+-- The same for each member except this node itself.
 abbrev pub ground_of : NodeId → List Fate → ℕ → NodeId → List Data
 ground_of me journal slot node = if same_node node me then [] else ground node (counting journal slot node)
 
--- What a decision rests on. Of a machine: the number n of the commit, a quorum that accepts it, this node's own EXTERNALIZE, and of each other
--- member the entry that counts. Of a record: who sent it, on which connection, and its number there.
+-- What a decision rests on. For a machine: the counter n of the commit, a quorum that accepts it, this node's own EXTERNALIZE, and for
+-- each other member the entry that counts. For a record: its sender, its connection, and its number there.
 abbrev pub origin_json : NodeId → List Fate → ℕ → Origin → Data
 origin_json me journal slot (Machine n quorum own) =
     object (member (codes "counter") (count n)
@@ -48,7 +48,7 @@ origin_json me journal slot (Named conn seq) =
     (member (codes "life") (count conn.life)
     (member (codes "message") (count seq.0) no_members))))
 
--- a decision at this node, by its journal
+-- A decision of this node, with the entries of its journal.
 abbrev pub decision_json : NodeId → List Fate → Decision → Data
 decision_json me journal d =
     object (member (codes "origin") (origin_json me journal d.slot.0 d.origin)

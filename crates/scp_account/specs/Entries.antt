@@ -7,8 +7,8 @@ use Rattle.scp_ledger.specs.declared.journal.Fate.TheVariants.{Taken, Dropped, C
 use Rattle.scp_words.specs.Words.{verdict_word, cause_word, drop_word}
 use Rattle.scp_account.specs.Pieces.{count, id_json, beside_json, message_json, kind_word}
 
--- What became of a message, with its bytes, and the bytes of the quorum set beside it, where it was taken; or the end of a connection. A
--- connection is told by who sends on it and by its life, a message by its number on it.
+-- What became of a message, or the end of a connection. A message that was taken has its bytes, and the bytes of the quorum set that it
+-- came with. A connection is shown by its sender and its life, and a message by its number on the connection.
 abbrev pub entry_json : Fate → Data
 entry_json (Taken conn seq message set verdict) =
     object (member (codes "bytes") (message_json message)

@@ -1,4 +1,4 @@
--- The account of nodes whose stages ran in threads (this project's profile): what their threads left.
+-- The account of nodes whose stages ran in threads, from what these threads left (this project's profile).
 use Rattle.std.specs.Prelude.{ℕ, ◌+◌, List, [], ◌∷◌, ◌++◌, map, codes}
 use Rattle.std.specs.FinMap as finite
 use Rattle.serde_json.specs.Data.{Data, string, array, object, member, no_members}
@@ -16,7 +16,7 @@ use Rattle.scp_account.specs.Decisions.{decision_json}
 use Rattle.scp_account.specs.Entries.{entry_json}
 use Rattle.scp_account.specs.Node.{key_json}
 
--- a message that waits for a quorum set, or behind one that does
+-- A message that waits for a quorum set, or waits behind such a message.
 abbrev pub waiting_json : Carried → Data
 waiting_json carried =
     object (member (codes "bytes") (message_json carried.message)
@@ -24,9 +24,10 @@ waiting_json carried =
     (member (codes "life") (count carried.conn.life)
     (member (codes "message") (count carried.seq.0) no_members))))
 
--- What the threads of the node of this number left, in a script of these commands: the decisions that were applied, from slot 1 on, with their
--- grounds; what became of its commands but the ticks, in their order; who it is; its links, by what came over each; what waits, ascending by sender,
--- life and number; its own quorum set; its state, ascending by key; and its journal. How its commands stood among the entries isn't known.
+-- What the threads of the node with this number left, in a script of these commands. It has the applied decisions from slot 1 on, with
+-- the entries that justify them. It has what became of the node's commands except ticks, in order, and the node's id. It has its links
+-- with what came on each, and the waiting messages, ascending by sender, life and number. It has its own quorum set, its state,
+-- ascending by key, and its journal. The order of commands and journal entries among each other isn't known.
 abbrev pub gathered_json : List Command → ℕ → NodeReport → Data
 gathered_json commands number r =
     object (member (codes "applied") (array (items_of (map (decision_json (id_of number) r.journal.items) r.applied.items)))
@@ -39,17 +40,17 @@ gathered_json commands number r =
     (member (codes "state") (array (items_of (map key_json (finite.entries r.state))))
     (member (codes "taken") (array (items_of (map entry_json r.journal.items))) no_members)))))))))
 
--- so of nodes, the first of which comes behind the one of this number
+-- The same for these nodes. The first of them has the number after this one.
 abbrev pub all_gathered : List Command → ℕ → List NodeReport → List Data
 all_gathered commands number [] = []
 all_gathered commands number (report ∷ reports) = gathered_json commands (number + 1) report ∷ all_gathered commands (number + 1) reports
 
--- the document
+-- The document of all nodes.
 abbrev pub gathered_of : List Command → List NodeReport → Data
 gathered_of commands reports =
     object (member (codes "mode") (string (codes "threads"))
     (member (codes "nodes") (array (items_of (all_gathered commands 0 reports))) no_members))
 
--- its text, with no space, in a line
+-- The text of the document: compact JSON, in one line with its line end.
 abbrev pub gathered_text : List Command → List NodeReport → List ℕ
 gathered_text commands reports = compact_text (gathered_of commands reports) ++ codes "\n"

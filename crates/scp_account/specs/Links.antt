@@ -9,20 +9,20 @@ use Rattle.scp_kept.specs.declared.happening.Happening.{Happening}
 use Rattle.scp_kept.specs.declared.happening.Happening.TheVariants.{Opened, Came, Closed, Sent}
 use Rattle.scp_account.specs.Pieces.{count, digits, id_json}
 
--- what came over this link: that the peer opened it, the bytes of a message, or that it closed it
+-- What came on this link: that the peer opened it, the bytes of a message, or that the peer closed it.
 abbrev pub came : ℕ → Happening → List Data
 came link (Opened at) = if nat_eq at link then string (codes "open") ∷ [] else []
 came link (Came at bytes) = if nat_eq at link then digits bytes ∷ [] else []
 came link (Closed at) = if nat_eq at link then string (codes "close") ∷ [] else []
 came link happening = []
 
--- the bytes of a message that was sent over this link
+-- The bytes of a message that was sent on this link.
 abbrev pub sent : ℕ → Happening → List Data
 sent link (Sent at bytes) = if nat_eq at link then digits bytes ∷ [] else []
 sent link happening = []
 
--- A link to a peer: what came over it and what was sent over it, each in order; how many own statements were lost before they were sent; and
--- how much waits to be sent.
+-- A link to a peer. It has what came and what was sent, each in order, the number of own statements that were overwritten before they
+-- were sent, and how much waits to be sent.
 abbrev pub link_json : List OutboxView → List Happening → ℕ → NodeId → Data
 link_json outboxes happenings link peer =
     object (member (codes "came") (array (items_of (flat_map (came link) happenings)))
@@ -31,7 +31,7 @@ link_json outboxes happenings link peer =
     (member (codes "sent") (array (items_of (flat_map (sent link) happenings)))
     (member (codes "waiting") (count (waiting_at outboxes link)) no_members)))))
 
--- the links to these peers, the first of which has this number
+-- The links to these peers. The first link has this number.
 abbrev pub links_json : List OutboxView → List Happening → ℕ → List NodeId → List Data
 links_json outboxes happenings link [] = []
 links_json outboxes happenings link (peer ∷ peers) = link_json outboxes happenings link peer ∷ links_json outboxes happenings (link + 1) peers

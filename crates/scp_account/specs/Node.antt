@@ -16,17 +16,17 @@ use Rattle.scp_account.specs.Links.{links_json}
 use Rattle.scp_account.specs.Parked.{parked_json}
 use Rattle.scp_account.specs.Taken.{taken_json}
 
--- an applied slot
+-- An applied slot with its value.
 abbrev pub applied_json : Decision → Data
 applied_json d = object (member (codes "slot") (count d.slot.0) (member (codes "value") (digits d.value) no_members))
 
--- a key of the state with its value
+-- A key of the state with its value.
 abbrev pub key_json : List ℕ × List ℕ → Data
 key_json entry = object (member (codes "key") (digits entry.0) (member (codes "value") (digits entry.1) no_members))
 
--- The node of this number, at which this happened: what it applied, from slot 1 on; what it decided, in that order, with the grounds;
--- who it is; its links, at most seven; what waits; its own quorum set; its state, ascending by key; what its slot stage took, in that order; and how many
--- ticks came.
+-- The account of the node with this number, at which this happened. It has the applied slots from slot 1 on, and the decisions in their
+-- order, with the entries that justify them. It has the node's id, its links, at most seven, what waits, its own quorum set, and its
+-- state, ascending by key. It has what its slot stage took, in order, and the number of ticks.
 abbrev pub node_json : ℕ → NodeView → List Happening → Data
 node_json number v happenings =
     object (member (codes "applied") (array (items_of (map applied_json v.applier.applied)))

@@ -8,17 +8,17 @@ use Rattle.scp_pending.specs.Queues.{parked_of, first_waiting as first_that_wait
 use Rattle.scp_kept.specs.scp_line.specs.declared.report.Parked.{Parked}
 use Rattle.scp_account.specs.Pieces.{count, digits, id_json}
 
--- the number of the first message that waits, if one does
+-- The number of the first message that waits, or null if none does.
 abbrev pub number_json : Option (Seq × Hash) → Data
 number_json None = null
 number_json (Some first) = count first.0.0
 
--- the hash of the quorum set that it waits for
+-- The hash of the quorum set that it waits for, or null if none waits.
 abbrev pub hash_json : Option (Seq × Hash) → Data
 hash_json None = null
 hash_json (Some first) = digits first.1.0
 
--- how many messages of a connection a node holds, the first that waits for a quorum set, and for which
+-- How many messages of a connection a node holds, the first one that waits for a quorum set, and the hash of that set.
 abbrev pub parked_json : PendingView → Parked → Data
 parked_json pending held =
     object (member (codes "count") (count held.count)

@@ -1,4 +1,4 @@
--- The pieces of an account (this project's profile): numbers are whole, and bytes stand in lower-case digits.
+-- The pieces of an account (this project's profile). Numbers are whole, and bytes are lower-case hexadecimal digits.
 use Rattle.std.specs.Prelude.{ℕ, List, Option, Some, None, codes}
 use Rattle.hex.specs.Hex.{encode_lower}
 use Rattle.serde_json.specs.Data.{Data, null, number, unsigned, string}
@@ -15,43 +15,43 @@ use Rattle.scp_wire.specs.declared.message.Message.{Message}
 use Rattle.scp_wire.specs.declared.message.Message.TheVariants as message
 use Rattle.scp_wire.specs.Message.{message_kind, message_value}
 
--- a number
+-- A number.
 abbrev pub count : ℕ → Data
 count n = number (unsigned n)
 
--- bytes
+-- Bytes as lower-case hexadecimal digits.
 abbrev pub digits : List ℕ → Data
 digits bytes = string (encode_lower bytes)
 
--- the id of a node
+-- The id of a node.
 abbrev pub id_json : NodeId → Data
 id_json node = digits node.0
 
--- the bytes of a quorum set
+-- The bytes of a quorum set.
 abbrev pub set_json : QuorumTree → Data
 set_json set = digits (set_spelling set)
 
--- those of the set beside a message, if there is one
+-- The bytes of the set that came with a message, or null if there is none.
 abbrev pub beside_json : Option SharedSet → Data
 beside_json None = null
 beside_json (Some set) = set_json set.value
 
--- the bytes of a message
+-- The bytes of a message.
 abbrev pub message_json : Message → Data
 message_json m = digits (spelling message_kind (message_value m))
 
--- the bytes of an envelope
+-- The bytes of an envelope.
 abbrev pub own_json : Envelope → Data
 own_json own = digits (spelling envelope_kind (envelope_value own))
 
--- what kind of statement it is
+-- The kind of a statement.
 abbrev pub pledges_kind : Pledges → List ℕ
 pledges_kind (Prepare p) = codes "prepare"
 pledges_kind (Confirm p) = codes "confirm"
 pledges_kind (Externalize p) = codes "externalize"
 pledges_kind (Nominate p) = codes "nominate"
 
--- what kind of message it is
+-- The kind of a message; for an envelope, the kind of its statement.
 abbrev pub kind_word : Message → List ℕ
 kind_word (message.Envelope envelope) = pledges_kind envelope.value.statement.pledges
 kind_word (message.GetSet hash) = codes "getset"

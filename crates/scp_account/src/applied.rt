@@ -50,7 +50,7 @@ pub fn keys_of(alloc: Global, state: &KvState) -> Result<Value, AllocError>
     Ok(Value::from(values))
 }
 
-/// The keys of a state with their values, ascending by key; none of a state that can't be read.
+/// The keys of a state with their values, ascending by key. There are none if the state can't be read.
 pub fn state_values(alloc: Global, state: Option<&KvState>) -> Result<Value, AllocError>
     ensures { IfOk result (λ v. view v ≡ array (items_of (map key_json (state_of state.entry)))) }
 {

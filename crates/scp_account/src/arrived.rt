@@ -1,8 +1,7 @@
-//! What came over the links of a node whose stages ran in threads, as JSON.
-ghost use Rattle.std.specs.Prelude.{◌≡◌, IfOk, Some, codes, map, slice_get};
-ghost use Rattle.serde_json.specs.Data.{array, null, object, member, no_members};
+//! What came on the links of a node whose stages ran in threads, as JSON.
+ghost use Rattle.std.specs.Prelude.{◌≡◌, IfOk, Some, map, slice_get};
+ghost use Rattle.serde_json.specs.Data.{array, null};
 ghost use Rattle.serde_json.specs.View.{view, items_of};
-ghost use Rattle.scp_account.specs.Pieces.{id_json};
 ghost use Rattle.scp_account.specs.Arrived.{item_json, arrived_json, arrival_json, arrivals_json};
 
 use crate::digits::{digits_of, id_value};
@@ -34,14 +33,14 @@ fn item_values(alloc: Global, items: &[LinkItem]) -> Result<Value, AllocError>
     Ok(Value::from(values))
 }
 
-/// That it wasn't kept.
+/// The value for what wasn't kept.
 fn not_kept() -> Value
     ensures { view result ≡ null }
 {
     Value::Null
 }
 
-/// What came over a link, where it was kept.
+/// What came on a link, if it was kept.
 fn kept_value(alloc: Global, kept: &Option<Vec<LinkItem>>) -> Result<Value, AllocError>
     ensures { IfOk result (λ v. view v ≡ arrived_json (Some kept.now)) }
 {
@@ -51,7 +50,7 @@ fn kept_value(alloc: Global, kept: &Option<Vec<LinkItem>>) -> Result<Value, Allo
     }
 }
 
-/// What came over the link of this number, where it was kept.
+/// What came on the link with this number, if it was kept.
 fn arrived_value(
     alloc: Global,
     came: &[Option<Vec<LinkItem>>],
@@ -65,7 +64,7 @@ fn arrived_value(
     }
 }
 
-/// The link of this number, to this peer.
+/// The link with this number to this peer.
 fn arrival_value(
     alloc: Global,
     came: &[Option<Vec<LinkItem>>],

@@ -32,7 +32,7 @@ fn proposal(
     json!(in alloc; {"command": "propose", "fate": fate_value(alloc, fate)?, "slot": number, "value": digits_of(alloc, value.as_slice())?})
 }
 
-/// A command for a slot that says no more.
+/// A command that has a slot and nothing else.
 fn plain(
     alloc: Global,
     word: &'static str,
@@ -45,7 +45,7 @@ fn plain(
     json!(in alloc; {"command": word, "fate": fate_value(alloc, fate)?, "slot": number})
 }
 
-/// A request for a record.
+/// A request for a record, with its link and slot.
 fn request(alloc: Global, link: u8, slot: Slot, fate: CommandFate) -> Result<Value, AllocError>
     ensures { IfOk result (λ v. view v ≡ object (member (codes "command") (string (codes "ask")) (member (codes "fate") (fate_json fate) (member (codes "link") (count link) (member (codes "slot") (count slot.0) no_members))))) }
 {

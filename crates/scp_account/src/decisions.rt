@@ -1,4 +1,4 @@
-//! Decisions and their grounds as JSON.
+//! Decisions, and the entries that justify them, as JSON.
 ghost use Rattle.std.specs.Prelude.{◌≡◌, ◌++◌, All, List, codes, IfOk, IsOkUnless, OnOk, ℕ, flat_map, map, option_map};
 ghost use Rattle.serde_json.specs.Data.{array, object, member, no_members, string};
 ghost use Rattle.serde_json.specs.View.{view, items_of};
@@ -18,7 +18,7 @@ use serde_json::{Value, json};
 use std::alloc::{AllocError, Global};
 use std::collections::BTreeMap;
 
-/// A record that named a value.
+/// A decision that rests on a record.
 fn named(alloc: Global, conn: &ConnId, number: u64) -> Result<Value, AllocError>
     ensures { IfOk result (λ v. view v ≡ object (member (codes "from") (id_json conn.now.from) (member (codes "kind") (string (codes "record")) (member (codes "life") (count conn.now.life) (member (codes "message") (count number) no_members))))) }
 {
@@ -26,7 +26,7 @@ fn named(alloc: Global, conn: &ConnId, number: u64) -> Result<Value, AllocError>
     json!(in alloc; {"from": id_value(alloc, &conn.from)?, "kind": "record", "life": life, "message": number})
 }
 
-/// An entry on which a member's place in a certificate rests: a message that was taken with its set.
+/// The entry that justifies a member's place in a certificate: a message that was taken with its set.
 fn ground_value(
     alloc: Global,
     conn: &ConnId,
@@ -48,7 +48,7 @@ fn ground_value(
     Ok(value)
 }
 
-/// Adds the entry on which a member's place in a certificate rests, if it is a message that was taken with its set.
+/// Adds the entry that justifies a member's place in a certificate, if it is a message that was taken with its set.
 fn add_ground(
     alloc: Global,
     values: &mut Vec<Value>,
@@ -73,7 +73,7 @@ fn add_ground(
     Ok(())
 }
 
-/// Adds the entry on which a member's place in a certificate rests, unless it is this node.
+/// Adds the entry that justifies a member's place in a certificate, unless the member is this node.
 fn add_member(
     alloc: Global,
     values: &mut Vec<Value>,
@@ -90,7 +90,7 @@ fn add_member(
     add_ground(alloc, values, member, last_of(entries, member))
 }
 
-/// The entries on which a certificate rests: one for each member but this node.
+/// The entries that justify a certificate: for each member except this node, the one that counts, if there is one.
 fn grounds(
     alloc: Global,
     me: &NodeId,
@@ -107,7 +107,7 @@ fn grounds(
     Ok(Value::from(values))
 }
 
-/// Ids.
+/// The ids of nodes.
 fn ids(alloc: Global, nodes: &[NodeId]) -> Result<Value, AllocError>
     ensures { IfOk result (λ v. view v ≡ array (items_of (map id_json nodes.now))) }
 {
@@ -118,7 +118,7 @@ fn ids(alloc: Global, nodes: &[NodeId]) -> Result<Value, AllocError>
     Ok(Value::from(values))
 }
 
-/// A machine that decided.
+/// A decision that a machine made.
 fn machine(
     alloc: Global,
     me: &NodeId,
@@ -158,7 +158,7 @@ fn origin_value(
     }
 }
 
-/// A decision, by the ballot statements of its slot.
+/// A decision, from the ballot statements of its slot.
 fn decision_by(
     alloc: Global,
     me: &NodeId,

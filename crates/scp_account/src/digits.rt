@@ -12,7 +12,7 @@ use scp_wire::Message;
 use serde_json::Value;
 use std::alloc::{AllocError, Global};
 
-/// Bytes in digits.
+/// Bytes as lower-case hexadecimal digits.
 pub fn digits_of(alloc: Global, bytes: &[u8]) -> Result<Value, AllocError>
     ensures { IfOk result (λ v. view v ≡ digits bytes.now) }
 {
@@ -26,7 +26,7 @@ pub fn id_value(alloc: Global, node: &NodeId) -> Result<Value, AllocError>
     digits_of(alloc, &node.0)
 }
 
-/// The bytes of a quorum set. `TooLong` only where it breaks a limit.
+/// The bytes of a quorum set. `TooLong` only if it breaks a limit.
 pub fn set_value(alloc: Global, set: &QuorumSet) -> Result<Value, Fault>
     ensures value { IfOk result (λ v. view v ≡ set_json set.now) }
     ensures only_memory { FitsSet set.now → IsOkUnless result Fault.NoMemory }
@@ -35,7 +35,7 @@ pub fn set_value(alloc: Global, set: &QuorumSet) -> Result<Value, Fault>
     Ok(digits_of(alloc, bytes.as_slice())?)
 }
 
-/// The bytes of a message. `TooLong` only where it breaks a limit.
+/// The bytes of a message. `TooLong` only if it breaks a limit.
 pub fn message_value(alloc: Global, message: &Message) -> Result<Value, Fault>
     ensures value { IfOk result (λ v. view v ≡ message_json message.now) }
     ensures only_memory { IsFitting message.now → IsOkUnless result Fault.NoMemory }
@@ -44,7 +44,7 @@ pub fn message_value(alloc: Global, message: &Message) -> Result<Value, Fault>
     Ok(digits_of(alloc, bytes.as_slice())?)
 }
 
-/// The bytes of an envelope. `TooLong` only where it breaks a limit.
+/// The bytes of an envelope. `TooLong` only if it breaks a limit.
 pub fn own_value(alloc: Global, own: &Envelope) -> Result<Value, Fault>
     ensures value { IfOk result (λ v. view v ≡ own_json own.now) }
     ensures only_memory { FitsOwn own.now → IsOkUnless result Fault.NoMemory }

@@ -15,7 +15,7 @@ use scp_types::Fault;
 use serde_json::{Value, json};
 use std::alloc::{AllocError, Global};
 
-/// The account of the node of this number.
+/// The account of the node with this number.
 fn account_of(alloc: Global, number: u8, node: &Node, kept: &[Kept]) -> Result<Value, Fault>
     ensures value { IfOk result (λ v. view v ≡ node_json number node.now (happenings_of number kept.now)) }
     ensures only_memory { FitsNode node.now → IsOkUnless result Fault.NoMemory }
@@ -39,14 +39,14 @@ fn accounts(alloc: Global, nodes: &[Node], kept: &[Kept]) -> Result<Value, Fault
     Ok(Value::from(values))
 }
 
-/// The document.
+/// The document of all nodes.
 fn document(alloc: Global, nodes: Value) -> Result<Value, AllocError>
     ensures { IfOk result (λ v. view v ≡ object (member (codes "mode") (string (codes "serial")) (member (codes "nodes") (view nodes) no_members))) }
 {
     json!(in alloc; {"mode": "serial", "nodes": nodes})
 }
 
-/// The text of a document, in a line.
+/// The text of a document, in one line.
 pub fn line_of(alloc: Global, document: &Value) -> Result<String, AllocError>
     ensures { IfOk result (λ text. has_float (view document.now) ≡ false → string_bytes text ≡ compact_text (view document.now) ++ codes "\n") }
 {
@@ -55,13 +55,13 @@ pub fn line_of(alloc: Global, document: &Value) -> Result<String, AllocError>
     Ok(text)
 }
 
-/// The account of nodes, of which this was kept, as one JSON document in a line. It takes time in proportion to the entries, and to what was
-/// kept times the number of links.
+/// The account of nodes, of whose steps this was kept, as one JSON document in one line. Takes time in proportion to the entries, and to
+/// the product of what was kept and the number of links.
 pub fn account(alloc: Global, nodes: &[Node], kept: &[Kept]) -> Result<String, Fault>
     requires few { length nodes.now ≤ 8 }
-    // It is the text of a document that the nodes and what was kept determine.
+    // The text is that of a document that the nodes and what was kept determine.
     ensures text { IfOk result (λ text. string_bytes text ≡ account_text nodes.now kept.now) }
-    // Memory is the one reason to refuse, where no message, set or own statement of a node breaks a limit.
+    // If no message, set or own statement of a node breaks a limit, the call is refused only when memory runs out.
     ensures only_memory { All FitsNode nodes.now → IsOkUnless result Fault.NoMemory }
 {
     let nodes = accounts(alloc, nodes, kept)?;

@@ -20,7 +20,7 @@ use serde_json::{Value, json};
 use std::alloc::{AllocError, Global};
 use std::sync::Arc;
 
-/// What kind of statement it is.
+/// The kind of a statement.
 fn word_of_pledges(pledges: &Pledges) -> &'static str
     ensures { result.now ≡ pledges_kind pledges.now }
 {
@@ -32,7 +32,7 @@ fn word_of_pledges(pledges: &Pledges) -> &'static str
     }
 }
 
-/// What kind of message it is.
+/// The kind of a message; for an envelope, the kind of its statement.
 fn word_of_kind(message: &Message) -> &'static str
     ensures { result.now ≡ kind_word message.now }
 {
@@ -47,7 +47,7 @@ fn word_of_kind(message: &Message) -> &'static str
     }
 }
 
-/// The slot that it names.
+/// The slot that a message names.
 fn slot_named(message: &Message) -> u64
     ensures { result ≡ slot_of message.now }
 {
@@ -58,7 +58,7 @@ fn slot_named(message: &Message) -> u64
     }
 }
 
-/// The quorum set beside it, if there is one.
+/// The quorum set that came with a message, if there is one.
 fn beside_value(alloc: Global, set: &Option<Arc<SaneSet>>) -> Result<Value, Fault>
     ensures value { IfOk result (λ v. view v ≡ beside_json set.now) }
     ensures only_memory { FitsBeside set.now → IsOkUnless result Fault.NoMemory }
@@ -69,7 +69,7 @@ fn beside_value(alloc: Global, set: &Option<Arc<SaneSet>>) -> Result<Value, Faul
     }
 }
 
-/// A message that was taken, by the parts of its entry.
+/// A message that was taken, from the parts of its entry.
 fn taken_with(
     alloc: Global,
     bytes: Value,
@@ -125,7 +125,7 @@ fn taken(
     Ok(entry)
 }
 
-/// An entry of a journal. `TooLong` only where its message, or the set beside it, breaks a limit.
+/// An entry of a journal. `TooLong` only if its message, or the set that came with it, breaks a limit.
 pub fn entry_value(alloc: Global, fate: &Fate) -> Result<Value, Fault>
     ensures value { IfOk result (λ v. view v ≡ entry_json fate.now) }
     ensures only_memory { FitsEntry fate.now → IsOkUnless result Fault.NoMemory }

@@ -77,7 +77,7 @@ fn entry_values(alloc: Global, journal: &[Fate]) -> Result<Value, Fault>
     Ok(Value::from(values))
 }
 
-/// Decisions, by a journal.
+/// Decisions, with the entries of a journal.
 fn decided_values(
     alloc: Global,
     me: &NodeId,
@@ -91,7 +91,7 @@ fn decided_values(
     decision_values(alloc, me, &spoken, applied)
 }
 
-/// What the threads of a node left, by its parts.
+/// What the threads of a node left, from its parts.
 fn gathered_with(
     alloc: Global,
     applied: Value,
@@ -109,7 +109,7 @@ fn gathered_with(
     json!(in alloc; {"applied": applied, "commands": commands, "id": id, "links": links, "node": number, "parked": parked, "set": set, "state": state, "taken": taken})
 }
 
-/// The own quorum set of the node of this number.
+/// The own quorum set of the node with this number.
 fn own_set(alloc: Global, commands: &[Command], number: u8) -> Result<Value, Fault>
     requires names { All NamesNodes commands.now }
     requires admitted { AreAdmitted [] commands.now }
@@ -120,7 +120,7 @@ fn own_set(alloc: Global, commands: &[Command], number: u8) -> Result<Value, Fau
     set_value(alloc, &set)
 }
 
-/// The links of the node of this number, by what was kept of each.
+/// The links of the node with this number, from what was kept of each.
 fn links_of(
     alloc: Global,
     commands: &[Command],
@@ -134,7 +134,7 @@ fn links_of(
     arrival_values(alloc, came, peers.as_slice())
 }
 
-/// What the threads of the node of this number left.
+/// What the threads of the node with this number left.
 fn gathered_value(
     alloc: Global,
     commands: &[Command],
@@ -179,15 +179,15 @@ fn all_values(alloc: Global, commands: &[Command], reports: &[NodeReport]) -> Re
     Ok(Value::from(values))
 }
 
-/// The document.
+/// The document of all nodes.
 fn document(alloc: Global, nodes: Value) -> Result<Value, AllocError>
     ensures { IfOk result (λ v. view v ≡ object (member (codes "mode") (string (codes "threads")) (member (codes "nodes") (view nodes) no_members))) }
 {
     json!(in alloc; {"mode": "threads", "nodes": nodes})
 }
 
-/// The account of the nodes of a script whose stages ran in threads, as one JSON document in a line: what their threads left. It takes time in
-/// proportion to the entries.
+/// The account of the nodes of a script whose stages ran in threads, as one JSON document in one line. It shows what their threads left.
+/// Takes time in proportion to the entries.
 pub fn account_gathered(
     alloc: Global,
     commands: &[Command],
@@ -196,9 +196,9 @@ pub fn account_gathered(
     requires names { All NamesNodes commands.now }
     requires admitted { AreAdmitted [] commands.now }
     requires few { length reports.now ≤ 8 }
-    // It is the text of a document that the reports determine.
+    // The text is that of a document that the commands and reports determine.
     ensures text { IfOk result (λ text. string_bytes text ≡ text_of commands.now reports.now) }
-    // Memory is the one reason to refuse, where no message, set or own statement of a node breaks a limit.
+    // If no message, set or own statement of a node breaks a limit, the call is refused only when memory runs out.
     ensures only_memory { FitReports commands.now 0 reports.now → IsOkUnless result Fault.NoMemory }
 {
     let nodes = all_values(alloc, commands, reports)?;

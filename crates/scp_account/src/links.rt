@@ -13,14 +13,14 @@ use scp_types::NodeId;
 use serde_json::{Value, json};
 use std::alloc::{AllocError, Global};
 
-/// A word.
+/// A word as JSON.
 pub fn word(alloc: Global, word: &str) -> Result<Value, AllocError>
     ensures { IfOk result (λ v. view v ≡ string word.now) }
 {
     Ok(Value::from(String::from_str(alloc, word)?))
 }
 
-/// Adds what came over the link, if it is that.
+/// Adds what came on the link, if this is what happened.
 fn add_came(
     alloc: Global,
     values: &mut Vec<Value>,
@@ -40,7 +40,7 @@ fn add_came(
     Ok(())
 }
 
-/// What came over a link, in order.
+/// What came on a link, in order.
 fn came(alloc: Global, link: u8, happenings: &[&Happening]) -> Result<Value, AllocError>
     ensures { IfOk result (λ v. view v ≡ array (items_of (flat_map (came_in link) (happened happenings.now)))) }
 {
@@ -51,7 +51,7 @@ fn came(alloc: Global, link: u8, happenings: &[&Happening]) -> Result<Value, All
     Ok(Value::from(values))
 }
 
-/// Adds what was sent over the link, if it is that.
+/// Adds what was sent on the link, if this is what happened.
 fn add_sent(
     alloc: Global,
     values: &mut Vec<Value>,
@@ -68,7 +68,7 @@ fn add_sent(
     Ok(())
 }
 
-/// What was sent over a link, in order.
+/// What was sent on a link, in order.
 fn sent(alloc: Global, link: u8, happenings: &[&Happening]) -> Result<Value, AllocError>
     ensures { IfOk result (λ v. view v ≡ array (items_of (flat_map (sent_in link) (happened happenings.now)))) }
 {
@@ -79,7 +79,7 @@ fn sent(alloc: Global, link: u8, happenings: &[&Happening]) -> Result<Value, All
     Ok(Value::from(values))
 }
 
-/// A link.
+/// A link, with what went over it.
 fn link_value(
     alloc: Global,
     node: &Node,
@@ -100,7 +100,7 @@ fn link_value(
     })
 }
 
-/// The links of a node, in their order.
+/// The links of a node, in order, at most seven.
 pub fn link_values(
     alloc: Global,
     node: &Node,

@@ -21,7 +21,7 @@ use scp_types::Fault;
 use serde_json::{Value, json};
 use std::alloc::{AllocError, Global};
 
-/// Its decisions, with their grounds.
+/// The node's decisions, with the entries that justify them.
 fn decisions(alloc: Global, node: &Node) -> Result<Value, Fault>
     ensures value { IfOk result (λ v. view v ≡ array (items_of (map (decision_json node.now.config.me node.now.ledger.journal) node.now.ledger.decisions))) }
     ensures only_memory { FitsNode node.now → IsOkUnless result Fault.NoMemory }
@@ -30,7 +30,7 @@ fn decisions(alloc: Global, node: &Node) -> Result<Value, Fault>
     decision_values(alloc, &node.me(), &spoken, node.decisions())
 }
 
-/// The account of a node, by its parts.
+/// The account of a node, from its parts.
 fn node_with(
     alloc: Global,
     applied: Value,
@@ -49,7 +49,7 @@ fn node_with(
     json!(in alloc; {"applied": applied, "decisions": decisions, "id": id, "links": links, "node": number, "parked": parked, "set": set, "state": state, "taken": taken, "ticks": ticks})
 }
 
-/// The account of the node of this number, at which this happened.
+/// The account of the node with this number, at which this happened.
 pub fn node_value(
     alloc: Global,
     number: u8,

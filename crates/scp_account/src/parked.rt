@@ -12,7 +12,7 @@ use scp_types::{ConnId, Hash, Seq};
 use serde_json::{Value, json};
 use std::alloc::{AllocError, Global};
 
-/// What waits of a connection, by its first message and the hash that it waits for.
+/// What is held of a connection, with its first waiting message and the hash that this message waits for.
 fn waiting(
     alloc: Global,
     count: usize,
@@ -26,7 +26,7 @@ fn waiting(
     json!(in alloc; {"count": count, "first": first, "from": id_value(alloc, &conn.from)?, "hash": digits_of(alloc, &hash.0)?, "life": life})
 }
 
-/// What is held of a connection of which nothing waits.
+/// What is held of a connection on which nothing waits.
 fn ready(alloc: Global, count: usize, conn: &ConnId) -> Result<Value, AllocError>
     ensures { IfOk result (λ v. view v ≡ object (member (codes "count") (number count) (member (codes "first") null (member (codes "from") (id_json conn.now.from) (member (codes "hash") null (member (codes "life") (number conn.now.life) no_members)))))) }
 {

@@ -1,4 +1,4 @@
-//! The ballot statements that were taken as fresh, by their slots.
+//! The ballot statements that were taken as fresh, sorted by slot.
 ghost use Rattle.std.specs.Prelude.{◌≡◌, ◌++◌, ◌∷◌, [], ℕ, filter, map, nat_eq, option_map, IfOk, OnOk, if◌then◌else◌};
 ghost use Rattle.scp_ledger.specs.Journal.{fresh_heard};
 ghost use Rattle.scp_account.specs.Spoken.{last_of as last};
@@ -11,7 +11,7 @@ use scp_wire::Message;
 use std::alloc::{AllocError, Global};
 use std::collections::BTreeMap;
 
-/// The statement of an entry, if that is a ballot statement which was taken as fresh.
+/// The statement of an entry, if it is a ballot statement that was taken as fresh.
 pub fn fresh_ballot(fate: &Fate) -> Option<&Statement>
     ensures { option_map (λ s. s.now) result ≡ ballot_in (fresh_heard fate.now) }
 {
@@ -31,7 +31,7 @@ pub fn fresh_ballot(fate: &Fate) -> Option<&Statement>
     }
 }
 
-/// Takes out the entries of a slot.
+/// Takes the entries of a slot out of the map.
 fn take_entries<'a>(
     alloc: Global,
     spoken: &mut BTreeMap<u64, Vec<&'a Fate>>,
@@ -46,7 +46,7 @@ fn take_entries<'a>(
     }
 }
 
-/// Puts entries in as those of a slot.
+/// Puts entries into the map as those of a slot.
 fn put_entries<'a>(
     spoken: &mut BTreeMap<u64, Vec<&'a Fate>>,
     slot: u64,
@@ -110,7 +110,7 @@ fn is_of(entry: &Fate, node: &NodeId) -> bool
     }
 }
 
-/// The last of some entries that is of this node.
+/// The last of these entries that is a statement of this node.
 pub fn last_of<'a>(entries: &[&'a Fate], node: &NodeId) -> Option<&'a Fate>
     ensures { option_map (λ fate. fate.now) result ≡ last (filter (λ fate. is_its node.now (fresh_heard fate)) (map (λ fate. fate.now) entries.now)) }
 {

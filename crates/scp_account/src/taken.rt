@@ -1,8 +1,7 @@
-//! What a slot stage took, in its order, as JSON.
+//! What a slot stage took, in order, as JSON.
 ghost use Rattle.std.specs.Prelude.{◌≡◌, ◌++◌, ◌∷◌, List, drop, map, All, IfOk, OnOk, IsOkUnless};
 ghost use Rattle.serde_json.specs.Data.{array};
 ghost use Rattle.serde_json.specs.View.{view, items_of};
-ghost use Rattle.scp_wire.specs.declared.link.Command.{Command};
 ghost use Rattle.scp_ledger.specs.declared.journal.Fate.{Fate};
 ghost use Rattle.scp_kept.specs.declared.happening.Happening.{Happening};
 ghost use Rattle.scp_kept.specs.Taken.{in_order};
@@ -10,25 +9,25 @@ ghost use Rattle.scp_account.specs.Commands.{command_json};
 ghost use Rattle.scp_account.specs.Entries.{entry_json};
 ghost use Rattle.scp_account.specs.Taken.{taken_json};
 ghost use Rattle.scp_account.specs.Fits.{FitsEntry};
-ghost use Rattle.scp_account.specs.inside.Happened.{happened, left_at};
+ghost use Rattle.scp_account.specs.inside.Happened.{happened};
 
 use crate::commands::command_value;
 use crate::entries::entry_value;
 use scp_core::{Command, CommandFate};
-use scp_kept::{Happening, commands_of};
+use scp_kept::Happening;
 use scp_ledger::Fate;
 use scp_types::Fault;
 use serde_json::Value;
 use std::alloc::{AllocError, Global};
 
-/// Adds the entry at this place, if there is one; gives the place behind it.
+/// Adds the entry at this index, if there is one, and returns the index after it.
 fn add_entry(
     alloc: Global,
     values: &mut Vec<Value>,
     journal: &[Fate],
     place: usize,
 ) -> Result<usize, Fault>
-    ensures added { IfOk result (λ next. (commands : List Command) → (more : List Happening) → map view values.new.items ++ in_order entry_json command_json more (drop next journal.now) commands ≡ map view values.old.items ++ in_order entry_json command_json (Happening.Entered ∷ more) (drop place journal.now) commands) }
+    ensures added { IfOk result (λ next. (more : List Happening) → map view values.new.items ++ in_order entry_json command_json more (drop next journal.now) ≡ map view values.old.items ++ in_order entry_json command_json (Happening.Entered ∷ more) (drop place journal.now)) }
     ensures only_memory { All FitsEntry journal.now → IsOkUnless result Fault.NoMemory }
 {
     if place >= journal.len() {
@@ -38,24 +37,20 @@ fn add_entry(
     Ok(place + 1)
 }
 
-/// Adds the command at this place with what became of it, if there is one; gives the place behind it.
+/// Adds a command and what became of it.
 fn add_command(
     alloc: Global,
     values: &mut Vec<Value>,
-    commands: &[&Command],
-    place: usize,
+    command: &Command,
     fate: CommandFate,
-) -> Result<usize, AllocError>
-    ensures { IfOk result (λ next. (entries : List Fate) → (more : List Happening) → map view values.new.items ++ in_order entry_json command_json more entries (left_at commands.now next) ≡ map view values.old.items ++ in_order entry_json command_json (Happening.Obeyed fate ∷ more) entries (left_at commands.now place)) }
+) -> Result<(), AllocError>
+    ensures { OnOk result ((entries : List Fate) → (more : List Happening) → map view values.new.items ++ in_order entry_json command_json more entries ≡ map view values.old.items ++ in_order entry_json command_json (Happening.Obeyed command.now fate ∷ more) entries) }
 {
-    if place >= commands.len() {
-        return Ok(place);
-    }
-    values.push(command_value(alloc, commands[place], fate)?)?;
-    Ok(place + 1)
+    values.push(command_value(alloc, command, fate)?)?;
+    Ok(())
 }
 
-/// Adds the entries from this place on.
+/// Adds the entries from this index on.
 fn add_entries(
     alloc: Global,
     values: &mut Vec<Value>,
@@ -71,7 +66,7 @@ fn add_entries(
     Ok(())
 }
 
-/// What a slot stage took, in its order: the entries of its journal and its commands.
+/// What a slot stage took, in order: the entries of its journal, and its commands.
 pub fn taken_values(
     alloc: Global,
     journal: &[Fate],
@@ -80,17 +75,12 @@ pub fn taken_values(
     ensures value { IfOk result (λ v. view v ≡ array (items_of (taken_json journal.now (happened happenings.now)))) }
     ensures only_memory { All FitsEntry journal.now → IsOkUnless result Fault.NoMemory }
 {
-    let commands = commands_of(alloc, happenings)?;
-    let commands = commands.as_slice();
     let mut values = Vec::new(alloc);
     let mut entry = 0;
-    let mut place = 0;
     for happening in happenings {
         match *happening {
             Happening::Entered => entry = add_entry(alloc, &mut values, journal, entry)?,
-            Happening::Obeyed(fate) => {
-                place = add_command(alloc, &mut values, commands, place, *fate)?
-            }
+            Happening::Obeyed(command, fate) => add_command(alloc, &mut values, command, *fate)?,
             _ => {}
         }
     }

@@ -4,7 +4,7 @@ use Rattle.std.proofs.lemmas.List.{append-nil, map-append, take_min, length-take
 use Rattle.std.proofs.lemmas.Grind.{flat_map-append}
 use Rattle.std.proofs.Math.Seq.{take-append-add}
 use Rattle.std.specs.List.{AllByRecursion}
-use Rattle.scp_log.specs.Log.{IsLine}
+use Rattle.scp_live_log.specs.Log.{IsLine}
 use Rattle.scp_batches.specs.declared.line.TheConstants.{LINE_LIMIT}
 use Rattle.scp_batches.specs.Lines.{Gives, GivesMore, IsSplitInOneWay, front_of}
 use Rattle.scp_batches.specs.inside.Held.{IsHeld, EndsAt}

@@ -1,10 +1,11 @@
-//! The lines of an input, in the batches in which reads bring them.
+//! Splits an input into lines, in the batches in which reads bring them.
 //!
 //! What it promises:
-//! - each line that has ended is given just once, whole and in its order, whatever the sizes of the reads;
-//! - of a line that is longer than the limit a front is given, by which it is known as too long, and no more of it is held;
-//! - a last line without an end is never given;
-//! - an input has these lines and no others.
+//! - each line that has ended is given exactly once and in order, whatever the sizes of the reads; it is given whole, unless it is
+//!   longer than the limit;
+//! - of a line that is longer than the limit only a front is given and held, which is one byte longer than the limit;
+//! - a last line without a line end is never given;
+//! - an input can be split into lines in only one way.
 #![tactic(auto)]
 
 mod laws;

@@ -1,15 +1,16 @@
 //! A line of the input.
 ghost use Rattle.std.specs.Prelude.{◌≡◌, ◌≤◌, ◌<◌, ◌+◌, ◌↔◌, ◌++◌, IsTrue, length, OnOk, OnErr};
-ghost use Rattle.scp_log.specs.Log.{IsLine};
+ghost use Rattle.scp_live_log.specs.Log.{IsLine};
 ghost use Rattle.scp_batches.specs.Lines.{front_of};
 
 use std::alloc::AllocError;
 use std::marker::Model;
 
-/// The most bytes that a line may have, without its end: the longest message in digits, and its words (this project's profile).
+/// The most bytes of a line, without its line end (this project's profile). It covers the longest message in digits, and the words
+/// around it.
 pub const LINE_LIMIT: usize = 262_144;
 
-/// A line of the input, without its end: all of it, or of one that is too long the limit and one byte more.
+/// A line of the input, without its line end. If the line is longer than the limit, this is its first bytes: one more than the limit.
 #[derive(Debug, Drop)]
 pub struct Line {
     front: Vec<u8>,
@@ -17,7 +18,7 @@ pub struct Line {
 
 impl Model for Line {
     ghost use Rattle.std.specs.Prelude.{ℕ, List};
-    ghost use Rattle.scp_log.specs.Log.{IsLine};
+    ghost use Rattle.scp_live_log.specs.Log.{IsLine};
 
     ghost Value = { List ℕ };
 
@@ -27,7 +28,7 @@ impl Model for Line {
 }
 
 impl Line {
-    /// The line of this front.
+    /// The line with this front.
     pub(crate) fn new(front: Vec<u8>) -> Line
         requires { IsLine front.items }
         ensures { result ≡ front.items }
@@ -42,7 +43,7 @@ impl Line {
         self.front.len() > LINE_LIMIT
     }
 
-    /// Its bytes, of one that is too long the first of them.
+    /// The bytes of the line. Of a line that is too long, only the first bytes, one more than the limit.
     pub fn bytes(&self) -> &[u8]
         ensures bytes { result.now ≡ self.now }
         ensures line { IsLine result.now }
@@ -50,7 +51,7 @@ impl Line {
         self.front.as_slice()
     }
 
-    /// Its bytes, of one that is too long the first of them.
+    /// The bytes of the line. Of a line that is too long, only the first bytes, one more than the limit.
     pub fn into_bytes(self) -> Vec<u8>
         ensures bytes { result.items ≡ self }
         ensures line { IsLine result.items }
@@ -59,7 +60,7 @@ impl Line {
     }
 }
 
-/// Adds bytes to the front of a line, as far as a front goes.
+/// Adds bytes to the front of a line, until it has one byte more than the limit.
 pub(crate) fn add(front: &mut Vec<u8>, bytes: &[u8]) -> Result<(), AllocError>
     requires { length front.old.items ≤ LINE_LIMIT + 1 }
     ensures ok { OnOk result (front.new.items ≡ front_of (front.old.items ++ bytes.now)) }

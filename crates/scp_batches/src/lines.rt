@@ -1,6 +1,6 @@
-//! The lines of an input.
+//! The lines of an input, read in batches.
 ghost use Rattle.std.specs.Prelude.{◌≡◌, ◌≢◌, ◌≤◌, ◌<◌, ◌+◌, ◌⊎◌, ◌++◌, ◌∷◌, [], length, take, drop, OnOk, IfOk, IfErr, IfSome, IfNone, IsErrOf};
-ghost use Rattle.scp_log.specs.Log.{IsLine};
+ghost use Rattle.scp_live_log.specs.Log.{IsLine};
 ghost use Rattle.scp_device.specs.Device.{HasEnded, Fails};
 ghost use Rattle.scp_batches.specs.Lines.{front_of, Gives, GivesMore, IsRead};
 ghost use Rattle.scp_batches.specs.inside.Held.{IsHeld, EndsAt};
@@ -12,7 +12,7 @@ use std::alloc::{AllocError, Global};
 use std::marker::Model;
 use std::mem;
 
-/// The most bytes of a read.
+/// The most bytes of one read.
 const READ_LIMIT: usize = 65_536;
 
 /// Where the first line ends, if it ends.
@@ -23,7 +23,7 @@ fn line_end(bytes: &[u8]) -> Option<usize>
     bytes.iter().position(|byte| *byte == b'\n')
 }
 
-/// The line that ends behind these bytes, of which some are held.
+/// The line that ends after these bytes. Its earlier bytes are held.
 fn end_line(alloc: Global, held: &mut Vec<u8>, bytes: &[u8]) -> Result<Line, AllocError>
     requires held { IsHeld held.old.items }
     requires line { IsLine bytes.now }
@@ -36,7 +36,7 @@ fn end_line(alloc: Global, held: &mut Vec<u8>, bytes: &[u8]) -> Result<Line, All
     Ok(Line::new(front))
 }
 
-/// The lines that end in these bytes.
+/// The lines that end within these bytes.
 fn feed(alloc: Global, held: &mut Vec<u8>, bytes: &[u8]) -> Result<Vec<Line>, AllocError>
     requires { IsHeld held.old.items }
     ensures gives { IfOk result (λ lines. GivesMore held.old.items bytes.now lines.items held.new.items) }
@@ -54,7 +54,7 @@ fn feed(alloc: Global, held: &mut Vec<u8>, bytes: &[u8]) -> Result<Vec<Line>, Al
     Ok(lines)
 }
 
-/// What was read of an input: the line that hasn't ended is held.
+/// What was read of an input so far: the bytes of the line that hasn't ended are held.
 #[derive(Debug, Drop)]
 pub struct Lines {
     alloc: Global,
@@ -73,7 +73,7 @@ impl Model for Lines {
 }
 
 impl Lines {
-    /// Nothing was read.
+    /// Nothing was read yet.
     pub fn new(alloc: Global) -> Lines
         ensures { Gives [] [] result }
     {
@@ -83,15 +83,15 @@ impl Lines {
         }
     }
 
-    /// Reads once: the lines that end in what was read, of which there may be none; or `None` at the end of the input. Refused by
-    /// `Fault::Device`, where the reader failed, or by `Fault::NoMemory`; then it isn't known which lines come next.
+    /// Reads once. Returns the lines that end within the bytes that were read, which may be none, or `None` at the end of the input.
+    /// Refused by `Fault::Device` if the reader failed, or by `Fault::NoMemory`. After a refusal, it isn't known which lines come next.
     pub fn next<R: ScriptIn>(&mut self, reader: &mut R) -> Result<Option<Vec<Line>>, Fault>
         ensures read { IfOk result (λ next. IfSome next (λ lines. IsRead (R.left reader.old) self.old lines.items self.new (R.left reader.new))) }
         ensures ended { IfOk result (λ next. IfNone next (HasEnded (R.left reader.old) × (self.new ≡ self.old))) }
         ensures device { IsErrOf result Fault.Device → Fails (R.failures reader.old) (R.failures reader.new) }
         ensures cause { IfErr result (λ fault. (fault ≡ Fault.Device) ⊎ (fault ≡ Fault.NoMemory)) }
         ensures kept { OnOk result (R.failures reader.new ≡ R.failures reader.old) }
-        // A read that failed is never told as anything else.
+        // A failed read is always reported as `Fault::Device`.
         ensures hidden { IfErr result (λ fault. fault ≢ Fault.Device → R.failures reader.new ≡ R.failures reader.old) }
     {
         let mut buffer = [0u8; READ_LIMIT];

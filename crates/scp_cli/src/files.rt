@@ -1,4 +1,4 @@
-//! Files that are read, and what people and hosts are told of them.
+//! Files that are read, and what is reported of them to people and hosts.
 
 use scp_device::{SCRIPT_LIMIT, ScriptIn, read_script, write_text};
 use scp_prompt::{Cause, Failure, Stream, Unopened, status, write_failure};
@@ -6,14 +6,14 @@ use scp_types::Fault;
 use std::io::ErrorKind;
 use std::{fs, io};
 
-/// Tells people why a file failed, and answers the exit status.
+/// Reports to people why a file failed, and returns the exit status.
 pub fn failed(rt: &HostRuntime, path: &str, why: &str, failure: &Failure) -> u8 {
     let mut errors = Stream::new(rt.stderr());
     let _ = write_failure(rt.alloc(), &mut errors, path, &[], why, failure);
     status(failure)
 }
 
-/// The text of this input, or the exit status of what was told of it.
+/// The text of this input, or the exit status of the failure that was reported.
 fn text_of<R: ScriptIn + Cause>(
     rt: &HostRuntime,
     path: &str,
@@ -28,7 +28,7 @@ fn text_of<R: ScriptIn + Cause>(
     Err(failed(rt, path, input.cause(), &failure))
 }
 
-/// The text of the file at this path, or the exit status of what was told of it.
+/// The text of the file at this path, or the exit status of the failure that was reported.
 pub fn text_of_file(rt: &HostRuntime, path: &str) -> Result<Vec<u8>, u8> {
     match fs::open(rt, path) {
         Ok(file) => text_of(rt, path, &mut Stream::new(file)),
@@ -36,7 +36,7 @@ pub fn text_of_file(rt: &HostRuntime, path: &str) -> Result<Vec<u8>, u8> {
     }
 }
 
-/// Writes a text to the standard output, and answers 0, or 3 where that failed.
+/// Writes a text to the standard output, and returns 0, or 3 if that failed.
 pub fn told(rt: &HostRuntime, text: &str) -> u8 {
     match write_text(&mut Stream::new(io::writer(rt)), text) {
         Ok(()) => 0,
@@ -44,13 +44,13 @@ pub fn told(rt: &HostRuntime, text: &str) -> u8 {
     }
 }
 
-/// Writes a text to the standard error, and answers this status.
+/// Writes a text to the standard error, and returns this status.
 pub fn wrong(rt: &HostRuntime, text: &str, status: u8) -> u8 {
     let _ = write_text(&mut Stream::new(rt.stderr()), text);
     status
 }
 
-/// What failed where a file isn't opened.
+/// The failure of a file that can't be opened.
 pub fn failure_of(kind: ErrorKind) -> Failure {
     match kind {
         ErrorKind::OutOfMemory => Failure::NoMemory,
@@ -58,7 +58,7 @@ pub fn failure_of(kind: ErrorKind) -> Failure {
     }
 }
 
-/// Tells people why a file isn't opened, and answers the exit status.
+/// Reports to people why a file can't be opened, and returns the exit status.
 pub fn unopened_file(rt: &HostRuntime, path: &str, kind: ErrorKind) -> u8 {
     failed(rt, path, Unopened::new(kind).cause(), &failure_of(kind))
 }

@@ -1,8 +1,8 @@
-//! The program that people run: plays, checks and rewrites scripts, runs a node, and answers by its exit status.
+//! The program that people run. It plays, checks and rewrites scripts, runs a node, and returns an exit status.
 //!
-//! What it promises: it is safe and returns, and what it writes is what `serve` and `serve_plain` of `scp_command` promise, and of a node
-//! what `check_config` of `scp_begin`, `run_node` and `run_traced` of `scp_node` and `account_node` of `scp_node_account` promise. Which words ask for what, and the statuses of the whole program, are shown by
-//! tests. Not claimed: that a log's lock keeps other processes out.
+//! What it promises: it is safe and returns. What it writes is what `serve` and `serve_plain` of `scp_command` promise. For a node it is what
+//! `check_config` of `scp_live` promises, and `run_node`, `run_traced` and `account_node` of `scp_live_process`.
+//! Tests show which words ask for what, and the statuses of the whole program. Not claimed: that a log's lock keeps other processes out.
 #![tactic(auto)]
 
 mod files;
@@ -12,12 +12,11 @@ mod version;
 use crate::files::{failed, failure_of, text_of_file, told, unopened_file, wrong};
 use crate::sim::with_sim;
 use crate::version::VERSION;
-use scp_begin::{NoLog, check_config};
 use scp_command::{Order, serve, serve_plain};
 use scp_device::ScriptIn;
-use scp_log::{EventLog, FileLog, MemoryLog};
-use scp_node::{run_node, run_traced};
-use scp_node_account::account_node;
+use scp_live::{NoLog, check_config};
+use scp_live_log::{EventLog, FileLog, MemoryLog};
+use scp_live_process::{account_node, run_node, run_traced};
 use scp_prompt::{
     Asked, Cause, Failure, NodeAsked, NodeTask, Source, Stream, Task, Unasked, Unopened, Wanted,
     read_words, write_settled,
@@ -30,7 +29,7 @@ use std::sync::Wait;
 use std::thread::Threads;
 use std::{env, fs, io};
 
-/// Does what is asked, with this input.
+/// Does the task, with this input.
 fn done<T: Threads + Wait + Sync, R: ScriptIn + Cause>(
     rt: &HostRuntime,
     threads: &T,
@@ -52,7 +51,7 @@ fn done<T: Threads + Wait + Sync, R: ScriptIn + Cause>(
     serve(threads, alloc, order, input, &mut output, &mut errors)
 }
 
-/// The words, with this between them.
+/// The words, with this text between them.
 fn joined(alloc: Global, words: &[&str], between: &str) -> Result<String, AllocError> {
     let mut text = String::new(alloc);
     for (index, word) in words.iter().enumerate() {
@@ -64,7 +63,7 @@ fn joined(alloc: Global, words: &[&str], between: &str) -> Result<String, AllocE
     Ok(text)
 }
 
-/// What stands between the words of messages: each that is decoded is a line, and those of one that is encoded are its words.
+/// The text between the words of messages. Each message to decode is a line; the words of the message to encode are in one line.
 fn between(task: Task) -> &'static str {
     match task {
         Task::Encode(_) => " ",
@@ -72,7 +71,7 @@ fn between(task: Task) -> &'static str {
     }
 }
 
-/// Does what is asked, with the file of this path.
+/// Does the task, with the file at this path.
 fn with_file<T: Threads + Wait + Sync>(
     rt: &HostRuntime,
     threads: &T,
@@ -85,7 +84,7 @@ fn with_file<T: Threads + Wait + Sync>(
     }
 }
 
-/// Does what is asked.
+/// Does the task, with the input from its source.
 fn answer<T: Threads + Wait + Sync>(
     rt: &HostRuntime,
     threads: &T,
@@ -102,7 +101,7 @@ fn answer<T: Threads + Wait + Sync>(
     }
 }
 
-/// Writes the folder of a file to the disk, so that a crash can't take the file's name.
+/// Writes the folder of a file to the disk, so that a crash can't lose the file's name.
 fn sync_folder(rt: &HostRuntime, path: &str) -> io::Result<()> {
     let whole = fs::canonicalize(rt, path)?;
     match whole.parent() {
@@ -111,8 +110,8 @@ fn sync_folder(rt: &HostRuntime, path: &str) -> io::Result<()> {
     }
 }
 
-/// Opens the file of a log, which is made where it isn't there, and locks it. Another process's lock is `WouldBlock`. `None` for what is
-/// no plain file, as a pipe or a device: it isn't read.
+/// Opens the file of a log, or makes it, and locks it. If another process has locked it, the error is `WouldBlock`. `None` if it isn't a
+/// plain file, but a pipe or a device, for instance: then it isn't read.
 fn open_log(rt: &HostRuntime, path: &str) -> io::Result<Option<File>> {
     let file = OpenOptions::new()
         .read(true)
@@ -123,26 +122,26 @@ fn open_log(rt: &HostRuntime, path: &str) -> io::Result<Option<File>> {
         return Ok(None);
     }
     file.try_lock()?;
-    // (where it has anything, its folder was written before)
+    // (if it has any content, its folder was written before)
     if file.metadata()?.len() == 0 {
         sync_folder(rt, path)?;
     }
     Ok(Some(file))
 }
 
-/// Tells a host, and people, why there is no log or no trace, and answers the exit status.
+/// Reports to a host, and to people, why there is no log or no trace, and returns the exit status.
 fn without_file(rt: &HostRuntime, path: &str, why: &str, failure: &Failure) -> u8 {
     let _ = write_settled(&mut Stream::new(io::writer(rt)), failure);
     failed(rt, path, why, failure)
 }
 
-/// Tells a host, and people, why a file isn't opened, and answers the exit status.
+/// Reports to a host, and to people, why a file can't be opened, and returns the exit status.
 fn unopened(rt: &HostRuntime, path: &str, kind: ErrorKind) -> u8 {
     let _ = write_settled(&mut Stream::new(io::writer(rt)), &failure_of(kind));
     unopened_file(rt, path, kind)
 }
 
-/// Tells a host, and people, why a log isn't opened, and answers the exit status.
+/// Reports to a host, and to people, why a log can't be opened, and returns the exit status.
 fn unopened_log(rt: &HostRuntime, path: &str, kind: ErrorKind) -> u8 {
     if kind == ErrorKind::WouldBlock {
         let _ = told(rt, "fault 14 log is in use\n");
@@ -151,7 +150,7 @@ fn unopened_log(rt: &HostRuntime, path: &str, kind: ErrorKind) -> u8 {
     unopened(rt, path, kind)
 }
 
-/// Runs a node of this configuration, with this log, and with a trace, if it is to have one.
+/// Runs a node with this configuration and this log, and with a trace if there is one.
 fn run_with<L: EventLog + Drop>(
     rt: &HostRuntime,
     config: &[u8],
@@ -169,7 +168,7 @@ fn run_with<L: EventLog + Drop>(
     }
 }
 
-/// Runs a node of this configuration, with the log at this path.
+/// Runs a node with this configuration and the log at this path.
 fn run_with_file(rt: &HostRuntime, config: &[u8], path: &str, trace: Option<File>) -> u8 {
     match open_log(rt, path) {
         Ok(Some(file)) => run_with(rt, config, FileLog::new(file), trace),
@@ -178,7 +177,7 @@ fn run_with_file(rt: &HostRuntime, config: &[u8], path: &str, trace: Option<File
     }
 }
 
-/// Runs a node of this configuration, with the log at this path, if it is to have one.
+/// Runs a node with this configuration, and with the log at this path if there is one.
 fn run_logged(rt: &HostRuntime, config: &[u8], log: Option<&str>, trace: Option<File>) -> u8 {
     match log {
         None => run_with(rt, config, NoLog, trace),
@@ -186,8 +185,8 @@ fn run_logged(rt: &HostRuntime, config: &[u8], log: Option<&str>, trace: Option<
     }
 }
 
-/// Runs a node of this configuration, with the log and the trace at these paths, if it is to have them. A trace is made anew: nothing that is there is
-/// written over.
+/// Runs a node with this configuration, and with the log and the trace at these paths if there are any. The trace is a new file: an existing
+/// file is never overwritten.
 fn run_asked(rt: &HostRuntime, config: &[u8], log: Option<&str>, trace: Option<&str>) -> u8 {
     match trace {
         None => run_logged(rt, config, log, None),
@@ -202,8 +201,8 @@ fn run_asked(rt: &HostRuntime, config: &[u8], log: Option<&str>, trace: Option<&
     }
 }
 
-/// Writes the account of a node of this configuration, by the log at this path, which is read and left as it is: that of a node which runs is read
-/// as far as it goes.
+/// Writes the account of a node with this configuration, from the log at this path. The log is read and left as it is; the log of a running
+/// node is read as far as it goes.
 fn account_with(rt: &HostRuntime, config: &[u8], path: &str) -> u8 {
     match fs::read(rt, path) {
         Ok(bytes) => {
@@ -228,7 +227,7 @@ fn with_node(rt: &HostRuntime, asked: &NodeAsked<'_>) -> u8 {
     }
 }
 
-/// Does what the words of the command line ask for, and answers the exit status.
+/// Does what the words of the command line ask for, and returns the exit status.
 fn served<T: Threads + Wait + Sync>(
     rt: &HostRuntime,
     threads: &T,

@@ -1,16 +1,16 @@
-//! Simulates what is asked for.
+//! Runs the simulation that is asked for.
 
 use crate::files::{failed, text_of_file, told, unopened_file, wrong};
-use scp_findings::{
-    BadSets, Table, Told, ToldFault, bad_set_line, judging_of, sets_of, shrunk, stand_of, tell_run,
-    write_row,
-};
 use scp_prompt::{Failure, SimAsked, Stream, write_bytes};
+use scp_sim_findings::{
+    BadSets, Table, Told, ToldFault, add_stand, bad_set_line, judging_of, sets_of, shorten,
+    tell_run, write_row,
+};
 use std::alloc::AllocError;
 use std::fs::OpenOptions;
 use std::time::Instant;
 
-/// Tells people why nothing is told of a run, and answers the exit status.
+/// Reports to people why nothing is shown of a run, and returns the exit status.
 fn unsimulated(rt: &HostRuntime, asked: &SimAsked<'_>, fault: ToldFault) -> u8 {
     let path = match asked.sets {
         Some(path) => path,
@@ -24,20 +24,7 @@ fn unsimulated(rt: &HostRuntime, asked: &SimAsked<'_>, fault: ToldFault) -> u8 {
     }
 }
 
-/// The same run, with fewer lines of its script, where something is found in it.
-fn shrink(rt: &HostRuntime, asked: &SimAsked<'_>, run: &mut Told) -> Result<(), AllocError> {
-    let Some(finding) = run.finding else {
-        return Ok(());
-    };
-    let judging = judging_of(&asked.plan);
-    if let Some(script) = shrunk(rt.alloc(), run.script.as_slice(), finding, &judging)? {
-        writeln!(run.text, "shrunk to {} bytes", script.len())?;
-        run.script = script;
-    }
-    Ok(())
-}
-
-/// Writes the script of a run into a file that isn't there yet, and answers the exit status.
+/// Writes the script of a run into a file that doesn't exist yet, and returns the exit status.
 fn keep(rt: &HostRuntime, path: &str, run: &Told) -> u8 {
     match OpenOptions::new()
         .write(true)
@@ -52,7 +39,7 @@ fn keep(rt: &HostRuntime, path: &str, run: &Told) -> u8 {
     }
 }
 
-/// Tells one run, and keeps its script.
+/// Shows one run, and keeps its script if it is asked to.
 fn tell(rt: &HostRuntime, asked: &SimAsked<'_>, run: &Told) -> u8 {
     let status = match asked.script {
         Some(path) => keep(rt, path, run),
@@ -67,17 +54,6 @@ fn tell(rt: &HostRuntime, asked: &SimAsked<'_>, run: &Told) -> u8 {
     }
 }
 
-/// Adds where the nodes stand, and what they wait for, where not all slots were closed.
-fn add_stand(rt: &HostRuntime, asked: &SimAsked<'_>, run: &mut Told) -> Result<(), AllocError> {
-    if run.closed >= asked.plan.slots {
-        return Ok(());
-    }
-    match stand_of(rt.alloc(), run.script.as_slice())? {
-        Some(text) => run.text.push_str(text.as_str()),
-        None => Ok(()),
-    }
-}
-
 /// One run.
 fn one(rt: &HostRuntime, asked: &SimAsked<'_>) -> Result<u8, AllocError> {
     let mut run = match tell_run(rt.alloc(), &asked.plan, asked.seeds.from) {
@@ -85,13 +61,13 @@ fn one(rt: &HostRuntime, asked: &SimAsked<'_>) -> Result<u8, AllocError> {
         Err(fault) => return Ok(unsimulated(rt, asked, fault)),
     };
     if asked.shrink {
-        shrink(rt, asked, &mut run)?;
+        shorten(rt.alloc(), &mut run, &judging_of(&asked.plan))?;
     }
-    add_stand(rt, asked, &mut run)?;
+    add_stand(rt.alloc(), &mut run, &asked.plan)?;
     Ok(tell(rt, asked, &run))
 }
 
-/// Tells people how far the runs are and what they came to so far, once a second. Answers for which second.
+/// Shows people how far the runs are and what they came to so far, once a second. Returns the second for which it did.
 fn pace(
     rt: &HostRuntime,
     began: &Instant,
@@ -114,7 +90,7 @@ fn pace(
     Ok(seconds)
 }
 
-/// Tells the line of a run in which something is found.
+/// Shows the line of a run in which something is found.
 fn tell_row(
     rt: &HostRuntime,
     asked: &SimAsked<'_>,
@@ -129,7 +105,7 @@ fn tell_row(
     Ok(told(rt, row.as_str()))
 }
 
-/// One run for each seed, and their table.
+/// One run for each seed, and the table of the runs.
 fn many(rt: &HostRuntime, asked: &SimAsked<'_>) -> Result<u8, AllocError> {
     let all = asked
         .seeds
@@ -162,7 +138,7 @@ fn many(rt: &HostRuntime, asked: &SimAsked<'_>) -> Result<u8, AllocError> {
     Ok(status)
 }
 
-/// Puts the quorum sets of a file into the plan. Answers the exit status of what was told where that can't be.
+/// Puts the quorum sets of a file into the plan. If that can't be done, returns the exit status of the failure that was reported.
 fn with_sets(rt: &HostRuntime, asked: &mut SimAsked<'_>, path: &str) -> Result<(), u8> {
     let text = text_of_file(rt, path)?;
     match sets_of(rt.alloc(), text.as_slice()) {
@@ -175,7 +151,7 @@ fn with_sets(rt: &HostRuntime, asked: &mut SimAsked<'_>, path: &str) -> Result<(
     }
 }
 
-/// Does what is asked of a simulation, and answers the exit status.
+/// Does what is asked of a simulation, and returns the exit status.
 pub fn with_sim(rt: &HostRuntime, mut asked: SimAsked<'_>) -> Result<u8, AllocError> {
     if let Some(path) = asked.sets {
         if let Err(status) = with_sets(rt, &mut asked, path) {

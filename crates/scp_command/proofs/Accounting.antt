@@ -1,16 +1,18 @@
 -- What is answered to a script of which the account is asked for.
-use Rattle.std.proofs.Common.{◌≡◌, ◌∙◌, inl, inr, refl, ℕ, List, map, string_bytes}
+use Rattle.std.proofs.Common.{◌≡◌, ◌∙◌, inl, inr, refl, ℕ, false, List, [], map, string_bytes}
 use Rattle.std.specs.Prelude.{◌≢◌, ◌⊎◌, All, None, Result, Ok, Err, IfErr, IfOk}
 use Rattle.scp_types.specs.declared.fault.Fault.{Fault}
 use Rattle.scp_types.specs.declared.fault.Fault.TheVariants as faults
 use Rattle.scp_gather.specs.Kv.{NodeReport}
+use Rattle.scp_network.specs.Heard.{Nodes}
 use Rattle.scp_network.specs.Network.{NetworkView}
 use Rattle.scp_script.specs.declared.command.Command.{Command}
-use Rattle.scp_silent.specs.scp_line.specs.declared.playing.PlayFault.{PlayFault}
-use Rattle.scp_silent.specs.scp_line.specs.Nodes.{IsStoppedAt}
+use Rattle.scp_notices.specs.scp_line.specs.declared.playing.PlayFault.{PlayFault}
 use Rattle.scp_threaded_script.specs.Reported.{AreNodesReported}
 use Rattle.scp_account.specs.scp_kept.specs.declared.happening.Kept.{Kept}
 use Rattle.scp_account.specs.scp_kept.specs.Kept.{IsKept}
+use Rattle.scp_account.specs.scp_kept.specs.Watching.{WatchView, keeping, RunIsKept}
+use Rattle.scp_account.specs.Account.{account_text}
 use Rattle.scp_account.specs.Fits.{FitReports, FitsNode}
 use Rattle.scp_account.specs.Gathered.{gathered_text as accounts_text}
 use Rattle.scp_prompt.specs.declared.asked.Mode.{Mode}
@@ -19,36 +21,43 @@ use Rattle.scp_prompt.specs.declared.asked.Shape.{Shape}
 use Rattle.scp_prompt.specs.declared.asked.Task.TheVariants.{Run, Account}
 use Rattle.scp_prompt.specs.declared.failure.Failure.{Failure}
 use Rattle.scp_prompt.specs.declared.failure.Failure.TheVariants.{NoMemory}
-use Rattle.scp_trace_lint.specs.declared.reading.Script.{Script}
-use Rattle.scp_trace_lint.specs.Lines.{IsSaid}
-use Rattle.scp_silent.specs.declared.notice.Notice.{Notice}
-use Rattle.scp_silent.specs.Run.{IsRan}
-use Rattle.scp_silent.specs.Texts.{notices_text}
-use Rattle.scp_silent.specs.Threads.{IsRanInThreads}
+use Rattle.scp_script_check.specs.declared.reading.Script.{Script}
+use Rattle.scp_script_check.specs.Lines.{IsSaid}
+use Rattle.scp_notices.specs.declared.notice.Notice.{Notice}
+use Rattle.scp_notices.specs.Run.{IsRan, IsWatched, Shows}
+use Rattle.scp_notices.specs.Texts.{notices_text}
+use Rattle.scp_notices.specs.Threads.{IsRanInThreads}
 use Rattle.scp_command.specs.declared.answer.Answer.{Answer}
 use Rattle.scp_command.specs.declared.given.Given.{Given}
 use Rattle.scp_command.specs.Given.{IsGiven, stop_of}
 use Rattle.scp_command.specs.Answers.{placed_notice, IsAccountAnswer, IsThreadsAccount}
 use Rattle.scp_command.specs.Causes.{Fails}
-use Rattle.scp_command.specs.inside.Runs.{IsAccountOf, IsUntold, IsUntoldOf}
+use Rattle.scp_command.specs.inside.Runs.{IsUntold, IsUntoldOf}
+
+-- what was kept of a run whose notices are told
+pub kept_of : RunIsKept → (commands : List Command) (lines : List ℕ) (network : NetworkView) (notices : List Notice) (shows : Shows commands lines network notices) (old new : WatchView) → old.kept ≡ [] → new.lacks_memory ≡ false → IsWatched keeping commands lines network notices shows old new
+    → (is : IsKept commands network new.kept) × (is.played.heard ≡ shows.run.played.heard)
+kept_of law commands lines network notices shows old new none calm watched =
+    let kept = law commands lines network old new calm none watched.run in
+    (kept.0, kept.1 ∙ watched.one)
 
 -- of a script that was played one step after another
-pub account_answer : (input : List ℕ) (given : Given) (script : Script) (network : NetworkView) (notices : List Notice) (text : List ℕ) (r : Result Answer Failure) → IsGiven input given → IsRan given.text.items script network notices → IsAccountOf script.commands.items text
-    → IfOk r (λ answer. answer.text.items ≡ text) → IfOk r (λ answer. string_bytes answer.notices ≡ notices_text (map (placed_notice given.expanded.lines) notices)) → IfOk r (IsAccountAnswer input)
-account_answer input given script network notices text (Ok answer) g ran made same told = record {
+pub account_answer : (input : List ℕ) (given : Given) (script : Script) (network : NetworkView) (notices : List Notice) (kept : List Kept) (text : List ℕ) (r : Result Answer Failure) → IsGiven input given → (ran : IsRan given.text.items script network notices) → (is : IsKept script.commands.items network kept) × (is.played.heard ≡ ran.shows.run.played.heard)
+    → text ≡ account_text network.nodes kept → IfOk r (λ answer. answer.text.items ≡ text) → IfOk r (λ answer. string_bytes answer.notices ≡ notices_text (map (placed_notice given.expanded.lines) notices)) → IfOk r (IsAccountAnswer input)
+account_answer input given script network notices kept text (Ok answer) g ran made is same told = record {
   given = given;
   is_given = g;
   script = script;
   network = network;
   notices = notices;
   ran = ran;
-  again = made.0;
-  kept = made.1;
-  is_kept = made.2;
-  account = same ∙ made.3;
+  kept = kept;
+  is_kept = made.0;
+  one = made.1;
+  account = same ∙ is;
   told = told;
 }
-account_answer input given script network notices text (Err failure) g ran made same told = tt
+account_answer input given script network notices kept text (Err failure) g ran made is same told = tt
 
 -- of one whose nodes ran in threads
 pub threads_account : (input : List ℕ) (given : Given) (script : Script) (nodes : List NodeReport) (notices : List Notice) (text : List ℕ) (r : Result Answer Failure) → IsGiven input given → IsRanInThreads given.text.items script nodes notices → text ≡ accounts_text script.commands.items nodes
@@ -82,19 +91,11 @@ told_so {P} fault failure stop want holds = elim (is_want fault.fault) [
   | inr other ↦ inr (holds other, stop other)
 ]
 
--- a line of a script wasn't done
-pub stop_untold : (commands : List Command) (fault : PlayFault) (failure : Failure) → (fault.fault ≢ faults.NoMemory → failure ≡ stop_of None fault) → (fault.fault ≡ faults.NoMemory → failure ≡ NoMemory) → (before : List Command) × IsStoppedAt commands before fault → IsUntold commands failure
-stop_untold commands fault failure stop want stopped = elim (told_so fault failure stop want (λ other. stopped)) [
-  | inl e ↦ inl e
-  | inr is ↦ inr (inl (is.0.0, fault, is.0.1, is.1))
-]
-
 -- nodes have no account
-pub nodes_untold : (commands : List Command) (network : NetworkView) (kept : List Kept) (fault : PlayFault) (failure : Failure) → (fault.fault ≢ faults.NoMemory → failure ≡ stop_of None fault) → (fault.fault ≡ faults.NoMemory → failure ≡ NoMemory) → IsKept commands network kept
-    → (All FitsNode network.nodes → fault.fault ≡ faults.NoMemory) → IsUntold commands failure
-nodes_untold commands network kept fault failure stop want is only = elim (told_so {P = ¬ (All FitsNode network.nodes)} fault failure stop want (λ other. λ fits. other (only fits))) [
+pub nodes_untold : (nodes : Nodes) (fault : PlayFault) (failure : Failure) → (fault.fault ≢ faults.NoMemory → failure ≡ stop_of None fault) → (fault.fault ≡ faults.NoMemory → failure ≡ NoMemory) → (All FitsNode nodes → fault.fault ≡ faults.NoMemory) → IsUntold nodes failure
+nodes_untold nodes fault failure stop want only = elim (told_so {P = ¬ (All FitsNode nodes)} fault failure stop want (λ other. λ fits. other (only fits))) [
   | inl e ↦ inl e
-  | inr unfit ↦ inr (inr (network, kept, fault, is, unfit.0, unfit.1))
+  | inr unfit ↦ inr (fault, unfit.0, unfit.1)
 ]
 
 -- what threads left has none
@@ -111,24 +112,23 @@ not_run mode shape input failure (inl bad) = inl bad
 not_run mode shape input failure (inr stopped) = inr (inl stopped)
 
 -- so does what follows the play
-pub not_told : (input : List ℕ) (given : Given) (commands : List Command) (lines : List ℕ) (failure : Failure) → IsGiven input given → IsSaid given.text.items commands lines → IsUntold commands failure → Fails (Account Serial) input failure
-not_told input given commands lines failure g said (inl e) = inl (inl e)
-not_told input given commands lines failure g said (inr (inl stop)) = inr (inr (inl (record { given = given; is_given = g; commands = commands; lines = lines; said = said; before = stop.0; fault = stop.1; stopped = stop.2; of_stop = stop.3 })))
-not_told input given commands lines failure g said (inr (inr unfit)) = inr (inr (inr (record {
+pub not_told : (input : List ℕ) (given : Given) (commands : List Command) (lines : List ℕ) (network : NetworkView) (kept : List Kept) (failure : Failure) → IsGiven input given → IsSaid given.text.items commands lines → IsKept commands network kept → IsUntold network.nodes failure → Fails (Account Serial) input failure
+not_told input given commands lines network kept failure g said is (inl e) = inl (inl e)
+not_told input given commands lines network kept failure g said is (inr unfit) = inr (inr (record {
   given = given;
   is_given = g;
   commands = commands;
   lines = lines;
   said = said;
-  fault = unfit.2;
-  of_stop = unfit.5;
-  unfit = inl (unfit.0, unfit.1, unfit.3, unfit.4);
-})))
+  fault = unfit.0;
+  of_stop = unfit.2;
+  unfit = inl (network, kept, is, unfit.1);
+}))
 
 -- and in threads
 pub threads_not_told : (input : List ℕ) (given : Given) (commands : List Command) (lines : List ℕ) (nodes : List NodeReport) (failure : Failure) → IsGiven input given → IsSaid given.text.items commands lines → AreNodesReported commands nodes → IsUntoldOf commands nodes failure → Fails (Account Threads) input failure
 threads_not_told input given commands lines nodes failure g said reported (inl e) = inl (inl e)
-threads_not_told input given commands lines nodes failure g said reported (inr unfit) = inr (inr (inr (record {
+threads_not_told input given commands lines nodes failure g said reported (inr unfit) = inr (inr (record {
   given = given;
   is_given = g;
   commands = commands;
@@ -137,7 +137,7 @@ threads_not_told input given commands lines nodes failure g said reported (inr u
   fault = unfit.0;
   of_stop = unfit.2;
   unfit = inr (nodes, reported, unfit.1);
-})))
+}))
 
 -- want of memory is one reason
 pub want_fails : (mode : Mode) (input : List ℕ) (r : Result Answer Failure) → IfErr r (λ failure. failure ≡ NoMemory) → IfErr r (Fails (Account mode) input)

@@ -1,6 +1,6 @@
 -- What a command answers to a script that is played is of nodes that hold their headlines.
 use Rattle.std.proofs.Common.{ℕ, List}
-use Rattle.scp_silent.specs.scp_line.specs.Headlines.{PlayingKeepsHeadlines, ReportingKeepsHeadlines}
+use Rattle.scp_notices.specs.scp_line.specs.Headlines.{PlayingKeepsHeadlines, ReportingKeepsHeadlines}
 use Rattle.scp_prompt.specs.declared.asked.Mode.{Mode}
 use Rattle.scp_prompt.specs.declared.asked.Mode.TheVariants.{Serial, Threads}
 use Rattle.scp_prompt.specs.declared.asked.Shape.{Shape}
@@ -11,7 +11,7 @@ use Rattle.scp_command.specs.Answers.{Answers, IsRunAnswer, IsThreadsAnswer, IsA
 
 run_headlined : PlayingKeepsHeadlines → (shape : Shape) (input : List ℕ) (answer : Answer) → IsRunAnswer shape input answer → IsHeadlinedRun shape input answer
 run_headlined law shape input answer is =
-    let played = is.ran.shows.played in
+    let played = is.ran.shows.run.played in
     record {
       given = is.given;
       is_given = is.is_given;
@@ -44,10 +44,10 @@ account_headlined law input answer is =
       commands = is.script.commands.items;
       lines = is.script.lines.items;
       said = is.ran.said;
-      network = is.again;
+      network = is.network;
       kept = is.kept;
       is_kept = is.is_kept;
-      each = law is.script.commands.items played.heard is.again.nodes played.played;
+      each = law is.script.commands.items played.heard is.network.nodes played.played;
       account = is.account;
     }
 

@@ -6,11 +6,11 @@ use Rattle.scp_gather.specs.Kv.{NodeReport}
 use Rattle.scp_network.specs.Network.{NetworkView}
 use Rattle.scp_prompt.specs.declared.asked.Shape.{Shape}
 use Rattle.scp_prompt.specs.declared.failure.Failure.{Failure}
-use Rattle.scp_trace_lint.specs.declared.reading.Script.{Script}
-use Rattle.scp_silent.specs.declared.notice.Notice.{Notice}
-use Rattle.scp_silent.specs.Run.{IsRan}
-use Rattle.scp_silent.specs.Texts.{notices_text}
-use Rattle.scp_silent.specs.Threads.{IsRanInThreads}
+use Rattle.scp_script_check.specs.declared.reading.Script.{Script}
+use Rattle.scp_notices.specs.declared.notice.Notice.{Notice}
+use Rattle.scp_notices.specs.Run.{IsRan}
+use Rattle.scp_notices.specs.Texts.{notices_text}
+use Rattle.scp_notices.specs.Threads.{IsRanInThreads}
 use Rattle.scp_command.specs.declared.answer.Answer.{Answer}
 use Rattle.scp_command.specs.declared.given.Given.{Given}
 use Rattle.scp_command.specs.Given.{IsGiven}

@@ -4,9 +4,9 @@ use Rattle.std.specs.Prelude.{Result, Ok, Err, IfOk}
 use Rattle.scp_types.specs.declared.fault.Fault.{Fault}
 use Rattle.scp_types.specs.declared.fault.Fault.TheVariants as faults
 use Rattle.scp_prompt.specs.declared.failure.Failure.{Failure}
-use Rattle.scp_picture.specs.scp_trace_run.specs.declared.depth.Depth.{Depth}
-use Rattle.scp_picture.specs.scp_trace_run.specs.declared.playing.Traced.{Traced}
-use Rattle.scp_picture.specs.scp_trace_run.specs.Traced.{IsTraced}
+use Rattle.scp_draw.specs.scp_trace.specs.declared.depth.Depth.{Depth}
+use Rattle.scp_draw.specs.scp_trace.specs.declared.playing.Traced.{Traced}
+use Rattle.scp_draw.specs.scp_trace.specs.Traced.{IsTraced}
 use Rattle.scp_command.specs.declared.plain.Telling.{Telling}
 use Rattle.scp_command.specs.declared.plain.Telling.TheVariants.{Whole, Part}
 use Rattle.scp_command.specs.inside.Plain.{IsRunTelling, IsTellingOf}

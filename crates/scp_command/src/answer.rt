@@ -7,14 +7,14 @@ use std::alloc::Global;
 /// What a command makes of its input.
 #[derive(Debug, Drop)]
 pub struct Answer {
-    /// What goes to the output.
+    /// The bytes for the output.
     pub text: Vec<u8>,
-    /// What is to be noticed of a run, a line each.
+    /// The notices of a run, one line each.
     pub notices: String,
 }
 
 impl Answer {
-    /// An answer without notices.
+    /// An answer made of a text, without notices.
     pub fn of_text(alloc: Global, text: String) -> Answer
         ensures { IsJust (string_bytes text) result }
     {
@@ -24,7 +24,7 @@ impl Answer {
         }
     }
 
-    /// An answer of bytes, without notices.
+    /// An answer made of bytes, without notices.
     pub fn of_bytes(alloc: Global, text: Vec<u8>) -> Answer
         ensures { IsJust text.items result }
     {

@@ -1,73 +1,49 @@
 //! Scripts in their other form, and scripts of one slot.
 ghost use Rattle.std.specs.Prelude.{◌≡◌, ◌≤◌, ◌⊎◌, ℕ, List, IfOk, IfErr, false, length, string_bytes};
-ghost use Rattle.scp_shorthand.specs.Hexing.{IsNotHexed};
-ghost use Rattle.scp_slot_text.specs.Scripts.{IsSlotHex, IsSlotText};
-ghost use Rattle.scp_slot_script.specs.declared.script.Script.{Script as SlotScript};
-ghost use Rattle.scp_slot_script.specs.Answers.{IsPlayed};
-ghost use Rattle.scp_slot_script.specs.Serving.{IsScriptFault};
-ghost use Rattle.scp_command.specs.Given.{IsOfRefusal, IsAtLine};
+ghost use Rattle.scp_script_short.specs.Hexing.{IsNotHexed};
+ghost use Rattle.scp_script_text.specs.Scripts.{IsScriptOf};
+ghost use Rattle.scp_script_slot.specs.declared.script.Script.{Script as SlotScript};
+ghost use Rattle.scp_script_slot.specs.Answers.{IsPlayed};
+ghost use Rattle.scp_script_slot.specs.Serving.{IsScriptFault};
+ghost use Rattle.scp_command.specs.Given.{IsAtLine};
 ghost use Rattle.scp_command.specs.Answers.{IsJust, IsSlotAnswer, Answers, lines_of};
-ghost use Rattle.scp_command.specs.Causes.{IsOfSlotRefusal, IsNoSlotDigits, IsNoHexBy, Fails};
+ghost use Rattle.scp_command.specs.Causes.{IsNoSlotDigits, IsNoHexBy, Fails};
 
 use crate::answer::Answer;
-use crate::given::{SCRIPT_LIMIT, of_shorthand};
-use scp_prompt::{BadWord, Failure, Task};
-use scp_rewrite::{Form, RewriteError, ScriptRefusal, rewrite};
-use scp_shorthand::{HexError, hex};
-use scp_slot_script::{play, read_slot_script, reason_of};
-use scp_slot_text::{SlotError, SlotRefusal, is_slot_script, slot_hex, slot_text};
+use crate::given::SCRIPT_LIMIT;
+use scp_device::{BadLine, BadWord, ReadFault};
+use scp_prompt::{Failure, Task};
+use scp_script_short::{HexError, hex};
+use scp_script_slot::{play, read_slot_script, reason_of};
+use scp_script_text::{Form, Kind, is_slot_script, rewrite};
 use scp_types::Fault;
 use std::alloc::Global;
 
-/// The failure of a word that has no other form.
-fn of_refusal(refused: ScriptRefusal) -> Failure
-    ensures { IsOfRefusal refused result }
-{
-    Failure::Word(BadWord {
-        line: refused.line,
-        word: refused.refusal.word,
-        expected: refused.refusal.expected.text(),
-        number: None,
-    })
-}
-
-/// The same, in a script of one slot.
-fn of_slot_refusal(refused: SlotRefusal) -> Failure
-    ensures { IsOfSlotRefusal refused result }
-{
-    Failure::Word(BadWord {
-        line: refused.line,
-        word: refused.refusal.word,
-        expected: refused.refusal.expected.text(),
-        number: None,
-    })
-}
-
-/// Why a script isn't written in digits.
+/// Why a script isn't written in hex digits.
 fn of_hex(error: HexError) -> Failure
     ensures { (input : List ℕ) → IsNotHexed input error → IsNoHexBy false input result }
 {
     match error {
         HexError::NoMemory => Failure::NoMemory,
         HexError::TooLong => Failure::TooLong(SCRIPT_LIMIT),
-        HexError::Short(refused) => of_shorthand(refused),
-        HexError::Text(refused) => of_refusal(refused),
+        HexError::Short(bad) => Failure::Word(bad),
+        HexError::Text(bad) => Failure::Word(bad),
     }
 }
 
-/// The digits of a script of one slot.
+/// The form in hex digits of a script of one slot.
 fn slot_digits(alloc: Global, text: &[u8]) -> Result<Vec<u8>, Failure>
-    ensures written { IfOk result (λ digits. IsSlotHex text.now digits.items) }
+    ensures written { IfOk result (λ digits. IsScriptOf Kind.Slot Form.Hex text.now digits.items) }
     ensures cause { IfErr result (IsNoSlotDigits text.now) }
 {
-    match slot_hex(alloc, text) {
+    match rewrite(alloc, Kind::Slot, Form::Hex, text) {
         Ok(digits) => Ok(digits),
-        Err(SlotError::NoMemory) => Err(Failure::NoMemory),
-        Err(SlotError::Refused(refused)) => Err(of_slot_refusal(refused)),
+        Err(ReadFault::Bad(bad)) => Err(Failure::Word(bad)),
+        Err(_) => Err(Failure::NoMemory),
     }
 }
 
-/// A script with digits in place of text.
+/// A script with hex digits in place of text.
 pub fn in_digits(alloc: Global, text: &[u8]) -> Result<Answer, Failure>
     ensures answer { IfOk result (Answers Task.Hex text.now) }
     ensures cause { IfErr result (Fails Task.Hex text.now) }
@@ -82,18 +58,18 @@ pub fn in_digits(alloc: Global, text: &[u8]) -> Result<Answer, Failure>
     }
 }
 
-/// A script of one slot with text in place of digits.
+/// A script of one slot with text in place of hex digits.
 fn slot_as_text(alloc: Global, text: &[u8]) -> Result<Answer, Failure>
-    ensures answer { IfOk result (λ answer. (out : List ℕ) × IsSlotText text.now out × IsJust out answer) }
+    ensures answer { IfOk result (λ answer. (out : List ℕ) × IsScriptOf Kind.Slot Form.Text text.now out × IsJust out answer) }
     ensures cause { IfErr result (λ failure. failure ≡ Failure.NoMemory) }
 {
-    match slot_text(alloc, text) {
+    match rewrite(alloc, Kind::Slot, Form::Text, text) {
         Ok(out) => Ok(Answer::of_bytes(alloc, out)),
         Err(_) => Err(Failure::NoMemory),
     }
 }
 
-/// A script with text in place of digits.
+/// A script with text in place of hex digits.
 pub fn as_text(alloc: Global, text: &[u8]) -> Result<Answer, Failure>
     ensures answer { IfOk result (Answers Task.Text text.now) }
     ensures cause { IfErr result (Fails Task.Text text.now) }
@@ -101,15 +77,15 @@ pub fn as_text(alloc: Global, text: &[u8]) -> Result<Answer, Failure>
     if is_slot_script(text) {
         return slot_as_text(alloc, text);
     }
-    match rewrite(alloc, Form::Text, text) {
+    match rewrite(alloc, Kind::Nodes, Form::Text, text) {
         Ok(out) => Ok(Answer::of_bytes(alloc, out)),
-        Err(RewriteError::NoMemory) => Err(Failure::NoMemory),
-        Err(RewriteError::Refused(refused)) => Err(of_refusal(refused)),
+        Err(ReadFault::Bad(bad)) => Err(Failure::Word(bad)),
+        Err(_) => Err(Failure::NoMemory),
     }
 }
 
-/// What a machine answers to the script of one slot, in digits. `Fault::BadScript` names its first bad line; any other refusal is want of
-/// memory.
+/// What a slot's machine answers to the script of one slot, in hex digits. `Fault::BadScript` names the first bad line. Every other refusal
+/// is out of memory.
 pub fn played_slot(alloc: Global, digits: &[u8]) -> Result<String, Fault>
     ensures answer { IfOk result (λ text. (script : SlotScript) × IsPlayed script (string_bytes text)) }
     ensures cause { IfErr result (IsScriptFault digits.now) }
@@ -121,7 +97,7 @@ pub fn played_slot(alloc: Global, digits: &[u8]) -> Result<String, Fault>
     }
 }
 
-/// How many words a line of a text has.
+/// The number of words of a line of a text.
 fn count_of_words(text: &[u8], line: usize) -> usize {
     match text
         .split(|byte| *byte == b'\n')
@@ -132,7 +108,7 @@ fn count_of_words(text: &[u8], line: usize) -> usize {
     }
 }
 
-/// The place in the input of a word of the digits: an envelope has more words as text, and the set stands behind it.
+/// The place in the input of a word of the hex digits. As text an envelope has more words, and the set comes after it.
 fn place_in_input(input: &[u8], digits: &[u8], line: usize, word: usize) -> usize {
     let more = count_of_words(input, line).saturating_sub(count_of_words(digits, line));
     if word > 2 {
@@ -142,17 +118,18 @@ fn place_in_input(input: &[u8], digits: &[u8], line: usize, word: usize) -> usiz
     }
 }
 
-/// The failure of a bad line of a script of one slot, by its first bad word, unless memory ran out for that.
+/// The failure of a bad line of a script of one slot: its first bad word, or the line alone if memory ran out for that.
 fn of_slot_line(alloc: Global, input: &[u8], digits: &[u8], line: usize) -> Failure
     ensures { IsAtLine line result }
 {
     match reason_of(alloc, digits, line) {
-        Ok(reason) => Failure::Word(BadWord {
-            line,
-            word: place_in_input(input, digits, line, reason.word),
-            expected: reason.expected,
-            number: None,
-        }),
+        Ok(bad) => {
+            let word = place_in_input(input, digits, line, bad.word);
+            Failure::Word(BadLine {
+                line,
+                bad: BadWord { word, ..bad },
+            })
+        }
         Err(_) => Failure::Line(line),
     }
 }
@@ -167,7 +144,7 @@ fn of_slot(alloc: Global, input: &[u8], digits: &[u8], fault: Fault) -> Failure
     }
 }
 
-/// What a machine answers to the script of one slot, in digits or as text.
+/// What a slot's machine answers to the script of one slot, in hex digits or as text.
 pub fn slot(alloc: Global, text: &[u8]) -> Result<Answer, Failure>
     ensures answer { IfOk result (IsSlotAnswer text.now) }
     ensures cause { IfErr result (Fails Task.Slot text.now) }

@@ -1,32 +1,33 @@
-//! Scripts that people give: in digits, as text, with shorthand.
+//! Scripts that people give: in hex digits, as text, and with shorthands.
 ghost use Rattle.std.specs.Prelude.{◌≡◌, ◌≢◌, ℕ, List, [], All, map, IfOk, IfErr};
 ghost use Rattle.scp_script.specs.Script.{AreAdmitted};
 ghost use Rattle.scp_script.specs.Nodes.{NamesNodes};
-ghost use Rattle.scp_trace_lint.specs.Lines.{IsSaid};
-ghost use Rattle.scp_command.specs.Given.{IsGiven, placed, IsOfShorthand, IsOfReason, IsOfBad, stop_of};
+ghost use Rattle.scp_script_check.specs.Lines.{IsSaid};
+ghost use Rattle.scp_command.specs.Given.{IsGiven, placed, bad_of, stop_of};
 ghost use Rattle.scp_command.specs.Causes.{IsNoScript};
-ghost use Rattle.scp_command.specs.inside.Given.{IsOfLint, IsStartFault};
+ghost use Rattle.scp_command.specs.inside.Given.{read_failure, unread_script, IsStartFault};
 
-use scp_prompt::{BadWord, Failure, Stop};
-use scp_shorthand::{Expanded, LineRefusal, expand};
-use scp_silent::PlayFault;
-use scp_trace_lint::{BadLine, LintFault, Reason, Script, read};
+use scp_device::{BadLine, ReadFault};
+use scp_notices::PlayFault;
+use scp_prompt::{Failure, Stop};
+use scp_script_check::{Script, read};
+use scp_script_short::{Expanded, expand};
 use scp_types::Fault;
 use std::alloc::{AllocError, Global};
 
 /// The most bytes of a script (this project's profile).
 pub const SCRIPT_LIMIT: usize = 1_048_576;
 
-/// A script whose shorthands were made into the lines that they say.
+/// A script whose shorthands were expanded into their lines.
 #[derive(Drop)]
 pub struct Given {
-    /// Its lines, with the lines of the input that they are of.
+    /// Its lines, each with the line of the input from which it comes.
     pub expanded: Expanded,
     /// Its bytes.
     pub text: Vec<u8>,
 }
 
-/// The script that an input is.
+/// The script that an input is. Refused if its shorthands weigh too much, or if it is out of memory.
 pub fn given_by(alloc: Global, text: &[u8]) -> Result<Given, Failure>
     ensures given { IfOk result (IsGiven text.now) }
     ensures cause { IfErr result (IsStartFault text.now) }
@@ -42,34 +43,18 @@ pub fn given_by(alloc: Global, text: &[u8]) -> Result<Given, Failure>
     }
 }
 
-/// The failure of a shorthand that is refused.
-pub fn of_shorthand(refused: LineRefusal) -> Failure
-    ensures { IsOfShorthand refused result }
+/// The failure of a text that can't be read.
+pub fn failure_of(fault: ReadFault) -> Failure
+    ensures { result ≡ read_failure fault }
 {
-    Failure::Word(BadWord {
-        line: refused.line,
-        word: refused.refusal.word,
-        expected: refused.refusal.expected.words(),
-        number: refused.refusal.expected.number().map(u64::from),
-    })
-}
-
-/// The failure of a word of a line.
-pub fn of_reason(line: usize, reason: Option<Reason>) -> Failure
-    ensures { IsOfReason line reason result }
-{
-    match reason {
-        None => Failure::Line(line),
-        Some(reason) => Failure::Word(BadWord {
-            line,
-            word: reason.word(),
-            expected: reason.words(),
-            number: reason.number().map(u64::from),
-        }),
+    match fault {
+        ReadFault::NoMemory => Failure::NoMemory,
+        ReadFault::Bad(bad) => Failure::Word(bad),
+        ReadFault::BadAt(line) => Failure::Line(line),
     }
 }
 
-/// The line of the input that a line of the expanded script is of.
+/// The line of the input from which a line of the expanded script comes.
 pub fn place_of(expanded: &Expanded, line: usize) -> usize
     ensures { result ≡ placed expanded.now.lines line }
 {
@@ -80,28 +65,28 @@ pub fn place_of(expanded: &Expanded, line: usize) -> usize
 }
 
 /// The failure of the first bad line.
-pub fn of_bad(expanded: &Expanded, bad: BadLine) -> Failure
-    ensures { IsOfBad expanded.now bad result }
+fn of_bad(expanded: &Expanded, bad: BadLine) -> Failure
+    ensures { result ≡ bad_of expanded.now bad }
 {
     let line = place_of(expanded, bad.line);
     match expanded.refused {
-        Some(refused) if refused.line <= line => of_shorthand(refused),
-        _ => of_reason(line, bad.reason),
+        Some(refused) if refused.line <= line => Failure::Word(refused),
+        _ => Failure::Word(BadLine { line, bad: bad.bad }),
     }
 }
 
 /// The failure of a script that can't be read.
-pub fn of_lint(expanded: &Expanded, fault: LintFault) -> Failure
-    ensures { IsOfLint expanded.now fault result }
+pub fn of_unread(expanded: &Expanded, fault: ReadFault) -> Failure
+    ensures { result ≡ unread_script expanded.now fault }
 {
     match fault {
-        LintFault::NoMemory => Failure::NoMemory,
-        LintFault::Bad(bad) => of_bad(expanded, bad),
-        LintFault::BadAt(line) => Failure::Line(place_of(expanded, line)),
+        ReadFault::NoMemory => Failure::NoMemory,
+        ReadFault::Bad(bad) => of_bad(expanded, bad),
+        ReadFault::BadAt(line) => Failure::Line(place_of(expanded, line)),
     }
 }
 
-/// The failure of a play that was stopped in a line, where that is known.
+/// The failure of a play that was stopped, at this line if it is known.
 pub fn of_play(line: Option<usize>, fault: PlayFault) -> Failure
     ensures stop { fault.fault ≢ Fault.NoMemory → result ≡ stop_of line fault }
     ensures memory { fault.fault ≡ Fault.NoMemory → result ≡ Failure.NoMemory }
@@ -116,7 +101,7 @@ pub fn of_play(line: Option<usize>, fault: PlayFault) -> Failure
     }
 }
 
-/// The lines of the input that lines of the expanded script are of.
+/// The lines of the input from which these lines of the expanded script come.
 fn placed_lines(
     alloc: Global,
     expanded: &Expanded,
@@ -131,7 +116,7 @@ fn placed_lines(
     Ok(out)
 }
 
-/// The same commands, each with the line of the input that it is of.
+/// The same commands, each with the line of the input from which it comes.
 fn placed_script(alloc: Global, expanded: &Expanded, script: Script) -> Result<Script, AllocError>
     ensures commands { IfOk result (λ out. out.commands.items ≡ script.commands.items) }
     ensures lines { IfOk result (λ out. out.lines.items ≡ map (placed expanded.now.lines) script.lines.items) }
@@ -141,7 +126,7 @@ fn placed_script(alloc: Global, expanded: &Expanded, script: Script) -> Result<S
     Ok(Script { commands, lines })
 }
 
-/// The commands of a script, with the lines of the input that they are of.
+/// The commands of a script, each with the line of the input from which it comes.
 pub fn commands_of(alloc: Global, given: &Given) -> Result<Script, Failure>
     ensures said { IfOk result (λ script. (lines : List ℕ) × IsSaid given.now.text.items script.commands.items lines × (script.lines.items ≡ map (placed given.now.expanded.lines) lines)) }
     ensures names { IfOk result (λ script. All NamesNodes script.commands.items) }
@@ -153,6 +138,6 @@ pub fn commands_of(alloc: Global, given: &Given) -> Result<Script, Failure>
             Ok(script) => Ok(script),
             Err(_) => Err(Failure::NoMemory),
         },
-        Err(fault) => Err(of_lint(&given.expanded, fault)),
+        Err(fault) => Err(of_unread(&given.expanded, fault)),
     }
 }

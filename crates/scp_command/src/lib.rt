@@ -1,11 +1,12 @@
-//! The commands of the program that people run, and what is written where.
+//! The commands of the program that people run, and what each writes where.
 //!
 //! What it promises:
-//! - what a command makes of its input is written to the output, and nothing of a command that failed;
-//! - a failure is told once, on the stream of errors, by the line of its place or of its cause, and by its status: 1 of a script or a
-//!   message, 3 of a node, memory, a file or a stream;
-//! - the status of a run with notices is 4, and these are written to the stream of errors, unless they are to be left out;
-//! - `serve_plain` tells the same failures on the output, by their settled lines.
+//! - What a command makes of its input is written to the output. Nothing is written there for a command that failed, unless the output itself
+//!   failed.
+//! - A failure is reported once, on the stream of errors, by one line with its place or its cause, and by its status. The status is 1 for a
+//!   script or a message, and 3 for a node, memory, a file or a stream.
+//! - The status of a run with notices is 4. The notices are written to the stream of errors, unless they are to be left out.
+//! - `serve_plain` reports the same failures on the output, in the fixed form.
 //!
 //! Not claimed: which words ask for what.
 #![tactic(auto)]

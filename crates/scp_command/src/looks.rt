@@ -1,30 +1,30 @@
-//! What the commands tell of scripts.
+//! What the commands show of scripts.
 ghost use Rattle.std.specs.Prelude.{◌≡◌, ◌++◌, ℕ, List, [], All, IfOk, IfErr, IsOkUnless, codes, string_bytes};
 ghost use Rattle.scp_script.specs.Script.{AreAdmitted};
 ghost use Rattle.scp_script.specs.Nodes.{NamesNodes};
-ghost use Rattle.scp_trace_lint.specs.declared.warning.Warning.{Warning};
-ghost use Rattle.scp_trace_lint.specs.Texts.{warnings_text};
-ghost use Rattle.scp_trace_lint.specs.Warnings.{AreWarnings};
-ghost use Rattle.scp_hints.specs.declared.hint.Hint.{Hint};
-ghost use Rattle.scp_hints.specs.Hints.{AreHints};
-ghost use Rattle.scp_hints.specs.Texts.{hints_text};
-ghost use Rattle.scp_picture.specs.scp_trace_run.specs.Traced.{IsTraceFault};
-ghost use Rattle.scp_picture.specs.Drawn.{IsDrawFault};
+ghost use Rattle.scp_script_check.specs.declared.warning.Warning.{Warning};
+ghost use Rattle.scp_script_check.specs.Texts.{warnings_text};
+ghost use Rattle.scp_script_check.specs.Warnings.{AreWarnings};
+ghost use Rattle.scp_script_hints.specs.declared.hint.Hint.{Hint};
+ghost use Rattle.scp_script_hints.specs.Hints.{AreHints};
+ghost use Rattle.scp_script_hints.specs.Texts.{hints_text};
+ghost use Rattle.scp_script_check.specs.Lines.{IsNotRead};
+ghost use Rattle.scp_draw.specs.Drawn.{IsDrawFault};
 ghost use Rattle.scp_command.specs.Given.{IsGiven};
 ghost use Rattle.scp_command.specs.Answers.{IsCheckAnswer, IsTraceAnswer, IsDrawAnswer, IsQuorumsAnswer};
 ghost use Rattle.scp_command.specs.Causes.{IsNoScript, IsNotTraced, Fails};
 
 use crate::answer::Answer;
-use crate::given::{Given, commands_of, given_by, of_bad, of_play, place_of};
-use scp_hints::{hints, text_of_hints};
-use scp_picture::{Depth, DrawFault, TraceFault, draw, trace};
+use crate::given::{Given, commands_of, given_by, of_play, of_unread};
+use scp_device::ReadFault;
+use scp_draw::{Depth, DrawFault, draw, trace};
 use scp_prompt::{Failure, Task};
-use scp_quorums::quorums_text;
-use scp_trace_lint::{Script, text_of_warnings, warnings};
+use scp_script_check::{Script, text_of_warnings, warnings};
+use scp_script_hints::{hints, quorums_text, text_of_hints};
 use scp_types::Fault;
 use std::alloc::Global;
 
-/// The warnings and the hints of a script, a line for each, and `ok`.
+/// The warnings and the hints of a script, one line each, and `ok`.
 fn told(alloc: Global, script: &Script) -> Result<String, Fault>
     requires names { All NamesNodes script.now.commands.items }
     requires admitted { AreAdmitted [] script.now.commands.items }
@@ -40,7 +40,7 @@ fn told(alloc: Global, script: &Script) -> Result<String, Fault>
     Ok(text)
 }
 
-/// What is wrong with a script.
+/// What is wrong with a script: its warnings and hints, and `ok`.
 pub fn checked(alloc: Global, text: &[u8]) -> Result<Answer, Failure>
     ensures answer { IfOk result (IsCheckAnswer text.now) }
     ensures cause { IfErr result (IsNoScript text.now) }
@@ -53,18 +53,14 @@ pub fn checked(alloc: Global, text: &[u8]) -> Result<Answer, Failure>
     }
 }
 
-/// Why nothing is told of a run.
-fn of_trace(given: &Given, fault: TraceFault) -> Failure
-    ensures { (input : List ℕ) → IsGiven input given.now → IsTraceFault given.now.text.items fault → IsNoScript input result }
+/// Why a script isn't read.
+fn of_read(given: &Given, fault: ReadFault) -> Failure
+    ensures { (input : List ℕ) → IsGiven input given.now → IsNotRead given.now.text.items fault → IsNoScript input result }
 {
-    match fault {
-        TraceFault::NoMemory => Failure::NoMemory,
-        TraceFault::Bad(bad) => of_bad(&given.expanded, bad),
-        TraceFault::BadAt(line) => Failure::Line(place_of(&given.expanded, line)),
-    }
+    of_unread(&given.expanded, fault)
 }
 
-/// What happens in the run of a script, as deep as is asked. Its lines are counted in the settled script.
+/// What happens in the run of a script, at this depth. Its lines are counted in the expanded script.
 pub fn traced(alloc: Global, depth: Depth, text: &[u8]) -> Result<Answer, Failure>
     ensures answer { IfOk result (IsTraceAnswer depth text.now) }
     ensures cause { IfErr result (IsNotTraced depth text.now) }
@@ -75,7 +71,7 @@ pub fn traced(alloc: Global, depth: Depth, text: &[u8]) -> Result<Answer, Failur
             Some(fault) => Err(of_play(None, fault)),
             None => Ok(Answer::of_text(alloc, told.text)),
         },
-        Err(fault) => Err(of_trace(&given, fault)),
+        Err(fault) => Err(of_read(&given, fault)),
     }
 }
 
@@ -84,14 +80,12 @@ fn of_draw(given: &Given, fault: DrawFault) -> Failure
     ensures { (input : List ℕ) → IsGiven input given.now → IsDrawFault given.now.text.items fault → Fails Task.Draw input result }
 {
     match fault {
-        DrawFault::NoMemory => Failure::NoMemory,
-        DrawFault::Bad(bad) => of_bad(&given.expanded, bad),
-        DrawFault::BadAt(line) => Failure::Line(place_of(&given.expanded, line)),
+        DrawFault::Unread(fault) => of_read(given, fault),
         DrawFault::Stopped(fault) => of_play(None, fault),
     }
 }
 
-/// The page of a script's run. Its lines are counted in the settled script.
+/// The page of a script's run. Its lines are counted in the expanded script.
 pub fn drawn(alloc: Global, text: &[u8]) -> Result<Answer, Failure>
     ensures answer { IfOk result (IsDrawAnswer text.now) }
     ensures cause { IfErr result (Fails Task.Draw text.now) }

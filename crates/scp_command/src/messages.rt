@@ -1,16 +1,15 @@
-//! Messages as text, and back, a line each.
-ghost use Rattle.std.specs.Prelude.{◌≡◌, ◌++◌, ◌⊎◌, ℕ, List, Some, None, map, IfOk, IfErr, OnOk, codes, string_bytes};
-ghost use Rattle.scp_decoded.specs.Decoding.{IsDecoded, IsEncoded};
+//! Messages as text, and back, one line each.
+ghost use Rattle.std.specs.Prelude.{◌≡◌, ◌++◌, ◌⊎◌, ℕ, List, map, IfOk, IfErr, OnOk, codes, string_bytes};
+ghost use Rattle.scp_script_text.specs.Decoding.{IsDecoded, IsEncoded};
 ghost use Rattle.scp_text.specs.Messages.{IsRefusedMessage, words_of};
-ghost use Rattle.scp_command.specs.Given.{IsWordAt};
 ghost use Rattle.scp_command.specs.Answers.{Answers, AreEach, lines_of, spelling_of as spelling_by, is_skipped as skips};
 ghost use Rattle.scp_command.specs.inside.Messages.{AddsOne, IsRefusedOne};
-ghost use Rattle.scp_command.specs.Causes.{Fails, IsNoneOf, IsOfDecode, IsNotDecoded, IsNotEncoded, bytes_expected as bytes_wanted};
+ghost use Rattle.scp_command.specs.Causes.{Fails, IsNoneOf, IsNotDecoded, IsNotEncoded, decode_failure, word_at, bytes_expected as bytes_wanted};
 
 use crate::answer::Answer;
-use scp_decoded::{DecodeError, Spelling, decode_text, encode_text};
-use scp_prompt::{BadWord, Coding, Failure, Task};
-use scp_text::TextError;
+use scp_device::{BadLine, BadWord, Expected, WordFault};
+use scp_prompt::{Coding, Failure, Task};
+use scp_script_text::{DecodeError, Spelling, decode_text, encode_text};
 use std::alloc::{AllocError, Global};
 
 fn spelling_of(coding: Coding) -> Spelling
@@ -23,51 +22,44 @@ fn spelling_of(coding: Coding) -> Spelling
 }
 
 /// What is expected of the bytes of a message.
-fn bytes_expected(coding: Coding) -> &'static str
-    ensures { result.now ≡ bytes_wanted coding }
+fn bytes_expected(coding: Coding) -> Expected
+    ensures { result ≡ bytes_wanted coding }
 {
     match coding {
-        Coding::Hex => "the bytes of a message, in hexadecimal digits",
-        Coding::Base64 => "the bytes of a message, in base64",
+        Coding::Hex => Expected::BytesInDigits,
+        Coding::Base64 => Expected::BytesInBase64,
     }
 }
 
-/// The failure of the word of a line.
-fn at_word(line: usize, word: usize, expected: &'static str, number: Option<u64>) -> Failure
-    ensures { IsWordAt line word expected.now number result }
+/// The failure of the first word of a line.
+fn at_first(line: usize, expected: Expected) -> Failure
+    ensures { result ≡ word_at line 1 expected }
 {
-    Failure::Word(BadWord {
+    Failure::Word(BadLine {
         line,
-        word,
-        expected,
-        number,
+        bad: BadWord { word: 1, expected },
     })
 }
 
-/// Why a line's word is no message.
+/// Why a line's word isn't a message.
 fn of_decode(coding: Coding, line: usize, error: DecodeError) -> Failure
-    ensures { IsOfDecode coding line error result }
+    ensures { result ≡ decode_failure coding line error }
 {
     match error {
         DecodeError::NoMemory => Failure::NoMemory,
-        DecodeError::NoBytes => at_word(line, 1, bytes_expected(coding), None),
-        DecodeError::TooLong => at_word(line, 1, "a message within its limits", None),
-        DecodeError::Malformed(place) => at_word(
-            line,
-            1,
-            "a message; it is malformed at its byte ",
-            Some(place as u64),
-        ),
+        DecodeError::NoBytes => at_first(line, bytes_expected(coding)),
+        DecodeError::TooLong => at_first(line, Expected::AMessageWithin),
+        DecodeError::Malformed(place) => at_first(line, Expected::AMessageFrom(place)),
     }
 }
 
-/// Why a line's text is no message.
-fn of_encode(line: usize, error: TextError) -> Failure
-    ensures { (text : List ℕ) → IsRefusedMessage (words_of text) error → IsNotEncoded text line result }
+/// Why a line's text isn't a message.
+fn of_encode(line: usize, fault: WordFault) -> Failure
+    ensures { (text : List ℕ) → IsRefusedMessage (words_of text) fault → IsNotEncoded text line result }
 {
-    match error {
-        TextError::NoMemory => Failure::NoMemory,
-        TextError::Refused(refusal) => at_word(line, refusal.word, refusal.expected.text(), None),
+    match fault {
+        WordFault::NoMemory => Failure::NoMemory,
+        WordFault::Bad(bad) => Failure::Word(BadLine { line, bad }),
     }
 }
 
@@ -99,7 +91,7 @@ fn add_line(out: &mut String, line: &str) -> Result<(), Failure>
     Ok(())
 }
 
-/// Adds the text of the message that a line spells.
+/// Adds the text of the message that a line encodes.
 fn add_decoded(
     alloc: Global,
     out: &mut String,
@@ -116,7 +108,7 @@ fn add_decoded(
     }
 }
 
-/// Adds the bytes of the message that a line says.
+/// Adds the encoding of the message that a line is.
 fn add_encoded(
     alloc: Global,
     out: &mut String,
@@ -133,7 +125,7 @@ fn add_encoded(
     }
 }
 
-/// Adds the text of the message that a line spells, unless it says nothing.
+/// Adds the text of the message that a line encodes, unless the line is skipped.
 #[tactic(auto, using(crate::proofs::Each::one_skipped, crate::proofs::Each::one_said, crate::proofs::Each::one_refused))]
 fn add_decoded_line(
     alloc: Global,
@@ -151,7 +143,7 @@ fn add_decoded_line(
     add_decoded(alloc, out, coding, place, line)
 }
 
-/// Adds the bytes of the message that a line says, unless it says nothing.
+/// Adds the encoding of the message that a line is, unless the line is skipped.
 #[tactic(auto, using(crate::proofs::Each::one_skipped, crate::proofs::Each::one_said, crate::proofs::Each::one_refused))]
 fn add_encoded_line(
     alloc: Global,
@@ -169,7 +161,7 @@ fn add_encoded_line(
     add_encoded(alloc, out, coding, place, line)
 }
 
-/// The texts of the messages that lines spell.
+/// The texts of the messages that these lines encode.
 fn decoded_lines(alloc: Global, coding: Coding, lines: &[&[u8]]) -> Result<String, Failure>
     ensures each { IfOk result (λ out. AreEach (IsDecoded (spelling_by coding)) (map (λ line. line.now) lines.now) (string_bytes out)) }
     ensures cause { IfErr result (IsNoneOf (IsDecoded (spelling_by coding)) (IsNotDecoded coding) (map (λ line. line.now) lines.now)) }
@@ -184,7 +176,7 @@ fn decoded_lines(alloc: Global, coding: Coding, lines: &[&[u8]]) -> Result<Strin
     Ok(out)
 }
 
-/// The bytes of the messages that lines say.
+/// The encodings of the messages that these lines are.
 fn encoded_lines(alloc: Global, coding: Coding, lines: &[&[u8]]) -> Result<String, Failure>
     ensures each { IfOk result (λ out. AreEach (IsEncoded (spelling_by coding)) (map (λ line. line.now) lines.now) (string_bytes out)) }
     ensures cause { IfErr result (IsNoneOf (IsEncoded (spelling_by coding)) IsNotEncoded (map (λ line. line.now) lines.now)) }
@@ -199,7 +191,7 @@ fn encoded_lines(alloc: Global, coding: Coding, lines: &[&[u8]]) -> Result<Strin
     Ok(out)
 }
 
-/// The messages of an input as text, a line for each. Empty lines and comments are passed over.
+/// The messages of an input as text, one line each. Empty lines and comments are skipped.
 pub fn decoded(alloc: Global, coding: Coding, text: &[u8]) -> Result<Answer, Failure>
     ensures answer { IfOk result (Answers (Task.Decode coding) text.now) }
     ensures cause { IfErr result (Fails (Task.Decode coding) text.now) }
@@ -213,7 +205,7 @@ pub fn decoded(alloc: Global, coding: Coding, text: &[u8]) -> Result<Answer, Fai
     }
 }
 
-/// The messages of an input as their bytes, a line for each. Empty lines and comments are passed over.
+/// The messages of an input as their bytes, one line each. Empty lines and comments are skipped.
 pub fn encoded(alloc: Global, coding: Coding, text: &[u8]) -> Result<Answer, Failure>
     ensures answer { IfOk result (Answers (Task.Encode coding) text.now) }
     ensures cause { IfErr result (Fails (Task.Encode coding) text.now) }

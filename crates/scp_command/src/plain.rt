@@ -1,44 +1,40 @@
-//! The commands that tell all on one stream, in the settled words.
-ghost use Rattle.std.specs.Prelude.{◌≡◌, ◌≢◌, ◌≤◌, ◌⊎◌, ◌++◌, ℕ, List, length, IfOk, IfErr, string_bytes};
+//! The commands that write everything on one stream, in the fixed form.
+ghost use Rattle.std.specs.Prelude.{◌≡◌, ◌≢◌, ◌≤◌, ◌⊎◌, ℕ, List, length, IfOk, IfErr};
 ghost use Rattle.scp_device.specs.Device.{Gains, Fails as HasFailed, IsAll};
-ghost use Rattle.scp_silent.specs.scp_line.specs.Outcome.{fault_line};
 ghost use Rattle.scp_prompt.specs.Failing.{status_of as failure_status};
-ghost use Rattle.scp_command.specs.Given.{IsOfReason};
-ghost use Rattle.scp_command.specs.Serving.{IsPlain, IsPlainUpTo, IsNotPlain, IsNotPlainScript, IsUnread, IsSettled, IsWritten};
+ghost use Rattle.scp_command.specs.Serving.{IsPlain, IsPlainUpTo, IsNotPlain, IsNotPlainScript, IsUnread, IsSettled};
 ghost use Rattle.scp_command.specs.inside.Plain.{IsTelling, IsRunTelling, IsTellingOf};
 
 use crate::forms::played_slot;
-use crate::given::of_reason;
+use crate::given::failure_of;
 use crate::serving::read_short;
 use scp_device::{ReportOut, SCRIPT_LIMIT, ScriptIn};
-use scp_picture::{Depth, TraceFault, Traced, trace};
+use scp_draw::{Depth, Traced, trace};
+use scp_notices::line_of_fault;
 use scp_prompt::{Failure, Task, status, write_bytes, write_settled};
-use scp_silent::line_of_fault;
-use scp_trace_lint::{LintFault, lint};
+use scp_script_check::lint;
 use scp_types::Fault;
 use std::alloc::{AllocError, Global};
 
-/// What is told on one stream: all of it, or up to the fault that ended it, with that fault's line.
+/// What is written on one stream: all of it, or all up to the fault that ended it, with that fault's line.
 #[derive(Drop)]
 enum Telling {
     Whole(Vec<u8>),
     Part(Vec<u8>),
 }
 
-/// What is told of what is wrong with a script.
+/// What is wrong with a script.
 fn linted(alloc: Global, text: &[u8]) -> Result<Telling, Failure>
     ensures told { IfOk result (IsTelling Task.Check text.now) }
     ensures cause { IfErr result (IsNotPlainScript text.now) }
 {
     match lint(alloc, text) {
         Ok(told) => Ok(Telling::Whole(told.into_bytes())),
-        Err(LintFault::NoMemory) => Err(Failure::NoMemory),
-        Err(LintFault::Bad(bad)) => Err(of_reason(bad.line, bad.reason)),
-        Err(LintFault::BadAt(line)) => Err(Failure::Line(line)),
+        Err(fault) => Err(failure_of(fault)),
     }
 }
 
-/// What was told, with the line of the fault that ended it, if one did.
+/// What was shown, with the line of the fault that ended it, if one did.
 fn with_its_fault(alloc: Global, told: Traced) -> Result<Telling, AllocError>
     ensures { IfOk result (IsTellingOf told) }
 {
@@ -53,7 +49,7 @@ fn with_its_fault(alloc: Global, told: Traced) -> Result<Telling, AllocError>
     }
 }
 
-/// What is told of a run.
+/// What is shown of a run.
 fn telling_of_run(alloc: Global, told: Traced) -> Result<Telling, Failure>
     ensures told { IfOk result (IsTellingOf told) }
     ensures cause { IfErr result (λ failure. failure ≡ Failure.NoMemory) }
@@ -64,20 +60,18 @@ fn telling_of_run(alloc: Global, told: Traced) -> Result<Telling, Failure>
     }
 }
 
-/// What is told of the run of a script.
+/// What is shown of the run of a script.
 fn traced(alloc: Global, depth: Depth, text: &[u8]) -> Result<Telling, Failure>
     ensures told { IfOk result (IsRunTelling depth text.now) }
     ensures cause { IfErr result (IsNotPlainScript text.now) }
 {
     match trace(alloc, depth, text) {
         Ok(traced) => telling_of_run(alloc, traced),
-        Err(TraceFault::NoMemory) => Err(Failure::NoMemory),
-        Err(TraceFault::Bad(bad)) => Err(of_reason(bad.line, bad.reason)),
-        Err(TraceFault::BadAt(line)) => Err(Failure::Line(line)),
+        Err(fault) => Err(failure_of(fault)),
     }
 }
 
-/// What a machine answers to the script of one slot.
+/// What a slot's machine answers to the script of one slot.
 fn slot(alloc: Global, text: &[u8]) -> Result<Telling, Failure>
     ensures told { IfOk result (IsTelling Task.Slot text.now) }
     ensures cause { IfErr result (IsNotPlain Task.Slot text.now) }
@@ -89,7 +83,7 @@ fn slot(alloc: Global, text: &[u8]) -> Result<Telling, Failure>
     }
 }
 
-/// What is told of a script.
+/// What is shown of a script.
 fn telling_of(alloc: Global, task: Task, text: &[u8]) -> Result<Telling, Failure>
     ensures told { IfOk result (IsTelling task text.now) }
     ensures cause { IfErr result (IsNotPlain task text.now) }
@@ -102,7 +96,7 @@ fn telling_of(alloc: Global, task: Task, text: &[u8]) -> Result<Telling, Failure
     }
 }
 
-/// What is told of the whole script that is read.
+/// Reads a script whole, and returns what is shown of it.
 fn read_and_tell<R: ScriptIn>(alloc: Global, task: Task, reader: &mut R) -> Result<Telling, Failure>
     ensures told { IfOk result (λ telling. (script : List ℕ) × IsAll (R.left reader.old) script × (length script ≤ SCRIPT_LIMIT) × IsTelling task script telling) }
     ensures cause { IfErr result (λ failure. IsUnread SCRIPT_LIMIT (R.left reader.old) (HasFailed (R.failures reader.old) (R.failures reader.new)) failure
@@ -114,7 +108,7 @@ fn read_and_tell<R: ScriptIn>(alloc: Global, task: Task, reader: &mut R) -> Resu
     }
 }
 
-/// Writes the settled line of a failure, if the writer takes it, and answers its status.
+/// Writes the line of a failure in the fixed form, if the writer takes it, and returns its status.
 fn tell<W: ReportOut>(failure: &Failure, writer: &mut W) -> u8
     ensures status { result ≡ failure_status failure.now }
     ensures told { IsSettled W.written W.failures writer.old failure.now writer.new }
@@ -123,7 +117,7 @@ fn tell<W: ReportOut>(failure: &Failure, writer: &mut W) -> u8
     status(failure)
 }
 
-/// Writes the whole text, or tells that the writer failed. Answers the exit status.
+/// Writes the whole text, or reports that the writer failed. Returns the exit status.
 fn finish<W: ReportOut>(text: &[u8], writer: &mut W) -> u8
     ensures written { result ≡ 0 → Gains (W.written writer.old) text.now (W.written writer.new) }
     ensures failed { result ≢ 0 → (result ≡ 3) × HasFailed (W.failures writer.old) (W.failures writer.new) }
@@ -134,7 +128,7 @@ fn finish<W: ReportOut>(text: &[u8], writer: &mut W) -> u8
     }
 }
 
-/// Writes what was told up to a fault. Answers 3.
+/// Writes what was shown up to a fault. Returns 3.
 fn finish_part<W: ReportOut>(text: &[u8], writer: &mut W) -> u8
     ensures status { result ≡ 3 }
     ensures written { Gains (W.written writer.old) text.now (W.written writer.new) ⊎ HasFailed (W.failures writer.old) (W.failures writer.new) }
@@ -143,8 +137,8 @@ fn finish_part<W: ReportOut>(text: &[u8], writer: &mut W) -> u8
     3
 }
 
-/// Does `check`, `slot`, `trace` or, for any other task, `stand` in the settled words, with all that is told on one stream, and answers the exit
-/// status: 0 done, 1 of a script that is refused, 3 of a node, memory or a stream.
+/// Does `check`, `slot`, `trace` or, for any other task, `stand`, and writes everything on one stream, in the fixed form. Returns the exit
+/// status: 0 for done, 1 for a script that is refused, 3 for a node, memory or a stream.
 pub fn serve_plain<R: ScriptIn, W: ReportOut>(
     alloc: Global,
     task: Task,
@@ -153,10 +147,10 @@ pub fn serve_plain<R: ScriptIn, W: ReportOut>(
 ) -> u8
     ensures few { result ≤ 3 }
     ensures no_usage { result ≢ 2 }
-    // What was read is a script of at most 1,048,576 bytes, and all that is told of it was written.
+    // What was read is a script of at most 1,048,576 bytes, and all that is shown of it was written.
     ensures told { result ≡ 0 → (script : List ℕ) × (out : List ℕ) × IsAll (R.left reader.old) script × (length script ≤ SCRIPT_LIMIT) × IsPlain task script out × Gains (W.written writer.old) out (W.written writer.new) }
-    // Else just the settled line of a failure was written, or the writer failed; or what is told of a script up to the fault that stopped
-    // it, and that fault's line.
+    // Else exactly one of these was written, or the writer failed: the line of a failure in the fixed form, or what is shown of a script up
+    // to the fault that stopped it, with that fault's line.
     ensures refused { result ≢ 0 →
         ((failure : Failure) × (result ≡ failure_status failure) × (IsUnread SCRIPT_LIMIT (R.left reader.old) (HasFailed (R.failures reader.old) (R.failures reader.new)) failure
         ⊎ ((script : List ℕ) × IsAll (R.left reader.old) script × (length script ≤ SCRIPT_LIMIT) × IsNotPlain task script failure)) × IsSettled W.written W.failures writer.old failure writer.new)

@@ -1,31 +1,32 @@
 //! Scripts that are played, and their reports.
-ghost use Rattle.std.specs.Prelude.{◌≡◌, ◌≤◌, ◌∷◌, ℕ, List, [], All, IfOk, IfErr, IsOk, IsOkUnless, length, map, string_bytes};
+ghost use Rattle.std.specs.Prelude.{◌≡◌, ◌≤◌, ℕ, List, [], All, IfOk, IfErr, IsOk, IsOkUnless, length, map, string_bytes};
 ghost use Rattle.scp_script.specs.Nodes.{NamesNodes};
 ghost use Rattle.scp_script.specs.Script.{AreAdmitted};
-ghost use Rattle.scp_silent.specs.scp_line.specs.Nodes.{HaveRoom};
-ghost use Rattle.scp_account.specs.Fits.{FitReports};
+ghost use Rattle.scp_account.specs.Account.{account_text as accounted};
 ghost use Rattle.scp_account.specs.Gathered.{gathered_text as accounts_text};
-ghost use Rattle.scp_silent.specs.Texts.{notices_text};
-ghost use Rattle.scp_silent.specs.Run.{IsRunFault};
-ghost use Rattle.scp_silent.specs.Threads.{IsThreadsFault};
+ghost use Rattle.scp_notices.specs.Texts.{notices_text};
+ghost use Rattle.scp_notices.specs.Run.{IsRunFault};
+ghost use Rattle.scp_notices.specs.Threads.{IsThreadsFault};
 ghost use Rattle.scp_command.specs.Given.{IsGiven};
 ghost use Rattle.scp_command.specs.Answers.{reports_text, gathered_text, placed_notice, IsRunAnswer, IsThreadsAnswer, IsRunBy, IsAccountAnswer, IsThreadsAccount, IsAccountBy};
 ghost use Rattle.scp_command.specs.Causes.{Fails};
-ghost use Rattle.scp_command.specs.inside.Runs.{IsOfRun, IsAccountOf, IsUntold, IsUntoldOf};
+ghost use Rattle.scp_command.specs.inside.Runs.{IsOfRun, IsUntold, IsUntoldOf};
 
 use crate::answer::Answer;
-use crate::given::{Given, given_by, of_bad, of_play, place_of};
-use scp_account::{Kept, account as account_text, account_gathered, play_kept};
+use crate::given::{Given, given_by, of_play, of_unread, place_of};
+use scp_account::{
+    KeepingWatch, Kept, account as account_text, account_gathered, what_is_kept_is_what_happened,
+};
 use scp_core::Node;
 use scp_gather::NodeReport;
-use scp_prompt::{Failure, Mode, Shape, Task};
-use scp_script::{Command, count_of_nodes};
-use scp_shorthand::Expanded;
-use scp_shown::{json_report, text_report};
-use scp_silent::{
-    Notice, PlayFault, Ran, RanInThreads, RunFault, run as run_script, run_in_threads,
-    text_of_notices, write_all_gathered, write_reports,
+use scp_notices::{
+    Notice, PlayFault, Ran, RanInThreads, RunFault, Watched, run as run_script, run_in_threads,
+    run_watched, text_of_notices, write_all_gathered, write_reports,
 };
+use scp_prompt::{Failure, Mode, Shape, Task};
+use scp_report::{json_report, text_report};
+use scp_script::{Command, count_of_nodes};
+use scp_script_short::Expanded;
 use scp_types::Fault;
 use std::alloc::{AllocError, Global};
 use std::sync::Wait;
@@ -77,7 +78,7 @@ fn reports_gathered(
     }
 }
 
-/// A notice with the line of the input that it is of.
+/// A notice with the line of the input, in place of the line of the expanded script.
 fn placed_of(expanded: &Expanded, notice: Notice) -> Notice
     ensures { result ≡ placed_notice expanded.now.lines notice }
 {
@@ -97,7 +98,7 @@ fn placed_of(expanded: &Expanded, notice: Notice) -> Notice
     }
 }
 
-/// The notices, each with the line of the input that it is of.
+/// The notices, each with the line of the input.
 fn placed_notices(
     alloc: Global,
     expanded: &Expanded,
@@ -112,7 +113,7 @@ fn placed_notices(
     Ok(out)
 }
 
-/// The lines of the notices, by the lines of the input.
+/// The text of the notices, with the line numbers of the input.
 fn lines_of_notices(
     alloc: Global,
     expanded: &Expanded,
@@ -125,7 +126,7 @@ fn lines_of_notices(
     Ok(text)
 }
 
-/// The answer of these reports and notices.
+/// The answer made of these reports and notices.
 fn answer_of(
     alloc: Global,
     expanded: &Expanded,
@@ -151,9 +152,7 @@ fn of_fault(expanded: &Expanded, fault: RunFault) -> Failure
     ensures { IsOfRun expanded.now fault result }
 {
     match fault {
-        RunFault::NoMemory => Failure::NoMemory,
-        RunFault::Bad(bad) => of_bad(expanded, bad),
-        RunFault::BadAt(line) => Failure::Line(place_of(expanded, line)),
+        RunFault::Unread(fault) => of_unread(expanded, fault),
         RunFault::Stopped { line, fault } => of_play(Some(place_of(expanded, line)), fault),
         RunFault::GivenUp(fault) => of_play(None, fault),
     }
@@ -216,7 +215,7 @@ fn run_threads<T: Threads + Wait + Sync>(
     answer_of(alloc, &given.expanded, told, notices)
 }
 
-/// The reports of a script that is played.
+/// The reports of a script that is played in this mode, with the notices of its run.
 pub fn run<T: Threads + Wait + Sync>(
     rt: &T,
     alloc: Global,
@@ -234,40 +233,35 @@ pub fn run<T: Threads + Wait + Sync>(
     }
 }
 
-/// The account of nodes that play a script.
-fn account_of(alloc: Global, commands: &[Command]) -> Result<String, Failure>
-    requires names { All NamesNodes commands.now }
-    requires admitted { AreAdmitted [] commands.now }
-    requires room { HaveRoom commands.now }
-    ensures account { IfOk result (λ text. IsAccountOf commands.now (string_bytes text)) }
-    ensures cause { IfErr result (IsUntold commands.now) }
+/// The account of nodes, from what was kept of them.
+fn account_of(alloc: Global, nodes: &[Node], kept: &[Kept]) -> Result<String, Failure>
+    requires few { length nodes.now ≤ 8 }
+    ensures account { IfOk result (λ text. string_bytes text ≡ accounted nodes.now kept.now) }
+    ensures cause { IfErr result (IsUntold nodes.now) }
 {
-    let run = match play_kept(alloc, commands) {
-        Ok(run) => run,
-        Err(fault) => return Err(of_play(None, fault)),
-    };
-    match account_text(alloc, run.network.nodes(), run.kept.as_slice()) {
+    match account_text(alloc, nodes, kept) {
         Ok(text) => Ok(text),
         Err(fault) => Err(of_play(None, PlayFault::from(fault))),
     }
 }
 
-/// The account of a script that is played one step after another: it is played for the notices, and once more for the account.
+/// The account of a script that is played one step after another. All that happens is kept for it.
 fn account_serial(alloc: Global, given: &Given) -> Result<Answer, Failure>
     ensures answer { (input : List ℕ) → IsGiven input given.now → IfOk result (IsAccountAnswer input) }
     ensures cause { (input : List ℕ) → IsGiven input given.now → IfErr result (Fails (Task.Account Mode.Serial) input) }
 {
-    let ran = match run_script(alloc, given.text.as_slice()) {
-        Ok(ran) => ran,
+    let watched = match run_watched(alloc, given.text.as_slice(), KeepingWatch::new(alloc)) {
+        Ok(watched) => watched,
         Err(fault) => return Err(of_run(given, fault)),
     };
-    let Ran {
-        script,
-        notices,
-        ..
-    } = ran;
-    match account_of(alloc, script.commands.as_slice()) {
-        Ok(text) => answer_of(alloc, &given.expanded, Ok(text), notices),
+    let Watched { ran, watch } = watched;
+    if watch.lacks_memory() {
+        return Err(Failure::NoMemory);
+    }
+    what_is_kept_is_what_happened();
+    let kept = watch.into_kept();
+    match account_of(alloc, ran.network.nodes(), kept.as_slice()) {
+        Ok(text) => answer_of(alloc, &given.expanded, Ok(text), ran.notices),
         Err(failure) => Err(failure),
     }
 }
@@ -316,7 +310,7 @@ fn account_threads<T: Threads + Wait + Sync>(
     }
 }
 
-/// The account of a script that is played.
+/// The account of a script that is played in this mode, with the notices of its run.
 pub fn account<T: Threads + Wait + Sync>(
     rt: &T,
     alloc: Global,

@@ -1,6 +1,6 @@
-//! What the words of a command line are answered with.
-ghost use Rattle.std.specs.Prelude.{◌≡◌, ◌≢◌, ◌≤◌, ◌⊎◌, ℕ, List, [], length, IfOk, IfErr, OnErr, string_bytes, codes};
-ghost use Rattle.scp_device.specs.Device.{Gains, Fails as HasFailed, IsAll, IsReadFault};
+//! What the program does with a task that the words of a command line ask for.
+ghost use Rattle.std.specs.Prelude.{◌≡◌, ◌≢◌, ◌≤◌, ◌⊎◌, ℕ, List, [], length, IfOk, IfErr, string_bytes, codes};
+ghost use Rattle.scp_device.specs.Device.{Gains, Fails as HasFailed, IsAll};
 ghost use Rattle.scp_prompt.specs.Failing.{status_of as failure_status};
 ghost use Rattle.scp_command.specs.Answers.{Answers, IsHeadlinedFor};
 ghost use Rattle.scp_command.specs.Causes.{Fails};
@@ -13,27 +13,27 @@ use crate::looks::{checked, drawn, quorums, traced};
 use crate::messages::{decoded, encoded};
 use crate::runs::{account, run};
 use scp_device::{ReportOut, SCRIPT_LIMIT, ScriptIn, read_script, write_text};
-use scp_picture::Depth;
+use scp_draw::Depth;
+use scp_notices::what_is_played_keeps_the_headlines;
 use scp_prompt::{
     Cause, Failure, LONG_LIMIT, Task, read_within, status, write_bytes, write_failure,
 };
-use scp_silent::what_is_played_keeps_the_headlines;
 use scp_types::Fault;
 use std::alloc::Global;
 use std::sync::Wait;
 use std::thread::Threads;
 
-/// What is asked for.
+/// A task, and how it is to be done.
 #[derive(Clone, Copy)]
 pub struct Order<'a> {
     pub task: Task,
-    /// The notices of a run are left out.
+    /// Whether the notices of a run are left out.
     pub quiet: bool,
     /// The input's name.
     pub name: &'a str,
 }
 
-/// Why an input isn't read.
+/// The failure of an input that couldn't be read.
 fn unread(limit: usize, fault: Fault) -> Failure
     ensures { result ≡ unread_of limit fault }
 {
@@ -44,7 +44,7 @@ fn unread(limit: usize, fault: Fault) -> Failure
     }
 }
 
-/// A script that is read whole.
+/// Reads a script whole, at most 1 MiB.
 #[tactic(auto, using(crate::proofs::Told::is_unread, crate::proofs::Told::all_left))]
 pub fn read_short<R: ScriptIn>(alloc: Global, reader: &mut R) -> Result<Vec<u8>, Failure>
     ensures all { IfOk result (λ text. IsAll (R.left reader.old) text.items) }
@@ -57,7 +57,7 @@ pub fn read_short<R: ScriptIn>(alloc: Global, reader: &mut R) -> Result<Vec<u8>,
     }
 }
 
-/// A longer input that is read whole.
+/// Reads a longer input whole, at most 16 MiB.
 #[tactic(auto, using(crate::proofs::Told::is_unread, crate::proofs::Told::all_left))]
 fn read_long<R: ScriptIn>(alloc: Global, reader: &mut R) -> Result<Vec<u8>, Failure>
     ensures all { IfOk result (λ text. IsAll (R.left reader.old) text.items) }
@@ -70,7 +70,7 @@ fn read_long<R: ScriptIn>(alloc: Global, reader: &mut R) -> Result<Vec<u8>, Fail
     }
 }
 
-/// The whole input of a task.
+/// Reads the whole input of a task.
 fn read_input<R: ScriptIn>(alloc: Global, task: Task, reader: &mut R) -> Result<Vec<u8>, Failure>
     ensures all { IfOk result (λ text. IsAll (R.left reader.old) text.items) }
     ensures limit { IfOk result (λ text. length text.items ≤ limit_of task) }
@@ -108,7 +108,7 @@ fn answer<T: Threads + Wait + Sync>(
     }
 }
 
-/// Tells a failure of an input of this name and these bytes, if the stream of errors takes it, and answers its status.
+/// Reports a failure of the input with this name and these bytes, if the stream of errors takes it, and returns its status.
 #[tactic(auto, using(crate::proofs::Told::told_by))]
 fn tell<E: ReportOut>(
     alloc: Global,
@@ -125,7 +125,7 @@ fn tell<E: ReportOut>(
     status(failure)
 }
 
-/// Writes the notices of a run, if there are any and they aren't to be left out, and answers the status.
+/// Writes the notices of a run, if there are any and they aren't to be left out, and returns the status.
 #[tactic(auto, using(crate::proofs::Told::written_by))]
 fn notice<E: ReportOut>(notices: &str, quiet: bool, errors: &mut E) -> u8
     ensures status { result ≡ answer_status notices.now }
@@ -140,7 +140,7 @@ fn notice<E: ReportOut>(notices: &str, quiet: bool, errors: &mut E) -> u8
     4
 }
 
-/// Writes an answer, and answers the status.
+/// Writes an answer, and returns the status.
 fn finish<O: ReportOut + Cause, E: ReportOut>(
     alloc: Global,
     answer: &Answer,
@@ -164,9 +164,10 @@ fn finish<O: ReportOut + Cause, E: ReportOut>(
     }
 }
 
-/// Does what is asked for: reads the whole input, writes what the task makes of it, and answers the exit status: 0 done, 4 a run with
-/// notices, which are written to the stream of errors. Where it fails nothing is written to the output, the failure is told by its line
-/// on the stream of errors, and its status is answered: 1 of the input, 3 of a node, memory or a stream.
+/// Does a task: reads the whole input and writes what the task makes of it. Returns the exit status: 0 for done, 4 for a run with notices,
+/// which are written to the stream of errors.
+/// If the task fails, nothing is written to the output, the line of the failure is written to the stream of errors, and its status is
+/// returned. The status is 1 for the input, and 3 for a node, memory or a stream.
 pub fn serve<T: Threads + Wait + Sync, R: ScriptIn + Cause, O: ReportOut + Cause, E: ReportOut>(
     rt: &T,
     alloc: Global,
@@ -177,13 +178,13 @@ pub fn serve<T: Threads + Wait + Sync, R: ScriptIn + Cause, O: ReportOut + Cause
 ) -> u8
     ensures few { result ≤ 4 }
     ensures no_usage { result ≢ 2 }
-    // 0 and 4 are answered only where the whole input was read, what the task makes of it was written to the output and nothing else, and
-    // its notices to the stream of errors: 4 where there are any.
+    // 0 and 4 are returned only if the whole input was read, and exactly what the task makes of it was written to the output. It is 4 if
+    // there are notices. They were written to the stream of errors, unless they were to be left out or that stream failed.
     ensures done { result ≡ 0 ⊎ result ≡ 4 → (text : List ℕ) × (answer : Answer) × IsAll (R.left input.old) text × (length text ≤ limit_of order.entry.task) × Answers order.entry.task text answer × (result ≡ answer_status (string_bytes answer.notices)) × Gains (O.written output.old) answer.text.items (O.written output.new) × IsWritten E.written E.failures errors.old (noticed order.entry.quiet (string_bytes answer.notices)) errors.new }
-    // Where a script was played these are the reports of nodes that hold their headlines, which say what matters most.
+    // If a script was played for its reports or its account, the headline holds for its nodes; it says what matters most.
     ensures headline { result ≡ 0 ⊎ result ≡ 4 → (text : List ℕ) × (answer : Answer) × IsAll (R.left input.old) text × IsHeadlinedFor order.entry.task text answer × Gains (O.written output.old) answer.text.items (O.written output.new) }
-    // 1 and 3 are answered only of a failure: its line was written to the stream of errors and nothing else, and nothing to the output,
-    // unless it was the output that failed.
+    // 1 and 3 are returned only for a failure. Exactly its line was written to the stream of errors, unless that stream failed. Nothing was
+    // written to the output, unless the output itself failed.
     ensures failed { result ≢ 0 → result ≢ 4 →
         ((failure : Failure) × (result ≡ failure_status failure) × IsUnread (limit_of order.entry.task) (R.left input.old) (HasFailed (R.failures input.old) (R.failures input.new)) failure × IsTold E.written E.failures errors.old order.entry.name.now [] (R.cause input.new) failure errors.new × (output.new ≡ output.old))
         ⊎ ((failure : Failure) × (text : List ℕ) × (result ≡ failure_status failure) × IsAll (R.left input.old) text × (length text ≤ limit_of order.entry.task) × Fails order.entry.task text failure × IsTold E.written E.failures errors.old order.entry.name.now text [] failure errors.new × (output.new ≡ output.old))

@@ -1,5 +1,5 @@
 -- What a watch kept is what happened.
-use Rattle.std.proofs.Common.{◌≡◌, ◌∙◌, ℕ, true, false, Bool, List, [], ◌∷◌, ◌++◌, Option, refl, sym, ap, inl, inr}
+use Rattle.std.proofs.Common.{◌≡◌, ◌∙◌, ℕ, true, false, List, [], ◌∷◌, ◌++◌, Option, refl, sym, ap, subst, inl, inr}
 use Rattle.scp_core.specs.declared.event.Event.{Event}
 use Rattle.scp_core.specs.declared.event.Event.TheVariants as event
 use Rattle.scp_core.specs.declared.event.Reply.{Reply}
@@ -7,11 +7,12 @@ use Rattle.scp_core.specs.History.{Exchange}
 use Rattle.scp_core.specs.Kv.{NodeView}
 use Rattle.scp_turn.specs.Kv.{Watched}
 use Rattle.scp_network.specs.Heard.{Nodes, Heard, Noted}
+use Rattle.scp_line.proofs.Runs.{quiet_lines}
 use Rattle.scp_kept.specs.declared.happening.Happening.{Happening}
 use Rattle.scp_kept.specs.declared.happening.Kept.{Kept}
 use Rattle.scp_kept.specs.declared.watch.Awaited.{Awaited}
 use Rattle.scp_kept.specs.Kept.{happening_in, kept_of, Keeps}
-use Rattle.scp_kept.specs.Watching.{WatchView, awaited, happens, Awaits, KeepsStep, noting, KeptIsWhatHappened}
+use Rattle.scp_kept.specs.Watching.{WatchView, awaited, happens, Awaits, KeepsStep, noting, keeping, KeptIsWhatHappened, RunIsKept}
 
 -- what is kept is what happened
 happens_so : (e : Event) (r : Reply) (before after' : NodeView) → happens (awaited e before) r after' ≡ happening_in e r before after'
@@ -58,3 +59,17 @@ watched_kept number w z old new (h ∷ heard) noted calm =
 
 pub kept_is_what_happened : KeptIsWhatHappened
 kept_is_what_happened number old new heard first last calm noted = (watched_kept number first last old new heard noted calm).1
+
+-- a run of a script
+pub run_is_kept : RunIsKept
+run_is_kept commands lines network first last calm none run =
+    let noted = quiet_lines keeping (λ old new line command nodes is. is) (λ old new line command rests nodes is. is) commands lines commands first last run.first network.nodes run.played.heard run.noted in
+    let kept = (noted_kept first last run.first network.nodes run.played.heard noted calm).1 in (
+      record {
+        played = run.played;
+        first = run.first;
+        new = run.made;
+        noted = subst (λ (l : List Kept). Noted Keeps l last.kept run.first run.played.heard network.nodes) none kept;
+      },
+      refl,
+    )

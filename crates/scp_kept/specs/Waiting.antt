@@ -9,15 +9,15 @@ use Rattle.scp_script.specs.Nodes.{numbers}
 use Rattle.scp_line.specs.declared.report.Parked.{Parked}
 use Rattle.scp_line.specs.Play.{parked_of}
 
--- the connections over this link, on which this peer sends, of which messages are held, in the order of their lives
+-- the connections over this link whose messages are held, with their numbers, in the order of their lives; this peer sends on them
 abbrev pub parked_over : NodeView → ℕ → NodeId → List Parked
 parked_over v link peer = flat_map (λ life. parked_of v (conn_at peer v.config.me life)) (numbers (lives_at v link))
 
--- those over the links of these peers, the first of which has this number
+-- the same for the links of these peers, the first of which has this number
 abbrev pub parked_behind : NodeView → ℕ → List NodeId → List Parked
 parked_behind v link [] = []
 parked_behind v link (peer ∷ peers) = parked_over v link peer ++ parked_behind v (link + 1) peers
 
--- those of all links of a node, of which there are at most seven, link by link
+-- the same for all links of a node, at most seven, link by link
 abbrev pub parked_in : NodeView → List Parked
 parked_in v = parked_behind v 0 (take PEER_LIMIT v.config.peers)

@@ -1,5 +1,5 @@
--- What a watch knows of a step before it is done, and keeps of it then; and that this is what happened in it.
-use Rattle.std.specs.Prelude.{ℕ, ◌≡◌, ◌⊎◌, Bool, true, false, List, [], ◌++◌, Option, None, length}
+-- What a watch knows of a step before it is done, and what it keeps of the step then; and a law that this is what happened in the step.
+use Rattle.std.specs.Prelude.{ℕ, ◌≡◌, ◌⊎◌, Bool, true, false, List, [], ◌++◌, Option, None, length, slice_get}
 use Rattle.scp_core.specs.declared.event.Event.{Event}
 use Rattle.scp_core.specs.declared.event.Event.TheVariants as event
 use Rattle.scp_core.specs.declared.event.Reply.{Reply}
@@ -12,7 +12,10 @@ use Rattle.scp_kept.specs.declared.happening.Happening.TheVariants.{Opened, Came
 use Rattle.scp_kept.specs.declared.happening.Kept.{Kept}
 use Rattle.scp_kept.specs.declared.watch.Awaited.{Awaited}
 use Rattle.scp_kept.specs.declared.watch.Awaited.TheVariants.{Nothing, AtTail, Drain, Take}
-use Rattle.scp_kept.specs.Kept.{Keeps, accepted, drained, moved, kept_of}
+use Rattle.scp_network.specs.Network.{NetworkView}
+use Rattle.scp_script.specs.declared.command.Command.{Command}
+use Rattle.scp_line.specs.Player.{Lining, lining, IsRun}
+use Rattle.scp_kept.specs.Kept.{Keeps, IsKept, accepted, command_in, drained, moved, kept_of}
 
 -- what contracts see of a watch
 pub record WatchView : Type 0 where
@@ -27,28 +30,36 @@ awaited (event.Send link bytes) node = AtTail (Came link bytes)
 awaited (event.Close link) node = AtTail (Closed link)
 awaited (event.Local command) node = AtTail (Given command)
 awaited (event.Drain link) node = Drain link
-awaited event.SlotTake node = Take (length node.ledger.journal)
+awaited event.SlotTake node = Take (length node.ledger.journal) (command_in (slice_get node.ready 0))
 awaited event node = Nothing
 
--- what happened in it
+-- what happened in the step
 abbrev pub happens : Awaited → Reply → NodeView → Option Happening
 happens (AtTail happening) reply node = accepted happening reply
 happens (Drain link) reply node = drained link reply
-happens (Take entries) reply node = moved entries node reply
+happens (Take entries command) reply node = moved entries command node reply
 happens Nothing reply node = None
 
--- what it knows before a step, unless there was no memory for it
+-- what the watch knows before a step, unless it is out of memory
 abbrev pub Awaits : WatchView → ℕ → Event → NodeView → WatchView → Type 0
 Awaits old number event node new = (new.lacks_memory ≡ true) ⊎ (new ≡ record old { awaited = awaited event node })
 
--- what it keeps behind a step
+-- what the watch keeps after a step, unless it is out of memory
 abbrev pub KeepsStep : WatchView → ℕ → Reply → NodeView → WatchView → Type 0
 KeepsStep old number reply node new = (new.lacks_memory ≡ true) ⊎ (new ≡ record old { awaited = Nothing; kept = old.kept ++ kept_of number (happens old.awaited reply node) })
 
--- what it notes of a step
+-- what the watch notes of a step
 abbrev pub noting : Noting WatchView
 noting = notes Awaits KeepsStep
 
--- What a watch that never lacked memory kept of the steps of a node is what happened in them.
+-- If a watch never ran out of memory, what it kept of a node's steps is what happened in them.
 abbrev pub KeptIsWhatHappened : Type 0
 KeptIsWhatHappened = (number : ℕ) (old new : NodeView) (heard : List Exchange) (first last : WatchView) → last.lacks_memory ≡ false → Watched noting number first old heard new last → Watched Keeps number first.kept old heard new last.kept
+
+-- what the watch notes of a script's run; it notes nothing of lines
+abbrev pub keeping : Lining WatchView
+keeping = lining (λ old line command nodes new. new ≡ old) (λ old line command calm nodes new. new ≡ old) Awaits KeepsStep
+
+-- The same for a run of a script. If a watch never ran out of memory, and had kept nothing before, what it kept is what is kept of the run.
+abbrev pub RunIsKept : Type 0
+RunIsKept = (commands : List Command) (lines : List ℕ) (network : NetworkView) (first last : WatchView) → last.lacks_memory ≡ false → first.kept ≡ [] → (run : IsRun keeping commands lines network first last) → (kept : IsKept commands network last.kept) × (kept.played.heard ≡ run.played.heard)

@@ -1,9 +1,9 @@
-//! What happens at a node, seen from outside.
+//! What happens at a node, as seen from outside.
 
 use scp_core::CommandFate;
 use scp_wire::{Bytes, Command};
 
-/// What came to a node, went from it, or was taken by its slot stage, in one step. Links are numbered as the peers they come from.
+/// What came to a node, went from it, or was taken by its slot stage, in one step. A link has the number of the peer it comes from.
 #[derive(Debug, Drop)]
 pub enum Happening {
     /// The peer opened this link.
@@ -14,10 +14,10 @@ pub enum Happening {
     Closed(u8),
     /// This command came into the inbox.
     Given(Command),
-    /// The slot stage took what has the journal's next entry.
+    /// The slot stage took what the journal's next entry records.
     Entered,
-    /// The slot stage took a command, of which this became. A Tick doesn't come so far.
-    Obeyed(CommandFate),
+    /// The slot stage took this command, and this became of it. A `Tick` never comes this far.
+    Obeyed(Command, CommandFate),
     /// These bytes were sent to the peer of this link.
     Sent(u8, Bytes),
 }

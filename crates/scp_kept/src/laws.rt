@@ -1,7 +1,9 @@
-//! A law of the definitions, the contract of a function that does nothing.
-ghost use Rattle.scp_kept.specs.Watching.{KeptIsWhatHappened};
+//! A law of the definitions. It is the contract of a function that does nothing.
+ghost use Rattle.scp_kept.specs.Watching.{KeptIsWhatHappened, RunIsKept};
 
-/// What a watch kept of the steps of a node, as long as it didn't lack memory, is what happened in them, in their order.
+/// If a watch never ran out of memory, what it kept of the steps of a node is what happened in them, in their order. The same holds for a run
+/// of a script.
 pub fn what_is_kept_is_what_happened()
-    ensures { KeptIsWhatHappened }
+    ensures steps { KeptIsWhatHappened }
+    ensures run { RunIsKept }
 {}

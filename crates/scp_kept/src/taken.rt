@@ -1,12 +1,13 @@
 //! What was kept of one node, and what came to its slot stage.
-ghost use Rattle.std.specs.Prelude.{◌≡◌, map, option_map, option_to_list, IfOk, flat_map};
-ghost use Rattle.scp_kept.specs.Taken.{given, happenings_at as happened_at, ticks};
+ghost use Rattle.std.specs.Prelude.{◌≡◌, map, IfOk};
+ghost use Rattle.scp_kept.specs.Taken.{happenings_at as happened_at, ticks};
 
 use crate::happening::{Happening, Kept};
 use scp_wire::Command;
 use std::alloc::{AllocError, Global};
 
-/// What happened at the node of this number, in its order. It takes time in proportion to all that was kept.
+/// What happened at the node of this number, in order. It takes time in proportion to all that was kept. It fails only if it is out of
+/// memory.
 pub fn happenings_at(
     alloc: Global,
     number: u8,
@@ -23,18 +24,7 @@ pub fn happenings_at(
     Ok(happenings)
 }
 
-/// The command that came for the slot stage, if one did.
-fn command_in(happening: &Happening) -> Option<&Command>
-    ensures { option_to_list (option_map (λ c. c.now) result) ≡ given happening.now }
-{
-    match happening {
-        Happening::Given(Command::Tick) => None,
-        Happening::Given(command) => Some(command),
-        _ => None,
-    }
-}
-
-/// How many ticks came: no slot stage takes them.
+/// The number of ticks that came. No slot stage takes them.
 pub fn ticks_of(happenings: &[&Happening]) -> usize
     ensures { result ≡ ticks (map (λ h. h.now) happenings.now) }
 {
@@ -45,20 +35,4 @@ pub fn ticks_of(happenings: &[&Happening]) -> usize
         }
     }
     count
-}
-
-/// The commands that came for the slot stage, in their order.
-pub fn commands_of<'a>(
-    alloc: Global,
-    happenings: &[&'a Happening],
-) -> Result<Vec<&'a Command>, AllocError>
-    ensures { IfOk result (λ commands. map (λ c. c.now) commands.items ≡ flat_map given (map (λ h. h.now) happenings.now)) }
-{
-    let mut commands = Vec::new(alloc);
-    for happening in happenings {
-        if let Some(command) = command_in(*happening) {
-            commands.push(command)?;
-        }
-    }
-    Ok(commands)
 }

@@ -41,7 +41,7 @@ fn add_link(
     Ok(())
 }
 
-/// The peers of a node's links, of which there are at most seven.
+/// The peers of a node's links: the first seven, if there are more.
 pub fn first_peers(peers: &[NodeId]) -> &[NodeId]
     ensures first { result.now ≡ take PEER_LIMIT peers.now }
     ensures few { length result.now ≤ PEER_LIMIT }
@@ -52,7 +52,7 @@ pub fn first_peers(peers: &[NodeId]) -> &[NodeId]
     }
 }
 
-/// The connections of which a node holds messages, link by link and by their lives, and how many it holds.
+/// The connections whose messages a node holds, link by link and by their lives, each with the number of messages.
 pub fn parked_at(alloc: Global, node: &Node) -> Result<Vec<Parked>, AllocError>
     ensures { IfOk result (λ parked. parked.items ≡ parked_in node.now) }
 {

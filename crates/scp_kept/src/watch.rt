@@ -1,11 +1,14 @@
-//! Who keeps what happens at nodes.
-ghost use Rattle.std.specs.Prelude.{◌≡◌, [], false, true, IfOk, OnOk};
-ghost use Rattle.scp_kept.specs.Kept.{taken_by};
+//! A watch that keeps what happens at nodes.
+ghost use Rattle.std.specs.Prelude.{◌≡◌, [], false, true, IfOk, OnOk, option_copied};
+ghost use Rattle.scp_kept.specs.Kept.{command_in as command_by, taken_by};
 ghost use Rattle.scp_kept.specs.Watching.{awaited, happens};
 ghost use Rattle.scp_kept.specs.inside.Adding.{Adds};
 
 use crate::happening::{Happening, Kept};
-use scp_core::{Event, KvDriver, Node, Reply};
+use scp_core::{Command, Event, KvDriver, Node, Reply};
+use scp_line::LineWatch;
+use scp_pending::Ready;
+use scp_script::Command as ScriptCommand;
 use scp_turn::Watch;
 use scp_types::Fault;
 use std::alloc::Global;
@@ -14,25 +17,25 @@ use std::marker::Model;
 /// What is known of a step before it is done.
 #[derive(Debug, Drop)]
 pub enum Awaited {
-    /// It tells nothing.
+    /// Nothing is kept of it.
     Nothing,
-    /// This happens where it is accepted.
+    /// This happens if the event is accepted.
     AtTail(Happening),
     /// It drains this link.
     Drain(u8),
-    /// The slot stage takes something; the journal has so many entries.
-    Take(usize),
+    /// The slot stage takes something, which may be this command. The journal has this number of entries.
+    Take(usize, Option<Command>),
 }
 
-/// Keeps what happens at nodes, in the order of the steps.
+/// A watch that keeps what happens at nodes, in the order of the steps.
 pub struct KeepingWatch {
     kept: Vec<Kept>,
     awaited: Awaited,
-    /// Whether there was no memory for what happened.
+    /// Whether it ran out of memory for what happened.
     lacks_memory: bool,
 }
 
-// (written out, so that whoever lets one go has one call to prove)
+// (written out, so that whoever drops one has one call to prove)
 impl Drop for KeepingWatch {
     fn drop(self) {
         let KeepingWatch {
@@ -51,7 +54,17 @@ impl Model for KeepingWatch {
     ghost view = { λ w. record { kept = w.kept.items; awaited = w.awaited; lacks_memory = w.lacks_memory } };
 }
 
-/// What is known of a step before it is done. The one refusal is want of memory.
+/// The command, if the slot stage's next item is one.
+fn command_in(ready: Option<&Ready>) -> Result<Option<Command>, Fault>
+    ensures { IfOk result (λ command. command ≡ command_by (option_copied ready.entry)) }
+{
+    match ready {
+        Some(Ready::Local(command)) => Ok(Some(command.copy()?)),
+        Some(Ready::Deliver(_) | Ready::Dropped { .. } | Ready::Closed { .. }) | None => Ok(None),
+    }
+}
+
+/// What is known of a step before it is done. The only refusal is `NoMemory`.
 fn awaited_of(event: &Event, node: &Node) -> Result<Awaited, Fault>
     ensures { IfOk result (λ found. found ≡ awaited event.now node.now) }
 {
@@ -61,32 +74,32 @@ fn awaited_of(event: &Event, node: &Node) -> Result<Awaited, Fault>
         Event::Close(link) => Awaited::AtTail(Happening::Closed(*link)),
         Event::Local(command) => Awaited::AtTail(Happening::Given(command.copy()?)),
         Event::Drain(link) => Awaited::Drain(*link),
-        Event::SlotTake => Awaited::Take(node.journal().len()),
+        Event::SlotTake => Awaited::Take(node.journal().len(), command_in(node.next_ready())?),
         _ => Awaited::Nothing,
     })
 }
 
-/// What the slot stage took: the journal had so many entries before.
-fn taken(entries: usize, node: &Node) -> Option<Happening>
-    ensures { result ≡ taken_by entries node.now }
+/// What the slot stage took, which may be this command. The journal had this number of entries before.
+fn taken(entries: usize, command: Option<Command>, node: &Node) -> Option<Happening>
+    ensures { result ≡ taken_by entries command node.now }
 {
     if entries < node.journal().len() {
         return Some(Happening::Entered);
     }
-    match node.last_command() {
-        Some(fate) => Some(Happening::Obeyed(fate)),
-        None => None,
+    match (command, node.last_command()) {
+        (Some(command), Some(fate)) => Some(Happening::Obeyed(command, fate)),
+        _ => None,
     }
 }
 
-/// What happened in a step. The one refusal is want of memory.
+/// What happened in a step. The only refusal is `NoMemory`.
 fn happening_of(awaited: Awaited, reply: &Reply, node: &Node) -> Result<Option<Happening>, Fault>
     ensures { IfOk result (λ found. found ≡ happens awaited reply.now node.now) }
 {
     Ok(match (awaited, reply) {
         (Awaited::AtTail(happening), Reply::Accepted) => Some(happening),
         (Awaited::Drain(link), Reply::Sent(bytes)) => Some(Happening::Sent(link, bytes.copy()?)),
-        (Awaited::Take(entries), Reply::Moved) => taken(entries, node),
+        (Awaited::Take(entries, command), Reply::Moved) => taken(entries, command, node),
         _ => None,
     })
 }
@@ -103,7 +116,7 @@ impl KeepingWatch {
         }
     }
 
-    /// Whether there was no memory for what happened.
+    /// Whether it ran out of memory for what happened.
     pub fn lacks_memory(&self) -> bool
         ensures { result ≡ self.now.lacks_memory }
     {
@@ -157,4 +170,16 @@ impl Watch<KvDriver> for KeepingWatch {
             Err(_) => self.lacks_memory = true,
         }
     }
+}
+
+impl LineWatch for KeepingWatch {
+    ghost use Rattle.std.specs.Prelude.{◌≡◌};
+
+    ghost notes_begin = { λ old _ _ _ new. new ≡ old };
+
+    ghost notes_end = { λ old _ _ _ _ new. new ≡ old };
+
+    fn begin_line(&mut self, _line: usize, _command: &ScriptCommand, _nodes: &[Node]) {}
+
+    fn end_line(&mut self, _line: usize, _command: &ScriptCommand, _calm: bool, _nodes: &[Node]) {}
 }

@@ -13,6 +13,8 @@ pub mod Lines
 pub mod Making
 pub mod Reports
 pub mod Scripts
+pub mod Runs
 pub mod Threaded
 pub mod Headlines
 pub mod Others
+pub mod Locals

@@ -64,7 +64,7 @@ first_moment commands network are = record {
       (subst (λ (n : ℕ). IsNew commands n v) number (new_at commands network.nodes (to - 1) v are.nodes at));
 }
 
-pub nothing_played : (commands : List Command) (network : NetworkView) → AreMade commands network → ArePlayed commands [] [] network.nodes
+abbrev pub nothing_played : (commands : List Command) (network : NetworkView) → AreMade commands network → ArePlayed commands [] [] network.nodes
 nothing_played commands network are = record {
   first = network.nodes;
   new = are.nodes;

@@ -5,6 +5,7 @@ use Rattle.std.proofs.lemmas.Option.{slice_get_read, slice_get_past}
 use Rattle.scp_types.specs.declared.fault.Fault.{Fault}
 use Rattle.scp_types.specs.declared.fault.Fault.TheVariants.{NoMemory, Malformed, TooLong, Insane, Full, NotOpen, AlreadyOpen, LivesSpent, BadConfig, Failed, JournalFull, BadScript, Refused, Device}
 use Rattle.scp_threaded_script.specs.scp_gather.specs.Kv.{NodeReport}
+use Rattle.scp_threaded_script.specs.Rooms.{capacities_in}
 use Rattle.scp_threaded_script.specs.scp_threaded_node.specs.Sources.{HaveRoom}
 use Rattle.scp_types.specs.declared.fault.Stage.{Stage}
 use Rattle.scp_types.specs.declared.fault.Stage.TheVariants.{Reader, Pend, Slot, Apply}
@@ -13,7 +14,7 @@ use Rattle.scp_threaded_script.specs.Reported.{AreNodesReported, IsGivenUp, IsLi
 use Rattle.scp_threaded_script.proofs.Ending.{IsOfNodes, given_up_by_nodes}
 use Rattle.scp_script.specs.declared.command.Command.{Command}
 use Rattle.scp_script.specs.Script.{IsScript, commands_in, node_count}
-use Rattle.scp_script.specs.Nodes.{capacities_in, reports_in}
+use Rattle.scp_script.specs.Nodes.{reports_in}
 use Rattle.scp_line.specs.Play.{IsNamed}
 use Rattle.scp_line.specs.Threads.{report_gathered, report_gathered_at, AreGatheredReports, AreGivenUp, IsThreadsFault}
 use Rattle.scp_line.proofs.Fits.{script_fits}

@@ -1,4 +1,5 @@
--- What a script prints is the reports of nodes that hold their headlines: where they went one step after another, and where they ran in threads.
+-- The headline holds for each node that a script's text reports: for nodes that run one step at a time, and for nodes whose stages run in
+-- threads.
 use Rattle.std.specs.Prelude.{ℕ, ◌+◌, ◌<◌, ◌≡◌, List, flat_map, get_or, length}
 use Rattle.scp_kv.specs.State.{fold_of}
 use Rattle.scp_apply.specs.Applied.{values_of}
@@ -19,21 +20,21 @@ use Rattle.scp_script.specs.Nodes.{id_of, peers_of, reports_in, set_at}
 use Rattle.scp_line.specs.Play.{ArePlayed, report_at}
 use Rattle.scp_line.specs.Threads.{report_gathered_at}
 
--- The nodes played all these commands, and each of them holds its headline, by what it heard.
+-- The nodes played all these commands, and the headline holds for each of them, for what it heard.
 pub record AreNodesHeadlined (commands : List Command) (nodes : Nodes) : Type 0 where
   pub heard : List Heard
   pub played : ArePlayed commands commands heard nodes
   pub headlines : (i : ℕ) → (d : NodeView) → i < length nodes → HoldsHeadline (past_at (i + 1) heard) (get_or nodes i d)
 
--- The text is the reports that the script asks for, one for each `report` line, in their order, of nodes that played all its lines, each
--- of which holds its headline.
+-- The text is the reports that the script asks for: one for each `report` line, in the order of the lines. The nodes played all lines of the
+-- script, and the headline holds for each of them.
 pub record AreHeadlined (script text : List ℕ) : Type 0 where
   pub nodes : Nodes
   pub each : AreNodesHeadlined (commands_in script) nodes
   pub reports : text ≡ flat_map (report_at nodes) (reports_in (commands_in script))
 
--- The headline of the node of this number holds, of books that show what its report shows: over each link that the script drives went what
--- the lines put on it, over each other one what a courier carried. And its state is what the applied values make.
+-- The headline holds for the node of this number, with books that show what its report shows. Each link that the script drives carried what
+-- the lines put on it; each other link carried what a courier sent. The node's state is what the applied values make.
 pub record IsHeadlined (commands : List Command) (number : ℕ) (r : NodeReport) : Type 0 where
   pub left : Left
   pub stood : List Stood
@@ -43,13 +44,13 @@ pub record IsHeadlined (commands : List Command) (number : ℕ) (r : NodeReport)
   pub headline : Headline (books_reported (id_of number) (set_at number commands) (peers_of (node_count commands) number) left r.journal.items r.applied.items)
   pub state_is : r.state ≡ fold_of (values_of r.applied.items)
 
--- of each node that a script has what is reported holds its headline, of the first node on
+-- There is one report for each node of the script, from node 1 on, and the headline holds for each of them.
 pub record AreReportsHeadlined (commands : List Command) (nodes : List NodeReport) : Type 0 where
   pub count : length nodes ≡ node_count commands
   pub headlines : Each (λ i r. IsHeadlined commands (i + 1) r) nodes
 
--- The text is the reports that the script asks for, of nodes whose stages ran in threads: of each node that the script has, one that holds
--- its headline.
+-- The text is the reports that the script asks for: one for each `report` line, in the order of the lines. The stages of the nodes ran in
+-- threads. There is one node for each that the script has, and the headline holds for each.
 pub record AreGatheredHeadlined (script text : List ℕ) : Type 0 where
   pub nodes : List NodeReport
   pub each : AreReportsHeadlined (commands_in script) nodes
@@ -57,10 +58,10 @@ pub record AreGatheredHeadlined (script text : List ℕ) : Type 0 where
 
 -- ---- the laws of both
 
--- of what nodes heard that played commands, each holds its headline
+-- If nodes played these commands, the headline holds for each of them.
 abbrev pub PlayingKeepsHeadlines : Type 0
 PlayingKeepsHeadlines = (commands : List Command) (heard : List Heard) (nodes : Nodes) → ArePlayed commands commands heard nodes → AreNodesHeadlined commands nodes
 
--- what is told of a script's nodes that ran in threads holds their headlines
+-- If these are the reports of a script's nodes that ran in threads, the headline holds for each of them.
 abbrev pub ReportingKeepsHeadlines : Type 0
 ReportingKeepsHeadlines = (commands : List Command) (nodes : List NodeReport) → AreNodesReported commands nodes → AreReportsHeadlined commands nodes

@@ -5,6 +5,7 @@ pub mod Parts
 pub mod Play
 pub mod Links
 pub mod Nodes
+pub mod Player
 pub mod Laws
 pub mod Threads
 pub mod Headlines

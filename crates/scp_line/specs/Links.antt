@@ -1,4 +1,4 @@
--- The links of a script's nodes, as its lines say.
+-- The links of a script's nodes, and what its lines say of them.
 use Rattle.std.specs.Prelude.{ℕ, ◌-◌, ◌≤◌, ◌≡◌, ◌≢◌, List, Some, length, map, slice_get}
 use Rattle.scp_wire.specs.Shape.{Tail}
 use Rattle.scp_network.specs.scp_core.specs.Node.{LinkView}
@@ -16,10 +16,10 @@ tail_at k = record { life = k.life; is_open = k.is_open }
 abbrev pub tails : NodeView → List Tail
 tails v = map tail_at v.links
 
--- how often lines opened a link, and whether they left it open
+-- how often the lines opened the link between these nodes, and whether they left it open
 abbrev pub tail_said : ℕ → ℕ → List Command → Tail
 tail_said from to done = record { life = lives from to done; is_open = is_open from to done }
 
--- each link of each node was opened as often, and is open, as the lines say
+-- Each link between two different nodes was opened as often as the lines say, and is open exactly if the lines left it open.
 abbrev pub AreLinked : List Command → Nodes → Type 0
 AreLinked done nodes = (from to : ℕ) → 1 ≤ from → from ≤ length nodes → 1 ≤ to → to ≤ length nodes → from ≢ to → (v : NodeView) → slice_get nodes (to - 1) ≡ Some v → slice_get (tails v) (link_of from to) ≡ Some (tail_said from to done)

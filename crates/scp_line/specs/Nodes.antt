@@ -1,4 +1,4 @@
--- What the nodes of a script hear more, while it is played.
+-- What the nodes of a script hear from line to line, while the script is played.
 use Rattle.std.specs.Prelude.{ℕ, ◌+◌, ◌<◌, ◌≡◌, ◌≢◌, ◌⊎◌, Bool, true, false, List, Option, Some, None, Result, Ok, Err, length, slice_get}
 use Rattle.scp_types.specs.declared.fault.Fault.TheVariants.{NoMemory, Failed as failing, Full as full}
 use Rattle.scp_network.specs.scp_core.specs.declared.event.Event.{Event}
@@ -20,21 +20,21 @@ use Rattle.scp_line.specs.declared.playing.PlayFault.{PlayFault}
 use Rattle.scp_line.specs.Links.{AreLinked}
 use Rattle.scp_line.specs.Play.{AreNew, Answers, ArePlayed, Stops, Overflows, driven_in, event_by, config_of}
 
--- the capacities that commands say are in range
+-- the capacities that the commands give are in range
 abbrev pub HaveRoom : List Command → Type 0
 HaveRoom commands = AreInRange (config_of commands 1).capacities
 
--- the nodes of a script, as they were made
+-- The nodes of a script as they were made, with the links on which the script alone sends.
 pub record AreMade (commands : List Command) (network : NetworkView) : Type 0 where
   pub nodes : AreNew commands network.nodes
   pub driven : network.driven ≡ driven_in commands
 
--- each node is who the script says
+-- each node has the configuration that the script gives it: its id, its quorum set, its peers and its capacities
 abbrev pub AreWho : List Command → Nodes → Type 0
 AreWho commands nodes = (i : ℕ) → (v : NodeView) → slice_get nodes i ≡ Some v → v.config ≡ config_of commands (i + 1)
 
--- Lines of a script were played by a network, from the first line on: by its nodes, of which none failed and each is who the script says,
--- and whose links are as these lines say.
+-- A network played the lines `done` of a script, from the first line on. None of its nodes failed. Each has the configuration that the script
+-- gives it, and its links are as these lines left them.
 pub record HasPlayed (commands done : List Command) (network : NetworkView) : Type 0 where
   pub heard : List Heard
   pub played : ArePlayed commands done heard network.nodes
@@ -60,42 +60,44 @@ brings_to_rest script.Settle = true
 brings_to_rest (script.Wait at things) = true
 brings_to_rest (script.Report at) = false
 
--- ---- what a line makes them hear, from one moment to another
+-- ---- what a line makes the nodes hear, from one moment to the next
 
--- a network, and who watches it
+-- a network, and the watch that sees its steps
 pub record Watching (W : Type 0) : Type 0 where
   pub network : NetworkView
   pub watch : W
 
--- a network, and who watches it
+-- a network, and the watch that sees its steps
 abbrev pub moment : {W : Type 0} → NetworkView → W → Watching W
 moment {W} network watch = record { network = network; watch = watch }
 
--- the nodes heard more, of which this holds, and the watch noted each step of it
+-- The nodes heard more events, for which `Is` holds, and the watch noted each step of it. The links that the script drives are the same as
+-- before.
 abbrev pub Goes : {W : Type 0} → Noting W → Watching W → Watching W → (Nodes → List Heard → Nodes → Type 0) → Type 0
 Goes {W} Note old new Is = Hear old.network.nodes new.network.nodes (With (Noted Note old.watch new.watch) Is) × (new.network.driven ≡ old.network.driven)
 
--- a line's event, of a node of this number, isn't heard: there is none, or no such node
+-- Nobody hears the line's event: the line has none, or no node has its number.
 abbrev pub IsMissed : NetworkView → Option (ℕ × Event) → Type 0
 IsMissed network None = Unit {0}
 IsMissed network (Some offered) = (offered.0 ≡ 0) ⊎ (length network.nodes < offered.0)
 
--- an offer: the answer and the number of the node
+-- The line's event was offered to its node, and the result is the node's number with its reply. There is no result where nobody hears the
+-- event; then nothing changed.
 abbrev pub Offers : {W : Type 0} → Noting W → Watching W → Command → Option (ℕ × Reply) → Watching W → Type 0
 Offers {W} Note old command None new = (new ≡ old) × IsMissed old.network (event_by command)
 Offers {W} Note old command (Some answer) new = (event : Event) × (event_by command ≡ Some (answer.0, event)) × Goes Note old new (Answers (answer.0, event) answer.1)
 
--- the nodes came to rest, or went on to the last round, and none failed; or one failed
+-- The nodes came to rest, or stopped after the last round that they may do, and none failed. Or a node failed, which the fault names.
 abbrev pub Settles : {W : Type 0} → Noting W → Watching W → Watching W → Result Bool PlayFault → Type 0
 Settles {W} Note old new (Ok calm) = Goes Note old new (RestsAs old.network.driven (length old.network.nodes) calm) × AllRun new.network.nodes
 Settles {W} Note old new (Err e) = (e.fault ≡ failing) × Goes Note old new (Breaks old.network.driven (length old.network.nodes) e.node)
 
--- there was no memory for an event
+-- out of memory, with no node named
 abbrev pub IsWant : PlayFault → Type 0
 IsWant e = (e.fault ≡ NoMemory) × (e.node ≡ 0)
 
--- a line's event was offered, and the nodes had come to rest as often as it brought them to it, or hadn't; where it found no room this was
--- done
+-- A line's event was offered, and the answer is `calm`, which says whether the nodes came to rest so far. Where the event's queue was full,
+-- `IfFull` says what was done then. The faults are: out of memory; a node that neither took the event nor was full; and those of `IfFull`.
 abbrev pub Tries : {W : Type 0} → Noting W → Bool → (Watching W → Watching W → Result Bool PlayFault → Type 0) → Watching W → Command → Watching W → Result Bool PlayFault → Type 0
 Tries {W} Note calm IfFull old command new (Ok answer) =
     ((answer ≡ calm) × Offers Note old command None new)
@@ -106,29 +108,30 @@ Tries {W} Note calm IfFull old command new (Err e) =
     ⊎ (((reply : Reply) × (reply ≢ Accepted) × (reply ≢ Full) × Offers Note old command (Some (e.node, reply)) new)
     ⊎ ((number : ℕ) × (mid : Watching W) × Offers Note old command (Some (number, Full)) mid × IfFull mid new (Err e)))
 
--- it was given up
+-- The line was abandoned: nothing changed, the fault is `Full`, and no node is named.
 abbrev pub GivesUp : {W : Type 0} → Watching W → Watching W → Result Bool PlayFault → Type 0
 GivesUp {W} old new (Ok answer) = ⊥
 GivesUp {W} old new (Err e) = (new ≡ old) × (e.fault ≡ full) × (e.node ≡ 0)
 
--- the nodes came to rest, or went on to the last round, or one failed; then the event was offered once again
+-- The nodes came to rest, stopped after the last round, or one failed. Where none failed, the event was offered once more.
 abbrev pub ActsAgain : {W : Type 0} → Noting W → Watching W → Command → Watching W → Result Bool PlayFault → Type 0
 ActsAgain {W} Note old command new result =
     ((e : PlayFault) × (result ≡ Err e) × Settles Note old new (Err e))
     ⊎ ((mid : Watching W) × (calm : Bool) × Settles Note old mid (Ok calm) × Tries Note calm GivesUp mid command new result)
 
--- a line was done, of which a watch noted each step, or why not
+-- A line was done, and the watch noted each step of it; or the result says why it wasn't done.
 abbrev pub Acts : {W : Type 0} → Noting W → Watching W → Command → Watching W → Result Bool PlayFault → Type 0
 Acts {W} Note old command new result =
     ((brings_to_rest command ≡ true) × Settles Note old new result)
     ⊎ ((brings_to_rest command ≡ false) × Tries Note true (λ mid last done. ActsAgain Note mid command last done) old command new result)
 
--- a line was done with nobody told, or why not
+-- A line was done without a watch, or the result says why it wasn't done.
 abbrev pub ActsAlone : NetworkView → Command → NetworkView → Result (Unit {0}) PlayFault → Type 0
 ActsAlone old command new (Ok done) = (calm : Bool) × (before after' : NoWatch) × Acts unwatched (moment old before) command (moment new after') (Ok calm)
 ActsAlone old command new (Err e) = (before after' : NoWatch) × Acts unwatched (moment old before) command (moment new after') (Err e)
 
--- why the line behind these wasn't done
+-- Why the line after these wasn't done: out of memory, a node failed at this line, or the line's queue was full even after the nodes came to
+-- rest.
 abbrev pub IsStoppedAt : List Command → List Command → PlayFault → Type 0
 IsStoppedAt commands before e =
     IsWant e

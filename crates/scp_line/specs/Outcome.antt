@@ -1,4 +1,4 @@
--- How a call that failed is told, and what it may fail for.
+-- How a fault is reported, and which faults a call may have.
 use Rattle.std.specs.Prelude.{ℕ, List, ◌++◌, codes}
 use Rattle.std.specs.Fmt.{decimal}
 use Rattle.scp_types.specs.declared.fault.Fault.{Fault}
@@ -14,21 +14,21 @@ stage_word Pend = codes "pend"
 stage_word Slot = codes "slot"
 stage_word Apply = codes "apply"
 
--- the line that tells a fault; the node counts for two of them
+-- The line that reports a fault. The node's number appears only for `Failed` and `Refused`.
 abbrev pub fault_line : ℕ → Fault → List ℕ
 fault_line node (BadScript line) = codes "fault 12 line " ++ decimal line ++ codes "\n"
 fault_line node Failed = codes "fault 10 node " ++ decimal node ++ codes "\n"
 fault_line node (Refused stage) = codes "fault 13 node " ++ decimal node ++ codes " " ++ stage_word stage ++ codes "\n"
 fault_line node fault = codes "fault " ++ decimal (number_of fault) ++ codes "\n"
 
--- 1 for a script or a message, 3 for a node, memory or the device
+-- The exit status of a fault: 1 for a script or message that is malformed, too long or bad, 3 for every other fault.
 abbrev pub status_of : Fault → ℕ
 status_of (Malformed place) = 1
 status_of TooLong = 1
 status_of (BadScript line) = 1
 status_of fault = 3
 
--- why a script isn't found to be one
+-- Why a check refuses: out of memory, the script is too long, the reader or the writer failed, or a line is bad.
 abbrev pub IsCheckFault : Fault → Type 0
 IsCheckFault NoMemory = Unit {0}
 IsCheckFault TooLong = Unit {0}
@@ -36,7 +36,8 @@ IsCheckFault Device = Unit {0}
 IsCheckFault (BadScript line) = Unit {0}
 IsCheckFault fault = ⊥
 
--- why a script isn't played: it can't be read, a line is bad, a node failed, a queue was full also after a settle, or the reports had no memory or no taker
+-- Why a script isn't played: out of memory, the script is too long, the reader or the writer failed, a line is bad, a node failed, or a queue
+-- was full even after a settle.
 abbrev pub IsPlayFault : Fault → Type 0
 IsPlayFault NoMemory = Unit {0}
 IsPlayFault TooLong = Unit {0}

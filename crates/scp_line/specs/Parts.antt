@@ -1,4 +1,4 @@
--- What a report tells of a node, and the lines of connections in a map.
+-- What a report shows of a node.
 use Rattle.std.specs.Prelude.{ℕ, List, [], Option, Some, None}
 use Rattle.std.proofs.Common.{Bor}
 use Rattle.std.specs.FinMap as map
@@ -6,17 +6,17 @@ use Rattle.scp_kv.specs.Map.{KvMap}
 use Rattle.scp_line.specs.Report.{ReportView}
 use Rattle.scp_line.specs.declared.report.ReportParts.{ReportParts}
 
--- the keys with their values, or nothing of a state that can't be read
+-- the keys with their values; none where there is no state
 abbrev pub state_of : Option (Bor KvMap) → List (List ℕ × List ℕ)
 state_of (Some state) = map.entries state.now
 state_of None = []
 
--- the same of a state that a definition names
+-- the same, for a state that a definition names
 abbrev pub entries_of : Option KvMap → List (List ℕ × List ℕ)
 entries_of (Some state) = map.entries state
 entries_of None = []
 
--- what a report tells of a node, of the parts that `write_report` is given
+-- what a report shows of a node, from the parts that `write_report` is given
 abbrev pub view_of : ReportParts → ReportView
 view_of parts = record {
   node = parts.node;

@@ -1,5 +1,5 @@
--- What is played and shown.
-use Rattle.std.specs.Prelude.{ℕ, ◌+◌, ◌-◌, ◌<◌, ◌≤◌, ◌≡◌, ◌⊎◌, Bool, true, false, List, [], ◌∷◌, ◌++◌, Option, Some, None, Err, flat_map, fold, replicate, length, codes, nat_eq, nat_lt, slice_get, get_or, option_to_list, if◌then◌else◌}
+-- What playing a script means, and which line shows a message.
+use Rattle.std.specs.Prelude.{ℕ, ◌+◌, ◌-◌, ◌<◌, ◌≤◌, ◌≡◌, ◌⊎◌, Bool, true, false, List, [], ◌∷◌, ◌++◌, Option, Some, None, Err, flat_map, fold, replicate, length, codes, nat_eq, nat_lt, slice_get, get_or, option_map, option_to_list, if◌then◌else◌}
 use Rattle.std.specs.Fmt.{decimal}
 use Rattle.scp_types.specs.declared.names.ConnId.{ConnId}
 use Rattle.scp_types.specs.declared.fault.Fault.{Fault}
@@ -10,7 +10,7 @@ use Rattle.scp_envelope.specs.declared.statement.Pledges.{Pledges}
 use Rattle.scp_envelope.specs.declared.statement.Pledges.TheVariants.{Prepare, Confirm, Externalize, Nominate}
 use Rattle.scp_wire.specs.declared.message.Message.{Message}
 use Rattle.scp_wire.specs.declared.message.Message.TheVariants.{Envelope, GetSet, Set, NoSet, GetRecord, Record, Records}
-use Rattle.scp_wire.specs.declared.link.Command.TheVariants.{Propose, Round, Timer, Tick, Ask}
+use Rattle.scp_wire.specs.declared.link.Command.{Command as LocalCommand}
 use Rattle.scp_wire.specs.Message.{message_reading}
 use Rattle.scp_wire.specs.Reading.{reading_of}
 use Rattle.scp_wire.specs.Connections.{conn_at}
@@ -25,6 +25,7 @@ use Rattle.scp_network.specs.scp_core.specs.declared.event.Reply.{Reply}
 use Rattle.scp_network.specs.scp_core.specs.declared.event.Reply.TheVariants.{Accepted, Full}
 use Rattle.scp_network.specs.scp_core.specs.Node.{LinkView, is_full, lives_at}
 use Rattle.scp_network.specs.scp_core.specs.Kv.{NodeView, LedgerTheorem, HoldsLedger}
+use Rattle.scp_threaded_script.specs.Lines.{local_by}
 use Rattle.scp_script.specs.declared.command.Command.{Command}
 use Rattle.scp_script.specs.declared.command.Command.TheVariants as script
 use Rattle.scp_script.specs.Words.{hex_bytes}
@@ -38,22 +39,12 @@ use Rattle.scp_network.specs.Heard.{Nodes, Heard, HaveHeard, past_at, Then, IsNo
 use Rattle.scp_network.specs.Rounds.{link_of, Rests, RestsAs, Breaks, AllRun}
 use Rattle.scp_network.specs.Network.{driven_more}
 
--- the event that a command is, and the number of the node that hears it
+-- The number of the node that hears a command, and the event that it hears. Some commands are no event.
 abbrev pub event_by : Command → Option (ℕ × Event)
-event_by (script.Caps capacities) = None
-event_by (script.Nodes count quorum) = None
-event_by (script.Set at set) = None
 event_by (script.Open from to) = Some (to, event.Open (link_of from to))
 event_by (script.Close from to) = Some (to, event.Close (link_of from to))
 event_by (script.Send from to bytes) = Some (to, event.Send (link_of from to) bytes)
-event_by (script.Propose at slot value) = Some (at, event.Local (Propose (record { 0 = slot }) value))
-event_by (script.Round at slot) = Some (at, event.Local (Round (record { 0 = slot })))
-event_by (script.Timer at slot) = Some (at, event.Local (Timer (record { 0 = slot })))
-event_by (script.Tick at) = Some (at, event.Local Tick)
-event_by (script.Ask from to slot) = Some (from, event.Local (Ask (link_of to from) (record { 0 = slot })))
-event_by script.Settle = None
-event_by (script.Wait at things) = None
-event_by (script.Report at) = None
+event_by command = option_map (λ (given : ℕ × LocalCommand). (given.0, event.Local given.1)) (local_by command)
 
 -- the links on which the script alone sends: those that a `send` line names
 abbrev pub driven_by : List Bool → Command → List Bool
@@ -64,22 +55,22 @@ driven_by driven command = driven
 abbrev pub driven_in : List Command → List Bool
 driven_in commands = fold driven_by (replicate 64 false) commands
 
--- the node of a number heard an event, and answered so
+-- the node of this number heard this event, and gave this reply
 abbrev pub Answers : ℕ × Event → Reply → Nodes → List Heard → Nodes → Type 0
 Answers offered reply = IsOne (record { node = offered.0; event = offered.1; reply = reply })
 
--- A line's event was accepted by its node: at once, or after the nodes had come to rest, or hadn't in so many rounds, where there was no
--- room.
+-- A line's event was accepted by its node. Either the node accepted it at once, or the queue was full. Then the nodes came to rest, or
+-- stopped after the last round, as `calm` says, and the node accepted the event.
 abbrev pub IsOffered : List Bool → ℕ → Bool → ℕ × Event → Nodes → List Heard → Nodes → Type 0
 IsOffered driven count calm offered old heard new =
     ((calm ≡ true) × Answers offered Accepted old heard new) ⊎ Then (Answers offered Full) (Then (RestsAs driven count calm) (Answers offered Accepted)) old heard new
 
--- what the nodes hear of a line's event: nothing where it has none, else what its offer says
+-- What the nodes hear of a line's event: nothing if the line has none, else what offering the event says.
 abbrev pub HearsBy : List Bool → ℕ → Bool → Option (ℕ × Event) → Nodes → List Heard → Nodes → Type 0
 HearsBy driven count calm None old heard new = (calm ≡ true) × IsNothing old heard new
 HearsBy driven count calm (Some offered) old heard new = IsOffered driven count calm offered old heard new
 
--- what the nodes heard of a line, where they came to rest as often as it brought them to it, or didn't
+-- What the nodes heard of a line. `calm` says whether they came to rest where the line brought them to it.
 abbrev pub HearsAs : List Bool → ℕ → Bool → Command → Nodes → List Heard → Nodes → Type 0
 HearsAs driven count calm script.Settle = RestsAs driven count calm
 HearsAs driven count calm (script.Wait at things) = RestsAs driven count calm
@@ -89,12 +80,12 @@ HearsAs driven count calm command = HearsBy driven count calm (event_by command)
 abbrev pub Hears : List Bool → ℕ → Command → Nodes → List Heard → Nodes → Type 0
 Hears driven count command old heard new = (calm : Bool) × HearsAs driven count calm command old heard new
 
--- what they heard of lines, one after the other
+-- what the nodes heard of these lines, one after the other
 abbrev pub Played : List Bool → ℕ → List Command → Nodes → List Heard → Nodes → Type 0
 Played driven count [] = IsNothing
 Played driven count (command ∷ commands) = Then (Hears driven count command) (Played driven count commands)
 
--- who the node of this number is, and what its queues hold
+-- The configuration of the node of this number: its id, its quorum set, its peers, and the capacities of its queues.
 abbrev pub config_of : List Command → ℕ → Config
 config_of commands number = record {
   me = id_of number;
@@ -108,18 +99,18 @@ config_of commands number = record {
   };
 }
 
--- the nodes of a script as they were made: they are who it says, and heard nothing
+-- The node of this number as it was made: it has the configuration that the script gives it, and has heard nothing.
 pub record IsNew (commands : List Command) (number : ℕ) (node : NodeView) : Type 0 where
   pub config : node.config ≡ config_of commands number
   pub theorem : LedgerTheorem [] node
 
--- as many nodes as the script has, each as it is made and as the script says
+-- As many nodes as the script has, each as it was made.
 pub record AreNew (commands : List Command) (nodes : Nodes) : Type 0 where
   pub count : length nodes ≡ node_count commands
   pub each : (i : ℕ) → (d : NodeView) → i < length nodes → IsNew commands (i + 1) (get_or nodes i d)
 
--- Lines of a script were played by its nodes, from the first line on: what they heard, one after the other, is what the lines say, and the
--- ledger theorem holds of each node for all that it heard; and none has failed.
+-- The nodes of a script played the lines `done`, from the first line on. They heard what the lines say, one line after the other. The ledger
+-- theorem holds of each node for all that it heard, and none has failed.
 pub record ArePlayed (commands done : List Command) (heard : List Heard) (nodes : Nodes) : Type 0 where
   pub first : Nodes
   pub new : AreNew commands first
@@ -127,23 +118,23 @@ pub record ArePlayed (commands done : List Command) (heard : List Heard) (nodes 
   pub have : HaveHeard heard nodes
   pub run : AllRun nodes
 
--- the connection with how many of its messages are held, where any is
+-- the connection with the number of its messages that the node holds, if it holds any
 abbrev pub parked_of : NodeView → ConnId → List Parked
 parked_of v conn = if nat_lt 0 (count_held conn v.pending) then record { conn = conn; count = count_held conn v.pending } ∷ [] else []
 
--- the connections from a node to another of which messages are parked
+-- the connections from one node to another that have parked messages, with their numbers
 abbrev pub parked_from : NodeView → ℕ → ℕ → List Parked
 parked_from v to from = if nat_eq from to then [] else flat_map (λ life. parked_of v (conn_at (id_of from) (id_of to) life)) (numbers (lives_at v (link_of from to)))
 
--- the connections of a node of this number, of so many, of which messages are parked
+-- the connections to the node of this number that have parked messages, with their numbers; `count` is the number of nodes
 abbrev pub parked_in : ℕ → ℕ → NodeView → List Parked
 parked_in count number v = flat_map (parked_from v number) (numbers count)
 
--- the state of a node that runs, which the values that it applied make; none of one that failed
+-- The state that a node's applied values make; none if the node has failed.
 abbrev pub running_state : NodeView → Option KvMap
 running_state node = if node.failed then None else Some (fold_of (values_of node.applier.applied))
 
--- what a node's report tells, of so many nodes
+-- what the report of a node shows; `count` is the number of nodes
 abbrev pub view_of_node : ℕ → ℕ → NodeView → ReportView
 view_of_node count number node = record {
   node = number;
@@ -153,11 +144,11 @@ view_of_node count number node = record {
   state = entries_of (running_state node);
 }
 
--- the text of a node's report, of so many nodes
+-- the text of a node's report; `count` is the number of nodes
 abbrev pub report_of_node : ℕ → ℕ → NodeView → List ℕ
 report_of_node count number node = report_of (view_of_node count number node)
 
--- the report of the node of this number
+-- the text of the report of the node of this number; empty if there is no such node
 abbrev pub report_at : Nodes → ℕ → List ℕ
 report_at nodes number = flat_map (report_of_node (length nodes) number) (option_to_list (slice_get nodes (number - 1)))
 
@@ -169,7 +160,7 @@ IsLinkFull nodes number link = (node : NodeView) × (slice_get nodes (number - 1
 abbrev pub IsInboxFull : Nodes → ℕ → Type 0
 IsInboxFull nodes number = (node : NodeView) × (slice_get nodes (number - 1) ≡ Some node) × (length node.inbox ≡ node.inbox_room)
 
--- the queue that a line's event goes to is full: the link's, or the node's inbox
+-- The queue that receives a line's event is full: the queue of a link, or the inbox of a node.
 abbrev pub HasNoRoom : Nodes → Command → Type 0
 HasNoRoom nodes (script.Caps capacities) = ⊥
 HasNoRoom nodes (script.Nodes count quorum) = ⊥
@@ -186,18 +177,18 @@ HasNoRoom nodes script.Settle = ⊥
 HasNoRoom nodes (script.Wait at things) = ⊥
 HasNoRoom nodes (script.Report at) = ⊥
 
--- the node of a number failed while the nodes came to rest, because a line's event had found no room
+-- The queue of the line's event was full, and the node of this number failed while the nodes came to rest.
 abbrev pub BreaksBy : List Bool → ℕ → ℕ → Option (ℕ × Event) → Nodes → List Heard → Nodes → Type 0
 BreaksBy driven count number None old heard new = ⊥
 BreaksBy driven count number (Some offered) old heard new = Then (Answers offered Full) (Breaks driven count number) old heard new
 
--- what the nodes heard of a line at which the one of a number failed
+-- what the nodes heard of a line at which the node of this number failed
 abbrev pub LineBreaks : List Bool → ℕ → ℕ → Command → Nodes → List Heard → Nodes → Type 0
 LineBreaks driven count number script.Settle = Breaks driven count number
 LineBreaks driven count number (script.Wait at things) = Breaks driven count number
 LineBreaks driven count number command = BreaksBy driven count number (event_by command)
 
--- a node of a script failed at one of its lines: all before it was done
+-- The node of this number failed at one of the script's lines. All lines before it were done.
 pub record Stops (commands : List Command) (number : ℕ) : Type 0 where
   pub before : List Command
   pub command : Command
@@ -211,8 +202,8 @@ pub record Stops (commands : List Command) (number : ℕ) : Type 0 where
   pub breaks : LineBreaks (driven_in commands) (node_count commands) number command nodes more new
   pub have : HaveHeard (heard ++ more) new
 
--- one of a script's lines found no room: all before it was done, its event was offered, the nodes came to rest, and then the queue
--- that it goes to was full still
+-- A line of a script found no room. All lines before it were done. Its event was offered to a full queue, the nodes came to rest, and the
+-- queue was still full.
 pub record Overflows (commands : List Command) : Type 0 where
   pub before : List Command
   pub command : Command
@@ -229,12 +220,12 @@ pub record Overflows (commands : List Command) : Type 0 where
   pub have : HaveHeard (heard ++ more) new
   pub full : HasNoRoom new command
 
--- each node holds its ledger, for all that it heard
+-- each node holds its ledger, of all that it heard
 abbrev pub HoldLedgers : List Heard → Nodes → Type 0
 HoldLedgers heard nodes = (i : ℕ) → (d : NodeView) → i < length nodes → HoldsLedger (past_at (i + 1) heard) (get_or nodes i d)
 
--- The text is the reports that the script asks for, one for each `report` line, in their order, of nodes that played all its lines, each
--- of which holds its ledger.
+-- The text is the reports that the script asks for: one for each `report` line, in the order of the lines. The nodes played all lines of the
+-- script, and each holds its ledger.
 pub record AreReports (script text : List ℕ) : Type 0 where
   pub heard : List Heard
   pub nodes : Nodes
@@ -253,11 +244,11 @@ pledges_word (Nominate p) = codes "nominate"
 abbrev pub statement_words : Statement → List ℕ
 statement_words s = hex_word s.node.0 ++ codes " " ++ decimal s.slot.0 ++ codes " " ++ pledges_word s.pledges
 
--- a value of a batch, behind a space
+-- a value of a batch, after a space
 abbrev pub value_word : List ℕ → List ℕ
 value_word value = codes " " ++ hex_word value
 
--- the line of a message: the number and the word of its kind, and what it says; a quorum set is told by its hash
+-- The line of a message: the number and the word of its kind, and what it says. A quorum set is shown by its hash.
 abbrev pub message_line : Message → List ℕ
 message_line (Envelope envelope) = codes "1 envelope " ++ statement_words envelope.value.statement ++ codes "\n"
 message_line (GetSet hash) = codes "2 getset " ++ hex_word hash.0 ++ codes "\n"
@@ -267,7 +258,7 @@ message_line (GetRecord slot) = codes "5 getrecord " ++ decimal slot.0 ++ codes 
 message_line (Record slot value) = codes "6 record " ++ decimal slot.0 ++ codes " " ++ hex_word value ++ codes "\n"
 message_line (Records first values) = codes "7 records " ++ decimal first.0 ++ flat_map value_word values ++ codes "\n"
 
--- the text shows the message that the digits spell
+-- the text is the line of the message that these hex digits encode
 pub record IsShown (digits text : List ℕ) : Type 0 where
   pub bytes : List ℕ
   pub message : Message
@@ -275,16 +266,16 @@ pub record IsShown (digits text : List ℕ) : Type 0 where
   pub read : reading_of bytes ≡ Some message
   pub line : text ≡ message_line message
 
--- a word that isn't digits is malformed at 0
+-- The fault of bytes that aren't a message. For a word that isn't hex digits, the fault is `Malformed` at 0.
 abbrev pub IsUnreadBytes : Option (List ℕ) → Fault → Type 0
 IsUnreadBytes (Some bytes) fault = message_reading bytes ≡ Err fault
 IsUnreadBytes None fault = fault ≡ Malformed 0
 
--- why digits aren't shown, where there was memory: they are none, or the first fault of the bytes that they say
+-- The fault of digits that can't be shown: `Malformed` at 0 if they aren't hex digits, else the fault of their bytes.
 abbrev pub IsUnread : List ℕ → Fault → Type 0
 IsUnread digits fault = IsUnreadBytes (hex_bytes digits) fault
 
--- only a node's failure has a node, or a stage's of one
+-- A node, from 1 to 8, is named for a failure of a node or of one of its stages; for every other fault the number is 0.
 abbrev pub IsNamed : ℕ → Fault → Type 0
 IsNamed node Failed = (1 ≤ node) × (node ≤ 8)
 IsNamed node (Refused stage) = (1 ≤ node) × (node ≤ 8)

@@ -17,7 +17,7 @@ use Rattle.scp_line.specs.declared.report.Parked.{Parked}
 use Rattle.scp_theorem.specs.Fates.{conn_of}
 use Rattle.scp_types.specs.Order.{conn_cmp}
 
--- an entry's line
+-- the line of a journal entry
 abbrev pub fate_line : Fate → List ℕ
 fate_line (Taken conn seq message set verdict) = decimal seq.0 ++ codes " taken " ++ verdict_word verdict ++ codes "\n"
 fate_line (Dropped conn seq cause) = decimal seq.0 ++ codes " dropped " ++ drop_word cause ++ codes "\n"
@@ -27,38 +27,38 @@ fate_line (Closed conn cause) = codes "closed " ++ cause_word cause ++ codes "\n
 abbrev pub node_number : NodeId → ℕ
 node_number id = slice_index id.0 0
 
--- the words for what a decision rests on: a machine, or a record by its connection and number
+-- The words for what a decision rests on: the node's own machine, or a record, named by its connection and number.
 abbrev pub origin_words : Origin → List ℕ
 origin_words (Machine n quorum own) = codes "machine"
 origin_words (Named conn seq) = codes "record " ++ decimal (node_number conn.from) ++ codes " " ++ decimal conn.life ++ codes " " ++ decimal seq.0
 
--- an applied slot's line
+-- the line of an applied slot
 abbrev pub applied_line : Decision → List ℕ
 applied_line d = codes "applied " ++ decimal d.slot.0 ++ codes " " ++ hex_word d.value ++ codes " " ++ origin_words d.origin ++ codes "\n"
 
--- a key's line
+-- the line of a key with its value
 abbrev pub state_line : List ℕ × List ℕ → List ℕ
 state_line entry = codes "state " ++ hex_word entry.0 ++ codes "=" ++ hex_word entry.1 ++ codes "\n"
 
--- the connection of which messages are parked
+-- the connection whose messages are parked
 abbrev pub conn_parked : Parked → ConnId
 conn_parked parked = parked.conn
 
--- the connections with entries or parked messages, ascending
+-- the connections with journal entries or parked messages, ascending
 abbrev pub conns_of : List Fate → List Parked → List ConnId
 conns_of journal parked =
     fold (λ conns waiting. insert_key conn_cmp conns waiting.conn) (fold (λ conns fate. insert_key conn_cmp conns (conn_of fate)) [] journal) parked
 
--- the law of the connections: each once, ascending, and just those with entries or parked messages
+-- The law of a report's connections: each appears once, they ascend, and they are exactly those with journal entries or parked messages.
 pub record AreConnections (journal : List Fate) (parked : List Parked) (conns : List ConnId) : Type 0 where
   pub ascending : IsStrictlySortedBy conn_cmp conns
   pub those : (conn : ConnId) → list_any (λ c. same_conn c conn) conns ≡ (list_any (λ fate. same_conn (conn_of fate) conn) journal || list_any (λ waiting. same_conn (conn_parked waiting) conn) parked)
 
--- the line of a connection: who sends on it, and its life
+-- the line of a connection: the number of the node that sends on it, and its life
 abbrev pub conn_line : ConnId → List ℕ
 conn_line conn = codes "conn " ++ decimal (node_number conn.from) ++ codes " " ++ decimal conn.life ++ codes "\n"
 
--- the lines of those items that are of the connection, in their order
+-- the lines of those items that belong to the connection, in their order
 abbrev pub lines_in : {X : Type 0} → (X → ConnId) → (X → List ℕ) → List X → ConnId → List ℕ
 lines_in key line items conn = flat_map line (filter (λ x. same_conn (key x) conn) items)
 
@@ -66,23 +66,23 @@ lines_in key line items conn = flat_map line (filter (λ x. same_conn (key x) co
 abbrev pub fate_lines : List Fate → ConnId → List ℕ
 fate_lines journal conn = lines_in conn_of fate_line journal conn
 
--- how many messages are parked
+-- the line that shows how many messages are parked
 abbrev pub parked_line : ℕ → List ℕ
 parked_line count = codes "parked " ++ decimal count ++ codes "\n"
 
--- the line of what is parked of a connection
+-- the line that shows how many messages of a connection are parked
 abbrev pub waiting_line : Parked → List ℕ
 waiting_line parked = parked_line parked.count
 
--- the lines of what is parked of this connection
+-- the lines that show how many messages of this connection are parked
 abbrev pub parked_lines : List Parked → ConnId → List ℕ
 parked_lines parked conn = lines_in conn_parked waiting_line parked conn
 
--- a connection's part: its entries, and how many of its messages are parked
+-- the section of a connection: its line, its entries, and how many of its messages are parked
 abbrev pub section_of : List Fate → List Parked → ConnId → List ℕ
 section_of journal parked conn = conn_line conn ++ (fate_lines journal conn ++ parked_lines parked conn)
 
--- what a report tells of a node
+-- what a report shows of a node
 pub record ReportView : Type 0 where
   pub node : ℕ
   pub journal : List Fate

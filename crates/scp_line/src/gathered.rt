@@ -42,7 +42,7 @@ fn parked_on(messages: &[Carried], conn: &ConnId) -> Parked
     Parked { conn: *conn, count }
 }
 
-/// How many messages of each connection wait, ascending by connections. A node holds at most 64 for each of its links.
+/// How many messages of each connection wait, ascending by connection. A node holds at most 64 messages for each of its links.
 pub fn counts_of(alloc: Global, messages: &[Carried]) -> Result<Vec<Parked>, AllocError>
     ensures { IfOk result (λ counts. counts.items ≡ parked_counts messages.now) }
 {
@@ -69,7 +69,7 @@ fn write_gathered(text: &mut String, number: u8, node: &NodeReport) -> Result<()
     write_report(text, &parts)
 }
 
-/// Adds the report of the node of this number, if it is there.
+/// Adds the report of the node of this number, if there is one.
 fn write_gathered_at(nodes: &[NodeReport], text: &mut String, number: u8) -> Result<(), AllocError>
     requires number { IsSmall number }
     ensures { OnOk result (string_bytes text.new ≡ string_bytes text.old ++ report_gathered_at nodes.now number) }

@@ -1,27 +1,17 @@
-//! Laws of the definitions, each the contract of a function that does nothing.
-ghost use Rattle.scp_network.specs.scp_turn.specs.Watch.{notes};
+//! Laws of the definitions. Each is the contract of a function that does nothing.
 ghost use Rattle.scp_line.specs.Headlines.{PlayingKeepsHeadlines, ReportingKeepsHeadlines};
-ghost use Rattle.scp_line.specs.Laws.{LinesHaveRoom, NothingIsPlayed, LineIsPlayed, QuietLineIsPlayed, LineIsStopped};
+ghost use Rattle.scp_line.specs.Laws.{LinesHaveRoom};
 
-use scp_network::{KvDriver, Watch, each_node_holds_its_headline, each_node_holds_its_ledger};
+use scp_network::{KvDriver, each_node_holds_its_headline, each_node_holds_its_ledger};
 use scp_threaded_script::what_is_reported_keeps_the_headline;
 
-/// What the lines of a script say of the queues of its nodes is in range.
+/// The capacities that a script's lines give the queues of its nodes are in range.
 pub fn a_script_has_room()
     ensures room { LinesHaveRoom }
 {}
 
-/// A script is played line by line: a new network has played nothing, and one that did the next line has played that one too; else
-/// the line stopped it. Whoever watches it, of any kind, noted the steps that were heard of the line.
-pub fn a_line_more_is_played<W: Watch<KvDriver>>()
-    ensures nothing { NothingIsPlayed }
-    ensures played { LineIsPlayed (notes W.notes_before W.notes_after) }
-    ensures quiet { QuietLineIsPlayed }
-    ensures stopped { LineIsStopped (notes W.notes_before W.notes_after) }
-{}
-
-/// The nodes of a script hold their headlines: those that played its commands, by what they heard, and those that ran in threads, by what
-/// is reported of them.
+/// The headline holds for the nodes of a script: for those that played its commands, by what they heard, and for those that ran in threads,
+/// by what is reported of them.
 pub fn what_is_played_keeps_the_headlines()
     ensures played { PlayingKeepsHeadlines }
     ensures reported { ReportingKeepsHeadlines }

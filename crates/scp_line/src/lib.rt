@@ -1,20 +1,22 @@
 //! Scripts for up to eight linked nodes: plays them, and writes the reports that they ask for.
 //!
 //! What it promises:
-//! - `play` writes one report for each `report` line, in the order of the lines, of nodes that have the quorum sets that
-//!   the script gives them, and that the ledger theorem holds of for the very events that the script says, each accepted;
-//!   all is made before the first byte is written;
-//! - at each `settle`, and where a line's event finds no room, each node does whole rounds until one moves nothing, or 100,000;
-//! - `play_in_threads` and `play_gated` write the reports of nodes whose stages ran in threads of their own, of which the ledger theorem
-//!   holds for what was sent to them, with nothing left in a channel: the script's commands, on the links that a `send` line
-//!   names just the script's items, and on the links between nodes just what the sender's outboxes gave;
-//! - `Failed` names a node that failed at a line, and `Full` comes only where a line's queue was full also after a settle;
-//! - `check` refuses the scripts that `play` can't read, at the same line, and `show` writes the line of the message that
-//!   the digits spell;
-//! - a failure of the reader or the writer is told as one, and nothing else is;
-//! - the connections of a report ascend, and are just those with entries.
+//! - `play` writes one report for each `report` line, in the order of the lines. Its nodes have the quorum sets that the script gives them,
+//!   and accepted exactly the events that the script says. The ledger theorem holds of each node for these. All text is made before the first
+//!   byte is written.
+//! - `play_lines` plays a script with a watch of its lines and steps. What the watch noted is one run of all the lines; or of those before
+//!   the line that wasn't done, with the reason why it wasn't.
+//! - At each `settle`, and where a line's event finds a full queue, each node does whole rounds until a round moves nothing, or 100,000
+//!   rounds.
+//! - `play_in_threads` and `play_gated` write the reports of nodes whose stages ran in threads. The ledger theorem holds of each node for
+//!   what was sent to it, and nothing is left in a channel. The nodes had the commands of the script. A link that a `send` line names carried
+//!   exactly the items of the script; each other link carried exactly what the sender's outbox gave.
+//! - `Failed` names a node that failed at a line. `Full` comes only where a line's queue was full even after a settle.
+//! - `check` refuses the scripts that `play` can't read, at the same line. `show` writes the line of the message that the hex digits encode.
+//! - Exactly a failure of the reader or the writer is reported as `Device`.
+//! - The connections of a report ascend, and are exactly those with entries or parked messages.
 //!
-//! Not claimed: what a process's own reader and writer read and write. Their bytes are known of memory alone.
+//! Not claimed: what a process's own reader and writer read and write. Their bytes are known only for readers and writers in memory.
 #![tactic(auto)]
 
 mod gathered;
@@ -22,15 +24,18 @@ mod laws;
 mod messages;
 mod nodes;
 mod outcome;
+mod player;
 mod playing;
 mod report;
 mod threads;
 mod waiting;
+mod watch;
 
 pub use gathered::{counts_of, write_all_gathered};
-pub use laws::{a_line_more_is_played, a_script_has_room, what_is_played_keeps_the_headlines};
-pub use nodes::{act, act_with, new_network, write_reports};
+pub use laws::{a_script_has_room, what_is_played_keeps_the_headlines};
+pub use nodes::{act, new_network, write_reports};
 pub use outcome::{line_of_fault, status};
+pub use player::{Stopped, play_lines};
 pub use playing::{PlayFault, check, play, show};
 pub use report::{
     Parked, ReportParts, conn_of_fate, connections_are_those_with_entries, connections_of,
@@ -43,3 +48,4 @@ pub use scp_device::{
 pub use scp_threaded_script::Ran;
 pub use threads::{play_gated, play_in_threads, run_in_threads};
 pub use waiting::parked_at;
+pub use watch::{Both, LineWatch, Nobody};

@@ -35,7 +35,7 @@ fn statement_line(alloc: Global, statement: &Statement) -> Result<String, AllocE
     Ok(text)
 }
 
-/// The line of a message that says a hash.
+/// The line of a message that carries a hash.
 fn hash_line(alloc: Global, word: &str, hash: &Hash) -> Result<String, AllocError>
     ensures { IfOk result (λ text. string_bytes text ≡ word.now ++ hex_word hash.now.0 ++ codes "\n") }
 {
@@ -66,7 +66,7 @@ fn record_line(alloc: Global, slot: Slot, value: &Value) -> Result<String, Alloc
     Ok(text)
 }
 
-/// Adds the values of a batch, each behind a space.
+/// Adds the values of a batch, each after a space.
 fn write_values(text: &mut String, values: &[Value]) -> Result<(), AllocError>
     ensures { OnOk result (string_bytes text.new ≡ string_bytes text.old ++ flat_map value_word values.now) }
 {
@@ -89,7 +89,7 @@ fn records_line(alloc: Global, first: Slot, values: &ValueList) -> Result<String
     Ok(text)
 }
 
-/// The line of a message that keeps its limits.
+/// The line that shows a message that is within its limits. The only refusal is `NoMemory`.
 pub fn line_of(alloc: Global, message: &Message) -> Result<String, Fault>
     requires { Fits message_kind (message_value message.now) }
     ensures line { IfOk result (λ text. string_bytes text ≡ message_line message.now) }

@@ -8,15 +8,17 @@ ghost use Rattle.scp_network.specs.scp_turn.specs.Watch.{notes};
 ghost use Rattle.scp_line.specs.Nodes.{HaveRoom, AreMade, moment, Offers, Settles, Acts, ActsAlone, ActsAgain, brings_to_rest};
 ghost use Rattle.scp_line.specs.inside.Nodes.{IsPlayed, IsStopped};
 
+use crate::player::play_lines;
 use crate::playing::PlayFault;
 use crate::report::{ReportParts, write_report};
 use crate::waiting::parked_at;
+use crate::watch::Nobody;
 use scp_network::{
-    Capacities, Command as LocalCommand, Config, Event, KvDriver, Network, NoWatch, Node, Peers,
-    Reply, Watch, link_from,
+    Capacities, Config, Event, KvDriver, Network, NoWatch, Node, Peers, Reply, Watch, link_from,
 };
 use scp_script::{Command, capacities_of, count_of_nodes, id_from, peers_of_node, set_of_node};
-use scp_types::{Fault, Slot};
+use scp_threaded_script::command_of;
+use scp_types::Fault;
 use std::alloc::{AllocError, Global};
 
 /// Who the node of this number is, and what its queues hold. The one refusal is `NoMemory`.
@@ -91,7 +93,8 @@ fn linked_nodes(alloc: Global, commands: &[Command]) -> Result<Network, Fault>
     Network::new(alloc, nodes)
 }
 
-/// The nodes of a script, which have heard nothing; the links that a `send` line names are driven by the script alone.
+/// The nodes of a script, which have heard nothing. On a link that a `send` line names, the script alone sends. The only refusal is
+/// `NoMemory`.
 pub fn new_network(alloc: Global, commands: &[Command]) -> Result<Network, Fault>
     requires names { All NamesNodes commands.now }
     requires admitted { AreAdmitted [] commands.now }
@@ -109,39 +112,29 @@ pub fn new_network(alloc: Global, commands: &[Command]) -> Result<Network, Fault
 }
 
 /// The event of a command, and its node. It copies the bytes of a send and the value of a proposal; the one refusal is `NoMemory`.
+#[tactic(auto, using(crate::proofs::Locals::event_some, crate::proofs::Locals::small_some))]
 fn event_of(command: &Command) -> Result<Option<(u8, Event)>, Fault>
     requires names { NamesNodes command.now }
     ensures event { IfOk result (λ found. found ≡ event_by command.now) }
     ensures small { IfOk result (λ found. IfSome found (λ offered. IsSmall offered.0)) }
     ensures only_memory { IsOkUnless result Fault.NoMemory }
 {
-    Ok(match command {
-        Command::Open { from, to } => Some((*to, Event::Open(link_from(*from, *to)))),
-        Command::Close { from, to } => Some((*to, Event::Close(link_from(*from, *to)))),
+    match command {
+        Command::Open { from, to } => Ok(Some((*to, Event::Open(link_from(*from, *to))))),
+        Command::Close { from, to } => Ok(Some((*to, Event::Close(link_from(*from, *to))))),
         Command::Send { from, to, bytes } => {
-            Some((*to, Event::Send(link_from(*from, *to), bytes.copy()?)))
+            let bytes = bytes.copy()?;
+            Ok(Some((*to, Event::Send(link_from(*from, *to), bytes))))
         }
-        Command::Propose { node, slot, value } => {
-            let proposal = LocalCommand::Propose(Slot(*slot), value.copy()?);
-            Some((*node, Event::Local(proposal)))
-        }
-        Command::Round { node, slot } => {
-            Some((*node, Event::Local(LocalCommand::Round(Slot(*slot)))))
-        }
-        Command::Timer { node, slot } => {
-            Some((*node, Event::Local(LocalCommand::Timer(Slot(*slot)))))
-        }
-        Command::Tick(node) => Some((*node, Event::Local(LocalCommand::Tick))),
-        Command::Ask { from, to, slot } => {
-            let link = link_from(*to, *from);
-            Some((*from, Event::Local(LocalCommand::Ask(link, Slot(*slot)))))
-        }
-        _ => None,
-    })
+        _ => match command_of(command)? {
+            Some((node, local)) => Ok(Some((node, Event::Local(local)))),
+            None => Ok(None),
+        },
+    }
 }
 
-/// Offers the event of a command to its node, of which the watch is told, and answers the node's number with its reply; `None` where
-/// the command is no event. The one refusal is `NoMemory`, and then nothing was offered.
+/// Offers the event of a command to its node while the watch sees it. Returns the node's number with its reply, or `None` if the command is
+/// no event. The only refusal is `NoMemory`; then nothing was offered.
 fn offer<W: Watch<KvDriver>>(
     network: &mut Network,
     watch: &mut W,
@@ -162,8 +155,8 @@ fn offer<W: Watch<KvDriver>>(
     }
 }
 
-/// Brings the nodes to rest, of which the watch is told, and answers whether they came to it. Refused by `Failed` where a node failed,
-/// which is named.
+/// Brings the nodes to rest while the watch sees their steps. Returns whether they came to rest. Refused by `Failed`, which names the node
+/// that failed.
 fn settle<W: Watch<KvDriver>>(network: &mut Network, watch: &mut W) -> Result<bool, PlayFault>
     ensures { Settles (notes W.notes_before W.notes_after) (moment network.old watch.old) (moment network.new watch.new) result }
 {
@@ -176,7 +169,7 @@ fn settle<W: Watch<KvDriver>>(network: &mut Network, watch: &mut W) -> Result<bo
     }
 }
 
-/// Does what a line says where its event found no room: the nodes come to rest, and it is offered once again.
+/// Does what a line says where its queue was full: the nodes come to rest, and the event is offered once more.
 fn act_again<W: Watch<KvDriver>>(
     network: &mut Network,
     watch: &mut W,
@@ -204,10 +197,10 @@ fn is_rest(command: &Command) -> bool
     matches!(command, Command::Settle | Command::Wait { .. })
 }
 
-/// Does what a line says, of which the watch is told: where a queue is full, the nodes come to rest, and it is tried once again. Answers
-/// whether the nodes came to rest, where the line brought them to it: `false` only where each of 100,000 rounds moved something. Refused
-/// by `Failed` where a node failed or didn't take the line's event, which is named, by `Full` where its queue had no room also after a
-/// settle, and by `NoMemory`.
+/// Does what a line says, while the watch sees each step. Where a queue is full, the nodes come to rest and the event is offered once more.
+/// Returns whether the nodes came to rest where the line brought them to it. It is `false` only where each of 100,000 rounds moved something.
+/// Refused by `Failed`, which names a node that failed or didn't take the line's event; by `Full`, where the queue had no room even after a
+/// settle; and by `NoMemory`.
 pub fn act_with<W: Watch<KvDriver>>(
     network: &mut Network,
     watch: &mut W,
@@ -230,7 +223,7 @@ pub fn act_with<W: Watch<KvDriver>>(
     }
 }
 
-/// Does what a line says, as `act_with` does, with nobody told, nor whether the nodes came to rest.
+/// Does what a line says, as `act_with` does, but without a watch. It doesn't return whether the nodes came to rest.
 pub fn act(network: &mut Network, command: &Command) -> Result<(), PlayFault>
     requires names { NamesNodes command.now }
     ensures { ActsAlone network.old command.now network.new result }
@@ -241,22 +234,31 @@ pub fn act(network: &mut Network, command: &Command) -> Result<(), PlayFault>
     }
 }
 
-/// Does what the lines say, in their order. Refused by `Failed` where a node failed, which is named, by `Full` where a
-/// queue had no room for a line's event even after a settle, and by `NoMemory`.
-pub fn act_all(network: &mut Network, commands: &[Command]) -> Result<(), PlayFault>
+/// Plays all that a script says, without a watch. Refused by `Failed`, which names the node that failed; by `Full`, where a queue had no room
+/// for a line's event even after a settle; and by `NoMemory`.
+pub fn play_alone(
+    alloc: Global,
+    network: &mut Network,
+    commands: &[Command],
+) -> Result<(), PlayFault>
     requires names { All NamesNodes commands.now }
     requires admitted { AreAdmitted [] commands.now }
     requires made { AreMade commands.now network.old }
     ensures played { OnOk result (IsPlayed commands.now network.new) }
     ensures stopped { IfErr result (IsStopped commands.now) }
 {
-    for command in commands {
-        act(network, command)?;
+    // Without a watch, nobody asks for the number of a line.
+    let lines = match vec![in alloc; 0usize; commands.len()] {
+        Ok(lines) => lines,
+        Err(error) => return Err(PlayFault::from(Fault::from(error))),
+    };
+    match play_lines(network, &mut Nobody, commands, lines.as_slice()) {
+        Ok(()) => Ok(()),
+        Err(stopped) => Err(stopped.fault),
     }
-    Ok(())
 }
 
-/// Adds the report of the node of this number, if it is there.
+/// Adds the report of the node of this number, if there is one.
 fn write_report_at(nodes: &[Node], text: &mut String, number: u8) -> Result<(), AllocError>
     requires number { IsSmall number }
     requires few { length nodes.now ≤ 8 }
@@ -286,7 +288,7 @@ pub fn write_reports(
     Ok(())
 }
 
-/// Adds the report of a node of so many.
+/// Adds the report of a node; `count` is the number of nodes.
 fn write_node(text: &mut String, count: u8, number: u8, node: &Node) -> Result<(), AllocError>
     requires count { count ≤ 8 }
     requires number { IsSmall number }

@@ -1,4 +1,4 @@
-//! How a fault is told: its line, and the exit status that it ends a program with.
+//! How a fault is reported: its line, and the exit status of the program.
 ghost use Rattle.std.specs.Prelude.{◌≡◌, IfOk, string_bytes};
 ghost use Rattle.scp_line.specs.Outcome.{stage_word, fault_line, status_of};
 
@@ -16,7 +16,7 @@ fn word_of_stage(stage: Stage) -> &'static str
     }
 }
 
-/// The line that tells where a node failed.
+/// The line that reports the stage of a node that failed.
 fn line_of_stage(alloc: Global, node: u8, stage: Stage) -> Result<String, AllocError>
     ensures { IfOk result (λ line. string_bytes line ≡ fault_line node (Fault.Refused stage)) }
 {
@@ -26,8 +26,8 @@ fn line_of_stage(alloc: Global, node: u8, stage: Stage) -> Result<String, AllocE
     Ok(line)
 }
 
-/// The line that tells a fault, with its line feed: `fault 12 line N`, `fault 10 node I`, `fault 13 node I STAGE`, or `fault` and the
-/// fault's number. The one refusal is want of memory.
+/// The line that reports a fault, with its line feed: `fault 12 line N`, `fault 10 node I`, `fault 13 node I STAGE`, or `fault` and the
+/// fault's number. It fails only where it is out of memory.
 pub fn line_of_fault(alloc: Global, node: u8, fault: Fault) -> Result<String, AllocError>
     ensures { IfOk result (λ line. string_bytes line ≡ fault_line node fault) }
 {
@@ -42,7 +42,7 @@ pub fn line_of_fault(alloc: Global, node: u8, fault: Fault) -> Result<String, Al
     }
 }
 
-/// The exit status of a fault: 1 where a script or a message was refused (`Malformed`, `TooLong`, `BadScript`), else 3.
+/// The exit status of a fault: 1 where a script or a message was refused (`Malformed`, `TooLong`, `BadScript`), 3 for every other fault.
 pub fn status(fault: Fault) -> u8
     ensures { result ≡ status_of fault }
 {

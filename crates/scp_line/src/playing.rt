@@ -1,4 +1,4 @@
-//! Playing a script, checking one, showing a message.
+//! Playing a script, checking a script, showing a message.
 ghost use Rattle.std.specs.Prelude.{◌≡◌, ◌≢◌, ◌++◌, IsOkUnless, ◌⊎◌, ◌<◌, ◌≤◌, ℕ, List, length, IfOk, IfErr, IfSome, OnOk, IsErrOf, Some, Err, string_bytes, codes};
 ghost use Rattle.scp_types.specs.declared.fault.Fault.TheVariants.{BadScript};
 ghost use Rattle.scp_wire.specs.Reading.{reading_of};
@@ -13,7 +13,7 @@ ghost use Rattle.scp_line.specs.Play.{AreReports, Stops, Overflows, IsShown, IsU
 
 use crate::laws::what_is_played_keeps_the_headlines;
 use crate::messages::line_of;
-use crate::nodes::{act_all, new_network, write_reports};
+use crate::nodes::{new_network, play_alone, write_reports};
 use scp_device::{ReportOut, SCRIPT_LIMIT, ScriptIn, read_script, write_text};
 use scp_network::{KvDriver, each_node_holds_its_ledger};
 use scp_script::{bytes_of, parse};
@@ -21,7 +21,7 @@ use scp_types::Fault;
 use scp_wire::{Message, decode};
 use std::alloc::Global;
 
-/// Why a call was refused, and the node that the fault line names, or 0.
+/// Why a call was refused, and the number of the node that the fault line names, or 0.
 #[derive(Clone, Copy, Debug, PartialEq, Eq)]
 pub struct PlayFault {
     pub fault: Fault,
@@ -53,7 +53,7 @@ fn played(alloc: Global, text: &[u8]) -> Result<String, PlayFault>
     let script = parse(alloc, text)?;
     let commands = script.as_slice();
     let mut network = new_network(alloc, commands)?;
-    act_all(&mut network, commands)?;
+    play_alone(alloc, &mut network, commands)?;
     each_node_holds_its_ledger::<KvDriver>();
     what_is_played_keeps_the_headlines();
     let mut printed = String::new(alloc);
@@ -63,41 +63,42 @@ fn played(alloc: Global, text: &[u8]) -> Result<String, PlayFault>
     }
 }
 
-/// Plays a script, one step after another: reads it whole, does what its lines say, and then writes the reports that they ask for. All that it
-/// writes is made before the first byte is written. The time grows with the script's length times the logarithm of the
-/// number of connections and keys. Refused as `check` refuses, by `Failed` where a node failed, which is then named, and by
-/// `Full` where a queue had no room for a line's event even after a settle.
+/// Plays a script, one step after another: reads it whole, does what its lines say, and then writes the reports that they ask for. All text
+/// is made before the first byte is written.
+/// The time grows with the script's length times the logarithm of the number of connections and keys.
+/// Refused as `check` refuses; by `Failed`, which names the node that failed; and by `Full`, where a queue had no room for a line's event
+/// even after a settle.
 pub fn play<R: ScriptIn, W: ReportOut>(
     alloc: Global,
     reader: &mut R,
     writer: &mut W,
 ) -> Result<(), PlayFault>
-    // What was read is a script of at most 1,048,576 bytes, and what was written are its reports.
+    // What was read is a script of at most 1,048,576 bytes, and what was written is its reports.
     ensures reports { OnOk result ((script text : List ℕ) × IsAll (R.left reader.old) script × (length script ≤ SCRIPT_LIMIT) × IsScript script × AreReports script text × Gains (W.written writer.old) text (W.written writer.new)) }
-    // Of nodes that hold their headlines, which say what matters most.
+    // The headline holds for each reported node; it says what matters most.
     ensures headline { OnOk result ((script text : List ℕ) × IsAll (R.left reader.old) script × AreHeadlined script text × Gains (W.written writer.old) text (W.written writer.new)) }
-    // Device is answered only where the reader failed, and then nothing was written, or where the writer failed.
+    // `Device` is returned only where the reader failed, and then nothing was written, or where the writer failed.
     ensures device { IfErr result (λ e. e.fault ≡ Fault.Device →
         (Fails (R.failures reader.old) (R.failures reader.new) × (writer.new ≡ writer.old)) ⊎ Fails (W.failures writer.old) (W.failures writer.new)) }
-    // TooLong is answered only of a script over the limit.
+    // `TooLong` is returned only for a script over the limit.
     ensures too_long { IfErr result (λ e. e.fault ≡ Fault.TooLong → IfSome (R.left reader.old) (λ all. SCRIPT_LIMIT < length all)) }
-    // Want of memory is told where nothing was read, or of a text within the limit, without a bad line or with a `set` line.
+    // Out of memory is returned only where nothing was read, or for a text within the limit that has no bad line or has a `set` line.
     ensures memory { IfErr result (λ e. e.fault ≡ Fault.NoMemory → (reader.new ≡ reader.old) ⊎ IfSome (R.left reader.old) (λ all. (length all ≤ SCRIPT_LIMIT) × (HasNoBadLine all ⊎ HasSetLine all))) }
-    // BadScript names the first bad line of a text within the limit.
+    // `BadScript` names the first bad line of a text within the limit.
     ensures line { IfErr result (λ e. (line : ℕ) → e.fault ≡ BadScript line → IfSome (R.left reader.old) (λ all. (length all ≤ SCRIPT_LIMIT) × IsBadLine all line)) }
-    // No other refusal is answered.
+    // No other fault is returned.
     ensures cause { IfErr result (λ e. IsPlayFault e.fault) }
-    // A node is named where it failed, and only there.
+    // A node is named exactly where it failed.
     ensures named { IfErr result (λ e. IsNamed e.node e.fault) }
-    // Failed is answered only where that node failed at a line of a script, after those before it were done.
+    // `Failed` is returned only where that node failed at a line of a script, after the lines before it were done.
     ensures stops { IfErr result (λ e. e.fault ≡ Fault.Failed → IfSome (R.left reader.old) (λ all. (length all ≤ SCRIPT_LIMIT) × IsScript all × Stops (commands_in all) e.node)) }
-    // Full is answered only where a line's event found no room, and the queue that it goes to was full also after a settle.
+    // `Full` is returned only where a line's event found a full queue, and that queue was full even after a settle.
     ensures full { IfErr result (λ e. e.fault ≡ Fault.Full → IfSome (R.left reader.old) (λ all. (length all ≤ SCRIPT_LIMIT) × IsScript all × Overflows (commands_in all))) }
-    // After any other refusal than Device nothing was written.
+    // After any refusal but `Device` nothing was written.
     ensures untouched { IfErr result (λ e. e.fault ≢ Fault.Device → writer.new ≡ writer.old) }
-    // After a refusal nothing was written, or a part of the reports, from the first byte on.
+    // After a refusal nothing was written, or a first part of the reports.
     ensures part { IfErr result (λ e. (writer.new ≡ writer.old) ⊎ ((script text : List ℕ) × IsAll (R.left reader.old) script × IsScript script × AreReports script text × GainsPart (W.written writer.old) text (W.written writer.new))) }
-    // No failure is told as anything else, and no call goes on after one.
+    // A failure is reported only as `Device`, and no call is made after one.
     ensures hidden { IfErr result (λ e. e.fault ≢ Fault.Device → R.failures reader.new ≡ R.failures reader.old) }
     ensures stopped { IfErr result (λ e. (writer.new ≡ writer.old) ⊎ Fails (W.failures writer.old) (W.failures writer.new)) }
     ensures kept { OnOk result ((R.failures reader.new ≡ R.failures reader.old) × (W.failures writer.new ≡ W.failures writer.old)) }
@@ -107,8 +108,9 @@ pub fn play<R: ScriptIn, W: ReportOut>(
     Ok(write_text(writer, text.as_str())?)
 }
 
-/// Reads a script and writes `ok` if it is one. What `play` refuses in the lines it refuses in the same way:
-/// `TooLong` over 1,048,576 bytes, `BadScript` with the first bad line, `Device` where the reader or the writer failed, `NoMemory`.
+/// Reads a script and writes `ok` if it is one. It refuses the same lines as `play`, in the same way.
+/// Refused by `TooLong` over 1,048,576 bytes, by `BadScript` with the number of the first bad line, by `Device` where the reader or the
+/// writer failed, and by `NoMemory`.
 pub fn check<R: ScriptIn, W: ReportOut>(
     alloc: Global,
     reader: &mut R,
@@ -121,17 +123,17 @@ pub fn check<R: ScriptIn, W: ReportOut>(
     ensures device { IfErr result (λ e. e.fault ≡ Fault.Device →
         (Fails (R.failures reader.old) (R.failures reader.new) × (writer.new ≡ writer.old)) ⊎ Fails (W.failures writer.old) (W.failures writer.new)) }
     ensures too_long { IfErr result (λ e. e.fault ≡ Fault.TooLong → IfSome (R.left reader.old) (λ all. SCRIPT_LIMIT < length all)) }
-    // Want of memory is told where nothing was read, or of a text within the limit, without a bad line or with a `set` line.
+    // Out of memory is returned only where nothing was read, or for a text within the limit that has no bad line or has a `set` line.
     ensures memory { IfErr result (λ e. e.fault ≡ Fault.NoMemory → (reader.new ≡ reader.old) ⊎ IfSome (R.left reader.old) (λ all. (length all ≤ SCRIPT_LIMIT) × (HasNoBadLine all ⊎ HasSetLine all))) }
-    // BadScript names the first bad line of a text within the limit.
+    // `BadScript` names the first bad line of a text within the limit.
     ensures line { IfErr result (λ e. (line : ℕ) → e.fault ≡ BadScript line → IfSome (R.left reader.old) (λ all. (length all ≤ SCRIPT_LIMIT) × IsBadLine all line)) }
-    // No other refusal is answered.
+    // No other fault is returned.
     ensures cause { IfErr result (λ e. IsCheckFault e.fault) }
     ensures named { IfErr result (λ e. e.node ≡ 0) }
     ensures untouched { IfErr result (λ e. e.fault ≢ Fault.Device → writer.new ≡ writer.old) }
-    // After a refusal nothing was written, or a part of `ok`, from the first byte on.
+    // After a refusal nothing was written, or a first part of `ok`.
     ensures part { IfErr result (λ e. (writer.new ≡ writer.old) ⊎ GainsPart (W.written writer.old) (codes "ok\n") (W.written writer.new)) }
-    // No failure is told as anything else, and no call goes on after one.
+    // A failure is reported only as `Device`, and no call is made after one.
     ensures hidden { IfErr result (λ e. e.fault ≢ Fault.Device → R.failures reader.new ≡ R.failures reader.old) }
     ensures stopped { IfErr result (λ e. (writer.new ≡ writer.old) ⊎ Fails (W.failures writer.old) (W.failures writer.new)) }
     ensures kept { OnOk result ((R.failures reader.new ≡ R.failures reader.old) × (W.failures writer.new ≡ W.failures writer.old)) }
@@ -141,7 +143,7 @@ pub fn check<R: ScriptIn, W: ReportOut>(
     Ok(write_text(writer, "ok\n")?)
 }
 
-/// The message that the bytes spell. It answers what `decode` answers; its contract says that in the words of this crate.
+/// The message that the bytes encode. It returns what `decode` returns; its contract says so in the words of this crate.
 fn read_message(alloc: Global, bytes: &[u8]) -> Result<Message, Fault>
     ensures reading { IfOk result (λ message. reading_of bytes.now ≡ Some message) }
     ensures fits { IfOk result (λ message. Fits message_kind (message_value message)) }
@@ -154,7 +156,7 @@ fn read_message(alloc: Global, bytes: &[u8]) -> Result<Message, Fault>
     }
 }
 
-/// The line that shows the message that the digits spell.
+/// The line that shows the message that the hex digits encode.
 fn shown(alloc: Global, hex: &str) -> Result<String, Fault>
     ensures message { IfOk result (λ text. IsShown hex.now (string_bytes text)) }
     ensures unread { IfErr result (λ fault. fault ≢ Fault.NoMemory → IsUnread hex.now fault) }
@@ -168,17 +170,17 @@ fn shown(alloc: Global, hex: &str) -> Result<String, Fault>
     line_of(alloc, &message)
 }
 
-/// Shows the message that the digits spell, in one line. Refused by `Malformed(0)` where the word isn't digits, by the first fault of
-/// its bytes, by `Device` where the writer failed, or by `NoMemory`.
+/// Shows the message that the hex digits encode, in one line. Refused by `Malformed(0)` where the word isn't hex digits, by the first fault
+/// of its bytes, by `Device` where the writer failed, and by `NoMemory`.
 pub fn show<W: ReportOut>(alloc: Global, hex: &str, writer: &mut W) -> Result<(), PlayFault>
-    // The line is that of the message that the digits spell.
+    // The line is that of the message that the hex digits encode.
     ensures message { OnOk result ((text : List ℕ) × IsShown hex.now text × Gains (W.written writer.old) text (W.written writer.new)) }
-    // Malformed at 0 where the word isn't digits, and else the bytes have no reading.
+    // `Malformed` at 0 where the word isn't hex digits; else the fault of its bytes.
     ensures unread { IfErr result (λ e. e.fault ≢ Fault.NoMemory → e.fault ≢ Fault.Device → IsUnread hex.now e.fault) }
     ensures device { IfErr result (λ e. e.fault ≡ Fault.Device → Fails (W.failures writer.old) (W.failures writer.new)) }
     ensures named { IfErr result (λ e. (e.node ≡ 0) × IsNamed e.node e.fault) }
     ensures untouched { IfErr result (λ e. e.fault ≢ Fault.Device → writer.new ≡ writer.old) }
-    // After a refusal nothing was written, or a part of the line, from the first byte on.
+    // After a refusal nothing was written, or a first part of the line.
     ensures part { IfErr result (λ e. (writer.new ≡ writer.old) ⊎ ((text : List ℕ) × IsShown hex.now text × GainsPart (W.written writer.old) text (W.written writer.new))) }
     ensures stopped { IfErr result (λ e. (writer.new ≡ writer.old) ⊎ Fails (W.failures writer.old) (W.failures writer.new)) }
     ensures kept { OnOk result (W.failures writer.new ≡ W.failures writer.old) }

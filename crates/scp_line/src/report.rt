@@ -19,7 +19,7 @@ use scp_words::{word_of_cause, word_of_drop, word_of_verdict, write_hex};
 use std::alloc::{AllocError, Global};
 use std::collections::{BTreeMap, BTreeSet};
 
-/// Adds an entry's line.
+/// Adds the line of a journal entry.
 fn write_fate(text: &mut String, fate: &Fate) -> Result<(), AllocError>
     ensures { OnOk result (string_bytes text.new ≡ string_bytes text.old ++ fate_line fate.now) }
 {
@@ -48,7 +48,7 @@ pub fn number_of(id: &NodeId) -> u8
     id.0[0]
 }
 
-/// Adds the words for what a decision rests on: a machine, or the record of a connection.
+/// Adds the words for what a decision rests on: the node's own machine, or a record, named by its connection and number.
 pub fn write_origin(text: &mut String, origin: &Origin) -> Result<(), AllocError>
     ensures { OnOk result (string_bytes text.new ≡ string_bytes text.old ++ origin_words origin.now) }
 {
@@ -127,7 +127,7 @@ fn add_parked(conns: &mut BTreeSet<ConnId>, parked: &[Parked]) -> Result<(), All
     Ok(())
 }
 
-/// The connections with entries or parked messages, ascending.
+/// The connections with journal entries or parked messages, ascending.
 pub fn connections_of(
     alloc: Global,
     journal: &[Fate],
@@ -164,7 +164,8 @@ fn put_lines(
     Ok(())
 }
 
-/// The connections of a report ascend by sender and life, each once, and are just those with entries or parked messages.
+/// The connections of a report ascend by sender and life, each appears once, and they are exactly those with journal entries or parked
+/// messages.
 pub fn connections_are_those_with_entries()
     ensures { (journal : List Fate) → (parked : List Parked) → AreConnections journal parked (conns_of journal parked) }
 {}
@@ -184,7 +185,7 @@ fn sort_in(
     Ok(())
 }
 
-/// Adds the line that tells how many messages of a connection are parked.
+/// Adds the line that shows how many messages of a connection are parked.
 fn write_parked(lines: &mut String, count: usize) -> Result<(), AllocError>
     ensures { OnOk result (string_bytes lines.new ≡ string_bytes lines.old ++ parked_line count) }
 {
@@ -231,7 +232,7 @@ fn sections(alloc: Global, journal: &[Fate]) -> Result<BTreeMap<ConnId, String>,
     Ok(sections)
 }
 
-/// Adds a connection's part.
+/// Adds the section of a connection.
 fn write_section(
     text: &mut String,
     sections: &BTreeMap<ConnId, String>,
@@ -248,7 +249,8 @@ fn write_section(
     Ok(())
 }
 
-/// Adds the connections' parts, ascending. The time grows with the number of entries times the logarithm of the number of connections.
+/// Adds the section of each connection, ascending. The time grows with the number of entries times the logarithm of the number of
+/// connections.
 pub fn write_sections(
     text: &mut String,
     journal: &[Fate],
@@ -277,19 +279,19 @@ pub fn conn_of_fate(fate: &Fate) -> ConnId
     }
 }
 
-/// How many messages of a connection wait at a node, one or more.
+/// The number of messages of a connection that wait at a node; it is at least one.
 #[derive(Clone, Copy, Debug, PartialEq, Eq)]
 pub struct Parked {
     pub conn: ConnId,
     pub count: usize,
 }
 
-/// What a report tells of a node.
+/// What a report shows of a node.
 #[derive(Clone, Copy)]
 pub struct ReportParts<'a> {
     pub node: u8,
     pub journal: &'a [Fate],
-    /// The connections of which messages wait for quorum sets, each once.
+    /// The connections whose messages wait for quorum sets, each once.
     pub parked: &'a [Parked],
     pub applied: &'a [SharedDecision],
     pub state: Option<&'a KvState>,

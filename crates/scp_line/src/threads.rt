@@ -1,4 +1,4 @@
-//! Playing a script by nodes whose stages run in threads.
+//! Playing a script with nodes whose stages run in threads.
 ghost use Rattle.std.specs.Prelude.{◌≡◌, ◌≢◌, ◌⊎◌, ◌≤◌, ◌<◌, ℕ, List, [], All, length, IfOk, IfErr, IfSome, OnOk, string_bytes};
 ghost use Rattle.scp_types.specs.declared.fault.Fault.TheVariants.{BadScript};
 ghost use Rattle.scp_types.specs.declared.fault.Stage.{Stage};
@@ -35,9 +35,10 @@ impl From<NodeFault> for PlayFault {
     }
 }
 
-/// Runs the nodes of a script, whose stages run in threads of their own, as `play_in_threads` does, and answers what is told of them, node 1
-/// first, the places among the commands of the `wait` lines that gave up, and how many own statements were lost. Where `keeps` is set each
-/// report tells what came over each of its node's links. Refused as `play_in_threads` is, but for what it reads and writes.
+/// Runs the nodes of a script in threads, as `play_in_threads` does. Returns their reports, node 1 first, the places of the `wait` lines that
+/// gave up, counted among the commands, and how many own statements were lost.
+/// If `keeps` is set, each report also has what came over each of its node's links. Refused as `play_in_threads` is, except for reading and
+/// writing.
 pub fn run_in_threads<T: Threads + Wait + Sync>(
     rt: &T,
     alloc: Global,
@@ -92,8 +93,7 @@ fn played<T: Threads + Wait + Sync, G: Gate + Sync>(
     }
 }
 
-/// Plays a script by nodes whose stages run in threads of their own, as `play_in_threads` does; each worker calls the gate after
-/// each receive and before each send.
+/// Plays a script as `play_in_threads` does. Each worker also calls the gate after each receive and before each send.
 pub fn play_gated<T: Threads + Wait + Sync, G: Gate + Sync, R: ScriptIn, W: ReportOut>(
     rt: &T,
     gate: &G,
@@ -101,33 +101,33 @@ pub fn play_gated<T: Threads + Wait + Sync, G: Gate + Sync, R: ScriptIn, W: Repo
     reader: &mut R,
     writer: &mut W,
 ) -> Result<(), PlayFault>
-    // What was read is a script of at most 1,048,576 bytes, and what was written are the reports of what its nodes' threads left.
+    // What was read is a script of at most 1,048,576 bytes. What was written is the reports of what its nodes' threads left.
     ensures reports { OnOk result ((script text : List ℕ) × IsAll (R.left reader.old) script × (length script ≤ SCRIPT_LIMIT) × IsScript script × AreGatheredReports script text × Gains (W.written writer.old) text (W.written writer.new)) }
-    // Of nodes that hold their headlines, which say what matters most.
+    // The headline holds for each reported node; it says what matters most.
     ensures headline { OnOk result ((script text : List ℕ) × IsAll (R.left reader.old) script × AreGatheredHeadlined script text × Gains (W.written writer.old) text (W.written writer.new)) }
-    // Device is answered only where the reader failed, and then nothing was written, or where the writer failed.
+    // `Device` is returned only where the reader failed, and then nothing was written, or where the writer failed.
     ensures device { IfErr result (λ e. e.fault ≡ Fault.Device →
         (Fails (R.failures reader.old) (R.failures reader.new) × (writer.new ≡ writer.old)) ⊎ Fails (W.failures writer.old) (W.failures writer.new)) }
-    // TooLong is answered only of a script over the limit.
+    // `TooLong` is returned only for a script over the limit.
     ensures too_long { IfErr result (λ e. e.fault ≡ Fault.TooLong → IfSome (R.left reader.old) (λ all. SCRIPT_LIMIT < length all)) }
-    // Want of memory is told where nothing was read, or of a text within the limit, without a bad line or with a `set` line.
+    // Out of memory is returned only where nothing was read, or for a text within the limit that has no bad line or has a `set` line.
     ensures memory { IfErr result (λ e. e.fault ≡ Fault.NoMemory → (reader.new ≡ reader.old) ⊎ IfSome (R.left reader.old) (λ all. (length all ≤ SCRIPT_LIMIT) × (HasNoBadLine all ⊎ HasSetLine all))) }
-    // BadScript names the first bad line of a text within the limit.
+    // `BadScript` names the first bad line of a text within the limit.
     ensures line { IfErr result (λ e. (line : ℕ) → e.fault ≡ BadScript line → IfSome (R.left reader.old) (λ all. (length all ≤ SCRIPT_LIMIT) × IsBadLine all line)) }
-    // No other refusal is answered.
+    // No other fault is returned.
     ensures cause { IfErr result (λ e. IsThreadsFault e.fault) }
-    // A node is named where one of its stages failed, and only there.
+    // A node is named exactly where one of its stages failed.
     ensures named { IfErr result (λ e. IsNamed e.node e.fault) }
-    // That a stage failed, or that there was no room for a mark, is answered only of a script.
+    // A failed stage, or a mark without room, is returned only for a script.
     ensures stage { IfErr result (λ e. (stage : Stage) → e.fault ≡ Fault.Refused stage → IfSome (R.left reader.old) (λ all. (length all ≤ SCRIPT_LIMIT) × IsScript all)) }
     ensures full { IfErr result (λ e. e.fault ≡ Fault.Full → IfSome (R.left reader.old) (λ all. (length all ≤ SCRIPT_LIMIT) × IsScript all)) }
-    // Which of them it is, and of which node: the first stage that failed of the first node of which one did, whatever else was wrong.
+    // Which fault the nodes give, and for which node: the first stage that failed of the first node that has one, whatever else was wrong.
     ensures given_up { IfErr result (λ e. IsOfTheNodes e.fault → IfSome (R.left reader.old) (λ all. AreGivenUp all e.node e.fault)) }
-    // After any other refusal than Device nothing was written.
+    // After any refusal but `Device` nothing was written.
     ensures untouched { IfErr result (λ e. e.fault ≢ Fault.Device → writer.new ≡ writer.old) }
-    // After a refusal nothing was written, or a part of the reports, from the first byte on.
+    // After a refusal nothing was written, or a first part of the reports.
     ensures part { IfErr result (λ e. (writer.new ≡ writer.old) ⊎ ((script text : List ℕ) × IsAll (R.left reader.old) script × IsScript script × AreGatheredReports script text × GainsPart (W.written writer.old) text (W.written writer.new))) }
-    // No failure is told as anything else, and no call goes on after one.
+    // A failure is reported only as `Device`, and no call is made after one.
     ensures hidden { IfErr result (λ e. e.fault ≢ Fault.Device → R.failures reader.new ≡ R.failures reader.old) }
     ensures stopped { IfErr result (λ e. (writer.new ≡ writer.old) ⊎ Fails (W.failures writer.old) (W.failures writer.new)) }
     ensures kept { OnOk result ((R.failures reader.new ≡ R.failures reader.old) × (W.failures writer.new ≡ W.failures writer.old)) }
@@ -137,45 +137,46 @@ pub fn play_gated<T: Threads + Wait + Sync, G: Gate + Sync, R: ScriptIn, W: Repo
     Ok(write_text(writer, text.as_str())?)
 }
 
-/// Plays a script by nodes whose stages run in threads of their own: reads it whole, does what its lines say, one after the other,
-/// ends every thread, and then writes the reports that the lines ask for. A `wait` yields until its node's applier received so many
-/// things, at most 1,000,000 times, and `settle` does nothing. Refused as `check` refuses; by `Refused` with the first stage that
-/// failed of the first node of which one did, which is named; else by `Full` where there was no room for a mark of a link after
-/// 1,000,000 yields, by `NotOpen` where a link stood otherwise than the lines say, and by `NoMemory`, also where only what carries an
-/// outbox to its link failed.
+/// Plays a script with nodes whose stages run in threads. Reads the script whole, does what its lines say, one after the other, ends every
+/// thread, and then writes the reports that the lines ask for.
+/// A `wait` sleeps until its node's applier has received that many things, or has received nothing for a quarter of a second. Then it yields,
+/// at most 1,000,000 times. `settle` does nothing.
+/// Refused as `check` refuses. If a stage failed, by `Refused` with the first stage that failed of the first such node, which is named. Else
+/// by `Full`, where a mark of a link had no room after 1,000,000 yields; by `NotOpen`, where a link wasn't left as the lines say; and by
+/// `NoMemory`, also where only the courier of an outbox failed.
 pub fn play_in_threads<T: Threads + Wait + Sync, R: ScriptIn, W: ReportOut>(
     rt: &T,
     alloc: Global,
     reader: &mut R,
     writer: &mut W,
 ) -> Result<(), PlayFault>
-    // What was read is a script of at most 1,048,576 bytes, and what was written are the reports of what its nodes' threads left.
+    // What was read is a script of at most 1,048,576 bytes. What was written is the reports of what its nodes' threads left.
     ensures reports { OnOk result ((script text : List ℕ) × IsAll (R.left reader.old) script × (length script ≤ SCRIPT_LIMIT) × IsScript script × AreGatheredReports script text × Gains (W.written writer.old) text (W.written writer.new)) }
-    // Of nodes that hold their headlines, which say what matters most.
+    // The headline holds for each reported node; it says what matters most.
     ensures headline { OnOk result ((script text : List ℕ) × IsAll (R.left reader.old) script × AreGatheredHeadlined script text × Gains (W.written writer.old) text (W.written writer.new)) }
-    // Device is answered only where the reader failed, and then nothing was written, or where the writer failed.
+    // `Device` is returned only where the reader failed, and then nothing was written, or where the writer failed.
     ensures device { IfErr result (λ e. e.fault ≡ Fault.Device →
         (Fails (R.failures reader.old) (R.failures reader.new) × (writer.new ≡ writer.old)) ⊎ Fails (W.failures writer.old) (W.failures writer.new)) }
-    // TooLong is answered only of a script over the limit.
+    // `TooLong` is returned only for a script over the limit.
     ensures too_long { IfErr result (λ e. e.fault ≡ Fault.TooLong → IfSome (R.left reader.old) (λ all. SCRIPT_LIMIT < length all)) }
-    // Want of memory is told where nothing was read, or of a text within the limit, without a bad line or with a `set` line.
+    // Out of memory is returned only where nothing was read, or for a text within the limit that has no bad line or has a `set` line.
     ensures memory { IfErr result (λ e. e.fault ≡ Fault.NoMemory → (reader.new ≡ reader.old) ⊎ IfSome (R.left reader.old) (λ all. (length all ≤ SCRIPT_LIMIT) × (HasNoBadLine all ⊎ HasSetLine all))) }
-    // BadScript names the first bad line of a text within the limit.
+    // `BadScript` names the first bad line of a text within the limit.
     ensures line { IfErr result (λ e. (line : ℕ) → e.fault ≡ BadScript line → IfSome (R.left reader.old) (λ all. (length all ≤ SCRIPT_LIMIT) × IsBadLine all line)) }
-    // No other refusal is answered.
+    // No other fault is returned.
     ensures cause { IfErr result (λ e. IsThreadsFault e.fault) }
-    // A node is named where one of its stages failed, and only there.
+    // A node is named exactly where one of its stages failed.
     ensures named { IfErr result (λ e. IsNamed e.node e.fault) }
-    // That a stage failed, or that there was no room for a mark, is answered only of a script.
+    // A failed stage, or a mark without room, is returned only for a script.
     ensures stage { IfErr result (λ e. (stage : Stage) → e.fault ≡ Fault.Refused stage → IfSome (R.left reader.old) (λ all. (length all ≤ SCRIPT_LIMIT) × IsScript all)) }
     ensures full { IfErr result (λ e. e.fault ≡ Fault.Full → IfSome (R.left reader.old) (λ all. (length all ≤ SCRIPT_LIMIT) × IsScript all)) }
-    // Which of them it is, and of which node: the first stage that failed of the first node of which one did, whatever else was wrong.
+    // Which fault the nodes give, and for which node: the first stage that failed of the first node that has one, whatever else was wrong.
     ensures given_up { IfErr result (λ e. IsOfTheNodes e.fault → IfSome (R.left reader.old) (λ all. AreGivenUp all e.node e.fault)) }
-    // After any other refusal than Device nothing was written.
+    // After any refusal but `Device` nothing was written.
     ensures untouched { IfErr result (λ e. e.fault ≢ Fault.Device → writer.new ≡ writer.old) }
-    // After a refusal nothing was written, or a part of the reports, from the first byte on.
+    // After a refusal nothing was written, or a first part of the reports.
     ensures part { IfErr result (λ e. (writer.new ≡ writer.old) ⊎ ((script text : List ℕ) × IsAll (R.left reader.old) script × IsScript script × AreGatheredReports script text × GainsPart (W.written writer.old) text (W.written writer.new))) }
-    // No failure is told as anything else, and no call goes on after one.
+    // A failure is reported only as `Device`, and no call is made after one.
     ensures hidden { IfErr result (λ e. e.fault ≢ Fault.Device → R.failures reader.new ≡ R.failures reader.old) }
     ensures stopped { IfErr result (λ e. (writer.new ≡ writer.old) ⊎ Fails (W.failures writer.old) (W.failures writer.new)) }
     ensures kept { OnOk result ((R.failures reader.new ≡ R.failures reader.old) × (W.failures writer.new ≡ W.failures writer.old)) }

@@ -46,7 +46,7 @@ fn add_life(
     add(parked, node, conn_from(from, to, life))
 }
 
-/// Adds the connections of the link from one node to another.
+/// Adds the connections from one node to another that have waiting messages.
 fn add_link(parked: &mut Vec<Parked>, node: &Node, from: u8, to: u8) -> Result<(), AllocError>
     requires apart { from ≢ to }
     ensures { OnOk result (parked.new.items ≡ parked.old.items ++ parked_from node.now to from) }
@@ -58,7 +58,8 @@ fn add_link(parked: &mut Vec<Parked>, node: &Node, from: u8, to: u8) -> Result<(
     Ok(())
 }
 
-/// The connections of the node of this number, of so many, of which messages wait for quorum sets, and how many.
+/// The connections to the node of this number whose messages wait for quorum sets, each with the number of these messages. `count` is the
+/// number of nodes.
 #[tactic(auto, using(crate::proofs::MoreLives::one_more))]
 pub fn parked_at(
     alloc: Global,

@@ -21,7 +21,7 @@ pub enum Asked<'a> {
     Run(Mode),
     Check,
     Decode(&'a str),
-    /// None of these.
+    /// The words ask for none of these.
     Usage,
 }
 
@@ -43,7 +43,7 @@ fn commands<'a>(alloc: Global) -> Result<Command<'a>, AllocError> {
         .subcommand(decode)
 }
 
-/// The mode of this word; any other word than `threads` is refused before, or is the default.
+/// The mode of this word. Any word but `threads` was refused before, or is the default.
 fn mode_of(word: Option<&str>) -> Mode {
     match word {
         Some("threads") => Mode::Threads,

@@ -1,10 +1,10 @@
-//! The program: plays or checks a script from standard input, or shows a message, and answers by its exit status.
+//! The program: plays or checks a script from standard input, or shows a message, and returns an exit status.
 //!
 //! What it promises:
-//! - each thing that words can ask for is a call of its own (`serving.rt`), which answers 0 only where it was done: a script was played and
-//!   its reports written, in the one mode or the other, a script was checked, a message was shown, each as `scp_line` promises it;
-//! - `serve` answers 2 only with `usage` and with nothing read, and 1 or 3 only of a fault;
-//! - a fault is told once, by its own line and its status, and a node that failed by its number.
+//! - Each thing that words can ask for is a call of its own (`serving.rt`), which returns 0 only if it was done. A script was played in one
+//!   of the two modes and its reports were written, a script was checked, or a message was shown. Each is done as `scp_line` promises it.
+//! - `serve` returns 2 only with `usage` and with nothing read, and 1 or 3 only for a fault.
+//! - A fault is reported once, by its own line and its status, and a node that failed by its number.
 //!
 //! Not claimed: which words ask for what, and the statuses of the whole program, which its calls show.
 #![tactic(auto)]
@@ -21,7 +21,7 @@ use std::sync::Wait;
 use std::thread::Threads;
 use std::{env, io};
 
-/// Does what the words of the command line ask for, and answers the exit status.
+/// Does what the words of the command line ask for, and returns the exit status.
 fn answer<T: Threads + Wait + Sync>(
     rt: &HostRuntime,
     threads: &T,
@@ -34,14 +34,14 @@ fn answer<T: Threads + Wait + Sync>(
     Ok(serve(threads, alloc, words.as_slice(), &mut reader, &mut writer))
 }
 
-/// Tells want of memory.
+/// Reports that it is out of memory.
 fn short_of_memory(rt: &HostRuntime) -> ExitCode {
     let mut writer = Process::new(io::writer(rt));
     let _ = write_text(&mut writer, "fault 1\n");
     ExitCode::from(3)
 }
 
-/// The words of the command line, and none of them where one isn't UTF-8: those ask for nothing.
+/// The words of the command line. If one isn't UTF-8 there are none, and so they ask for nothing.
 fn words_of(rt: &HostRuntime, alloc: Global) -> Result<Vec<String>, AllocError> {
     match env::args(rt) {
         Ok(words) => words.collect(alloc),

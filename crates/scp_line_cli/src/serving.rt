@@ -1,4 +1,4 @@
-//! What the words of a command line are answered with.
+//! What the program does with what the words of a command line ask for.
 ghost use Rattle.std.specs.Prelude.{◌≡◌, ◌≢◌, ◌≤◌, ◌⊎◌, ◌++◌, ℕ, List, length, OnOk, OnErr, codes};
 ghost use Rattle.scp_device.specs.Device.{Gains, Fails, IsAll};
 ghost use Rattle.scp_line.specs.declared.playing.PlayFault.{PlayFault};
@@ -19,7 +19,7 @@ use std::alloc::Global;
 use std::sync::Wait;
 use std::thread::Threads;
 
-/// What stands behind the node in the line that tells a stage's fault.
+/// The words after the node in the line that reports a stage's fault.
 fn end_of(stage: Stage) -> &'static str
     ensures { result.now ≡ codes " " ++ stage_word stage ++ codes "\n" }
 {
@@ -31,7 +31,7 @@ fn end_of(stage: Stage) -> &'static str
     }
 }
 
-/// Writes the line that tells a fault, without memory. The one refusal is `Fault::Device`, where the writer failed.
+/// Writes the line that reports a fault. It takes no memory. The only refusal is `Fault::Device`, if the writer failed.
 fn write_fault<W: ReportOut>(writer: &mut W, node: u8, fault: Fault) -> Result<(), Fault>
     ensures whole { OnOk result (Gains (W.written writer.old) (fault_line node fault) (W.written writer.new)) }
     ensures raised { OnErr result (Fails (W.failures writer.old) (W.failures writer.new)) }
@@ -46,7 +46,7 @@ fn write_fault<W: ReportOut>(writer: &mut W, node: u8, fault: Fault) -> Result<(
     }
 }
 
-/// Writes the line that tells a fault, if the writer takes it, and answers the exit status. It takes no memory.
+/// Writes the line that reports a fault, if the writer takes it, and returns the exit status. It takes no memory.
 #[tactic(auto, using(crate::proofs::Told::some_status, crate::proofs::Told::few_status, crate::proofs::Told::no_usage, crate::proofs::Told::told_by))]
 fn tell<W: ReportOut>(fault: PlayFault, writer: &mut W) -> u8
     ensures status { result ≡ status_of fault.fault }
@@ -59,15 +59,15 @@ fn tell<W: ReportOut>(fault: PlayFault, writer: &mut W) -> u8
     status(fault.fault)
 }
 
-/// Plays a script, one step after another, and answers 0 where its reports were written. Else the fault is told by its line, if the writer takes it, and
-/// its status is answered: 1 where the script was refused, and 3.
+/// Plays a script, one step after another, and returns 0 if its reports were written. Else the fault is reported by its line, if the writer
+/// takes it, and its status is returned: 1 if the script was refused, else 3.
 #[tactic(auto, using(crate::proofs::Told::told_after, crate::proofs::Told::unplayed))]
 pub fn serve_run<R: ScriptIn, W: ReportOut>(alloc: Global, reader: &mut R, writer: &mut W) -> u8
     ensures few { result ≤ 3 }
     ensures no_usage { result ≢ 2 }
-    // What was read is a script of at most 1,048,576 bytes, and what was written are its reports.
+    // What was read is a script of at most 1,048,576 bytes, and what was written is its reports.
     ensures reports { result ≡ 0 → (script text : List ℕ) × IsAll (R.left reader.old) script × (length script ≤ SCRIPT_LIMIT) × IsScript script × AreReports script text × Gains (W.written writer.old) text (W.written writer.new) }
-    // Else just the line of the fault was written, or the writer failed.
+    // Else exactly the line of the fault was written, or the writer failed.
     ensures refused { result ≢ 0 → (fault : PlayFault) × (result ≡ status_of fault.fault) × IsUnplayed (R.left reader.old) fault × IsTold W.written W.failures writer.old fault writer.new }
 {
     match play(alloc, reader, writer) {
@@ -76,8 +76,8 @@ pub fn serve_run<R: ScriptIn, W: ReportOut>(alloc: Global, reader: &mut R, write
     }
 }
 
-/// Plays a script by nodes whose stages run in threads of their own, and answers 0 where its reports were written. Else the fault is
-/// told as `serve_run` tells it.
+/// Plays a script with nodes whose stages run in threads, and returns 0 if its reports were written. Else the fault is reported as
+/// `serve_run` reports it.
 #[tactic(auto, using(crate::proofs::Told::told_after, crate::proofs::Told::unplayed_in_threads))]
 pub fn serve_threads<T: Threads + Wait + Sync, R: ScriptIn, W: ReportOut>(
     rt: &T,
@@ -87,9 +87,9 @@ pub fn serve_threads<T: Threads + Wait + Sync, R: ScriptIn, W: ReportOut>(
 ) -> u8
     ensures few { result ≤ 3 }
     ensures no_usage { result ≢ 2 }
-    // What was read is a script of at most 1,048,576 bytes, and what was written are the reports of what its nodes' threads left.
+    // What was read is a script of at most 1,048,576 bytes. What was written is the reports of what its nodes' threads left.
     ensures reports { result ≡ 0 → (script text : List ℕ) × IsAll (R.left reader.old) script × (length script ≤ SCRIPT_LIMIT) × IsScript script × AreGatheredReports script text × Gains (W.written writer.old) text (W.written writer.new) }
-    // Else just the line of the fault was written, or the writer failed.
+    // Else exactly the line of the fault was written, or the writer failed.
     ensures refused { result ≢ 0 → (fault : PlayFault) × (result ≡ status_of fault.fault) × IsUnplayedInThreads (R.left reader.old) fault × IsTold W.written W.failures writer.old fault writer.new }
 {
     match play_in_threads(rt, alloc, reader, writer) {
@@ -98,14 +98,14 @@ pub fn serve_threads<T: Threads + Wait + Sync, R: ScriptIn, W: ReportOut>(
     }
 }
 
-/// Checks a script, and answers 0 where it is one and `ok` was written. Else the fault is told as `serve_run` tells it.
+/// Checks a script, and returns 0 if it is one and `ok` was written. Else the fault is reported as `serve_run` reports it.
 #[tactic(auto, using(crate::proofs::Told::told_after, crate::proofs::Told::unchecked))]
 pub fn serve_check<R: ScriptIn, W: ReportOut>(alloc: Global, reader: &mut R, writer: &mut W) -> u8
     ensures few { result ≤ 3 }
     ensures no_usage { result ≢ 2 }
     // What was read is a script of at most 1,048,576 bytes, and `ok` was written.
     ensures ok { result ≡ 0 → ((script : List ℕ) × IsAll (R.left reader.old) script × (length script ≤ SCRIPT_LIMIT) × IsScript script) × Gains (W.written writer.old) (codes "ok\n") (W.written writer.new) }
-    // Else just the line of the fault was written, or the writer failed.
+    // Else exactly the line of the fault was written, or the writer failed.
     ensures refused { result ≢ 0 → (fault : PlayFault) × (result ≡ status_of fault.fault) × IsUnplayed (R.left reader.old) fault × IsCheckFault fault.fault × IsTold W.written W.failures writer.old fault writer.new }
 {
     match check(alloc, reader, writer) {
@@ -114,14 +114,14 @@ pub fn serve_check<R: ScriptIn, W: ReportOut>(alloc: Global, reader: &mut R, wri
     }
 }
 
-/// Shows the message that the digits spell, and answers 0 where its line was written. Else the fault is told as `serve_run`
-/// tells it. No input is read.
+/// Shows the message that the hex digits encode, and returns 0 if its line was written. Else the fault is reported as `serve_run` reports it.
+/// No input is read.
 #[tactic(auto, using(crate::proofs::Told::told_after))]
 pub fn serve_decode<W: ReportOut>(alloc: Global, hex: &str, writer: &mut W) -> u8
     ensures few { result ≤ 3 }
     ensures no_usage { result ≢ 2 }
     ensures shown { result ≡ 0 → (text : List ℕ) × IsShown hex.now text × Gains (W.written writer.old) text (W.written writer.new) }
-    // Else just the line of the fault was written, or the writer failed.
+    // Else exactly the line of the fault was written, or the writer failed.
     ensures refused { result ≢ 0 → (fault : PlayFault) × (result ≡ status_of fault.fault) × (fault.node ≡ 0) × IsNamed fault.node fault.fault × (fault.fault ≢ Fault.NoMemory → fault.fault ≢ Fault.Device → IsUnread hex.now fault.fault) × IsTold W.written W.failures writer.old fault writer.new }
 {
     match show(alloc, hex, writer) {
@@ -130,7 +130,7 @@ pub fn serve_decode<W: ReportOut>(alloc: Global, hex: &str, writer: &mut W) -> u
     }
 }
 
-/// Writes `usage`, and answers 2. No input is read.
+/// Writes `usage`, and returns 2. No input is read.
 pub fn serve_usage<W: ReportOut>(writer: &mut W) -> u8
     ensures status { result ≡ 2 }
     ensures usage { IsWritten W.written W.failures writer.old (codes "usage\n") writer.new }
@@ -139,9 +139,9 @@ pub fn serve_usage<W: ReportOut>(writer: &mut W) -> u8
     2
 }
 
-/// Does what the words of a command line ask for, the program's own name first, and answers the exit status: 0 done, 1
-/// a script or a message was refused, 2 the words ask for nothing, 3 a node failed, want of memory, or the reader or the
-/// writer failed.
+/// Does what the words of a command line ask for, the program's own name first, and returns the exit status. It is 0 for done, 1 if a script
+/// or a message was refused, and 2 if the words ask for nothing. It is 3 if a node failed, it is out of memory, or the reader or the writer
+/// failed.
 pub fn serve<T: Threads + Wait + Sync, R: ScriptIn, W: ReportOut>(
     rt: &T,
     alloc: Global,
@@ -150,16 +150,15 @@ pub fn serve<T: Threads + Wait + Sync, R: ScriptIn, W: ReportOut>(
     writer: &mut W,
 ) -> u8
     ensures status { result ≤ 3 }
-    // 0 is answered only where a script was played, in the one mode or the other, a script was checked, or a message was shown and
-    // nothing was read.
+    // 0 is returned only if a script was played in one of the two modes, a script was checked, or a message was shown and nothing was read.
     ensures done { result ≡ 0 →
         ((script text : List ℕ) × IsAll (R.left reader.old) script × (length script ≤ SCRIPT_LIMIT) × IsScript script × AreReports script text × Gains (W.written writer.old) text (W.written writer.new))
         ⊎ ((script text : List ℕ) × IsAll (R.left reader.old) script × (length script ≤ SCRIPT_LIMIT) × IsScript script × AreGatheredReports script text × Gains (W.written writer.old) text (W.written writer.new))
         ⊎ (((script : List ℕ) × IsAll (R.left reader.old) script × (length script ≤ SCRIPT_LIMIT) × IsScript script) × Gains (W.written writer.old) (codes "ok\n") (W.written writer.new))
         ⊎ ((digits : List ℕ) × ((text : List ℕ) × IsShown digits text × Gains (W.written writer.old) text (W.written writer.new)) × (reader.new ≡ reader.old)) }
-    // 2 is answered only with `usage`, and nothing was read.
+    // 2 is returned only with `usage`, and nothing was read.
     ensures usage { result ≡ 2 → (reader.new ≡ reader.old) × IsWritten W.written W.failures writer.old (codes "usage\n") writer.new }
-    // 1 and 3 are answered only of a fault: its line was written and nothing else, or the writer failed.
+    // 1 and 3 are returned only for a fault. Exactly its line was written, or the writer failed.
     ensures refused { result ≢ 0 → result ≢ 2 → (fault : PlayFault) × (result ≡ status_of fault.fault) × IsNamed fault.node fault.fault × IsTold W.written W.failures writer.old fault writer.new }
 {
     match read_words(alloc, words) {

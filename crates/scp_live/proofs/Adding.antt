@@ -11,7 +11,7 @@ use Rattle.scp_wire.specs.Message.{message_value, SpellsMessage}
 use Rattle.scp_ledger.specs.declared.journal.Decision.{Decision}
 use Rattle.scp_ledger.specs.Kv.{KvLedger}
 use Rattle.scp_ledger.specs.Seen.{machine_at}
-use Rattle.scp_told.specs.Sent.{again_line}
+use Rattle.scp_live_lines.specs.Sent.{again_line}
 use Rattle.scp_envelope.specs.declared.statement.Envelope.{Envelope as Enveloped}
 use Rattle.scp_live.specs.Again.{SaysAgain, enveloped, is_blank, unless_blank, asked_for, said_by, again_at, slots_again, decided_again, again_of}
 

@@ -2,3 +2,11 @@ pub mod Adding
 pub mod Texts
 pub mod Refusals
 pub mod Reports
+pub mod Going
+pub mod Living
+pub mod Beginning
+pub mod Replaying
+pub mod Steps
+pub mod Turns
+pub mod Lives
+pub mod Words

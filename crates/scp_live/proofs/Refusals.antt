@@ -2,7 +2,7 @@
 use Rattle.std.proofs.Common.{◌≡◌, ◌≢◌, refl}
 use Rattle.scp_core.specs.declared.event.Reply.{Reply}
 use Rattle.scp_core.specs.declared.event.Reply.TheVariants as reply
-use Rattle.scp_told.specs.Replies.{refused_line}
+use Rattle.scp_live_lines.specs.Replies.{refused_line}
 use Rattle.scp_live.specs.Live.{refusal}
 
 pub refusal_of : (r : Reply) → r ≢ reply.Accepted → refused_line r ≡ refusal r

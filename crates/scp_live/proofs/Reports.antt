@@ -8,9 +8,9 @@ use Rattle.scp_kv.specs.State.{fold_of}
 use Rattle.scp_ledger.specs.declared.journal.Decision.{Decision}
 use Rattle.scp_ledger.specs.declared.journal.Fate.{Fate}
 use Rattle.scp_apply.specs.Applied.{values_of}
-use Rattle.scp_told.specs.Fates.{fate_line}
-use Rattle.scp_told.specs.Decisions.{applied_line}
-use Rattle.scp_told.specs.State.{key_line}
+use Rattle.scp_live_lines.specs.Fates.{fate_line}
+use Rattle.scp_live_lines.specs.Decisions.{applied_line}
+use Rattle.scp_live_lines.specs.State.{key_line}
 use Rattle.scp_live.specs.Live.{LiveView}
 use Rattle.scp_live.specs.Questions.{report_of}
 

@@ -15,7 +15,7 @@ use Rattle.scp_episode.specs.declared.sending.Sending.{Sending}
 use Rattle.scp_episode.specs.declared.playing.Played.{Played}
 use Rattle.scp_episode.specs.Episode.{sent_in}
 use Rattle.scp_episode.specs.Kv.{IsEpisode}
-use Rattle.scp_told.specs.Timers.{changes}
+use Rattle.scp_live_lines.specs.Timers.{changes}
 use Rattle.scp_live.specs.Live.{IsTold, refusal, sent_line, new_fates, new_decisions, newly_applied, told_of}
 
 -- a text that is made of all that is told, by counts

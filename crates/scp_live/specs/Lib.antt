@@ -1,3 +1,9 @@
 pub mod Live
 pub mod Again
 pub mod Questions
+pub mod Living
+pub mod Beginning
+pub mod Replays
+pub mod Episodes
+pub mod Lines
+pub mod inside

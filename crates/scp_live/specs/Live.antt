@@ -1,4 +1,4 @@
--- A node with what its host was told of it: what is told of an event.
+-- A node with what was reported to its host, and the lines that report an event (this project's profile).
 use Rattle.std.specs.Prelude.{◌≡◌, ℕ, List, [], ◌++◌, length, drop, flat_map}
 use Rattle.scp_timers.specs.declared.running.Timer.{Timer}
 use Rattle.scp_timers.specs.Timers.{AreTimers}
@@ -11,57 +11,58 @@ use Rattle.scp_core.specs.Kv.{NodeView}
 use Rattle.scp_episode.specs.declared.sending.Sending.{Sending}
 use Rattle.scp_episode.specs.Episode.{sent_in}
 use Rattle.scp_episode.specs.Kv.{IsEpisode}
-use Rattle.scp_told.specs.Names.{name_at}
-use Rattle.scp_told.specs.Sent.{send_line}
-use Rattle.scp_told.specs.Fates.{fate_line}
-use Rattle.scp_told.specs.Decisions.{decided_line, applied_line}
-use Rattle.scp_told.specs.Replies.{refused_line}
-use Rattle.scp_told.specs.Timers.{changes}
+use Rattle.scp_live_lines.specs.Names.{name_at}
+use Rattle.scp_live_lines.specs.Sent.{send_line}
+use Rattle.scp_live_lines.specs.Fates.{fate_line}
+use Rattle.scp_live_lines.specs.Decisions.{decided_line, applied_line}
+use Rattle.scp_live_lines.specs.Replies.{refused_line}
+use Rattle.scp_live_lines.specs.Timers.{changes}
 
--- a node, the names of its peers in the order of the links, and the timers that its host was last told to run
+-- A node, the names of its peers in the order of the links, and the timers that its host was last asked to run.
 pub record LiveView : Type 0 where
   pub node : NodeView
   pub names : List (List ℕ)
   pub timers : List Timer
 
--- the line of what was sent
+-- The line of a message that was sent.
 abbrev pub sent_line : List (List ℕ) → Sending → List ℕ
 sent_line names s = send_line (name_at names s.link) s.bytes
 
--- the lines of all that was sent, in order
+-- The lines of all messages that were sent, in order.
 abbrev pub sends : List (List ℕ) → List Exchange → List ℕ
 sends names heard = flat_map (sent_line names) (sent_in heard)
 
--- what is told of the reply to an event: nothing where it was accepted, else why not
+-- What is reported of the reply to an event: nothing if it was accepted, else the line of its refusal.
 abbrev pub refusal : Reply → List ℕ
 refusal reply.Accepted = []
 refusal other = refused_line other
 
--- the line of each fate behind the first so many
+-- The line of each fate after the first `before` ones.
 abbrev pub new_fates : List (List ℕ) → ℕ → NodeView → List ℕ
 new_fates names before v = flat_map (fate_line names v.config.peers) (drop before v.ledger.journal)
 
--- the line of each decision behind the first so many
+-- The line of each decision after the first `before` ones.
 abbrev pub new_decisions : List (List ℕ) → ℕ → NodeView → List ℕ
 new_decisions names before v = flat_map (decided_line names v.config.peers) (drop before v.ledger.decisions)
 
--- the line of each applied slot behind the first so many
+-- The line of each applied slot after the first `before` ones.
 abbrev pub newly_applied : ℕ → NodeView → List ℕ
 newly_applied before v = flat_map applied_line (drop before v.applier.applied)
 
--- What is told of an episode that began with this reply: why it was refused; what was sent; the new fates, decisions and applied slots; and
--- the timers that run no more or from now on.
+-- The lines that report an episode that began with this reply. They say why the event was refused, what was sent, and the new fates,
+-- decisions and applied slots. Last come the timers that no longer run and those that run from now on.
 abbrev pub told_of : List (List ℕ) → List Timer → List Timer → Reply → NodeView → List Exchange → NodeView → List ℕ
 told_of names before after' reply old heard new =
     refusal reply ++ sends names heard
     ++ new_fates names (length old.ledger.journal) new ++ new_decisions names (length old.ledger.decisions) new ++ newly_applied (length old.applier.applied) new
     ++ changes before after'
 
--- the timers that the host of the node should run
+-- The timers that the host of the node should run.
 abbrev pub AreTimersOf : NodeView → List Timer → Type 0
 AreTimersOf v timers = AreTimers v.ledger.machines v.ledger.lowest 16 timers
 
--- What an event did and what was told of it: an episode, behind the text its lines, and the digest of the lines of what was sent.
+-- What an event did and how it was reported. It was an episode; its lines follow the text; the digest is that of the lines of what was
+-- sent.
 pub record IsTold (event : Event) (names : List (List ℕ)) (before after' : List Timer) (old : NodeView) (heard : List Exchange) (new : NodeView) (text longer digest : List ℕ) : Type 0 where
   pub reply : Reply
   pub episode : IsEpisode event reply old heard new

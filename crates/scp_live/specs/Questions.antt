@@ -1,4 +1,4 @@
--- What a host is answered that asks where a node stands.
+-- The answers to a host that asks about the state of a node (this project's profile).
 use Rattle.std.specs.Prelude.{ℕ, zero, suc, ◌-◌, List, [], ◌++◌, length, drop, flat_map}
 use Rattle.std.specs.FinMap as map
 use Rattle.scp_kv.specs.State.{fold_of}
@@ -6,30 +6,32 @@ use Rattle.scp_apply.specs.Applied.{values_of}
 use Rattle.scp_core.specs.Node.{accepts_at, lives_at}
 use Rattle.scp_core.specs.Kv.{NodeView}
 use Rattle.scp_turn.specs.Turn.{links_of}
-use Rattle.scp_told.specs.Names.{name_at}
-use Rattle.scp_told.specs.Fates.{fate_line}
-use Rattle.scp_told.specs.Decisions.{applied_line}
-use Rattle.scp_told.specs.Timers.{running}
-use Rattle.scp_told.specs.State.{lowest_line, applied_count_line, journal_line, warning_lines, link_line, key_line}
+use Rattle.scp_live_lines.specs.Names.{name_at}
+use Rattle.scp_live_lines.specs.Fates.{fate_line}
+use Rattle.scp_live_lines.specs.Decisions.{applied_line}
+use Rattle.scp_live_lines.specs.Timers.{running}
+use Rattle.scp_live_lines.specs.State.{lowest_line, applied_count_line, journal_line, warning_lines, link_line, key_line}
 use Rattle.scp_live.specs.Live.{LiveView}
 
--- the line of each link, in order: whether what its peer sends is accepted, and how often it was opened
+-- The line of each link, in order: whether the node accepts what its peer sends, and how many times it was opened.
 abbrev pub link_lines : LiveView → ℕ → List ℕ
 link_lines v zero = []
 link_lines v (suc l) = link_lines v l ++ link_line (name_at v.names l) (accepts_at v.node l) (lives_at v.node l)
 
--- where a node stands: the lowest undecided slot, how many slots are applied, how long the journal is, the links, and the timers that run
+-- The state of a node: the lowest undecided slot, the number of applied slots, the length of the journal, the links, and the timers that
+-- run.
 abbrev pub state_of : LiveView → List ℕ
 state_of v =
     lowest_line v.node.ledger.lowest ++ applied_count_line (length v.node.applier.applied)
     ++ journal_line (length v.node.ledger.journal) ++ warning_lines (length v.node.ledger.journal)
     ++ link_lines v (links_of v.node) ++ running v.timers
 
--- the line of each applied slot from this one on
+-- The line of each applied slot from this one on.
 abbrev pub applied_from : NodeView → ℕ → List ℕ
 applied_from v slot = flat_map applied_line (drop (slot - 1) v.applier.applied)
 
--- all that became of what came, in order, all that was applied, and the state that it made: the keys with their values
+-- The report: what became of each message that came, in order; each applied slot; and the state that these slots make, key by key with
+-- its value.
 abbrev pub report_of : LiveView → List ℕ
 report_of v =
     flat_map (fate_line v.names v.node.config.peers) v.node.ledger.journal ++ flat_map applied_line v.node.applier.applied

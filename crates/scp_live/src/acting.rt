@@ -1,23 +1,23 @@
-//! An event, and all that is told of it.
+//! An event, and the lines that report what it did.
 ghost use Rattle.std.specs.Prelude.{◌≡◌, ◌++◌, false, IfOk, OnOk, IsOkUnless, map, flat_map, string_bytes};
 ghost use Rattle.sha2.specs.Sha256.{sha256};
 ghost use Rattle.scp_types.specs.declared.fault.Fault.{Fault};
 ghost use Rattle.scp_turn.specs.Kv.{Goes, Watched};
 ghost use Rattle.scp_turn.specs.Watch.{notes};
 ghost use Rattle.scp_episode.specs.Episode.{IsOfHost};
-ghost use Rattle.scp_told.specs.Timers.{changes};
+ghost use Rattle.scp_live_lines.specs.Timers.{changes};
 ghost use Rattle.scp_live.specs.Live.{IsTold, AreTimersOf, refusal, sent_line, new_fates, new_decisions, newly_applied};
 
 use crate::telling::{Marks, digest_from, tell_new, tell_refusal, tell_sent};
 use scp_core::{Event, KvDriver, Node};
 use scp_episode::{Played, play_with};
+use scp_live_lines::write_changes;
 use scp_timers::{Timer, timers};
-use scp_told::write_changes;
 use scp_turn::Watch;
 use scp_types::{Fault, Hash};
 use std::alloc::Global;
 
-/// Tells the reply and what was sent, and answers the digest of the lines of what was sent.
+/// Reports the reply and what was sent, and returns the digest of the lines of what was sent.
 fn tell_played(text: &mut String, names: &[String], played: &Played) -> Result<Hash, Fault>
     ensures told { OnOk result (string_bytes text.new ≡ string_bytes text.old ++ refusal played.now.reply ++ flat_map (sent_line (map string_bytes names.now)) played.now.sent.items) }
     ensures digest { IfOk result (λ hash. hash.0 ≡ sha256 (flat_map (sent_line (map string_bytes names.now)) played.now.sent.items)) }
@@ -29,7 +29,7 @@ fn tell_played(text: &mut String, names: &[String], played: &Played) -> Result<H
     Ok(digest_from(text, start))
 }
 
-/// Tells what is new of a node since these marks, and which timers run no more or from now on: those that run from now on are kept.
+/// Reports what is new at a node since these marks, and the timers that no longer run or run from now on. Keeps the timers that run now.
 fn tell_rest(
     alloc: Global,
     text: &mut String,
@@ -50,7 +50,7 @@ fn tell_rest(
     Ok(())
 }
 
-/// Tells what an event did, and answers the digest of the lines of what was sent.
+/// Reports what an event did, and returns the digest of the lines of what was sent.
 fn tell(
     alloc: Global,
     text: &mut String,
@@ -71,7 +71,8 @@ fn tell(
     Ok(hash)
 }
 
-/// The event, and all that is told of it; the watch is told of each step. A full journal is told as want of memory.
+/// Plays the event and reports all that it did; the watch is shown each step. A step that failed the node, also because the journal was full, is
+/// reported as `Failed`.
 pub fn act_with<W: Watch<KvDriver>>(
     alloc: Global,
     node: &mut Node,

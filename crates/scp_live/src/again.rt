@@ -1,8 +1,8 @@
-//! What a node says once more to a peer.
+//! What a node sends once more to a peer.
 ghost use Rattle.std.specs.Prelude.{◌≡◌, ◌⊎◌, ◌++◌, ◌+◌, [], ◌∷◌, false, IfErr, OnOk, Some, map, string_bytes};
 ghost use Rattle.scp_types.specs.declared.fault.Fault.{Fault};
 ghost use Rattle.scp_ledger.specs.Seen.{machine_at};
-ghost use Rattle.scp_told.specs.Names.{name_at};
+ghost use Rattle.scp_live_lines.specs.Names.{name_at};
 ghost use Rattle.scp_live.specs.Again.{SaysAgain, last_of, enveloped, is_blank, own_on, said_by, asked_for, again_at, slots_again, decided_again, own_of, again_of};
 
 use crate::live::Live;
@@ -11,14 +11,14 @@ use scp_core::{Origin, SharedDecision};
 use scp_driver::KvDriver;
 use scp_envelope::{Envelope, Pledges, SharedEnvelope};
 use scp_ledger::Ledger;
+use scp_live_lines::write_again;
 use scp_slot::SlotMachine;
-use scp_told::write_again;
 use scp_types::{Fault, Slot};
 use scp_vote::{Board, StatementKind};
 use scp_wire::{BoxedEnvelope, Message, encode};
 use std::alloc::Global;
 
-/// How many decisions are told of once more, and how many slots are open (this project's profile).
+/// How many decisions are sent once more, and how many slots are open (this project's profile).
 const WINDOW: u64 = 16;
 
 /// Adds the line of a message.
@@ -45,7 +45,7 @@ fn say_envelope(
     say(alloc, text, name, &message)
 }
 
-/// Adds the line of the own EXTERNALIZE of a decision, if it has one.
+/// Adds the line of the own EXTERNALIZE of a decision, if the decision has one.
 fn say_origin(alloc: Global, text: &mut String, name: &str, origin: &Origin) -> Result<(), Fault>
     ensures said { OnOk result (SaysAgain name.now (own_of origin.now) (string_bytes text.old) (string_bytes text.new)) }
     ensures only { IfErr result (λ f. (f ≡ Fault.NoMemory) ⊎ (f ≡ Fault.TooLong)) }
@@ -111,7 +111,7 @@ fn say_own(
     }
 }
 
-/// Adds the lines of what a machine says.
+/// Adds the lines of a machine's newest own statements.
 fn say_machine(
     alloc: Global,
     text: &mut String,
@@ -127,7 +127,7 @@ fn say_machine(
     say_own(alloc, text, name, ballots, StatementKind::Balloting)
 }
 
-/// Adds the lines of what the machine of a slot says, if it has one.
+/// Adds the lines of the newest own statements of a slot's machine, if there is one.
 fn say_open(
     alloc: Global,
     text: &mut String,
@@ -144,7 +144,7 @@ fn say_open(
     }
 }
 
-/// Adds the line of the request for a slot's record, where the link was asked for it.
+/// Adds the line of the request for a slot's record, if the node asked for it on this link.
 fn say_asked(
     alloc: Global,
     text: &mut String,
@@ -163,7 +163,7 @@ fn say_asked(
     }
 }
 
-/// Adds what is said of the slot that lies so many ahead of the lowest one.
+/// Adds what is sent once more about the slot this many slots after the lowest undecided one.
 fn say_slot(
     alloc: Global,
     text: &mut String,
@@ -184,7 +184,7 @@ fn say_slot(
     }
 }
 
-/// Adds what is said of the open slots.
+/// Adds what is sent once more about the open slots.
 fn say_slots(
     alloc: Global,
     text: &mut String,
@@ -202,10 +202,10 @@ fn say_slots(
 }
 
 impl Live {
-    /// Says the own newest statements once more to the peer of a link, whose connection may have lost them: of the last 16 decisions of the
-    /// node's own machines the EXTERNALIZE, and of the 16 open slots the request for the record, if the link was asked for it, and the
-    /// own newest nomination and ballot statement. Nothing changes. Refused by `TooLong` where one of them doesn't fit a link, and by
-    /// `NoMemory`.
+    /// Adds the lines of what is sent once more to the peer of a link, whose connection may have lost it. For the last 16 decisions of
+    /// the node's own machines, this is the EXTERNALIZE. For the 16 open slots, it is the request for the record, if the node asked for
+    /// it on this link, and the newest own nomination and ballot statements. The node doesn't change. Refused by `TooLong` if one of the
+    /// messages doesn't fit a link, and by `NoMemory`.
     pub fn again(&self, link: u8, text: &mut String) -> Result<(), Fault>
         ensures said { self.now.node.failed ≡ false → OnOk result (SaysAgain (name_at self.now.names link) (again_of self.now.node.ledger link) (string_bytes text.old) (string_bytes text.new)) }
         ensures only { IfErr result (λ f. (f ≡ Fault.NoMemory) ⊎ (f ≡ Fault.TooLong)) }

@@ -1,18 +1,38 @@
-//! A node with what its host was told of it.
+//! A live node and its host: events and their effects, timers, the start from a configuration, and the replay of a log.
 //!
 //! What it promises:
-//! - an event is played whole: its step, and where it is accepted the node's rest, and all that waits for the peers of open links;
-//! - what is told of it is just this, in this order: why it was refused, what was sent, each new fate, decision and applied slot, the
-//!   timers that run no more and those that run from now on; and the digest of the lines of what was sent is answered;
-//! - the timers that a host was last told to run are those that should run;
-//! - what is said once more to a peer is the own newest statements and requests, and no others;
-//! - the ledger theorem holds of the node for all that it heard.
+//! - an event is played whole: its own step, and, if it is accepted, all further steps until the node rests and has sent all that waits
+//!   for the peers of open links;
+//! - what is written for an event is exactly this, in this order: why it was refused, what was sent, each new fate, decision and applied
+//!   slot, the timers that no longer run, and those that run from now on;
+//! - the call returns the digest of the lines of what was sent;
+//! - the timers that a host was last asked to run are those that should run;
+//! - what is sent once more to a peer is the node's newest own statements and its requests, and nothing else;
+//! - the ledger theorem holds of the node for all that it received and replied;
+//! - the settings are what the TOML text says, and a node that begins with them has received no event;
+//! - the entries of a log are played in order, each as its line says, and an entry is refused if something else is sent for it;
+//! - a node that can't begin, or that failed, never ends with status 0; one line says why, but no clause says which;
+//! - take two runs of a node with one configuration that receive the same events, where no step fails the node: both have the same
+//!   exchanges, and their nodes show the same; so the effects of each event, and what is sent on each link, are the same;
+//! - if no two links have the same name, a line of a host asks for at most one thing.
 #![tactic(auto)]
 
 mod acting;
 mod again;
+mod check;
+mod entries;
+mod failing;
+mod laws;
 mod live;
+mod nolog;
 mod questions;
+mod settings;
 mod telling;
 
+pub use check::check_config;
+pub use entries::replay;
+pub use failing::{fail, refuse};
+pub use laws::{a_line_says_one_thing, the_same_events_give_the_same_episodes};
 pub use live::Live;
+pub use nolog::NoLog;
+pub use settings::{begun, header, settings_of};

@@ -18,7 +18,7 @@ use scp_types::{Fault, Hash};
 use std::alloc::Global;
 use std::marker::Model;
 
-/// A node, the names of its peers, and the timers that its host was last told to run.
+/// A node, the names of its peers, and the timers that its host was last asked to run.
 pub struct Live {
     pub(crate) alloc: Global,
     pub(crate) node: Node,
@@ -26,7 +26,7 @@ pub struct Live {
     pub(crate) timers: Vec<Timer>,
 }
 
-// (written out, so that whoever lets one go has one call to prove, and not each part of a node)
+// (written out, so that whoever drops one has one call to prove, and not each part of a node)
 impl Drop for Live {
     fn drop(self) {
         let Live {
@@ -55,10 +55,10 @@ impl Model for Live {
 }
 
 impl Live {
-    /// A node that has heard nothing, and the names of its peers, in their order. Refused by `BadConfig` as `Node::new`, else by
-    /// `NoMemory`.
+    /// A node that has received no event, and the names of its peers, in their order. Refused by `BadConfig` when `Node::new` is,
+    /// otherwise by `NoMemory`.
     pub fn new(alloc: Global, config: Config, names: Vec<String>) -> Result<Live, Fault>
-        // What holds of a list of events holds of the empty list.
+        // What holds of a node and a list of exchanges holds here of the empty list.
         ensures theorem { IfOk result (λ live. LedgerTheorem [] live.node) }
         ensures config { IfOk result (λ live. live.node.config ≡ config) }
         ensures names { IfOk result (λ live. live.names ≡ map string_bytes names.items) }
@@ -77,10 +77,10 @@ impl Live {
         })
     }
 
-    /// The event, and all that follows of it; the watch is told of each step. What is told of it goes behind the text, and the SHA-256 of
-    /// the lines of what was sent is answered. Refused by `Failed` where the node had failed before; and by `NoMemory` where a step lacked
-    /// memory or found its journal full, each of which failed it, or where there is none for what is told. After a refusal not all is told
-    /// of what the node did.
+    /// Plays the event and all that follows from it; the watch is shown each step. Adds the lines that report it to the text, and
+    /// returns the SHA-256 of the lines of what was sent. Refused by `Failed` if the node had failed before, or if a step failed it
+    /// because memory ran out or the journal was full. Refused by `NoMemory` if there is no memory for what was sent or for the lines.
+    /// After a refusal, the lines may not report all that the node did.
     pub fn act_with<W: Watch<KvDriver>>(
         &mut self,
         event: Event,
@@ -88,13 +88,13 @@ impl Live {
         watch: &mut W,
     ) -> Result<Hash, Fault>
         requires { IsOfHost event }
-        // What the node heard is an episode of the event, and its lines are told. Also where it is refused the watch was told of each step, and the
-        // ledger theorem goes on.
+        // The node went through an episode of the event, and its lines are written. Even if the call is refused, the watch was shown
+        // each step, and the ledger theorem still holds.
         ensures told { Goes self.old.node self.new.node (λ a heard b. IfOk result (λ hash. IsTold event self.old.names self.old.timers self.new.timers a heard b (string_bytes text.old) (string_bytes text.new) hash.0) × Watched (notes W.notes_before W.notes_after) 1 watch.old a heard b watch.new) }
-        // The host was told to run just the timers that should run.
+        // The host was asked to run exactly the timers that should run.
         ensures timers { OnOk result (AreTimersOf self.new.node self.new.timers) }
         ensures names { self.new.names ≡ self.old.names }
-        // A node that failed isn't told to have played it.
+        // A call during which the node failed is never reported as played.
         ensures runs { OnOk result (self.new.node.failed ≡ false) }
     {
         acting::act_with(
@@ -122,14 +122,14 @@ impl Live {
         self.names.as_slice()
     }
 
-    /// How many links it has.
+    /// The number of links.
     pub fn links(&self) -> u8
         ensures { result ≡ links_of self.now.node }
     {
         self.node.peers().len().min(PEER_LIMIT) as u8
     }
 
-    /// Whether a link is open, and has room for what its peer sends.
+    /// Whether a link is open and has room for what its peer sends.
     pub fn is_open(&self, link: u8) -> bool
         ensures { result ≡ accepts_at self.now.node link }
     {

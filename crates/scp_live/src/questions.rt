@@ -1,16 +1,16 @@
-//! What a host is answered that asks where a node stands.
+//! The answers to a host that asks about the state of a node.
 ghost use Rattle.std.specs.Prelude.{◌≡◌, ◌++◌, false, OnOk, map, flat_map, string_bytes};
 ghost use Rattle.std.specs.FinMap as map_of;
 ghost use Rattle.scp_core.specs.Node.{accepts_at, lives_at};
 ghost use Rattle.scp_turn.specs.Turn.{links_of};
-ghost use Rattle.scp_told.specs.Names.{name_at};
-ghost use Rattle.scp_told.specs.State.{key_line, link_line};
+ghost use Rattle.scp_live_lines.specs.Names.{name_at};
+ghost use Rattle.scp_live_lines.specs.State.{key_line, link_line};
 ghost use Rattle.scp_live.specs.Questions.{link_lines, state_of, applied_from, report_of};
 
 use crate::live::Live;
 use crate::telling::{behind, name_of, tell_applied, tell_fates};
 use scp_kv::KvState;
-use scp_told::{
+use scp_live_lines::{
     write_applied_count, write_journal, write_key, write_link, write_lowest, write_running,
     write_warning,
 };
@@ -46,8 +46,9 @@ impl Live {
         Ok(())
     }
 
-    /// Adds where the node stands: the lowest undecided slot, how many slots are applied, how long the journal is, with a warning from
-    /// nine tenths of its limit on, the links, and the timers that run. Of a node that failed the slot says nothing.
+    /// Adds the state of the node. It has the lowest undecided slot, the number of applied slots, the length of the journal, the links,
+    /// and the timers that run. From nine tenths of the journal's limit on there is a warning. For a node that failed, the slot means
+    /// nothing.
     pub fn state(&self, text: &mut String) -> Result<(), AllocError>
         ensures { self.now.node.failed ≡ false → OnOk result (string_bytes text.new ≡ string_bytes text.old ++ state_of self.now) }
     {
@@ -68,7 +69,7 @@ impl Live {
         tell_applied(text, behind(self.node.applied(), from))
     }
 
-    /// Adds all that became of what came, all that was applied, and the keys with their values.
+    /// Adds what became of each message that came, each applied slot, and the keys with their values.
     pub fn report(&self, text: &mut String) -> Result<(), AllocError>
         ensures { self.now.node.failed ≡ false → OnOk result (string_bytes text.new ≡ string_bytes text.old ++ report_of self.now) }
     {

@@ -1,19 +1,19 @@
-//! What is told of an episode.
+//! The lines that report an episode.
 ghost use Rattle.std.specs.Prelude.{◌≡◌, ◌++◌, OnOk, length, drop, map, flat_map, string_bytes};
 ghost use Rattle.sha2.specs.Sha256.{sha256};
-ghost use Rattle.scp_told.specs.Names.{name_at};
-ghost use Rattle.scp_told.specs.Fates.{fate_line};
-ghost use Rattle.scp_told.specs.Decisions.{decided_line, applied_line};
+ghost use Rattle.scp_live_lines.specs.Names.{name_at};
+ghost use Rattle.scp_live_lines.specs.Fates.{fate_line};
+ghost use Rattle.scp_live_lines.specs.Decisions.{decided_line, applied_line};
 ghost use Rattle.scp_live.specs.Live.{sent_line, refusal, new_fates, new_decisions, newly_applied};
 
 use scp_core::{Fate, Node, Reply, SharedDecision};
 use scp_episode::Sending;
-use scp_told::{write_applied, write_decided, write_fate, write_refused, write_send};
+use scp_live_lines::{write_applied, write_decided, write_fate, write_refused, write_send};
 use scp_types::{Hash, NodeId};
 use sha2::{Digest, Sha256};
 use std::alloc::AllocError;
 
-/// What stands behind so many elements.
+/// What comes after the first `count` elements.
 pub fn behind<T>(all: &[T], count: usize) -> &[T]
     ensures { result.now ≡ drop count all.now }
 {
@@ -24,7 +24,7 @@ pub fn behind<T>(all: &[T], count: usize) -> &[T]
     }
 }
 
-/// The name of the peer of a link; a dash where there is none.
+/// The name of the peer of a link, or a dash if there is none.
 pub fn name_of<'a>(names: &'a [String], link: u8) -> &'a str
     ensures { result.now ≡ name_at (map string_bytes names.now) link }
 {
@@ -34,7 +34,7 @@ pub fn name_of<'a>(names: &'a [String], link: u8) -> &'a str
     }
 }
 
-/// Tells why an event was refused, if it was.
+/// Reports why an event was refused, if it was.
 pub fn tell_refusal(text: &mut String, reply: &Reply) -> Result<(), AllocError>
     ensures { OnOk result (string_bytes text.new ≡ string_bytes text.old ++ refusal reply.now) }
 {
@@ -44,7 +44,7 @@ pub fn tell_refusal(text: &mut String, reply: &Reply) -> Result<(), AllocError>
     }
 }
 
-/// Tells what was sent.
+/// Reports what was sent.
 pub fn tell_sent(text: &mut String, names: &[String], sent: &[Sending]) -> Result<(), AllocError>
     ensures { OnOk result (string_bytes text.new ≡ string_bytes text.old ++ flat_map (sent_line (map string_bytes names.now)) sent.now) }
 {
@@ -54,14 +54,14 @@ pub fn tell_sent(text: &mut String, names: &[String], sent: &[Sending]) -> Resul
     Ok(())
 }
 
-/// Tells of one message that it was sent.
+/// Reports that one message was sent.
 fn tell_one_sent(text: &mut String, names: &[String], sending: &Sending) -> Result<(), AllocError>
     ensures { OnOk result (string_bytes text.new ≡ string_bytes text.old ++ sent_line (map string_bytes names.now) sending.now) }
 {
     write_send(text, name_of(names, sending.link), sending.bytes.as_slice())
 }
 
-/// Tells these fates.
+/// Reports these fates.
 pub fn tell_fates(
     text: &mut String,
     names: &[String],
@@ -76,7 +76,7 @@ pub fn tell_fates(
     Ok(())
 }
 
-/// Tells these decisions.
+/// Reports these decisions.
 pub fn tell_decided(
     text: &mut String,
     names: &[String],
@@ -91,7 +91,7 @@ pub fn tell_decided(
     Ok(())
 }
 
-/// Tells of these decisions that they are applied.
+/// Reports that these decisions are applied.
 pub fn tell_applied(text: &mut String, applied: &[SharedDecision]) -> Result<(), AllocError>
     ensures { OnOk result (string_bytes text.new ≡ string_bytes text.old ++ flat_map applied_line applied.now) }
 {
@@ -110,7 +110,7 @@ pub struct Marks {
 }
 
 impl Marks {
-    /// Those of a node.
+    /// The counts of a node.
     pub fn of(node: &Node) -> Marks
         ensures fates { result.fates ≡ length node.now.ledger.journal }
         ensures decisions { result.decisions ≡ length node.now.ledger.decisions }
@@ -124,7 +124,7 @@ impl Marks {
     }
 }
 
-/// Tells what is new of a node since these marks: fates, decisions, applied slots.
+/// Reports what is new at a node since these marks: fates, decisions, applied slots.
 pub fn tell_new(
     text: &mut String,
     names: &[String],
@@ -144,7 +144,7 @@ pub fn tell_new(
     tell_applied(text, behind(node.applied(), marks.applied))
 }
 
-/// The digest of the text from this place on.
+/// The digest of the text from this index on.
 pub fn digest_from(text: &String, start: usize) -> Hash
     ensures { result.0 ≡ sha256 (drop start (string_bytes text.now)) }
 {

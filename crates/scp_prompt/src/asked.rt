@@ -3,7 +3,7 @@
 use crate::commands::command_line;
 use clap::error::ErrorKind;
 use clap::{ArgMatches, Error};
-use scp_plan::{BadOption, SimAsked, Unplanned, sim_by};
+use scp_sim_options::{BadOption, SimAsked, Unplanned, sim_by};
 use std::alloc::{AllocError, Global};
 
 /// How a script is played.
@@ -18,9 +18,9 @@ pub enum Mode {
 /// How reports are written.
 #[derive(Clone, Copy)]
 pub enum Shape {
-    /// As they are settled, with values, keys and messages in digits.
+    /// In the fixed form, with values, keys and messages in hex digits.
     Settled,
-    /// With these as text that people write.
+    /// With values, keys and messages as people write them.
     Text,
     /// As one JSON document.
     Json,
@@ -29,7 +29,7 @@ pub enum Shape {
 /// How the bytes of a message are written.
 #[derive(Clone, Copy)]
 pub enum Coding {
-    /// In hexadecimal digits.
+    /// In hex digits.
     Hex,
     /// In base64.
     Base64,
@@ -42,21 +42,21 @@ pub enum Task {
     Run(Mode, Shape),
     /// A script is played, and the account of its nodes is written.
     Account(Mode),
-    /// What is wrong with a script is told.
+    /// What is wrong with a script is shown.
     Check,
-    /// Where the nodes of a script stand is told.
+    /// Where the nodes of a script stand is shown.
     Stand,
-    /// All that happens while a script is played is told.
+    /// All that happens while a script is played is shown.
     Trace,
     /// All that happens while a script is played is drawn.
     Draw,
-    /// A script of one slot's machine is played.
+    /// A script of one slot is played by that slot's machine.
     Slot,
-    /// What a script's quorum sets come to is told.
+    /// What a script's quorum sets come to is shown.
     Quorums,
-    /// A script is written with digits in place of text.
+    /// A script is written with hex digits in place of text.
     Hex,
-    /// A script is written with text in place of digits.
+    /// A script is written with text in place of hex digits.
     Text,
     /// Messages are written as text.
     Decode(Coding),
@@ -71,7 +71,7 @@ pub enum Source<'a> {
     Input,
     /// The file of this path.
     File(&'a str),
-    /// The words themselves: of messages that are decoded, or of one that is encoded.
+    /// The words themselves: the messages to decode, or the words of the one message to encode.
     Words(Vec<&'a str>),
 }
 
@@ -79,9 +79,9 @@ pub enum Source<'a> {
 #[derive(Drop)]
 pub struct Asked<'a> {
     pub task: Task,
-    /// What goes wrong is told on the standard output by its settled line.
+    /// A failure is reported on the standard output, in the fixed form.
     pub plain: bool,
-    /// The notices of a run are left out.
+    /// Whether the notices of a run are left out.
     pub quiet: bool,
     pub source: Source<'a>,
 }
@@ -89,16 +89,16 @@ pub struct Asked<'a> {
 /// What is done with a node.
 #[derive(Clone, Copy)]
 pub enum NodeTask<'a> {
-    /// What is wrong with its configuration is told, or the configuration's digest.
+    /// What is wrong with its configuration is shown, or the configuration's digest.
     Check,
     /// It runs until the standard input ends.
     Run {
-        /// The path of its log; without one it keeps nothing.
+        /// The path of its log. Without a log it keeps nothing.
         log: Option<&'a str>,
-        /// The path of the file that all which happens is written into, if one is.
+        /// The path of the file into which all that happens is written, if there is one.
         trace: Option<&'a str>,
     },
-    /// The account of what its log says is written.
+    /// The account of the node is written, as its log says.
     Account {
         /// The path of its log.
         log: &'a str,
@@ -124,18 +124,18 @@ pub enum Wanted<'a> {
     Sim(SimAsked<'a>),
 }
 
-/// What words are answered with that ask for nothing.
+/// The answer to words that ask for no task.
 #[derive(Drop)]
 pub enum Unasked {
     /// The help or the version, which was asked for.
     Told(String),
     /// What is wrong with the words.
     Wrong(String),
-    /// There is no memory.
+    /// It is out of memory.
     NoMemory,
 }
 
-/// The file of a command, `-` and none of which are the standard input.
+/// The file of a command. `-` and no file are the standard input.
 fn file_of<'a>(matches: &ArgMatches<'a>) -> Source<'a> {
     match matches.get_str("FILE") {
         None | Some("-") => Source::Input,
@@ -143,7 +143,7 @@ fn file_of<'a>(matches: &ArgMatches<'a>) -> Source<'a> {
     }
 }
 
-/// The messages that stand among the words themselves; without any the standard input has them.
+/// The messages that are among the words themselves. Without any, they come from the standard input.
 fn messages_of<'a>(
     alloc: Global,
     matches: &ArgMatches<'a>,
@@ -198,7 +198,7 @@ fn with_file<'a>(task: Task, matches: &ArgMatches<'a>) -> Asked<'a> {
     }
 }
 
-/// A task whose input may stand among the words.
+/// A task whose input may be among the words.
 fn with_messages<'a>(
     alloc: Global,
     task: Task,
@@ -213,7 +213,7 @@ fn with_messages<'a>(
     })
 }
 
-/// What a command on scripts asks for, by its name and its words.
+/// The task that a command on scripts asks for, from its name and its words.
 fn script_by<'a>(
     alloc: Global,
     name: &str,
@@ -254,7 +254,7 @@ fn node_by<'a>(matches: &ArgMatches<'a>) -> Option<NodeAsked<'a>> {
     Some(NodeAsked { config, task })
 }
 
-/// What a command asks for, by its name and its words.
+/// What a command asks for, from its name and its words.
 fn wanted_by<'a>(
     alloc: Global,
     name: &str,
@@ -272,7 +272,7 @@ fn wanted_by<'a>(
     })
 }
 
-/// What is told in place of a task, by the parser of the words.
+/// What is shown in place of a task, from the parser of the words.
 fn unasked_by(alloc: Global, error: &Error) -> Unasked {
     if error.kind() == ErrorKind::OutOfMemory {
         return Unasked::NoMemory;
@@ -289,7 +289,7 @@ fn unasked_by(alloc: Global, error: &Error) -> Unasked {
     }
 }
 
-/// What is told of an option whose word says nothing.
+/// What is shown of an option whose word isn't valid.
 fn bad_option(alloc: Global, bad: &BadOption) -> Unasked {
     let mut text = String::new(alloc);
     let (option, expected) = (bad.option, bad.expected);
@@ -332,7 +332,7 @@ fn parsed<'a>(
     command_line(alloc, version)?.try_get_matches_from(words)
 }
 
-/// What is told of words that name no command.
+/// What is shown for words that name no command.
 fn no_command(alloc: Global) -> Unasked {
     match "error: there is no command; see bowls --help\n".to_string(alloc) {
         Ok(text) => Unasked::Wrong(text),

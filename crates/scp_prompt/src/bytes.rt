@@ -9,15 +9,15 @@ use std::alloc::Global;
 /// The most bytes of a script that is rewritten: 16 MiB (this project's profile).
 pub const LONG_LIMIT: usize = 16_777_216;
 
-/// Reads all there is, at most 16 MiB: a byte more is `Fault::TooLong`. Else refused by `Fault::Device`, where the reader
-/// failed, or by `Fault::NoMemory`.
+/// Reads all there is, at most 16 MiB. Refused by `Fault::TooLong` if there is more, by `Fault::Device` if the reader failed, and by
+/// `Fault::NoMemory`.
 pub fn read_within<R: ScriptIn>(alloc: Global, reader: &mut R) -> Result<Vec<u8>, Fault>
     ensures whole { IfOk result (λ text. IfSome (R.left reader.old) (λ all. text.items ≡ all)) }
     ensures limit { IfOk result (λ text. length text.items ≤ LONG_LIMIT) }
     ensures too_long { IsErrOf result Fault.TooLong → IfSome (R.left reader.old) (λ all. LONG_LIMIT < length all) }
     ensures device { IsErrOf result Fault.Device → Fails (R.failures reader.old) (R.failures reader.new) }
     ensures cause { IfErr result IsReadFault }
-    // A read that failed is never told as anything else.
+    // A read that failed is reported only as `Device`.
     ensures hidden { IfErr result (λ fault. fault ≢ Fault.Device → R.failures reader.new ≡ R.failures reader.old) }
 {
     let mut text = Vec::new(alloc);
@@ -34,8 +34,8 @@ pub fn read_within<R: ScriptIn>(alloc: Global, reader: &mut R) -> Result<Vec<u8>
     }
 }
 
-/// Writes all of the bytes. The one refusal is `Fault::Device`, where the writer failed; what was written then is a part of
-/// them, from the first on. A writer that failed isn't asked again.
+/// Writes all of the bytes. The only refusal is `Fault::Device`, if the writer failed. Then a first part of the bytes was written, and the
+/// writer isn't called again.
 pub fn write_bytes<W: ReportOut>(writer: &mut W, bytes: &[u8]) -> Result<(), Fault>
     ensures whole { OnOk result (Gains (W.written writer.old) bytes.now (W.written writer.new)) }
     ensures cause { IfErr result (λ fault. fault ≡ Fault.Device) }

@@ -2,7 +2,7 @@
 
 use clap::builder::ValueParser;
 use clap::{Arg, Command};
-use scp_plan::{Entry, Place, SIM, SIM_HELP, Word};
+use scp_sim_options::{Entry, Place, SIM, SIM_HELP, Word};
 use std::alloc::{AllocError, Global};
 
 static ABOUT: &str =
@@ -227,7 +227,7 @@ fn args_of<'a>(alloc: Global, words: &[Word]) -> Result<Vec<Arg<'a>>, AllocError
     Ok(args)
 }
 
-/// A command. Its words are made first, so that little is alive where memory may run out.
+/// A command. Its words are made first, so that few values are alive where memory may run out.
 fn command_of<'a>(alloc: Global, entry: &Entry) -> Result<Command<'a>, AllocError> {
     let args = args_of(alloc, entry.words)?;
     Command::new(alloc, entry.name)
@@ -268,8 +268,8 @@ fn all<'a>(alloc: Global) -> Result<Vec<Command<'a>>, AllocError> {
     Ok(commands)
 }
 
-/// All the words that there are.
-pub fn command_line<'a>(alloc: Global, version: &'a str) -> Result<Command<'a>, AllocError> {
+/// All commands with all their words.
+pub(crate) fn command_line<'a>(alloc: Global, version: &'a str) -> Result<Command<'a>, AllocError> {
     let commands = all(alloc)?;
     Command::new(alloc, "bowls")
         .bin_name("bowls")?

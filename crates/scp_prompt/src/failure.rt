@@ -1,36 +1,24 @@
-//! Why a command failed, and how that is told.
+//! Why a command failed, and how the failure is reported.
 ghost use Rattle.std.specs.Prelude.{◌≡◌, ◌++◌, ◌≤◌, ℕ, List, [], OnOk, OnErr, codes};
 ghost use Rattle.std.specs.Fmt.{decimal};
 ghost use Rattle.scp_device.specs.Device.{Gains, Fails};
-ghost use Rattle.scp_prompt.specs.Failing.{number_text, stop_front, stop_number, stop_back, stage_text, stage_word, stop_end, status_of, settled_stop, settled_line, counted_line, IsToldLine};
+ghost use Rattle.scp_device.specs.Expected.{number_text};
+ghost use Rattle.scp_prompt.specs.Failing.{stop_front, stop_number, stop_back, stage_text, stage_word, stop_end, status_of, settled_stop, settled_line, counted_line, IsToldLine};
 
 use crate::places::{Place, write_behind, write_place};
 use itoa::Buffer;
-use scp_device::{ReportOut, write_bad_word, write_numbered, write_text};
+use scp_device::{BadLine, ReportOut, write_bad_word, write_numbered, write_text};
 use scp_types::{Fault, Stage};
 use std::alloc::Global;
-
-/// A word of an input that is refused.
-#[derive(Clone, Copy)]
-pub struct BadWord {
-    /// Its line, from 1 on.
-    pub line: usize,
-    /// Its place in the line, from 1 on.
-    pub word: usize,
-    /// What was expected there, in words.
-    pub expected: &'static str,
-    /// The number that these words end with, of those that do.
-    pub number: Option<u64>,
-}
 
 /// What stopped a play.
 #[derive(Clone, Copy)]
 pub struct Stop {
-    /// The line, from 1 on, where it is known.
+    /// The line, from 1 on, if it is known.
     pub line: Option<usize>,
-    /// The node that failed.
+    /// The node that failed, or 0.
     pub node: u8,
-    /// Why it did, or what had no room.
+    /// Why the node failed, or what had no room.
     pub fault: Fault,
 }
 
@@ -38,7 +26,7 @@ pub struct Stop {
 #[derive(Clone, Copy)]
 pub enum Failure {
     /// A word of the input is refused.
-    Word(BadWord),
+    Word(BadLine),
     /// This line, from 1 on, is refused.
     Line(usize),
     /// The input has more bytes than this.
@@ -53,7 +41,7 @@ pub enum Failure {
     Unwritten,
 }
 
-/// The exit status of a failure: 1 of a script or a message, else 3.
+/// The exit status of a failure: 1 for a script or a message, 3 for anything else.
 pub fn status(failure: &Failure) -> u8
     ensures { result ≡ status_of failure.now }
 {
@@ -63,7 +51,7 @@ pub fn status(failure: &Failure) -> u8
     }
 }
 
-/// A number in decimal digits, or nothing.
+/// A number in decimal digits, or nothing if there is none.
 fn digits_of<'a>(buffer: &'a mut Buffer, number: Option<u64>) -> &'a str
     ensures { result.now ≡ number_text number }
 {
@@ -73,9 +61,9 @@ fn digits_of<'a>(buffer: &'a mut Buffer, number: Option<u64>) -> &'a str
     }
 }
 
-// ---- the settled lines
+// ---- the lines in the fixed form
 
-/// What stands behind the node in the settled line of a stage that failed.
+/// The words after the node in the line, in the fixed form, of a stage that failed.
 fn end_of_stage(stage: Stage) -> &'static str
     ensures { result.now ≡ codes " " ++ stage_word stage ++ codes "\n" }
 {
@@ -87,7 +75,7 @@ fn end_of_stage(stage: Stage) -> &'static str
     }
 }
 
-/// Writes the settled line of what stopped a play.
+/// Writes the line, in the fixed form, of what stopped a play.
 fn write_settled_stop<W: ReportOut>(writer: &mut W, node: u8, fault: Fault) -> Result<(), Fault>
     ensures whole { OnOk result (Gains (W.written writer.old) (settled_stop node fault) (W.written writer.new)) }
     ensures raised { OnErr result (Fails (W.failures writer.old) (W.failures writer.new)) }
@@ -103,18 +91,20 @@ fn write_settled_stop<W: ReportOut>(writer: &mut W, node: u8, fault: Fault) -> R
     }
 }
 
-/// Writes the settled line of a word.
-fn write_settled_word<W: ReportOut>(writer: &mut W, bad: &BadWord) -> Result<(), Fault>
+/// Writes the line, in the fixed form, of a bad word.
+fn write_settled_word<W: ReportOut>(writer: &mut W, bad: &BadLine) -> Result<(), Fault>
     ensures whole { OnOk result (Gains (W.written writer.old) (settled_line (Failure.Word bad.now)) (W.written writer.new)) }
     ensures raised { OnErr result (Fails (W.failures writer.old) (W.failures writer.new)) }
     ensures kept { OnOk result (W.failures writer.new ≡ W.failures writer.old) }
 {
     let mut buffer = Buffer::new();
-    let end = digits_of(&mut buffer, bad.number);
-    write_bad_word(writer, bad.line as u64, bad.word as u64, bad.expected, end)
+    let expected = bad.bad.expected;
+    let end = digits_of(&mut buffer, expected.number());
+    let word = bad.bad.word as u64;
+    write_bad_word(writer, bad.line as u64, word, expected.words(), end)
 }
 
-/// Writes the settled line of a failure, without memory. The one refusal is `Fault::Device`, where the writer failed.
+/// Writes the line of a failure in the fixed form. It takes no memory. The only refusal is `Fault::Device`, if the writer failed.
 pub fn write_settled<W: ReportOut>(writer: &mut W, failure: &Failure) -> Result<(), Fault>
     ensures whole { OnOk result (Gains (W.written writer.old) (settled_line failure.now) (W.written writer.new)) }
     ensures raised { OnErr result (Fails (W.failures writer.old) (W.failures writer.new)) }
@@ -149,7 +139,7 @@ fn write_counted<W: ReportOut>(
     write_behind(writer, name, &[": ", front, digits, back, "\n"])
 }
 
-/// What stands before the number in the line of what stopped a play.
+/// The words before the number in the line of what stopped a play.
 fn front_of(fault: Fault) -> &'static str
     ensures { result.now ≡ stop_front fault }
 {
@@ -169,7 +159,7 @@ fn number_of(node: u8, fault: Fault) -> u64
     }
 }
 
-/// Where a stage failed.
+/// The words for the stage of a node that failed.
 fn text_of_stage(stage: Stage) -> &'static str
     ensures { result.now ≡ stage_text stage }
 {
@@ -181,7 +171,7 @@ fn text_of_stage(stage: Stage) -> &'static str
     }
 }
 
-/// What stands behind the number.
+/// The words after the number.
 fn back_of(fault: Fault) -> &'static str
     ensures { result.now ≡ stop_back fault }
 {
@@ -238,7 +228,7 @@ fn write_stop<W: ReportOut>(writer: &mut W, name: &str, stop: &Stop) -> Result<(
     }
 }
 
-/// Writes the line of a line that is refused.
+/// Writes the line which reports that an input's line is refused.
 fn write_line_at<W: ReportOut>(writer: &mut W, name: &str, line: usize) -> Result<(), Fault>
     ensures whole { OnOk result (Gains (W.written writer.old) (counted_line (name.now ++ codes ":" ++ decimal line) (codes "the line is refused")) (W.written writer.new)) }
     ensures raised { OnErr result (Fails (W.failures writer.old) (W.failures writer.new)) }
@@ -249,13 +239,13 @@ fn write_line_at<W: ReportOut>(writer: &mut W, name: &str, line: usize) -> Resul
     write_behind(writer, name, &[":", digits, ": the line is refused\n"])
 }
 
-/// Writes the line of a word.
+/// Writes the line of a bad word.
 fn write_word<W: ReportOut>(
     alloc: Global,
     writer: &mut W,
     name: &str,
     text: &[u8],
-    bad: &BadWord,
+    bad: &BadLine,
 ) -> Result<(), Fault>
     ensures whole { OnOk result ((line : List ℕ) × IsToldLine name.now text.now [] (Failure.Word bad.now) line × Gains (W.written writer.old) line (W.written writer.new)) }
     ensures raised { OnErr result (Fails (W.failures writer.old) (W.failures writer.new)) }
@@ -264,15 +254,16 @@ fn write_word<W: ReportOut>(
     let place = Place {
         name,
         line: bad.line,
-        word: bad.word,
+        word: bad.bad.word,
     };
     let mut buffer = Buffer::new();
-    let end = digits_of(&mut buffer, bad.number);
-    write_place(alloc, writer, text, &place, bad.expected, end)
+    let expected = bad.bad.expected;
+    let end = digits_of(&mut buffer, expected.number());
+    write_place(alloc, writer, text, &place, expected.words(), end)
 }
 
-/// Writes the line that tells people a failure of an input of this name and these bytes; `why` says why a stream failed. The one refusal
-/// is `Fault::Device`, where the writer failed.
+/// Writes the line that shows people a failure of the input with this name and these bytes. `why` says why a stream failed. The only refusal
+/// is `Fault::Device`, if the writer failed.
 pub fn write_failure<W: ReportOut>(
     alloc: Global,
     writer: &mut W,

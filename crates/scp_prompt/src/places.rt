@@ -1,4 +1,4 @@
-//! The lines that tell a bad word, by its place in a text.
+//! The lines that report a bad word, by its place in a text.
 ghost use Rattle.std.specs.Prelude.{◌≡◌, ◌++◌, ◌≤◌, ℕ, List, [], take, if◌then◌else◌, option_map, OnOk, OnErr, IfOk, codes, flat_map, string_bytes};
 ghost use Rattle.scp_device.specs.Device.{Gains, Fails};
 ghost use Rattle.scp_prompt.specs.Places.{part_in, word_in, shown_byte, shown as shown_text, stands_text, IsStanding, place_front, place_back, place_line};
@@ -8,7 +8,7 @@ use scp_device::{ReportOut, write_parts, write_text};
 use scp_types::Fault;
 use std::alloc::{AllocError, Global};
 
-/// The most bytes of a word that are shown.
+/// The limit on the bytes of a word that are shown.
 const SHOWN_LIMIT: usize = 40;
 
 /// The place of a word: the input's name, the line and the word in it, each from 1 on.
@@ -19,7 +19,7 @@ pub struct Place<'a> {
     pub word: usize,
 }
 
-/// The part of a text at this place, from 1 on, between two of these bytes.
+/// The part of a text at this place, counted from 1, if the text is split at this byte.
 fn part_at(text: &[u8], end: u8, place: usize) -> Option<&[u8]>
     ensures { option_map (λ part. part.now) result ≡ part_in text.entry.now end place }
 {
@@ -29,7 +29,7 @@ fn part_at(text: &[u8], end: u8, place: usize) -> Option<&[u8]>
     text.split(|byte| *byte == end).nth(place - 1)
 }
 
-/// The word of a text at this line and place: a line ends with a line feed, and a word with a space.
+/// The word of a text at this line and place, each counted from 1. A line ends with a line feed, and a word with a space.
 pub fn word_at(text: &[u8], line: usize, word: usize) -> Option<&[u8]>
     ensures { option_map (λ part. part.now) result ≡ word_in text.entry.now line word }
 {
@@ -39,7 +39,7 @@ pub fn word_at(text: &[u8], line: usize, word: usize) -> Option<&[u8]>
     }
 }
 
-/// Adds one byte of a word: as it is where it can be seen, else by `\x` and its two digits.
+/// Adds one byte of a word: itself if it is a visible ASCII character, else `\x` and its two hex digits.
 fn push_byte(out: &mut String, byte: u8) -> Result<(), AllocError>
     ensures { OnOk result (string_bytes out.new ≡ string_bytes out.old ++ shown_byte byte) }
 {
@@ -73,7 +73,7 @@ fn first_bytes(word: &[u8]) -> &[u8]
     }
 }
 
-/// Adds two dots where there are more bytes.
+/// Adds two dots if there are more bytes.
 fn push_dots(out: &mut String, more: bool) -> Result<(), AllocError>
     ensures { OnOk result (string_bytes out.new ≡ string_bytes out.old ++ (if more then codes ".." else [])) }
 {
@@ -83,7 +83,7 @@ fn push_dots(out: &mut String, more: bool) -> Result<(), AllocError>
     Ok(())
 }
 
-/// Adds a word: its first 40 bytes, and two dots where there are more.
+/// Adds a word: its first 40 bytes, and two dots if there are more.
 fn push_shown(out: &mut String, word: &[u8]) -> Result<(), AllocError>
     ensures { OnOk result (string_bytes out.new ≡ string_bytes out.old ++ shown_text word.now) }
 {
@@ -102,7 +102,7 @@ fn quoted(alloc: Global, word: &[u8]) -> Result<String, AllocError>
     Ok(out)
 }
 
-/// What stands at a place: the word in quotes, or that there is none.
+/// The text at a place: the word in quotes, or `nothing` if there is none.
 fn stands(alloc: Global, word: Option<&[u8]>) -> Result<String, AllocError>
     ensures { IfOk result (λ text. string_bytes text ≡ stands_text (option_map (λ w. w.now) word.entry)) }
 {
@@ -112,7 +112,7 @@ fn stands(alloc: Global, word: Option<&[u8]>) -> Result<String, AllocError>
     }
 }
 
-/// Writes a text, and then the parts, without memory, and is refused as `write_parts` is.
+/// Writes a text, and then the parts. It takes no memory, and is refused as `write_parts` is.
 pub fn write_behind<W: ReportOut>(writer: &mut W, front: &str, parts: &[&str]) -> Result<(), Fault>
     ensures whole { OnOk result (Gains (W.written writer.old) (front.now ++ flat_map (λ part. part.now) parts.now) (W.written writer.new)) }
     ensures raised { OnErr result (Fails (W.failures writer.old) (W.failures writer.new)) }
@@ -135,7 +135,7 @@ fn write_front<W: ReportOut>(writer: &mut W, place: &Place<'_>) -> Result<(), Fa
     write_behind(writer, place.name, &[":", line, ":", word, ": "])
 }
 
-/// Writes what stands at a place, and what was expected there.
+/// Writes the text at a place, and what was expected there.
 fn write_back<W: ReportOut>(
     writer: &mut W,
     stands: &str,
@@ -150,7 +150,7 @@ fn write_back<W: ReportOut>(
     write_parts(writer, &[" stands there, expected ", expected, end, "\n"])
 }
 
-/// Writes the line of a place, with what stands there.
+/// Writes the line of a place, with the text there.
 #[tactic(auto, using(crate::proofs::Written::behind))]
 fn write_line<W: ReportOut>(
     writer: &mut W,
@@ -167,8 +167,8 @@ fn write_line<W: ReportOut>(
     write_back(writer, stands, expected, end)
 }
 
-/// Writes the line that tells the bad word of a text: its place, what stands there, and what was expected, in two texts. Without memory
-/// it says that something stands there. The one refusal is `Fault::Device`, where the writer failed.
+/// Writes the line that reports a bad word of a text: its place, the text there, and what was expected, which is given in two texts. If it is
+/// out of memory, it writes `something` for the text. The only refusal is `Fault::Device`, if the writer failed.
 #[tactic(auto, using(crate::proofs::Written::something_stands))]
 pub fn write_place<W: ReportOut>(
     alloc: Global,

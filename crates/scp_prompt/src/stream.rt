@@ -1,4 +1,4 @@
-//! Readers and writers that tell why they failed.
+//! Readers and writers that say why they failed.
 ghost use Rattle.std.specs.Prelude.{◌≡◌, ℕ, List, Option, None, OnOk, OnErr};
 ghost use Rattle.scp_device.specs.Device.{Fails};
 
@@ -6,17 +6,17 @@ use scp_device::{ReportOut, ScriptIn};
 use scp_types::Fault;
 use std::io::{self, ErrorKind};
 
-/// A reader or a writer that tells why it failed.
+/// A reader or a writer that says why it failed.
 pub trait Cause {
-    /// Why it failed last, in words.
+    /// The reason of its last failure, in words.
     ghost cause: { Self → List ℕ };
 
-    /// Why it failed last, in words.
+    /// The reason of its last failure, in words.
     fn cause(&self) -> &'static str
         ensures { result.now ≡ cause self.now };
 }
 
-/// What this kind of failure is in words.
+/// The words for this kind of failure.
 fn words_of(kind: ErrorKind) -> &'static str {
     match kind {
         ErrorKind::NotFound => "there is no such file",
@@ -102,7 +102,7 @@ impl<R: io::Write + Drop> ReportOut for Stream<R> {
     }
 }
 
-/// A file that couldn't be opened: a reader that fails at each call.
+/// A file that couldn't be opened. It is a reader that fails at each call.
 #[derive(Drop)]
 pub struct Unopened {
     why: &'static str,
@@ -110,7 +110,7 @@ pub struct Unopened {
 }
 
 impl Unopened {
-    /// The file whose opening failed so.
+    /// The file whose opening failed for this reason.
     pub fn new(kind: ErrorKind) -> Self
         ensures { result.failures ≡ 0 }
     {

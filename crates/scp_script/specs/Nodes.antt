@@ -1,4 +1,4 @@
--- Who the nodes of a script are: their ids, peers, quorum sets and capacities.
+-- The nodes of a script: their ids, peers, quorum sets and capacities.
 use Rattle.std.specs.Prelude.{ℕ, ◌≤◌, ◌≢◌, suc, zero, not, List, [], ◌∷◌, ◌++◌, map, filter, flat_map, replicate, None, if◌then◌else◌, nat_eq}
 use Rattle.std.specs.Option.{unwrap_or}
 use Rattle.std.specs.List.{last_or}
@@ -30,24 +30,24 @@ NamesNodes Settle = Unit {0}
 NamesNodes (Wait node things) = IsSmall node
 NamesNodes (Report node) = IsSmall node
 
--- 1, 2, .. up to the count
+-- 1, 2, .. up to this count
 abbrev pub numbers : ℕ → List ℕ
 numbers zero = []
 numbers (suc n) = numbers n ++ suc n ∷ []
 
--- the id of a node is 32 bytes of its number
+-- the id of a node: 32 bytes, each of which is its number
 abbrev pub id_of : ℕ → NodeId
 id_of number = record { 0 = replicate 32 number }
 
--- the peers of a node of so many: the others, ascending
+-- the peers of a node among this many nodes: the ids of the others, ascending
 abbrev pub peers_of : ℕ → ℕ → List NodeId
 peers_of count node = map id_of (filter (λ other. not (nat_eq other node)) (numbers count))
 
--- so many of all nodes, ascending
+-- the quorum set with this threshold over all of this many nodes, ascending
 abbrev pub of_all : ℕ → ℕ → QuorumTree
 of_all count quorum = record { head = record { threshold = quorum; validators = map id_of (numbers count) }; inner = no_trees }
 
--- the quorum set that a command gives a node
+-- the quorum set that a command gives a node, if it gives it one
 abbrev pub set_given : ℕ → Command → List QuorumTree
 set_given node (Caps capacities) = []
 set_given node (Nodes count quorum) = of_all count quorum ∷ []
@@ -64,12 +64,12 @@ set_given node Settle = []
 set_given node (Wait at things) = []
 set_given node (Report at) = []
 
--- The quorum set of a node: the last that the commands give it. Where there are no nodes it is 1 of one node, and nothing
--- tells of it.
+-- The quorum set of a node: the last that the commands give it. If no command gives it one, it is 1 of node 1. In a script that happens
+-- only where there are no nodes, so nothing reports it.
 abbrev pub set_at : ℕ → List Command → QuorumTree
 set_at node commands = unwrap_or (last_or None (flat_map (set_given node) commands)) (of_all 1 1)
 
--- the capacities that a `caps` line gives
+-- the capacities that a command gives: those of a `caps` line
 abbrev pub capacities_given : Command → List Capacities
 capacities_given (Caps capacities) = capacities ∷ []
 capacities_given (Nodes count quorum) = []
@@ -86,7 +86,7 @@ capacities_given Settle = []
 capacities_given (Wait node things) = []
 capacities_given (Report node) = []
 
--- 64 items in each queue
+-- the capacities where no line gives any: 64 items in each queue
 abbrev pub capacities_of_none : Capacities
 capacities_of_none = record { link = 64; inbox = 64; ready = 64; decided = 64 }
 
@@ -94,7 +94,7 @@ capacities_of_none = record { link = 64; inbox = 64; ready = 64; decided = 64 }
 abbrev pub capacities_in : List Command → Capacities
 capacities_in commands = unwrap_or (last_or None (flat_map capacities_given commands)) capacities_of_none
 
--- the node of which a `report` line asks for a report
+-- the node whose report a command asks for, if it is a `report` line's
 abbrev pub report_by : Command → List ℕ
 report_by (Caps capacities) = []
 report_by (Nodes count quorum) = []
@@ -111,6 +111,6 @@ report_by Settle = []
 report_by (Wait node things) = []
 report_by (Report node) = node ∷ []
 
--- the nodes that reports are asked of, in the order of the lines
+-- the nodes whose reports the commands ask for, in the order of the lines
 abbrev pub reports_in : List Command → List ℕ
 reports_in commands = flat_map report_by commands

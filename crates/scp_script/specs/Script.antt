@@ -1,5 +1,4 @@
--- What a script says (this project's profile): the command of each line, which commands may stand behind others, and
--- which line is bad.
+-- What a script says (this project's profile): the command of each line, which commands may follow others, and which line is bad.
 use Rattle.std.specs.Prelude.{ℕ, ◌-◌, ◌<◌, ◌≤◌, ◌≡◌, ◌≢◌, Bool, true, false, ◌&&◌, ◌||◌, List, [], ◌∷◌, ◌++◌, length, take, flat_map, fold, count_by, Option, Some, None, is_some, option_map, option_to_list, if◌then◌else◌, nat_eq, nat_le, codes}
 use Rattle.std.specs.List.{list_any, list_all}
 use Rattle.scp_types.specs.declared.limits.TheConstants.{LIFE_LIMIT}
@@ -13,7 +12,7 @@ use Rattle.scp_script.specs.Words.{lines_of, is_ascii, is_skipped, words_of, sam
 
 -- ---- the command of a line
 
--- the command of these capacities, where each is said
+-- the `caps` command with these capacities, if all four are given
 abbrev pub caps_by : Option ℕ → Option ℕ → Option ℕ → Option ℕ → Option Command
 caps_by (Some link) (Some inbox) (Some ready) (Some decided) =
     Some (Caps (record { link = link; inbox = inbox; ready = ready; decided = decided }))
@@ -22,67 +21,68 @@ caps_by (Some link) (Some inbox) None decided = None
 caps_by (Some link) None ready decided = None
 caps_by None inbox ready decided = None
 
--- so many nodes, of which at most all make a quorum
+-- the `nodes` command with this count and this threshold, if both are given and the threshold is at most the count
 abbrev pub nodes_by : Option ℕ → Option ℕ → Option Command
 nodes_by (Some count) (Some quorum) = if nat_le quorum count then Some (Nodes count quorum) else None
 nodes_by (Some count) None = None
 nodes_by None quorum = None
 
--- the command of this node and this set, where both are said
+-- the command that gives this node this quorum set, if both are given
 abbrev pub set_by : Option ℕ → Option QuorumTree → Option Command
 set_by (Some node) (Some set) = Some (Set node set)
 set_by (Some node) None = None
 set_by None set = None
 
--- the command that opens this link, where one is said
+-- the command that opens this link, if one is given
 abbrev pub open_by : Option (ℕ × ℕ) → Option Command
 open_by (Some link) = Some (Open link.0 link.1)
 open_by None = None
 
--- the command that closes this link, where one is said
+-- the command that closes this link, if one is given
 abbrev pub close_by : Option (ℕ × ℕ) → Option Command
 close_by (Some link) = Some (Close link.0 link.1)
 close_by None = None
 
--- the command that sends these bytes on this link, where both are said
+-- the command that sends these bytes on this link, if both are given
 abbrev pub send_by : Option (ℕ × ℕ) → Option (List ℕ) → Option Command
 send_by (Some link) (Some bytes) = Some (Send link.0 link.1 bytes)
 send_by (Some link) None = None
 send_by None bytes = None
 
--- the command that asks this link for the record of this slot, where both are said
+-- the command by which the link's first node asks its second for the record of this slot, if both are given
 abbrev pub ask_by : Option (ℕ × ℕ) → Option ℕ → Option Command
 ask_by (Some link) (Some slot) = Some (Ask link.0 link.1 slot)
 ask_by (Some link) None = None
 ask_by None slot = None
 
--- the command that proposes this value for this slot at this node, where all are said
+-- the command that proposes this value for this slot at this node, if all three are given
 abbrev pub propose_by : Option ℕ → Option ℕ → Option (List ℕ) → Option Command
 propose_by (Some node) (Some slot) (Some value) = Some (Propose node slot value)
 propose_by (Some node) (Some slot) None = None
 propose_by (Some node) None value = None
 propose_by None slot value = None
 
--- the command that begins the next round of this slot at this node, where both are said
+-- the command that begins the next round of this slot's nomination at this node, if both are given
 abbrev pub round_by : Option ℕ → Option ℕ → Option Command
 round_by (Some node) (Some slot) = Some (Round node slot)
 round_by (Some node) None = None
 round_by None slot = None
 
--- the command by which this slot's timer rings at this node, where both are said
+-- the command by which this slot's timer expires at this node, if both are given
 abbrev pub timer_by : Option ℕ → Option ℕ → Option Command
 timer_by (Some node) (Some slot) = Some (Timer node slot)
 timer_by (Some node) None = None
 timer_by None slot = None
 
--- the command that waits for so many things at the applier of this node, where both are said
+-- the command that waits until this many things reach the applier of this node, if both are given
 abbrev pub wait_by : Option ℕ → Option ℕ → Option Command
 wait_by (Some node) (Some things) = Some (Wait node things)
 wait_by (Some node) None = None
 wait_by None things = None
 
--- `settle`; `tick I` and `report I`; `nodes N K`, `set I HEX`, `open I J`, `close I J`, `round I SLOT`, `timer I SLOT` and `wait I N`;
--- `ask I J SLOT`, `send I J HEX` and `propose I SLOT HEX`; `caps A B C D`
+-- The command that the words of a line say, if they say one. With one word it is `settle`, with two `tick I` and `report I`.
+-- With three it is `nodes N K`, `set I HEX`, `open I J`, `close I J`, `round I SLOT`, `timer I SLOT` and `wait I N`.
+-- With four it is `ask I J SLOT`, `send I J HEX` and `propose I SLOT HEX`, and with five `caps A B C D`.
 abbrev pub command_in : List (List ℕ) → Option Command
 command_in [] = None
 command_in (verb ∷ []) = if same verb (codes "settle") then Some Settle else None
@@ -111,7 +111,7 @@ commands_of lines = flat_map (λ line. option_to_list (command_in (words_of line
 
 -- ---- what commands before a line leave
 
--- how many nodes there are behind a command, of so many before it
+-- how many nodes there are after a command, given how many there were before it
 abbrev pub counted : ℕ → Command → ℕ
 counted before (Caps capacities) = before
 counted before (Nodes count quorum) = count
@@ -128,11 +128,11 @@ counted before Settle = before
 counted before (Wait node things) = before
 counted before (Report node) = before
 
--- how many nodes there are: none before the `nodes` line
+-- how many nodes there are after these commands: none before the `nodes` line
 abbrev pub node_count : List Command → ℕ
 node_count commands = fold counted 0 commands
 
--- the command is of no `caps`, `nodes` or `set` line: behind it no quorum set may be given
+-- the command is not of a `caps`, `nodes` or `set` line, so no quorum set may be given after it
 abbrev pub begins : Command → Bool
 begins (Caps capacities) = false
 begins (Nodes count quorum) = false
@@ -149,7 +149,7 @@ begins Settle = true
 begins (Wait node things) = true
 begins (Report node) = true
 
--- a command came that is neither a `caps` nor a `nodes` nor a `set` line's
+-- one of the commands is neither a `caps` nor a `nodes` nor a `set` line's
 abbrev pub has_begun : List Command → Bool
 has_begun commands = list_any begins commands
 
@@ -191,7 +191,7 @@ closes from to Settle = false
 closes from to (Wait node things) = false
 closes from to (Report node) = false
 
--- the link is open: the last command that opens or closes it opens it
+-- the link is open: the last command that opens or closes it is one that opens it
 abbrev pub is_open : ℕ → ℕ → List Command → Bool
 is_open from to commands =
     fold (λ before command. if opens from to command then true else (if closes from to command then false else before)) false commands
@@ -200,18 +200,19 @@ is_open from to commands =
 abbrev pub lives : ℕ → ℕ → List Command → ℕ
 lives from to commands = count_by (opens from to) commands
 
--- ---- which commands may stand
+-- ---- which commands may follow others
 
--- a number of a node
+-- the number of a node that exists: from 1 to the number of nodes
 abbrev pub IsNode : ℕ → List Command → Type 0
 IsNode node before = (1 ≤ node) × (node ≤ node_count before)
 
--- a link between two nodes
+-- a link between two nodes that exist and differ
 abbrev pub IsLink : ℕ → ℕ → List Command → Type 0
 IsLink from to before = IsNode from before × IsNode to before × (from ≢ to)
 
--- The command may stand behind these: `caps` lines, the `nodes` line, once, then `set` lines, each with a sane quorum set,
--- and then the others. A link is opened where it isn't open, at most 65,535 times, and closed and sent on where it is open.
+-- The command may follow these: first `caps` lines, then one `nodes` line, then `set` lines, each with a sane quorum set, and then the
+-- others. A link is opened only while it isn't open, at most 65,535 times. It is closed and sent on only while it is open. Each node that
+-- a command names must exist.
 abbrev pub Admits : List Command → Command → Type 0
 Admits before (Caps capacities) = node_count before ≡ 0
 Admits before (Nodes count quorum) = node_count before ≡ 0
@@ -228,7 +229,7 @@ Admits before Settle = 1 ≤ node_count before
 Admits before (Wait node things) = IsNode node before
 Admits before (Report node) = IsNode node before
 
--- each of the commands may stand behind those before it
+-- each of the commands may follow those before it
 abbrev pub AreAdmitted : List Command → List Command → Type 0
 AreAdmitted before [] = Unit {0}
 AreAdmitted before (command ∷ commands) = Admits before command × AreAdmitted (before ++ command ∷ []) commands
@@ -239,7 +240,7 @@ AreAdmitted before (command ∷ commands) = Admits before command × AreAdmitted
 abbrev pub is_line : List ℕ → Bool
 is_line line = is_ascii line && (is_skipped line || is_some (command_in (words_of line)))
 
--- the lines are a script's: each is one, and each command may stand behind those before it
+-- the lines form a script: each is a line of a script, and each command may follow those before it
 pub record AreLines (lines : List (List ℕ)) : Type 0 where
   pub each : list_all is_line lines ≡ true
   pub admitted : AreAdmitted [] (commands_of lines)
@@ -248,19 +249,19 @@ pub record AreLines (lines : List (List ℕ)) : Type 0 where
 abbrev pub IsScript : List ℕ → Type 0
 IsScript text = AreLines (lines_of text)
 
--- the line of this number, from 1 on, is the first that is bad
+-- the line with this number, from 1 on, is the first bad one: the lines before it form a script, and together with it they don't
 pub record IsBadLine (text : List ℕ) (line : ℕ) : Type 0 where
   pub from_one : 1 ≤ line
   pub within : line ≤ length (lines_of text)
   pub good : AreLines (take (line - 1) (lines_of text))
   pub bad : ¬ (AreLines (take line (lines_of text)))
 
--- the words are a `set` line's
+-- the first word is `set`
 abbrev pub is_set : List (List ℕ) → Bool
 is_set [] = false
 is_set (verb ∷ words) = same verb (codes "set")
 
--- a line's first word is `set`
+-- one of the text's lines has `set` as its first word
 abbrev pub HasSetLine : List ℕ → Type 0
 HasSetLine text = list_any (λ line. is_set (words_of line)) (lines_of text) ≡ true
 
@@ -268,11 +269,11 @@ HasSetLine text = list_any (λ line. is_set (words_of line)) (lines_of text) ≡
 abbrev pub HasNoBadLine : List ℕ → Type 0
 HasNoBadLine text = (line : ℕ) → ¬ (IsBadLine text line)
 
--- what a script says to do, in its order
+-- the commands of a script, in their order
 abbrev pub commands_in : List ℕ → List Command
 commands_in text = commands_of (lines_of text)
 
--- why a text isn't read as a script: want of memory, or its first bad line
+-- why a text isn't read as a script: out of memory, or its first bad line
 abbrev pub IsScriptFault : List ℕ → Fault → Type 0
 IsScriptFault text NoMemory = Unit {0}
 IsScriptFault text (BadScript line) = IsBadLine text line

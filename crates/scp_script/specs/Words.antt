@@ -24,11 +24,11 @@ abbrev pub is_skipped : List ℕ → Bool
 is_skipped [] = true
 is_skipped (byte ∷ bytes) = byte == 35
 
--- the words of a line, parted by single spaces; a line that is skipped has none
+-- the words of a line, separated by single spaces; a line that is skipped has none
 abbrev pub words_of : List ℕ → List (List ℕ)
 words_of line = if is_skipped line then [] else slice_split (λ byte. byte == 32) line
 
--- the same bytes
+-- both words are the same bytes
 abbrev pub same : List ℕ → List ℕ → Bool
 same a b = pointwise nat_eq a b
 
@@ -38,23 +38,23 @@ node_in [] = None
 node_in (digit ∷ []) = if nat_le 49 digit && nat_le digit 56 then Some (digit - 48) else None
 node_in (digit ∷ other ∷ digits) = None
 
--- the link between two nodes, where both are said and differ
+-- the link between two nodes, if both are given and they differ
 abbrev pub link_by : Option ℕ → Option ℕ → Option (ℕ × ℕ)
 link_by (Some from) (Some to) = if nat_eq from to then None else Some (from, to)
 link_by (Some from) None = None
 link_by None to = None
 
--- a link by the node that it goes from and the node that it goes to, which is another one
+-- the link from the node that the first word names to the node that the second word names, if these two differ
 abbrev pub link_in : List ℕ → List ℕ → Option (ℕ × ℕ)
 link_in from to = link_by (node_in from) (node_in to)
 
--- a number below 2^64, in decimal digits without sign or leading zero
+-- a number below 2^64, in decimal digits without a sign or a leading zero
 abbrev pub number_in : List ℕ → Option ℕ
 number_in word =
     if nat_lt (digits_value 10 word) (2 ^ 64) && same (decimal (digits_value 10 word)) word
     then Some (digits_value 10 word) else None
 
--- a number from 1 to 1,024, where one is said
+-- the number if one is given and it is from 1 to 1,024
 abbrev pub capacity_by : Option ℕ → Option ℕ
 capacity_by (Some number) = if nat_le 1 number && nat_le number CAPACITY_LIMIT then Some number else None
 capacity_by None = None
@@ -63,16 +63,16 @@ capacity_by None = None
 abbrev pub capacity_in : List ℕ → Option ℕ
 capacity_in word = capacity_by (number_in word)
 
--- the bytes that a word of hexadecimal digits says, at least one
+-- the bytes that a word of hex digits encodes, at least one
 abbrev pub digits_bytes : List ℕ → Option (List ℕ)
 digits_bytes [] = None
 digits_bytes (digit ∷ digits) = result_ok (decode_of (digit ∷ digits))
 
--- the bytes that a word of hexadecimal digits says, an even number of them, or none for a dash
+-- the bytes that a word of hex digits encodes, an even number of digits, or no bytes for a dash
 abbrev pub hex_bytes : List ℕ → Option (List ℕ)
 hex_bytes word = if same word (codes "-") then Some [] else digits_bytes word
 
--- the quorum set that bytes spell, all of the bytes
+-- the quorum set that the bytes encode, with no bytes left over
 abbrev pub set_in : Option (List ℕ) → Option QuorumTree
 set_in (Some bytes) = option_map quorum_set_of (result_ok (reading_whole set_kind bytes))
 set_in None = None

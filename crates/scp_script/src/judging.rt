@@ -1,4 +1,4 @@
-//! Finding the first bad line of a text without memory.
+//! Finds the first bad line of a text without taking memory.
 ghost use Rattle.std.specs.Prelude.{◌⊎◌, ◌==◌, List, IfSome, IsNone, map};
 ghost use Rattle.scp_script.specs.declared.command.Command.{Command};
 ghost use Rattle.scp_script.specs.Reading.{Knows};
@@ -11,14 +11,14 @@ use crate::line::{bare_command, is_set};
 use crate::words::{ascii, few_words, skipped};
 use std::alloc::Global;
 
-/// What is told of a line behind others.
+/// What is found out about a line that follows others.
 #[derive(Clone, Copy, Debug)]
 pub enum Place {
-    /// It stands there.
+    /// It may stand there.
     Stands,
     /// It is bad there.
     Bad,
-    /// It is a `set` line, whose quorum set takes memory to be judged.
+    /// It is a `set` line. To judge its quorum set takes memory.
     Set,
 }
 
@@ -61,7 +61,7 @@ fn take_line(alloc: Global, known: &mut Known, line: &[u8]) -> Place
     take_text(alloc, known, text)
 }
 
-/// The first bad line, from 1 on, if there is one before the first `set` line. It takes no memory.
+/// The number of the first bad line, from 1 on, if that line comes before the first `set` line. It takes no memory.
 pub fn first_bad_line(alloc: Global, text: &[u8]) -> Option<usize>
     ensures bad { IfSome result (IsBadLine text.now) }
     ensures none { IsNone result → HasNoBadLine text.now ⊎ HasSetLine text.now }

@@ -1,4 +1,4 @@
-//! What is known of a script that is being read, behind some of its commands.
+//! What is known of a script that is being read, after some of its commands.
 ghost use Rattle.std.specs.Prelude.{◌≡◌, ◌++◌, ◌∷◌, ◌↔◌, ◌||◌, [], List, IsTrue, false};
 ghost use Rattle.scp_script.specs.declared.command.Command.{Command};
 ghost use Rattle.scp_script.specs.declared.command.Command.TheVariants.{Open};
@@ -64,7 +64,7 @@ impl Known {
         }
     }
 
-    /// Keeps in the table what the command does to its link.
+    /// Records in the table what the command does to its link.
     fn note_link(&mut self, command: &Command)
         requires names { NamesNodes command.now }
         ensures links { (before : List Command) → KnowsLinks self.old.links before → Admits before command.now → KnowsLinks self.new.links (before ++ command.now ∷ []) }
@@ -92,7 +92,7 @@ impl Known {
         }
     }
 
-    /// Keeps how many nodes there are, and whether a line came behind the sets.
+    /// Records how many nodes there are, and whether a line came that is neither `caps` nor `nodes` nor `set`.
     fn note(&mut self, command: &Command)
         ensures count { self.new.count ≡ counted self.old.count command.now }
         ensures begun { self.new.has_begun ≡ (self.old.has_begun || begins command.now) }
@@ -105,7 +105,7 @@ impl Known {
         }
     }
 
-    /// Takes in a command, and answers whether it may stand here; where it may not, nothing changes.
+    /// Takes in a command, and returns whether it may stand here. If it may not, nothing changes.
     pub fn take(&mut self, command: &Command) -> bool
         requires names { NamesNodes command.now }
         ensures good { (before : List Command) → Knows self.old before → (IsTrue result ↔ Admits before command.now) }

@@ -65,7 +65,7 @@ fn caps(link: &str, inbox: &str, ready: &str, decided: &str) -> Option<Command>
     }))
 }
 
-/// A `set` line. Whether the set is sane is left open.
+/// A `set` line. Whether the set is sane is judged elsewhere.
 fn set(alloc: Global, word: &str, digits: &str) -> Result<Option<Command>, Fault>
     ensures found { IfOk result (λ found. found ≡ set_by (node_in word.now) (set_in (hex_bytes digits.now))) }
     ensures nodes { IfOk result (λ found. IfSome found NamesNodes) }
@@ -123,7 +123,7 @@ fn send(alloc: Global, from: &str, to: &str, bytes: &str) -> Result<Option<Comma
     Ok(Some(Command::Send { from, to, bytes }))
 }
 
-/// A `propose` line. Its value may have any length: what can be proposed is for the ledger to say.
+/// A `propose` line. Its value may have any length: the ledger decides what can be proposed.
 fn propose(alloc: Global, word: &str, slot: &str, digits: &str) -> Result<Option<Command>, Fault>
     ensures found { IfOk result (λ found. found ≡ propose_by (node_in word.now) (number_in slot.now) (hex_bytes digits.now)) }
     ensures nodes { IfOk result (λ found. IfSome found NamesNodes) }
@@ -282,7 +282,7 @@ pub fn command_from(alloc: Global, words: &[&str]) -> Result<Option<Command>, Fa
     }
 }
 
-/// Whether the words are a `set` line's.
+/// Whether the first word is `set`.
 pub fn is_set(words: &[&str]) -> bool
     ensures { result ≡ is_set (map (λ word. word.now) words.now) }
 {
@@ -350,7 +350,7 @@ fn bare_of_five(verb: &str, link: &str, inbox: &str, ready: &str, decided: &str)
     of_five(verb, link, inbox, ready, decided)
 }
 
-/// The command of a line's words, without the bytes that it sends or proposes, which takes no memory. The line is no `set` line.
+/// The command of a line's words, without the bytes that it sends or proposes. It takes no memory. The line must not be a `set` line.
 pub fn bare_command(alloc: Global, words: &[&str]) -> Option<Command>
     ensures found { is_set (map (λ word. word.now) words.now) ≡ false → result ≡ option_map bare (command_in (map (λ word. word.now) words.now)) }
     ensures nodes { IfSome result NamesNodes }

@@ -12,11 +12,11 @@ pub struct Link {
     pub lives: u32,
 }
 
-/// What is known of each link: those from node 1 first, and then those from node 2, and so on.
+/// What is known of each link: first of the links from node 1, then of those from node 2, and so on.
 #[derive(Clone, Copy, Debug)]
 pub struct Links([Link; 64]);
 
-/// Where the link stands in the table.
+/// The index of the link in the table.
 fn place(from: u8, to: u8) -> usize
     requires from { IsSmall from }
     requires to { IsSmall to }
@@ -45,7 +45,7 @@ impl Links {
         self.0[place(from, to)]
     }
 
-    /// Now this is known of a link.
+    /// Replaces what is known of a link.
     pub fn put(&mut self, from: u8, to: u8, link: Link)
         requires from { IsSmall from }
         requires to { IsSmall to }

@@ -1,4 +1,4 @@
-//! Who the nodes of a script are.
+//! The nodes of a script.
 ghost use Rattle.std.specs.Prelude.{◌≡◌, ◌≤◌, [], All, IfOk, IsOkUnless, map, option_to_list};
 ghost use Rattle.scp_quorum.specs.Sane.{IsSane};
 ghost use Rattle.scp_script.specs.Script.{node_count, AreAdmitted, IsNode};
@@ -9,14 +9,14 @@ use scp_quorum::QuorumSet;
 use scp_types::{Fault, NodeId};
 use std::alloc::{AllocError, Global};
 
-/// The id of a node: 32 bytes of its number.
+/// The id of a node: 32 bytes, each of which is its number.
 pub fn id_from(number: u8) -> NodeId
     ensures { result ≡ id_of number }
 {
     NodeId([number; 32])
 }
 
-/// How many nodes the commands speak of: 0 where there is no `nodes` line.
+/// How many nodes the commands give, at most 8: 0 if there is no `nodes` line.
 pub fn count_of_nodes(commands: &[Command]) -> u8
     requires names { All NamesNodes commands.now }
     ensures count { result ≡ node_count commands.now }
@@ -52,7 +52,7 @@ pub fn capacities_of(commands: &[Command]) -> Capacities
     }
 }
 
-/// The ids of so many nodes, ascending.
+/// The ids of `count` nodes, ascending.
 #[tactic(auto, using(crate::proofs::Peers::ids_more))]
 fn ids(alloc: Global, count: u8) -> Result<Vec<NodeId>, AllocError>
     requires { count ≤ 8 }
@@ -65,7 +65,7 @@ fn ids(alloc: Global, count: u8) -> Result<Vec<NodeId>, AllocError>
     Ok(ids)
 }
 
-/// The peers of a node of so many: the ids of the others, ascending. The one refusal is want of memory.
+/// The peers of a node among `count` nodes: the ids of the others, ascending. It fails only when out of memory.
 #[tactic(auto, using(crate::proofs::Peers::peers_more))]
 pub fn peers_of_node(alloc: Global, count: u8, node: u8) -> Result<Vec<NodeId>, AllocError>
     requires { count ≤ 8 }
@@ -80,7 +80,7 @@ pub fn peers_of_node(alloc: Global, count: u8, node: u8) -> Result<Vec<NodeId>, 
     Ok(peers)
 }
 
-/// So many of all nodes.
+/// The quorum set with the threshold `quorum` over all `count` nodes.
 fn of_all(alloc: Global, count: u8, quorum: u8) -> Result<QuorumSet, AllocError>
     requires { count ≤ 8 }
     ensures { IfOk result (λ set. set ≡ of_all count quorum) }
@@ -101,7 +101,8 @@ fn given(alloc: Global, command: &Command, number: u8) -> Result<Option<QuorumSe
     }
 }
 
-/// The quorum set of the node of this number: the last that the commands give it. The one refusal is `NoMemory`.
+/// The quorum set of the node of this number: the last that the commands give it. If they give it none, it is 1 of node 1. The only error
+/// is `NoMemory`.
 pub fn set_of_node(alloc: Global, commands: &[Command], number: u8) -> Result<QuorumSet, Fault>
     requires names { All NamesNodes commands.now }
     requires admitted { AreAdmitted [] commands.now }

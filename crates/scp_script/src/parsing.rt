@@ -27,20 +27,20 @@ fn read(alloc: Global, text: &[u8]) -> Result<Vec<Command>, Fault>
     Ok(reading.into_commands())
 }
 
-/// Reads a script, and gives its commands in their order. `BadScript` names the first bad line, from 1 on. It takes time in
-/// proportion to the text. A bad line before the first `set` line is told without memory.
+/// Reads a script, and returns its commands in their order. `BadScript` names the first bad line, from 1 on. It takes time in proportion
+/// to the text. A bad line before the first `set` line is reported without taking memory.
 pub fn parse(alloc: Global, text: &[u8]) -> Result<Vec<Command>, Fault>
     // The text is a script.
     ensures script { OnOk result (IsScript text.now) }
     // So it has no bad line.
     ensures no_bad_line { OnOk result (HasNoBadLine text.now) }
-    // The commands are those that it says.
+    // The commands are those that the text says.
     ensures commands { IfOk result (λ commands. commands.items ≡ commands_in text.now) }
-    // Each names nodes from 1 to 8.
+    // Each command names nodes from 1 to 8.
     ensures nodes { IfOk result (λ commands. All NamesNodes commands.items) }
-    // Memory ran out, or a line is the first bad one.
+    // Otherwise memory ran out, or the line with this number is the first bad one.
     ensures cause { IfErr result (IsScriptFault text.now) }
-    // Want of memory is told only of a text without a bad line, or with a `set` line, whose quorum set takes memory to be judged.
+    // Out of memory is reported only for a text without a bad line, or with a `set` line, since to judge its quorum set takes memory.
     ensures memory_last { IsErrOf result Fault.NoMemory → HasNoBadLine text.now ⊎ HasSetLine text.now }
 {
     match first_bad_line(alloc, text) {

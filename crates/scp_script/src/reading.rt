@@ -11,8 +11,8 @@ use crate::command::Command;
 use crate::known::Known;
 use crate::line::command_from;
 use crate::reason::{Verb, kinds_of, misplaced, verb_of, word_at, wrong_word};
-use crate::refusal::{Expected, Refusal};
 use crate::words::{ascii, link, skipped, words};
+use scp_device::{BadWord, Expected};
 use scp_types::{Fault, LIFE_LIMIT};
 use std::alloc::{AllocError, Global};
 
@@ -43,7 +43,7 @@ impl Reading {
         commands
     }
 
-    /// Adds a command. Whether it may stand here.
+    /// Adds a command if it may stand here, and returns whether it may.
     fn add(&mut self, command: Command) -> Result<bool, AllocError>
         requires names { NamesNodes command }
         requires reading { IsReading self.old }
@@ -59,7 +59,7 @@ impl Reading {
         Ok(true)
     }
 
-    /// Takes in the words of a line. Whether they may stand here.
+    /// Takes in the words of a line if they may stand here, and returns whether they may.
     fn read_words(&mut self, alloc: Global, words: &[&str]) -> Result<bool, Fault>
         requires reading { IsReading self.old }
         ensures good { IfOk result (λ good. IsTrue good ↔ IsSomeAnd (command_in (map (λ word. word.now) words.now)) (Admits self.old.commands.items)) }
@@ -73,7 +73,7 @@ impl Reading {
         }
     }
 
-    /// Takes in a line, and answers whether it may stand here; where it may not, nothing changes. The one refusal is `NoMemory`.
+    /// Takes in a line, and returns whether it may stand here. If it may not, nothing changes. The only error is `NoMemory`.
     pub fn read_line(&mut self, alloc: Global, line: &[u8]) -> Result<bool, Fault>
         requires reading { IsReading self.old }
         ensures good { IfOk result (λ good. IsTrue good ↔ Stands self.old.commands.items line.now) }
@@ -91,7 +91,7 @@ impl Reading {
         self.read_words(alloc, words.as_slice())
     }
 
-    /// Why the link of two nodes isn't one that a line with this first word may name.
+    /// What was expected of the link between two nodes, if a line with this first word may not name it.
     fn no_link(&self, verb: Verb, from: &str, to: &str) -> Option<Expected>
         requires reading { IsReading self.now }
         ensures { result ≡ link_fault_by verb (link_in from.now to.now) self.now.commands.items }
@@ -106,8 +106,8 @@ impl Reading {
         }
     }
 
-    /// The first bad word of a line with this first word, which stands rightly, and then its link.
-    fn bad_word(&self, alloc: Global, verb: Verb, words: &[&str]) -> Result<Option<Refusal>, Fault>
+    /// The first bad word of a line with this first word, which comes in the right order; then its link.
+    fn bad_word(&self, alloc: Global, verb: Verb, words: &[&str]) -> Result<Option<BadWord>, Fault>
         requires reading { IsReading self.now }
         ensures found { IfOk result (IsPlacedFault None verb self.now.commands.items (map (λ word. word.now) words.now)) }
         ensures only_memory { IsOkUnless result Fault.NoMemory }
@@ -116,30 +116,30 @@ impl Reading {
             return Ok(Some(refusal));
         }
         match self.no_link(verb, word_at(words, 1), word_at(words, 2)) {
-            Some(expected) => Ok(Some(Refusal { word: 2, expected })),
+            Some(expected) => Ok(Some(BadWord { word: 2, expected })),
             None => Ok(None),
         }
     }
 
     /// The first bad word of a line of these words.
-    fn why_words(&self, alloc: Global, words: &[&str]) -> Result<Option<Refusal>, Fault>
+    fn why_words(&self, alloc: Global, words: &[&str]) -> Result<Option<BadWord>, Fault>
         requires reading { IsReading self.now }
         ensures found { IfOk result (IsWordFault self.now.commands.items (map (λ word. word.now) words.now)) }
         ensures only_memory { IsOkUnless result Fault.NoMemory }
     {
         let Some(verb) = verb_of(word_at(words, 0)) else {
             let expected = Expected::AVerb;
-            return Ok(Some(Refusal { word: 1, expected }));
+            return Ok(Some(BadWord { word: 1, expected }));
         };
         if let Some(expected) = misplaced(verb, self.known.count, self.known.has_begun) {
-            return Ok(Some(Refusal { word: 1, expected }));
+            return Ok(Some(BadWord { word: 1, expected }));
         }
         self.bad_word(alloc, verb, words)
     }
 
-    /// The first bad word of a line that may not stand here: by its bytes, else by what its words say from left to right, else by
-    /// its link. The one refusal is `NoMemory`.
-    pub fn why(&self, alloc: Global, line: &[u8]) -> Result<Option<Refusal>, Fault>
+    /// The first bad word of a line that may not stand here, or `None` if no word is bad. Its bytes are judged first, then what its words
+    /// say, from left to right, then its link. The only error is `NoMemory`.
+    pub fn why(&self, alloc: Global, line: &[u8]) -> Result<Option<BadWord>, Fault>
         requires reading { IsReading self.now }
         ensures found { IfOk result (IsLineFault self.now.commands.items line.now) }
         ensures only_memory { IsOkUnless result Fault.NoMemory }

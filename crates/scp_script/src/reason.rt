@@ -3,8 +3,8 @@ ghost use Rattle.std.specs.Prelude.{◌≡◌, Some, None, IfOk, IfSome, IsOkUnl
 ghost use Rattle.scp_script.specs.Words.{node_in, set_in, hex_bytes};
 ghost use Rattle.scp_script.specs.Reasons.{verb_in, kinds_in, order_fault, if_not, is_most, kind_fault, IsSetFault, IsKindFault, IsKindsFault, word_at as at_place};
 
-use crate::refusal::{Expected, Refusal};
 use crate::words::{bytes_of, capacity, node, number, set_of};
+use scp_device::{BadWord, Expected};
 use scp_types::Fault;
 use std::alloc::{AllocError, Global};
 
@@ -27,15 +27,15 @@ pub enum Verb {
     Report,
 }
 
-/// What a word behind the first is to say.
+/// What a word after the first must say.
 #[derive(Clone, Copy, Debug, PartialEq, Eq)]
 pub enum Kind {
     Capacity,
     Count,
-    /// At most the number before it.
+    /// A number from 1 to 8, at most the one before it.
     Threshold,
     Node,
-    /// Another than the one before it.
+    /// A node other than the one before it.
     Another,
     Slot,
     Number,
@@ -66,7 +66,7 @@ pub fn verb_of(word: &str) -> Option<Verb>
     }
 }
 
-/// What the words behind the first are to say.
+/// What the words after the first must say.
 pub fn kinds_of(verb: Verb) -> &'static [Kind]
     ensures { result.now ≡ kinds_in verb }
 {
@@ -90,7 +90,8 @@ pub fn kinds_of(verb: Verb) -> &'static [Kind]
     }
 }
 
-/// Where a line of this first word stands wrongly: how many nodes there are, and whether a line came that acts.
+/// What was expected if a line with this first word comes in the wrong order, by how many nodes there are and whether a line came that
+/// acts.
 pub fn misplaced(verb: Verb, count: u8, has_begun: bool) -> Option<Expected>
     ensures { result ≡ order_fault verb count has_begun }
 {
@@ -111,7 +112,7 @@ fn unless(good: bool, expected: Expected) -> Option<Expected>
     if good { None } else { Some(expected) }
 }
 
-/// Whether the word names a node of so many.
+/// Whether the word names one of `count` nodes.
 fn is_node(count: u8, word: &str) -> bool
     ensures { result ≡ is_most count (node_in word.now) }
 {
@@ -121,15 +122,15 @@ fn is_node(count: u8, word: &str) -> bool
     }
 }
 
-/// Whether the word is a threshold for so many nodes as the word before it says.
+/// What was expected if the word is no threshold for as many nodes as the word before it says.
 fn threshold(before: &str, word: &str) -> Option<Expected>
     ensures { result ≡ kind_fault Kind.Threshold 0 before.now word.now }
 {
     let most = node(before).unwrap_or(8);
-    unless(is_node(most, word), Expected::AThreshold(most))
+    unless(is_node(most, word), Expected::AThreshold(u32::from(most)))
 }
 
-/// Why the word says no sane quorum set.
+/// Why the word encodes no sane quorum set, if it doesn't.
 fn no_set(alloc: Global, word: &str) -> Result<Option<Expected>, Fault>
     ensures found { IfOk result (IsSetFault (set_in (hex_bytes word.now))) }
     ensures only_memory { IsOkUnless result Fault.NoMemory }
@@ -140,7 +141,7 @@ fn no_set(alloc: Global, word: &str) -> Result<Option<Expected>, Fault>
     }
 }
 
-/// Why the word says nothing of this kind, by the word before it; an empty word for one that is missing.
+/// What was expected if the word isn't of this kind, by the word before it. A word that is missing is given as an empty one.
 fn no_such(
     alloc: Global,
     kind: Kind,
@@ -155,10 +156,10 @@ fn no_such(
         Kind::Capacity => Ok(unless(capacity(word).is_some(), Expected::ACapacity)),
         Kind::Count => Ok(unless(is_node(8, word), Expected::ACount)),
         Kind::Threshold => Ok(threshold(before, word)),
-        Kind::Node => Ok(unless(is_node(count, word), Expected::ANode(count))),
+        Kind::Node => Ok(unless(is_node(count, word), Expected::ANode(u32::from(count)))),
         Kind::Another => Ok(unless(
             is_node(count, word) && before != word,
-            Expected::AnotherNode(count),
+            Expected::AnotherNode(u32::from(count)),
         )),
         Kind::Slot => Ok(unless(number(word).is_some(), Expected::ASlot)),
         Kind::Number => Ok(unless(number(word).is_some(), Expected::ANumber)),
@@ -167,7 +168,7 @@ fn no_such(
     }
 }
 
-/// The word at a place, or nothing.
+/// The word at a place, from 0 on, or an empty one if there is none.
 pub fn word_at<'a>(words: &[&'a str], place: usize) -> &'a str
     ensures { result.now ≡ at_place (map (λ word. word.now) words.entry.now) place }
 {
@@ -177,13 +178,13 @@ pub fn word_at<'a>(words: &[&'a str], place: usize) -> &'a str
     }
 }
 
-/// The first word behind the first that isn't of its kind, or is one too many.
+/// The first word after the verb that isn't of its kind, or is one too many.
 pub fn wrong_word(
     alloc: Global,
     kinds: &[Kind],
     count: u8,
     words: &[&str],
-) -> Result<Option<Refusal>, Fault>
+) -> Result<Option<BadWord>, Fault>
     ensures found { IfOk result (IsKindsFault kinds.now count (map (λ word. word.now) words.now) 0) }
     ensures only_memory { IsOkUnless result Fault.NoMemory }
 {
@@ -192,11 +193,11 @@ pub fn wrong_word(
         let word = word_at(words, index + 1);
         if let Some(expected) = no_such(alloc, *kind, count, before, word)? {
             let word = index + 2;
-            return Ok(Some(Refusal { word, expected }));
+            return Ok(Some(BadWord { word, expected }));
         }
     }
     if kinds.len() + 1 < words.len() {
-        return Ok(Some(Refusal {
+        return Ok(Some(BadWord {
             word: kinds.len() + 2,
             expected: Expected::NoMore,
         }));

@@ -28,7 +28,7 @@ pub fn words<'a>(alloc: Global, line: &'a str) -> Result<Vec<&'a str>, AllocErro
     line.split(' ').collect(alloc)
 }
 
-/// The words of a line, where they are at most five.
+/// The words of a line, if there are at most five.
 pub fn few_words<'a>(line: &'a str) -> Option<ArrayVec<&'a str, 5>>
     ensures words { IfSome result (λ words. map (λ word. word.now) words.items ≡ slice_split (λ byte. byte == 32) line.entry.now) }
     ensures many { IsNone result → 5 < length (slice_split (λ byte. byte == 32) line.entry.now) }
@@ -40,7 +40,7 @@ pub fn few_words<'a>(line: &'a str) -> Option<ArrayVec<&'a str, 5>>
     }
 }
 
-/// A line as text, where it is ASCII.
+/// The line as text, if it is ASCII.
 pub fn ascii(line: &[u8]) -> Option<&str>
     ensures text { IfSome result (λ text. text.now ≡ line.now) }
     ensures exact { is_some result ≡ is_ascii line.now }
@@ -64,7 +64,7 @@ pub fn skipped(line: &[u8]) -> bool
     }
 }
 
-/// A number without sign or leading zero.
+/// A number below 2^64, in decimal digits without a sign or a leading zero.
 pub fn number(word: &str) -> Option<u64>
     ensures { result ≡ number_in word.now }
 {
@@ -79,7 +79,7 @@ pub fn number(word: &str) -> Option<u64>
     }
 }
 
-/// A number as a queue's capacity.
+/// A number as a queue's capacity, if it is from 1 to 1,024.
 fn capacity_from(number: Option<u64>) -> Option<u16>
     ensures { result ≡ capacity_by number }
 {
@@ -95,14 +95,14 @@ fn capacity_from(number: Option<u64>) -> Option<u16>
     }
 }
 
-/// A queue's capacity.
+/// A queue's capacity, from 1 to 1,024.
 pub fn capacity(word: &str) -> Option<u16>
     ensures { result ≡ capacity_in word.now }
 {
     capacity_from(number(word))
 }
 
-/// The number of a node.
+/// The number of a node, from 1 to 8: one digit.
 pub fn node(word: &str) -> Option<u8>
     ensures found { result ≡ node_in word.now }
     ensures small { IfSome result IsSmall }
@@ -119,7 +119,7 @@ pub fn node(word: &str) -> Option<u8>
     }
 }
 
-/// A link by the node that it goes from and the node that it goes to.
+/// A link by the node that it goes from and the node that it goes to, which must differ.
 pub fn link(from: &str, to: &str) -> Option<(u8, u8)>
     ensures found { result ≡ link_in from.now to.now }
     ensures small { IfSome result (λ link. IsSmall link.0 × IsSmall link.1 × (link.0 ≢ link.1)) }
@@ -136,7 +136,7 @@ fn all_digits(bytes: &[u8]) -> bool
     bytes.iter().all(|byte| matches!(*byte, b'0'..=b'9' | b'A'..=b'F' | b'a'..=b'f'))
 }
 
-/// Whether a word is hexadecimal digits, an even number of them, or a dash.
+/// Whether a word is hex digits, an even number of them and at least two, or a dash.
 pub fn are_digits(word: &str) -> bool
     ensures { result ≡ is_some (hex_bytes word.now) }
 {
@@ -150,7 +150,7 @@ pub fn are_digits(word: &str) -> bool
     all_digits(digits)
 }
 
-/// Bytes in hexadecimal digits, or a dash for none. `None` where the word is neither. The one refusal is `NoMemory`.
+/// The bytes that a word of hex digits encodes, or no bytes for a dash. `None` if the word is neither. The only error is `NoMemory`.
 fn decoded(alloc: Global, word: &str) -> Result<Option<Vec<u8>>, Fault>
     ensures bytes { IfOk result (λ bytes. option_map (λ b. b.items) bytes ≡ hex_bytes word.now) }
     ensures only_memory { IsOkUnless result Fault.NoMemory }
@@ -168,7 +168,7 @@ fn decoded(alloc: Global, word: &str) -> Result<Option<Vec<u8>>, Fault>
     }
 }
 
-/// Bytes in digits, as `decoded`.
+/// The bytes that a word of hex digits encodes, or no bytes for a dash. `None` if the word is neither. The only error is `NoMemory`.
 pub fn bytes_of(alloc: Global, word: &str) -> Result<Option<Bytes>, Fault>
     ensures bytes { IfOk result (λ bytes. bytes ≡ hex_bytes word.now) }
     ensures only_memory { IsOkUnless result Fault.NoMemory }
@@ -179,7 +179,7 @@ pub fn bytes_of(alloc: Global, word: &str) -> Result<Option<Bytes>, Fault>
     Ok(Some(Bytes::new(bytes)))
 }
 
-/// A value in digits, as `decoded`, of any length.
+/// A value, of any length, as `bytes_of`.
 pub fn value_of(alloc: Global, word: &str) -> Result<Option<Value>, Fault>
     ensures value { IfOk result (λ value. value ≡ hex_bytes word.now) }
     ensures only_memory { IsOkUnless result Fault.NoMemory }
@@ -190,7 +190,7 @@ pub fn value_of(alloc: Global, word: &str) -> Result<Option<Value>, Fault>
     Ok(Some(Value::new(bytes)))
 }
 
-/// The quorum set that bytes in digits spell, all of them. `None` where they spell none.
+/// The quorum set that a word of hex digits encodes, with no bytes left over. `None` if it encodes none. The only error is `NoMemory`.
 #[tactic(auto, using(crate::proofs::QuorumSets::set_in_read))]
 pub fn set_of(alloc: Global, word: &str) -> Result<Option<QuorumSet>, Fault>
     ensures set { IfOk result (λ set. set ≡ set_in (hex_bytes word.now)) }

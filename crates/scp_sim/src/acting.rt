@@ -1,7 +1,6 @@
-//! What nodes are told, line by line, and what the script says of it.
+//! What nodes are given to do, line by line, and the script that records it.
 
 use crate::actor::tell;
-use crate::lines::write_line;
 use crate::named::is_named;
 use crate::world::{SimFault, World};
 use scp_core::{Command as LocalCommand, Event};
@@ -9,16 +8,16 @@ use scp_line::act;
 use scp_script::Command;
 
 impl<'a> World<'a> {
-    /// Does what a line says, and writes it down.
+    /// Plays a command and records its line, if it names only nodes that a script can have.
     pub fn act(&mut self, command: Command) -> Result<(), SimFault> {
         if is_named(&command) {
-            write_line(self.alloc, &mut self.script, &command)?;
+            self.happened.add(self.alloc, &command)?;
             act(&mut self.network, &command)?;
         }
         Ok(())
     }
 
-    /// The second selves of a node hear an event too.
+    /// Gives an event to the twins of a node, too.
     pub fn tell_twins(&mut self, number: u8, event: &Event) -> Result<(), SimFault> {
         for actor in self.actors.as_mut_slice() {
             if actor.number == number {
@@ -30,7 +29,7 @@ impl<'a> World<'a> {
         Ok(())
     }
 
-    /// A local command, of a node or of a second self.
+    /// Plays a local command of a node or of a twin.
     pub fn command(&mut self, who: usize, command: LocalCommand) -> Result<(), SimFault> {
         let (number, is_twin) = match self.actors.as_slice().get(who) {
             Some(actor) => (actor.number, actor.twin.is_some()),

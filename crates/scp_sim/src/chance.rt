@@ -1,10 +1,10 @@
-//! What is left to chance: by a seed, and so the same each time.
+//! What is left to chance. The seed decides it, so it is the same each time.
 
 use rand::RngExt;
 use rand_chacha::ChaCha12Rng;
-use scp_plan::Span;
+use scp_sim_options::Span;
 
-/// A number of the span; where it is none, its beginning.
+/// A random number of the span. For an empty span, its beginning.
 pub fn within(rng: &mut ChaCha12Rng, span: Span) -> u64 {
     if span.from < span.to {
         rng.random_range(span.from..=span.to)
@@ -13,7 +13,7 @@ pub fn within(rng: &mut ChaCha12Rng, span: Span) -> u64 {
     }
 }
 
-/// Whether something happens that happens so many times in a hundred.
+/// Whether something happens that happens this many times in a hundred.
 pub fn happens(rng: &mut ChaCha12Rng, percent: u8) -> bool {
     percent > 0 && rng.random_range(0..100u8) < percent
 }

@@ -1,4 +1,4 @@
-//! Timers: armed as the draft has them, and run out.
+//! Timers: started as the SCP draft says, and fired.
 
 use crate::actor::Armed;
 use crate::due::Due;
@@ -7,7 +7,7 @@ use scp_core::{Command as LocalCommand, Node};
 use scp_timers::{Timer, timers};
 
 impl<'a> World<'a> {
-    /// The timers of a node run no more.
+    /// Stops the timers of a node.
     pub fn disarm(&mut self, number: u8) {
         for actor in self.actors.as_mut_slice() {
             if actor.number == number {
@@ -16,7 +16,7 @@ impl<'a> World<'a> {
         }
     }
 
-    /// Takes a timer that runs out now from those that run, and answers whose it is.
+    /// Removes a timer that fires now from those that run, and returns the number of its node.
     pub fn take_timer(&mut self, who: usize, timer: Timer) -> Option<u8> {
         let now = self.now;
         let actor = self.actors.as_mut_slice().get_mut(who)?;
@@ -30,7 +30,7 @@ impl<'a> World<'a> {
         Some(actor.number)
     }
 
-    /// A timer runs out.
+    /// Fires a timer.
     pub fn ring(&mut self, who: usize, timer: Timer) -> Result<(), SimFault> {
         if self.take_timer(who, timer).is_none() {
             return Ok(());
@@ -47,7 +47,7 @@ impl<'a> World<'a> {
         }
     }
 
-    /// The node of someone, as it stands.
+    /// The node of an actor, as it is now.
     pub fn node_of(&self, who: usize) -> Option<&Node> {
         let actor = self.actors.as_slice().get(who)?;
         match &actor.twin {
@@ -59,7 +59,7 @@ impl<'a> World<'a> {
         }
     }
 
-    /// Timers that should run now run: from now on, unless they ran before.
+    /// Starts each timer that should run now and doesn't run yet. Stops those that should no longer run.
     pub fn arm(&mut self, who: usize) -> Result<(), SimFault> {
         let running = match self.node_of(who) {
             Some(node) => timers(self.alloc, node.ledger())?,

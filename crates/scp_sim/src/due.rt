@@ -1,4 +1,4 @@
-//! What is to happen, and when.
+//! What is due to happen, and when.
 
 use scp_timers::Timer;
 use scp_types::{Fault, Slot};
@@ -6,17 +6,17 @@ use scp_wire::Bytes;
 use std::alloc::Global;
 use std::collections::BTreeMap;
 
-/// What is to happen. Who does it is a place: of the nodes in their order, and of the second selves of those that equivocate behind them.
+/// What is due. An actor is given by its index: first the nodes in their order, and then the twins of those that equivocate.
 #[derive(Debug, Drop)]
 pub enum Due {
-    /// A message that was sent in this life of its link comes to the node that it goes to.
+    /// A message that was sent in this life of its link arrives at its receiver.
     Arrives {
         from: u8,
         to: u8,
         life: u64,
         bytes: Bytes,
     },
-    /// A timer runs out.
+    /// A timer fires.
     Rings {
         who: usize,
         timer: Timer,
@@ -26,19 +26,19 @@ pub enum Due {
         who: usize,
         slot: Slot,
     },
-    /// A node looks whether anything goes on.
+    /// A node checks whether there is any progress.
     Looks {
         node: u8,
     },
-    /// Links are made and lost anew, as it then is.
+    /// Links are opened and closed, as the plan says for this time.
     Relinks,
-    /// A node says what is old, and what can't be judged.
+    /// A node sends once more what it sent before, and messages that can't be judged.
     Floods {
         node: u8,
     },
 }
 
-/// What is to happen, by its time, and at one time in the order in which it was put.
+/// All that is due, ordered by time. What is due at the same time keeps the order in which it was added.
 #[derive(Drop)]
 pub struct Agenda {
     dues: BTreeMap<(u64, u64), Due>,
@@ -46,7 +46,7 @@ pub struct Agenda {
 }
 
 impl Agenda {
-    /// An empty one.
+    /// An empty agenda.
     pub fn new(alloc: Global) -> Agenda {
         Agenda {
             dues: BTreeMap::new(alloc),
@@ -54,14 +54,14 @@ impl Agenda {
         }
     }
 
-    /// Puts what is to happen at this time.
+    /// Adds something that is due at this time.
     pub fn put(&mut self, time: u64, due: Due) -> Result<(), Fault> {
         self.dues.insert((time, self.count), due)?;
         self.count = self.count.saturating_add(1);
         Ok(())
     }
 
-    /// When the next of them is due.
+    /// The time of the next thing that is due.
     pub fn next_time(&self) -> Option<u64> {
         match self.dues.first_key_value() {
             Some((key, _)) => Some(key.0),
@@ -69,7 +69,7 @@ impl Agenda {
         }
     }
 
-    /// The next of them, where it is due at this time.
+    /// Takes out the next thing that is due, if it is due at this time.
     pub fn next_at(&mut self, time: u64) -> Option<Due> {
         if self.next_time()? != time {
             return None;

@@ -1,4 +1,12 @@
-//! Simulates nodes in virtual time by a seed: what becomes of their messages is left to chance, and what happened is a script.
+//! Simulates nodes in virtual time from a seed. Chance decides what becomes of their messages, and a script records what happened.
+//!
+//! What it promises:
+//! - the script begins with the plan's lines, of which none is bad; each later line is in digits, names nodes from 1 to 8, and neither
+//!   says how many nodes there are nor gives a quorum set;
+//! - so the script has as many nodes as the plan, and each has the quorum set that the plan gives it.
+//!
+//! We don't claim that each line is allowed after those before it, or that playing the script gives the same reports. A crate above
+//! plays the script once more and checks both.
 #![tactic(auto)]
 
 mod acting;
@@ -6,6 +14,7 @@ mod actor;
 mod chance;
 mod clocks;
 mod due;
+mod first;
 mod lines;
 mod links;
 mod links_now;

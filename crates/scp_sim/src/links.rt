@@ -1,15 +1,15 @@
-//! Which links there are.
+//! The links between nodes.
 
 use scp_types::Fault;
 use std::alloc::Global;
 
-/// A link from a node to another.
+/// A link from one node to another.
 #[derive(Clone, Copy, Debug, PartialEq, Eq)]
 pub struct Link {
     pub is_open: bool,
-    /// How often it was opened.
+    /// How many times it was opened.
     pub life: u64,
-    /// When the last message on it comes.
+    /// When the last message on it arrives.
     pub last: u64,
     /// Whether anything was ever sent on it.
     pub is_used: bool,
@@ -27,13 +27,13 @@ const NONE: Link = Link {
     is_used: false,
 };
 
-/// The place of the link from a node to another.
+/// The index of the link from one node to another.
 fn place_of(from: u8, to: u8) -> usize {
     usize::from(from) * 16 + usize::from(to)
 }
 
 impl Links {
-    /// None of them open.
+    /// The links, none of which is open.
     pub fn new(alloc: Global) -> Result<Links, Fault> {
         let mut links = Vec::with_capacity(alloc, 256)?;
         for _ in 0..256 {
@@ -42,7 +42,7 @@ impl Links {
         Ok(Links(links))
     }
 
-    /// The link from a node to another.
+    /// The link from one node to another.
     pub fn get(&self, from: u8, to: u8) -> Link {
         match self.0.get(place_of(from, to)) {
             Some(link) => *link,
@@ -50,7 +50,7 @@ impl Links {
         }
     }
 
-    /// Changes the link from a node to another.
+    /// Replaces the link from one node to another.
     pub fn put(&mut self, from: u8, to: u8, link: Link) {
         if let Some(place) = self.0.get_mut(place_of(from, to)) {
             *place = link;

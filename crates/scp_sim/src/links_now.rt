@@ -1,10 +1,10 @@
-//! Which nodes are linked now: partitions and stops come and go.
+//! Which nodes are linked now, as partitions and stops come and go.
 
 use crate::world::{SimFault, World};
 use scp_core::Event;
 use scp_network::link_from;
-use scp_plan::parts;
 use scp_script::Command;
+use scp_sim_options::parts;
 
 impl<'a> World<'a> {
     /// Whether a node is stopped.
@@ -17,7 +17,7 @@ impl<'a> World<'a> {
         false
     }
 
-    /// Whether two nodes are to be linked.
+    /// Whether two nodes should be linked now.
     pub fn are_linked(&self, one: u8, other: u8) -> bool {
         for partition in self.plan.partitions.as_slice() {
             if partition.span.from <= self.now
@@ -30,7 +30,7 @@ impl<'a> World<'a> {
         !self.is_down(one) && !self.is_down(other)
     }
 
-    /// Whether anything is to be linked otherwise, later than now.
+    /// Whether the plan changes any link later than now.
     pub fn is_to_change(&self) -> bool {
         for partition in self.plan.partitions.as_slice() {
             if self.now < partition.span.to {
@@ -45,7 +45,7 @@ impl<'a> World<'a> {
         false
     }
 
-    /// The link from a node to another is made or lost, as it now is.
+    /// Opens or closes the link from one node to another, as the plan says for now.
     pub fn relink(&mut self, from: u8, to: u8) -> Result<(), SimFault> {
         let mut link = self.links.get(from, to);
         let is_linked = self.are_linked(from, to);
@@ -69,7 +69,7 @@ impl<'a> World<'a> {
         }
     }
 
-    /// All links are made and lost, as they now are; the timers of nodes that are stopped run no more.
+    /// Opens and closes all links, as the plan says for now. Stops the timers of nodes that are stopped.
     pub fn relink_all(&mut self) -> Result<(), SimFault> {
         for from in 1..=self.plan.nodes {
             for to in 1..=self.plan.nodes {

@@ -1,11 +1,11 @@
-//! What a node does that doesn't come on: it says again what it said, and asks for records and quorum sets.
+//! What a node does that makes no progress: it sends its messages again, and asks for records and quorum sets.
 
 use crate::due::Due;
 use crate::world::{SECOND, STALLED, SimFault, World};
 use scp_script::Command;
 
 impl<'a> World<'a> {
-    /// A node asks another, which applied more, for the records of the next slots.
+    /// A node asks another one that applied more slots for the records of the next slots.
     pub fn ask(&mut self, node: u8, of: u8) -> Result<bool, SimFault> {
         let (here, there) = (self.applied_of(node), self.applied_of(of));
         let is_linked = self.links.get(node, of).is_open && self.links.get(of, node).is_open;
@@ -24,8 +24,8 @@ impl<'a> World<'a> {
         Ok(true)
     }
 
-    /// A node looks whether anything goes on. Where it applied nothing for a while it says again what it said, asks for records, and for quorum
-    /// sets.
+    /// A node checks whether there is any progress. If it applied no slot for a while, it sends its messages again, and asks for records
+    /// and quorum sets.
     pub fn look(&mut self, node: u8) -> Result<(), SimFault> {
         self.agenda
             .put(self.now.saturating_add(SECOND), Due::Looks { node })?;

@@ -1,6 +1,7 @@
-//! Whether a line names nodes of a script.
+//! Whether the nodes that a line names can be nodes of a script.
 ghost use Rattle.std.specs.Prelude.{◌≡◌, ◌≢◌, ◌≤◌, true};
 ghost use Rattle.scp_script.specs.Nodes.{NamesNodes};
+ghost use Rattle.scp_script.specs.Script.{begins};
 
 use scp_script::Command;
 
@@ -11,16 +12,18 @@ fn is_small(node: u8) -> bool
     1 <= node && node <= 8
 }
 
-/// Whether a link can go from the one to the other.
+/// Whether a link can go from the one node to the other.
 fn are_apart(from: u8, to: u8) -> bool
     ensures { result ≡ true → (1 ≤ from) × (from ≤ 8) × (1 ≤ to) × (to ≤ 8) × (from ≢ to) }
 {
     is_small(from) && is_small(to) && from != to
 }
 
-/// Whether the nodes that a line names are of a script; of a line that tells how many there are it isn't said.
+/// Whether a line names only nodes that a script can have. False for a line that says how many nodes there are, or gives capacities or a
+/// quorum set.
 pub fn is_named(command: &Command) -> bool
-    ensures { result ≡ true → NamesNodes command.now }
+    ensures names { result ≡ true → NamesNodes command.now }
+    ensures begun { result ≡ true → begins command.now ≡ true }
 {
     match command {
         Command::Open { from, to }

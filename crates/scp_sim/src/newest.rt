@@ -1,4 +1,4 @@
-//! What a node says once more to a peer, as a host does whose connection may have lost it.
+//! What a node sends once more to a peer, as a host does whose connection may have lost it.
 
 use scp_core::{Node, Origin};
 use scp_envelope::{Envelope, Pledges, SharedEnvelope};
@@ -7,7 +7,7 @@ use scp_vote::{Board, StatementKind};
 use scp_wire::{BoxedEnvelope, Bytes, Message, encode};
 use std::alloc::Global;
 
-/// How many decisions are told of once more, and how many slots are open (this project's profile).
+/// How many decisions are sent once more, and how many slots are open (this project's profile).
 const WINDOW: u64 = 16;
 
 /// Adds the bytes of a message.
@@ -17,7 +17,7 @@ fn add(alloc: Global, out: &mut Vec<Bytes>, message: &Message) -> Result<(), Fau
     Ok(())
 }
 
-/// Adds an own statement.
+/// Adds a statement of the node's own.
 fn add_envelope(
     alloc: Global,
     out: &mut Vec<Bytes>,
@@ -27,7 +27,7 @@ fn add_envelope(
     add(alloc, out, &message)
 }
 
-/// Whether a statement is a PREPARE of counter 0, which isn't said.
+/// Whether a statement is a PREPARE of counter 0, which isn't sent.
 fn is_blank(envelope: &Envelope) -> bool {
     match &envelope.statement.pledges {
         Pledges::Prepare(prepare) => prepare.ballot.counter == 0,
@@ -35,7 +35,7 @@ fn is_blank(envelope: &Envelope) -> bool {
     }
 }
 
-/// Adds the own statement of a kind.
+/// Adds the node's own statement of a kind.
 fn add_own(
     alloc: Global,
     out: &mut Vec<Bytes>,
@@ -54,7 +54,7 @@ fn add_own(
     }
 }
 
-/// Adds what is said of an open slot.
+/// Adds what is sent once more about an open slot.
 fn add_slot(
     alloc: Global,
     out: &mut Vec<Bytes>,
@@ -88,8 +88,8 @@ fn add_decided(alloc: Global, out: &mut Vec<Bytes>, node: &Node) -> Result<(), F
     Ok(())
 }
 
-/// What a node says once more to the peer of a link: of its last decisions the EXTERNALIZE, and of the open slots the request for the record, if the
-/// link was asked for it, and the own newest statements.
+/// What a node sends once more to the peer of a link. For its last decisions, this is the EXTERNALIZE. For the open slots, it is the
+/// request for the record, if the node asked for it on this link, and its newest own statements.
 pub fn newest(alloc: Global, node: &Node, link: u8) -> Result<Vec<Bytes>, Fault> {
     let mut out = Vec::new(alloc);
     add_decided(alloc, &mut out, node)?;

@@ -1,22 +1,25 @@
-//! A run, from its beginning to its end: its script, and the reports of its nodes.
-ghost use Rattle.std.specs.Prelude.{◌≤◌, All, IfOk};
+//! A run from its beginning to its end: its script, and the reports of its nodes.
+ghost use Rattle.std.specs.Prelude.{◌≤◌, All, IfOk, string_bytes};
 ghost use Rattle.scp_script.specs.Nodes.{NamesNodes};
+ghost use Rattle.scp_sim.specs.Simulated.{IsSimulated};
 
+use crate::first::{beginning, see_numbers};
 use crate::world::{SimFault, Simulated, World};
 use scp_line::write_reports;
 use scp_network::Network;
-use scp_plan::Plan;
 use scp_script::Command;
+use scp_sim_options::Plan;
 use scp_wire::Bytes;
 use std::alloc::{AllocError, Global};
 
-/// The most times at which anything happens.
+/// The most points in time at which anything happens.
 const MOST_TIMES: u32 = 10_000_000;
 
 /// The most nodes of a network.
 const MOST_NODES: usize = 8;
 
-/// Over a link on which nothing was sent nothing goes: what its sender says doesn't travel when the script is played.
+/// If nothing was sent on a link, makes the script send an empty message there. So what its sender says doesn't travel when the script
+/// is played.
 fn mute(world: &mut World<'_>, from: u8, to: u8) -> Result<(), SimFault> {
     let link = world.links.get(from, to);
     if link.life == 0 || link.is_used {
@@ -29,7 +32,7 @@ fn mute(world: &mut World<'_>, from: u8, to: u8) -> Result<(), SimFault> {
     world.act(Command::Send { from, to, bytes })
 }
 
-/// Over all links on which nothing was sent nothing goes.
+/// Does the same for each link on which nothing was sent.
 fn mute_all(world: &mut World<'_>, count: u8) -> Result<(), SimFault> {
     for from in 1..=count {
         for to in 1..=count {
@@ -41,7 +44,7 @@ fn mute_all(world: &mut World<'_>, count: u8) -> Result<(), SimFault> {
     Ok(())
 }
 
-/// The lines that ask for the reports of so many nodes.
+/// The lines that ask for the reports of this many nodes.
 fn ask_all(world: &mut World<'_>, count: u8) -> Result<Vec<Command>, SimFault>
     requires few { count ≤ 8 }
     ensures names { IfOk result (λ commands. All NamesNodes commands.items) }
@@ -73,15 +76,24 @@ fn finish(world: &mut World<'_>) -> Result<String, SimFault> {
     Ok(reports_of(world.alloc, &world.network, commands.as_slice())?)
 }
 
-/// Simulates a plan by a seed.
-pub fn simulate(alloc: Global, plan: &Plan, seed: u64) -> Result<Simulated, SimFault> {
-    let mut world = World::new(alloc, plan, seed)?;
+/// Plays all that happens, and then asks for the reports.
+fn run_to_the_end(world: &mut World<'_>) -> Result<String, SimFault> {
     world.begin()?;
     for _ in 0..MOST_TIMES {
         if !world.next()? {
             break;
         }
     }
-    let reports = finish(&mut world)?;
-    Ok(world.into_simulated(reports))
+    finish(world)
+}
+
+/// Simulates a plan with a seed. Refused by `Sets` if the plan's lines that give quorum sets are bad.
+pub fn simulate(alloc: Global, plan: &Plan, seed: u64) -> Result<Simulated, SimFault>
+    ensures { IfOk result (λ run. IsSimulated plan.now (string_bytes run.script)) }
+{
+    see_numbers(plan);
+    let first = beginning(alloc, plan)?;
+    let mut world = World::new(alloc, plan, seed, first.as_str())?;
+    let reports = run_to_the_end(&mut world)?;
+    Ok(world.into_simulated(first, reports)?)
 }

@@ -1,16 +1,16 @@
-//! Slots: what is proposed for them, and how far nodes are.
+//! Slots: what is proposed for them, and how far the nodes are.
 
 use crate::chance::{happens, within};
 use crate::due::Due;
 use crate::world::{SimFault, World};
 use scp_core::Command as LocalCommand;
 use scp_driver::place_of;
-use scp_plan::Proposers;
+use scp_sim_options::Proposers;
 use scp_text::value_of;
 use scp_types::{Slot, Value};
 
 impl<'a> World<'a> {
-    /// The value that someone proposes for a slot.
+    /// The value that an actor proposes for a slot.
     pub fn value(&self, who: usize, slot: Slot) -> Result<Option<Value>, SimFault> {
         let Some(actor) = self.actors.as_slice().get(who) else {
             return Ok(None);
@@ -28,7 +28,7 @@ impl<'a> World<'a> {
         }
     }
 
-    /// Whether someone proposed a value for the slot.
+    /// Whether an actor proposed a value for the slot.
     fn has_proposal(&self, who: usize, slot: Slot) -> bool {
         match self.node_of(who) {
             Some(node) => match node.ledger().machine(slot) {
@@ -39,7 +39,7 @@ impl<'a> World<'a> {
         }
     }
 
-    /// Someone proposes a value for a slot.
+    /// An actor proposes a value for a slot.
     pub fn propose(&mut self, who: usize, slot: Slot) -> Result<(), SimFault> {
         if self.has_proposal(who, slot) {
             return Ok(());
@@ -50,7 +50,7 @@ impl<'a> World<'a> {
         }
     }
 
-    /// Whether someone is to propose a value for a slot.
+    /// Whether a node is to propose a value for a slot.
     pub fn proposes(&mut self, number: u8, slot: u64) -> bool {
         let count = usize::from(self.plan.nodes);
         match self.plan.propose {
@@ -62,7 +62,7 @@ impl<'a> World<'a> {
         }
     }
 
-    /// How many slots the node of this number applied.
+    /// How many slots the node with this number applied.
     pub fn applied_of(&self, number: u8) -> usize {
         match usize::from(number).checked_sub(1) {
             Some(place) => match self.network.nodes().get(place) {
@@ -78,7 +78,7 @@ impl<'a> World<'a> {
         self.applied_of(node) as u64 >= self.plan.slots
     }
 
-    /// Someone applied what it applied, and proposes a value for the next slot.
+    /// Notes how many slots an actor has applied, and plans its proposal for the next slot, if it has one to make.
     pub fn go_on(&mut self, who: usize) -> Result<(), SimFault> {
         let applied = match self.node_of(who) {
             Some(node) => node.applied().len(),
@@ -118,7 +118,7 @@ impl<'a> World<'a> {
         Ok(())
     }
 
-    /// Where no value is proposed for the slot that doesn't come on, one may be.
+    /// If no value is proposed for the slot that makes no progress, the node may propose one.
     pub fn propose_anew(&mut self, number: u8) {
         let now = self.now;
         for actor in self.actors.as_mut_slice() {

@@ -1,12 +1,12 @@
-//! One time after the other: what happens at it, and the rest behind it.
+//! One point in time after the other: what happens at it, and then how the nodes come to rest.
 
 use crate::due::Due;
 use crate::world::{PATIENCE, SimFault, World};
-use scp_plan::is_marked;
 use scp_script::Command;
+use scp_sim_options::is_marked;
 
 impl<'a> World<'a> {
-    /// Something happens.
+    /// Plays one thing that is due.
     pub fn happen(&mut self, due: Due) -> Result<(), SimFault> {
         match due {
             Due::Arrives {
@@ -23,7 +23,7 @@ impl<'a> World<'a> {
         }
     }
 
-    /// All come to rest, and what they have to say goes out.
+    /// Brings all actors to rest, and sends what they have to say.
     pub fn rest(&mut self) -> Result<(), SimFault> {
         self.act(Command::Settle)?;
         for actor in self.actors.as_mut_slice() {
@@ -50,13 +50,13 @@ impl<'a> World<'a> {
         !is_marked(&self.plan.equivocating, node) && !is_marked(&self.plan.flooding, node)
     }
 
-    /// Whether the run is over: all that are judged applied all slots, or nothing goes on.
+    /// Whether the run is over: all judged nodes applied all slots, or there is no more progress.
     pub fn has_ended(&self) -> bool {
         let is_stuck = self.now.saturating_sub(self.moved) > PATIENCE && !self.is_to_change();
         is_stuck || self.is_all_over()
     }
 
-    /// Whether all that are judged applied all slots.
+    /// Whether all judged nodes applied all slots.
     pub fn is_all_over(&self) -> bool {
         for number in 1..=self.plan.nodes {
             if self.is_judged(number) && !self.is_over(number) {
@@ -66,7 +66,7 @@ impl<'a> World<'a> {
         true
     }
 
-    /// All that happens at the next time. Whether anything is to come.
+    /// Plays all that happens at the next point in time. Returns whether anything more is due.
     pub fn next(&mut self) -> Result<bool, SimFault> {
         let Some(time) = self.agenda.next_time() else {
             return Ok(false);

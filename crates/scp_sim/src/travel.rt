@@ -1,4 +1,4 @@
-//! Messages on their way: lost, late, doubled.
+//! Messages on their way: lost, delayed, or doubled.
 
 use crate::chance::{happens, within};
 use crate::due::Due;
@@ -9,7 +9,7 @@ use scp_script::Command;
 use scp_wire::Bytes;
 
 impl<'a> World<'a> {
-    /// A message goes from a node to another: it is lost, or comes once, or twice.
+    /// Sends a message from one node to another. It is lost, or arrives once or twice.
     pub fn post(&mut self, from: u8, to: u8, bytes: Bytes) -> Result<(), SimFault> {
         self.counts.sent = self.counts.sent.saturating_add(1);
         if happens(&mut self.rng, self.plan.drop) {
@@ -24,7 +24,7 @@ impl<'a> World<'a> {
         self.travel(from, to, bytes)
     }
 
-    /// A message travels, and comes at some time.
+    /// Sends a message that isn't lost. It arrives at some later time.
     pub fn travel(&mut self, from: u8, to: u8, bytes: Bytes) -> Result<(), SimFault> {
         let mut link = self.links.get(from, to);
         let mut time = self
@@ -48,7 +48,7 @@ impl<'a> World<'a> {
         Ok(())
     }
 
-    /// A message comes to a node, unless its link was lost.
+    /// A message arrives at a node, unless its link was closed.
     pub fn arrive(&mut self, from: u8, to: u8, life: u64, bytes: Bytes) -> Result<(), SimFault> {
         let mut link = self.links.get(from, to);
         if !link.is_open || link.life != life {

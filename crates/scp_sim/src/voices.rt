@@ -1,4 +1,4 @@
-//! What goes out: what nodes say, what they say once more, and what a flood is made of.
+//! What is sent: what nodes say, what they send once more, and what a flood consists of.
 
 use crate::due::Due;
 use crate::newest::newest;
@@ -6,12 +6,12 @@ use crate::world::{FLOOD, SimFault, World};
 use rand_core::Rng;
 use scp_core::{Event, Reply};
 use scp_network::link_from;
-use scp_plan::is_marked;
+use scp_sim_options::is_marked;
 use scp_text::message_of;
 use scp_wire::{Bytes, encode};
 
 impl<'a> World<'a> {
-    /// What a node said last is said once more to another.
+    /// A node sends its newest messages once more to another node.
     pub fn say_again(&mut self, from: u8, to: u8) -> Result<(), SimFault> {
         if is_marked(&self.plan.silent, from) || !self.links.get(from, to).is_open {
             return Ok(());
@@ -29,7 +29,7 @@ impl<'a> World<'a> {
         Ok(())
     }
 
-    /// A statement of a node with the hash of a quorum set that nobody has.
+    /// A statement of a node with the hash of a quorum set that no node has.
     pub fn strange(&mut self, node: u8) -> Result<Option<Bytes>, SimFault> {
         let mut hash = [0; 32];
         self.rng.fill_bytes(&mut hash);
@@ -47,7 +47,7 @@ impl<'a> World<'a> {
         }
     }
 
-    /// A node says what is old, and what can't be judged.
+    /// A node sends once more what it sent before, and messages that can't be judged.
     pub fn flood(&mut self, node: u8) -> Result<(), SimFault> {
         self.agenda
             .put(self.now.saturating_add(FLOOD), Due::Floods { node })?;
@@ -67,7 +67,7 @@ impl<'a> World<'a> {
         Ok(())
     }
 
-    /// What someone has to say to a node goes out.
+    /// Sends what an actor has to say to a node.
     pub fn hand_out(&mut self, who: usize, to: u8) -> Result<(), SimFault> {
         let number = match self.actors.as_slice().get(who) {
             Some(actor) => actor.number,
@@ -93,7 +93,8 @@ impl<'a> World<'a> {
         Ok(())
     }
 
-    /// Whether someone speaks to a node: of a node that equivocates the one self to the first half of all, the other to the second.
+    /// Whether an actor speaks to a node, over an open link. A silent node speaks to none. A node that equivocates speaks to the first
+    /// half of all nodes, and its twin to the second half.
     pub fn speaks(&self, who: usize, to: u8) -> bool {
         let Some(actor) = self.actors.as_slice().get(who) else {
             return false;
@@ -110,7 +111,7 @@ impl<'a> World<'a> {
         actor.twin.is_some() == (to > self.plan.nodes / 2)
     }
 
-    /// What all have to say goes out.
+    /// Sends what all actors have to say.
     pub fn hand_out_all(&mut self) -> Result<(), SimFault> {
         for who in 0..self.actors.len() {
             for to in 1..=self.plan.nodes {

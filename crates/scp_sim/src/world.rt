@@ -1,38 +1,41 @@
-//! Nodes, their links, and what is to happen, at a time; and the script of all that happened.
-ghost use Rattle.std.specs.Prelude.{◌≤◌, [], All};
+//! Nodes, their links and what is due at a point in time, and the script of all that happened.
+ghost use Rattle.std.specs.Prelude.{◌≤◌, [], All, IfOk, OnOk, string_bytes};
 ghost use Rattle.scp_script.specs.Nodes.{NamesNodes};
 ghost use Rattle.scp_script.specs.Script.{AreAdmitted};
+ghost use Rattle.scp_sim.specs.inside.Follows.{IsRead, Follows};
 
 use crate::actor::Actor;
 use crate::due::{Agenda, Due};
+use crate::first::read_first;
+use crate::lines::Happened;
 use crate::links::Links;
 use rand_chacha::ChaCha12Rng;
 use rand_core::SeedableRng;
 use scp_core::{Capacities, Config, KvDriver, Node, Peers};
 use scp_line::{PlayFault, a_script_has_room, new_network};
 use scp_network::Network;
-use scp_plan::{Plan, is_marked};
 use scp_script::{capacities_of, count_of_nodes, id_from, peers_of_node, set_of_node};
-use scp_trace_lint::{LintFault, Script, read};
+use scp_script_check::{ReadFault, Script};
+use scp_sim_options::{Plan, is_marked};
 use scp_types::Fault;
 use std::alloc::{AllocError, AllocFailed, Global};
 
-/// Of a second a thousand.
+/// Milliseconds in a second.
 pub const SECOND: u64 = 1_000;
-/// After so many seconds without a slot a node says once more what it said, and asks for records.
+/// After this many milliseconds without an applied slot, a node sends its messages once more, and asks for records.
 pub const STALLED: u64 = 5 * SECOND;
-/// After so many seconds without a slot, and nothing to be linked, a run ends.
+/// After this many milliseconds without an applied slot, and with no change of links to come, a run ends.
 pub const PATIENCE: u64 = 120 * SECOND;
-/// How often a node that floods does.
+/// The milliseconds between two floods of a node.
 pub const FLOOD: u64 = SECOND / 10;
 
-/// Why nothing was simulated, or not to its end.
+/// Why nothing was simulated, or not to the end.
 #[derive(Clone, Copy, Debug, PartialEq, Eq)]
 pub enum SimFault {
     NoMemory,
-    /// The lines that give quorum sets are refused.
-    Sets(LintFault),
-    /// A line wasn't done.
+    /// The lines that give quorum sets are bad.
+    Sets(ReadFault),
+    /// A line was refused when it was played.
     Stopped(PlayFault),
 }
 
@@ -71,7 +74,7 @@ impl From<PlayFault> for SimFault {
     }
 }
 
-/// What became of messages and timers, in counts.
+/// Counts of messages and timers.
 #[derive(Clone, Copy, Debug, PartialEq, Eq)]
 pub struct Counts {
     pub sent: u64,
@@ -82,7 +85,7 @@ pub struct Counts {
     pub asked: u64,
 }
 
-/// What was simulated.
+/// The result of a simulation.
 #[derive(Drop)]
 pub struct Simulated {
     /// The script of all that happened, in digits.
@@ -94,23 +97,24 @@ pub struct Simulated {
     pub counts: Counts,
 }
 
-/// Nodes, their links, and what is to happen.
+/// Nodes, their links, and what is due.
 pub struct World<'a> {
     pub alloc: Global,
     pub plan: &'a Plan,
     pub rng: ChaCha12Rng,
     pub now: u64,
     pub network: Network,
-    pub script: String,
+    /// What happened, as the lines of a script.
+    pub happened: Happened,
     pub agenda: Agenda,
     pub links: Links,
     pub actors: Vec<Actor>,
     pub counts: Counts,
-    /// When a judged node applied a slot last.
+    /// When a judged node last applied a slot.
     pub moved: u64,
 }
 
-// (written out, so that whoever lets one go has one call to prove)
+// (written out, so that whoever drops one has one call to prove)
 impl<'a> Drop for World<'a> {
     fn drop(self) {
         let World {
@@ -119,7 +123,7 @@ impl<'a> Drop for World<'a> {
             rng: _,
             now: _,
             network: _,
-            script: _,
+            happened: _,
             agenda: _,
             links: _,
             actors: _,
@@ -129,15 +133,7 @@ impl<'a> Drop for World<'a> {
     }
 }
 
-/// The first lines of the script: how many nodes there are, and their quorum sets.
-fn beginning(alloc: Global, plan: &Plan) -> Result<String, AllocError> {
-    let mut text = String::new(alloc);
-    writeln!(text, "nodes {} {}", plan.nodes, plan.need)?;
-    text.push_str(plan.sets.as_str())?;
-    Ok(text)
-}
-
-/// The second self of a node.
+/// The twin of a node.
 fn twin_of(alloc: Global, script: &Script, count: u8, number: u8) -> Result<Node, Fault>
     requires names { All NamesNodes script.now.commands.items }
     requires admitted { AreAdmitted [] script.now.commands.items }
@@ -159,7 +155,7 @@ fn twin_of(alloc: Global, script: &Script, count: u8, number: u8) -> Result<Node
     Node::new(alloc, config, KvDriver)
 }
 
-/// Someone who did nothing yet.
+/// An actor that did nothing yet.
 fn actor(alloc: Global, number: u8, twin: Option<Node>) -> Actor {
     Actor {
         number,
@@ -171,7 +167,7 @@ fn actor(alloc: Global, number: u8, twin: Option<Node>) -> Actor {
     }
 }
 
-/// All who do something.
+/// All actors: the nodes, and the twins of those that equivocate.
 fn actors_of(alloc: Global, plan: &Plan, script: &Script, count: u8) -> Result<Vec<Actor>, Fault>
     requires names { All NamesNodes script.now.commands.items }
     requires admitted { AreAdmitted [] script.now.commands.items }
@@ -190,7 +186,7 @@ fn actors_of(alloc: Global, plan: &Plan, script: &Script, count: u8) -> Result<V
     Ok(actors)
 }
 
-/// On each link the script alone sends.
+/// Makes the script alone decide what is sent on each link.
 fn drive_all(network: &mut Network, count: u8) {
     for from in 1..=count {
         for to in 1..=count {
@@ -200,15 +196,13 @@ fn drive_all(network: &mut Network, count: u8) {
 }
 
 impl<'a> World<'a> {
-    /// A world in which nothing happened yet.
-    pub fn new(alloc: Global, plan: &'a Plan, seed: u64) -> Result<World<'a>, SimFault> {
+    /// A world in which nothing happened yet, from a plan and the first lines of its script.
+    pub fn new(alloc: Global, plan: &'a Plan, seed: u64, text: &str) -> Result<World<'a>, SimFault>
+        ensures { OnOk result (IsRead text.now) }
+    {
         a_script_has_room();
-        let text = beginning(alloc, plan)?;
-        let script = match read(alloc, text.as_bytes()) {
-            Ok(script) => script,
-            Err(LintFault::NoMemory) => return Err(SimFault::NoMemory),
-            Err(fault) => return Err(SimFault::Sets(fault)),
-        };
+        let script = read_first(alloc, text)?;
+        let links = Links::new(alloc)?;
         let mut network = new_network(alloc, script.commands.as_slice())?;
         drive_all(&mut network, plan.nodes);
         let count = count_of_nodes(script.commands.as_slice());
@@ -219,9 +213,9 @@ impl<'a> World<'a> {
             rng: ChaCha12Rng::seed_from_u64(seed),
             now: 0,
             network,
-            script: text,
+            happened: Happened::new(alloc),
             agenda: Agenda::new(alloc),
-            links: Links::new(alloc)?,
+            links,
             actors,
             counts: Counts {
                 sent: 0,
@@ -235,30 +229,35 @@ impl<'a> World<'a> {
         })
     }
 
-    /// What was simulated, with these reports of its nodes.
-    pub fn into_simulated(self, reports: String) -> Simulated {
+    /// The result of the simulation, from the first lines of its script and the reports of its nodes.
+    #[tactic(auto, using(crate::proofs::Happened::follows))]
+    pub fn into_simulated(self, first: String, reports: String) -> Result<Simulated, AllocError>
+        ensures { IfOk result (λ run. Follows (string_bytes first) (string_bytes run.script)) }
+    {
         let World {
             alloc: _,
             plan: _,
             rng: _,
             now,
             network: _,
-            script,
+            happened,
             agenda: _,
             links: _,
             actors: _,
             counts,
             moved: _,
         } = self;
-        Simulated {
+        let mut script = first;
+        script.push_str(happened.text())?;
+        Ok(Simulated {
             script,
             reports,
             time: now,
             counts,
-        }
+        })
     }
 
-    /// What is to happen from the start on.
+    /// Adds what is due from the start on.
     pub fn begin(&mut self) -> Result<(), SimFault> {
         self.agenda.put(0, Due::Relinks)?;
         for partition in self.plan.partitions.as_slice() {

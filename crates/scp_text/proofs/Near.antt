@@ -4,20 +4,20 @@ use Rattle.std.specs.Prelude.{if◌then◌else◌, slice_get, codes}
 use Rattle.std.specs.Option.{unwrap_or}
 use Rattle.scp_envelope.specs.declared.statement.Pledges.{Pledges}
 use Rattle.scp_wire.specs.declared.message.Message.{Message}
-use Rattle.scp_text.specs.declared.refusal.Refusal.{Refusal}
-use Rattle.scp_text.specs.declared.refusal.Expected.{Expected}
+use Rattle.scp_device.specs.declared.bad.BadWord.{BadWord}
+use Rattle.scp_device.specs.declared.bad.Expected.{Expected}
 use Rattle.scp_text.specs.Pieces.{same}
 use Rattle.scp_text.specs.Messages.{◌>>=◌, or_refused, said_by, at, no_word, ended, signature_in, signature_by, signature_at, nominate_in, prepare_in, confirm_in, externalize_in, envelope_in, get_set_in, the_set_in, no_set_in, get_record_in, record_in, records_in, envelope_by, message_by, message_in}
 
-abbrev pub IsSmall : {A : Type 0} → Result A Refusal → Type 0
+abbrev pub IsSmall : {A : Type 0} → Result A BadWord → Type 0
 IsSmall (Ok x) = Unit {0}
 IsSmall (Err e) = e.word ≤ 16
 
-bind_small : {A B : Type 0} (r : Result A Refusal) (f : A → Result B Refusal) → IsSmall r → ((x : A) → IsSmall (f x)) → IsSmall (r >>= f)
+bind_small : {A B : Type 0} (r : Result A BadWord) (f : A → Result B BadWord) → IsSmall r → ((x : A) → IsSmall (f x)) → IsSmall (r >>= f)
 bind_small (Ok x) f h g = g x
 bind_small (Err e) f h g = h
 
-if_small : {A : Type 0} (b : Bool) (x y : Result A Refusal) → IsSmall x → IsSmall y → IsSmall (if b then x else y)
+if_small : {A : Type 0} (b : Bool) (x y : Result A BadWord) → IsSmall x → IsSmall y → IsSmall (if b then x else y)
 if_small true x y h g = h
 if_small false x y h g = g
 
@@ -65,7 +65,7 @@ externalize_small : (words : List (List ℕ)) → IsSmall (externalize_in words)
 unfolding externalize_in
 externalize_small words = bind_small _ _ (at_small _ _ words 3 (omega arith)) (λ a. bind_small _ _ (at_small _ _ words 4 (omega arith)) (λ b. bind_small _ _ (at_small _ _ words 5 (omega arith)) (λ c. tt)))
 
-envelope_small : (pledges_in : List (List ℕ) → Result Pledges Refusal) (place : ℕ) (words : List (List ℕ)) → IsSmall (pledges_in words) → place + 2 ≤ 16 → IsSmall (envelope_in pledges_in place words)
+envelope_small : (pledges_in : List (List ℕ) → Result Pledges BadWord) (place : ℕ) (words : List (List ℕ)) → IsSmall (pledges_in words) → place + 2 ≤ 16 → IsSmall (envelope_in pledges_in place words)
 unfolding envelope_in
 envelope_small pledges_in place words h few =
     bind_small _ _ (at_small _ _ words 1 (omega arith)) (λ a. bind_small _ _ (at_small _ _ words 2 (omega arith)) (λ b. bind_small _ _ h (λ c. bind_small _ _ (signature_small words place few) (λ d. tt))))
@@ -112,5 +112,5 @@ message_small words =
     (if_small (same verb (codes "set")) _ _ (the_set_small words)
     (if_small (same verb (codes "noset")) _ _ (no_set_small words) (envelope_by_small verb words))))))
 
-pub near_refusal : (words : List (List ℕ)) (refusal : Refusal) → message_in words ≡ Err refusal → refusal.word ≤ 16
+pub near_refusal : (words : List (List ℕ)) (refusal : BadWord) → message_in words ≡ Err refusal → refusal.word ≤ 16
 near_refusal words refusal h = subst IsSmall h (message_small words)

@@ -20,11 +20,11 @@ use Rattle.scp_wire.specs.Message.{message_value, FitsMessage}
 use Rattle.scp_text.specs.Pieces.{and_then, same, listed, bracketed, inside, items_in, all_of, number_in, digits_in}
 use Rattle.scp_text.specs.Values.{value_text, value_in}
 use Rattle.scp_text.specs.Sets.{node_text, node_in, hash_text, hash_in, set_text, set_in, counter_in}
-use Rattle.scp_text.specs.declared.refusal.Refusal.{Refusal}
-use Rattle.scp_text.specs.declared.refusal.TextError.{TextError}
-use Rattle.scp_text.specs.declared.refusal.TextError.TheVariants.{NoMemory, Refused}
-use Rattle.scp_text.specs.declared.refusal.Expected.{Expected}
-use Rattle.scp_text.specs.declared.refusal.Expected.TheVariants.{AMessage, ASlot, AValue, Values, AHash, ASet, ANode, ABallot, ACounter, Votes, Accepted, Prepared, Prime, Commit, ASignature, NoMore, WithinLimits}
+use Rattle.scp_device.specs.declared.bad.BadWord.{BadWord}
+use Rattle.scp_device.specs.declared.bad.WordFault.{WordFault}
+use Rattle.scp_device.specs.declared.bad.WordFault.TheVariants.{NoMemory, Bad}
+use Rattle.scp_device.specs.declared.bad.Expected.{Expected}
+use Rattle.scp_device.specs.declared.bad.Expected.TheVariants.{AMessage, ASlot, AValue, Values, AHash, ASet, AnyNode, ABallot, ACounter, Votes, Accepted, Prepared, Prime, Commit, ASignature, NoMore, WithinLimits}
 
 -- ---- written
 
@@ -91,12 +91,12 @@ message_text message = listed 32 true (message_words message)
 
 infixl 10 ◌>>=◌
 -- one reading after another; the first refusal stays
-abbrev pub ◌>>=◌ : {A B : Type 0} → Result A Refusal → (A → Result B Refusal) → Result B Refusal
+abbrev pub ◌>>=◌ : {A B : Type 0} → Result A BadWord → (A → Result B BadWord) → Result B BadWord
 (Ok x) >>= f = f x
 (Err e) >>= f = Err e
 
 -- what was found, or the refusal of the word at this place
-abbrev pub or_refused : {A : Type 0} → Option A → ℕ → Expected → Result A Refusal
+abbrev pub or_refused : {A : Type 0} → Option A → ℕ → Expected → Result A BadWord
 or_refused (Some x) place expected = Ok x
 or_refused None place expected = Err (record { word = place; expected = expected })
 
@@ -106,16 +106,16 @@ said_by says (Some word) = says word
 said_by says None = None
 
 -- what the word at a place, from 0 on, says; places are told from 1 on
-unfoldable pub at : {A : Type 0} → (List ℕ → Option A) → Expected → List (List ℕ) → ℕ → Result A Refusal
+unfoldable pub at : {A : Type 0} → (List ℕ → Option A) → Expected → List (List ℕ) → ℕ → Result A BadWord
 at says expected words place = or_refused (said_by says (slice_get words place)) (place + 1) expected
 
 -- no word stands there, or that word is refused
-abbrev pub no_word : Option (List ℕ) → ℕ → Result Bool Refusal
+abbrev pub no_word : Option (List ℕ) → ℕ → Result Bool BadWord
 no_word None place = Ok true
 no_word (Some word) place = Err (record { word = place; expected = NoMore })
 
 -- no word stands at the place
-unfoldable pub ended : List (List ℕ) → ℕ → Result Bool Refusal
+unfoldable pub ended : List (List ℕ) → ℕ → Result Bool BadWord
 ended words place = no_word (slice_get words place) (place + 1)
 
 -- NAME(N,VALUE)
@@ -142,7 +142,7 @@ unfoldable pub signature_in : List ℕ → Option (List ℕ)
 signature_in word = and_then (inside (codes "sig(") word) (λ inner. digits_in inner)
 
 -- the signature that the last word says, no word behind it; an empty one where there is no word
-abbrev pub signature_by : Option (List ℕ) → List (List ℕ) → ℕ → Result (List ℕ) Refusal
+abbrev pub signature_by : Option (List ℕ) → List (List ℕ) → ℕ → Result (List ℕ) BadWord
 signature_by None words place = Ok []
 signature_by (Some word) words place = do
   signature ← or_refused (signature_in word) (place + 1) ASignature
@@ -150,7 +150,7 @@ signature_by (Some word) words place = do
   Ok signature
 
 -- the signature at a place, where the words end, or none
-unfoldable pub signature_at : List (List ℕ) → ℕ → Result (List ℕ) Refusal
+unfoldable pub signature_at : List (List ℕ) → ℕ → Result (List ℕ) BadWord
 signature_at words place = signature_by (slice_get words place) words place
 
 -- the slot that a word says
@@ -158,7 +158,7 @@ abbrev pub slot_in : List ℕ → Option Slot
 slot_in word = option_map (λ number. record { 0 = number }) (number_in word)
 
 -- the NOMINATE that words say, behind its kind, node and slot
-unfoldable pub nominate_in : List (List ℕ) → Result Pledges Refusal
+unfoldable pub nominate_in : List (List ℕ) → Result Pledges BadWord
 nominate_in words = do
   set_hash ← at hash_in AHash words 3
   votes ← at (values_in (codes "votes(")) Votes words 4
@@ -166,7 +166,7 @@ nominate_in words = do
   Ok (Nominating (record { set_hash = set_hash; votes = votes; accepted = accepted }))
 
 -- the PREPARE that words say, behind its kind, node and slot
-unfoldable pub prepare_in : List (List ℕ) → Result Pledges Refusal
+unfoldable pub prepare_in : List (List ℕ) → Result Pledges BadWord
 prepare_in words = do
   set_hash ← at hash_in AHash words 3
   ballot ← at (ballot_in (codes "ballot(")) ABallot words 4
@@ -177,7 +177,7 @@ prepare_in words = do
   Ok (Preparing (record { set_hash = set_hash; ballot = ballot; prepared = prepared; prepared_prime = prime; n_commit = n_commit; n_high = n_high }))
 
 -- the CONFIRM that words say, behind its kind, node and slot
-unfoldable pub confirm_in : List (List ℕ) → Result Pledges Refusal
+unfoldable pub confirm_in : List (List ℕ) → Result Pledges BadWord
 confirm_in words = do
   set_hash ← at hash_in AHash words 3
   ballot ← at (ballot_in (codes "ballot(")) ABallot words 4
@@ -187,7 +187,7 @@ confirm_in words = do
   Ok (Confirming (record { ballot = ballot; n_prepared = n_prepared; n_commit = n_commit; n_high = n_high; set_hash = set_hash }))
 
 -- the EXTERNALIZE that words say, behind its kind, node and slot
-unfoldable pub externalize_in : List (List ℕ) → Result Pledges Refusal
+unfoldable pub externalize_in : List (List ℕ) → Result Pledges BadWord
 externalize_in words = do
   set_hash ← at hash_in AHash words 3
   commit ← at (ballot_in (codes "commit(")) Commit words 4
@@ -195,44 +195,44 @@ externalize_in words = do
   Ok (Externalizing (record { commit = commit; n_high = n_high; set_hash = set_hash }))
 
 -- an envelope by what reads its pledges, and the place behind these
-unfoldable pub envelope_in : (List (List ℕ) → Result Pledges Refusal) → ℕ → List (List ℕ) → Result Message Refusal
+unfoldable pub envelope_in : (List (List ℕ) → Result Pledges BadWord) → ℕ → List (List ℕ) → Result Message BadWord
 envelope_in pledges_in place words = do
-  node ← at node_in ANode words 1
+  node ← at node_in AnyNode words 1
   slot ← at slot_in ASlot words 2
   pledges ← pledges_in words
   signature ← signature_at words place
   Ok (Envelope (record { value = record { statement = record { node = node; slot = slot; pledges = pledges }; signature = signature } }))
 
 -- the request for a quorum set that words say
-unfoldable pub get_set_in : List (List ℕ) → Result Message Refusal
+unfoldable pub get_set_in : List (List ℕ) → Result Message BadWord
 get_set_in words = do
   hash ← at hash_in AHash words 1
   done ← ended words 2
   Ok (GetSet hash)
 
 -- the message with a quorum set that words say
-unfoldable pub the_set_in : List (List ℕ) → Result Message Refusal
+unfoldable pub the_set_in : List (List ℕ) → Result Message BadWord
 the_set_in words = do
   set ← at set_in ASet words 1
   done ← ended words 2
   Ok (Set set)
 
 -- the message that a quorum set isn't there, as words say it
-unfoldable pub no_set_in : List (List ℕ) → Result Message Refusal
+unfoldable pub no_set_in : List (List ℕ) → Result Message BadWord
 no_set_in words = do
   hash ← at hash_in AHash words 1
   done ← ended words 2
   Ok (NoSet hash)
 
 -- the request for a record that words say
-unfoldable pub get_record_in : List (List ℕ) → Result Message Refusal
+unfoldable pub get_record_in : List (List ℕ) → Result Message BadWord
 get_record_in words = do
   slot ← at slot_in ASlot words 1
   done ← ended words 2
   Ok (GetRecord slot)
 
 -- the record that words say
-unfoldable pub record_in : List (List ℕ) → Result Message Refusal
+unfoldable pub record_in : List (List ℕ) → Result Message BadWord
 record_in words = do
   slot ← at slot_in ASlot words 1
   value ← at value_in AValue words 2
@@ -240,7 +240,7 @@ record_in words = do
   Ok (Record slot value)
 
 -- the batch of records that words say
-unfoldable pub records_in : List (List ℕ) → Result Message Refusal
+unfoldable pub records_in : List (List ℕ) → Result Message BadWord
 records_in words = do
   first ← at slot_in ASlot words 1
   values ← at (values_in (codes "values(")) Values words 2
@@ -248,7 +248,7 @@ records_in words = do
   Ok (Records first values)
 
 -- the envelope that words say, by the first of them
-abbrev pub envelope_by : List ℕ → List (List ℕ) → Result Message Refusal
+abbrev pub envelope_by : List ℕ → List (List ℕ) → Result Message BadWord
 envelope_by verb words =
     if same verb (codes "nominate") then envelope_in nominate_in 6 words
     else (if same verb (codes "prepare") then envelope_in prepare_in 9 words
@@ -257,7 +257,7 @@ envelope_by verb words =
     else Err (record { word = 1; expected = AMessage }))))
 
 -- the message that words say, by the first of them
-abbrev pub message_by : List ℕ → List (List ℕ) → Result Message Refusal
+abbrev pub message_by : List ℕ → List (List ℕ) → Result Message BadWord
 message_by verb words =
     if same verb (codes "record") then record_in words
     else (if same verb (codes "records") then records_in words
@@ -268,7 +268,7 @@ message_by verb words =
     else envelope_by verb words)))))
 
 -- the message that the words say, or the first word that is refused, and what was expected there
-unfoldable pub message_in : List (List ℕ) → Result Message Refusal
+unfoldable pub message_in : List (List ℕ) → Result Message BadWord
 message_in words = message_by (unwrap_or (slice_get words 0) []) words
 
 -- the words of a text, parted by single spaces
@@ -276,19 +276,19 @@ abbrev pub words_of : List ℕ → List (List ℕ)
 words_of text = slice_split (λ byte. byte == 32) text
 
 -- what a call that reads may answer: want of memory, or this
-abbrev pub Answers : {A : Type 0} → Result A TextError → Result A Refusal → Type 0
+abbrev pub Answers : {A : Type 0} → Result A WordFault → Result A BadWord → Type 0
 Answers (Ok x) reading = reading ≡ Ok x
 Answers (Err NoMemory) reading = Unit {0}
-Answers (Err (Refused refusal)) reading = reading ≡ Err refusal
+Answers (Err (Bad refusal)) reading = reading ≡ Err refusal
 
 -- why words are read as no message: want of memory, the first word that is refused, or a limit of the whole
-abbrev pub IsRefusedMessage : List (List ℕ) → TextError → Type 0
+abbrev pub IsRefusedMessage : List (List ℕ) → WordFault → Type 0
 IsRefusedMessage words NoMemory = Unit {0}
-IsRefusedMessage words (Refused refusal) =
+IsRefusedMessage words (Bad refusal) =
     (message_in words ≡ Err refusal)
     ⊎ ((m : Message) × (message_in words ≡ Ok m) × (¬ (FitsMessage (message_value m))) × (refusal ≡ record { word = 1; expected = WithinLimits }))
 
 -- the word is one of the first 16
-abbrev pub IsNear : TextError → Type 0
+abbrev pub IsNear : WordFault → Type 0
 IsNear NoMemory = Unit {0}
-IsNear (Refused refusal) = refusal.word ≤ 16
+IsNear (Bad refusal) = refusal.word ≤ 16

@@ -12,7 +12,6 @@
 mod laws;
 mod message;
 mod pieces;
-mod refusal;
 mod set;
 mod single;
 mod term;
@@ -20,7 +19,7 @@ mod value;
 
 pub use laws::what_is_written_says_it;
 pub use message::{message_of, message_of_words, text_of, words};
-pub use refusal::{Expected, Refusal, TextError};
+pub use scp_device::{BadLine, BadWord, Expected, ReadFault, WordFault};
 pub use single::{set_of, text_of_set, text_of_value, value_of};
 pub use term::Term;
 pub use value::write_bytes;

@@ -8,8 +8,8 @@ ghost use Rattle.scp_text.specs.Pieces.{items_in, listed};
 ghost use Rattle.scp_text.specs.Messages.{IsNear, envelope_by, words_with, nominate_words, prepare_words, confirm_words, externalize_words, pledges_words, IsRefusedMessage, at, or_refused, ended, ballot_from, record_in, records_in, get_record_in, get_set_in, the_set_in, no_set_in, signature_at, signature_words, ballot_text, optional_text, values_text, ballot_in, optional_in, values_in, signature_in, words_of, message_text, nominate_in, prepare_in, confirm_in, externalize_in, envelope_in, message_by, message_in, Answers};
 
 use crate::pieces::{digits, inside, items, write_digits};
-use crate::refusal::{Expected, Refusal, TextError};
 use crate::term::{Term, read_all, write_all};
+use scp_device::{BadWord, Expected, WordFault};
 use scp_envelope::{
     Confirm, Envelope, Externalize, Nominate, Pledges, Prepare, Signature, Statement, ValueList,
 };
@@ -18,12 +18,12 @@ use scp_wire::{BoxedEnvelope, Message, encode};
 use std::alloc::{AllocError, Global};
 
 /// What was found, or that the word at the place, from 1 on, is refused.
-fn or_refused<T: Drop>(found: Option<T>, word: usize, expected: Expected) -> Result<T, TextError>
+fn or_refused<T: Drop>(found: Option<T>, word: usize, expected: Expected) -> Result<T, WordFault>
     ensures { Answers result (or_refused found word expected) }
 {
     match found {
         Some(term) => Ok(term),
-        None => Err(TextError::Refused(Refusal { word, expected })),
+        None => Err(WordFault::Bad(BadWord { word, expected })),
     }
 }
 
@@ -34,7 +34,7 @@ fn term_at<T: Term>(
     words: &[&[u8]],
     place: usize,
     expected: Expected,
-) -> Result<T, TextError>
+) -> Result<T, WordFault>
     requires { place < 64 }
     ensures { Answers result (at T.reads expected (map (λ word. word.now) words.now) place) }
 {
@@ -130,7 +130,7 @@ fn ballot_at(
     words: &[&[u8]],
     place: usize,
     expected: Expected,
-) -> Result<Ballot, TextError>
+) -> Result<Ballot, WordFault>
     requires { place < 64 }
     ensures { Answers result (at (ballot_in name.now) expected (map (λ word. word.now) words.now) place) }
 {
@@ -149,7 +149,7 @@ fn optional_at(
     words: &[&[u8]],
     place: usize,
     expected: Expected,
-) -> Result<Option<Ballot>, TextError>
+) -> Result<Option<Ballot>, WordFault>
     requires { place < 64 }
     ensures { Answers result (at (optional_in name.now) expected (map (λ word. word.now) words.now) place) }
 {
@@ -168,7 +168,7 @@ fn values_at(
     words: &[&[u8]],
     place: usize,
     expected: Expected,
-) -> Result<ValueList, TextError>
+) -> Result<ValueList, WordFault>
     requires { place < 64 }
     ensures { Answers result (at (values_in name.now) expected (map (λ word. word.now) words.now) place) }
 {
@@ -181,13 +181,13 @@ fn values_at(
 
 /// That no word stands at the place.
 #[tactic(auto, unfolding(crate::specs::Messages::ended))]
-fn end_at(words: &[&[u8]], place: usize) -> Result<bool, TextError>
+fn end_at(words: &[&[u8]], place: usize) -> Result<bool, WordFault>
     requires { place < 64 }
     ensures { Answers result (ended (map (λ word. word.now) words.now) place) }
 {
     match words.get(place) {
         None => Ok(true),
-        Some(_) => Err(TextError::Refused(Refusal {
+        Some(_) => Err(WordFault::Bad(BadWord {
             word: place + 1,
             expected: Expected::NoMore,
         })),
@@ -196,7 +196,7 @@ fn end_at(words: &[&[u8]], place: usize) -> Result<bool, TextError>
 
 /// The signature at a place, where the words end, or none.
 #[tactic(auto, unfolding(crate::specs::Messages::signature_at))]
-fn read_signature_at(alloc: Global, words: &[&[u8]], place: usize) -> Result<Signature, TextError>
+fn read_signature_at(alloc: Global, words: &[&[u8]], place: usize) -> Result<Signature, WordFault>
     requires { place < 32 }
     ensures { Answers result (signature_at (map (λ word. word.now) words.now) place) }
 {
@@ -212,7 +212,7 @@ fn read_signature_at(alloc: Global, words: &[&[u8]], place: usize) -> Result<Sig
 }
 
 #[tactic(auto, unfolding(crate::specs::Messages::nominate_in))]
-fn nominate(alloc: Global, words: &[&[u8]]) -> Result<Pledges, TextError>
+fn nominate(alloc: Global, words: &[&[u8]]) -> Result<Pledges, WordFault>
     ensures { Answers result (nominate_in (map (λ word. word.now) words.now)) }
 {
     let set_hash = term_at(alloc, words, 3, Expected::AHash)?;
@@ -226,7 +226,7 @@ fn nominate(alloc: Global, words: &[&[u8]]) -> Result<Pledges, TextError>
 }
 
 #[tactic(auto, unfolding(crate::specs::Messages::prepare_in))]
-fn prepare(alloc: Global, words: &[&[u8]]) -> Result<Pledges, TextError>
+fn prepare(alloc: Global, words: &[&[u8]]) -> Result<Pledges, WordFault>
     ensures { Answers result (prepare_in (map (λ word. word.now) words.now)) }
 {
     let set_hash = term_at(alloc, words, 3, Expected::AHash)?;
@@ -246,7 +246,7 @@ fn prepare(alloc: Global, words: &[&[u8]]) -> Result<Pledges, TextError>
 }
 
 #[tactic(auto, unfolding(crate::specs::Messages::confirm_in))]
-fn confirm(alloc: Global, words: &[&[u8]]) -> Result<Pledges, TextError>
+fn confirm(alloc: Global, words: &[&[u8]]) -> Result<Pledges, WordFault>
     ensures { Answers result (confirm_in (map (λ word. word.now) words.now)) }
 {
     let set_hash = term_at(alloc, words, 3, Expected::AHash)?;
@@ -264,7 +264,7 @@ fn confirm(alloc: Global, words: &[&[u8]]) -> Result<Pledges, TextError>
 }
 
 #[tactic(auto, unfolding(crate::specs::Messages::externalize_in))]
-fn externalize(alloc: Global, words: &[&[u8]]) -> Result<Pledges, TextError>
+fn externalize(alloc: Global, words: &[&[u8]]) -> Result<Pledges, WordFault>
     ensures { Answers result (externalize_in (map (λ word. word.now) words.now)) }
 {
     let set_hash = term_at(alloc, words, 3, Expected::AHash)?;
@@ -279,10 +279,10 @@ fn externalize(alloc: Global, words: &[&[u8]]) -> Result<Pledges, TextError>
 
 /// An envelope of these pledges, which may have been refused; its signature stands at the place.
 #[tactic(auto, unfolding(crate::specs::Messages::envelope_in))]
-fn nominating(alloc: Global, words: &[&[u8]]) -> Result<Message, TextError>
+fn nominating(alloc: Global, words: &[&[u8]]) -> Result<Message, WordFault>
     ensures { Answers result (envelope_in nominate_in 6 (map (λ word. word.now) words.now)) }
 {
-    let node = term_at(alloc, words, 1, Expected::ANode)?;
+    let node = term_at(alloc, words, 1, Expected::AnyNode)?;
     let slot = term_at(alloc, words, 2, Expected::ASlot)?;
     let pledges = nominate(alloc, words)?;
     let signature = read_signature_at(alloc, words, 6)?;
@@ -298,10 +298,10 @@ fn nominating(alloc: Global, words: &[&[u8]]) -> Result<Message, TextError>
 }
 
 #[tactic(auto, unfolding(crate::specs::Messages::envelope_in))]
-fn preparing(alloc: Global, words: &[&[u8]]) -> Result<Message, TextError>
+fn preparing(alloc: Global, words: &[&[u8]]) -> Result<Message, WordFault>
     ensures { Answers result (envelope_in prepare_in 9 (map (λ word. word.now) words.now)) }
 {
-    let node = term_at(alloc, words, 1, Expected::ANode)?;
+    let node = term_at(alloc, words, 1, Expected::AnyNode)?;
     let slot = term_at(alloc, words, 2, Expected::ASlot)?;
     let pledges = prepare(alloc, words)?;
     let signature = read_signature_at(alloc, words, 9)?;
@@ -317,10 +317,10 @@ fn preparing(alloc: Global, words: &[&[u8]]) -> Result<Message, TextError>
 }
 
 #[tactic(auto, unfolding(crate::specs::Messages::envelope_in))]
-fn confirming(alloc: Global, words: &[&[u8]]) -> Result<Message, TextError>
+fn confirming(alloc: Global, words: &[&[u8]]) -> Result<Message, WordFault>
     ensures { Answers result (envelope_in confirm_in 8 (map (λ word. word.now) words.now)) }
 {
-    let node = term_at(alloc, words, 1, Expected::ANode)?;
+    let node = term_at(alloc, words, 1, Expected::AnyNode)?;
     let slot = term_at(alloc, words, 2, Expected::ASlot)?;
     let pledges = confirm(alloc, words)?;
     let signature = read_signature_at(alloc, words, 8)?;
@@ -336,10 +336,10 @@ fn confirming(alloc: Global, words: &[&[u8]]) -> Result<Message, TextError>
 }
 
 #[tactic(auto, unfolding(crate::specs::Messages::envelope_in))]
-fn externalizing(alloc: Global, words: &[&[u8]]) -> Result<Message, TextError>
+fn externalizing(alloc: Global, words: &[&[u8]]) -> Result<Message, WordFault>
     ensures { Answers result (envelope_in externalize_in 6 (map (λ word. word.now) words.now)) }
 {
-    let node = term_at(alloc, words, 1, Expected::ANode)?;
+    let node = term_at(alloc, words, 1, Expected::AnyNode)?;
     let slot = term_at(alloc, words, 2, Expected::ASlot)?;
     let pledges = externalize(alloc, words)?;
     let signature = read_signature_at(alloc, words, 6)?;
@@ -355,9 +355,9 @@ fn externalizing(alloc: Global, words: &[&[u8]]) -> Result<Message, TextError>
 }
 
 /// The message of a statement and its signature.
-fn signed(alloc: Global, statement: Statement, signature: Signature) -> Result<Message, TextError>
+fn signed(alloc: Global, statement: Statement, signature: Signature) -> Result<Message, WordFault>
     ensures same { IfOk result (λ m. m ≡ Message.Envelope (record { value = record { statement = statement; signature = signature } })) }
-    ensures only_memory { IsOkUnless result TextError.NoMemory }
+    ensures only_memory { IsOkUnless result WordFault.NoMemory }
 {
     let envelope = Envelope {
         statement,
@@ -367,7 +367,7 @@ fn signed(alloc: Global, statement: Statement, signature: Signature) -> Result<M
 }
 
 #[tactic(auto, unfolding(crate::specs::Messages::record_in))]
-fn record(alloc: Global, words: &[&[u8]]) -> Result<Message, TextError>
+fn record(alloc: Global, words: &[&[u8]]) -> Result<Message, WordFault>
     ensures { Answers result (record_in (map (λ word. word.now) words.now)) }
 {
     let slot: Slot = term_at(alloc, words, 1, Expected::ASlot)?;
@@ -377,7 +377,7 @@ fn record(alloc: Global, words: &[&[u8]]) -> Result<Message, TextError>
 }
 
 #[tactic(auto, unfolding(crate::specs::Messages::records_in))]
-fn records(alloc: Global, words: &[&[u8]]) -> Result<Message, TextError>
+fn records(alloc: Global, words: &[&[u8]]) -> Result<Message, WordFault>
     ensures { Answers result (records_in (map (λ word. word.now) words.now)) }
 {
     let first: Slot = term_at(alloc, words, 1, Expected::ASlot)?;
@@ -387,7 +387,7 @@ fn records(alloc: Global, words: &[&[u8]]) -> Result<Message, TextError>
 }
 
 #[tactic(auto, unfolding(crate::specs::Messages::get_record_in))]
-fn get_record(alloc: Global, words: &[&[u8]]) -> Result<Message, TextError>
+fn get_record(alloc: Global, words: &[&[u8]]) -> Result<Message, WordFault>
     ensures { Answers result (get_record_in (map (λ word. word.now) words.now)) }
 {
     let slot = term_at(alloc, words, 1, Expected::ASlot)?;
@@ -396,7 +396,7 @@ fn get_record(alloc: Global, words: &[&[u8]]) -> Result<Message, TextError>
 }
 
 #[tactic(auto, unfolding(crate::specs::Messages::get_set_in))]
-fn get_set(alloc: Global, words: &[&[u8]]) -> Result<Message, TextError>
+fn get_set(alloc: Global, words: &[&[u8]]) -> Result<Message, WordFault>
     ensures { Answers result (get_set_in (map (λ word. word.now) words.now)) }
 {
     let hash = term_at(alloc, words, 1, Expected::AHash)?;
@@ -405,7 +405,7 @@ fn get_set(alloc: Global, words: &[&[u8]]) -> Result<Message, TextError>
 }
 
 #[tactic(auto, unfolding(crate::specs::Messages::the_set_in))]
-fn the_set(alloc: Global, words: &[&[u8]]) -> Result<Message, TextError>
+fn the_set(alloc: Global, words: &[&[u8]]) -> Result<Message, WordFault>
     ensures { Answers result (the_set_in (map (λ word. word.now) words.now)) }
 {
     let set = term_at(alloc, words, 1, Expected::ASet)?;
@@ -414,7 +414,7 @@ fn the_set(alloc: Global, words: &[&[u8]]) -> Result<Message, TextError>
 }
 
 #[tactic(auto, unfolding(crate::specs::Messages::no_set_in))]
-fn no_set(alloc: Global, words: &[&[u8]]) -> Result<Message, TextError>
+fn no_set(alloc: Global, words: &[&[u8]]) -> Result<Message, WordFault>
     ensures { Answers result (no_set_in (map (λ word. word.now) words.now)) }
 {
     let hash = term_at(alloc, words, 1, Expected::AHash)?;
@@ -433,7 +433,7 @@ fn verb_of<'a>(words: &[&'a [u8]]) -> &'a [u8]
 }
 
 /// The envelope that the words say, by the first of them.
-fn read_envelope(alloc: Global, verb: &[u8], words: &[&[u8]]) -> Result<Message, TextError>
+fn read_envelope(alloc: Global, verb: &[u8], words: &[&[u8]]) -> Result<Message, WordFault>
     ensures { Answers result (envelope_by verb.now (map (λ word. word.now) words.now)) }
 {
     if verb == b"nominate".as_slice() {
@@ -448,14 +448,14 @@ fn read_envelope(alloc: Global, verb: &[u8], words: &[&[u8]]) -> Result<Message,
     if verb == b"externalize".as_slice() {
         return externalizing(alloc, words);
     }
-    Err(TextError::Refused(Refusal {
+    Err(WordFault::Bad(BadWord {
         word: 1,
         expected: Expected::AMessage,
     }))
 }
 
 /// The message that the words say, by the first of them.
-fn read_by(alloc: Global, verb: &[u8], words: &[&[u8]]) -> Result<Message, TextError>
+fn read_by(alloc: Global, verb: &[u8], words: &[&[u8]]) -> Result<Message, WordFault>
     ensures { Answers result (message_by verb.now (map (λ word. word.now) words.now)) }
 {
     if verb == b"record".as_slice() {
@@ -481,7 +481,7 @@ fn read_by(alloc: Global, verb: &[u8], words: &[&[u8]]) -> Result<Message, TextE
 
 /// The message that the words say, within its limits or not.
 #[tactic(auto, unfolding(crate::specs::Messages::message_in))]
-pub fn read_message(alloc: Global, words: &[&[u8]]) -> Result<Message, TextError>
+pub fn read_message(alloc: Global, words: &[&[u8]]) -> Result<Message, WordFault>
     ensures { Answers result (message_in (map (λ word. word.now) words.now)) }
 {
     read_by(alloc, verb_of(words), words)
@@ -710,7 +710,7 @@ pub fn words<'a>(alloc: Global, text: &'a [u8]) -> Result<Vec<&'a [u8]>, AllocEr
 
 /// The message that the text says: words parted by one space. Refused where a word is none of its place, with the word's
 /// place from 1 on and what was expected there; at word 1 where the message is over its limits; or for want of memory.
-pub fn message_of(alloc: Global, text: &[u8]) -> Result<Message, TextError>
+pub fn message_of(alloc: Global, text: &[u8]) -> Result<Message, WordFault>
     // What is read is what the words say.
     ensures found { IfOk result (λ m. message_in (words_of text.now) ≡ Ok m) }
     // It is within the limits.
@@ -724,7 +724,7 @@ pub fn message_of(alloc: Global, text: &[u8]) -> Result<Message, TextError>
 
 /// The message that the words say, as `message_of` reads it.
 #[tactic(auto, using(crate::proofs::Near::near_refusal))]
-pub fn message_of_words(alloc: Global, words: &[&[u8]]) -> Result<Message, TextError>
+pub fn message_of_words(alloc: Global, words: &[&[u8]]) -> Result<Message, WordFault>
     // What is read is what the words say.
     ensures found { IfOk result (λ m. message_in (map (λ word. word.now) words.now) ≡ Ok m) }
     // It is within the limits.
@@ -737,11 +737,11 @@ pub fn message_of_words(alloc: Global, words: &[&[u8]]) -> Result<Message, TextE
     let message = read_message(alloc, words)?;
     match encode(alloc, &message) {
         Ok(_) => Ok(message),
-        Err(Fault::TooLong) => Err(TextError::Refused(Refusal {
+        Err(Fault::TooLong) => Err(WordFault::Bad(BadWord {
             word: 1,
             expected: Expected::WithinLimits,
         })),
-        Err(_) => Err(TextError::NoMemory),
+        Err(_) => Err(WordFault::NoMemory),
     }
 }
 

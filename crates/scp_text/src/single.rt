@@ -7,9 +7,9 @@ ghost use Rattle.scp_text.specs.Sets.{set_text, set_in};
 ghost use Rattle.scp_text.specs.Messages.{or_refused, Answers};
 
 use crate::message::see_bytes;
-use crate::refusal::{Expected, Refusal, TextError};
 use crate::set::read_fitting;
 use crate::term::Term;
+use scp_device::{BadWord, Expected, WordFault};
 use scp_quorum::QuorumSet;
 use scp_types::{Fault, VALUE_LIMIT, Value};
 use std::alloc::Global;
@@ -40,7 +40,7 @@ fn read_value(alloc: Global, text: &[u8]) -> Result<Option<Value>, Fault>
 }
 
 /// The value that the text says: `ops(..)`, `hex(..)` or `-`. Refused at word 1 where it says none, or for want of memory.
-pub fn value_of(alloc: Global, text: &[u8]) -> Result<Value, TextError>
+pub fn value_of(alloc: Global, text: &[u8]) -> Result<Value, WordFault>
     // The value is the one that the text says, and a refusal tells that it says none.
     ensures said { Answers result (or_refused (value_in text.now) 1 Expected.AValue) }
     // It has at most 4,096 bytes.
@@ -48,7 +48,7 @@ pub fn value_of(alloc: Global, text: &[u8]) -> Result<Value, TextError>
 {
     match read_value(alloc, text)? {
         Some(value) => Ok(value),
-        None => Err(TextError::Refused(Refusal {
+        None => Err(WordFault::Bad(BadWord {
             word: 1,
             expected: Expected::AValue,
         })),
@@ -76,7 +76,7 @@ pub fn text_of_value(alloc: Global, value: &Value) -> Result<String, Fault>
 }
 
 /// The quorum set that the text says, as `2of(1,2,2of(3,4))`. Refused at word 1 where it says none, or for want of memory.
-pub fn set_of(alloc: Global, text: &[u8]) -> Result<QuorumSet, TextError>
+pub fn set_of(alloc: Global, text: &[u8]) -> Result<QuorumSet, WordFault>
     // The set is the one that the text says, and a refusal tells that it says none.
     ensures said { Answers result (or_refused (set_in text.now) 1 Expected.ASet) }
     // It is within its limits.
@@ -84,7 +84,7 @@ pub fn set_of(alloc: Global, text: &[u8]) -> Result<QuorumSet, TextError>
 {
     match read_fitting(alloc, text)? {
         Some(set) => Ok(set),
-        None => Err(TextError::Refused(Refusal {
+        None => Err(WordFault::Bad(BadWord {
             word: 1,
             expected: Expected::ASet,
         })),

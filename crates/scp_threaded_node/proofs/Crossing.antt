@@ -1,4 +1,5 @@
 -- Workers, and what they end with, may cross threads: step by step, since a search through all of one runs out of steps.
+use denote.RattleType.{RattleType}
 use denote.Param.Send.{IsSend, IsSync, sendable, view_send}
 use denote.Param.SendFields.{declared_send, variants_send}
 use Rattle.std.proofs.Crossing.{crosses, Arc-send}
@@ -39,9 +40,6 @@ use Rattle.scp_fetch.proofs.fetcher.Fetcher.TheSendSync as fetching
 use Rattle.scp_vote.specs.contracts.statements.Entry as entry
 use Rattle.scp_vote.specs.contracts.table.Table as table
 use Rattle.scp_vote.specs.contracts.board.Board as board
-use Rattle.scp_driver.specs.contracts.kv_driver.KvDriver as driver
-use Rattle.scp_driver.specs.contracts.kv_driver.KvDriverDriver.TheImpl.{ghosts}
-use Rattle.scp_driver.proofs.kv_driver.KvDriver.TheSendSync as drivers
 use Rattle.scp_nominate.specs.contracts.state.State as nominating
 use Rattle.scp_nominate.specs.contracts.nominator.Nominator as nominator
 use Rattle.scp_nominate.proofs.guide.Guide.TheSendSync as guides
@@ -146,8 +144,8 @@ board_send s y t = declared_send board.the_type (search (sendable, crosses) dept
 nominating_send : IsSend board.the_row → IsSend nominating.the_row
 nominating_send b = declared_send nominating.the_type (search (sendable, crosses) depth 20, (hashes.the_send, (b, (values.the_send, (lists.the_send, tt)))))
 
-nominator_send : IsSend nominating.the_row → IsSend (nominator.the_row driver.the_row)
-nominator_send n = declared_send (nominator.the_type driver.the_row) (search (sendable, crosses, guides.the_send, drivers.the_send) depth 20, (n, (search (sendable, crosses, nodes.the_send) depth 20, (search sendable depth 20, (search sendable depth 20, tt)))))
+nominator_send : (d : RattleType) → IsSend d → IsSend nominating.the_row → IsSend (nominator.the_row d)
+nominator_send d crossing n = declared_send (nominator.the_type d) (search (sendable, crosses, guides.the_send, crossing) depth 20, (n, (search (sendable, crosses, nodes.the_send) depth 20, (search sendable depth 20, (search sendable depth 20, tt)))))
 
 balloting_send : IsSend board.the_row → IsSend balloting.the_row
 balloting_send b = declared_send balloting.the_type (search (sendable, crosses) depth 20, (slots.the_send, (hashes.the_send, (b, (rules.the_send, (search (sendable, statements.the_send) depth 20, tt))))))
@@ -161,20 +159,20 @@ heard_send s y = declared_send heard.the_type (statements.the_send, (Arc-send sa
 newest_send : IsSend heard.the_row → IsSend newest.the_row
 newest_send h = search (sendable, maps.crosses, nodes.the_send) depth 40
 
-slot_state_send : IsSend (nominator.the_row driver.the_row) → IsSend balloter.the_row → IsSend newest.the_row → IsSend (slot_state.the_row driver.the_row)
-slot_state_send n b w = declared_send (slot_state.the_type driver.the_row) (nodes.the_send, (slots.the_send, (n, (b, (w, (search sendable depth 20, (search sendable depth 20, tt)))))))
+slot_state_send : (d : RattleType) → IsSend (nominator.the_row d) → IsSend balloter.the_row → IsSend newest.the_row → IsSend (slot_state.the_row d)
+slot_state_send d n b w = declared_send (slot_state.the_type d) (nodes.the_send, (slots.the_send, (n, (b, (w, (search sendable depth 20, (search sendable depth 20, tt)))))))
 
-machine_send : IsSend (slot_state.the_row driver.the_row) → IsSend (machine.the_row driver.the_row)
-machine_send s = declared_send (machine.the_type driver.the_row) (search (sendable, crosses) depth 20, (search sendable depth 20, tt))
+machine_send : (d : RattleType) → IsSend (slot_state.the_row d) → IsSend (machine.the_row d)
+machine_send d s = declared_send (machine.the_type d) (search (sendable, crosses) depth 20, (search sendable depth 20, tt))
 
 fate_send : IsSend message.the_row → IsSend sane.the_row → IsSync sane.the_row → IsSend fate.the_row
 fate_send m s y = variants_send fate.enum ((conns.the_send, (seqs.the_send, (m, (search (sendable, crosses) depth 20, (verdicts.the_send, tt))))), ((conns.the_send, (seqs.the_send, (drops.the_send, tt))), ((conns.the_send, (causes.the_send, tt)), tt)))
 
-ledger_state_send : IsSend sane.the_row → IsSync sane.the_row → IsSend fate.the_row → IsSend (machine.the_row driver.the_row) → IsSend (ledger_state.the_row driver.the_row)
-ledger_state_send s y f m = declared_send (ledger_state.the_type driver.the_row) (search (sendable, crosses) depth 20, (nodes.the_send, (Arc-send sane.the_row s y, (search (sendable, drivers.the_send) depth 20, (search (sendable, crosses, nodes.the_send) depth 20, (search (sendable, crosses) depth 20, (search (sendable, crosses, decisions.the_send) depth 20, (windows.the_send, (search (sendable, maps.crosses) depth 20, (search (sendable, maps.crosses, askings.the_send) depth 20, tt))))))))))
+ledger_state_send : (d : RattleType) → IsSend d → IsSend sane.the_row → IsSync sane.the_row → IsSend fate.the_row → IsSend (machine.the_row d) → IsSend (ledger_state.the_row d)
+ledger_state_send d crossing s y f m = declared_send (ledger_state.the_type d) (search (sendable, crosses) depth 20, (nodes.the_send, (Arc-send sane.the_row s y, (search (sendable, crossing) depth 20, (search (sendable, crosses, nodes.the_send) depth 20, (search (sendable, crosses) depth 20, (search (sendable, crosses, decisions.the_send) depth 20, (windows.the_send, (search (sendable, maps.crosses) depth 20, (search (sendable, maps.crosses, askings.the_send) depth 20, tt))))))))))
 
-ledger_send : IsSend (ledger_state.the_row driver.the_row) → IsSend (ledger.the_row driver.the_row ghosts)
-ledger_send s = view_send _ _ _ _ _ (declared_send (ledger_inside.the_type driver.the_row ghosts) (s, (search sendable depth 20, tt)))
+ledger_send : (d : RattleType) (ghosts : _) → IsSend (ledger_state.the_row d) → IsSend (ledger.the_row d ghosts)
+ledger_send d ghosts s = view_send _ _ _ _ _ (declared_send (ledger_inside.the_type d ghosts) (s, (search sendable depth 20, tt)))
 
 its_sane_send : IsSend sane.the_row
 its_sane_send = sane_send set_send
@@ -209,11 +207,11 @@ its_pending_send = pending_send (parking_send (parking_inside_send (store_send i
 its_board_send : IsSend board.the_row
 its_board_send = board_send its_sane_send its_sane_sync (table_send its_sane_send its_sane_sync (entry_send its_sane_send its_sane_sync))
 
-its_machine_send : IsSend (machine.the_row driver.the_row)
-its_machine_send = machine_send (slot_state_send (nominator_send (nominating_send its_board_send)) (balloter_send (balloting_send its_board_send)) (newest_send (heard_send its_sane_send its_sane_sync)))
+its_machine_send : (d : RattleType) → IsSend d → IsSend (machine.the_row d)
+its_machine_send d crossing = machine_send d (slot_state_send d (nominator_send d crossing (nominating_send its_board_send)) (balloter_send (balloting_send its_board_send)) (newest_send (heard_send its_sane_send its_sane_sync)))
 
-pub its_ledger_send : IsSend (ledger.the_row driver.the_row ghosts)
-its_ledger_send = ledger_send (ledger_state_send its_sane_send its_sane_sync (fate_send its_message_send its_sane_send its_sane_sync) its_machine_send)
+its_ledger_send : (d : RattleType) (ghosts : _) → IsSend d → IsSend (ledger.the_row d ghosts)
+its_ledger_send d ghosts crossing = ledger_send d ghosts (ledger_state_send d crossing its_sane_send its_sane_sync (fate_send its_message_send its_sane_send its_sane_sync) (its_machine_send d crossing))
 
 -- ---- the stages, and the couriers
 
@@ -223,11 +221,12 @@ reading_send l = declared_send reading.the_type (search sendable depth 20, (sear
 pub its_reading_send : IsSend reading.the_row
 its_reading_send = reading_send its_link_reader_send
 
-slots_send : IsSend (ledger.the_row driver.the_row ghosts) → IsSend (slots_stage.the_row driver.the_row ghosts)
-slots_send l = declared_send (slots_stage.the_type driver.the_row ghosts) (search sendable depth 20, (search (sendable, crosses, command_fates.the_send) depth 20, tt))
+slots_send : (d : RattleType) (ghosts : _) → IsSend (ledger.the_row d ghosts) → IsSend (slots_stage.the_row d ghosts)
+slots_send d ghosts l = declared_send (slots_stage.the_type d ghosts) (search sendable depth 20, (search (sendable, crosses, command_fates.the_send) depth 20, tt))
 
-pub its_slots_send : IsSend (slots_stage.the_row driver.the_row ghosts)
-its_slots_send = slots_send its_ledger_send
+-- of any application that crosses
+pub its_slots_send : (d : RattleType) (ghosts : _) → IsSend d → IsSend (slots_stage.the_row d ghosts)
+its_slots_send d ghosts crossing = slots_send d ghosts (its_ledger_send d ghosts crossing)
 
 courier_inside_send : EndsCross → IsSend courier_inside.the_row
 courier_inside_send o = declared_send courier_inside.the_type (search (sendable, crosses) depth 20, (o.taker, (tails.the_send, (counters.the_send, (search sendable depth 20, tt)))))

@@ -22,14 +22,14 @@ use Rattle.scp_workers.specs.Slot.{IsFor as JournalsFor}
 use Rattle.scp_workers.specs.Working.{End, Work, Holds, IsLeftOf}
 use Rattle.scp_courier.specs.Carrying.{IsSameLink}
 use Rattle.scp_desk.specs.Ends.{TakerView}
-use Rattle.scp_gather.specs.Kv.{Left}
+use Rattle.scp_gather.specs.Left.{Left}
 use Rattle.scp_pending.specs.Peers.{AreApart}
 use Rattle.scp_gather.specs.Node.{IsLinkAt, IsNode}
 use Rattle.scp_gather.specs.Report.{IsJoined, AreJoined, SendsTo, keeps_by}
 use Rattle.scp_threaded_node.specs.declared.ending.Stood.{Stood}
 use Rattle.scp_threaded_node.specs.declared.node.Node.{Node}
 use Rattle.scp_threaded_node.specs.declared.node.Running.{Running}
-use Rattle.scp_script.specs.declared.command.Capacities.{Capacities}
+use Rattle.scp_threaded_node.specs.declared.capacities.Capacities.{Capacities}
 use Rattle.scp_threaded_node.specs.Seats.{IsLane, IsDriven, AreDriven, Runs, SendsAs, tail_of}
 use Rattle.scp_threaded_node.specs.Ended.{IsSentBy, AreSentBy, AreSized}
 use Rattle.scp_threaded_node.specs.declared.ending.TailLeft.{TailLeft}
@@ -76,7 +76,7 @@ all_by : {X : Type 0} (P : X → Type 0) (xs : List X) → ((i : ℕ) (x : X) �
 all_by P [] f = tt
 all_by P (x ∷ xs) f = (f 0 x refl, all_by P xs (λ i y h. f (suc i) y h))
 
-module _ (me : NodeId) (set : QuorumTree) (peers : List NodeId) (caps : Capacities) (node : Node) (e : Left) (takers : List (Option TakerView)) where
+module _ {A S : Type 0} (me : NodeId) (set : QuorumTree) (peers : List NodeId) (caps : Capacities) (node : Node A S) (e : Left A) (takers : List (Option TakerView)) where
   -- what sends is of the channel of what receives
   pub joined : Runs me set peers caps node → IsLeft node e takers → AreJoined e
   joined runs left = record {

@@ -14,7 +14,8 @@ use Rattle.scp_ends.specs.Links.{LinkEnd}
 use Rattle.scp_workers.specs.Reading.{ReaderEnd}
 use Rattle.scp_workers.specs.Working.{Holds}
 use Rattle.scp_workers.specs.Pending.{PendEnd}
-use Rattle.scp_gather.specs.Kv.{SlotEnd, Left}
+use Rattle.scp_gather.specs.Left.{Left}
+use Rattle.scp_workers.specs.Slot.{SlotEnd}
 use Rattle.scp_workers.specs.Apply.{ApplyEnd}
 use Rattle.scp_wire.specs.declared.link.Inbound.{Inbound}
 use Rattle.scp_ends.specs.Ends.{Sender}
@@ -23,7 +24,7 @@ use Rattle.scp_gather.specs.Report.{has_failed, first_so}
 use Rattle.scp_threaded_node.specs.declared.ending.Stood.{Stood}
 use Rattle.scp_threaded_node.specs.declared.ending.TailLeft.{TailLeft}
 use Rattle.scp_threaded_node.specs.declared.node.Running.{Running}
-use Rattle.scp_threaded_node.specs.declared.node.Tail.TheVariants.{Script}
+use Rattle.scp_threaded_node.specs.declared.node.Tail.TheVariants.{Host}
 use Rattle.scp_threaded_node.specs.Faults.{driven, LaneEnd, NodeEnd, IsLaneEnd, IsNodeEnd, IsTold, is_unread, tail_fault, links_fault, local_fault, fault_by, fault_of}
 use Rattle.scp_threaded_node.specs.inside.Ending.{HasTailFault, HaveEnded, IsLeftOf}
 use Rattle.scp_threaded_node.proofs.Lists.{push_cases}
@@ -125,8 +126,8 @@ gathered_told (Err f) (Some s) later none refused only = let k : Err f ≡ Err (
 
 -- ---- how one link ended
 
--- a link that the script drives
-pub driven_end : (k : LinkEnd) (stood : Stood) (r : Result TailLeft Fault) → IfOk r (λ d. (d.link ≡ k) × (d.taker ≡ None)) → IsOkUnless r (Refused Reader) → HasTailFault (Script k) stood (result_err r)
+-- a link that the host drives
+pub driven_end : (k : LinkEnd) (stood : Stood) (r : Result TailLeft Fault) → IfOk r (λ d. (d.link ≡ k) × (d.taker ≡ None)) → IsOkUnless r (Refused Reader) → HasTailFault (Host k) stood (result_err r)
 driven_end k stood (Ok d) same gone = (driven (Some d.link), same.0, refl)
 driven_end k stood (Err f) same gone = (driven None, tt, ap Some gone)
 
@@ -136,26 +137,26 @@ same_first : (a a2 b b2 c c2 d d2 : Bool) → a ≡ a2 → b ≡ b2 → c ≡ c2
 same_first a a2 b b2 c c2 d d2 p q r s = ap (λ (x : Bool). first_so x b c d) p ∙ ap (λ (x : Bool). first_so a2 x c d) q ∙ ap (λ (x : Bool). first_so a2 b2 x d) r ∙ ap (λ (x : Bool). first_so a2 b2 c2 x) s
 
 -- what is left of a node that was stopped, and what is told of it
-pub stopped_told : {T : Type 0} (node : Node) (stood : List Stood) (failed lost : Bool) (why : Option Fault) (readers : List ReaderEnd) (links : List LinkEnd) (own : Option (Sender Inbound)) (pend : PendEnd) (slot : SlotEnd) (apply : ApplyEnd) (r : Result (Left × T) Fault)
+pub stopped_told : {A S T : Type 0} (node : Node A S) (stood : List Stood) (failed lost : Bool) (why : Option Fault) (readers : List ReaderEnd) (links : List LinkEnd) (own : Option (Sender Inbound)) (pend : PendEnd) (slot : SlotEnd A) (apply : ApplyEnd) (r : Result (Left A × T) Fault)
     → HaveEnded node.lanes.items stood failed why → IfSome own (λ s. s ≡ node.local) → Holds node.pend.promise.0.value pend → Holds node.slot.promise.0.value slot → Holds node.apply.promise.0.value apply
     → (lost ≡ false → why ≡ None → list_any has_failed readers ≡ failed)
     → IfOk r (λ e. (lost ≡ false) × (own ≡ Some e.0.local) × (e.0.readers ≡ readers) × (e.0.links ≡ links) × (e.0.pend ≡ pend) × (e.0.slot ≡ slot) × (e.0.apply ≡ apply))
     → MatchResult r (λ _. why ≡ None) (IsTold (fault_by (first_so failed (has_failed pend) (has_failed slot) (has_failed apply)) why (local_fault own)))
-    → (x : NodeEnd) × IsNodeEnd node stood x × MatchResult r (λ e. IsLeftOf x e.0) (IsTold (fault_of x))
-stopped_told {T} node stood failed lost why readers links own pend slot apply r have local_is pend_is slot_is apply_is same all told =
+    → (x : NodeEnd A) × IsNodeEnd node stood x × MatchResult r (λ e. IsLeftOf x e.0) (IsTold (fault_of x))
+stopped_told {A} {S} {T} node stood failed lost why readers links own pend slot apply r have local_is pend_is slot_is apply_is same all told =
     (x, record { lanes = have.are; local = local_is; pend = pend_is; slot = slot_is; apply = apply_is }, by r all told)
   where
-    x : NodeEnd
+    x : NodeEnd A
     x = record { lanes = have.ends; local = own; pend = pend; slot = slot; apply = apply }
 
-    by : (r : Result (Left × T) Fault) → IfOk r (λ e. (lost ≡ false) × (own ≡ Some e.0.local) × (e.0.readers ≡ readers) × (e.0.links ≡ links) × (e.0.pend ≡ pend) × (e.0.slot ≡ slot) × (e.0.apply ≡ apply))
+    by : (r : Result (Left A × T) Fault) → IfOk r (λ e. (lost ≡ false) × (own ≡ Some e.0.local) × (e.0.readers ≡ readers) × (e.0.links ≡ links) × (e.0.pend ≡ pend) × (e.0.slot ≡ slot) × (e.0.apply ≡ apply))
         → MatchResult r (λ _. why ≡ None) (IsTold (fault_by (first_so failed (has_failed pend) (has_failed slot) (has_failed apply)) why (local_fault own)))
         → MatchResult r (λ e. IsLeftOf x e.0) (IsTold (fault_of x))
     by (Ok e) kept none = (
       same_first (list_any has_failed e.0.readers) (list_any is_unread have.ends) (has_failed e.0.pend) (has_failed pend) (has_failed e.0.slot) (has_failed slot) (has_failed e.0.apply) (has_failed apply)
           (ap (λ (rs : List ReaderEnd). list_any has_failed rs) kept.2 ∙ same kept.0 none ∙ have.failed_is)
           (ap (λ (p : PendEnd). has_failed p) kept.4)
-          (ap (λ (s : SlotEnd). has_failed s) kept.5)
+          (ap (λ (s : SlotEnd A). has_failed s) kept.5)
           (ap (λ (a : ApplyEnd). has_failed a) kept.6),
       ap (λ (o : Option Fault). fault_by None o (local_fault own)) (sym have.why_is ∙ none) ∙ ap (λ (l : Option (Sender Inbound)). fault_by None None (local_fault l)) kept.1,
     )

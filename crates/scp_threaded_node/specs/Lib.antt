@@ -6,4 +6,5 @@ pub mod Outlets
 pub mod Acting
 pub mod Ended
 pub mod Faults
+pub mod Kv
 pub mod inside

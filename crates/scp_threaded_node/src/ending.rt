@@ -1,4 +1,4 @@
-//! The end of a node: all is stopped, every thread joined, and what they left is gathered.
+//! The end of a node: everything is stopped, every thread is joined, and what they left is gathered.
 ghost use Rattle.std.specs.Prelude.{◌≡◌, ◌≤◌, ◌||◌, ◌++◌, ◌∷◌, ℕ, Bool, true, false, List, [], length, IfOk, IfSome, IsOkUnless, MatchResult, None, Ok, Some};
 ghost use Rattle.std.specs.List.{list_any};
 ghost use Rattle.std.specs.Option.{option_or};
@@ -8,14 +8,14 @@ ghost use Rattle.scp_types.specs.declared.names.NodeId.{NodeId};
 ghost use Rattle.scp_quorum.specs.QuorumTree.{QuorumTree};
 ghost use Rattle.scp_wire.specs.declared.link.LinkItem.{LinkItem};
 ghost use Rattle.scp_ends.specs.Links.{LinkEnd};
-ghost use Rattle.scp_script.specs.declared.command.Capacities.{Capacities};
+ghost use Rattle.scp_threaded_node.specs.declared.capacities.Capacities.{Capacities};
 ghost use Rattle.scp_workers.specs.Working.{Holds};
 ghost use Rattle.scp_courier.specs.Carrying.{IsSameLink, IsCarried, HasCarried};
 ghost use Rattle.scp_desk.specs.Ends.{TakerView};
 ghost use Rattle.scp_pending.specs.Peers.{AreApart};
 ghost use Rattle.scp_gather.specs.Report.{has_failed as failed, first_so};
 ghost use Rattle.scp_threaded_node.specs.Seats.{AreDriven, IsDriven, Runs, tail_of};
-ghost use Rattle.scp_gather.specs.Kv.{Left as WhatIsLeft};
+ghost use Rattle.scp_gather.specs.Left.{Left as WhatIsLeft};
 ghost use Rattle.scp_threaded_node.specs.Ended.{IsEnded, IsSentBy, AreSentBy};
 ghost use Rattle.scp_threaded_node.specs.Outlets.{IsHandedBack, AreHandedBack, given_to, taker_of, taker_in};
 ghost use Rattle.scp_threaded_node.specs.Faults.{NodeEnd, IsNodeEnd, IsTold, courier_fault, fault_by, fault_of, local_fault};
@@ -27,6 +27,7 @@ use crate::node::{Node, Running, Tail};
 use scp_courier::CourierEnded;
 use scp_desk::Taker;
 use scp_desks::Outlets;
+use scp_driver::{Application, KvDriver};
 use scp_ends::{LinkDone, LinkTx, LocalDone, LocalTx};
 use scp_gather::{Ends, Gathering, NodeReport, first_failed, gather, has_failed};
 use scp_types::{Fault, Stage};
@@ -35,15 +36,14 @@ use std::alloc::Global;
 use std::sync::Wait;
 use std::thread::Threads;
 
-/// How a link stands: how often it was opened, and whether it is open.
+/// How a link is left: how often it was opened, and whether it is open.
 #[derive(Clone, Copy, Debug, PartialEq, Eq)]
 pub struct Stood {
     pub lives: usize,
     pub is_open: bool,
 }
 
-/// What a courier's link left, and its end of the outbox, where the courier ended well and the link stands so; else that memory was wanting, or
-/// that the link stands otherwise.
+/// What a courier's link left, and its outbox end, if the courier ended well and left the link as it should. Else `NoMemory` or `NotOpen`.
 fn carried(ended: CourierEnded, stood: Stood) -> Result<TailLeft, Fault>
     ensures link { IfOk result (λ left. ended.link ≡ Some left.link) }
     ensures taker { IfOk result (λ left. left.taker ≡ Some ended.taker) }
@@ -62,14 +62,14 @@ fn carried(ended: CourierEnded, stood: Stood) -> Result<TailLeft, Fault>
     }
 }
 
-/// What the sending end of a link left: the link's end, and of a courier its end of the outbox.
+/// What the sending end of a link left: the end itself, and a courier's outbox end.
 #[derive(Drop)]
 struct TailLeft {
     link: LinkDone,
     taker: Option<Taker>,
 }
 
-/// Ends a link that the script drives, where its reader is there.
+/// Ends a link that the host drives, if its reader is there.
 fn end_driven<R: Wait>(rt: &R, tail: LinkTx) -> Result<TailLeft, Fault>
     ensures same { IfOk result (λ left. (left.link ≡ tail) × (left.taker ≡ None)) }
     ensures gone { IsOkUnless result (Fault.Refused Reader) }
@@ -80,7 +80,7 @@ fn end_driven<R: Wait>(rt: &R, tail: LinkTx) -> Result<TailLeft, Fault>
     }
 }
 
-/// Stops a link, and waits until who sends on it has ended. Refused where a courier failed, or its link doesn't stand so.
+/// Stops a link, and waits until its sender has ended. Refused if a courier failed, or didn't leave its link as it should.
 fn end_tail<R: Threads + Wait>(rt: &R, tail: Tail, stood: Stood) -> Result<TailLeft, Fault>
     ensures same { IfOk result (λ left. IsSameLink (tail_of tail) left.link) }
     ensures sent { (driven : Bool) → (sent : List LinkItem) → IsDriven driven sent tail → IfOk result (λ left. IsSentBy driven sent stood left.link) }
@@ -88,7 +88,7 @@ fn end_tail<R: Threads + Wait>(rt: &R, tail: Tail, stood: Stood) -> Result<TailL
     ensures why { HasTailFault tail stood (result_err result) }
 {
     match tail {
-        Tail::Script(tail) => end_driven(rt, tail),
+        Tail::Host(tail) => end_driven(rt, tail),
         Tail::Courier(thread) => carried(thread.join(rt), stood),
     }
 }
@@ -110,7 +110,7 @@ fn end_lane<R: Threads + Wait>(
     (reader.join(rt), link)
 }
 
-/// What the links of a node left: all of it, where none has a fault and nothing is lost.
+/// What the links of a node left. It is complete if no link has a fault and nothing is lost.
 #[derive(Drop)]
 struct Lanes {
     readers: Vec<ReaderEnded>,
@@ -120,7 +120,7 @@ struct Lanes {
     failed: bool,
     /// The fault of the first link whose sending end has one.
     fault: Option<Fault>,
-    /// Memory was wanting.
+    /// It ran out of memory.
     lost: bool,
 }
 
@@ -215,7 +215,7 @@ fn end_lanes<R: Threads + Wait>(
     left
 }
 
-/// Which fault is told: a stage's failure, else the first link's, else that of the commands; where there is none, want of memory.
+/// The fault that is reported: a stage's failure, else the first link's fault, else that of the commands, else out of memory.
 fn told(stage: Option<Stage>, links: Option<Fault>, commands: Option<Fault>) -> Fault
     ensures { IsTold (fault_by stage links commands) result }
 {
@@ -228,14 +228,14 @@ fn told(stage: Option<Stage>, links: Option<Fault>, commands: Option<Fault>) -> 
     }
 }
 
-/// What a node left, where nothing of it is lost.
-fn collect(
+/// What a node left, if nothing of it is lost.
+fn collect<A: Application + Drop + Copy>(
     lanes: Lanes,
     local: Option<LocalDone>,
     pend: PendEnded,
-    slot: SlotEnded,
-    apply: ApplyEnded,
-) -> Result<(Ends, Vec<Option<Taker>>), Fault>
+    slot: SlotEnded<A>,
+    apply: ApplyEnded<A>,
+) -> Result<(Ends<A>, Vec<Option<Taker>>), Fault>
     ensures all { IfOk result (λ e. (lanes.lost ≡ false) × (local ≡ Some e.0.local) × (e.0.readers ≡ lanes.readers.items) × (e.0.links ≡ lanes.links.items) × (e.0.pend ≡ pend) × (e.0.slot ≡ slot) × (e.0.apply ≡ apply)) }
     ensures takers { IfOk result (λ e. e.1.items ≡ lanes.takers.items) }
     ensures why { MatchResult result (λ _. lanes.fault ≡ None) (IsTold (fault_by (first_so lanes.failed (failed pend) (failed slot) (failed apply)) lanes.fault (local_fault local))) }
@@ -277,16 +277,16 @@ fn end_local<R: Wait>(rt: &R, local: LocalTx) -> Option<LocalDone>
 }
 
 /// Stops a node, and joins each of its threads.
-fn stop<R: Threads + Wait>(
+fn stop<R: Threads + Wait, A: Application + Drop + Copy>(
     rt: &R,
     alloc: Global,
-    node: Node,
+    node: Node<A>,
     stood: &[Stood],
-) -> Result<(Ends, Vec<Option<Taker>>), Fault>
+) -> Result<(Ends<A>, Vec<Option<Taker>>), Fault>
     requires stood { length node.lanes.items ≤ length stood.now }
     ensures left { IfOk result (λ e. IsLeft node e.0 e.1.items) }
     ensures sent { (driven : ℕ → Bool) → (sent : ℕ → List LinkItem) → AreDriven driven sent node.lanes.items → IfOk result (λ e. AreSentBy driven sent stood.now e.0.links) }
-    ensures ended { (x : NodeEnd) × IsNodeEnd node stood.now x × MatchResult result (λ e. IsLeftOf x e.0) (IsTold (fault_of x)) }
+    ensures ended { (x : NodeEnd A) × IsNodeEnd node stood.now x × MatchResult result (λ e. IsLeftOf x e.0) (IsTold (fault_of x)) }
 {
     let Node {
         lanes,
@@ -303,32 +303,34 @@ fn stop<R: Threads + Wait>(
     collect(lanes, local, pend, slot, apply)
 }
 
-/// What is told of a node that has ended, and the ends of outboxes that its threads hand back: those by which its stages put, and of each link
-/// that of its courier; nothing of a link that the script drives.
+/// The report of a node that has ended, and the outbox ends that its threads hand back: those into which its stages put, and for each link
+/// the end of its courier. There is none for a link that the host drives.
 #[derive(Drop)]
-pub struct Over {
-    pub report: NodeReport,
+pub struct Over<A: Application = KvDriver> {
+    pub report: NodeReport<A>,
     pub outlets: Outlets,
     pub takers: Vec<Option<Taker>>,
 }
 
-/// Stops a node, joins each of its threads, and gathers what they left; `stood[l]` is how link l stands where a courier sends on it.
+/// Stops a node, joins each of its threads, and gathers what they left. `stood[l]` says how link l should be left if a courier sends on it.
 ///
-/// Refused by `Refused` with the first stage, in the order of the pipeline, of which a worker failed; else by the fault of the first
-/// link whose sending end has one: `NotOpen` where its courier left it otherwise than it was to stand, `NoMemory` where its courier
-/// failed. Where there is none, by `NoMemory`. What the threads ended with is theirs: of it nothing but their promise is known.
-pub fn end<R: Threads + Wait>(
+/// Refused by `Refused` with the first stage, in the order of the pipeline, that has a failed worker. Else by the fault of the first link
+/// whose sending end has one. That is `NotOpen` if its courier didn't leave it as it should, `NoMemory` if its courier failed, and `Refused`
+/// with the reader if that was gone. Else by `Refused` with the pending stage, if that was gone before the commands ended. Else by
+/// `NoMemory`.
+/// Of what the threads ended with, only what they promised is known.
+pub fn end<R: Threads + Wait, A: Application + Drop + Copy>(
     rt: &R,
     alloc: Global,
-    node: Node,
+    node: Node<A>,
     stood: &[Stood],
-) -> Result<Over, Fault>
+) -> Result<Over<A>, Fault>
     requires runs { (me : NodeId) × (set : QuorumTree) × (peers : List NodeId) × (caps : Capacities) × Runs me set peers caps node }
     requires stood { length node.lanes.items ≤ length stood.now }
     ensures ended { (me : NodeId) → (set : QuorumTree) → (peers : List NodeId) → (caps : Capacities) → AreApart peers → Runs me set peers caps node
         → (driven : ℕ → Bool) → (sent : ℕ → List LinkItem) → AreDriven driven sent node.lanes.items
-        → IfOk result (λ over. (left : WhatIsLeft) × IsEnded me set peers caps node.local.sent driven sent stood.now left over.report × AreHandedBack me set peers (given_to node) left over.outlets over.takers.items) }
-    ensures fault { (x : NodeEnd) × IsNodeEnd node stood.now x × MatchResult result (λ _. fault_of x ≡ None) (IsTold (fault_of x)) }
+        → IfOk result (λ over. (left : WhatIsLeft A) × IsEnded A.says A.first A.after me set peers caps node.local.sent driven sent stood.now left over.report × AreHandedBack A.says me set peers (given_to node) left over.outlets over.takers.items) }
+    ensures fault { (x : NodeEnd A) × IsNodeEnd node stood.now x × MatchResult result (λ _. fault_of x ≡ None) (IsTold (fault_of x)) }
 {
     let (ends, takers) = stop(rt, alloc, node, stood)?;
     let Gathering { report, outlets } = gather(ends)?;

@@ -1,23 +1,25 @@
 //! A node whose stages run in threads of their own.
 //!
 //! What it promises, under every schedule:
-//! - a node that was started consists of the channels and workers of one node, each worker in a thread of its own;
-//! - what is done on a link that the script drives is what goes over it, in order, and nothing else does; any other link is a courier's;
-//! - `end` stops a node, joins each of its threads, and gathers what they left: the ledger theorem, of what was sent over its links and of
-//!   its own commands;
-//! - each of its stages put into the outboxes of its links what it handed out, and each courier sent over its link what its outbox gave;
-//! - where a node is made to, its report tells what came over each of its links: all that was sent over it;
-//! - where it isn't gathered the first stage that failed is told; else the fault of the first link whose sending end has one, or that
-//!   memory was wanting.
+//! - A node that was started consists of the channels and workers of one node, each worker in a thread of its own.
+//! - Each link that the host drives carries exactly what the host does on it, in order. Each other link belongs to a courier.
+//! - `end` stops a node, joins each of its threads, and gathers what they left. The ledger theorem holds of what was sent over its links, and
+//!   of its own commands.
+//! - Each of its stages put what it handed out into the outboxes of its links, and each courier sent what its outbox gave over its link.
+//! - If the node is made to keep it, its report has what came over each of its links: all that was sent over the link.
+//! - If the node can't be gathered, the first stage that failed is reported. Else it is the fault of the first link whose sending end has
+//!   one, or of its commands, or out of memory.
 #![tactic(auto)]
 
 mod acting;
+mod capacities;
 mod ending;
 mod make;
 mod node;
 mod starting;
 
 pub use acting::{Act, act_at, flush, is_carried_at, tell};
+pub use capacities::Capacities;
 pub use ending::{Over, Stood, end};
 pub use make::{Lane, Parts, make_parts};
 pub use node::{Node, Running, Source, Tail, start};

@@ -11,15 +11,15 @@ ghost use Rattle.scp_types.specs.Range.{IsInRange};
 ghost use Rattle.scp_threaded_node.specs.Sources.{HaveRoom};
 ghost use Rattle.scp_threaded_node.specs.Outlets.{AllKeep, keeps_from};
 
+use crate::capacities::Capacities;
 use scp_desk::Putter;
 use scp_desks::Outlets;
-use scp_driver::KvDriver;
+use scp_driver::{Application, KvDriver};
 use scp_ends::{
     DecidedRx, DecidedTx, InboxRx, InboxTx, LinkRx, LinkTx, LocalTx, ReadyRx, ReadyTx, decided,
     inbox, link, ready,
 };
 use scp_quorum::{QuorumSet, SaneSet};
-use scp_script::Capacities;
 use scp_types::{Fault, NodeId};
 use scp_workers::{
     ApplyWorker, PendWorker, ReaderWorker, SlotWorker, applier, pending, reader, slots,
@@ -36,15 +36,15 @@ pub struct Lane {
 
 /// What a node consists of: a link from each peer, the end of its own commands, and the workers of its stages.
 #[derive(Drop)]
-pub struct Parts {
+pub struct Parts<A: Application + Drop + Copy = KvDriver> {
     pub lanes: Vec<Lane>,
     pub local: LocalTx,
     pub pend: PendWorker,
-    pub slot: SlotWorker,
-    pub apply: ApplyWorker,
+    pub slot: SlotWorker<A>,
+    pub apply: ApplyWorker<A>,
 }
 
-/// A link from a peer, whose room is in range.
+/// A link from a peer, with a capacity that is in range.
 fn link_of(
     alloc: Global,
     me: NodeId,
@@ -58,7 +58,7 @@ fn link_of(
     link(alloc, peer, me, capacity)
 }
 
-/// The ends of an inbox for so many links and the node's own commands.
+/// The ends of an inbox for this number of links and the node's own commands.
 fn inbox_of(alloc: Global, links: u8, capacity: usize) -> Result<(Vec<InboxTx>, InboxRx), Fault>
     requires few { links ≤ 7 }
     requires room { IsInRange capacity }
@@ -68,7 +68,7 @@ fn inbox_of(alloc: Global, links: u8, capacity: usize) -> Result<(Vec<InboxTx>, 
     inbox(alloc, links + 1, capacity)
 }
 
-/// The ends of the channel to the slot stage, whose room is in range.
+/// The ends of the channel to the slot stage, with a capacity that is in range.
 fn ready_of(alloc: Global, capacity: usize) -> Result<(ReadyTx, ReadyRx), Fault>
     requires room { IsInRange capacity }
     ensures ends { IfOk result (λ r. (r.0 ≡ fresh r.1.line 0) × (r.1 ≡ record { line = r.1.line; producers = 1; room = capacity; got = [] })) }
@@ -77,7 +77,7 @@ fn ready_of(alloc: Global, capacity: usize) -> Result<(ReadyTx, ReadyRx), Fault>
     ready(alloc, capacity)
 }
 
-/// The ends of the channel to the applier, whose room is in range.
+/// The ends of the channel to the applier, with a capacity that is in range.
 fn decided_of(alloc: Global, capacity: usize) -> Result<(DecidedTx, DecidedRx), Fault>
     requires room { IsInRange capacity }
     ensures ends { IfOk result (λ r. (r.0 ≡ fresh r.1.line 0) × (r.1 ≡ record { line = r.1.line; producers = 1; room = capacity; got = [] })) }
@@ -86,7 +86,7 @@ fn decided_of(alloc: Global, capacity: usize) -> Result<(DecidedTx, DecidedRx), 
     decided(alloc, capacity)
 }
 
-/// The link from a peer, and its reader, which keeps what it receives where it is to.
+/// The link from a peer, and its reader, which keeps what it receives if `keeps` is set.
 fn make_lane(
     alloc: Global,
     me: NodeId,
@@ -110,7 +110,7 @@ fn make_lane(
     })
 }
 
-/// The links from the first peers, a reader's end for each, in their order.
+/// The links from the first peers, one for each of these inbox ends, in their order.
 fn lanes(
     alloc: Global,
     me: NodeId,
@@ -177,15 +177,16 @@ fn make_pend(
 }
 
 /// The worker of the slot stage, between the pending stage and the applier.
-fn make_slot(
+fn make_slot<A: Application + Drop + Copy>(
     alloc: Global,
     me: NodeId,
     set: Arc<SaneSet>,
     peers: &[NodeId],
+    application: A,
     outlets: Vec<Putter>,
     rx: ReadyRx,
     tx: DecidedTx,
-) -> Result<SlotWorker, AllocError>
+) -> Result<SlotWorker<A>, AllocError>
     requires few { length peers.now ≤ 7 }
     requires unused { (rx.got ≡ []) × (tx.sent ≡ []) × HavePutNothing outlets.items }
     requires one { rx.producers ≡ 1 }
@@ -194,19 +195,20 @@ fn make_slot(
     ensures stage { IfOk result (λ w. JournalsFor me peers.now set.value w.first.ledger) }
 {
     let known = Vec::from_slice(alloc, peers)?;
-    Ok(slots(alloc, me, set, KvDriver, known, outlets, rx, tx))
+    Ok(slots(alloc, me, set, application, known, outlets, rx, tx))
 }
 
 /// The slot stage and the applier, and the end that sends to them.
-fn make_last(
+fn make_last<A: Application + Drop + Copy>(
     alloc: Global,
     me: NodeId,
     set: Arc<SaneSet>,
     peers: &[NodeId],
     capacities: Capacities,
+    application: A,
     said: Vec<Putter>,
     answers: Vec<Putter>,
-) -> Result<(ReadyTx, SlotWorker, ApplyWorker), Fault>
+) -> Result<(ReadyTx, SlotWorker<A>, ApplyWorker<A>), Fault>
     requires few { length peers.now ≤ 7 }
     requires room { HaveRoom capacities }
     requires unused { HavePutNothing said.items × HavePutNothing answers.items }
@@ -219,20 +221,21 @@ fn make_last(
 {
     let (tx, ready) = ready_of(alloc, usize::from(capacities.ready))?;
     let (decided, rx) = decided_of(alloc, usize::from(capacities.decided))?;
-    let slot = make_slot(alloc, me, set, peers, said, ready, decided)?;
+    let slot = make_slot(alloc, me, set, peers, application, said, ready, decided)?;
     Ok((tx, slot, applier(alloc, me, answers, rx)))
 }
 
-/// The stages of a node behind its inbox, which carried nothing yet.
-fn make_stages(
+/// The stages of a node after its inbox, which has carried nothing yet.
+fn make_stages<A: Application + Drop + Copy>(
     alloc: Global,
     me: NodeId,
     set: QuorumSet,
     peers: &[NodeId],
     capacities: Capacities,
+    application: A,
     outlets: Outlets,
     rx: InboxRx,
-) -> Result<(PendWorker, SlotWorker, ApplyWorker), Fault>
+) -> Result<(PendWorker, SlotWorker<A>, ApplyWorker<A>), Fault>
     requires unused { HavePutNothing outlets.pend.items × HavePutNothing outlets.slot.items × HavePutNothing outlets.apply.items }
     requires few { length peers.now ≤ 7 }
     requires sane { IsSane set }
@@ -250,12 +253,21 @@ fn make_stages(
     } = outlets;
     let set = Arc::new(alloc, sane(set)?)?;
     let again = Arc::try_clone(&set)?;
-    let (tx, slot, apply) = make_last(alloc, me, again, peers, capacities, said, answers)?;
+    let (tx, slot, apply) = make_last(
+        alloc,
+        me,
+        again,
+        peers,
+        capacities,
+        application,
+        said,
+        answers,
+    )?;
     let pend = make_pend(alloc, me, set, peers, replies, rx, tx)?;
     Ok((pend, slot, apply))
 }
 
-/// The links of a node of these peers, the end of its own commands, and its inbox.
+/// The links of a node with these peers, the sending end of its own commands, and its inbox.
 fn make_lanes(
     alloc: Global,
     me: NodeId,
@@ -281,17 +293,18 @@ fn make_lanes(
     Ok((lanes, LocalTx::new(local), rx))
 }
 
-/// A node of these peers, whose channels carried nothing yet, and by whose outlets nothing was put. Where `keeps` is set, each link's reader
-/// keeps what it receives.
-pub fn make_parts(
+/// A node with these peers and this application. Its channels have carried nothing, and nothing was put through its outlets. If `keeps` is
+/// set, each link's reader keeps what it receives. The only refusal is `NoMemory`.
+pub fn make_parts<A: Application + Drop + Copy>(
     alloc: Global,
     me: NodeId,
     set: QuorumSet,
     peers: &[NodeId],
     capacities: Capacities,
+    application: A,
     outlets: Outlets,
     keeps: bool,
-) -> Result<Parts, Fault>
+) -> Result<Parts<A>, Fault>
     requires unused { HavePutNothing outlets.pend.items × HavePutNothing outlets.slot.items × HavePutNothing outlets.apply.items }
     requires few { length peers.now ≤ 7 }
     requires sane { IsSane set }
@@ -306,7 +319,16 @@ pub fn make_parts(
     ensures only_memory { IsOkUnless result Fault.NoMemory }
 {
     let (lanes, local, rx) = make_lanes(alloc, me, peers, capacities, keeps)?;
-    let (pend, slot, apply) = make_stages(alloc, me, set, peers, capacities, outlets, rx)?;
+    let (pend, slot, apply) = make_stages(
+        alloc,
+        me,
+        set,
+        peers,
+        capacities,
+        application,
+        outlets,
+        rx,
+    )?;
     Ok(Parts {
         lanes,
         local,

@@ -1,9 +1,9 @@
-//! A node that runs: each of its workers in a thread of its own.
+//! A running node, each of whose workers has a thread of its own.
 ghost use Rattle.std.specs.Prelude.{◌≡◌, ◌<◌, ◌+◌, ◌∷◌, ◌++◌, ℕ, Bool, List, [], length, map, IfOk, IsOkUnless, is_none};
 ghost use Rattle.std.specs.Thread.{IsSync};
 ghost use Rattle.scp_types.specs.declared.names.NodeId.{NodeId};
 ghost use Rattle.scp_quorum.specs.QuorumTree.{QuorumTree};
-ghost use Rattle.scp_script.specs.declared.command.Capacities.{Capacities};
+ghost use Rattle.scp_threaded_node.specs.declared.capacities.Capacities.{Capacities};
 ghost use Rattle.scp_wire.specs.declared.link.Inbound.{Inbound};
 ghost use Rattle.scp_ends.specs.Ends.{Line};
 ghost use Rattle.scp_threaded_node.specs.Outlets.{given_to, keeps_from, keeps_in, taker_of, taker_in};
@@ -16,6 +16,7 @@ use crate::starting::{
 };
 use scp_courier::Courier;
 use scp_desk::Taker;
+use scp_driver::{Application, KvDriver};
 use scp_ends::{LinkTx, LocalTx};
 use scp_gate::Gate;
 use scp_types::{Fault, NodeId};
@@ -24,33 +25,33 @@ use std::alloc::Global;
 use std::sync::Wait;
 use std::thread::{Scope, Threads};
 
-/// Who sends on a link.
+/// The sender on a link.
 #[derive(Drop)]
 pub enum Tail {
-    /// The script.
-    Script(LinkTx),
+    /// The host.
+    Host(LinkTx),
     /// A courier.
     Courier(CourierThread),
 }
 
-/// A link to a node that runs.
+/// A link to a running node.
 #[derive(Drop)]
 pub struct Running {
     pub tail: Tail,
     pub reader: ReaderThread,
 }
 
-/// A node that runs.
+/// A running node. Its values are those of the application; operation lists, if no application is named.
 #[derive(Drop)]
-pub struct Node {
+pub struct Node<A: Application + Drop + Copy = KvDriver> {
     pub lanes: Vec<Running>,
     pub local: LocalTx,
     pub pend: PendThread,
-    pub slot: SlotThread,
-    pub apply: ApplyThread,
+    pub slot: SlotThread<A>,
+    pub apply: ApplyThread<A>,
 }
 
-/// What a courier is told: its node, the number of the link among that node's, and its end of the outbox.
+/// What a courier is given: its node, the number of the link among that node's links, and its outbox end.
 #[derive(Drop)]
 pub struct Source {
     pub node: NodeId,
@@ -58,7 +59,7 @@ pub struct Source {
     pub taker: Taker,
 }
 
-/// Starts what sends on a link.
+/// Starts the sender of a link.
 fn start_tail<'s, E, R: Threads + Wait + Sync, G: Gate + Sync>(
     scope: &Scope<'s, E>,
     rt: &'s R,
@@ -75,7 +76,7 @@ fn start_tail<'s, E, R: Threads + Wait + Sync, G: Gate + Sync>(
     ensures only_memory { IsOkUnless result Fault.NoMemory }
 {
     match source {
-        None => Ok(Tail::Script(tail)),
+        None => Ok(Tail::Host(tail)),
         Some(Source { node, link, taker }) => {
             let courier = Courier::new(alloc, node, link, taker, tail);
             Ok(Tail::Courier(start_courier(scope, rt, gate, courier)?))
@@ -83,7 +84,7 @@ fn start_tail<'s, E, R: Threads + Wait + Sync, G: Gate + Sync>(
     }
 }
 
-/// Starts a link's reader, and what sends on it.
+/// Starts a link's reader and its sender.
 fn start_lane<'s, E, R: Threads + Wait + Sync, G: Gate + Sync>(
     scope: &Scope<'s, E>,
     rt: &'s R,
@@ -106,7 +107,7 @@ fn start_lane<'s, E, R: Threads + Wait + Sync, G: Gate + Sync>(
     Ok(Running { tail, reader })
 }
 
-/// The last of the sources, which is taken off them.
+/// Takes the last source off the list.
 fn last_of(sources: &mut Vec<Option<Source>>) -> Option<Source>
     requires some { 0 < length sources.old.items }
     ensures last { sources.old.items ≡ sources.new.items ++ result ∷ [] }
@@ -118,7 +119,7 @@ fn last_of(sources: &mut Vec<Option<Source>>) -> Option<Source>
     source
 }
 
-/// Starts the links of a node; `sources[l]` is what sends on link l where the script doesn't.
+/// Starts the links of a node; `sources[l]` is the courier's source for link l, if the host doesn't send on it.
 fn start_lanes<'s, E, R: Threads + Wait + Sync, G: Gate + Sync>(
     scope: &Scope<'s, E>,
     rt: &'s R,
@@ -152,13 +153,21 @@ fn start_lanes<'s, E, R: Threads + Wait + Sync, G: Gate + Sync>(
 }
 
 /// Starts the last two stages.
-fn start_last<'s, E, R: Threads + Wait + Sync, G: Gate + Sync>(
+fn start_last<
+    's,
+    E,
+    R: Threads + Wait + Sync,
+    G: Gate + Sync,
+    A: Application + Drop + Copy + Send + 's,
+>(
     scope: &Scope<'s, E>,
     rt: &'s R,
     gate: &'s G,
-    slot: SlotWorker,
-    apply: ApplyWorker,
-) -> Result<(SlotThread, ApplyThread), Fault>
+    slot: SlotWorker<A>,
+    apply: ApplyWorker<A>,
+) -> Result<(SlotThread<A>, ApplyThread<A>), Fault>
+where
+    A::State: Send + 's,
     ensures slot { IfOk result (λ t. t.0.promise.0.value ≡ slot) }
     ensures apply { IfOk result (λ t. t.1.promise.0.value ≡ apply) }
     ensures only_memory { IsOkUnless result Fault.NoMemory }
@@ -168,22 +177,31 @@ fn start_last<'s, E, R: Threads + Wait + Sync, G: Gate + Sync>(
     Ok((slot, apply))
 }
 
-/// Starts a node.
-pub fn start<'s, E, R: Threads + Wait + Sync, G: Gate + Sync>(
+/// Starts a node: each worker in a thread, and a courier for each link that has a source. The application and its state cross to other
+/// threads. The only refusal is `NoMemory`.
+pub fn start<
+    's,
+    E,
+    R: Threads + Wait + Sync,
+    G: Gate + Sync,
+    A: Application + Drop + Copy + Send + 's,
+>(
     scope: &Scope<'s, E>,
     rt: &'s R,
     gate: &'s G,
     alloc: Global,
-    parts: Parts,
+    parts: Parts<A>,
     sources: Vec<Option<Source>>,
-) -> Result<Node, Fault>
+) -> Result<Node<A>, Fault>
+where
+    A::State: Send + 's,
     requires sources { length sources.items ≡ length parts.lanes.items }
     requires fresh { AreFresh sources.items }
     requires unused { AreUnused parts.lanes.items }
     ensures runs { (me : NodeId) → (set : QuorumTree) → (peers : List NodeId) → (caps : Capacities) → length parts.lanes.items ≡ length peers → AreLanes me peers parts.pend.input.line caps.link parts.lanes.items → IsLocal peers parts.pend parts.local → AreStages me set peers caps parts.pend parts.slot parts.apply → IfOk result (Runs me set peers caps) }
     ensures local { IfOk result (λ node. node.local ≡ parts.local) }
     ensures driven { (driven : ℕ → Bool) → AreSources driven sources.items → IfOk result (λ node. AreDriven driven (λ i. []) node.lanes.items) }
-    // Each worker has the ends of outboxes that it was given, and each reader keeps what it receives where it was to.
+    // Each worker has the outbox ends that it was given, and each reader keeps what it receives if it was made to.
     ensures given { IfOk result (λ node. given_to node ≡ record { replies = parts.pend.outlets; said = parts.slot.outlets; answers = parts.apply.outlets; takers = map taker_from sources.items; keeps = map keeps_from parts.lanes.items }) }
     ensures only_memory { IsOkUnless result Fault.NoMemory }
 {
@@ -205,7 +223,7 @@ pub fn start<'s, E, R: Threads + Wait + Sync, G: Gate + Sync>(
             apply,
         }),
         Err(fault) => {
-            // The pending stage waits for the end of each of its producers, and what a reader leaves keeps the inbox open.
+            // The pending stage waits for the end of each of its producers, and what a reader leaves behind keeps the inbox open.
             drop(local.stop(rt));
             Err(fault)
         }

@@ -18,7 +18,7 @@ use std::snapshot::Snapshot;
 use std::sync::Wait;
 use std::thread::{Promise, PromisedHandle, Scope, Threads};
 
-/// What the thread of a worker ends with has the ends and the stage that its worker was given.
+/// A worker's thread ends with the channel ends and the stage that its worker was given.
 #[derive(Drop)]
 pub struct HoldsEnds<T: Drop, L: Law<T>, U: Drop, M: Law<U>, S: Stage<T, L, U, M>>(
     Snapshot<Worker<T, L, U, M, S>>,
@@ -31,7 +31,7 @@ impl<T: Drop, L: Law<T>, U: Drop, M: Law<U>, S: Stage<T, L, U, M>> Promise<Ended
     ghost kept_by = { λ p e. Holds p.0.value e };
 }
 
-/// The same of a courier: its link, and its end of the outbox.
+/// The same for a courier: it ends with its link and its outbox end.
 #[derive(Drop)]
 pub struct HoldsCourier(Snapshot<Courier>);
 
@@ -50,13 +50,13 @@ pub type ReaderThread = WorkerThread<LinkItem, Any, Inbound, Any, ReadingStage>;
 
 pub type PendThread = WorkerThread<Inbound, Any, Ready, Any, Pending>;
 
-pub type SlotThread = WorkerThread<Ready, Any, Onward, InWindow, SlotStage>;
+pub type SlotThread<A = KvDriver> = WorkerThread<Ready, Any, Onward, InWindow, SlotStage<A>>;
 
-pub type ApplyThread = WorkerThread<Onward, InWindow, Nothing, Any, Applier<KvDriver>>;
+pub type ApplyThread<A = KvDriver> = WorkerThread<Onward, InWindow, Nothing, Any, Applier<A>>;
 
 pub type CourierThread = PromisedHandle<CourierEnded, HoldsCourier>;
 
-/// Starts a worker. Where no thread can be made, the worker is dropped, and its ends with it.
+/// Starts a worker in a thread. If no thread can be made, the worker is dropped with its ends, and the fault is `NoMemory`.
 pub fn start_worker<
     's,
     E,
@@ -89,7 +89,7 @@ pub fn start_worker<
     }
 }
 
-/// Starts what carries an outbox to a link.
+/// Starts a courier, which carries an outbox to a link, in a thread. The only refusal is `NoMemory`.
 pub fn start_courier<'s, E, R: Threads + Wait + Sync, G: Gate + Sync>(
     scope: &Scope<'s, E>,
     rt: &'s R,

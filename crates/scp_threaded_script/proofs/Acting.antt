@@ -9,14 +9,15 @@ use Rattle.scp_wire.specs.Shape.{never_open, goes}
 use Rattle.scp_ends.specs.Links.{LinkEnd, stands}
 use Rattle.scp_script.specs.declared.command.Command.{Command}
 use Rattle.scp_script.specs.declared.command.Command.TheVariants as script
-use Rattle.scp_script.specs.Nodes.{capacities_in, id_of, peers_of, set_at}
+use Rattle.scp_script.specs.Nodes.{id_of, peers_of, set_at}
+use Rattle.scp_threaded_script.specs.Rooms.{capacities_in}
 use Rattle.scp_script.specs.Script.{is_link, lives, node_count}
 use Rattle.scp_threaded_node.specs.declared.acting.Act.{Act}
 use Rattle.scp_threaded_node.specs.declared.acting.Act.TheVariants.{Open, Close, Send}
-use Rattle.scp_threaded_node.specs.declared.node.Node.{Node}
+use Rattle.scp_threaded_node.specs.Kv.{Node}
 use Rattle.scp_threaded_node.specs.declared.node.Running.{Running}
 use Rattle.scp_threaded_node.specs.declared.node.Tail.{Tail}
-use Rattle.scp_threaded_node.specs.declared.node.Tail.TheVariants.{Script, Courier}
+use Rattle.scp_threaded_node.specs.declared.node.Tail.TheVariants.{Host, Courier}
 use Rattle.scp_threaded_node.specs.Acting.{act_on, acted, ActsAt, IsUnchanged}
 use Rattle.scp_threaded_node.specs.Seats.{Each, IsDriven, AreDriven, Runs, tail_of}
 use Rattle.scp_threaded_script.specs.Lines.{link_of, peer_at, item_by, items_on, command_by, commands_for, driven_to, items_to}
@@ -32,15 +33,15 @@ use Rattle.scp_threaded_script.proofs.Telling.{none_more}
 
 -- ---- what one node's links sent
 
-driven_acted : (b : Bool) (s s2 : List LinkItem) (a : Act) (t : Tail) → ((k : LinkEnd) → t ≡ Script k → k.tail.sent ≡ s → (act_on a k).tail.sent ≡ s2) → IsDriven b s t → IsDriven b s2 (acted a t)
+driven_acted : (b : Bool) (s s2 : List LinkItem) (a : Act) (t : Tail) → ((k : LinkEnd) → t ≡ Host k → k.tail.sent ≡ s → (act_on a k).tail.sent ≡ s2) → IsDriven b s t → IsDriven b s2 (acted a t)
 driven_acted true s s2 a t here d = (act_on a d.0, ap (acted a) d.1, here d.0 d.1 d.2)
-driven_acted false s s2 a (Script k) here d = d
+driven_acted false s s2 a (Host k) here d = d
 driven_acted false s s2 a (Courier thread) here d = d
 
 same_driven : (f : ℕ → Bool) (s s2 : ℕ → List LinkItem) (lanes : List Running) → ((i : ℕ) → s2 i ≡ s i) → AreDriven f s lanes → AreDriven f s2 lanes
 same_driven f s s2 lanes same d i x at = subst (λ (items : List LinkItem). IsDriven (f i) items x.tail) (sym (same i)) (d i x at)
 
-acts_driven : (f : ℕ → Bool) (s s2 : ℕ → List LinkItem) (a : Act) (place : ℕ) (x y : Node) → (acts : ActsAt a place x y) → ((i : ℕ) → i ≢ place → s2 i ≡ s i) → ((k : LinkEnd) → acts.lane.tail ≡ Script k → k.tail.sent ≡ s place → (act_on a k).tail.sent ≡ s2 place) → AreDriven f s x.lanes.items → AreDriven f s2 y.lanes.items
+acts_driven : (f : ℕ → Bool) (s s2 : ℕ → List LinkItem) (a : Act) (place : ℕ) (x y : Node) → (acts : ActsAt a place x y) → ((i : ℕ) → i ≢ place → s2 i ≡ s i) → ((k : LinkEnd) → acts.lane.tail ≡ Host k → k.tail.sent ≡ s place → (act_on a k).tail.sent ≡ s2 place) → AreDriven f s x.lanes.items → AreDriven f s2 y.lanes.items
 acts_driven f s s2 a place x y acts other here d =
     let lane = acts.lane in
     let after = record lane { tail = acted a lane.tail } in

@@ -1,5 +1,5 @@
 -- What each kind of line does to nodes that have done the lines before it, whether it went well or not.
-use Rattle.std.proofs.Common.{◌≡◌, ◌∙◌, ℕ, ◌+◌, ◌-◌, ◌≤◌, ◌<◌, Bool, true, false, ap, sym, refl, subst, List, [], ◌∷◌, ◌++◌, length, Result, Ok, Err, Some, arith}
+use Rattle.std.proofs.Common.{◌≡◌, ◌∙◌, ℕ, ◌+◌, ◌-◌, ◌≤◌, ◌<◌, Bool, true, false, ap, sym, refl, subst, List, [], ◌∷◌, ◌++◌, length, Result, Ok, Err, Option, Some, arith}
 use Rattle.std.specs.Prelude.{OnOk, OnErr, slice_get, slice_set, nat_lt}
 use Rattle.std.proofs.lemmas.Bool.Decides.{nat_tests}
 use Rattle.std.proofs.lemmas.Option.{slice_get_within}
@@ -11,9 +11,9 @@ use Rattle.scp_script.specs.declared.command.Command.TheVariants as script
 use Rattle.scp_script.specs.Script.{node_count}
 use Rattle.scp_threaded_node.specs.declared.acting.Act.{Act}
 use Rattle.scp_wire.specs.declared.link.Inbound.{Inbound}
-use Rattle.scp_threaded_node.specs.declared.node.Node.{Node}
+use Rattle.scp_threaded_node.specs.Kv.{Node}
 use Rattle.scp_threaded_node.specs.Acting.{with_command, ActsAt, IsUnchanged}
-use Rattle.scp_threaded_script.specs.Lines.{link_of}
+use Rattle.scp_threaded_script.specs.Lines.{link_of, local_by}
 use Rattle.scp_threaded_script.specs.inside.Played.{AllRun, HaveDone, HaveLanes, AreTwoOf, ActsOn, AreUnchanged, IsNoLink, IsCommandOf, TellsAt}
 use Rattle.scp_threaded_script.proofs.Acting.{IsLineOn, acts_run, acts_done, unchanged_run}
 use Rattle.scp_desks.proofs.Lists.{set_length}
@@ -60,20 +60,40 @@ module _ {E : Type 0} where
 
 -- ---- which command a line is
 
-pub is_propose : (node slot : ℕ) (value : List ℕ) → IsCommandOf (script.Propose node slot value) (Some (node, local.Propose (record { 0 = slot }) value))
+is_propose : (node slot : ℕ) (value : List ℕ) → IsCommandOf (script.Propose node slot value) (Some (node, local.Propose (record { 0 = slot }) value))
 is_propose node slot value = (λ count there. there, λ n. refl)
 
-pub is_round : (node slot : ℕ) → IsCommandOf (script.Round node slot) (Some (node, local.Round (record { 0 = slot })))
+is_round : (node slot : ℕ) → IsCommandOf (script.Round node slot) (Some (node, local.Round (record { 0 = slot })))
 is_round node slot = (λ count there. there, λ n. refl)
 
-pub is_timer : (node slot : ℕ) → IsCommandOf (script.Timer node slot) (Some (node, local.Timer (record { 0 = slot })))
+is_timer : (node slot : ℕ) → IsCommandOf (script.Timer node slot) (Some (node, local.Timer (record { 0 = slot })))
 is_timer node slot = (λ count there. there, λ n. refl)
 
-pub is_tick : (node : ℕ) → IsCommandOf (script.Tick node) (Some (node, local.Tick))
+is_tick : (node : ℕ) → IsCommandOf (script.Tick node) (Some (node, local.Tick))
 is_tick node = (λ count there. there, λ n. refl)
 
-pub is_ask : (from to slot : ℕ) → IsCommandOf (script.Ask from to slot) (Some (from, local.Ask (link_of to from) (record { 0 = slot })))
+is_ask : (from to slot : ℕ) → IsCommandOf (script.Ask from to slot) (Some (from, local.Ask (link_of to from) (record { 0 = slot })))
 is_ask from to slot = (λ count there. there, λ n. refl)
+
+is_command : (command : Command) → IsCommandOf command (local_by command)
+is_command (script.Caps capacities) = λ n. refl
+is_command (script.Nodes count quorum) = λ n. refl
+is_command (script.Set node set) = λ n. refl
+is_command (script.Open from to) = λ n. refl
+is_command (script.Close from to) = λ n. refl
+is_command (script.Send from to bytes) = λ n. refl
+is_command (script.Propose node slot value) = is_propose node slot value
+is_command (script.Round node slot) = is_round node slot
+is_command (script.Timer node slot) = is_timer node slot
+is_command (script.Tick node) = is_tick node
+is_command (script.Ask from to slot) = is_ask from to slot
+is_command script.Settle = λ n. refl
+is_command (script.Wait node things) = λ n. refl
+is_command (script.Report node) = λ n. refl
+
+-- what is found is that
+pub found_is : (command : Command) (found given : Option (ℕ × LocalCommand)) → found ≡ local_by command → found ≡ given → IsCommandOf command given
+found_is command found given exact is = subst (IsCommandOf command) (sym exact ∙ is) (is_command command)
 
 -- ---- where a link stands among those of a node
 

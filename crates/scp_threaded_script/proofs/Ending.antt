@@ -12,8 +12,8 @@ use Rattle.scp_types.specs.declared.fault.Stage.{Stage}
 use Rattle.scp_script.specs.declared.command.Command.{Command}
 use Rattle.scp_script.specs.Script.{node_count}
 use Rattle.scp_threaded_node.specs.declared.ending.Stood.{Stood}
-use Rattle.scp_threaded_node.specs.declared.node.Node.{Node}
-use Rattle.scp_threaded_node.specs.Faults.{NodeEnd, IsNodeEnd, IsTold, fault_of}
+use Rattle.scp_threaded_node.specs.Kv.{Node, NodeEnd}
+use Rattle.scp_threaded_node.specs.Faults.{IsNodeEnd, IsTold, fault_of}
 use Rattle.scp_threaded_node.proofs.Lists.{push_cases}
 use Rattle.scp_threaded_script.specs.declared.running.NodeFault.{NodeFault}
 use Rattle.scp_threaded_script.specs.Reported.{AreStood, AllRunSoFar, AreNodeEnds, IsGivenUp, IsLineFault, IsOneOf, IsToldOf, refused_at, first_refused}

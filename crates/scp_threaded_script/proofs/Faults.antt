@@ -8,7 +8,7 @@ use Rattle.scp_ends.specs.Links.{LinkEnd, stands}
 use Rattle.scp_threaded_node.specs.declared.acting.Act.{Act}
 use Rattle.scp_threaded_node.specs.declared.acting.Act.TheVariants.{Open, Close, Send}
 use Rattle.scp_threaded_node.specs.declared.node.Tail.{Tail}
-use Rattle.scp_threaded_node.specs.declared.node.Tail.TheVariants.{Script, Courier}
+use Rattle.scp_threaded_node.specs.declared.node.Tail.TheVariants.{Host, Courier}
 use Rattle.scp_threaded_node.specs.Acting.{cannot, IsActFault, IsRefusedFor}
 use Rattle.scp_threaded_script.specs.Reported.{IsLineFault, IsOneOf}
 
@@ -37,5 +37,5 @@ by_reader count node (Some why) fault stage none is one told = absurd (none stag
 
 -- a stage's fault is that the link's reader is gone
 pub reader_gone : (count node : ℕ) (act : Act) (tail : Tail) (fault : Fault) (stage : Stage) → fault ≡ Refused stage → IsOneOf count node → IsActFault act tail fault → IsLineFault count node fault
-reader_gone count node act (Script k) fault stage is one told = by_reader count node (cannot act k) fault stage (no_stage act k) is one told
+reader_gone count node act (Host k) fault stage is one told = by_reader count node (cannot act k) fault stage (no_stage act k) is one told
 reader_gone count node act (Courier thread) fault stage is one told = absurd told

@@ -4,7 +4,7 @@ use Rattle.std.specs.Prelude.{OnOk, OnErr, map, slice_get, slice_set}
 use Rattle.std.proofs.lemmas.Option.{same_Some}
 use Rattle.scp_wire.specs.declared.link.Inbound.{Inbound}
 use Rattle.scp_threaded_node.specs.declared.acting.Act.{Act}
-use Rattle.scp_threaded_node.specs.declared.node.Node.{Node}
+use Rattle.scp_threaded_node.specs.Kv.{Node}
 use Rattle.scp_threaded_node.specs.Acting.{with_command, ActsAt, IsUnchanged}
 use Rattle.scp_threaded_node.specs.Outlets.{GivenEnds, given_to}
 use Rattle.scp_threaded_node.proofs.Given.{map_set, acts_given, unchanged_given}

@@ -9,13 +9,12 @@ use Rattle.scp_desk.specs.Ends.{TakerView}
 use Rattle.scp_desks.specs.declared.outlets.Outlets.{Outlets}
 use Rattle.scp_threaded_node.specs.scp_gather.specs.Kv.{NodeReport, Left}
 use Rattle.scp_script.specs.declared.command.Command.{Command}
-use Rattle.scp_script.specs.Nodes.{capacities_in, id_of, peers_of, set_at}
+use Rattle.scp_script.specs.Nodes.{id_of, peers_of, set_at}
+use Rattle.scp_threaded_script.specs.Rooms.{capacities_in}
 use Rattle.scp_script.specs.Script.{node_count}
-use Rattle.scp_threaded_node.specs.declared.ending.Over.{Over}
+use Rattle.scp_threaded_node.specs.Kv.{Node, Over, IsEnded, AreHandedBack}
 use Rattle.scp_threaded_node.specs.declared.ending.Stood.{Stood}
-use Rattle.scp_threaded_node.specs.declared.node.Node.{Node}
-use Rattle.scp_threaded_node.specs.Ended.{IsEnded}
-use Rattle.scp_threaded_node.specs.Outlets.{GivenEnds, given_to, AreHandedBack}
+use Rattle.scp_threaded_node.specs.Outlets.{GivenEnds, given_to}
 use Rattle.scp_threaded_node.specs.Seats.{Runs, AreDriven}
 use Rattle.scp_threaded_node.proofs.Lists.{push_cases}
 use Rattle.scp_threaded_script.specs.Lines.{driven_to, items_to, commands_for}

@@ -9,9 +9,10 @@ use Rattle.scp_wire.specs.declared.link.Inbound.TheVariants as inbound
 use Rattle.scp_wire.specs.declared.link.LinkItem.{LinkItem}
 use Rattle.scp_script.specs.declared.command.Command.{Command}
 use Rattle.scp_script.specs.declared.command.Command.TheVariants as script
-use Rattle.scp_script.specs.Nodes.{capacities_in, id_of, peers_of, set_at}
+use Rattle.scp_script.specs.Nodes.{id_of, peers_of, set_at}
+use Rattle.scp_threaded_script.specs.Rooms.{capacities_in}
 use Rattle.scp_script.specs.Script.{node_count}
-use Rattle.scp_threaded_node.specs.declared.node.Node.{Node}
+use Rattle.scp_threaded_node.specs.Kv.{Node}
 use Rattle.scp_threaded_node.specs.Acting.{with_command}
 use Rattle.scp_threaded_node.specs.Seats.{Each, Runs, IsDriven, AreDriven}
 use Rattle.scp_threaded_script.specs.Lines.{peer_at, item_by, items_on, command_by, commands_for, driven_to, items_to}

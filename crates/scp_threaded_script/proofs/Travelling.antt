@@ -29,10 +29,10 @@ use Rattle.scp_threaded_node.specs.scp_gather.specs.Left.{items_of}
 use Rattle.scp_script.specs.declared.command.Command.{Command}
 use Rattle.scp_script.specs.Nodes.{id_of, peers_of}
 use Rattle.scp_script.specs.Script.{node_count}
-use Rattle.scp_threaded_node.specs.declared.node.Node.{Node}
+use Rattle.scp_threaded_node.specs.Kv.{Node}
 use Rattle.scp_threaded_node.specs.declared.node.Running.{Running}
 use Rattle.scp_threaded_node.specs.declared.node.Tail.{Tail}
-use Rattle.scp_threaded_node.specs.declared.node.Tail.TheVariants.{Script, Courier}
+use Rattle.scp_threaded_node.specs.declared.node.Tail.TheVariants.{Host, Courier}
 use Rattle.scp_threaded_node.specs.Outlets.{GivenEnds, given_to, taker_in, taker_of, IsHandedBack}
 use Rattle.scp_threaded_node.specs.Seats.{IsDriven, AreDriven}
 use Rattle.scp_threaded_script.specs.Lines.{is_driven, driven_to, items_to}
@@ -61,7 +61,7 @@ link_within count from to two =
 
 -- a link that the script doesn't drive has a courier, which was given an end of the outbox
 carried_taker : (sent : List LinkItem) (tail : Tail) → IsDriven false sent tail → (t : TakerView) × (taker_of tail ≡ Some t)
-carried_taker sent (Script k) carried = let e : false ≡ true = carried in cc
+carried_taker sent (Host k) carried = let e : false ≡ true = carried in cc
 carried_taker sent (Courier thread) carried = (thread.promise.0.value.taker, refl)
 
 module _ (commands : List Command) (nodes : List Node) (first markers : List (Vec MarkerView)) (reports : List NodeReport) (outlets : List Outlets) (takers : List (Vec (Option TakerView)))

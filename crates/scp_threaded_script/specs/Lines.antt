@@ -1,6 +1,7 @@
--- What the lines of a script send: on a link that the script drives, and to a node.
-use Rattle.std.specs.Prelude.{ℕ, ◌+◌, Bool, false, List, [], ◌∷◌, ◌++◌, flat_map, if◌then◌else◌, nat_eq}
+-- What the lines of a script put on the links that the script drives, and which commands they send to the nodes.
+use Rattle.std.specs.Prelude.{ℕ, ◌+◌, Bool, false, List, [], ◌∷◌, ◌++◌, Option, None, Some, flat_map, if◌then◌else◌, nat_eq}
 use Rattle.std.specs.List.{list_any}
+use Rattle.scp_wire.specs.declared.link.Command.{Command as LocalCommand}
 use Rattle.scp_wire.specs.declared.link.Command.TheVariants as local
 use Rattle.scp_wire.specs.declared.link.Inbound.{Inbound}
 use Rattle.scp_wire.specs.declared.link.Inbound.TheVariants.{Local}
@@ -15,7 +16,7 @@ use Rattle.scp_script.specs.Script.{is_link, lives}
 
 -- ---- links
 
--- a `send` line on this link
+-- the line is a `send` line for this link
 abbrev pub sends : ℕ → ℕ → Command → Bool
 sends from to (Caps capacities) = false
 sends from to (Nodes count quorum) = false
@@ -32,11 +33,11 @@ sends from to Settle = false
 sends from to (Wait node things) = false
 sends from to (Report node) = false
 
--- the script alone sends on the link: a `send` line names it
+-- The script drives the link, so it alone sends on it: a `send` line names the link.
 abbrev pub is_driven : List Command → ℕ → ℕ → Bool
 is_driven commands from to = list_any (sends from to) commands
 
--- what a line behind these puts on the link: it opens its next life, or sends on the last one, or closes it
+-- What a line after these puts on the link: the start of its next life, bytes on its last life, or the end of that life.
 abbrev pub item_by : ℕ → ℕ → List Command → Command → List LinkItem
 item_by from to before (Caps capacities) = []
 item_by from to before (Nodes count quorum) = []
@@ -53,7 +54,7 @@ item_by from to before Settle = []
 item_by from to before (Wait node things) = []
 item_by from to before (Report node) = []
 
--- what lines put on the link, behind those before them
+-- what lines put on the link, after the lines before them
 abbrev pub items_behind : ℕ → ℕ → List Command → List Command → List LinkItem
 items_behind from to before [] = []
 items_behind from to before (command ∷ commands) = item_by from to before command ++ items_behind from to (before ++ command ∷ []) commands
@@ -64,33 +65,42 @@ items_on from to commands = items_behind from to [] commands
 
 -- ---- commands
 
--- what a line tells the node, where it is a command to it
-abbrev pub command_by : ℕ → Command → List Inbound
-command_by node (Caps capacities) = []
-command_by node (Nodes count quorum) = []
-command_by node (Set at set) = []
-command_by node (Open from to) = []
-command_by node (Close from to) = []
-command_by node (Send from to bytes) = []
-command_by node (Propose at slot value) = if nat_eq at node then Local (local.Propose (record { 0 = slot }) value) ∷ [] else []
-command_by node (Round at slot) = if nat_eq at node then Local (local.Round (record { 0 = slot })) ∷ [] else []
-command_by node (Timer at slot) = if nat_eq at node then Local (local.Timer (record { 0 = slot })) ∷ [] else []
-command_by node (Tick at) = if nat_eq at node then Local local.Tick ∷ [] else []
-command_by node (Ask from to slot) = if nat_eq from node then Local (local.Ask (link_of to from) (record { 0 = slot })) ∷ [] else []
-command_by node Settle = []
-command_by node (Wait at things) = []
-command_by node (Report at) = []
+-- the command that a line gives to a node, with the node's number; none for the other lines
+abbrev pub local_by : Command → Option (ℕ × LocalCommand)
+local_by (Caps capacities) = None
+local_by (Nodes count quorum) = None
+local_by (Set at set) = None
+local_by (Open from to) = None
+local_by (Close from to) = None
+local_by (Send from to bytes) = None
+local_by (Propose at slot value) = Some (at, local.Propose (record { 0 = slot }) value)
+local_by (Round at slot) = Some (at, local.Round (record { 0 = slot }))
+local_by (Timer at slot) = Some (at, local.Timer (record { 0 = slot }))
+local_by (Tick at) = Some (at, local.Tick)
+local_by (Ask from to slot) = Some (from, local.Ask (link_of to from) (record { 0 = slot }))
+local_by Settle = None
+local_by (Wait at things) = None
+local_by (Report at) = None
 
--- what the lines tell a node, in their order
+-- a command goes to its own node only
+abbrev pub told_to : ℕ → Option (ℕ × LocalCommand) → List Inbound
+told_to node None = []
+told_to node (Some given) = if nat_eq given.0 node then Local given.1 ∷ [] else []
+
+-- the command of a line, if it is one to this node
+abbrev pub command_by : ℕ → Command → List Inbound
+command_by node command = told_to node (local_by command)
+
+-- the commands of the lines to a node, in their order
 abbrev pub commands_for : ℕ → List Command → List Inbound
 commands_for node commands = flat_map (command_by node) commands
 
 -- ---- all links of a node
 
--- the script drives the link from the peer at a place
+-- the script drives the link to this node from the peer at this place
 abbrev pub driven_to : List Command → ℕ → ℕ → Bool
 driven_to commands to place = is_driven commands (peer_at place to) to
 
--- what lines put on it
+-- what the lines put on that link, in their order
 abbrev pub items_to : ℕ → List Command → ℕ → List LinkItem
 items_to to commands place = items_on (peer_at place to) to commands

@@ -20,14 +20,14 @@ use Rattle.scp_script.specs.declared.command.Command.{Command}
 use Rattle.scp_script.specs.Nodes.{id_of, peers_of, set_at}
 use Rattle.scp_script.specs.Script.{node_count}
 
--- what the node of this number may have sent, by what its threads left
+-- the reasons that the node of this number has for what it may send, from what its threads left
 abbrev pub grounds_at : List Command → ℕ → Left → Grounds
 grounds_at commands number left = grounds_gathered (id_of number) (set_at number commands) (peers_of (node_count commands) number) left
 
--- Of two nodes, by what their threads left: over the link from the one to the other went what an outbox gives of what the sender's three stages handed
--- out for it, all that it gave, in order, and just that the receiver's reader received. So each message that went over, and each that the receiver's
--- pending stage took of it, has its ground in what the sender took, wrote, decided and applied, and each statement is newer than those of its slot
--- and kind before it.
+-- What went over the link from one node to another, from what the threads of both left. It is all that an outbox gave, in order, of what the
+-- sender's three stages handed out for the link, and exactly what the receiver's reader received.
+-- So each message that went over, and each that the receiver's pending stage took, has its reason in what the sender took, wrote, decided and
+-- applied. And each statement is newer than those before it of its slot and kind.
 pub record Travels (commands : List Command) (from to : ℕ) (sender receiver : Left) : Type 0 where
   pub replies : List Outgoing
   pub said : List Outgoing

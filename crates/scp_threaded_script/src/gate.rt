@@ -6,21 +6,21 @@ use std::sync::atomic::{AtomicU64, Ordering};
 use std::thread;
 use std::time::Duration;
 
-/// The most yields of a wait.
+/// The most yields of a wait, and of a try to leave a mark.
 pub const MOST_YIELDS: u32 = 1_000_000;
 
-/// A wait yields only after so many sleeps in a row in which the applier received nothing.
+/// A wait yields only after this many sleeps in a row in which the applier received nothing.
 const MOST_SLEEPS: u32 = 250;
 
-/// How long it sleeps at a time, where the applier receives nothing.
+/// The length of one sleep, in milliseconds, while the applier receives nothing.
 const SLEEP_MILLIS: u64 = 1;
 
-/// A gate that is lent.
+/// A borrowed gate.
 #[derive(Drop)]
 pub struct Lent<'g, G>(&'g G);
 
 impl<'g, G: Gate> Lent<'g, G> {
-    /// This one.
+    /// Borrows this gate.
     pub fn new(gate: &'g G) -> Lent<'g, G> {
         Lent(gate)
     }
@@ -36,13 +36,13 @@ impl<'g, G: Gate> Gate for Lent<'g, G> {
     }
 }
 
-/// A gate around another one: it counts how often the applier of each node received something, and then calls the other. Who waits for
-/// such a receive sleeps on the count.
+/// A gate around another one. It counts how often the applier of each node received something, and then calls the other gate. A thread that
+/// waits for such a receive sleeps on the count.
 #[derive(Drop)]
 pub struct Counting<G> {
     inner: G,
     received: [AtomicU64; NODE_LIMIT],
-    /// How many wait.
+    /// The number of threads that wait.
     waiting: AtomicU64,
 }
 
@@ -60,7 +60,7 @@ impl<G: Gate> Gate for Counting<G> {
 }
 
 impl<G: Gate> Counting<G> {
-    /// Around this gate; nothing was received.
+    /// A counting gate around this one; nothing was received yet.
     pub fn new(inner: G) -> Counting<G> {
         Counting {
             inner,
@@ -78,7 +78,7 @@ impl<G: Gate> Counting<G> {
         }
     }
 
-    /// The applier of this node received something. The id of a script's node is 32 bytes of its number.
+    /// Counts one receive of this node's applier. The id of a script's node is 32 bytes of its number.
     fn count(&self, node: NodeId) {
         if let Some(received) = self.of(node.0[0]) {
             received.fetch_add(1, Ordering::SeqCst);
@@ -92,7 +92,7 @@ impl<G: Gate> Counting<G> {
         self.received.get(usize::from(number).wrapping_sub(1))
     }
 
-    /// How often the applier of the node of this number received something.
+    /// The number of receives of the applier of the node of this number; 0 if there is no such node.
     pub fn received(&self, number: u8) -> u64 {
         match self.of(number) {
             Some(received) => received.load(Ordering::SeqCst),
@@ -100,8 +100,8 @@ impl<G: Gate> Counting<G> {
         }
     }
 
-    /// Waits until the applier of the node of this number received so many things: it sleeps until that one has received nothing for a
-    /// quarter of a second, and then yields at most 1,000,000 times. Whether it did.
+    /// Waits until the applier of the node of this number received this many things. It sleeps until the applier has received nothing for a
+    /// quarter of a second, and then yields, at most 1,000,000 times. Returns whether the applier received them.
     pub fn wait<R: Wait>(&self, rt: &R, number: u8, things: u64) -> bool {
         self.waiting.fetch_add(1, Ordering::SeqCst);
         let slept = self.sleeps_until(rt, number, things);
@@ -109,7 +109,7 @@ impl<G: Gate> Counting<G> {
         slept || self.yields_until(number, things)
     }
 
-    /// Sleeps until it is so, or the applier has received nothing for that long.
+    /// Sleeps until the applier received this many things, or has received nothing for a quarter of a second.
     fn sleeps_until<R: Wait>(&self, rt: &R, number: u8, things: u64) -> bool {
         let Some(received) = self.of(number) else {
             return things == 0;
@@ -129,7 +129,7 @@ impl<G: Gate> Counting<G> {
         false
     }
 
-    /// Yields until it is so, at most 1,000,000 times.
+    /// Yields until the applier received this many things, at most 1,000,000 times.
     fn yields_until(&self, number: u8, things: u64) -> bool {
         for _ in 0..MOST_YIELDS {
             if self.received(number) >= things {

@@ -1,4 +1,4 @@
-//! What the lines of a script do to nodes that run.
+//! What the lines of a script do to running nodes.
 ghost use Rattle.std.specs.Prelude.{◌≡◌, ◌≤◌, ◌-◌, ◌∷◌, ◌++◌, [], ℕ, List, OnOk, OnErr, All, IfOk, IfErr, IsOkUnless, length, false};
 ghost use Rattle.scp_wire.specs.declared.link.Inbound.TheVariants as inbound;
 ghost use Rattle.scp_script.specs.declared.command.Command.{Command};
@@ -6,8 +6,9 @@ ghost use Rattle.scp_script.specs.declared.command.Command.TheVariants as script
 ghost use Rattle.scp_script.specs.Nodes.{NamesNodes};
 ghost use Rattle.scp_script.specs.Script.{AreAdmitted};
 ghost use Rattle.scp_desks.specs.Table.{AreRows};
+ghost use Rattle.scp_threaded_script.specs.Lines.{local_by};
 ghost use Rattle.scp_threaded_script.specs.inside.Outlets.{AreSameMarkers, all_given};
-ghost use Rattle.scp_threaded_script.specs.inside.Played.{HaveDone, HaveLanes, AllRun, AreTwoOf, IsThere, IsNoLink, TellsAt, ActsOn, AreUnchanged, IsCommandOf};
+ghost use Rattle.scp_threaded_script.specs.inside.Played.{HaveDone, HaveLanes, AllRun, AreTwoOf, IsThere, IsNoLink, TellsAt, ActsOn, AreUnchanged};
 ghost use Rattle.scp_threaded_script.specs.Reported.{IsLineFault, IsOneOf};
 ghost use Rattle.scp_threaded_script.specs.Waits.{AreWaits};
 ghost use Rattle.scp_threaded_script.specs.inside.Waiting.{AddsWait, IsWait};
@@ -29,11 +30,11 @@ use scp_types::{Fault, Slot};
 use scp_wire::{Bytes, Command as LocalCommand};
 use std::sync::Wait;
 
-/// The command for a node that a line is, with the node's number. It copies the value of a proposal; the one refusal is
-/// `NoMemory`.
-fn command_of(command: &Command) -> Result<Option<(u8, LocalCommand)>, Fault>
+/// The command that a line gives to a node, with the node's number; `None` for every other line. It copies the value of a proposal; the only
+/// refusal is `NoMemory`.
+pub fn command_of(command: &Command) -> Result<Option<(u8, LocalCommand)>, Fault>
     requires names { NamesNodes command.now }
-    ensures command { IfOk result (IsCommandOf command.now) }
+    ensures exact { IfOk result (λ found. found ≡ local_by command.now) }
     ensures only_memory { IsOkUnless result Fault.NoMemory }
 {
     match command {
@@ -52,7 +53,7 @@ fn command_of(command: &Command) -> Result<Option<(u8, LocalCommand)>, Fault>
     }
 }
 
-/// Why something wasn't done on a link to this node: its reader is gone, and the node is named, or it stands otherwise.
+/// Why an act wasn't done on a link to this node. Either its reader is gone, and the node is named; or the link isn't as the lines say.
 fn fault_at(node: u8, fault: Fault) -> NodeFault
     requires node { IsOneOf 8 node }
     ensures { (count : ℕ) → IsOneOf count node → (act : Act) → (tail : Tail) → IsActFault act tail fault → IsLineFault count result.node result.fault }
@@ -63,8 +64,8 @@ fn fault_at(node: u8, fault: Fault) -> NodeFault
     }
 }
 
-/// Does it on the link between two nodes, where the script sends on it; else does nothing. Where the link's reader is gone the second
-/// node is named; a link that can't do it stands otherwise than the lines say.
+/// Does the act on the link between two nodes, if the script sends on it; else does nothing. If the link's reader is gone, the second node is
+/// named. A link that can't do it isn't as the lines say.
 fn act_on_link<R: Wait>(
     rt: &R,
     nodes: &mut Vec<Node>,
@@ -86,7 +87,7 @@ fn act_on_link<R: Wait>(
     }
 }
 
-/// Tells the node of this number a command. A refusal names it.
+/// Sends a command to the node of this number. A refusal names the node.
 fn tell_node<R: Wait>(
     rt: &R,
     nodes: &mut Vec<Node>,
@@ -117,7 +118,7 @@ fn has_courier(nodes: &Vec<Node>, from: u8, to: u8) -> bool
     is_carried_at(&nodes[usize::from(to - 1)], usize::from(link_of(from, to)))
 }
 
-/// Opens or closes a link: itself, where the script drives it; else by a mark in its sender's outbox.
+/// Opens or closes a link: directly if the script drives it, else by a mark in its sender's outbox.
 fn drive<R: Wait>(
     rt: &R,
     nodes: &mut Vec<Node>,
@@ -142,7 +143,7 @@ fn drive<R: Wait>(
     act_on_link(rt, nodes, from, to, done)
 }
 
-/// Tells a node the command that a line is, if it is one.
+/// Sends the command of a line to its node, if the line is one.
 fn tell_line<R: Wait>(rt: &R, nodes: &mut Vec<Node>, command: &Command) -> Result<(), NodeFault>
     requires names { NamesNodes command.now }
     requires there { IsThere (length nodes.old.items) command.now }
@@ -221,7 +222,7 @@ fn send<R: Wait>(
     act_on_link(rt, nodes, from, to, Act::Send(bytes))
 }
 
-/// Does what a line says, but that it waits for nothing.
+/// Does what a line says, except that it doesn't wait.
 fn act_on_line<R: Wait>(
     rt: &R,
     nodes: &mut Vec<Node>,
@@ -248,7 +249,7 @@ fn act_on_line<R: Wait>(
     }
 }
 
-/// Wakes who waits for what the lines so far did.
+/// Wakes the threads that wait for what the lines did so far.
 fn flush_all(nodes: &mut Vec<Node>)
     ensures { AreUnchanged nodes.old.items nodes.new.items }
 {
@@ -257,7 +258,7 @@ fn flush_all(nodes: &mut Vec<Node>)
     }
 }
 
-/// Whether a line may wait for something else than room for what it sends.
+/// Whether a line may wait for anything but room for what it sends.
 fn may_wait(command: &Command) -> bool {
     matches!(
         command,
@@ -265,7 +266,7 @@ fn may_wait(command: &Command) -> bool {
     )
 }
 
-/// Wakes who waits for what the lines so far did, where the next line may wait, or the gate may hold a worker.
+/// Wakes the threads that wait for what the lines did so far, if the next line may wait, or the gate may hold a worker.
 fn flush_before<G: Gate>(nodes: &mut Vec<Node>, gate: &Counting<G>, command: &Command)
     ensures { AreUnchanged nodes.old.items nodes.new.items }
 {
@@ -274,7 +275,7 @@ fn flush_before<G: Gate>(nodes: &mut Vec<Node>, gate: &Counting<G>, command: &Co
     }
 }
 
-/// Waits, where the line says so. Whether that came for which it waits.
+/// Waits, if the line says so. Returns whether what it waits for came.
 fn has_come<R: Wait, G: Gate>(rt: &R, gate: &Counting<G>, command: &Command) -> bool
     ensures { result ≡ false → IsWait command.now }
 {
@@ -284,7 +285,7 @@ fn has_come<R: Wait, G: Gate>(rt: &R, gate: &Counting<G>, command: &Command) -> 
     }
 }
 
-/// Waits, where the line says so, and adds its place where it gives up. The one refusal is `NoMemory`.
+/// Waits, if the line says so, and adds its place if it gives up. The only refusal is `NoMemory`.
 fn wait_at_line<R: Wait, G: Gate>(
     rt: &R,
     gate: &Counting<G>,

@@ -1,4 +1,4 @@
-//! Which links the script drives, how the lines leave them, and the marks that lines leave in outboxes.
+//! Which links the script drives, how the lines leave the links, and the marks that lines leave in outboxes.
 ghost use Rattle.std.specs.Prelude.{◌≡◌, ◌≤◌, ◌<◌, length, map, IfOk, IsOkUnless};
 ghost use Rattle.scp_desks.specs.Places.{AreTwoOf};
 ghost use Rattle.scp_desks.specs.Table.{AreRows, desk_of};
@@ -28,7 +28,7 @@ fn sends(command: &Command, from: u8, to: u8) -> bool
     }
 }
 
-/// Whether the script alone sends on the link: a `send` line names it.
+/// Whether the script drives the link, so that it alone sends on it: a `send` line names the link.
 pub fn is_driven(commands: &[Command], from: u8, to: u8) -> bool
     ensures { result ≡ is_driven commands.now from to }
 {
@@ -55,7 +55,7 @@ fn closes(command: &Command, from: u8, to: u8) -> bool
     }
 }
 
-/// How often the lines open the link.
+/// The number of times that the lines open the link.
 fn lives_of(commands: &[Command], from: u8, to: u8) -> usize
     ensures { result ≡ lives from to commands.now }
 {
@@ -84,7 +84,7 @@ fn is_left_open(commands: &[Command], from: u8, to: u8) -> bool
     open
 }
 
-/// How the link stands behind the lines.
+/// How the lines leave the link: how often it was opened, and whether it is open.
 pub fn stood_of(commands: &[Command], from: u8, to: u8) -> Stood
     ensures { result ≡ stood_on commands.now from to }
 {
@@ -94,7 +94,7 @@ pub fn stood_of(commands: &[Command], from: u8, to: u8) -> Stood
     }
 }
 
-/// Leaves a mark, where there is room. Says whether there was.
+/// Leaves a mark, if there is room. Returns whether there was.
 fn is_left<R: Wait>(rt: &R, marker: &mut Marker, mark: Mark) -> bool
     ensures { marker.new.desk ≡ marker.old.desk }
 {
@@ -104,8 +104,7 @@ fn is_left<R: Wait>(rt: &R, marker: &mut Marker, mark: Mark) -> bool
     }
 }
 
-/// Leaves a mark. Where there is no room it is tried again after a yield, 1,000,000 times.
-/// The one refusal is `Full`.
+/// Leaves a mark. If there is no room, it yields and tries again, at most 1,000,000 times. The only refusal is `Full`.
 fn leave<R: Wait>(rt: &R, marker: &mut Marker, mark: Mark) -> Result<(), Fault>
     ensures same { marker.new.desk ≡ marker.old.desk }
     ensures only { IsOkUnless result Fault.Full }
@@ -119,7 +118,7 @@ fn leave<R: Wait>(rt: &R, marker: &mut Marker, mark: Mark) -> Result<(), Fault>
     Err(Fault::Full)
 }
 
-/// Leaves a mark in the outbox at a place, as `leave` does.
+/// Leaves a mark in the outbox at this place, as `leave` does.
 fn leave_in<R: Wait>(rt: &R, row: &mut Vec<Marker>, place: usize, mark: Mark) -> Result<(), Fault>
     requires place { place < length row.old.items }
     ensures same { map desk_of row.new.items ≡ map desk_of row.old.items }
@@ -128,7 +127,7 @@ fn leave_in<R: Wait>(rt: &R, row: &mut Vec<Marker>, place: usize, mark: Mark) ->
     leave(rt, &mut row[place], mark)
 }
 
-/// Leaves a mark in the outbox of which the messages go from a node to another, as `leave` does.
+/// Leaves a mark in the outbox whose messages go from one node to another, as `leave` does.
 pub fn leave_at<R: Wait>(
     rt: &R,
     markers: &mut Vec<Vec<Marker>>,
@@ -176,7 +175,7 @@ pub fn stop_all<R: Wait>(rt: &R, markers: &mut Vec<Vec<Marker>>)
     }
 }
 
-/// How many own statements were lost on each link of a node, as its outboxes count them.
+/// The number of own statements that were lost on each link of a node, as its outboxes count them.
 fn losses_of<R: Wait>(rt: &R, alloc: Global, putters: &[Putter]) -> Result<Vec<u64>, Fault>
     ensures count { IfOk result (λ losses. length losses.items ≡ length putters.now) }
     ensures only_memory { IsOkUnless result Fault.NoMemory }
@@ -188,7 +187,7 @@ fn losses_of<R: Wait>(rt: &R, alloc: Global, putters: &[Putter]) -> Result<Vec<u
     Ok(losses)
 }
 
-/// So of each node.
+/// The same for each node. The only refusal is `NoMemory`.
 pub fn all_losses<R: Wait>(rt: &R, alloc: Global, all: &[Outlets]) -> Result<Vec<Vec<u64>>, Fault>
     ensures count { IfOk result (λ losses. length losses.items ≡ length all.now) }
     ensures only_memory { IsOkUnless result Fault.NoMemory }

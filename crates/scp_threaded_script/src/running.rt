@@ -1,10 +1,11 @@
-//! Nodes of a script, each of whose stages runs in a thread of its own.
+//! Running the nodes of a script, each of whose stages has a thread of its own.
 ghost use Rattle.std.specs.Prelude.{◌≡◌, ◌≤◌, ◌+◌, ◌⊎◌, ◌∷◌, ◌++◌, ℕ, [], true, List, All, IfOk, IfErr, OnOk, OnErr, IsOkUnless, MatchResult, Option, None, Ok, length, is_none};
 ghost use Rattle.std.specs.Option.{option_or};
 ghost use Rattle.std.specs.Result.{result_err};
 ghost use Rattle.scp_script.specs.declared.command.Command.{Command};
 ghost use Rattle.scp_script.specs.Script.{AreAdmitted, node_count};
-ghost use Rattle.scp_script.specs.Nodes.{NamesNodes, capacities_in, id_of, peers_of, set_at};
+ghost use Rattle.scp_script.specs.Nodes.{NamesNodes, id_of, peers_of, set_at};
+ghost use Rattle.scp_threaded_script.specs.Rooms.{capacities_in};
 ghost use Rattle.scp_threaded_node.specs.scp_gather.specs.Kv.{NodeReport};
 ghost use Rattle.scp_threaded_node.specs.Seats.{Runs, AreDriven};
 ghost use Rattle.scp_threaded_node.specs.Sources.{AreSources, HaveRoom, taker_from};
@@ -15,6 +16,7 @@ ghost use Rattle.scp_threaded_script.specs.inside.Over.{AreOver};
 ghost use Rattle.scp_desk.specs.Ends.{MarkerView};
 ghost use Rattle.scp_desks.specs.Places.{Each};
 ghost use Rattle.scp_desks.specs.Table.{AreMade, AreRows, AreAllBack, AllCameOut, AreOutletsOf, IsTakerOf, HavePutNothing};
+ghost use Rattle.scp_threaded_node.specs.Kv.{Over as NodeOver};
 ghost use Rattle.scp_threaded_node.specs.Outlets.{given_to};
 ghost use Rattle.scp_threaded_script.specs.inside.Ending.{HaveAllEnded, IsEndFault, IsNumbered, IsWhole};
 ghost use Rattle.scp_threaded_script.specs.inside.Played.{HaveDone, HaveDoneSoFar};
@@ -32,8 +34,10 @@ use scp_desks::{Made, Outlets, link_of, make_all, peer_at, take_all_back};
 use scp_driver::KvDriver;
 use scp_gate::Gate;
 use scp_grounds::what_is_handed_out_may_be_sent;
-use scp_script::{Command, capacities_of, count_of_nodes, id_from, peers_of_node, set_of_node};
-use scp_threaded_node::{Node, NodeReport, Over, Source, Stood, end, make_parts, start};
+use scp_script::{Command, count_of_nodes, id_from, peers_of_node, set_of_node};
+use scp_threaded_node::{
+    Capacities, Node, NodeReport, Over, Source, Stood, end, make_parts, start,
+};
 use scp_travel::{what_is_carried_is_sent_out, what_is_read_is_the_senders_own};
 use scp_types::Fault;
 use std::alloc::{AllocError, Global};
@@ -41,7 +45,7 @@ use std::sync::Wait;
 use std::thread;
 use std::thread::{Scope, Threads};
 
-/// Why nothing is reported, and the node that the refusal names, or 0.
+/// Why nothing is reported, and the number of the node that the refusal names, or 0.
 #[derive(Clone, Copy, Debug, PartialEq, Eq)]
 pub struct NodeFault {
     pub fault: Fault,
@@ -58,7 +62,20 @@ impl From<Fault> for NodeFault {
     }
 }
 
-/// What sends on the link from a node to another, where the script doesn't: a courier, by this end of the link's outbox.
+/// The capacities of the channels of each node of a script.
+fn capacities_of(commands: &[Command]) -> Capacities
+    ensures { result ≡ capacities_in commands.now }
+{
+    let said = scp_script::capacities_of(commands);
+    Capacities {
+        link: said.link,
+        inbox: said.inbox,
+        ready: said.ready,
+        decided: said.decided,
+    }
+}
+
+/// The source of a courier on the link from one node to another, with this outbox end. `None` if the script drives the link.
 fn source_of(taker: Taker, commands: &[Command], from: u8, to: u8) -> Option<Source>
     ensures driven { is_none result ≡ is_driven commands.now from to }
     ensures taker { (taker_from result ≡ None) ⊎ (taker_from result ≡ Some taker) }
@@ -73,7 +90,7 @@ fn source_of(taker: Taker, commands: &[Command], from: u8, to: u8) -> Option<Sou
     })
 }
 
-/// What sends on each link to a node; `takers[l]` is the end by which is given what goes over link l.
+/// The courier's source for each link to a node, if it has one; `takers[l]` is the outbox end for link l.
 fn sources_of(
     alloc: Global,
     takers: Vec<Taker>,
@@ -96,7 +113,7 @@ fn sources_of(
     Ok(sources)
 }
 
-/// Starts the node of this number, with its own ends of outboxes.
+/// Starts the node of this number, with its own outbox ends.
 fn start_node<'s, E, R: Threads + Wait + Sync, G: Gate + Sync>(
     scope: &Scope<'s, E>,
     rt: &'s R,
@@ -131,6 +148,7 @@ fn start_node<'s, E, R: Threads + Wait + Sync, G: Gate + Sync>(
         set,
         peers.as_slice(),
         capacities_of(commands),
+        KvDriver,
         outlets,
         keeps,
     )?;
@@ -138,7 +156,7 @@ fn start_node<'s, E, R: Threads + Wait + Sync, G: Gate + Sync>(
     start(scope, rt, gate, alloc, parts, sources)
 }
 
-/// Starts all nodes; `outlets[n - 1]` and `takers[n - 1]` are the ends of outboxes of node n. Where one can't be started those before it run.
+/// Starts all nodes; `outlets[n - 1]` and `takers[n - 1]` are the outbox ends of node n. If one can't be started, those before it run.
 fn start_all<'s, E, R: Threads + Wait + Sync, G: Gate + Sync>(
     scope: &Scope<'s, E>,
     rt: &'s R,
@@ -178,7 +196,7 @@ fn start_all<'s, E, R: Threads + Wait + Sync, G: Gate + Sync>(
     Ok(())
 }
 
-/// How each link to a node stands behind the lines, by the places of its peers.
+/// How the lines leave each link to a node, in the order of its peers.
 fn stood_to(alloc: Global, commands: &[Command], count: u8, to: u8) -> Result<Vec<Stood>, Fault>
     requires few { count ≤ 8 }
     requires count { count ≡ node_count commands.now }
@@ -198,7 +216,7 @@ fn stood_to(alloc: Global, commands: &[Command], count: u8, to: u8) -> Result<Ve
     Ok(stood)
 }
 
-/// How each link to each node stands behind the lines.
+/// How the lines leave each link to each node.
 fn all_stood(alloc: Global, commands: &[Command], count: u8) -> Result<Vec<Vec<Stood>>, Fault>
     requires few { count ≤ 8 }
     requires count { count ≡ node_count commands.now }
@@ -213,17 +231,17 @@ fn all_stood(alloc: Global, commands: &[Command], count: u8) -> Result<Vec<Vec<S
     Ok(all)
 }
 
-/// What is told of the nodes of a script that ran in threads, node 1 first.
+/// What is reported of the nodes of a script that ran in threads, node 1 first.
 #[derive(Drop)]
 pub struct Ran {
     pub reports: Vec<NodeReport>,
-    /// The places among the script's commands, from 0 on and ascending, of the `wait` lines that gave up after 1,000,000 yields.
+    /// The places of the `wait` lines that gave up, ascending, counted from 0 among the script's commands.
     pub gave_up: Vec<usize>,
-    /// How many own statements of each node were lost on each of its links, as its outboxes count them.
+    /// The number of own statements of each node that were lost on each of its links, as its outboxes count them.
     pub losses: Vec<Vec<u64>>,
 }
 
-/// What is told of nodes that have ended, and the ends of outboxes that they hand back; and why there is less.
+/// The reports of nodes that have ended, the outbox ends that they hand back, and why some are missing.
 #[derive(Drop)]
 struct Ended {
     all: Vec<NodeReport>,
@@ -231,13 +249,13 @@ struct Ended {
     takers: Vec<Vec<Option<Taker>>>,
     /// The first refusal of a stage.
     refused: Option<NodeFault>,
-    /// A link stands otherwise than the lines leave it.
+    /// A link isn't as the lines leave it.
     astray: bool,
-    /// A courier failed, or memory was wanting.
+    /// A courier failed, or it ran out of memory.
     lost: bool,
 }
 
-/// Keeps what is told of a node and what it hands back, where there is memory.
+/// Keeps the report of a node and what it hands back, if there is memory.
 fn keep(ended: &mut Ended, over: Over) -> Result<(), AllocError>
     ensures kept { OnOk result ((ended.new.all.items ≡ ended.old.all.items ++ over.report ∷ []) × (ended.new.outlets.items ≡ ended.old.outlets.items ++ over.outlets ∷ []) × (ended.new.takers.items ≡ ended.old.takers.items ++ over.takers ∷ [])) }
     ensures same { (ended.new.refused ≡ ended.old.refused) × (ended.new.astray ≡ ended.old.astray) × (ended.new.lost ≡ ended.old.lost) }
@@ -251,9 +269,9 @@ fn keep(ended: &mut Ended, over: Over) -> Result<(), AllocError>
     Ok(())
 }
 
-/// Adds what is told of the node of this number.
+/// Adds the result of the node of this number.
 fn add(ended: &mut Ended, number: u8, told: Result<Over, Fault>)
-    ensures told { IsWhole ended.new → IsWhole ended.old × (r : Over) × (told ≡ Ok r) × (ended.new.all.items ≡ ended.old.all.items ++ r.report ∷ []) × (ended.new.outlets.items ≡ ended.old.outlets.items ++ r.outlets ∷ []) × (ended.new.takers.items ≡ ended.old.takers.items ++ r.takers ∷ []) }
+    ensures told { IsWhole ended.new → IsWhole ended.old × (r : NodeOver) × (told ≡ Ok r) × (ended.new.all.items ≡ ended.old.all.items ++ r.report ∷ []) × (ended.new.outlets.items ≡ ended.old.outlets.items ++ r.outlets ∷ []) × (ended.new.takers.items ≡ ended.old.takers.items ++ r.takers ∷ []) }
     ensures refused { ended.new.refused ≡ option_or ended.old.refused (refused_at number (result_err told)) }
 {
     match told {
@@ -304,7 +322,7 @@ fn end_nodes<R: Threads + Wait>(
     ended
 }
 
-/// What is told of all nodes when they have ended, and the ends of outboxes that they hand back.
+/// The reports of all nodes when they have ended, and the outbox ends that they hand back.
 #[derive(Drop)]
 struct AllOver {
     reports: Vec<NodeReport>,
@@ -312,8 +330,8 @@ struct AllOver {
     takers: Vec<Vec<Option<Taker>>>,
 }
 
-/// Ends all nodes. Refused by the first stage that failed of the first such node, which is named; else by `NotOpen`, where a link
-/// stands otherwise than the lines leave it, or by `NoMemory`.
+/// Ends all nodes. Refused by the first failed stage of the first node that has one, which is named. Else by `NotOpen`, if a link isn't as
+/// the lines leave it, or by `NoMemory`.
 fn end_all<R: Threads + Wait>(
     rt: &R,
     alloc: Global,
@@ -384,7 +402,7 @@ fn start_and_act<'s, E, R: Threads + Wait + Sync, G: Gate + Sync>(
     act_all(rt, nodes, markers, gate, commands, gave_up)
 }
 
-/// What is told: where a line wasn't done, the stage that failed, if one did, and else why the line wasn't done.
+/// The result to report. If a line wasn't done, it is the stage that failed, if one did, and else why the line wasn't done.
 fn told_of(
     done: Result<(), NodeFault>,
     told: Result<AllOver, NodeFault>,
@@ -401,7 +419,7 @@ fn told_of(
     }
 }
 
-/// Takes the ends of all outboxes back, and tells of the nodes: their reports, and how many own statements were lost on each link.
+/// Takes the ends of all outboxes back. Returns the reports of the nodes, and how many own statements were lost on each link.
 fn taken_back<R: Wait>(
     rt: &R,
     alloc: Global,
@@ -426,7 +444,7 @@ fn taken_back<R: Wait>(
     Ok((reports, losses))
 }
 
-/// Runs the nodes, does the lines, and ends the nodes, whatever came.
+/// Starts the nodes, does the lines, and ends the nodes, whatever happened before.
 fn run_in<'s, E, R: Threads + Wait + Sync, G: Gate + Sync>(
     scope: &Scope<'s, E>,
     rt: &'s R,
@@ -488,7 +506,7 @@ fn run_in<'s, E, R: Threads + Wait + Sync, G: Gate + Sync>(
     }
 }
 
-/// Runs the nodes, does the lines, and ends the nodes, in a scope of threads.
+/// Starts the nodes, does the lines, and ends the nodes, in a scope of threads.
 fn run_scoped<R: Threads + Wait + Sync, G: Gate + Sync>(
     rt: &R,
     gate: &Counting<G>,
@@ -519,14 +537,17 @@ fn run_scoped<R: Threads + Wait + Sync, G: Gate + Sync>(
     )
 }
 
-/// Runs the nodes of a script, each of whose stages has a thread of its own, does what its lines say, in their order and by one thread, and
-/// ends the nodes: what is told of them, and which `wait` lines gave up. Each worker of a node calls the gate after each receive and before
-/// each send. At each way out all
-/// threads have ended. Where `keeps` is set each report tells what came over each of its node's links, and else over none.
+/// Runs the nodes of a script, each of whose stages has a thread of its own. One thread does what the lines say, in their order, and then
+/// ends the nodes. Returns their reports, and which `wait` lines gave up.
+/// Each worker of a node calls the gate after each receive and before each send. Whenever this returns, all threads have ended, by the word
+/// of the library of threads. If `keeps` is set, each report has what came over each of its node's links, and else over none.
 ///
-/// Refused by `Refused` with the first stage that failed of the first node of which one did, which is named, whatever else was wrong; else by
-/// `Full` where a mark of an `open` or a `close` line found no room in an outbox after 1,000,000 yields, by `NotOpen` where a link stood
-/// otherwise than the lines say, by `NoMemory` where memory was wanting or a courier failed.
+/// Refused by `Refused` with the first failed stage of the first node that has one, which is named, whatever else was wrong. Else by one of
+/// these:
+/// - `Refused` with a node's reader or pending stage that was gone at a line, and the node is named;
+/// - `Full`, if a mark of an `open` or a `close` line found no room in an outbox after 1,000,000 yields;
+/// - `NotOpen`, if a link isn't as the lines say;
+/// - `NoMemory`, if it is out of memory or a courier failed.
 pub fn run_lines<R: Threads + Wait + Sync, G: Gate + Sync>(
     rt: &R,
     gate: &G,

@@ -1,5 +1,5 @@
--- What the nodes of a script hear more, while it is played.
--- Here stands what no public clause reaches: nothing here need be believed.
+-- What the nodes of a script hear from line to line, while the script is played.
+-- No public clause reaches these definitions: nothing here need be believed.
 use Rattle.std.specs.Prelude.{◌≤◌, ◌≡◌, ◌⊎◌, List, length}
 use Rattle.scp_types.specs.declared.fault.Fault.TheVariants.{Failed as failing, Full as full}
 use Rattle.scp_network.specs.Heard.{Heard}
@@ -16,6 +16,6 @@ pub record IsPlayed (commands : List Command) (network : NetworkView) : Type 0 w
   pub played : ArePlayed commands commands heard network.nodes
   pub few : length network.nodes ≤ 8
 
--- why lines weren't all done
+-- why not all lines were done
 abbrev pub IsStopped : List Command → PlayFault → Type 0
 IsStopped commands e = IsWant e ⊎ (((e.fault ≡ failing) × IsSmall e.node × Stops commands e.node) ⊎ ((e.fault ≡ full) × (e.node ≡ 0) × Overflows commands))

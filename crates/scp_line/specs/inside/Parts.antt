@@ -1,5 +1,5 @@
--- What a report tells of a node, and the lines of connections in a map.
--- Here stands what no public clause reaches: nothing here need be believed.
+-- The lines of connections in a map.
+-- No public clause reaches these definitions: nothing here need be believed.
 use Rattle.std.specs.Prelude.{ℕ, List, [], Option, Some, None, String, string_bytes}
 use Rattle.std.specs.BTreeMap.{BTreeMap, get}
 use Rattle.scp_types.specs.declared.names.ConnId.{ConnId}

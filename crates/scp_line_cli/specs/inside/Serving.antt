@@ -1,4 +1,4 @@
--- What a command line is answered with.
+-- What the program writes for a command line, and why a script isn't played.
 use Rattle.std.specs.Prelude.{ℕ, ◌≡◌, ◌≤◌, ◌<◌, ◌⊎◌, List, length, Option, IfSome}
 use Rattle.scp_types.specs.declared.fault.Fault.TheVariants.{TooLong, Full, Failed, BadScript, Refused}
 use Rattle.scp_types.specs.declared.fault.Stage.{Stage}
@@ -9,15 +9,15 @@ use Rattle.scp_line.specs.Outcome.{fault_line, IsPlayFault}
 use Rattle.scp_line.specs.Play.{IsNamed, Stops, Overflows}
 use Rattle.scp_line.specs.Threads.{IsThreadsFault, IsOfTheNodes, AreGivenUp}
 
--- this text was written and nothing else, or the writer failed
+-- exactly this text was written, or the writer failed
 abbrev pub IsWritten : {W : Type 0} → (W → Option (List ℕ)) → (W → ℕ) → W → List ℕ → W → Type 0
 IsWritten written failures old text new = (Gains (written old) text (written new) × (failures new ≡ failures old)) ⊎ Fails (failures old) (failures new)
 
--- a fault was told by its line and nothing else, or the writer failed
+-- exactly the line of the fault was written, or the writer failed
 abbrev pub IsTold : {W : Type 0} → (W → Option (List ℕ)) → (W → ℕ) → W → PlayFault → W → Type 0
 IsTold written failures old fault new = IsWritten written failures old (fault_line fault.node fault.fault) new
 
--- why a script that was read from here, all that was left, wasn't played
+-- why a script wasn't played; `left` is all that was left to read of it
 pub record IsUnplayed (left : Option (List ℕ)) (fault : PlayFault) : Type 0 where
   pub cause : IsPlayFault fault.fault
   pub named : IsNamed fault.node fault.fault
@@ -26,7 +26,7 @@ pub record IsUnplayed (left : Option (List ℕ)) (fault : PlayFault) : Type 0 wh
   pub stops : fault.fault ≡ Failed → IfSome left (λ all. (length all ≤ 1048576) × IsScript all × Stops (commands_in all) fault.node)
   pub full : fault.fault ≡ Full → IfSome left (λ all. (length all ≤ 1048576) × IsScript all × Overflows (commands_in all))
 
--- why a script that was read from here, all that was left, wasn't played in threads
+-- why a script wasn't played in threads; `left` is all that was left to read of it
 pub record IsUnplayedInThreads (left : Option (List ℕ)) (fault : PlayFault) : Type 0 where
   pub cause : IsThreadsFault fault.fault
   pub named : IsNamed fault.node fault.fault

@@ -1,4 +1,4 @@
--- Commands without the bytes that they send or propose: what is said of where a line may stand doesn't ask for them.
+-- Commands without the bytes that they send or propose. Whether a line may follow others doesn't depend on these bytes.
 -- No public clause reaches this: nothing here need be believed.
 use Rattle.std.specs.Prelude.{[]}
 use Rattle.scp_script.specs.declared.command.Command.{Command}

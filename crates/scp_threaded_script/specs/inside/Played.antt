@@ -1,5 +1,4 @@
--- What the lines of a script did to nodes that run.
--- No public clause reaches this: nothing here need be believed.
+-- What the lines of a script did to running nodes.
 use Rattle.std.specs.Prelude.{◌≡◌, ℕ, ◌+◌, ◌-◌, List, [], ◌∷◌, length, Option, None, Some, slice_get, slice_set, if◌then◌else◌, nat_eq}
 use Rattle.scp_wire.specs.declared.link.Command.{Command as LocalCommand}
 use Rattle.scp_wire.specs.declared.link.Inbound.{Inbound}
@@ -8,7 +7,7 @@ use Rattle.scp_script.specs.declared.command.Command.{Command}
 use Rattle.scp_script.specs.declared.command.Command.TheVariants as script
 use Rattle.scp_script.specs.Script.{node_count}
 use Rattle.scp_threaded_node.specs.declared.acting.Act.{Act}
-use Rattle.scp_threaded_node.specs.declared.node.Node.{Node}
+use Rattle.scp_threaded_node.specs.Kv.{Node}
 use Rattle.scp_threaded_node.specs.Acting.{with_command, ActsAt, IsUnchanged}
 use Rattle.scp_threaded_node.specs.Seats.{Each, AreDriven}
 use Rattle.scp_threaded_script.specs.Lines.{link_of, driven_to, items_to, command_by, commands_for}
@@ -21,15 +20,15 @@ use Rattle.scp_threaded_script.specs.Reported.{AllRunSoFar, IsOneOf}
 abbrev pub AllRun : List Command → List Node → Type 0
 AllRun commands nodes = (length nodes ≡ node_count commands) × AllRunSoFar commands nodes
 
--- these lines were told to the nodes, each its own commands
+-- each node was sent its own commands of these lines
 abbrev pub AreTold : List Command → List Node → Type 0
 AreTold done nodes = Each (λ i node. node.local.sent ≡ commands_for (i + 1) done) nodes
 
--- and over each link that the script drives went what these lines put on it
+-- each link that the script drives carried what these lines put on it
 abbrev pub AreItemsSent : List Command → List Command → List Node → Type 0
 AreItemsSent commands done nodes = Each (λ i node. AreDriven (driven_to commands (i + 1)) (items_to (i + 1) done) node.lanes.items) nodes
 
--- nodes of a script run, from the first on, and these of its lines were done
+-- nodes of a script run, from the first on, and these lines were done
 pub record HaveDoneSoFar (commands done : List Command) (nodes : List Node) : Type 0 where
   pub run : AllRunSoFar commands nodes
   pub told : AreTold done nodes
@@ -41,7 +40,7 @@ HaveDone commands done nodes = (length nodes ≡ node_count commands) × HaveDon
 
 -- ---- what one line does
 
--- the nodes that the line names are there
+-- the nodes that the line names exist
 abbrev pub IsThere : ℕ → Command → Type 0
 IsThere count (script.Caps capacities) = Unit {0}
 IsThere count (script.Nodes nodes quorum) = Unit {0}
@@ -58,13 +57,13 @@ IsThere count script.Settle = Unit {0}
 IsThere count (script.Wait node things) = Unit {0}
 IsThere count (script.Report node) = Unit {0}
 
--- a node was told a command
+-- a node was sent a command
 pub record TellsAt (old : List Node) (number : ℕ) (x : Inbound) (new : List Node) : Type 0 where
   pub node : Node
   pub was : slice_get old (number - 1) ≡ Some node
   pub is : new ≡ slice_set old (number - 1) (with_command node x)
 
--- something was done on the link between two nodes
+-- an act was done on the link from one node to another
 pub record ActsOn (old : List Node) (from to : ℕ) (a : Act) (new : List Node) : Type 0 where
   pub node : Node
   pub after : Node
@@ -77,11 +76,11 @@ pub record AreUnchanged (old new : List Node) : Type 0 where
   pub count : length new ≡ length old
   pub each : Each (λ i y. (x : Node) × (slice_get old i ≡ Some x) × IsUnchanged x y) new
 
--- the node that a line tells something
+-- the node that a line sends a command to
 abbrev pub IsNodeOf : ℕ → Command → Type 0
 IsNodeOf node command = (count : ℕ) → IsThere count command → IsOneOf count node
 
--- the line says nothing of a link
+-- the line isn't about a link
 abbrev pub IsNoLink : Command → Type 0
 IsNoLink (script.Caps capacities) = Unit {0}
 IsNoLink (script.Nodes nodes quorum) = Unit {0}

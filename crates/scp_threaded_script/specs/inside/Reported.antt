@@ -1,5 +1,5 @@
--- What is told of the nodes of a script when its lines are done.
--- Here stands what no public clause reaches: nothing here need be believed.
+-- How the lines of a script leave the links of all its nodes.
+-- No public clause reaches this definition: nothing here need be believed.
 use Rattle.std.specs.Prelude.{◌≡◌, ◌+◌, List, length}
 use Rattle.std.specs.Global.{Vec}
 use Rattle.scp_script.specs.declared.command.Command.{Command}
@@ -8,6 +8,6 @@ use Rattle.scp_threaded_node.specs.declared.ending.Stood.{Stood}
 use Rattle.scp_threaded_node.specs.Seats.{Each}
 use Rattle.scp_threaded_script.specs.Reported.{AreStood}
 
--- and so those to each node
+-- how the lines leave the links to each node
 abbrev pub AllStand : List Command → List (Vec Stood) → Type 0
 AllStand commands all = (length all ≡ node_count commands) × Each (λ i stood. AreStood commands (i + 1) stood.items) all

@@ -1,5 +1,5 @@
 use Rattle.std.proofs.Common.{ℕ, Vec, Global, sym, subst}
-use Rattle.scp_log.specs.Log.{IsLine}
+use Rattle.scp_live_log.specs.Log.{IsLine}
 use Rattle.scp_batches.proofs.Splitting.{held_more}
 use Rattle.scp_batches.proofs.lines.end_line.Goals as goal
 

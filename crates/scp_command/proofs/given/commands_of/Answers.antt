@@ -1,9 +1,9 @@
 use Rattle.std.proofs.Common.{List, ℕ, subst}
-use Rattle.scp_trace_lint.specs.Lines.{IsLintFault}
-use Rattle.scp_command.proofs.Causing.{lint_cause}
+use Rattle.scp_script_check.specs.Lines.{IsNotRead}
+use Rattle.scp_command.proofs.Causing.{read_cause}
 use Rattle.scp_command.proofs.given.commands_of.Goals as goal
 
 pub returns-in-Err-clause-cause : goal.returns-in-Err-clause-cause
 returns-in-Err-clause-cause c = λ input given.
-    let bad = subst (λ (text : List ℕ). IsLintFault text c.in-Err.fault) c.as_slice.ensures.value c.in-Err.ensures.cause in
-    lint_cause input c.args.given.now c.in-Err.fault c.of_lint.result given bad c.of_lint.ensures
+    let bad = subst (λ (text : List ℕ). IsNotRead text c.in-Err.fault) c.as_slice.ensures.value c.in-Err.ensures.cause in
+    read_cause input c.args.given.now c.in-Err.fault c.of_unread.result given bad c.of_unread.ensures

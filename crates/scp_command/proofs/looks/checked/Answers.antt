@@ -1,6 +1,6 @@
 use Rattle.std.proofs.Common.{List, ℕ, subst}
-use Rattle.scp_hints.specs.Hints.{AreHints}
-use Rattle.scp_trace_lint.specs.Warnings.{AreWarnings}
+use Rattle.scp_script_hints.specs.Hints.{AreHints}
+use Rattle.scp_script_check.specs.Warnings.{AreWarnings}
 use Rattle.scp_command.specs.Answers.{IsJust}
 use Rattle.scp_command.proofs.looks.checked.Goals as goal
 

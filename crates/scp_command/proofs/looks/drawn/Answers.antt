@@ -1,5 +1,5 @@
 use Rattle.std.proofs.Common.{List, ℕ, subst}
-use Rattle.scp_picture.specs.Drawn.{IsDrawn}
+use Rattle.scp_draw.specs.Drawn.{IsDrawn}
 use Rattle.scp_command.proofs.looks.drawn.Goals as goal
 
 pub returns-in-Ok-clause-answer : goal.returns-in-Ok-clause-answer

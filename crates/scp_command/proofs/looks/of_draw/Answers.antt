@@ -1,25 +1,9 @@
-use Rattle.std.proofs.Common.{inl, inr, ap, subst}
-use Rattle.scp_picture.specs.Drawn.{IsDrawFault}
-use Rattle.scp_prompt.specs.declared.failure.Failure.TheVariants.{Line}
+use Rattle.std.proofs.Common.{inl, inr, subst}
+use Rattle.scp_draw.specs.Drawn.{IsDrawFault}
 use Rattle.scp_command.proofs.looks.of_draw.Goals as goal
 
-pub returns-in-Bad : goal.returns-in-Bad
-returns-in-Bad c = λ input given bad. inl (inr (inr (inl (record {
-  given = c.args.given.now;
-  is_given = given;
-  bad = c.in-Bad.bad;
-  is_bad = subst (IsDrawFault c.args.given.now.text.items) c.in-Bad.is bad;
-  of_bad = c.of_bad.ensures;
-}))))
-
-pub returns-in-BadAt : goal.returns-in-BadAt
-returns-in-BadAt c = λ input given bad. inl (inr (inr (inr (record {
-  given = c.args.given.now;
-  is_given = given;
-  number = c.in-BadAt.line;
-  is_bad = subst (IsDrawFault c.args.given.now.text.items) c.in-BadAt.is bad;
-  line = ap Line c.place_of.ensures;
-}))))
+pub returns-in-Unread : goal.returns-in-Unread
+returns-in-Unread c = λ input given bad. inl (c.of_read.ensures input given (subst (IsDrawFault c.args.given.now.text.items) c.in-Unread.is bad))
 
 pub returns-in-Stopped : goal.returns-in-Stopped
 returns-in-Stopped c = λ input given stopped.

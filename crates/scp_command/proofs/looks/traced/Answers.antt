@@ -1,5 +1,5 @@
 use Rattle.std.proofs.Common.{List, ℕ, inl, inr, subst}
-use Rattle.scp_picture.specs.scp_trace_run.specs.Traced.{IsTraced}
+use Rattle.scp_draw.specs.scp_trace.specs.Traced.{IsTraced}
 use Rattle.scp_command.proofs.Standing.{either_memory}
 use Rattle.scp_command.proofs.looks.traced.Goals as goal
 

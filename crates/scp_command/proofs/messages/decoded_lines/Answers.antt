@@ -1,7 +1,7 @@
 use Rattle.std.proofs.Common.{◌≡◌, ◌++◌, ◌∷◌, [], ap, sym, map, take, length, get_or, ℕ, ◌+◌, ◌<◌, List, Bor, arith, refl, string_bytes}
 use Rattle.std.proofs.lemmas.List.{length-map, take_all}
-use Rattle.scp_decoded.specs.Decoding.{IsDecoded}
-use Rattle.scp_rewrite.proofs.Words.{text_at, next_text}
+use Rattle.scp_script_text.specs.Decoding.{IsDecoded}
+use Rattle.scp_script_text.proofs.Words.{text_at, next_text}
 use Rattle.scp_command.specs.Answers.{AreEach, spelling_of}
 use Rattle.scp_command.specs.Causes.{IsNotDecoded}
 use Rattle.scp_command.proofs.Each.{each_added, none_there}

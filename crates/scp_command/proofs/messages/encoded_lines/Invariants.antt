@@ -1,5 +1,5 @@
 use Rattle.std.proofs.Common.{take, map, string_bytes}
-use Rattle.scp_decoded.specs.Decoding.{IsEncoded}
+use Rattle.scp_script_text.specs.Decoding.{IsEncoded}
 use Rattle.scp_command.specs.Answers.{AreEach, spelling_of}
 use Rattle.scp_command.proofs.messages.encoded_lines.Given as goal
 

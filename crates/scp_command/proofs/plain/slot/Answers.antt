@@ -1,5 +1,5 @@
 use Rattle.std.proofs.Common.{ap, sym, subst}
-use Rattle.scp_slot_script.specs.Answers.{IsPlayed}
+use Rattle.scp_script_slot.specs.Answers.{IsPlayed}
 use Rattle.scp_command.proofs.plain.slot.Goals as goal
 
 pub returns-in-Ok-clause-told : goal.returns-in-Ok-clause-told

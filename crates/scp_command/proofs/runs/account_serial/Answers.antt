@@ -1,11 +1,13 @@
-use Rattle.std.proofs.Common.{ℕ, List, subst, string_bytes}
-use Rattle.scp_script.specs.declared.command.Command.{Command}
+use Rattle.std.proofs.Common.{◌≡◌, ◌∙◌, ℕ, List, ap, subst, sym, string_bytes}
+use Rattle.scp_network.specs.Heard.{Nodes}
+use Rattle.scp_account.specs.Account.{account_text}
+use Rattle.scp_account.specs.scp_kept.specs.declared.happening.Kept.{Kept}
+use Rattle.scp_account.specs.scp_kept.specs.Watching.{WatchView, keeping}
 use Rattle.scp_prompt.specs.declared.asked.Mode.TheVariants.{Serial}
 use Rattle.scp_prompt.specs.declared.asked.Shape.TheVariants.{Settled}
-use Rattle.scp_silent.specs.Run.{IsRan, IsRunFault}
-use Rattle.scp_trace_lint.specs.Lines.{IsSaid}
-use Rattle.scp_command.specs.inside.Runs.{IsAccountOf, IsUntold}
-use Rattle.scp_command.proofs.Accounting.{account_answer, not_run, not_told, want_fails}
+use Rattle.scp_notices.specs.Run.{IsRan, IsRunFault, IsWatched}
+use Rattle.scp_command.specs.inside.Runs.{IsUntold}
+use Rattle.scp_command.proofs.Accounting.{account_answer, kept_of, not_run, not_told, want_fails}
 use Rattle.scp_command.proofs.runs.account_serial.Goals as goal
 
 pub returns-in-Err-clause-cause : goal.returns-in-Err-clause-cause
@@ -13,18 +15,22 @@ returns-in-Err-clause-cause c = λ input h. not_run Serial Settled input c.of_ru
 
 pub returns-in-Ok-account_of-clause-answer : goal.returns-in-Ok-account_of-clause-answer
 returns-in-Ok-account_of-clause-answer c = λ input h.
-    let ran = c.in-Ok.ran in
-    account_answer input c.args.given.now ran.script ran.network ran.notices.items (string_bytes c.in-Ok-account_of.text) c.answer_of.result h
-    (subst (λ (text : List ℕ). IsRan text ran.script ran.network ran.notices.items) c.as_slice.ensures.value c.in-Ok.ensures.ran)
-    (subst (λ (l : List Command). IsAccountOf l (string_bytes c.in-Ok-account_of.text)) c.as_slice-2.ensures.value c.in-Ok-account_of.ensures.account)
+    let ran = c.in-Ok.watched.ran in
+    let watch = c.in-Ok.watched.watch in
+    let is = subst (λ (text : List ℕ). (is : IsRan text ran.script ran.network ran.notices.items) × IsWatched keeping ran.script.commands.items ran.script.lines.items ran.network ran.notices.items is.shows c.new.result watch) c.as_slice.ensures.value c.in-Ok.ensures.ran in
+    let made = kept_of c.what_is_kept_is_what_happened.ensures.run ran.script.commands.items ran.script.lines.items ran.network ran.notices.items is.0.shows c.new.result watch (ap (λ (w : WatchView). w.kept) c.new.ensures) (sym c.lacks_memory.ensures ∙ c.if-lacks_memory.false) is.1 in
+    let kept : c.as_slice-2.result.now ≡ watch.kept = c.as_slice-2.ensures.value ∙ c.into_kept-kept.ensures in
+    account_answer input c.args.given.now ran.script ran.network ran.notices.items watch.kept (string_bytes c.in-Ok-account_of.text) c.answer_of.result h is.0 made
+    (c.in-Ok-account_of.ensures.account ∙ ap (λ (nodes : Nodes). account_text nodes c.as_slice-2.result.now) c.nodes.ensures ∙ ap (λ (l : List Kept). account_text ran.network.nodes l) kept)
     c.answer_of.ensures.text c.answer_of.ensures.notices
 
 pub returns-in-Ok-account_of-clause-cause : goal.returns-in-Ok-account_of-clause-cause
 returns-in-Ok-account_of-clause-cause c = λ input h. want_fails Serial input c.answer_of.result c.answer_of.ensures.cause
 
-pub returns-clause-cause : goal.returns-clause-cause
-returns-clause-cause c = λ input h.
-    let script = c.in-Ok.ran.script in
-    not_told input c.args.given.now script.commands.items script.lines.items c.in-Err-account_of.failure h
-    (subst (λ (text : List ℕ). IsSaid text script.commands.items script.lines.items) c.as_slice.ensures.value c.in-Ok.ensures.ran.said)
-    (subst (λ (l : List Command). IsUntold l c.in-Err-account_of.failure) c.as_slice-2.ensures.value c.in-Err-account_of.ensures.cause)
+pub returns-in-Err-account_of-clause-cause : goal.returns-in-Err-account_of-clause-cause
+returns-in-Err-account_of-clause-cause c = λ input h.
+    let ran = c.in-Ok.watched.ran in
+    let watch = c.in-Ok.watched.watch in
+    let is = subst (λ (text : List ℕ). (is : IsRan text ran.script ran.network ran.notices.items) × IsWatched keeping ran.script.commands.items ran.script.lines.items ran.network ran.notices.items is.shows c.new.result watch) c.as_slice.ensures.value c.in-Ok.ensures.ran in
+    let made = kept_of c.what_is_kept_is_what_happened.ensures.run ran.script.commands.items ran.script.lines.items ran.network ran.notices.items is.0.shows c.new.result watch (ap (λ (w : WatchView). w.kept) c.new.ensures) (sym c.lacks_memory.ensures ∙ c.if-lacks_memory.false) is.1 in
+    not_told input c.args.given.now ran.script.commands.items ran.script.lines.items ran.network watch.kept c.in-Err-account_of.failure h is.0.said made.0 (subst (λ (nodes : Nodes). IsUntold nodes c.in-Err-account_of.failure) c.nodes.ensures c.in-Err-account_of.ensures.cause)

@@ -4,8 +4,8 @@ use Rattle.scp_script.specs.declared.command.Command.{Command}
 use Rattle.scp_account.specs.Gathered.{gathered_text as accounts_text}
 use Rattle.scp_prompt.specs.declared.asked.Mode.TheVariants.{Threads}
 use Rattle.scp_prompt.specs.declared.asked.Shape.TheVariants.{Settled}
-use Rattle.scp_silent.specs.Threads.{IsRanInThreads, IsThreadsFault}
-use Rattle.scp_trace_lint.specs.Lines.{IsSaid}
+use Rattle.scp_notices.specs.Threads.{IsRanInThreads, IsThreadsFault}
+use Rattle.scp_script_check.specs.Lines.{IsSaid}
 use Rattle.scp_command.specs.inside.Runs.{IsUntoldOf}
 use Rattle.scp_command.proofs.Accounting.{threads_account, not_run, threads_not_told, want_fails}
 use Rattle.scp_command.proofs.runs.account_threads.Goals as goal

@@ -2,7 +2,7 @@ use Rattle.std.proofs.Common.{◌≡◌, ◌++◌, ◌∷◌, [], List, ap, ◌�
 use Rattle.std.proofs.lemmas.List.{map-append, map-id}
 use Rattle.std.proofs.lemmas.Iterator.Consumers.{YieldsList-end}
 use Rattle.std.proofs.lemmas.Iterator.Adapters.{YieldsList-from_vec}
-use Rattle.scp_silent.specs.declared.notice.Notice.{Notice}
+use Rattle.scp_notices.specs.declared.notice.Notice.{Notice}
 use Rattle.scp_command.specs.Answers.{placed_notice}
 use Rattle.scp_command.proofs.runs.placed_notices.Goals as goal
 

@@ -3,7 +3,7 @@ use Rattle.std.specs.Prelude.{All, IfOk}
 use Rattle.scp_network.specs.Heard.{Nodes}
 use Rattle.scp_script.specs.declared.command.Command.{Command}
 use Rattle.scp_script.specs.Nodes.{NamesNodes}
-use Rattle.scp_silent.specs.Run.{IsRan, IsRunFault}
+use Rattle.scp_notices.specs.Run.{IsRan, IsRunFault}
 use Rattle.scp_command.specs.Answers.{reports_text}
 use Rattle.scp_command.proofs.Reporting.{run_answer}
 use Rattle.scp_command.proofs.runs.run_serial.Goals as goal

@@ -4,7 +4,7 @@ use Rattle.scp_gather.specs.Kv.{NodeReport}
 use Rattle.scp_script.specs.declared.command.Command.{Command}
 use Rattle.scp_script.specs.Nodes.{NamesNodes}
 use Rattle.scp_script.specs.Script.{node_count}
-use Rattle.scp_silent.specs.Threads.{IsRanInThreads, IsThreadsFault}
+use Rattle.scp_notices.specs.Threads.{IsRanInThreads, IsThreadsFault}
 use Rattle.scp_command.specs.Answers.{gathered_text}
 use Rattle.scp_command.proofs.Reporting.{threads_answer}
 use Rattle.scp_command.proofs.runs.run_threads.Goals as goal

@@ -1,5 +1,5 @@
 use Rattle.std.proofs.Common.{◌≡◌, ◌++◌, string_bytes, flat_map}
-use Rattle.scp_told.specs.State.{key_line}
+use Rattle.scp_live_lines.specs.State.{key_line}
 use Rattle.scp_live.proofs.questions.tell_keys.Given as goal
 
 -- with what is left it is all

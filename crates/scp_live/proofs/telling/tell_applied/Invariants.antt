@@ -1,5 +1,5 @@
 use Rattle.std.proofs.Common.{◌≡◌, ◌++◌, drop, string_bytes, flat_map}
-use Rattle.scp_told.specs.Decisions.{applied_line}
+use Rattle.scp_live_lines.specs.Decisions.{applied_line}
 use Rattle.scp_live.proofs.telling.tell_applied.Given as goal
 
 -- with what is left it is all

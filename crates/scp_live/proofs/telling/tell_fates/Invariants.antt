@@ -1,6 +1,6 @@
 use Rattle.std.proofs.Common.{◌≡◌, ◌++◌, drop, string_bytes, flat_map}
 use Rattle.std.specs.Prelude.{map}
-use Rattle.scp_told.specs.Fates.{fate_line}
+use Rattle.scp_live_lines.specs.Fates.{fate_line}
 use Rattle.scp_live.proofs.telling.tell_fates.Given as goal
 
 -- with what is left it is all

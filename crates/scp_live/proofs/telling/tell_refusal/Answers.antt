@@ -1,6 +1,6 @@
 use Rattle.std.proofs.Common.{◌≡◌, ◌++◌, ◌∙◌, ap, string_bytes}
 use Rattle.std.proofs.lemmas.Result.{on_ok_weaker}
-use Rattle.scp_told.specs.Replies.{refused_line}
+use Rattle.scp_live_lines.specs.Replies.{refused_line}
 use Rattle.scp_live.proofs.Refusals.{refusal_of}
 use Rattle.scp_live.proofs.telling.tell_refusal.Goals as goal
 

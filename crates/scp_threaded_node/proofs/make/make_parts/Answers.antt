@@ -5,4 +5,4 @@ use Rattle.scp_threaded_node.specs.Seats.{AreLanes}
 use Rattle.scp_threaded_node.proofs.make.make_parts.Goals as goal
 
 pub returns-clause-lanes : goal.returns-clause-lanes
-returns-clause-lanes c = subst (λ (line : Line Inbound). AreLanes c.args.me c.args.peers.now line c.args.capacities.link c.in_ok-lanes.lanes.items) (sym (ap (λ (r : Receiver Inbound). r.line) c.in_ok-pend.ensures.inbox)) c.in_ok-lanes.ensures.lanes.0
+returns-clause-lanes g c = subst (λ (line : Line Inbound). AreLanes c.args.me c.args.peers.now line c.args.capacities.link c.in_ok-lanes.lanes.items) (sym (ap (λ (r : Receiver Inbound). r.line) c.in_ok-pend.ensures.inbox)) c.in_ok-lanes.ensures.lanes.0

@@ -2,7 +2,7 @@ use Rattle.std.proofs.Common.{◌≡◌, ◌<◌, length, ◌++◌, List, get_or
 use Rattle.std.proofs.lemmas.List.{drop_all, take_all, append-nil}
 use Rattle.std.specs.Prelude.{take, drop}
 use Rattle.std.proofs.lemmas.Option.{slice_get-get_or}
-use Rattle.scp_threaded_node.specs.declared.node.Node.{Node}
+use Rattle.scp_threaded_node.specs.Kv.{Node}
 use Rattle.scp_threaded_script.specs.inside.Played.{AreUnchanged}
 use Rattle.scp_threaded_script.proofs.Acting.{all_unchanged, one_more_unchanged}
 use Rattle.scp_threaded_script.proofs.lines.flush_all.Goals as goal

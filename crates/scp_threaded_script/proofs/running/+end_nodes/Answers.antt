@@ -3,7 +3,7 @@ use Rattle.std.specs.Prelude.{slice_get}
 use Rattle.std.specs.Option.{option_or}
 use Rattle.std.specs.Result.{result_err}
 use Rattle.std.proofs.lemmas.Option.{slice_get_read}
-use Rattle.scp_threaded_node.specs.declared.node.Node.{Node}
+use Rattle.scp_threaded_node.specs.Kv.{Node}
 use Rattle.scp_threaded_script.specs.declared.running.NodeFault.{NodeFault}
 use Rattle.scp_threaded_script.specs.Reported.{refused_at}
 use Rattle.scp_threaded_script.specs.inside.Ending.{HaveAllEnded}
@@ -12,7 +12,8 @@ use Rattle.scp_threaded_node.specs.Faults.{IsNodeEnd, fault_of}
 use Rattle.scp_threaded_script.proofs.Ending.{ended_more, nil_of, none_ended, told_refused}
 use Rattle.std.proofs.lemmas.List.{length-append, length-map}
 use Rattle.scp_script.specs.Script.{node_count}
-use Rattle.scp_script.specs.Nodes.{capacities_in, id_of, peers_of, set_at}
+use Rattle.scp_script.specs.Nodes.{id_of, peers_of, set_at}
+use Rattle.scp_threaded_script.specs.Rooms.{capacities_in}
 use Rattle.scp_threaded_script.specs.Lines.{driven_to, items_to}
 use Rattle.scp_threaded_script.proofs.Nodes.{runs_front, runs_last, done_front, last_sent, last_over, over_more, over_none, given_more, stands_at, lanes_fit}
 use Rattle.scp_threaded_node.specs.Outlets.{given_to}

@@ -1,11 +1,12 @@
 use Rattle.std.proofs.Common.{◌≡◌, ◌∙◌, ap, subst, length, Result, Ok, Err, arith}
 use Rattle.std.specs.Prelude.{IfOk}
 use Rattle.std.proofs.lemmas.Result.{err_from_is_err_and}
-use Rattle.scp_script.specs.declared.command.Capacities.{Capacities}
-use Rattle.scp_script.specs.Nodes.{capacities_in, id_of, peers_of, set_at}
+use Rattle.scp_threaded_node.specs.declared.capacities.Capacities.{Capacities}
+use Rattle.scp_script.specs.Nodes.{id_of, peers_of, set_at}
+use Rattle.scp_threaded_script.specs.Rooms.{capacities_in}
 use Rattle.scp_threaded_node.specs.Seats.{AreLanes, IsLocal, AreStages}
 use Rattle.scp_types.specs.declared.fault.Fault.{Fault}
-use Rattle.scp_threaded_node.specs.declared.node.Node.{Node}
+use Rattle.scp_threaded_node.specs.Kv.{Node}
 use Rattle.scp_threaded_node.specs.Outlets.{GivenEnds, given_to}
 use Rattle.scp_threaded_script.specs.Lines.{driven_to}
 use Rattle.scp_threaded_script.proofs.Peers.{peer_count}

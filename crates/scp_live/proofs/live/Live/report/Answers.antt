@@ -4,7 +4,7 @@ use Rattle.std.specs.FinMap as map_of
 use Rattle.std.proofs.lemmas.Result.{on_ok_weaker}
 use Rattle.scp_kv.specs.State.{fold_of}
 use Rattle.scp_apply.specs.Applied.{values_of}
-use Rattle.scp_told.specs.State.{key_line}
+use Rattle.scp_live_lines.specs.State.{key_line}
 use Rattle.scp_live.specs.Live.{LiveView}
 use Rattle.scp_live.proofs.Reports.{state_is, report_is}
 use Rattle.scp_live.proofs.live.Live.report.Goals as goal

@@ -1,7 +1,0 @@
-pub mod Saying
-pub mod Wrong
-pub mod Foreign
-pub mod FirstWord
-pub mod Names
-pub mod FourWords
-pub mod Behind

@@ -1,4 +1,0 @@
-pub mod Going
-pub mod Living
-pub mod Beginning
-pub mod Replaying

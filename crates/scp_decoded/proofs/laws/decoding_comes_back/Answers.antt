@@ -1,5 +1,0 @@
-use Rattle.scp_decoded.proofs.Back.{comes_back}
-use Rattle.scp_decoded.proofs.laws.decoding_comes_back.Goals as goal
-
-pub returns : goal.returns
-returns c = comes_back

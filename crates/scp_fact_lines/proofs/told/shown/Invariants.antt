@@ -1,7 +1,0 @@
-use Rattle.std.proofs.Common.{◌≡◌, ◌++◌, map, drop}
-use Rattle.scp_fact_lines.specs.Facts.{shown}
-use Rattle.scp_fact_lines.proofs.told.shown.Given as goal
-
--- with those of what is left they are all
-abbrev pub invariant-loop-telling : goal.invariant-loop-telling
-invariant-loop-telling l = map (λ told. told.now) l.facts.items ++ shown (drop l.telling-index l.tellings) ≡ shown l.tellings

@@ -1,4 +1,0 @@
-pub mod Words
-pub mod Messages
-pub mod Commands
-pub mod Facts

@@ -1,5 +1,0 @@
-use Rattle.std.proofs.Common.{length}
-use Rattle.scp_findings.proofs.outcome.+closed.Given as goal
-
-abbrev pub decreases-closed : goal.decreases-closed
-decreases-closed l = length l.marks.now

@@ -1,8 +1,0 @@
-use Rattle.std.proofs.Common.{◌≡◌, drop}
-use Rattle.std.specs.List.{list_any}
-use Rattle.scp_hints.specs.Hints.{turns_at}
-use Rattle.scp_hints.proofs.nodes.has_turns.Given as goal
-
--- what is left tells it
-abbrev pub invariant-loop-command : goal.invariant-loop-command
-invariant-loop-command l = list_any (turns_at l.node) (drop l.command-index l.commands) ≡ list_any (turns_at l.node) l.commands

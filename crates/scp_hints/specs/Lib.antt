@@ -1,3 +1,0 @@
-pub mod Hints
-pub mod Texts
-pub mod inside

@@ -1,0 +1,31 @@
+-- A node that was made of settings, and the first line of its log.
+use Rattle.std.proofs.Common.{◌≡◌, ℕ, List, [], ◌∷◌, ◌++◌, sym, ◌∙◌, false, subst, append_assoc, refl}
+use Rattle.std.specs.Prelude.{Result, Ok, Err, IfOk, map, codes}
+use Rattle.hex.specs.Hex.{encode_lower}
+use Rattle.scp_types.specs.declared.fault.Fault.{Fault}
+use Rattle.scp_core.specs.declared.config.Config.{Config}
+use Rattle.scp_core.specs.Kv.{LedgerTheorem}
+use Rattle.scp_live_config.specs.Names.{Identity}
+use Rattle.scp_live_config.specs.declared.settings.Settings.{Settings}
+use Rattle.scp_live_log.specs.Log.{IsLine}
+use Rattle.scp_live.specs.Live.{LiveView}
+use Rattle.scp_live.specs.Living.{IsLive}
+use Rattle.scp_live.specs.Beginning.{IsNew, config_in, header_of}
+use Rattle.scp_live.proofs.Living.{live_new}
+
+pub is_new : (r : Result LiveView Fault) (settings : Settings) (config : Config) (names : List (List ℕ)) → config ≡ config_in settings → names ≡ map (λ (peer : Identity). peer.name) settings.peers.items → IfOk r (λ live. live.node.config ≡ config) → IfOk r (λ live. live.names ≡ names) → IfOk r (λ live. LedgerTheorem [] live.node) → IfOk r (IsNew settings)
+is_new (Ok live) settings config names c n config_is names_is theorem = record { config = config_is ∙ c; names = names_is ∙ n; theorem = theorem }
+is_new (Err f) settings config names c n config_is names_is theorem = tt
+
+pub is_live : (r : Result LiveView Fault) → IfOk r (λ live. LedgerTheorem [] live.node) → IfOk r (λ live. live.node.failed ≡ false) → IfOk r (λ live. IsLive live.node)
+is_live (Ok live) theorem runs = live_new live.node theorem runs
+is_live (Err f) theorem runs = tt
+
+-- ---- the first line
+
+no_line : (front rest : List ℕ) → IsLine (front ++ 10 ∷ rest) → ⊥
+no_line [] rest line = line.0 refl
+no_line (k ∷ front) rest line = no_line front rest line.1
+
+pub header_is_no_line : (digest : List ℕ) → ¬ (IsLine (header_of digest))
+header_is_no_line digest = λ line. no_line (codes "scp_node 1 " ++ encode_lower digest) [] (subst IsLine (sym (append_assoc (codes "scp_node 1 ") (encode_lower digest) (10 ∷ []))) line)

@@ -1,0 +1,46 @@
+-- What a node begins with when it runs as a process (this project's profile).
+use Rattle.std.specs.Prelude.{ℕ, ◌≡◌, List, [], ◌++◌, map, codes, Some}
+use Rattle.hex.specs.Hex.{encode_lower}
+use Rattle.sha2.specs.Sha256.{sha256}
+use Rattle.toml.specs.Data.{Members}
+use Rattle.toml.specs.Parse.{parse_document}
+use Rattle.scp_core.specs.declared.config.Config.{Config}
+use Rattle.scp_core.specs.Kv.{LedgerTheorem}
+use Rattle.scp_live_config.specs.Config.{IsConfigOf}
+use Rattle.scp_live_config.specs.Form.{form}
+use Rattle.scp_live_config.specs.Names.{Identity}
+use Rattle.scp_live_config.specs.declared.settings.Settings.{Settings}
+use Rattle.scp_live.specs.Live.{LiveView}
+
+-- The text is the TOML of a configuration with these settings.
+pub record Configures (text : List ℕ) (settings : Settings) : Type 0 where
+  pub doc : Members
+  pub parsed : parse_document text ≡ Some doc
+  pub says : IsConfigOf doc settings
+
+-- The digest of a configuration: the SHA-256 (FIPS 180-4) of its one form.
+abbrev pub digest_of : Settings → List ℕ
+digest_of settings = sha256 (form settings)
+
+-- The first line of a log. It says by its digest which configuration the log belongs to.
+abbrev pub header_of : List ℕ → List ℕ
+header_of digest = codes "scp_node 1 " ++ encode_lower digest ++ codes "\n"
+
+-- The line that `check` writes for a valid configuration.
+abbrev pub checked_line : List ℕ → List ℕ
+checked_line digest = codes "ok " ++ encode_lower digest ++ codes "\n"
+
+-- The configuration of the node itself, as these settings give it.
+abbrev pub config_in : Settings → Config
+config_in settings = record {
+  me = settings.node.id;
+  set = settings.set;
+  peers = map (λ (peer : Identity). peer.id) settings.peers.items;
+  capacities = record { link = settings.capacities.link; inbox = settings.capacities.inbox; ready = settings.capacities.ready; decided = settings.capacities.decided };
+}
+
+-- A node with these settings that has received no event yet.
+pub record IsNew (settings : Settings) (v : LiveView) : Type 0 where
+  pub config : v.node.config ≡ config_in settings
+  pub names : v.names ≡ map (λ (peer : Identity). peer.name) settings.peers.items
+  pub theorem : LedgerTheorem [] v.node

@@ -1,0 +1,30 @@
+-- How the entries of a log are played again (this project's profile).
+use Rattle.std.specs.Prelude.{ℕ, ◌≡◌, List, [], ◌∷◌, ◌++◌}
+use Rattle.scp_core.specs.declared.event.Event.{Event as Happening}
+use Rattle.scp_core.specs.History.{Exchange}
+use Rattle.scp_live_log.specs.Log.{EntryView}
+use Rattle.scp_live_lines.specs.declared.asked.Asked.TheVariants.{Event}
+use Rattle.scp_live_lines.specs.Says.{Says}
+use Rattle.scp_live.specs.Live.{LiveView, IsTold}
+
+-- The line of an entry says an event, which was played. What was sent for it has the digest that the entry has.
+pub record IsReplayed (entry : EntryView) (old : LiveView) (heard : List Exchange) (new : LiveView) : Type 0 where
+  pub event : Happening
+  pub says : Says old.names entry.line (Event event)
+  pub told : List ℕ
+  pub tells : IsTold event old.names old.timers new.timers old.node heard new.node [] told entry.sent
+  pub names : new.names ≡ old.names
+
+-- First the one, and then the other from where the first ended.
+pub record Then (First Next : LiveView → List Exchange → LiveView → Type 0) (old : LiveView) (heard : List Exchange) (new : LiveView) : Type 0 where
+  pub mid : LiveView
+  pub heard_first : List Exchange
+  pub heard_next : List Exchange
+  pub heard_is : heard ≡ heard_first ++ heard_next
+  pub first : First old heard_first mid
+  pub next : Next mid heard_next new
+
+-- The entries were played one after the other.
+abbrev pub AreReplayed : List EntryView → LiveView → List Exchange → LiveView → Type 0
+AreReplayed [] old heard new = (heard ≡ []) × (new ≡ old)
+AreReplayed (entry ∷ entries) old heard new = Then (IsReplayed entry) (AreReplayed entries) old heard new

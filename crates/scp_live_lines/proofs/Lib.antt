@@ -1,0 +1,11 @@
+pub mod Saying
+pub mod Wrong
+pub mod Foreign
+pub mod FirstWord
+pub mod LinkNames
+pub mod FourWords
+pub mod Behind
+pub mod Named
+pub mod Back
+pub mod Clear
+pub mod Others

@@ -1,0 +1,15 @@
+pub use Rattle.scp_script
+pub mod Says
+pub mod Verbs
+pub mod Bad
+pub mod Results
+pub mod Names
+pub mod Sent
+pub mod Back
+pub mod Fates
+pub mod Decisions
+pub mod Timers
+pub mod State
+pub mod Replies
+pub mod Others
+pub mod inside

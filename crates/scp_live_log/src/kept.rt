@@ -1,0 +1,200 @@
+//! A log in use: how entries are kept, and what is read after a crash.
+ghost use Rattle.std.specs.Prelude.{◌≡◌, ◌⊎◌, ◌++◌, [], List, ℕ, drop, IfOk, IfErr, OnOk, OnErr, IsErrOf, Err, All, string_bytes};
+ghost use Rattle.scp_types.specs.declared.fault.Fault.TheVariants.{NoMemory};
+ghost use Rattle.scp_live_log.specs.declared.kept.LogFault.TheVariants.{Failed};
+ghost use Rattle.scp_device.specs.Device.{Gains, GainsPart, Fails};
+ghost use Rattle.scp_live_log.specs.Disk.{StartsWith, Only, LeavesOnly};
+ghost use Rattle.scp_live_log.specs.Log.{Marked, IsLine, IsEntry, AreEntries, HasNoEntry, HasBatch, batch_of, entries_of, log_of, last_digest};
+ghost use Rattle.sha2.specs.Sha256.{sha256};
+ghost use Rattle.scp_live_log.specs.inside.Front.{IsLogFront};
+ghost use Rattle.scp_live_log.specs.Kept.{IsSettled, IsRecovered, IsAllAndMore, IsAnother, IsUntouched, IsDamaged};
+
+use crate::disk::EventLog;
+use crate::entry::{Entry, batch_bytes};
+use crate::reading::{Front, begins_with, behind, has_batch, is_beginning, read_entries};
+use crate::steps::{add, cut_to};
+use scp_device::{ReportOut, write_text};
+use scp_types::{Fault, Hash};
+use sha2::{Digest, Sha256};
+use std::alloc::{AllocError, Global};
+
+/// Why a log can't be read.
+#[derive(Clone, Copy, Debug, PartialEq, Eq)]
+pub enum LogFault {
+    /// The file neither begins with the first line nor is a prefix of it.
+    Another,
+    /// After this many whole entries something doesn't fit, and a batch begins after it. So this isn't a torn end.
+    Damaged(usize),
+    /// A call of the disk failed, or memory ran out.
+    Failed(Fault),
+}
+
+impl From<Fault> for LogFault {
+    ghost from_gives = { λ f e. e ≡ Failed f };
+
+    fn from(fault: Fault) -> LogFault {
+        LogFault::Failed(fault)
+    }
+}
+
+impl From<AllocError> for LogFault {
+    ghost from_gives = { λ _ e. e ≡ Failed NoMemory };
+
+    fn from(_: AllocError) -> LogFault {
+        LogFault::Failed(Fault::NoMemory)
+    }
+}
+
+/// The text to write for events that are already on the disk. Only `Kept::keep` makes one.
+#[derive(Debug, Drop)]
+pub struct Durable {
+    text: String,
+}
+
+impl Durable {
+    /// The text.
+    pub fn text(&self) -> &str
+        ensures { result.now ≡ string_bytes self.now.text }
+    {
+        self.text.as_str()
+    }
+
+    /// Writes the whole text. The only refusal is `Fault::Device`, if the writer failed. Then a prefix of the text was written.
+    pub fn write<W: ReportOut>(&self, writer: &mut W) -> Result<(), Fault>
+        ensures whole { OnOk result (Gains (W.written writer.old) (string_bytes self.now.text) (W.written writer.new)) }
+        ensures part { OnErr result (GainsPart (W.written writer.old) (string_bytes self.now.text) (W.written writer.new)) }
+        ensures cause { IfErr result (λ fault. fault ≡ Fault.Device) }
+        ensures raised { OnErr result (Fails (W.failures writer.old) (W.failures writer.new)) }
+        ensures kept { OnOk result (W.failures writer.new ≡ W.failures writer.old) }
+    {
+        write_text(writer, self.text.as_str())
+    }
+}
+
+/// A log, and the digest of its last entry.
+#[derive(Drop)]
+pub struct Kept<L> {
+    log: L,
+    last: Hash,
+}
+
+impl<L: EventLog> Kept<L> {
+    /// The log on this disk, before `recover` is called.
+    pub fn new(log: L) -> Kept<L>
+        ensures log { result.log ≡ log }
+    {
+        Kept {
+            log,
+            last: Hash([0; 32]),
+        }
+    }
+
+    /// The disk.
+    pub fn log(&self) -> &L
+        ensures { result.now ≡ self.now.log }
+    {
+        &self.log
+    }
+
+    /// Keeps the entries as one batch, with one append and one sync; with no entries it doesn't call the disk. Returns the text, which
+    /// may be written from now on. Refused by `Fault::NoMemory`, or by `Fault::Device` if the disk failed. After a refusal, call
+    /// `recover` before you keep anything more.
+    pub fn keep(&mut self, alloc: Global, entries: &[Entry], text: String) -> Result<Durable, Fault>
+        requires entries { All IsEntry entries.now }
+        ensures kept { OnOk result ((header : List ℕ) (ms : List Marked) → IsSettled L.holds L.may_leave header ms self.old → IsSettled L.holds L.may_leave header (ms ++ batch_of entries.now) self.new) }
+        ensures text { IfOk result (λ durable. string_bytes durable.text ≡ string_bytes text) }
+        // A crash at any moment of the call leaves everything that was kept before.
+        ensures any_moment { (header : List ℕ) (ms : List Marked) → IsSettled L.holds L.may_leave header ms self.old → LeavesOnly L.moment L.left_since self.old.log self.new.log (StartsWith (log_of header ms)) }
+        ensures failed { IsErrOf result Fault.Device → Fails (L.faults self.old.log) (L.faults self.new.log) }
+        ensures quiet { OnOk result (L.faults self.new.log ≡ L.faults self.old.log) }
+        ensures only { IfErr result (λ fault. (fault ≡ Fault.Device) ⊎ (fault ≡ Fault.NoMemory)) }
+    {
+        if !entries.is_empty() {
+            self.keep_batch(alloc, entries)?;
+        }
+        Ok(Durable { text })
+    }
+
+    /// Keeps the entries as one batch.
+    fn keep_batch(&mut self, alloc: Global, entries: &[Entry]) -> Result<(), Fault>
+        requires entries { All IsEntry entries.now }
+        ensures kept { OnOk result ((header : List ℕ) (ms : List Marked) → IsSettled L.holds L.may_leave header ms self.old → IsSettled L.holds L.may_leave header (ms ++ batch_of entries.now) self.new) }
+        ensures any_moment { (header : List ℕ) (ms : List Marked) → IsSettled L.holds L.may_leave header ms self.old → LeavesOnly L.moment L.left_since self.old.log self.new.log (StartsWith (log_of header ms)) }
+        ensures failed { IsErrOf result Fault.Device → Fails (L.faults self.old.log) (L.faults self.new.log) }
+        ensures quiet { OnOk result (L.faults self.new.log ≡ L.faults self.old.log) }
+        ensures only { IfErr result (λ fault. (fault ≡ Fault.Device) ⊎ (fault ≡ Fault.NoMemory)) }
+    {
+        let (bytes, last) = batch_bytes(alloc, self.last, entries)?;
+        add(&mut self.log, &bytes)?;
+        self.last = last;
+        Ok(())
+    }
+
+    /// Makes the file contain only the first line.
+    fn begin(&mut self, header: &[u8]) -> Result<(), Fault>
+        ensures begun { OnOk result ((c : List ℕ) → L.holds self.old.log c → IsSettled L.holds L.may_leave header.now [] self.new) }
+        ensures failed { IsErrOf result Fault.Device → Fails (L.faults self.old.log) (L.faults self.new.log) }
+        ensures only { IfErr result (λ fault. (fault ≡ Fault.Device) ⊎ (fault ≡ Fault.NoMemory)) }
+    {
+        cut_to(&mut self.log, 0)?;
+        add(&mut self.log, header)?;
+        self.last = Hash(Sha256::digest(header));
+        Ok(())
+    }
+
+    /// Reads the entries of a file that a crash may have left, and cuts off a torn end. A file that is a proper prefix of the first
+    /// line, such as an empty file, is begun again. A file that is no log with this first line is refused and left unchanged.
+    pub fn recover(&mut self, alloc: Global, header: &[u8]) -> Result<Vec<Entry>, LogFault>
+        requires line { ¬ (IsLine header.now) }
+        // Everything that was kept is there. If nothing followed it in the file, there is nothing more.
+        ensures all { IfOk result (λ entries. (ms : List Marked) (rest : List ℕ) → AreEntries ms → L.holds self.old.log (log_of header.now ms ++ rest) → IsAllAndMore (entries_of ms) rest entries.items) }
+        // What is cut off contains no further batch.
+        ensures torn { OnOk result ((ms : List Marked) (tail : List ℕ) → AreEntries ms → L.holds self.old.log (log_of header.now ms ++ tail) → HasNoEntry (last_digest (sha256 header.now) ms) tail → ¬ (HasBatch tail)) }
+        ensures settled { IfOk result (λ entries. (c : List ℕ) → L.holds self.old.log c → IsRecovered L.holds L.may_leave header.now entries.items self.new) }
+        // A crash at any moment of the call leaves everything that was kept before.
+        ensures any_moment { (ms : List Marked) (rest : List ℕ) → AreEntries ms → L.holds self.old.log (log_of header.now ms ++ rest) → Only (log_of header.now ms ++ rest) (L.may_leave self.old.log) → LeavesOnly L.moment L.left_since self.old.log self.new.log (StartsWith (log_of header.now ms)) }
+        ensures another { result ≡ Err LogFault.Another → (c : List ℕ) → L.holds self.old.log c → IsAnother header.now c }
+        // The file is read only if it begins with the first line or is a prefix of it.
+        ensures found { OnOk result ((c : List ℕ) → L.holds self.old.log c → StartsWith header.now c ⊎ StartsWith c header.now) }
+        // A file that is neither stays unchanged, whatever the answer, even after a crash at any moment of the call.
+        ensures untouched { (c : List ℕ) → L.holds self.old.log c → IsAnother header.now c → IsUntouched L.holds L.may_leave L.moment L.left_since c self.old.log self.new.log }
+        ensures damaged { (n : ℕ) → result ≡ Err (LogFault.Damaged n) → (c : List ℕ) → L.holds self.old.log c → IsDamaged header.now n c }
+        ensures failed { result ≡ Err (LogFault.Failed Fault.Device) → Fails (L.faults self.old.log) (L.faults self.new.log) }
+    {
+        let bytes = self.log.read(alloc)?;
+        // (the first line, torn)
+        if is_beginning(&bytes, header) {
+            self.begin(header)?;
+            return Ok(Vec::new(alloc));
+        }
+        let front = front_of(alloc, header, &bytes)?;
+        cut_to(&mut self.log, front.size)?;
+        self.last = front.last;
+        Ok(front.entries)
+    }
+}
+
+/// What the front of a file with this first line says. A further batch after it is damage and not a torn end.
+fn front_of(alloc: Global, header: &[u8], bytes: &[u8]) -> Result<Front, LogFault>
+    ensures front { IfOk result (λ front. IsLogFront header.now bytes.now front.entries.items front.last.0 front.size) }
+    ensures torn { IfOk result (λ front. ¬ (HasBatch (drop front.size bytes.now))) }
+    ensures another { result ≡ Err LogFault.Another → ¬ (StartsWith header.now bytes.now) }
+    ensures damaged { (n : ℕ) → result ≡ Err (LogFault.Damaged n) → IsDamaged header.now n bytes.now }
+    ensures memory { result ≡ Err (LogFault.Failed Fault.Device) → ⊥ }
+{
+    if !begins_with(bytes, header) {
+        return Err(LogFault::Another);
+    }
+    let first = Hash(Sha256::digest(header));
+    let rest = behind(bytes, header.len());
+    let front = read_entries(alloc, first, rest)?;
+    let tail = behind(rest, front.size);
+    if has_batch(tail) {
+        return Err(LogFault::Damaged(front.entries.len()));
+    }
+    Ok(Front {
+        entries: front.entries,
+        last: front.last,
+        size: header.len() + front.size,
+    })
+}

@@ -1,0 +1,28 @@
+//! Keeps events and digests on a disk that may crash: a node's input, before any output about it is written.
+//!
+//! What it promises:
+//! - once a call that keeps entries has succeeded, they are on the disk, in order, after everything kept before;
+//! - a crash at any moment, even during a call, leaves a file that begins with everything kept before;
+//! - reading a file returns exactly the whole entries at its front whose digests fit;
+//! - an entry's digest covers the digest before it, its line, and what was sent for it;
+//! - a torn end is cut off, and the cut is on the disk before anything is added; a torn first line is written again;
+//! - a file that neither begins with the first line nor is a prefix of it is refused and left unchanged;
+//! - a file is also refused if a batch begins after something that doesn't fit.
+//!
+//! These promises hold for a disk that behaves as `EventLog` says. We don't claim that a file does. No clause of the library says which
+//! bytes reach the system, so only the failures of a `FileLog` are known.
+#![tactic(auto)]
+
+mod disk;
+mod entry;
+mod file;
+mod kept;
+mod memory;
+mod reading;
+mod steps;
+
+pub use disk::EventLog;
+pub use entry::Entry;
+pub use file::FileLog;
+pub use kept::{Durable, Kept, LogFault};
+pub use memory::MemoryLog;

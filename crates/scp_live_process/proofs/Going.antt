@@ -1,0 +1,39 @@
+-- A node that heard more, and a watch that was told of it.
+use Rattle.std.proofs.Common.{◌≡◌, Bool, true, false, List, [], ◌∷◌, ◌++◌, refl, ◌∙◌, ap}
+use Rattle.std.specs.Prelude.{◌||◌}
+use Rattle.scp_episode.specs.Episode.{finds_full, is_full_reply}
+use Rattle.scp_turn.specs.scp_core.specs.History.{Exchange}
+use Rattle.scp_turn.specs.scp_core.specs.Kv.{NodeView}
+use Rattle.scp_turn.specs.Kv.{Goes, Noting, Watched}
+use Rattle.scp_live.proofs.Going.{Heard, heard_nothing, heard_as, heard_then, watched_on}
+
+or_true : (b : Bool) → (b || true) ≡ true
+or_true true = refl
+or_true false = refl
+
+-- a full journal that was found later was found
+pub found_later : (x y : List Exchange) → finds_full y ≡ true → finds_full (x ++ y) ≡ true
+found_later [] y e = e
+found_later (step ∷ x) y e = ap (λ (b : Bool). is_full_reply step.1 || b) (found_later x y e) ∙ or_true (is_full_reply step.1)
+
+-- a node that heard this much more, and a watch that was told of each step
+abbrev pub Seen : {W : Type 0} → Noting W → W → W → NodeView → NodeView → (List Exchange → Type 0) → Type 0
+Seen {W} Note w z a b Is = Goes a b (λ old heard new. Watched Note 1 w a heard b z × Is heard)
+
+pub seen_nothing : {W : Type 0} (Note : Noting W) (w : W) (a : NodeView) (Is : List Exchange → Type 0) → Is [] → Seen Note w w a a Is
+seen_nothing {W} Note w a Is is = heard_nothing a (λ heard. Watched Note 1 w a heard a w × Is heard) ((refl, refl), is)
+
+pub seen_as : {W : Type 0} (Note : Noting W) (w z : W) (a b : NodeView) (P Q : List Exchange → Type 0) → ((heard : List Exchange) → P heard → Q heard) → Seen Note w z a b P → Seen Note w z a b Q
+seen_as {W} Note w z a b P Q f g = heard_as a b (λ heard. Watched Note 1 w a heard b z × P heard) (λ heard. Watched Note 1 w a heard b z × Q heard) (λ heard p. (p.0, f heard p.1)) g
+
+pub seen_then : {W : Type 0} (Note : Noting W) (w v z : W) (a b c : NodeView) (P Q R : List Exchange → Type 0) → ((x y : List Exchange) → P x → Q y → R (x ++ y)) → Seen Note w v a b P → Seen Note v z b c Q → Seen Note w z a c R
+seen_then {W} Note w v z a b c P Q R both f s =
+    heard_then a b c (λ heard. Watched Note 1 w a heard b v × P heard) (λ heard. Watched Note 1 v b heard c z × Q heard) (λ heard. Watched Note 1 w a heard c z × R heard)
+    (λ x y p q. (watched_on Note 1 w v z a b c x y p.0 q.0, both x y p.1 q.1)) f s
+
+pub then_unseen : {W : Type 0} (Note : Noting W) (w v z : W) (a b c : NodeView) (P Q : List Exchange → Type 0) → Seen Note w v a b P → Seen Note v z b c Q → Seen Note w z a c (λ heard. Unit {0})
+then_unseen {W} Note w v z a b c P Q f g = seen_then Note w v z a b c P Q (λ heard. Unit {0}) (λ x y p q. tt) f g
+
+-- the same, told first
+pub seen_from : {W : Type 0} (Note : Noting W) (w z : W) (a b : NodeView) (P Q : List Exchange → Type 0) → ((heard : List Exchange) → P heard → Q heard) → Heard a b (λ heard. P heard × Watched Note 1 w a heard b z) → Seen Note w z a b Q
+seen_from {W} Note w z a b P Q f g = heard_as a b (λ heard. P heard × Watched Note 1 w a heard b z) (λ heard. Watched Note 1 w a heard b z × Q heard) (λ heard p. (p.1, f heard p.0)) g

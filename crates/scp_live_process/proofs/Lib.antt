@@ -1,0 +1,13 @@
+pub mod Going
+pub mod Noticing
+pub mod Answering
+pub mod Replaying
+pub mod Configs
+pub mod Served
+pub mod Started
+pub mod Acting
+pub mod Standing
+pub mod Begun
+pub mod Same
+pub mod Traced
+pub mod Accounted

@@ -1,0 +1,30 @@
+use Rattle.std.proofs.Common.{List, [], ◌∷◌, ◌++◌, sym, ◌∙◌, ap, subst, append_assoc, ℕ}
+use Rattle.scp_turn.specs.Watch.{notes}
+use Rattle.scp_live_process.specs.Answers.{IsAnswered, AreAnswered, next_number}
+use Rattle.scp_live_process.specs.inside.Adding.{Adds}
+use Rattle.scp_live_process.proofs.Going.{seen_then, found_later}
+use Rattle.scp_types.specs.declared.fault.Fault.TheVariants.{JournalFull}
+use Rattle.scp_live_process.proofs.Acting.{err_as}
+use Rattle.scp_live_process.proofs.Answering.{one_added, number_on}
+use Rattle.scp_live_process.proofs.answer.answer_all.Goals as goal
+
+pub returns-in-Err-clause-answered : goal.returns-in-Err-clause-answered
+returns-in-Err-clause-answered g c =
+    seen_then (notes g.V.Watch.notes_before g.V.Watch.notes_after) c.args.watch.now.watch c.loop-line.watch.watch c.answer.new.watch.watch c.args.live.now.node c.loop-line.live.node c.answer.new.live.node _ _ _ (λ x y p q. (tt, λ e. found_later x y (q.1 (err_as c.in-Err.fault JournalFull e)))) c.loop-line.invariant.answered c.in-Err.ensures.answered
+
+pub loop-line-preserved : goal.loop-line-preserved
+loop-line-preserved g c =
+    let number = c.args.number in
+    let lines = c.loop-line.yielded in
+    let line = c.in-Some.line in
+    record {
+      answered = seen_then (notes g.V.Watch.notes_before g.V.Watch.notes_after) c.args.watch.now.watch c.loop-line.watch.watch c.answer.new.watch.watch c.args.live.now.node c.loop-line.live.node c.answer.new.live.node
+          (λ heard. Adds (AreAnswered number lines) c.args.live.now heard c.loop-line.live c.args.batch.now c.loop-line.batch) _
+          (λ heard. Adds (AreAnswered number (lines ++ line ∷ [])) c.args.live.now heard c.answer.new.live c.args.batch.now c.answer.new.batch)
+          (λ x y p q. one_added number lines line c.args.live.now c.loop-line.live c.answer.new.live x y c.args.batch.now c.loop-line.batch c.answer.new.batch p
+          (subst (λ (n : ℕ). Adds (IsAnswered n line) c.loop-line.live y c.answer.new.live c.loop-line.batch c.answer.new.batch) c.loop-line.invariant.number q.0))
+          c.loop-line.invariant.answered c.in-Ok.ensures.answered;
+      live = c.in-Ok.ensures.live;
+      number = c.next-number.ensures ∙ ap next_number c.loop-line.invariant.number ∙ sym (number_on lines (line ∷ []) number);
+      all = c.loop-line.invariant.all ∙ ap (λ (l : List (List ℕ)). lines ++ l) c.in-Some.ensures.steps.0 ∙ sym (append_assoc lines (line ∷ []) c.next.new.self.rest.items);
+    }

@@ -1,0 +1,85 @@
+-- How a node starts as a process (this project's profile).
+use Rattle.std.specs.Prelude.{ℕ, ◌≡◌, ◌<◌, false, List, [], ◌++◌, length, codes, Option}
+use Rattle.std.specs.Fmt.{decimal}
+use Rattle.scp_turn.specs.scp_core.specs.History.{Exchange}
+use Rattle.scp_turn.specs.scp_core.specs.Node.{accepts_at}
+use Rattle.scp_turn.specs.scp_core.specs.Kv.{LedgerTheorem}
+use Rattle.scp_turn.specs.scp_core.specs.Headline.{HoldsHeadline}
+use Rattle.scp_turn.specs.Turn.{links_of}
+use Rattle.scp_device.specs.Device.{Gains}
+use Rattle.scp_live_log.specs.declared.kept.Kept.{Kept}
+use Rattle.scp_live_log.specs.Kept.{IsRecovered, IsAllAndMore}
+use Rattle.scp_live_log.specs.Log.{EntryView, Marked, AreEntries, entries_of, log_of}
+use Rattle.scp_live_config.specs.declared.settings.Settings.{Settings}
+use Rattle.scp_live_lines.specs.Replies.{ok_line}
+use Rattle.scp_live.specs.Live.{LiveView}
+use Rattle.scp_live.specs.Questions.{state_of}
+use Rattle.scp_stand_slot.specs.declared.names.Names.{Names}
+use Rattle.scp_stand_slot.specs.Names.{AreNames}
+use Rattle.scp_trace_text.specs.Tracing.{IsTraced}
+use Rattle.scp_live.specs.Beginning.{Configures, digest_of, header_of, IsNew}
+use Rattle.scp_live.specs.Replays.{AreReplayed}
+use Rattle.scp_live_process.specs.Serving.{HasServed}
+use Rattle.scp_live_process.specs.Stands.{number_in}
+
+-- What is written before any line is read: how many events the log has, the state of the node, and `ok 0`.
+abbrev pub greeting : ℕ → LiveView → List ℕ
+greeting count v = codes "ready " ++ decimal count ++ codes "\n" ++ state_of v ++ ok_line 0
+
+-- The node played what its log says, and then closed each link that was open. The log contains these events, too.
+pub record IsRestarted {L : Type 0} (holds may_leave : L → List ℕ → Type 0) (header : List ℕ) (log log' : Kept L) (old : LiveView) (heard : List Exchange) (new : LiveView) (count : ℕ) : Type 0 where
+  pub entries : List EntryView
+  pub closes : List EntryView
+  pub replayed : AreReplayed (entries ++ closes) old heard new
+  pub count_is : count ≡ length (entries ++ closes)
+  pub closed : (l : ℕ) → l < links_of new.node → accepts_at new.node l ≡ false
+  -- Everything that was kept is played. If nothing followed it in the file, there is nothing more.
+  pub all : (ms : List Marked) (rest : List ℕ) → AreEntries ms → holds log.log (log_of header ms ++ rest) → IsAllAndMore (entries_of ms) rest entries
+  pub recovered : (c : List ℕ) → holds log.log c → IsRecovered holds may_leave header (entries ++ closes) log'
+
+-- The node started and wrote its greeting, and then it served all of its input.
+pub record HasRun {L : Type 0} (holds may_leave : L → List ℕ → Type 0) (header : List ℕ) (left written longer : Option (List ℕ)) (log log' : Kept L) (old : LiveView) (heard : List Exchange) (new : LiveView) : Type 0 where
+  pub started : LiveView
+  pub ready : Kept L
+  pub count : ℕ
+  pub greeted : Option (List ℕ)
+  pub heard_first : List Exchange
+  pub heard_next : List Exchange
+  pub heard_is : heard ≡ heard_first ++ heard_next
+  pub restarted : IsRestarted holds may_leave header log ready old heard_first started count
+  pub greets : Gains written (greeting count started) greeted
+  pub served : HasServed holds may_leave left greeted longer ready log' started heard_next new
+
+-- A node with these settings ran until its input ended. The headline holds of all that it received and replied.
+pub record RunsAs {L : Type 0} (holds may_leave : L → List ℕ → Type 0) (settings : Settings) (left written longer : Option (List ℕ)) (log : L) : Type 0 where
+  pub begun : LiveView
+  pub is_new : IsNew settings begun
+  pub empty : Kept L
+  pub on_log : empty.log ≡ log
+  pub kept : Kept L
+  pub heard : List Exchange
+  pub node : LiveView
+  pub ran : HasRun holds may_leave (header_of (digest_of settings)) left written longer empty kept begun heard node
+  pub config : node.node.config ≡ begun.node.config
+  pub theorem : LedgerTheorem heard node.node
+  pub headline : HoldsHeadline heard node.node
+
+-- The text is a configuration, and a node with it ran until its input ended.
+pub record IsRun {L : Type 0} (holds may_leave : L → List ℕ → Type 0) (config : List ℕ) (left written longer : Option (List ℕ)) (log : L) : Type 0 where
+  pub settings : Settings
+  pub configures : Configures config settings
+  pub runs : RunsAs holds may_leave settings left written longer log
+
+-- A node with these settings ran until its input ended. What happened in its steps, from the first one on, was written to a trace. The
+-- trace calls the node by the first byte of its id, and a quorum set by its hash.
+pub record TracesRun {L : Type 0} (holds may_leave : L → List ℕ → Type 0) (settings : Settings) (left written longer : Option (List ℕ)) (log : L) (trace traced : Option (List ℕ)) : Type 0 where
+  pub runs : RunsAs holds may_leave settings left written longer log
+  pub names : Names
+  pub of_none : AreNames [] names
+  pub is : IsTraced names (number_in runs.begun.node) runs.begun.node runs.heard runs.node.node trace traced
+
+-- The text is a configuration, and a node with it ran until its input ended, with such a trace.
+pub record IsTracedRun {L : Type 0} (holds may_leave : L → List ℕ → Type 0) (config : List ℕ) (left written longer : Option (List ℕ)) (log : L) (trace traced : Option (List ℕ)) : Type 0 where
+  pub settings : Settings
+  pub configures : Configures config settings
+  pub runs : TracesRun holds may_leave settings left written longer log trace traced

@@ -1,0 +1,18 @@
+//! Laws of the definitions. Each is the contract of a function that does nothing.
+ghost use Rattle.scp_live_process.specs.Laws.{KeptIsPlayed, LogsMakeOneNode};
+
+use scp_live::{a_line_says_one_thing, the_same_events_give_the_same_episodes};
+
+/// What the node did while it answered lines is a replay of what is kept of these lines.
+pub fn what_is_kept_is_what_was_played()
+    ensures { KeptIsPlayed }
+{}
+
+/// A log determines the node. Two runs that played the same entries and still run received and replied the same, and their nodes show
+/// the same.
+pub fn what_a_log_says_makes_one_node()
+    ensures { LogsMakeOneNode }
+{
+    the_same_events_give_the_same_episodes();
+    a_line_says_one_thing();
+}

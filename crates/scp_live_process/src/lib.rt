@@ -1,0 +1,40 @@
+//! A node as a process: lines of a host come in, and their effects go out. A log brings the node back. The node also writes its trace,
+//! its status and its account.
+//!
+//! What it promises:
+//! - each line of the input is answered in order, whatever the sizes of the reads: an event by the lines that report it, a question by
+//!   its answer, any other line by its first bad word;
+//! - nothing is written about an event that isn't kept: the events of all lines that one read brought are kept at once, each with the
+//!   digest of what was sent for it; then the answers are written;
+//! - a node that starts with a log plays each entry again, and is refused if something else is sent for one of them; after the start no
+//!   link is open;
+//! - what the node did while it answered lines is a replay of what is kept of these lines; nodes that replay the same and still run show
+//!   the same;
+//! - a node that is traced behaves like one that isn't; if it ends with status 0, all that happened in its steps is written to its trace
+//!   (`run_traced`);
+//! - the ledger theorem holds of the node for all that it received and replied;
+//! - an account is determined by a node that played what the log says, and by all that happened in its steps; the headline holds of all
+//!   that this node received and replied (`account_node`).
+//!
+//! We don't claim that a file is a disk as `EventLog` says, that anything comes in or goes out in time, or that peers agree.
+#![tactic(auto)]
+
+mod accounting;
+mod answer;
+mod batch;
+mod fullness;
+mod laws;
+mod process;
+mod serving;
+mod stand;
+mod starting;
+mod telling;
+mod tracing;
+
+pub use accounting::account_node;
+pub use fullness::JournalWatch;
+pub use laws::{what_a_log_says_makes_one_node, what_is_kept_is_what_was_played};
+pub use process::run_node;
+pub use serving::serve;
+pub use starting::restart;
+pub use tracing::run_traced;

@@ -1,5 +1,0 @@
-use Rattle.scp_node.proofs.Replaying.{kept_is_played}
-use Rattle.scp_node.proofs.laws.what_is_kept_is_what_was_played.Goals as goal
-
-pub returns : goal.returns
-returns c = kept_is_played

@@ -1,7 +1,0 @@
-pub mod Stands
-pub mod Noticing
-pub mod Answers
-pub mod Serving
-pub mod Starting
-pub mod Laws
-pub mod inside

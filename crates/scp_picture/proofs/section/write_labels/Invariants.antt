@@ -1,7 +1,0 @@
-use Rattle.std.proofs.Common.{◌≡◌, ◌++◌, string_bytes}
-use Rattle.scp_picture.specs.Page.{for_nodes, label_text}
-use Rattle.scp_picture.proofs.section.write_labels.Given as goal
-
--- those of the nodes so far
-abbrev pub invariant-loop-index : goal.invariant-loop-index
-invariant-loop-index l = string_bytes l.out ≡ string_bytes l.initial.out ++ for_nodes label_text l.index

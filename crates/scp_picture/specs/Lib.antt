@@ -1,7 +1,0 @@
-pub use Rattle.scp_trace_run
-pub mod Elements
-pub mod Frame
-pub mod Page
-pub mod Lines
-pub mod inside
-pub mod Drawn

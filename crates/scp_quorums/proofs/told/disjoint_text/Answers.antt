@@ -1,6 +1,0 @@
-use Rattle.std.proofs.Common.{string_bytes}
-use Rattle.scp_quorums.proofs.Telling.{tells_found}
-use Rattle.scp_quorums.proofs.told.disjoint_text.Goals as goal
-
-pub returns-clause-tells : goal.returns-clause-tells
-returns-clause-tells c = tells_found c.args.members.now c.in_ok-found.found (string_bytes c.in_ok-text.text) c.in_ok-found.ensures.one c.in_ok-found.ensures.other c.in_ok-found.ensures.disjoint c.in_ok-found.ensures.none c.in_ok-text.ensures.text

@@ -1,7 +1,0 @@
-use Rattle.std.proofs.Common.{◌≡◌, take, string_bytes}
-use Rattle.std.specs.List.{flat_map}
-use Rattle.scp_quorums.specs.Told.{halting_line}
-use Rattle.scp_quorums.proofs.told.halting_text.Given as goal
-
-abbrev pub invariant-loop-lost : goal.invariant-loop-lost
-invariant-loop-lost l = string_bytes l.out ≡ flat_map (halting_line l.node) (take l.lost-index l.lost-items)

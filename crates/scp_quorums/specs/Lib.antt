@@ -1,3 +1,0 @@
-pub mod Quorums
-pub mod Told
-pub mod inside

@@ -1,7 +1,0 @@
-use Rattle.scp_rewrite.proofs.Whole.{none_refused}
-use Rattle.scp_rewrite.proofs.laws.none_is_refused.Goals as goal
-
-pub returns : goal.returns
-returns c =
-    let laws = c.what_is_written_says_it.ensures in
-    none_refused (record { messages = laws.messages; values = laws.values; sets = laws.sets; read_back = c.what_is_written_is_read_back.ensures.read_back })

@@ -1,8 +1,0 @@
-use Rattle.std.proofs.Common.{take}
-use Rattle.scp_rewrite.specs.Scripts.{lines_of}
-use Rattle.scp_rewrite.proofs.Writing.{HasWritten}
-use Rattle.scp_rewrite.proofs.script.rewrite.Given as goal
-
--- the lines so far were written
-abbrev pub invariant-loop-index : goal.invariant-loop-index
-invariant-loop-index l = HasWritten l.form (take l.index (lines_of l.script)) l.out.items l.first

@@ -1,4 +1,0 @@
-pub mod Steps
-pub mod Turns
-pub mod Lives
-pub mod Words

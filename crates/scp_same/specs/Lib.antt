@@ -1,2 +1,0 @@
-pub mod Episodes
-pub mod Lines

@@ -1,0 +1,4 @@
+pub mod Apart
+pub mod Behind
+pub mod Groups
+pub mod Told

@@ -1,0 +1,37 @@
+//! Hints on the lines of a script that look like mistakes, beside the warnings of `check`. Also quorums over the quorum sets of a few
+//! nodes, such as a script's, and what the loss of nodes does to them.
+//!
+//! What it promises:
+//! - Each hint on a script is reported exactly if its definition holds. Those on lines come first, in their order.
+//! - There are three hints on lines. A quorum set names a node that the script doesn't have. A command is for a slot outside its node's
+//!   window, whatever the nodes do. Or lines send on a link for a node that has turns of its own and that nothing lets speak. The check
+//!   doesn't warn that such a link is driven.
+//! - It is reported that two quorums have no node in common, with two that have none, exactly if there are any.
+//! - The text of hints is a line for each.
+//! - All quorums of the nodes are found, and each that is found is one.
+//! - For each node the smallest sets of others whose loss halts it are all shown, and each that is shown is one.
+//! - The number of lost nodes that is reported as survived is the greatest that is survived whichever nodes they are.
+//! - The lines on a script's quorums report exactly these facts of the quorum sets that its nodes have.
+//!
+//! What concerns quorums goes over each set of the nodes, and there are 256 of them for eight nodes. So it is for few nodes.
+#![tactic(auto)]
+
+mod apart;
+mod before;
+mod finding;
+mod groups;
+mod hint;
+mod lines;
+mod losses;
+mod member;
+mod nodes;
+mod text;
+mod told;
+
+pub use finding::{disjoint_quorums, is_quorum, quorums};
+pub use hint::Hint;
+pub use lines::hints;
+pub use losses::{smallest_halting, survived};
+pub use member::Member;
+pub use text::text_of_hints;
+pub use told::{members_of, quorums_text, write_disjoint};

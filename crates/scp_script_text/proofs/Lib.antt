@@ -1,0 +1,9 @@
+pub mod Back
+pub mod ComeBack
+pub mod Ends
+pub mod Marks
+pub mod Said
+pub mod SlotBack
+pub mod Whole
+pub mod Words
+pub mod Writing

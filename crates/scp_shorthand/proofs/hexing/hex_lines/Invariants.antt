@@ -1,7 +1,0 @@
-use Rattle.std.proofs.Common.{take}
-use Rattle.scp_shorthand.specs.Hexing.{AreDigits}
-use Rattle.scp_shorthand.proofs.hexing.hex_lines.Given as goal
-
--- the lines so far were written
-abbrev pub invariant-loop-placed : goal.invariant-loop-placed
-invariant-loop-placed l = AreDigits (take l.placed-index l.lines) l.written.items

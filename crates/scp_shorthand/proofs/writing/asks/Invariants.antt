@@ -1,6 +1,0 @@
-use Rattle.std.proofs.Common.{◌≡◌}
-use Rattle.scp_shorthand.specs.Lines.{asks}
-use Rattle.scp_shorthand.proofs.writing.asks.Given as goal
-
-abbrev pub invariant-loop-index : goal.invariant-loop-index
-invariant-loop-index l = l.lines.items ≡ asks l.node l.peer l.index

@@ -1,6 +1,0 @@
-use Rattle.std.proofs.Common.{◌≡◌}
-use Rattle.scp_shorthand.specs.Lines.{round_of_each}
-use Rattle.scp_shorthand.proofs.writing.one_round.Given as goal
-
-abbrev pub invariant-loop-index : goal.invariant-loop-index
-invariant-loop-index l = l.lines.items ≡ round_of_each l.index l.slot

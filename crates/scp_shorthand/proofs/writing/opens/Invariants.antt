@@ -1,6 +1,0 @@
-use Rattle.std.proofs.Common.{◌≡◌, flat_map}
-use Rattle.scp_shorthand.specs.Lines.{opens_of, numbers}
-use Rattle.scp_shorthand.proofs.writing.opens.Given as goal
-
-abbrev pub invariant-loop-index : goal.invariant-loop-index
-invariant-loop-index l = l.lines.items ≡ flat_map (opens_of l.nodes) (numbers l.index)

@@ -1,6 +1,0 @@
-use Rattle.std.proofs.Common.{◌≡◌}
-use Rattle.scp_shorthand.specs.Lines.{opens_of}
-use Rattle.scp_shorthand.proofs.writing.opens_of.Given as goal
-
-abbrev pub invariant-loop-index : goal.invariant-loop-index
-invariant-loop-index l = l.lines.items ≡ opens_of l.index l.node

@@ -1,8 +1,0 @@
-use Rattle.std.proofs.Common.{◌≡◌, ◌++◌, drop, map}
-use Rattle.scp_silent.specs.Disagreeing.{nodes_with}
-use Rattle.scp_silent.specs.inside.Choices.{choice_seen}
-use Rattle.scp_silent.proofs.disagreeing.nodes_of.Given as goal
-
--- with what is left it is all
-abbrev pub invariant-loop-choice : goal.invariant-loop-choice
-invariant-loop-choice l = l.nodes.items ++ nodes_with l.value (map choice_seen (drop l.choice-index l.choices)) ≡ nodes_with l.value (map choice_seen l.choices)

@@ -1,8 +1,0 @@
-use Rattle.std.proofs.Common.{◌≡◌, drop}
-use Rattle.std.specs.List.{list_any}
-use Rattle.scp_trace_lint.specs.Nodes.{sends_on}
-use Rattle.scp_silent.proofs.lost.is_driven.Given as goal
-
--- what is left tells it
-abbrev pub invariant-loop-command : goal.invariant-loop-command
-invariant-loop-command l = list_any (sends_on l.from l.to) (drop l.command-index l.commands) ≡ list_any (sends_on l.from l.to) l.commands

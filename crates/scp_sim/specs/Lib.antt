@@ -1,0 +1,3 @@
+pub mod Lines
+pub mod Simulated
+pub mod inside

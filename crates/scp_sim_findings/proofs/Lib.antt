@@ -1,0 +1,4 @@
+pub mod Keeping
+pub mod Telling
+pub mod Texts
+pub mod Worst

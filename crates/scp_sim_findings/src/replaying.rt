@@ -1,0 +1,81 @@
+//! How a script is played once more.
+ghost use Rattle.scp_script.specs.Nodes.{NamesNodes};
+ghost use Rattle.std.specs.Prelude.{◌≡◌, ◌≤◌, length, All, IfOk, IsTrue, string_bytes, flat_map};
+ghost use Rattle.scp_line.specs.Play.{report_at};
+ghost use Rattle.scp_script.specs.Nodes.{reports_in};
+ghost use Rattle.scp_sim_findings.specs.Replayed.{IsReplayed, ComesTo};
+
+use crate::outcome::{Finding, Judging, is_found};
+use scp_line::write_reports;
+use scp_notices::{Ran, RunFault, run};
+use scp_script_check::ReadFault;
+use std::alloc::{AllocError, Global};
+
+/// Why a script couldn't be played once more.
+#[derive(Clone, Copy, Debug, PartialEq, Eq)]
+pub enum ReplayFault {
+    /// The script couldn't be played.
+    Run(RunFault),
+    /// Its reports differ.
+    Differs,
+}
+
+impl From<AllocError> for ReplayFault {
+    ghost from_gives = { λ _ _. Unit {0} };
+
+    fn from(_e: AllocError) -> ReplayFault {
+        ReplayFault::Run(RunFault::Unread(ReadFault::NoMemory))
+    }
+}
+
+/// The reports of a run.
+fn reports_of(alloc: Global, ran: &Ran) -> Result<String, AllocError>
+    requires names { All NamesNodes ran.now.script.commands.items }
+    requires few { length ran.now.network.nodes ≤ 8 }
+    ensures { IfOk result (λ text. string_bytes text ≡ flat_map (report_at ran.now.network.nodes) (reports_in ran.now.script.commands.items)) }
+{
+    let mut text = String::new(alloc);
+    write_reports(
+        ran.network.nodes(),
+        &mut text,
+        ran.script.commands.as_slice(),
+    )?;
+    Ok(text)
+}
+
+/// Plays a simulated script, whose nodes gave these reports in the simulation. Refused by `Differs` if they now give others.
+pub fn replayed(alloc: Global, script: &[u8], reports: &str) -> Result<Ran, ReplayFault>
+    ensures { IfOk result (λ ran. IsReplayed script.now reports.now ran.script ran.network ran.notices.items) }
+{
+    let ran = match run(alloc, script) {
+        Ok(ran) => ran,
+        Err(fault) => return Err(ReplayFault::Run(fault)),
+    };
+    let text = reports_of(alloc, &ran)?;
+    if text.as_str() == reports {
+        Ok(ran)
+    } else {
+        Err(ReplayFault::Differs)
+    }
+}
+
+/// Whether playing a script leads to this finding. A script that can't be played to its end has no finding.
+pub fn comes_to(
+    alloc: Global,
+    script: &[u8],
+    finding: Finding,
+    judging: &Judging,
+) -> Result<bool, AllocError>
+    ensures { IfOk result (λ comes. IsTrue comes → ComesTo script.now finding judging.now.marks judging.now.slots) }
+{
+    match run(alloc, script) {
+        Ok(ran) => Ok(is_found(
+            finding,
+            judging,
+            ran.network.nodes(),
+            ran.notices.as_slice(),
+        )),
+        Err(RunFault::Unread(ReadFault::NoMemory)) => Err(AllocError),
+        Err(_) => Ok(false),
+    }
+}

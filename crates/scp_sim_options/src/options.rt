@@ -1,0 +1,339 @@
+//! The options of a simulation, and what they say.
+
+use crate::plan::{Crash, Partition, Plan, Proposers, Span, mark};
+use crate::table::{Entry, Word};
+use crate::words::{crash_of, node_of, number_of, partition_of, percent_of, span_of};
+use clap::ArgMatches;
+use clap::builder::ValueParser;
+use std::alloc::{AllocError, AllocFailed, Global};
+
+/// The command of a simulation.
+pub static SIM: Entry = Entry {
+    name: "sim",
+    about: "Simulates nodes in virtual time by a seed, and tells what they came to",
+    words: &[
+        // who the nodes are, and what they are to do
+        Word {
+            name: "nodes",
+            value: &["N"],
+            help: "So many nodes, 1 to 8",
+            default: &["4"],
+            ..Word::OPTION
+        },
+        Word {
+            name: "need",
+            value: &["K"],
+            help: "Quorum sets of K of all nodes",
+            ..Word::OPTION
+        },
+        Word {
+            name: "sets",
+            value: &["FILE"],
+            help: "Lines 'set I SET' that give nodes other quorum sets",
+            ..Word::OPTION
+        },
+        Word {
+            name: "slots",
+            value: &["N"],
+            help: "So many slots are to be closed",
+            default: &["5"],
+            ..Word::OPTION
+        },
+        Word {
+            name: "seed",
+            value: &["N"],
+            help: "What is left to chance",
+            default: &["1"],
+            ..Word::OPTION
+        },
+        Word {
+            name: "seeds",
+            value: &["A..B"],
+            help: "One run for each of these seeds, and a table of them",
+            not_with: &["seed"],
+            ..Word::OPTION
+        },
+        Word {
+            name: "propose",
+            value: &["WHO"],
+            help: "Who proposes values: all nodes, each slot's first leader, or each by chance",
+            parser: ValueParser::Names(&["all", "leader", "random"]),
+            default: &["all"],
+            ..Word::OPTION
+        },
+        // what becomes of messages
+        Word {
+            name: "delay",
+            value: &["A..B"],
+            help: "How long a message travels",
+            default: &["10..200"],
+            ..Word::OPTION
+        },
+        Word {
+            name: "drop",
+            value: &["P%"],
+            help: "Of a hundred messages so many are lost",
+            default: &["0%"],
+            ..Word::OPTION
+        },
+        Word {
+            name: "duplicate",
+            value: &["P%"],
+            help: "Of a hundred messages so many come twice",
+            default: &["0%"],
+            ..Word::OPTION
+        },
+        Word {
+            name: "reorder",
+            help: "A message may overtake another",
+            ..Word::FLAG
+        },
+        // which nodes are faulty
+        Word {
+            name: "partition",
+            value: &["1,2|3,4@A..B"],
+            help: "Nodes of different sides aren't linked from time A to time B",
+            ..Word::MANY
+        },
+        Word {
+            name: "crash",
+            value: &["I@A..B"],
+            help: "Node I stops at time A, and comes back at time B",
+            ..Word::MANY
+        },
+        Word {
+            name: "silent",
+            value: &["I"],
+            help: "Of node I nothing is heard",
+            ..Word::MANY
+        },
+        Word {
+            name: "equivocate",
+            value: &["I"],
+            help: "Node I says different things to different nodes",
+            ..Word::MANY
+        },
+        Word {
+            name: "flood",
+            value: &["I"],
+            help: "Node I says what is old, and what can't be judged",
+            ..Word::MANY
+        },
+        // what becomes of the script
+        Word {
+            name: "script",
+            value: &["FILE"],
+            help: "Writes the script of the run, which must not be there yet",
+            not_with: &["seeds"],
+            ..Word::OPTION
+        },
+        Word {
+            name: "shrink",
+            help: "Leaves out lines of the script as long as it comes to the same",
+            not_with: &["seeds"],
+            ..Word::FLAG
+        },
+    ],
+};
+
+/// The end of the help of the command of a simulation.
+pub static SIM_HELP: &str = "Faults:
+  A message that is lost doesn't come. Without --reorder those of a link come in the order in which they were sent.
+  Nodes of two sides of a partition aren't linked, nor is a node that stops; links are made anew behind that, and what was said last is said again.
+  A silent node hears. One that equivocates says one thing to the first half of the nodes, another to the second; one that floods says what is old,
+  and names quorum sets that nobody has. These two aren't judged.
+
+Times are in milliseconds. The same words give the same bytes.";
+
+/// What is asked of a simulation.
+#[derive(Drop)]
+pub struct SimAsked<'a> {
+    /// What is simulated. The lines of quorum sets come from a file.
+    pub plan: Plan,
+    /// The seeds, from the first to the last.
+    pub seeds: Span,
+    /// The path of the lines that give quorum sets, if there are any.
+    pub sets: Option<&'a str>,
+    /// The path of the file into which the script is written, if there is one.
+    pub script: Option<&'a str>,
+    /// Whether the script is shrunk: it comes to the same with fewer lines.
+    pub shrink: bool,
+}
+
+/// The first option whose word isn't valid, and what was expected there.
+#[derive(Clone, Copy)]
+pub struct BadOption {
+    pub option: &'static str,
+    pub expected: &'static str,
+}
+
+/// Why the options ask for no simulation.
+#[derive(Clone, Copy)]
+pub enum Unplanned {
+    Bad(BadOption),
+    NoMemory,
+}
+
+impl From<AllocError> for Unplanned {
+    ghost from_gives = { λ _ _. Unit {0} };
+
+    fn from(_e: AllocError) -> Unplanned {
+        Unplanned::NoMemory
+    }
+}
+
+impl<T: Drop> From<AllocFailed<T>> for Unplanned {
+    ghost from_gives = { λ _ _. Unit {0} };
+
+    fn from(_e: AllocFailed<T>) -> Unplanned {
+        Unplanned::NoMemory
+    }
+}
+
+fn bad(option: &'static str, expected: &'static str) -> Unplanned {
+    Unplanned::Bad(BadOption { option, expected })
+}
+
+/// The word of an option, or an empty word.
+fn word<'a>(matches: &ArgMatches<'a>, option: &str) -> &'a str {
+    matches.get_str(option).unwrap_or("")
+}
+
+/// The nodes that an option names, each marked.
+fn marks(
+    matches: &ArgMatches<'_>,
+    option: &'static str,
+    count: u8,
+) -> Result<[bool; 8], Unplanned> {
+    let mut marks = [false; 8];
+    let Some(words) = matches.get_strs(option) else {
+        return Ok(marks);
+    };
+    for word in words {
+        match node_of(word) {
+            Some(node) if node <= count => mark(&mut marks, node),
+            _ => return Err(bad(option, "the number of a node")),
+        }
+    }
+    Ok(marks)
+}
+
+/// The number of nodes that a quorum set needs, out of `count`: the number that is given, else all but a third.
+fn need(matches: &ArgMatches<'_>, count: u8) -> Result<u8, Unplanned> {
+    match matches.get_str("need") {
+        None => Ok(count.saturating_sub(count.saturating_sub(1) / 3)),
+        Some(word) => match node_of(word) {
+            Some(need) if need <= count => Ok(need),
+            _ => Err(bad("need", "a number, 1 to that of the nodes")),
+        },
+    }
+}
+
+/// Who proposes values.
+fn proposers(matches: &ArgMatches<'_>) -> Proposers {
+    match word(matches, "propose") {
+        "leader" => Proposers::Leader,
+        "random" => Proposers::Random,
+        _ => Proposers::All,
+    }
+}
+
+/// The seeds of the runs.
+fn seeds(matches: &ArgMatches<'_>) -> Result<Span, Unplanned> {
+    if let Some(word) = matches.get_str("seeds") {
+        return span_of(word).ok_or(bad("seeds", "two numbers, as 1..100"));
+    }
+    match number_of(word(matches, "seed")) {
+        Some(seed) => Ok(Span {
+            from: seed,
+            to: seed,
+        }),
+        None => Err(bad("seed", "a number, below 2^64")),
+    }
+}
+
+/// The partitions that the options give.
+fn partitions(alloc: Global, matches: &ArgMatches<'_>) -> Result<Vec<Partition>, Unplanned> {
+    let mut partitions = Vec::new(alloc);
+    let Some(words) = matches.get_strs("partition") else {
+        return Ok(partitions);
+    };
+    for word in words {
+        match partition_of(word) {
+            Some(partition) => partitions.push(partition)?,
+            None => return Err(bad(
+                "partition",
+                "sides of nodes and a time, as 1,2|3,4@100..900",
+            )),
+        }
+    }
+    Ok(partitions)
+}
+
+/// The stops that the options give; `count` is the number of nodes.
+fn crashes(alloc: Global, matches: &ArgMatches<'_>, count: u8) -> Result<Vec<Crash>, Unplanned> {
+    let mut crashes = Vec::new(alloc);
+    let Some(words) = matches.get_strs("crash") else {
+        return Ok(crashes);
+    };
+    for word in words {
+        match crash_of(word) {
+            Some(crash) if crash.node <= count => crashes.push(crash)?,
+            _ => return Err(bad("crash", "a node and a time, as 3@500..900")),
+        }
+    }
+    Ok(crashes)
+}
+
+/// What is simulated.
+fn plan_of(alloc: Global, matches: &ArgMatches<'_>) -> Result<Plan, Unplanned> {
+    let Some(nodes) = node_of(word(matches, "nodes")) else {
+        return Err(bad("nodes", "a number, 1 to 8"));
+    };
+    let need = need(matches, nodes)?;
+    let Some(slots) = number_of(word(matches, "slots")) else {
+        return Err(bad("slots", "a number, below 2^64"));
+    };
+    let Some(delay) = span_of(word(matches, "delay")) else {
+        return Err(bad("delay", "two numbers of milliseconds, as 10..200"));
+    };
+    let Some(drop) = percent_of(word(matches, "drop")) else {
+        return Err(bad("drop", "0% to 100%"));
+    };
+    let Some(duplicate) = percent_of(word(matches, "duplicate")) else {
+        return Err(bad("duplicate", "0% to 100%"));
+    };
+    let silent = marks(matches, "silent", nodes)?;
+    let equivocating = marks(matches, "equivocate", nodes)?;
+    let flooding = marks(matches, "flood", nodes)?;
+    let partitions = partitions(alloc, matches)?;
+    let crashes = crashes(alloc, matches, nodes)?;
+    Ok(Plan {
+        nodes,
+        need,
+        sets: String::new(alloc),
+        slots,
+        delay,
+        drop,
+        duplicate,
+        reorder: matches.get_flag("reorder"),
+        partitions,
+        crashes,
+        silent,
+        equivocating,
+        flooding,
+        propose: proposers(matches),
+    })
+}
+
+/// What the options ask of a simulation.
+pub fn sim_by<'a>(alloc: Global, matches: &ArgMatches<'a>) -> Result<SimAsked<'a>, Unplanned> {
+    let plan = plan_of(alloc, matches)?;
+    Ok(SimAsked {
+        plan,
+        seeds: seeds(matches)?,
+        sets: matches.get_str("sets"),
+        script: matches.get_str("script"),
+        shrink: matches.get_flag("shrink"),
+    })
+}

@@ -1,4 +1,0 @@
-pub mod Back
-pub mod Ends
-pub mod Marks
-pub mod Writing

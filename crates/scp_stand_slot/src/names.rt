@@ -1,0 +1,169 @@
+//! The names of quorum sets: the text of a script's set, if it is short.
+ghost use Rattle.std.specs.Prelude.{◌≡◌, ◌≤◌, ◌++◌, ◌∷◌, [], List, All, IfOk, IfSome, OnOk, IsOkUnless, map, flat_map, option_map, option_to_list, string_bytes, Some};
+ghost use Rattle.scp_xdr.specs.Kind.{Fits};
+ghost use Rattle.scp_quorum.specs.QuorumKind.{set_kind, set_value};
+ghost use Rattle.scp_quorum.specs.QuorumTree.{QuorumTree};
+ghost use Rattle.scp_script.specs.Script.{node_count, AreAdmitted};
+ghost use Rattle.scp_script.specs.Nodes.{NamesNodes, numbers, set_at};
+ghost use Rattle.scp_stand_slot.specs.Names.{text_at, name_by, name_of, set_in_bytes, set_sent, sets_of, AreNamesOf, AreNames};
+
+use scp_quorum::QuorumSet;
+use scp_script::{Command, set_of_node};
+use scp_text::{Term, text_of_set};
+use scp_types::{Fault, Hash};
+use scp_wire::{Message, decode};
+use std::alloc::Global;
+use std::collections::BTreeMap;
+
+/// The digits of a hash have this many characters. A name is shorter.
+const HASH_DIGITS: usize = 64;
+
+/// The texts of a script's sets, by their hashes.
+#[derive(Drop)]
+pub struct Names {
+    sets: BTreeMap<Hash, String>,
+}
+
+impl Names {
+    /// The names of the nodes' sets, and of those that commands send.
+    pub fn of(alloc: Global, commands: &[Command], count: u8) -> Result<Names, Fault>
+        requires names { All NamesNodes commands.now }
+        requires admitted { AreAdmitted [] commands.now }
+        requires count { count ≡ node_count commands.now }
+        requires few { count ≤ 8 }
+        ensures names { IfOk result (AreNames commands.now) }
+        ensures only_memory { IsOkUnless result Fault.NoMemory }
+    {
+        let mut sets = sets_of_nodes(alloc, commands, count)?;
+        add_all_sent(alloc, &mut sets, commands)?;
+        Names::of_sets(alloc, sets.as_slice())
+    }
+
+    /// The names of these sets.
+    fn of_sets(alloc: Global, sets: &[QuorumSet]) -> Result<Names, Fault>
+        requires fits { All (λ set. Fits set_kind (set_value set)) sets.now }
+        ensures names { IfOk result (AreNamesOf sets.now) }
+        ensures only_memory { IsOkUnless result Fault.NoMemory }
+    {
+        let mut names = Names {
+            sets: BTreeMap::new(alloc),
+        };
+        for set in sets {
+            names.add(alloc, set)?;
+        }
+        Ok(names)
+    }
+
+    /// Adds a set.
+    fn add(&mut self, alloc: Global, set: &QuorumSet) -> Result<(), Fault>
+        requires fits { Fits set_kind (set_value set.now) }
+        ensures added { OnOk result ((sets : List QuorumTree) → AreNamesOf sets self.old → AreNamesOf (sets ++ set.now ∷ []) self.new) }
+        ensures only_memory { IsOkUnless result Fault.NoMemory }
+    {
+        let hash = set.hash()?;
+        let text = text_of_set(alloc, set)?;
+        self.sets.insert(hash, text)?;
+        Ok(())
+    }
+
+    /// The text of the set with this hash, if it is known.
+    fn text(&self, hash: &Hash) -> Option<&str>
+        ensures { option_map (λ text. text.now) result ≡ text_at self.now hash.now }
+    {
+        match self.sets.get(hash) {
+            Some(text) => Some(text.as_str()),
+            None => None,
+        }
+    }
+
+    /// Adds the name of a hash: `hash(SET)` if the set is known and this is shorter than the digits, and otherwise the digits.
+    pub fn write_hash(&self, out: &mut String, hash: &Hash) -> Result<(), Fault>
+        ensures added { OnOk result (string_bytes out.new ≡ string_bytes out.old ++ name_of self.now hash.now) }
+        ensures only_memory { IsOkUnless result Fault.NoMemory }
+    {
+        match self.text(hash) {
+            Some(text) => write_name(out, text, hash),
+            None => hash.write(out),
+        }
+    }
+}
+
+/// Adds a hash as its set's text if that is short, and otherwise its digits.
+fn write_name(out: &mut String, text: &str, hash: &Hash) -> Result<(), Fault>
+    ensures added { OnOk result (string_bytes out.new ≡ string_bytes out.old ++ name_by (Some text.now) hash.now) }
+    ensures only_memory { IsOkUnless result Fault.NoMemory }
+{
+    if text.len() >= HASH_DIGITS - 6 {
+        return hash.write(out);
+    }
+    out.push_str("hash(")?;
+    out.push_str(text)?;
+    out.push_str(")")?;
+    Ok(())
+}
+
+/// The sets of this many nodes.
+fn sets_of_nodes(alloc: Global, commands: &[Command], count: u8) -> Result<Vec<QuorumSet>, Fault>
+    requires names { All NamesNodes commands.now }
+    requires admitted { AreAdmitted [] commands.now }
+    requires few { count ≤ 8 }
+    ensures sets { IfOk result (λ sets. sets.items ≡ map (λ number. set_at number commands.now) (numbers count)) }
+    ensures fits { IfOk result (λ sets. All (λ set. Fits set_kind (set_value set)) sets.items) }
+    ensures only_memory { IsOkUnless result Fault.NoMemory }
+{
+    let mut sets = Vec::new(alloc);
+    for index in 0..count {
+        sets.push(set_of_node(alloc, commands, index + 1)?)?;
+    }
+    Ok(sets)
+}
+
+/// The quorum set that these bytes carry, if they encode a message that is one.
+fn set_in(alloc: Global, bytes: &[u8]) -> Result<Option<QuorumSet>, Fault>
+    ensures set { IfOk result (λ set. option_to_list set ≡ set_in_bytes bytes.now) }
+    ensures fits { IfOk result (λ set. IfSome set (λ set. Fits set_kind (set_value set))) }
+    ensures only_memory { IsOkUnless result Fault.NoMemory }
+{
+    match decode(alloc, bytes) {
+        Ok(Message::Set(set)) => Ok(Some(set)),
+        Err(Fault::NoMemory) => Err(Fault::NoMemory),
+        _ => Ok(None),
+    }
+}
+
+/// The quorum set that the command sends, if it sends one.
+fn sent(alloc: Global, command: &Command) -> Result<Option<QuorumSet>, Fault>
+    ensures set { IfOk result (λ set. option_to_list set ≡ set_sent command.now) }
+    ensures fits { IfOk result (λ set. IfSome set (λ set. Fits set_kind (set_value set))) }
+    ensures only_memory { IsOkUnless result Fault.NoMemory }
+{
+    match command {
+        Command::Send { bytes, .. } => set_in(alloc, bytes.as_slice()),
+        _ => Ok(None),
+    }
+}
+
+/// Adds the quorum set that the command sends, if it sends one.
+fn add_sent(alloc: Global, sets: &mut Vec<QuorumSet>, command: &Command) -> Result<(), Fault>
+    ensures sets { OnOk result (sets.new.items ≡ sets.old.items ++ set_sent command.now) }
+    ensures fits { OnOk result (All (λ set. Fits set_kind (set_value set)) sets.old.items → All (λ set. Fits set_kind (set_value set)) sets.new.items) }
+    ensures only_memory { IsOkUnless result Fault.NoMemory }
+{
+    let Some(set) = sent(alloc, command)? else {
+        return Ok(());
+    };
+    sets.push(set)?;
+    Ok(())
+}
+
+/// Adds the quorum sets that commands send.
+fn add_all_sent(alloc: Global, sets: &mut Vec<QuorumSet>, commands: &[Command]) -> Result<(), Fault>
+    ensures sets { OnOk result (sets.new.items ≡ sets.old.items ++ flat_map set_sent commands.now) }
+    ensures fits { OnOk result (All (λ set. Fits set_kind (set_value set)) sets.old.items → All (λ set. Fits set_kind (set_value set)) sets.new.items) }
+    ensures only_memory { IsOkUnless result Fault.NoMemory }
+{
+    for command in commands {
+        add_sent(alloc, sets, command)?;
+    }
+    Ok(())
+}

@@ -1,8 +1,0 @@
-use denote.Param.Send.{sendable}
-use Rattle.std.proofs.Crossing.{crosses}
-use Rattle.scp_ends.proofs.ends.Tx.TheSendSync as txs
-use Rattle.scp_thread_tests.proofs.Crossing.{inbound_send}
-use Rattle.scp_thread_tests.proofs.ends.putting.Goals as goal
-
-pub spawn-requires-send-F : goal.spawn-requires-send-F
-spawn-requires-send-F g c κs within = (let it = inbound_send in search (sendable, crosses, txs.the_send) depth 40)

@@ -1,4 +1,0 @@
-pub mod Named
-pub mod Back
-pub mod Clear
-pub mod Others

@@ -1,5 +1,0 @@
-use Rattle.scp_told.proofs.Named.{told_by_its_name}
-use Rattle.scp_told.proofs.laws.a_peer_is_told_by_its_name.Goals as goal
-
-pub returns : goal.returns
-returns c = told_by_its_name

@@ -1,5 +1,0 @@
-use Rattle.scp_told.proofs.Others.{are_others}
-use Rattle.scp_told.proofs.laws.only_send_lines_are_read.Goals as goal
-
-pub returns : goal.returns
-returns c = are_others

@@ -1,9 +1,0 @@
-pub mod Names
-pub mod Sent
-pub mod Back
-pub mod Fates
-pub mod Decisions
-pub mod Timers
-pub mod State
-pub mod Replies
-pub mod Others

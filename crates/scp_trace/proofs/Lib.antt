@@ -1,0 +1,9 @@
+pub mod Seen
+pub mod Noting
+pub mod Reading
+pub mod Telling
+pub mod Pieces
+pub mod Runs
+pub mod Player
+pub mod AtEnd
+pub mod Watching

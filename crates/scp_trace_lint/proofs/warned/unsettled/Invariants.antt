@@ -1,8 +1,0 @@
-use Rattle.std.proofs.Common.{◌≡◌, drop}
-use Rattle.scp_trace_lint.specs.Warnings.{rest_place}
-use Rattle.scp_trace_lint.proofs.Telling.{place_with}
-use Rattle.scp_trace_lint.proofs.warned.unsettled.Given as goal
-
--- with what is left it is all
-abbrev pub invariant-loop-index : goal.invariant-loop-index
-invariant-loop-index l = place_with l.found l.index (drop l.index l.commands) ≡ rest_place 0 l.commands

@@ -1,7 +1,0 @@
--- Who speaks in a script (this project's profile).
--- Here stands what no public clause reaches: nothing here need be believed.
-use Rattle.std.specs.Prelude.{ℕ, Bool, false, Option, Some, None, nat_eq}
-
-abbrev pub is_slot : ℕ → Option ℕ → Bool
-is_slot slot None = false
-is_slot slot (Some other) = nat_eq other slot

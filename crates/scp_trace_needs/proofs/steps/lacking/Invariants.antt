@@ -1,9 +1,0 @@
-use Rattle.std.proofs.Common.{take}
-use Rattle.scp_vote.specs.Board.{kind_of}
-use Rattle.scp_vote.specs.Seen.{seen}
-use Rattle.scp_trace_needs.specs.Needs.{IsLacking, AreMembers}
-use Rattle.scp_trace_needs.proofs.steps.lacking.Given as goal
-
--- of the members so far
-abbrev pub invariant-loop-node : goal.invariant-loop-node
-invariant-loop-node l = AreMembers (IsLacking (seen (kind_of l.claim) l.board) l.claim l.counted) (take l.node-index l.members) l.nodes.items

@@ -1,7 +1,0 @@
-use Rattle.std.proofs.Common.{string_bytes}
-use Rattle.scp_trace_slot.specs.Adding.{Adds}
-use Rattle.scp_trace_node.specs.Slots.{IsTextAbove, AreTexts}
-use Rattle.scp_trace_node.proofs.slots.write_slots_above.Given as goal
-
-abbrev pub invariant-loop-place : goal.invariant-loop-place
-invariant-loop-place l = Adds (string_bytes l.initial.out) (string_bytes l.out) (AreTexts (IsTextAbove l.seen.names.now l.seen.count l.seen.number l.members l.seen.played.now l.seen.node.now) l.place)

@@ -1,5 +1,0 @@
-pub mod Seen
-pub mod Noting
-pub mod Reading
-pub mod Pieces
-pub mod AtEnd

@@ -1,9 +1,0 @@
-use Rattle.std.proofs.Common.{◌+◌, string_bytes}
-use Rattle.scp_trace_slot.specs.Adding.{Adds}
-use Rattle.scp_trace_node.specs.Slots.{AreTexts}
-use Rattle.scp_trace_run.specs.Standing.{TellsLast}
-use Rattle.scp_trace_run.proofs.ending.write_all.Given as goal
-
--- of the nodes so far all was told
-abbrev pub invariant-loop-index : goal.invariant-loop-index
-invariant-loop-index l = Adds (string_bytes l.fn.out) (string_bytes l.out) (AreTexts (λ index. TellsLast l.playing.names.now l.playing.commands.now l.network.nodes (index + 1)) l.index)

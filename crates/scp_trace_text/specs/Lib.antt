@@ -1,0 +1,6 @@
+pub mod Words
+pub mod Messages
+pub mod Commands
+pub mod Facts
+pub mod Tracing
+pub mod Watching
