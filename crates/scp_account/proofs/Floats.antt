@@ -1,12 +1,10 @@
 -- No part of an account is a float.
 use Rattle.std.proofs.Common.{◌≡◌, ◌+◌, ℕ, Bool, true, false, List, [], ◌∷◌, ◌++◌, ◌∙◌, ap, codes, length, map, Option, Some, None, refl}
-use Rattle.std.specs.Prelude.{◌||◌, flat_map, nat_eq, slice_get, take, if◌then◌else◌}
+use Rattle.std.specs.Prelude.{◌||◌, flat_map, nat_eq, slice_get, if◌then◌else◌}
 use Rattle.std.specs.Global.{Vec}
-use Rattle.std.specs.FinMap as finite
 use Rattle.serde_json.specs.Data.{Data}
 use Rattle.serde_json.specs.View.{items_of}
 use Rattle.serde_json.specs.Written.{compact_text, has_float, items_have_float}
-use Rattle.scp_types.specs.declared.limits.TheConstants.{PEER_LIMIT}
 use Rattle.scp_types.specs.declared.names.NodeId.{NodeId}
 use Rattle.scp_types.specs.declared.names.Hash.{Hash}
 use Rattle.scp_types.specs.declared.names.Seq.{Seq}
@@ -16,38 +14,29 @@ use Rattle.scp_wire.specs.declared.link.Command.{Command}
 use Rattle.scp_wire.specs.declared.link.Command.TheVariants.{Tick, Propose, Round, Timer, Ask}
 use Rattle.scp_wire.specs.declared.link.LinkItem.{LinkItem}
 use Rattle.scp_wire.specs.declared.link.LinkItem.TheVariants as item
-use Rattle.scp_pending.specs.Rules.{PendingView}
-use Rattle.scp_pending.specs.Queues.{parked_of, first_waiting}
-use Rattle.scp_outbox.specs.Outbox.{OutboxView}
 use Rattle.scp_ledger.specs.declared.journal.Decision.{Decision}
 use Rattle.scp_ledger.specs.declared.journal.Fate.{Fate}
 use Rattle.scp_ledger.specs.declared.journal.Fate.TheVariants.{Taken, Dropped, Closed}
 use Rattle.scp_ledger.specs.declared.journal.Origin.{Origin}
 use Rattle.scp_ledger.specs.declared.journal.Origin.TheVariants.{Machine, Named}
 use Rattle.scp_ledger.specs.declared.took.CommandFate.{CommandFate}
-use Rattle.scp_core.specs.Kv.{NodeView}
-use Rattle.scp_network.specs.Heard.{Nodes}
-use Rattle.scp_gather.specs.Kv.{NodeReport}
-use Rattle.scp_script.specs.declared.command.Command.{Command as Line}
-use Rattle.scp_script.specs.Script.{node_count}
-use Rattle.scp_script.specs.Nodes.{id_of, peers_of}
-use Rattle.scp_kept.specs.scp_line.specs.declared.report.Parked.{Parked}
-use Rattle.scp_kept.specs.scp_line.specs.Parts.{entries_of}
-use Rattle.scp_kept.specs.scp_line.specs.Play.{running_state}
-use Rattle.scp_kept.specs.declared.happening.Happening.{Happening}
-use Rattle.scp_kept.specs.declared.happening.Happening.TheVariants as happening
-use Rattle.scp_kept.specs.declared.happening.Kept.{Kept}
-use Rattle.scp_kept.specs.Taken.{happenings_at, in_order}
-use Rattle.scp_kept.specs.Waiting.{parked_in}
-use Rattle.scp_account.specs.Account.{accounts_behind, account_of, account_text}
+use Rattle.scp_line.specs.scp_report.specs.declared.report.LinkReport.{LinkReport}
+use Rattle.scp_line.specs.scp_report.specs.declared.report.Parked.{Parked}
+use Rattle.scp_line.specs.scp_report.specs.Report.{ReportView}
+use Rattle.scp_facts.specs.declared.happening.Happening.{Happening}
+use Rattle.scp_facts.specs.declared.happening.Happening.TheVariants as happening
+use Rattle.scp_facts.specs.declared.happening.Kept.{Kept}
+use Rattle.scp_facts.specs.Taken.{happenings_at, in_order}
+use Rattle.scp_account.specs.declared.node.Mode.{Mode}
+use Rattle.scp_account.specs.declared.node.Mode.TheVariants.{Serial, Threads}
+use Rattle.scp_account.specs.Account.{account_json, account_of, account_text}
 use Rattle.scp_account.specs.Arrived.{arrival_json, arrivals_json, arrived_json, item_json}
 use Rattle.scp_account.specs.Commands.{command_json, fate_json}
 use Rattle.scp_account.specs.Decisions.{decision_json, entry_ground, ground, ground_of, origin_json}
 use Rattle.scp_account.specs.Entries.{entry_json}
-use Rattle.scp_account.specs.Gathered.{all_gathered, gathered_json, gathered_of, gathered_text, waiting_json}
 use Rattle.scp_account.specs.Links.{came, sent, link_json, links_json}
-use Rattle.scp_account.specs.Node.{applied_json, key_json, node_json}
-use Rattle.scp_account.specs.Parked.{hash_json, number_json, parked_json}
+use Rattle.scp_account.specs.Node.{applied_json, key_json, node_json, serial_json, threads_json}
+use Rattle.scp_account.specs.Parked.{hash_json, number_json, parked_json, waiting_json}
 use Rattle.scp_account.specs.Pieces.{id_json, beside_json}
 use Rattle.scp_account.specs.Spoken.{counting}
 use Rattle.scp_account.specs.Taken.{taken_json}
@@ -128,12 +117,12 @@ sent_none link happening.Entered = refl
 sent_none link (happening.Obeyed command fate) = refl
 sent_none link (happening.Sent at bytes) = none_if (nat_eq at link) _ refl
 
-link_none : (outboxes : List OutboxView) (happenings : List Happening) (link : ℕ) (peer : NodeId) → has_float (link_json outboxes happenings link peer) ≡ false
-link_none outboxes happenings link peer = rw (none_flat (came link) happenings (came_none link), none_flat (sent link) happenings (sent_none link)) refl
+link_none : (happenings : List Happening) (link : ℕ) (k : LinkReport) → has_float (link_json happenings link k) ≡ false
+link_none happenings link k = rw (none_flat (came link) happenings (came_none link), none_flat (sent link) happenings (sent_none link)) refl
 
-links_none : (outboxes : List OutboxView) (happenings : List Happening) (link : ℕ) (peers : List NodeId) → NoFloats (links_json outboxes happenings link peers)
-links_none outboxes happenings link [] = refl
-links_none outboxes happenings link (peer ∷ peers) = none_more (link_json outboxes happenings link peer) (links_json outboxes happenings (link + 1) peers) (link_none outboxes happenings link peer) (links_none outboxes happenings (link + 1) peers)
+links_none : (happenings : List Happening) (link : ℕ) (ks : List LinkReport) → NoFloats (links_json happenings link ks)
+links_none happenings link [] = refl
+links_none happenings link (k ∷ ks) = none_more (link_json happenings link k) (links_json happenings (link + 1) ks) (link_none happenings link k) (links_none happenings (link + 1) ks)
 
 -- ---- what waits, and what was decided
 
@@ -145,8 +134,8 @@ hash_none : (first : Option (Seq × Hash)) → has_float (hash_json first) ≡ f
 hash_none None = refl
 hash_none (Some first) = refl
 
-parked_none : (pending : PendingView) (held : Parked) → has_float (parked_json pending held) ≡ false
-parked_none pending held = rw (number_none (first_waiting (parked_of held.conn pending.settled.queues)), hash_none (first_waiting (parked_of held.conn pending.settled.queues))) refl
+parked_none : (held : Parked) → has_float (parked_json held) ≡ false
+parked_none held = rw (number_none held.first, hash_none held.first) refl
 
 entry_ground_none : (node : NodeId) (fate : Fate) → NoFloats (entry_ground node fate)
 entry_ground_none node (Taken conn seq message None verdict) = refl
@@ -172,29 +161,7 @@ origin_none me journal slot (Named conn seq) = refl
 decision_none : (me : NodeId) (journal : List Fate) (d : Decision) → has_float (decision_json me journal d) ≡ false
 decision_none me journal d = rw (origin_none me journal d.slot.0 d.origin) refl
 
--- ---- nodes
-
-node_none : (number : ℕ) (v : NodeView) (happenings : List Happening) → has_float (node_json number v happenings) ≡ false
-node_none number v happenings =
-    rw (
-      none_each applied_json v.applier.applied (λ d. refl),
-      none_each (decision_json v.config.me v.ledger.journal) v.ledger.decisions (decision_none v.config.me v.ledger.journal),
-      links_none v.outboxes happenings 0 (take PEER_LIMIT v.config.peers),
-      none_each (parked_json v.pending) (parked_in v) (parked_none v.pending),
-      none_each key_json (entries_of (running_state v)) (λ entry. refl),
-      order_none happenings v.ledger.journal,
-    ) refl
-
-accounts_none : (kept : List Kept) (number : ℕ) (nodes : Nodes) → NoFloats (accounts_behind kept number nodes)
-accounts_none kept number [] = refl
-accounts_none kept number (node ∷ nodes) =
-    none_more (node_json (number + 1) node (happenings_at (number + 1) kept)) (accounts_behind kept (number + 1) nodes) (node_none (number + 1) node (happenings_at (number + 1) kept)) (accounts_none kept (number + 1) nodes)
-
--- the document of any nodes has none
-pub account_none : (kept : List Kept) (nodes : Nodes) → has_float (account_of nodes kept) ≡ false
-account_none kept nodes = rw (accounts_none kept 0 nodes) refl
-
--- ---- in threads
+-- ---- what came in threads
 
 item_none : (i : LinkItem) → has_float (item_json i) ≡ false
 item_none (item.Opened conn) = refl
@@ -209,32 +176,43 @@ arrived_none (Some (Some items)) = rw (none_each item_json items.items item_none
 arrival_none : (came : List (Option (Vec LinkItem))) (link : ℕ) (peer : NodeId) → has_float (arrival_json came link peer) ≡ false
 arrival_none came link peer = rw (arrived_none (slice_get came link)) refl
 
-arrivals_none : (came : List (Option (Vec LinkItem))) (link : ℕ) (peers : List NodeId) → NoFloats (arrivals_json came link peers)
+arrivals_none : (came : List (Option (Vec LinkItem))) (link : ℕ) (ks : List LinkReport) → NoFloats (arrivals_json came link ks)
 arrivals_none came link [] = refl
-arrivals_none came link (peer ∷ peers) = none_more (arrival_json came link peer) (arrivals_json came (link + 1) peers) (arrival_none came link peer) (arrivals_none came (link + 1) peers)
+arrivals_none came link (k ∷ ks) = none_more (arrival_json came link k.peer) (arrivals_json came (link + 1) ks) (arrival_none came link k.peer) (arrivals_none came (link + 1) ks)
 
-gathered_none : (commands : List Line) (number : ℕ) (r : NodeReport) → has_float (gathered_json commands number r) ≡ false
-gathered_none commands number r =
+-- ---- nodes
+
+serial_none : (r : ReportView) (happenings : List Happening) → has_float (serial_json r happenings) ≡ false
+serial_none r happenings =
     rw (
-      none_each (decision_json (id_of number) r.journal.items) r.applied.items (decision_none (id_of number) r.journal.items),
-      none_each fate_json r.commands.items (λ fate. refl),
-      arrivals_none r.came.items 0 (peers_of (node_count commands) number),
-      none_each waiting_json r.parked.items (λ carried. refl),
-      none_each key_json (finite.entries r.state) (λ entry. refl),
-      none_each entry_json r.journal.items entry_none,
+      none_each applied_json r.applied (λ d. refl),
+      none_each (decision_json r.me r.journal) r.decisions (decision_none r.me r.journal),
+      links_none happenings 0 r.links,
+      none_each parked_json r.parked parked_none,
+      none_each key_json r.state (λ entry. refl),
+      order_none happenings r.journal,
     ) refl
 
-all_none : (commands : List Line) (number : ℕ) (reports : List NodeReport) → NoFloats (all_gathered commands number reports)
-all_none commands number [] = refl
-all_none commands number (report ∷ reports) = none_more (gathered_json commands (number + 1) report) (all_gathered commands (number + 1) reports) (gathered_none commands (number + 1) report) (all_none commands (number + 1) reports)
+threads_none : (r : ReportView) → has_float (threads_json r) ≡ false
+threads_none r =
+    rw (
+      none_each (decision_json r.me r.journal) r.decisions (decision_none r.me r.journal),
+      none_each fate_json r.commands (λ fate. refl),
+      arrivals_none r.came 0 r.links,
+      none_each waiting_json r.messages (λ carried. refl),
+      none_each key_json r.state (λ entry. refl),
+      none_each entry_json r.journal entry_none,
+    ) refl
 
-pub all_gathered_none : (commands : List Line) (reports : List NodeReport) → has_float (gathered_of commands reports) ≡ false
-all_gathered_none commands reports = rw (all_none commands 0 reports) refl
+node_none : (mode : Mode) (r : ReportView) (happenings : List Happening) → has_float (node_json mode r happenings) ≡ false
+node_none Serial r happenings = serial_none r happenings
+node_none Threads r happenings = threads_none r
 
--- ---- texts
+-- the document of any nodes has none
+pub account_none : (mode : Mode) (reports : List ReportView) (kept : List Kept) → has_float (account_of mode reports kept) ≡ false
+account_none mode reports kept = rw (none_each (account_json mode kept) reports (λ r. node_none mode r (happenings_at r.node kept))) refl
 
-pub text_is : (nodes : Nodes) (kept : List Kept) (d : Data) (bytes : List ℕ) → d ≡ account_of nodes kept → (has_float d ≡ false → bytes ≡ compact_text d ++ codes "\n") → bytes ≡ account_text nodes kept
-text_is nodes kept d bytes e told = told (ap has_float e ∙ account_none kept nodes) ∙ ap (λ (x : Data). compact_text x ++ codes "\n") e
+-- ---- the text
 
-pub gathered_is : (commands : List Line) (reports : List NodeReport) (d : Data) (bytes : List ℕ) → d ≡ gathered_of commands reports → (has_float d ≡ false → bytes ≡ compact_text d ++ codes "\n") → bytes ≡ gathered_text commands reports
-gathered_is commands reports d bytes e told = told (ap has_float e ∙ all_gathered_none commands reports) ∙ ap (λ (x : Data). compact_text x ++ codes "\n") e
+pub text_is : (mode : Mode) (reports : List ReportView) (kept : List Kept) (d : Data) (bytes : List ℕ) → d ≡ account_of mode reports kept → (has_float d ≡ false → bytes ≡ compact_text d ++ codes "\n") → bytes ≡ account_text mode reports kept
+text_is mode reports kept d bytes e told = told (ap has_float e ∙ account_none mode reports kept) ∙ ap (λ (x : Data). compact_text x ++ codes "\n") e

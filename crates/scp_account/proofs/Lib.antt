@@ -1,5 +1,7 @@
 pub mod Counting
 pub mod Speaking
 pub mod Grounds
-pub mod Rows
+pub mod Seen
 pub mod Floats
+pub mod Run
+pub mod InTurn

@@ -6,6 +6,7 @@ use Rattle.serde_json.specs.View.{items_of}
 use Rattle.scp_types.specs.declared.names.NodeId.{NodeId}
 use Rattle.scp_wire.specs.declared.link.LinkItem.{LinkItem}
 use Rattle.scp_wire.specs.declared.link.LinkItem.TheVariants as item
+use Rattle.scp_line.specs.scp_report.specs.declared.report.LinkReport.{LinkReport}
 use Rattle.scp_account.specs.Pieces.{digits, id_json}
 
 -- An item that came on a link: that the peer opened it, the bytes of a message, or that the peer closed it.
@@ -26,7 +27,7 @@ arrival_json came link peer =
     object (member (codes "came") (arrived_json (slice_get came link))
     (member (codes "peer") (id_json peer) no_members))
 
--- The links to these peers. The first link has this number.
-abbrev pub arrivals_json : List (Option (Vec LinkItem)) → ℕ → List NodeId → List Data
+-- These links, the first of which has this number.
+abbrev pub arrivals_json : List (Option (Vec LinkItem)) → ℕ → List LinkReport → List Data
 arrivals_json came link [] = []
-arrivals_json came link (peer ∷ peers) = arrival_json came link peer ∷ arrivals_json came (link + 1) peers
+arrivals_json came link (k ∷ ks) = arrival_json came link k.peer ∷ arrivals_json came (link + 1) ks

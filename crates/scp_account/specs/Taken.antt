@@ -2,8 +2,8 @@
 use Rattle.std.specs.Prelude.{List}
 use Rattle.serde_json.specs.Data.{Data}
 use Rattle.scp_ledger.specs.declared.journal.Fate.{Fate}
-use Rattle.scp_kept.specs.declared.happening.Happening.{Happening}
-use Rattle.scp_kept.specs.Taken.{in_order}
+use Rattle.scp_facts.specs.declared.happening.Happening.{Happening}
+use Rattle.scp_facts.specs.Taken.{in_order}
 use Rattle.scp_account.specs.Entries.{entry_json}
 use Rattle.scp_account.specs.Commands.{command_json}
 

@@ -3,7 +3,7 @@ ghost use Rattle.std.specs.Prelude.{◌≡◌, IfOk, map};
 ghost use Rattle.std.specs.FinMap as fin;
 ghost use Rattle.serde_json.specs.Data.{array};
 ghost use Rattle.serde_json.specs.View.{view, items_of};
-ghost use Rattle.scp_kept.specs.scp_line.specs.Parts.{state_of};
+ghost use Rattle.scp_line.specs.scp_report.specs.Report.{state_of};
 ghost use Rattle.scp_account.specs.Node.{applied_json, key_json};
 
 use crate::digits::digits_of;
@@ -40,7 +40,7 @@ fn key_value(alloc: Global, key: &Bytes, value: &Bytes) -> Result<Value, AllocEr
 }
 
 /// The keys of a state with their values, ascending by key.
-pub fn keys_of(alloc: Global, state: &KvState) -> Result<Value, AllocError>
+fn keys_of(alloc: Global, state: &KvState) -> Result<Value, AllocError>
     ensures { IfOk result (λ v. view v ≡ array (items_of (map key_json (fin.entries state.now)))) }
 {
     let mut values = Vec::new(alloc);

@@ -6,6 +6,7 @@ ghost use Rattle.scp_account.specs.Arrived.{item_json, arrived_json, arrival_jso
 
 use crate::digits::{digits_of, id_value};
 use crate::links::word;
+use scp_line::LinkReport;
 use scp_types::NodeId;
 use scp_wire::LinkItem;
 use serde_json::{Value, json};
@@ -76,18 +77,18 @@ fn arrival_value(
     json!(in alloc; {"came": arrived_value(alloc, came, link)?, "peer": id_value(alloc, peer)?})
 }
 
-/// The links to these peers, in their order.
+/// These links, in their order.
 pub fn arrival_values(
     alloc: Global,
     came: &[Option<Vec<LinkItem>>],
-    peers: &[NodeId],
+    links: &[LinkReport],
 ) -> Result<Value, AllocError>
-    ensures { IfOk result (λ v. view v ≡ array (items_of (arrivals_json came.now 0 peers.now))) }
+    ensures { IfOk result (λ v. view v ≡ array (items_of (arrivals_json came.now 0 links.now))) }
 {
     let mut values = Vec::new(alloc);
     let mut link = 0;
-    for peer in peers {
-        values.push(arrival_value(alloc, came, link, peer)?)?;
+    for report in links {
+        values.push(arrival_value(alloc, came, link, &report.peer)?)?;
         link += 1;
     }
     Ok(Value::from(values))

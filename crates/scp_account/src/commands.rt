@@ -1,22 +1,34 @@
 //! Commands, and what became of them, as JSON.
-ghost use Rattle.std.specs.Prelude.{◌≡◌, codes, IfOk};
-ghost use Rattle.serde_json.specs.Data.{string, object, member, no_members};
-ghost use Rattle.serde_json.specs.View.{view};
+ghost use Rattle.std.specs.Prelude.{◌≡◌, codes, map, IfOk};
+ghost use Rattle.serde_json.specs.Data.{array, string, object, member, no_members};
+ghost use Rattle.serde_json.specs.View.{view, items_of};
 ghost use Rattle.scp_account.specs.Pieces.{count, digits};
 ghost use Rattle.scp_account.specs.Commands.{fate_json, command_json};
 
 use crate::digits::digits_of;
-use scp_core::{Command, CommandFate};
+use scp_ledger::CommandFate;
 use scp_types::{Slot, Value as Bytes};
+use scp_wire::Command;
 use scp_words::word_of_fate;
 use serde_json::{Value, json};
 use std::alloc::{AllocError, Global};
 
 /// What became of a command.
-pub fn fate_value(alloc: Global, fate: CommandFate) -> Result<Value, AllocError>
+fn fate_value(alloc: Global, fate: CommandFate) -> Result<Value, AllocError>
     ensures { IfOk result (λ v. view v ≡ fate_json fate) }
 {
     Ok(Value::from(String::from_str(alloc, word_of_fate(fate))?))
+}
+
+/// What became of commands.
+pub fn fate_values(alloc: Global, fates: &[CommandFate]) -> Result<Value, AllocError>
+    ensures { IfOk result (λ v. view v ≡ array (items_of (map fate_json fates.now))) }
+{
+    let mut values = Vec::new(alloc);
+    for fate in fates {
+        values.push(fate_value(alloc, *fate)?)?;
+    }
+    Ok(Value::from(values))
 }
 
 /// A proposal.

@@ -1,15 +1,13 @@
 //! What went over the links of a node, as JSON.
-ghost use Rattle.std.specs.Prelude.{◌≡◌, ◌++◌, IfOk, OnOk, flat_map, map, take};
+ghost use Rattle.std.specs.Prelude.{◌≡◌, ◌++◌, IfOk, OnOk, flat_map, map};
 ghost use Rattle.serde_json.specs.Data.{array, string};
 ghost use Rattle.serde_json.specs.View.{view, items_of};
-ghost use Rattle.scp_types.specs.declared.limits.TheConstants.{PEER_LIMIT};
 ghost use Rattle.scp_account.specs.Links.{came as came_in, sent as sent_in, link_json, links_json};
 ghost use Rattle.scp_account.specs.inside.Happened.{happened};
 
 use crate::digits::{digits_of, id_value};
-use scp_core::Node;
-use scp_kept::{Happening, first_peers};
-use scp_types::NodeId;
+use scp_facts::Happening;
+use scp_line::LinkReport;
 use serde_json::{Value, json};
 use std::alloc::{AllocError, Global};
 
@@ -24,24 +22,24 @@ pub fn word(alloc: Global, word: &str) -> Result<Value, AllocError>
 fn add_came(
     alloc: Global,
     values: &mut Vec<Value>,
-    link: u8,
+    link: usize,
     happening: &Happening,
 ) -> Result<(), AllocError>
     ensures { OnOk result (map view values.new.items ≡ map view values.old.items ++ came_in link happening.now) }
 {
     match happening {
-        Happening::Opened(at) if *at == link => values.push(word(alloc, "open")?)?,
-        Happening::Came(at, bytes) if *at == link => {
+        Happening::Opened(at) if usize::from(*at) == link => values.push(word(alloc, "open")?)?,
+        Happening::Came(at, bytes) if usize::from(*at) == link => {
             values.push(digits_of(alloc, bytes.as_slice())?)?
         }
-        Happening::Closed(at) if *at == link => values.push(word(alloc, "close")?)?,
+        Happening::Closed(at) if usize::from(*at) == link => values.push(word(alloc, "close")?)?,
         _ => {}
     }
     Ok(())
 }
 
 /// What came on a link, in order.
-fn came(alloc: Global, link: u8, happenings: &[&Happening]) -> Result<Value, AllocError>
+fn came(alloc: Global, link: usize, happenings: &[&Happening]) -> Result<Value, AllocError>
     ensures { IfOk result (λ v. view v ≡ array (items_of (flat_map (came_in link) (happened happenings.now)))) }
 {
     let mut values = Vec::new(alloc);
@@ -55,13 +53,13 @@ fn came(alloc: Global, link: u8, happenings: &[&Happening]) -> Result<Value, All
 fn add_sent(
     alloc: Global,
     values: &mut Vec<Value>,
-    link: u8,
+    link: usize,
     happening: &Happening,
 ) -> Result<(), AllocError>
     ensures { OnOk result (map view values.new.items ≡ map view values.old.items ++ sent_in link happening.now) }
 {
     if let Happening::Sent(at, bytes) = happening
-        && *at == link
+        && usize::from(*at) == link
     {
         values.push(digits_of(alloc, bytes.as_slice())?)?;
     }
@@ -69,7 +67,7 @@ fn add_sent(
 }
 
 /// What was sent on a link, in order.
-fn sent(alloc: Global, link: u8, happenings: &[&Happening]) -> Result<Value, AllocError>
+fn sent(alloc: Global, link: usize, happenings: &[&Happening]) -> Result<Value, AllocError>
     ensures { IfOk result (λ v. view v ≡ array (items_of (flat_map (sent_in link) (happened happenings.now)))) }
 {
     let mut values = Vec::new(alloc);
@@ -82,37 +80,35 @@ fn sent(alloc: Global, link: u8, happenings: &[&Happening]) -> Result<Value, All
 /// A link, with what went over it.
 fn link_value(
     alloc: Global,
-    node: &Node,
-    link: u8,
-    peer: &NodeId,
+    link: usize,
+    report: &LinkReport,
     happenings: &[&Happening],
 ) -> Result<Value, AllocError>
-    ensures { IfOk result (λ v. view v ≡ link_json node.now.outboxes (happened happenings.now) link peer.now) }
+    ensures { IfOk result (λ v. view v ≡ link_json (happened happenings.now) link report.now) }
 {
-    let overwritten = node.overwritten(link);
-    let waiting = node.waiting(link);
+    let overwritten = report.overwritten;
+    let waiting = report.waiting;
     json!(in alloc; {
         "came": came(alloc, link, happenings)?,
         "overwritten": overwritten,
-        "peer": id_value(alloc, peer)?,
+        "peer": id_value(alloc, &report.peer)?,
         "sent": sent(alloc, link, happenings)?,
         "waiting": waiting
     })
 }
 
-/// The links of a node, in order, at most seven.
+/// The links of a node, in order.
 pub fn link_values(
     alloc: Global,
-    node: &Node,
+    links: &[LinkReport],
     happenings: &[&Happening],
 ) -> Result<Value, AllocError>
-    ensures { IfOk result (λ v. view v ≡ array (items_of (links_json node.now.outboxes (happened happenings.now) 0 (take PEER_LIMIT node.now.config.peers)))) }
+    ensures { IfOk result (λ v. view v ≡ array (items_of (links_json (happened happenings.now) 0 links.now))) }
 {
-    let peers = first_peers(node.peers());
     let mut values = Vec::new(alloc);
     let mut link = 0;
-    for peer in peers {
-        values.push(link_value(alloc, node, link, peer, happenings)?)?;
+    for report in links {
+        values.push(link_value(alloc, link, report, happenings)?)?;
         link += 1;
     }
     Ok(Value::from(values))

@@ -1,14 +1,14 @@
 //! What waits at a node for quorum sets, as JSON.
-ghost use Rattle.std.specs.Prelude.{◌≡◌, IfOk, codes, map};
+ghost use Rattle.std.specs.Prelude.{◌≡◌, IfOk, IsOkUnless, codes, map};
 ghost use Rattle.serde_json.specs.Data.{array, null, object, member, no_members};
 ghost use Rattle.serde_json.specs.View.{view, items_of};
 ghost use Rattle.scp_account.specs.Pieces.{count as number, digits, id_json};
-ghost use Rattle.scp_account.specs.Parked.{hash_json, number_json, parked_json};
+ghost use Rattle.scp_account.specs.Parked.{hash_json, number_json, parked_json, waiting_json};
 
-use crate::digits::{digits_of, id_value};
-use scp_core::Node;
-use scp_kept::Parked;
-use scp_types::{ConnId, Hash, Seq};
+use crate::digits::{digits_of, id_value, message_value};
+use scp_line::Parked;
+use scp_types::{ConnId, Fault, Hash, Seq};
+use scp_wire::Carried;
 use serde_json::{Value, json};
 use std::alloc::{AllocError, Global};
 
@@ -50,13 +50,37 @@ fn parked_with(
 }
 
 /// What is held of each of these connections.
-pub fn parked_values(alloc: Global, node: &Node, parked: &[Parked]) -> Result<Value, AllocError>
-    ensures { IfOk result (λ v. view v ≡ array (items_of (map (parked_json node.now.pending) parked.now))) }
+pub fn parked_values(alloc: Global, parked: &[Parked]) -> Result<Value, AllocError>
+    ensures { IfOk result (λ v. view v ≡ array (items_of (map parked_json parked.now))) }
 {
     let mut values = Vec::new(alloc);
     for held in parked {
-        let first = node.pending().first_waiting(&held.conn);
-        values.push(parked_with(alloc, held.count, first, &held.conn)?)?;
+        values.push(parked_with(alloc, held.count, held.first, &held.conn)?)?;
+    }
+    Ok(Value::from(values))
+}
+
+/// A message that waits.
+fn waiting_value(alloc: Global, carried: &Carried) -> Result<Value, Fault>
+    ensures value { IfOk result (λ v. view v ≡ waiting_json carried.now) }
+    ensures only_memory { IsOkUnless result Fault.NoMemory }
+{
+    let life = carried.conn.life;
+    let number = carried.seq.0;
+    let bytes = message_value(alloc, carried.message.get())?;
+    let value =
+        json!(in alloc; {"bytes": bytes, "from": id_value(alloc, &carried.conn.from)?, "life": life, "message": number})?;
+    Ok(value)
+}
+
+/// The messages that wait.
+pub fn waiting_values(alloc: Global, messages: &[Carried]) -> Result<Value, Fault>
+    ensures value { IfOk result (λ v. view v ≡ array (items_of (map waiting_json messages.now))) }
+    ensures only_memory { IsOkUnless result Fault.NoMemory }
+{
+    let mut values = Vec::new(alloc);
+    for carried in messages {
+        values.push(waiting_value(alloc, carried)?)?;
     }
     Ok(Value::from(values))
 }

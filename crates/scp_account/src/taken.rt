@@ -3,8 +3,8 @@ ghost use Rattle.std.specs.Prelude.{◌≡◌, ◌++◌, ◌∷◌, List, drop, 
 ghost use Rattle.serde_json.specs.Data.{array};
 ghost use Rattle.serde_json.specs.View.{view, items_of};
 ghost use Rattle.scp_ledger.specs.declared.journal.Fate.{Fate};
-ghost use Rattle.scp_kept.specs.declared.happening.Happening.{Happening};
-ghost use Rattle.scp_kept.specs.Taken.{in_order};
+ghost use Rattle.scp_facts.specs.declared.happening.Happening.{Happening};
+ghost use Rattle.scp_facts.specs.Taken.{in_order};
 ghost use Rattle.scp_account.specs.Commands.{command_json};
 ghost use Rattle.scp_account.specs.Entries.{entry_json};
 ghost use Rattle.scp_account.specs.Taken.{taken_json};
@@ -13,10 +13,10 @@ ghost use Rattle.scp_account.specs.inside.Happened.{happened};
 
 use crate::commands::command_value;
 use crate::entries::entry_value;
-use scp_core::{Command, CommandFate};
-use scp_kept::Happening;
-use scp_ledger::Fate;
+use scp_facts::Happening;
+use scp_ledger::{CommandFate, Fate};
 use scp_types::Fault;
+use scp_wire::Command;
 use serde_json::Value;
 use std::alloc::{AllocError, Global};
 
@@ -85,5 +85,17 @@ pub fn taken_values(
         }
     }
     add_entries(alloc, &mut values, journal, entry)?;
+    Ok(Value::from(values))
+}
+
+/// The entries of a journal.
+pub fn entry_values(alloc: Global, journal: &[Fate]) -> Result<Value, Fault>
+    ensures value { IfOk result (λ v. view v ≡ array (items_of (map entry_json journal.now))) }
+    ensures only_memory { All FitsEntry journal.now → IsOkUnless result Fault.NoMemory }
+{
+    let mut values = Vec::new(alloc);
+    for fate in journal {
+        values.push(entry_value(alloc, fate)?)?;
+    }
     Ok(Value::from(values))
 }

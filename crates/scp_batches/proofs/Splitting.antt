@@ -1,5 +1,6 @@
 -- Texts as lines.
-use Rattle.std.proofs.Common.{◌≡◌, ◌≤◌, ◌+◌, ◌-◌, ℕ, zero, suc, min, List, [], ◌∷◌, ◌++◌, length, take, drop, map, flat_map, refl, sym, ◌∙◌, ap, subst, arith, append_assoc}
+use Rattle.std.proofs.Common.{◌≡◌, ◌≤◌, ◌<◌, ◌+◌, ◌-◌, ℕ, zero, suc, min, List, [], ◌∷◌, ◌++◌, Option, None, Some, length, take, drop, map, flat_map, refl, sym, ◌∙◌, ap, subst, arith, append_assoc}
+use Rattle.scp_device.specs.Device.{Loses}
 use Rattle.std.proofs.lemmas.List.{append-nil, map-append, take_min, length-take}
 use Rattle.std.proofs.lemmas.Grind.{flat_map-append}
 use Rattle.std.proofs.Math.Seq.{take-append-add}
@@ -8,6 +9,15 @@ use Rattle.scp_live_log.specs.Log.{IsLine}
 use Rattle.scp_batches.specs.declared.line.TheConstants.{LINE_LIMIT}
 use Rattle.scp_batches.specs.Lines.{Gives, GivesMore, IsSplitInOneWay, front_of}
 use Rattle.scp_batches.specs.inside.Held.{IsHeld, EndsAt}
+
+-- where something was read, something was left
+pub was_left : (left rest : Option (List ℕ)) (bytes : List ℕ) → 0 < length bytes → Loses left bytes rest → left ≡ Some [] → ⊥
+was_left None rest bytes some read is = absurd (let e : None ≡ Some [] = is in cc)
+was_left (Some all) rest [] some read is = absurd (let h : 0 < 0 = some in omega arith)
+was_left (Some all) rest (byte ∷ bytes) some read is =
+    let same : all ≡ [] = cc in
+    let none : byte ∷ (bytes ++ read.0) ≡ [] = sym read.1 ∙ same in
+    cc
 
 -- two fronts make a front
 take_more : (n : ℕ) (a b : List ℕ) → take n (take n a ++ b) ≡ take n (a ++ b)

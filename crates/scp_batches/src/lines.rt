@@ -1,5 +1,5 @@
 //! The lines of an input, read in batches.
-ghost use Rattle.std.specs.Prelude.{◌≡◌, ◌≢◌, ◌≤◌, ◌<◌, ◌+◌, ◌⊎◌, ◌++◌, ◌∷◌, [], length, take, drop, OnOk, IfOk, IfErr, IfSome, IfNone, IsErrOf};
+ghost use Rattle.std.specs.Prelude.{◌≡◌, ◌≢◌, ◌≤◌, ◌<◌, ◌+◌, ◌⊎◌, ◌++◌, ◌∷◌, [], Some, length, take, drop, OnOk, IfOk, IfErr, IfSome, IfNone, IsErrOf};
 ghost use Rattle.scp_live_log.specs.Log.{IsLine};
 ghost use Rattle.scp_device.specs.Device.{HasEnded, Fails};
 ghost use Rattle.scp_batches.specs.Lines.{front_of, Gives, GivesMore, IsRead};
@@ -93,6 +93,8 @@ impl Lines {
         ensures kept { OnOk result (R.failures reader.new ≡ R.failures reader.old) }
         // A failed read is always reported as `Fault::Device`.
         ensures hidden { IfErr result (λ fault. fault ≢ Fault.Device → R.failures reader.new ≡ R.failures reader.old) }
+        // Memory runs out only where something was read.
+        ensures memory { IsErrOf result Fault.NoMemory → R.left reader.old ≢ Some [] }
     {
         let mut buffer = [0u8; READ_LIMIT];
         let count = reader.read(&mut buffer)?;

@@ -4,17 +4,20 @@ use Rattle.std.specs.Prelude.{◌≢◌, ◌⊎◌, All, None, Result, Ok, Err, 
 use Rattle.scp_types.specs.declared.fault.Fault.{Fault}
 use Rattle.scp_types.specs.declared.fault.Fault.TheVariants as faults
 use Rattle.scp_gather.specs.Kv.{NodeReport}
-use Rattle.scp_network.specs.Heard.{Nodes}
 use Rattle.scp_network.specs.Network.{NetworkView}
 use Rattle.scp_script.specs.declared.command.Command.{Command}
 use Rattle.scp_notices.specs.scp_line.specs.declared.playing.PlayFault.{PlayFault}
 use Rattle.scp_threaded_script.specs.Reported.{AreNodesReported}
-use Rattle.scp_account.specs.scp_kept.specs.declared.happening.Kept.{Kept}
-use Rattle.scp_account.specs.scp_kept.specs.Kept.{IsKept}
-use Rattle.scp_account.specs.scp_kept.specs.Watching.{WatchView, keeping, RunIsKept}
+use Rattle.scp_account.specs.scp_facts.specs.declared.happening.Kept.{Kept}
+use Rattle.scp_account.specs.scp_facts.specs.Keeping.{WatchView}
+use Rattle.scp_account.specs.Run.{IsKept, keeping, RunIsKept}
+use Rattle.scp_notices.specs.scp_line.specs.declared.watch.Steps.{Steps}
+use Rattle.scp_report.specs.Report.{ReportView}
+use Rattle.scp_report.specs.Node.{reports_of}
+use Rattle.scp_report.specs.Left.{reports_left}
+use Rattle.scp_account.specs.declared.node.Mode.TheVariants as ways
 use Rattle.scp_account.specs.Account.{account_text}
-use Rattle.scp_account.specs.Fits.{FitReports, FitsNode}
-use Rattle.scp_account.specs.Gathered.{gathered_text as accounts_text}
+use Rattle.scp_account.specs.Fits.{FitsNode}
 use Rattle.scp_prompt.specs.declared.asked.Mode.{Mode}
 use Rattle.scp_prompt.specs.declared.asked.Mode.TheVariants.{Serial, Threads}
 use Rattle.scp_prompt.specs.declared.asked.Shape.{Shape}
@@ -32,18 +35,18 @@ use Rattle.scp_command.specs.declared.given.Given.{Given}
 use Rattle.scp_command.specs.Given.{IsGiven, stop_of}
 use Rattle.scp_command.specs.Answers.{placed_notice, IsAccountAnswer, IsThreadsAccount}
 use Rattle.scp_command.specs.Causes.{Fails}
-use Rattle.scp_command.specs.inside.Runs.{IsUntold, IsUntoldOf}
+use Rattle.scp_command.specs.inside.Runs.{IsUntold}
 
 -- what was kept of a run whose notices are told
-pub kept_of : RunIsKept → (commands : List Command) (lines : List ℕ) (network : NetworkView) (notices : List Notice) (shows : Shows commands lines network notices) (old new : WatchView) → old.kept ≡ [] → new.lacks_memory ≡ false → IsWatched keeping commands lines network notices shows old new
-    → (is : IsKept commands network new.kept) × (is.played.heard ≡ shows.run.played.heard)
+pub kept_of : RunIsKept → (commands : List Command) (lines : List ℕ) (network : NetworkView) (notices : List Notice) (shows : Shows commands lines network notices) (old new : Steps WatchView) → old.watch.kept ≡ [] → new.watch.lacks_memory ≡ false → IsWatched keeping commands lines network notices shows old new
+    → (is : IsKept commands network new.watch.kept) × (is.played.heard ≡ shows.run.played.heard)
 kept_of law commands lines network notices shows old new none calm watched =
     let kept = law commands lines network old new calm none watched.run in
     (kept.0, kept.1 ∙ watched.one)
 
 -- of a script that was played one step after another
 pub account_answer : (input : List ℕ) (given : Given) (script : Script) (network : NetworkView) (notices : List Notice) (kept : List Kept) (text : List ℕ) (r : Result Answer Failure) → IsGiven input given → (ran : IsRan given.text.items script network notices) → (is : IsKept script.commands.items network kept) × (is.played.heard ≡ ran.shows.run.played.heard)
-    → text ≡ account_text network.nodes kept → IfOk r (λ answer. answer.text.items ≡ text) → IfOk r (λ answer. string_bytes answer.notices ≡ notices_text (map (placed_notice given.expanded.lines) notices)) → IfOk r (IsAccountAnswer input)
+    → text ≡ account_text ways.Serial (reports_of network.nodes) kept → IfOk r (λ answer. answer.text.items ≡ text) → IfOk r (λ answer. string_bytes answer.notices ≡ notices_text (map (placed_notice given.expanded.lines) notices)) → IfOk r (IsAccountAnswer input)
 account_answer input given script network notices kept text (Ok answer) g ran made is same told = record {
   given = given;
   is_given = g;
@@ -60,7 +63,7 @@ account_answer input given script network notices kept text (Ok answer) g ran ma
 account_answer input given script network notices kept text (Err failure) g ran made is same told = tt
 
 -- of one whose nodes ran in threads
-pub threads_account : (input : List ℕ) (given : Given) (script : Script) (nodes : List NodeReport) (notices : List Notice) (text : List ℕ) (r : Result Answer Failure) → IsGiven input given → IsRanInThreads given.text.items script nodes notices → text ≡ accounts_text script.commands.items nodes
+pub threads_account : (input : List ℕ) (given : Given) (script : Script) (nodes : List NodeReport) (notices : List Notice) (text : List ℕ) (r : Result Answer Failure) → IsGiven input given → IsRanInThreads given.text.items script nodes notices → text ≡ account_text ways.Threads (reports_left script.commands.items nodes []) []
     → IfOk r (λ answer. answer.text.items ≡ text) → IfOk r (λ answer. string_bytes answer.notices ≡ notices_text (map (placed_notice given.expanded.lines) notices)) → IfOk r (IsThreadsAccount input)
 threads_account input given script nodes notices text (Ok answer) g ran is same told = record { given = given; is_given = g; script = script; nodes = nodes; notices = notices; ran = ran; account = same ∙ is; told = told }
 threads_account input given script nodes notices text (Err failure) g ran is same told = tt
@@ -92,16 +95,8 @@ told_so {P} fault failure stop want holds = elim (is_want fault.fault) [
 ]
 
 -- nodes have no account
-pub nodes_untold : (nodes : Nodes) (fault : PlayFault) (failure : Failure) → (fault.fault ≢ faults.NoMemory → failure ≡ stop_of None fault) → (fault.fault ≡ faults.NoMemory → failure ≡ NoMemory) → (All FitsNode nodes → fault.fault ≡ faults.NoMemory) → IsUntold nodes failure
-nodes_untold nodes fault failure stop want only = elim (told_so {P = ¬ (All FitsNode nodes)} fault failure stop want (λ other. λ fits. other (only fits))) [
-  | inl e ↦ inl e
-  | inr unfit ↦ inr (fault, unfit.0, unfit.1)
-]
-
--- what threads left has none
-pub reports_untold : (commands : List Command) (nodes : List NodeReport) (fault : PlayFault) (failure : Failure) → (fault.fault ≢ faults.NoMemory → failure ≡ stop_of None fault) → (fault.fault ≡ faults.NoMemory → failure ≡ NoMemory)
-    → (FitReports commands 0 nodes → fault.fault ≡ faults.NoMemory) → IsUntoldOf commands nodes failure
-reports_untold commands nodes fault failure stop want only = elim (told_so {P = ¬ (FitReports commands 0 nodes)} fault failure stop want (λ other. λ fits. other (only fits))) [
+pub nodes_untold : (reports : List ReportView) (fault : PlayFault) (failure : Failure) → (fault.fault ≢ faults.NoMemory → failure ≡ stop_of None fault) → (fault.fault ≡ faults.NoMemory → failure ≡ NoMemory) → (All FitsNode reports → fault.fault ≡ faults.NoMemory) → IsUntold reports failure
+nodes_untold reports fault failure stop want only = elim (told_so {P = ¬ (All FitsNode reports)} fault failure stop want (λ other. λ fits. other (only fits))) [
   | inl e ↦ inl e
   | inr unfit ↦ inr (fault, unfit.0, unfit.1)
 ]
@@ -112,7 +107,7 @@ not_run mode shape input failure (inl bad) = inl bad
 not_run mode shape input failure (inr stopped) = inr (inl stopped)
 
 -- so does what follows the play
-pub not_told : (input : List ℕ) (given : Given) (commands : List Command) (lines : List ℕ) (network : NetworkView) (kept : List Kept) (failure : Failure) → IsGiven input given → IsSaid given.text.items commands lines → IsKept commands network kept → IsUntold network.nodes failure → Fails (Account Serial) input failure
+pub not_told : (input : List ℕ) (given : Given) (commands : List Command) (lines : List ℕ) (network : NetworkView) (kept : List Kept) (failure : Failure) → IsGiven input given → IsSaid given.text.items commands lines → IsKept commands network kept → IsUntold (reports_of network.nodes) failure → Fails (Account Serial) input failure
 not_told input given commands lines network kept failure g said is (inl e) = inl (inl e)
 not_told input given commands lines network kept failure g said is (inr unfit) = inr (inr (record {
   given = given;
@@ -126,7 +121,7 @@ not_told input given commands lines network kept failure g said is (inr unfit) =
 }))
 
 -- and in threads
-pub threads_not_told : (input : List ℕ) (given : Given) (commands : List Command) (lines : List ℕ) (nodes : List NodeReport) (failure : Failure) → IsGiven input given → IsSaid given.text.items commands lines → AreNodesReported commands nodes → IsUntoldOf commands nodes failure → Fails (Account Threads) input failure
+pub threads_not_told : (input : List ℕ) (given : Given) (commands : List Command) (lines : List ℕ) (nodes : List NodeReport) (failure : Failure) → IsGiven input given → IsSaid given.text.items commands lines → AreNodesReported commands nodes → IsUntold (reports_left commands nodes []) failure → Fails (Account Threads) input failure
 threads_not_told input given commands lines nodes failure g said reported (inl e) = inl (inl e)
 threads_not_told input given commands lines nodes failure g said reported (inr unfit) = inr (inr (record {
   given = given;

@@ -5,15 +5,15 @@ use Rattle.scp_gather.specs.Kv.{NodeReport}
 use Rattle.scp_network.specs.Heard.{Nodes}
 use Rattle.scp_network.specs.Network.{NetworkView}
 use Rattle.scp_script.specs.declared.command.Command.{Command}
-use Rattle.scp_script.specs.Nodes.{reports_in}
 use Rattle.scp_notices.specs.scp_line.specs.Headlines.{AreNodesHeadlined, AreReportsHeadlined}
-use Rattle.scp_notices.specs.scp_line.specs.Play.{report_at, view_of_node}
-use Rattle.scp_notices.specs.scp_line.specs.Threads.{report_gathered_at, view_gathered}
+use Rattle.scp_account.specs.declared.node.Mode.TheVariants as ways
 use Rattle.scp_account.specs.Account.{account_text}
-use Rattle.scp_account.specs.Gathered.{gathered_text as accounts_text}
-use Rattle.scp_account.specs.scp_kept.specs.declared.happening.Kept.{Kept}
-use Rattle.scp_account.specs.scp_kept.specs.Kept.{IsKept}
-use Rattle.scp_report.specs.Reports.{views_in}
+use Rattle.scp_account.specs.scp_facts.specs.declared.happening.Kept.{Kept}
+use Rattle.scp_account.specs.Run.{IsKept}
+use Rattle.scp_report.specs.Report.{ReportView}
+use Rattle.scp_report.specs.Node.{reports_of}
+use Rattle.scp_report.specs.Left.{reports_left}
+use Rattle.scp_report.specs.Reports.{records_in, settled_text}
 use Rattle.scp_report.specs.Text.{text_report_of}
 use Rattle.scp_report.specs.Json.{document_text}
 use Rattle.scp_notices.specs.declared.notice.Notice.{Notice}
@@ -63,17 +63,11 @@ IsJust text answer = (answer.text.items ≡ text) × (string_bytes answer.notice
 
 -- ---- reports
 
--- the reports of nodes that were played one step after another, in this form
-abbrev pub reports_text : Shape → Nodes → List Command → List ℕ
-reports_text shapes.Settled nodes commands = flat_map (report_at nodes) (reports_in commands)
-reports_text shapes.Text nodes commands = flat_map text_report_of (views_in view_of_node nodes commands)
-reports_text shapes.Json nodes commands = document_text (views_in view_of_node nodes commands)
-
--- the reports of nodes that ran in threads, in this form
-abbrev pub gathered_text : Shape → List NodeReport → List Command → List ℕ
-gathered_text shapes.Settled nodes commands = flat_map (report_gathered_at nodes) (reports_in commands)
-gathered_text shapes.Text nodes commands = flat_map text_report_of (views_in (λ _ number r. view_gathered number r) nodes commands)
-gathered_text shapes.Json nodes commands = document_text (views_in (λ _ number r. view_gathered number r) nodes commands)
+-- the reports that the commands ask for, in this form, from the records of the nodes
+abbrev pub reports_text : Shape → List ReportView → List Command → List ℕ
+reports_text shapes.Settled reports commands = settled_text reports commands
+reports_text shapes.Text reports commands = flat_map text_report_of (records_in reports commands)
+reports_text shapes.Json reports commands = document_text (records_in reports commands)
 
 -- a notice with the line of the input, in place of the line of the expanded script
 abbrev pub placed_notice : List PlacedLine → Notice → Notice
@@ -90,7 +84,7 @@ pub record IsRunAnswer (shape : Shape) (input : List ℕ) (answer : Answer) : Ty
   pub network : NetworkView
   pub notices : List Notice
   pub ran : IsRan given.text.items script network notices
-  pub reports : answer.text.items ≡ reports_text shape network.nodes script.commands.items
+  pub reports : answer.text.items ≡ reports_text shape (reports_of network.nodes) script.commands.items
   pub told : string_bytes answer.notices ≡ notices_text (map (placed_notice given.expanded.lines) notices)
 
 -- The input is a script whose nodes ran in threads. The answer is the reports of what the threads left, with the notices of these reports.
@@ -101,7 +95,7 @@ pub record IsThreadsAnswer (shape : Shape) (input : List ℕ) (answer : Answer) 
   pub nodes : List NodeReport
   pub notices : List Notice
   pub ran : IsRanInThreads given.text.items script nodes notices
-  pub reports : answer.text.items ≡ gathered_text shape nodes script.commands.items
+  pub reports : answer.text.items ≡ reports_text shape (reports_left script.commands.items nodes []) script.commands.items
   pub told : string_bytes answer.notices ≡ notices_text (map (placed_notice given.expanded.lines) notices)
 
 -- the answer to a script that is played, by its mode
@@ -123,7 +117,7 @@ pub record IsAccountAnswer (input : List ℕ) (answer : Answer) : Type 0 where
   pub kept : List Kept
   pub is_kept : IsKept script.commands.items network kept
   pub one : is_kept.played.heard ≡ ran.shows.run.played.heard
-  pub account : answer.text.items ≡ account_text network.nodes kept
+  pub account : answer.text.items ≡ account_text ways.Serial (reports_of network.nodes) kept
   pub told : string_bytes answer.notices ≡ notices_text (map (placed_notice given.expanded.lines) notices)
 
 -- The input is a script whose nodes ran in threads. The answer is the account of what the threads left, with the notices of their reports.
@@ -134,7 +128,7 @@ pub record IsThreadsAccount (input : List ℕ) (answer : Answer) : Type 0 where
   pub nodes : List NodeReport
   pub notices : List Notice
   pub ran : IsRanInThreads given.text.items script nodes notices
-  pub account : answer.text.items ≡ accounts_text script.commands.items nodes
+  pub account : answer.text.items ≡ account_text ways.Threads (reports_left script.commands.items nodes []) []
   pub told : string_bytes answer.notices ≡ notices_text (map (placed_notice given.expanded.lines) notices)
 
 -- the account of a script that is played, by its mode
@@ -153,7 +147,7 @@ pub record IsHeadlinedAccount (input : List ℕ) (answer : Answer) : Type 0 wher
   pub kept : List Kept
   pub is_kept : IsKept commands network kept
   pub each : AreNodesHeadlined commands network.nodes
-  pub account : answer.text.items ≡ account_text network.nodes kept
+  pub account : answer.text.items ≡ account_text ways.Serial (reports_of network.nodes) kept
 
 -- The input is a script whose nodes ran in threads. The answer is the account of what the threads left, and the headline holds for each node.
 pub record IsHeadlinedThreadsAccount (input : List ℕ) (answer : Answer) : Type 0 where
@@ -164,7 +158,7 @@ pub record IsHeadlinedThreadsAccount (input : List ℕ) (answer : Answer) : Type
   pub said : IsSaid given.text.items commands lines
   pub nodes : List NodeReport
   pub each : AreReportsHeadlined commands nodes
-  pub account : answer.text.items ≡ accounts_text commands nodes
+  pub account : answer.text.items ≡ account_text ways.Threads (reports_left commands nodes []) []
 
 -- the same, by the mode in which the script is played
 abbrev pub IsHeadlinedAccountBy : Mode → List ℕ → Answer → Type 0
@@ -182,7 +176,7 @@ pub record IsHeadlinedRun (shape : Shape) (input : List ℕ) (answer : Answer) :
   pub said : IsSaid given.text.items commands lines
   pub nodes : Nodes
   pub each : AreNodesHeadlined commands nodes
-  pub reports : answer.text.items ≡ reports_text shape nodes commands
+  pub reports : answer.text.items ≡ reports_text shape (reports_of nodes) commands
 
 -- The input is a script whose nodes ran in threads. The answer is the reports of what the threads left, and the headline holds for each node.
 pub record IsHeadlinedInThreads (shape : Shape) (input : List ℕ) (answer : Answer) : Type 0 where
@@ -193,7 +187,7 @@ pub record IsHeadlinedInThreads (shape : Shape) (input : List ℕ) (answer : Ans
   pub said : IsSaid given.text.items commands lines
   pub nodes : List NodeReport
   pub each : AreReportsHeadlined commands nodes
-  pub reports : answer.text.items ≡ gathered_text shape nodes commands
+  pub reports : answer.text.items ≡ reports_text shape (reports_left commands nodes []) commands
 
 -- the same, by the mode in which the script is played
 abbrev pub IsHeadlinedBy : Mode → Shape → List ℕ → Answer → Type 0

@@ -6,9 +6,11 @@ use Rattle.scp_script.specs.declared.command.Command.{Command}
 use Rattle.scp_notices.specs.scp_line.specs.declared.playing.PlayFault.{PlayFault}
 use Rattle.scp_notices.specs.scp_line.specs.Nodes.{IsStoppedAt}
 use Rattle.scp_threaded_script.specs.Reported.{AreNodesReported}
-use Rattle.scp_account.specs.scp_kept.specs.declared.happening.Kept.{Kept}
-use Rattle.scp_account.specs.scp_kept.specs.Kept.{IsKept}
-use Rattle.scp_account.specs.Fits.{FitReports, FitsNode}
+use Rattle.scp_account.specs.scp_facts.specs.declared.happening.Kept.{Kept}
+use Rattle.scp_account.specs.Run.{IsKept}
+use Rattle.scp_account.specs.Fits.{FitsNode}
+use Rattle.scp_report.specs.Node.{reports_of}
+use Rattle.scp_report.specs.Left.{reports_left}
 use Rattle.scp_device.specs.declared.bad.Expected.{Expected}
 use Rattle.scp_device.specs.declared.bad.Expected.TheVariants.{BytesInDigits, BytesInBase64, AMessageWithin, AMessageFrom}
 use Rattle.scp_device.specs.declared.bad.BadWord.{BadWord}
@@ -111,7 +113,7 @@ pub record IsUnfit (input : List ℕ) (failure : Failure) : Type 0 where
   pub said : IsSaid given.text.items commands lines
   pub fault : PlayFault
   pub of_stop : failure ≡ stop_of None fault
-  pub unfit : ((network : NetworkView) × (kept : List Kept) × IsKept commands network kept × ¬ (All FitsNode network.nodes)) ⊎ ((nodes : List NodeReport) × AreNodesReported commands nodes × ¬ (FitReports commands 0 nodes))
+  pub unfit : ((network : NetworkView) × (kept : List Kept) × IsKept commands network kept × ¬ (All FitsNode (reports_of network.nodes))) ⊎ ((nodes : List NodeReport) × AreNodesReported commands nodes × ¬ (All FitsNode (reports_left commands nodes [])))
 
 -- What is shown of a run, at this depth, ends with a fault.
 pub record IsCutTrace (depth : Depth) (input : List ℕ) (failure : Failure) : Type 0 where

@@ -1,36 +1,61 @@
 //! Scripts that are played, and their reports.
 ghost use Rattle.std.specs.Prelude.{◌≡◌, ◌≤◌, ℕ, List, [], All, IfOk, IfErr, IsOk, IsOkUnless, length, map, string_bytes};
 ghost use Rattle.scp_script.specs.Nodes.{NamesNodes};
-ghost use Rattle.scp_script.specs.Script.{AreAdmitted};
+ghost use Rattle.scp_script.specs.Script.{AreAdmitted, node_count};
+ghost use Rattle.scp_report.specs.Report.{view_of};
+ghost use Rattle.scp_report.specs.Node.{reports_of as records_of};
+ghost use Rattle.scp_report.specs.Left.{reports_left as records_left};
+ghost use Rattle.scp_account.specs.declared.node.Mode.TheVariants as ways;
 ghost use Rattle.scp_account.specs.Account.{account_text as accounted};
-ghost use Rattle.scp_account.specs.Gathered.{gathered_text as accounts_text};
+ghost use Rattle.scp_account.specs.Fits.{FitsNode};
 ghost use Rattle.scp_notices.specs.Texts.{notices_text};
 ghost use Rattle.scp_notices.specs.Run.{IsRunFault};
 ghost use Rattle.scp_notices.specs.Threads.{IsThreadsFault};
 ghost use Rattle.scp_command.specs.Given.{IsGiven};
-ghost use Rattle.scp_command.specs.Answers.{reports_text, gathered_text, placed_notice, IsRunAnswer, IsThreadsAnswer, IsRunBy, IsAccountAnswer, IsThreadsAccount, IsAccountBy};
+ghost use Rattle.scp_command.specs.Answers.{reports_text, placed_notice, IsRunAnswer, IsThreadsAnswer, IsRunBy, IsAccountAnswer, IsThreadsAccount, IsAccountBy};
 ghost use Rattle.scp_command.specs.Causes.{Fails};
-ghost use Rattle.scp_command.specs.inside.Runs.{IsOfRun, IsUntold, IsUntoldOf};
+ghost use Rattle.scp_command.specs.inside.Runs.{IsOfRun, IsUntold};
 
 use crate::answer::Answer;
 use crate::given::{Given, given_by, of_play, of_unread, place_of};
 use scp_account::{
-    KeepingWatch, Kept, account as account_text, account_gathered, what_is_kept_is_what_happened,
+    KeepingWatch, Kept, Mode as Way, Steps, a_run_is_kept_as_it_happened, account as account_text,
 };
 use scp_core::Node;
 use scp_gather::NodeReport;
 use scp_notices::{
     Notice, PlayFault, Ran, RanInThreads, RunFault, Watched, run as run_script, run_in_threads,
-    run_watched, text_of_notices, write_all_gathered, write_reports,
+    run_watched, text_of_notices,
 };
 use scp_prompt::{Failure, Mode, Shape, Task};
-use scp_report::{json_report, text_report};
+use scp_report::{
+    Report, json_report, reports_left, reports_of as all_records, sets_of, settled_report,
+    text_report,
+};
 use scp_script::{Command, count_of_nodes};
 use scp_script_short::Expanded;
 use scp_types::Fault;
 use std::alloc::{AllocError, Global};
 use std::sync::Wait;
 use std::thread::Threads;
+
+/// The reports that the commands ask for, in this form, from the records of the nodes.
+fn shaped(
+    alloc: Global,
+    shape: Shape,
+    reports: &[Report<'_>],
+    commands: &[Command],
+) -> Result<String, Fault>
+    requires names { All NamesNodes commands.now }
+    ensures text { IfOk result (λ text. string_bytes text ≡ reports_text shape (map view_of reports.now) commands.now) }
+    ensures only_memory { IsOkUnless result Fault.NoMemory }
+{
+    match shape {
+        Shape::Settled => Ok(settled_report(alloc, reports, commands)?),
+        Shape::Text => text_report(alloc, reports, commands),
+        Shape::Json => json_report(alloc, reports, commands),
+    }
+}
 
 /// The reports of nodes that were played one step after another.
 fn reports_of(
@@ -41,18 +66,12 @@ fn reports_of(
 ) -> Result<String, Fault>
     requires names { All NamesNodes commands.now }
     requires few { length nodes.now ≤ 8 }
-    ensures text { IfOk result (λ text. string_bytes text ≡ reports_text shape nodes.now commands.now) }
+    ensures text { IfOk result (λ text. string_bytes text ≡ reports_text shape (records_of nodes.now) commands.now) }
     ensures only_memory { IsOkUnless result Fault.NoMemory }
 {
-    match shape {
-        Shape::Settled => {
-            let mut text = String::new(alloc);
-            write_reports(nodes, &mut text, commands)?;
-            Ok(text)
-        }
-        Shape::Text => text_report(alloc, nodes, commands),
-        Shape::Json => json_report(alloc, nodes, commands),
-    }
+    let reports = all_records(alloc, nodes)?;
+    let text = shaped(alloc, shape, reports.as_slice(), commands)?;
+    Ok(text)
 }
 
 /// The reports of nodes that ran in threads.
@@ -63,19 +82,16 @@ fn reports_gathered(
     commands: &[Command],
 ) -> Result<String, Fault>
     requires names { All NamesNodes commands.now }
+    requires admitted { AreAdmitted [] commands.now }
+    requires total { length nodes.now ≡ node_count commands.now }
     requires few { length nodes.now ≤ 8 }
-    ensures text { IfOk result (λ text. string_bytes text ≡ gathered_text shape nodes.now commands.now) }
+    ensures text { IfOk result (λ text. string_bytes text ≡ reports_text shape (records_left commands.now nodes.now []) commands.now) }
     ensures only_memory { IsOkUnless result Fault.NoMemory }
 {
-    match shape {
-        Shape::Settled => {
-            let mut text = String::new(alloc);
-            write_all_gathered(nodes, &mut text, commands)?;
-            Ok(text)
-        }
-        Shape::Text => text_report(alloc, nodes, commands),
-        Shape::Json => json_report(alloc, nodes, commands),
-    }
+    let sets = sets_of(alloc, commands)?;
+    let reports = reports_left(alloc, commands, sets.as_slice(), nodes, &[])?;
+    let text = shaped(alloc, shape, reports.as_slice(), commands)?;
+    Ok(text)
 }
 
 /// A notice with the line of the input, in place of the line of the expanded script.
@@ -233,13 +249,24 @@ pub fn run<T: Threads + Wait + Sync>(
     }
 }
 
+/// The account of nodes that took one step after another, from what was kept of them.
+fn played_account(alloc: Global, nodes: &[Node], kept: &[Kept]) -> Result<String, Fault>
+    requires few { length nodes.now ≤ 8 }
+    ensures account { IfOk result (λ text. string_bytes text ≡ accounted ways.Serial (records_of nodes.now) kept.now) }
+    ensures only_memory { All FitsNode (records_of nodes.now) → IsOkUnless result Fault.NoMemory }
+{
+    let reports = all_records(alloc, nodes)?;
+    let text = account_text(alloc, Way::Serial, reports.as_slice(), kept)?;
+    Ok(text)
+}
+
 /// The account of nodes, from what was kept of them.
 fn account_of(alloc: Global, nodes: &[Node], kept: &[Kept]) -> Result<String, Failure>
     requires few { length nodes.now ≤ 8 }
-    ensures account { IfOk result (λ text. string_bytes text ≡ accounted nodes.now kept.now) }
-    ensures cause { IfErr result (IsUntold nodes.now) }
+    ensures account { IfOk result (λ text. string_bytes text ≡ accounted ways.Serial (records_of nodes.now) kept.now) }
+    ensures cause { IfErr result (IsUntold (records_of nodes.now)) }
 {
-    match account_text(alloc, nodes, kept) {
+    match played_account(alloc, nodes, kept) {
         Ok(text) => Ok(text),
         Err(fault) => Err(of_play(None, PlayFault::from(fault))),
     }
@@ -250,15 +277,19 @@ fn account_serial(alloc: Global, given: &Given) -> Result<Answer, Failure>
     ensures answer { (input : List ℕ) → IsGiven input given.now → IfOk result (IsAccountAnswer input) }
     ensures cause { (input : List ℕ) → IsGiven input given.now → IfErr result (Fails (Task.Account Mode.Serial) input) }
 {
-    let watched = match run_watched(alloc, given.text.as_slice(), KeepingWatch::new(alloc)) {
+    let steps = Steps {
+        watch: KeepingWatch::new(alloc),
+    };
+    let watched = match run_watched(alloc, given.text.as_slice(), steps) {
         Ok(watched) => watched,
         Err(fault) => return Err(of_run(given, fault)),
     };
     let Watched { ran, watch } = watched;
+    let Steps { watch } = watch;
     if watch.lacks_memory() {
         return Err(Failure::NoMemory);
     }
-    what_is_kept_is_what_happened();
+    a_run_is_kept_as_it_happened();
     let kept = watch.into_kept();
     match account_of(alloc, ran.network.nodes(), kept.as_slice()) {
         Ok(text) => answer_of(alloc, &given.expanded, Ok(text), ran.notices),
@@ -266,19 +297,35 @@ fn account_serial(alloc: Global, given: &Given) -> Result<Answer, Failure>
     }
 }
 
+/// The account of nodes that left this.
+fn left_account(alloc: Global, commands: &[Command], nodes: &[NodeReport]) -> Result<String, Fault>
+    requires names { All NamesNodes commands.now }
+    requires admitted { AreAdmitted [] commands.now }
+    requires total { length nodes.now ≡ node_count commands.now }
+    requires few { length nodes.now ≤ 8 }
+    ensures account { IfOk result (λ text. string_bytes text ≡ accounted ways.Threads (records_left commands.now nodes.now []) []) }
+    ensures only_memory { All FitsNode (records_left commands.now nodes.now []) → IsOkUnless result Fault.NoMemory }
+{
+    let sets = sets_of(alloc, commands)?;
+    let reports = reports_left(alloc, commands, sets.as_slice(), nodes, &[])?;
+    let text = account_text(alloc, Way::Threads, reports.as_slice(), &[])?;
+    Ok(text)
+}
+
 /// The account of what the threads of the nodes of a script left.
 fn gathered_account(
     alloc: Global,
     commands: &[Command],
-    reports: &[NodeReport],
+    nodes: &[NodeReport],
 ) -> Result<String, Failure>
     requires names { All NamesNodes commands.now }
     requires admitted { AreAdmitted [] commands.now }
-    requires few { length reports.now ≤ 8 }
-    ensures account { IfOk result (λ text. string_bytes text ≡ accounts_text commands.now reports.now) }
-    ensures cause { IfErr result (IsUntoldOf commands.now reports.now) }
+    requires total { length nodes.now ≡ node_count commands.now }
+    requires few { length nodes.now ≤ 8 }
+    ensures account { IfOk result (λ text. string_bytes text ≡ accounted ways.Threads (records_left commands.now nodes.now []) []) }
+    ensures cause { IfErr result (IsUntold (records_left commands.now nodes.now [])) }
 {
-    match account_gathered(alloc, commands, reports) {
+    match left_account(alloc, commands, nodes) {
         Ok(text) => Ok(text),
         Err(fault) => Err(of_play(None, PlayFault::from(fault))),
     }

@@ -1,4 +1,6 @@
 pub mod Places
 pub mod Added
 pub mod Newer
-pub mod Happening
+pub mod ToldSteps
+pub mod KeptSteps
+pub mod InTurn

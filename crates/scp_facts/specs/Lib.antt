@@ -2,4 +2,8 @@ pub mod Standing
 pub mod Facts
 pub mod Telling
 pub mod Watching
+pub mod Kept
+pub mod Taken
+pub mod Keeping
+pub mod InTurn
 pub mod inside

@@ -1,6 +1,5 @@
 -- What is printed of a script is of nodes that hold their headlines.
-use Rattle.std.proofs.Common.{◌≡◌, ◌+◌, ◌∙◌, ℕ, List, get_or, ap, subst}
-use Rattle.std.specs.Prelude.{flat_map}
+use Rattle.std.proofs.Common.{◌≡◌, ◌+◌, ◌∙◌, ℕ, List, [], get_or, ap, subst}
 use Rattle.scp_network.specs.scp_core.specs.Kv.{LedgerGivesHeadline, TheoremGivesLedger}
 use Rattle.scp_network.specs.Heard.{past_at}
 use Rattle.scp_network.specs.Network.{NetworkView}
@@ -8,12 +7,13 @@ use Rattle.scp_threaded_script.specs.scp_gather.specs.Kv.{NodeReport, ReportsKee
 use Rattle.scp_threaded_script.specs.scp_threaded_node.specs.Seats.{Each}
 use Rattle.scp_threaded_script.specs.Reported.{AreNodesReported, AreSoReported}
 use Rattle.scp_script.specs.declared.command.Command.{Command}
-use Rattle.scp_script.specs.Nodes.{id_of, peers_of, reports_in, set_at}
+use Rattle.scp_script.specs.Nodes.{id_of, peers_of, set_at}
 use Rattle.scp_script.specs.Script.{commands_in, node_count}
 use Rattle.scp_line.specs.Headlines.{AreHeadlined, AreNodesHeadlined, AreReportsHeadlined, IsHeadlined, AreGatheredHeadlined, PlayingKeepsHeadlines, ReportingKeepsHeadlines}
 use Rattle.scp_line.specs.inside.Nodes.{IsPlayed}
-use Rattle.scp_line.specs.Play.{report_at}
-use Rattle.scp_line.specs.Threads.{report_gathered_at}
+use Rattle.scp_report.specs.Left.{reports_left}
+use Rattle.scp_report.specs.Node.{reports_of}
+use Rattle.scp_report.specs.Reports.{settled_text}
 
 -- ---- one step after another
 
@@ -24,11 +24,11 @@ are_nodes_headlined law gives commands heard nodes played = record {
   headlines = λ i d here. gives (past_at (i + 1) heard) (get_or nodes i d) (law (past_at (i + 1) heard) (get_or nodes i d) (played.have i d here));
 }
 
-pub are_headlined : PlayingKeepsHeadlines → (text printed : List ℕ) (commands : List Command) (network : NetworkView) → commands ≡ commands_in text → IsPlayed commands network → printed ≡ flat_map (report_at network.nodes) (reports_in commands) → AreHeadlined text printed
+pub are_headlined : PlayingKeepsHeadlines → (text printed : List ℕ) (commands : List Command) (network : NetworkView) → commands ≡ commands_in text → IsPlayed commands network → printed ≡ settled_text (reports_of network.nodes) commands → AreHeadlined text printed
 are_headlined law text printed commands network same played is = record {
   nodes = network.nodes;
   each = subst (λ (l : List Command). AreNodesHeadlined l network.nodes) same (law commands played.heard network.nodes played.played);
-  reports = is ∙ ap (λ (l : List Command). flat_map (report_at network.nodes) (reports_in l)) same;
+  reports = is ∙ ap (λ (l : List Command). settled_text (reports_of network.nodes) l) same;
 }
 
 -- ---- in threads
@@ -51,9 +51,9 @@ headlines_at law commands lefts nodes are = λ i r at.
 pub are_reports_headlined : ReportsKeepHeadline → ReportingKeepsHeadlines
 are_reports_headlined law commands nodes reported = record { count = reported.count; headlines = headlines_at law commands reported.lefts nodes reported.reported }
 
-pub are_gathered_headlined : ReportingKeepsHeadlines → (script text : List ℕ) (commands : List Command) (nodes : List NodeReport) → commands ≡ commands_in script → AreNodesReported commands nodes → text ≡ flat_map (report_gathered_at nodes) (reports_in commands) → AreGatheredHeadlined script text
+pub are_gathered_headlined : ReportingKeepsHeadlines → (script text : List ℕ) (commands : List Command) (nodes : List NodeReport) → commands ≡ commands_in script → AreNodesReported commands nodes → text ≡ settled_text (reports_left commands nodes []) commands → AreGatheredHeadlined script text
 are_gathered_headlined law script text commands nodes same reported reports = record {
   nodes = nodes;
   each = subst (λ (c : List Command). AreReportsHeadlined c nodes) same (law commands nodes reported);
-  reports = subst (λ (c : List Command). text ≡ flat_map (report_gathered_at nodes) (reports_in c)) same reports;
+  reports = subst (λ (c : List Command). text ≡ settled_text (reports_left c nodes []) c) same reports;
 }

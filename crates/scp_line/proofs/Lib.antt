@@ -1,6 +1,3 @@
-pub mod Sections
-pub mod Connections
-pub mod MoreLives
 pub mod Fits
 pub mod Peers
 pub mod Places
@@ -11,10 +8,12 @@ pub mod Answering
 pub mod Acting
 pub mod Lines
 pub mod Making
-pub mod Reports
 pub mod Scripts
 pub mod Runs
 pub mod Threaded
 pub mod Headlines
 pub mod Others
 pub mod Locals
+pub mod Given
+pub mod Turns
+pub mod Fates

@@ -1,6 +1,6 @@
 -- A script's lines, from the first on.
 use Rattle.std.proofs.Common.{◌≡◌, ◌<◌, ◌+◌, ℕ, suc, Bool, List, [], ◌∷◌, ◌++◌, take, drop, length, get_or, Option, None, Some, refl, sym, ◌∙◌, ap, subst, drop-cons}
-use Rattle.std.specs.Prelude.{All, IfSome, flat_map, ◌≤◌}
+use Rattle.std.specs.Prelude.{All, IfSome, ◌≤◌}
 use Rattle.std.proofs.lemmas.List.{take-append-drop}
 use Rattle.scp_device.specs.declared.device.TheConstants.{SCRIPT_LIMIT}
 use Rattle.scp_network.specs.scp_core.specs.Kv.{TheoremGivesLedger}
@@ -9,8 +9,10 @@ use Rattle.scp_network.specs.Heard.{Heard, past_at}
 use Rattle.scp_network.specs.Network.{NetworkView}
 use Rattle.scp_script.specs.declared.command.Command.{Command}
 use Rattle.scp_script.specs.Script.{AreAdmitted, IsScript, commands_in}
-use Rattle.scp_script.specs.Nodes.{NamesNodes, reports_in}
-use Rattle.scp_line.specs.Play.{ArePlayed, AreReports, Overflows, driven_in, report_at}
+use Rattle.scp_script.specs.Nodes.{NamesNodes}
+use Rattle.scp_report.specs.Node.{reports_of}
+use Rattle.scp_report.specs.Reports.{settled_text}
+use Rattle.scp_line.specs.Play.{ArePlayed, AreReports, Overflows, driven_in}
 use Rattle.scp_line.specs.Nodes.{AreMade, HasPlayed, Watching}
 use Rattle.scp_line.specs.inside.Nodes.{IsPlayed}
 use Rattle.scp_line.proofs.Standing.{StandsAt}
@@ -59,13 +61,13 @@ has_played commands done network p = record {
 
 -- ---- what is told of it
 
-pub are_reports : TheoremGivesLedger → (text printed : List ℕ) (commands : List Command) (network : NetworkView) → commands ≡ commands_in text → IsPlayed commands network → printed ≡ flat_map (report_at network.nodes) (reports_in commands) → AreReports text printed
+pub are_reports : TheoremGivesLedger → (text printed : List ℕ) (commands : List Command) (network : NetworkView) → commands ≡ commands_in text → IsPlayed commands network → printed ≡ settled_text (reports_of network.nodes) commands → AreReports text printed
 are_reports law text printed commands network same played is = record {
   heard = played.heard;
   nodes = network.nodes;
   played = subst (λ (l : List Command). ArePlayed l l played.heard network.nodes) same played.played;
   ledgers = λ i d here. law (past_at (i + 1) played.heard) (get_or network.nodes i d) (played.played.have i d here);
-  reports = is ∙ ap (λ (l : List Command). flat_map (report_at network.nodes) (reports_in l)) same;
+  reports = is ∙ ap (λ (l : List Command). settled_text (reports_of network.nodes) l) same;
 }
 
 -- what was read is all there was to read

@@ -1,7 +1,5 @@
--- The report of a node that was gathered, and of one that isn't there; and what is told of a script that was played in threads.
-use Rattle.std.proofs.Common.{◌≡◌, ◌≢◌, ◌<◌, ◌≤◌, ◌+◌, ◌-◌, ℕ, List, [], Option, Some, None, ◌⊎◌, inl, inr, ⊎_elim, length, get_or, refl, ◌∙◌, ap, sym, subst, append-nil, arith}
-use Rattle.std.specs.Prelude.{flat_map, slice_get, option_to_list}
-use Rattle.std.proofs.lemmas.Option.{slice_get_read, slice_get_past}
+-- What is reported of a script that was played in threads.
+use Rattle.std.proofs.Common.{◌≡◌, ◌≢◌, ◌≤◌, ℕ, List, [], ◌⊎◌, inl, inr, ⊎_elim, ◌∙◌, sym, subst, arith}
 use Rattle.scp_types.specs.declared.fault.Fault.{Fault}
 use Rattle.scp_types.specs.declared.fault.Fault.TheVariants.{NoMemory, Malformed, TooLong, Insane, Full, NotOpen, AlreadyOpen, LivesSpent, BadConfig, Failed, JournalFull, BadScript, Refused, Device}
 use Rattle.scp_threaded_script.specs.scp_gather.specs.Kv.{NodeReport}
@@ -14,9 +12,10 @@ use Rattle.scp_threaded_script.specs.Reported.{AreNodesReported, IsGivenUp, IsLi
 use Rattle.scp_threaded_script.proofs.Ending.{IsOfNodes, given_up_by_nodes}
 use Rattle.scp_script.specs.declared.command.Command.{Command}
 use Rattle.scp_script.specs.Script.{IsScript, commands_in, node_count}
-use Rattle.scp_script.specs.Nodes.{reports_in}
+use Rattle.scp_report.specs.Left.{reports_left}
+use Rattle.scp_report.specs.Reports.{settled_text}
 use Rattle.scp_line.specs.Play.{IsNamed}
-use Rattle.scp_line.specs.Threads.{report_gathered, report_gathered_at, AreGatheredReports, AreGivenUp, IsThreadsFault}
+use Rattle.scp_line.specs.Threads.{AreGatheredReports, AreGivenUp, IsThreadsFault}
 use Rattle.scp_line.proofs.Fits.{script_fits}
 
 -- what a script says of its queues is in range
@@ -25,24 +24,12 @@ threads_have_room script commands same =
     let fits = script_fits script commands same in
     record { link = fits.0; inbox = fits.1; ready = fits.2; decided = fits.3 }
 
--- the report of a node that is read at its place, and of a place behind the last
-pub gathered_within : (nodes : List NodeReport) (k number : ℕ) (node : NodeReport) → number ≡ k + 1 → k < length nodes → node ≡ get_or nodes k node → report_gathered_at nodes number ≡ report_gathered number node
-gathered_within nodes k number node is within e =
-    let place : k ≡ number - 1 = omega (arith, is) in
-    ap (λ (o : Option NodeReport). flat_map (report_gathered number) (option_to_list o)) (subst (λ (i : ℕ). slice_get nodes i ≡ Some node) place (slice_get_read nodes (length nodes) k node refl within e))
-    ∙ append-nil (report_gathered number node)
-
-pub gathered_past : (nodes : List NodeReport) (k number : ℕ) → number ≡ k + 1 → length nodes ≤ k → report_gathered_at nodes number ≡ []
-gathered_past nodes k number is past =
-    let place : k ≡ number - 1 = omega (arith, is) in
-    ap (λ (o : Option NodeReport). flat_map (report_gathered number) (option_to_list o)) (subst (λ (i : ℕ). slice_get nodes i ≡ None) place (slice_get_past nodes k past))
-
 pub are_gathered_reports : (script text : List ℕ) (commands : List Command) (nodes : List NodeReport) → commands ≡ commands_in script → AreNodesReported commands nodes
-    → text ≡ flat_map (report_gathered_at nodes) (reports_in commands) → AreGatheredReports script text
+    → text ≡ settled_text (reports_left commands nodes []) commands → AreGatheredReports script text
 are_gathered_reports script text commands nodes same reported reports = record {
   nodes = nodes;
   reported = subst (λ (c : List Command). AreNodesReported c nodes) same reported;
-  reports = subst (λ (c : List Command). text ≡ flat_map (report_gathered_at nodes) (reports_in c)) same reports;
+  reports = subst (λ (c : List Command). text ≡ settled_text (reports_left c nodes []) c) same reports;
 }
 
 -- ---- why nodes weren't reported

@@ -1,6 +1,6 @@
 -- The headline holds for each node that a script's text reports: for nodes that run one step at a time, and for nodes whose stages run in
 -- threads.
-use Rattle.std.specs.Prelude.{ℕ, ◌+◌, ◌<◌, ◌≡◌, List, flat_map, get_or, length}
+use Rattle.std.specs.Prelude.{ℕ, ◌+◌, ◌<◌, ◌≡◌, List, [], get_or, length}
 use Rattle.scp_kv.specs.State.{fold_of}
 use Rattle.scp_apply.specs.Applied.{values_of}
 use Rattle.scp_headline.specs.Headline.{Headline}
@@ -16,9 +16,11 @@ use Rattle.scp_threaded_script.specs.Lines.{driven_to, items_to}
 use Rattle.scp_threaded_script.specs.Reported.{AreNodesReported, AreStood}
 use Rattle.scp_script.specs.declared.command.Command.{Command}
 use Rattle.scp_script.specs.Script.{commands_in, node_count}
-use Rattle.scp_script.specs.Nodes.{id_of, peers_of, reports_in, set_at}
-use Rattle.scp_line.specs.Play.{ArePlayed, report_at}
-use Rattle.scp_line.specs.Threads.{report_gathered_at}
+use Rattle.scp_script.specs.Nodes.{id_of, peers_of, set_at}
+use Rattle.scp_report.specs.Left.{reports_left}
+use Rattle.scp_report.specs.Node.{reports_of}
+use Rattle.scp_report.specs.Reports.{settled_text}
+use Rattle.scp_line.specs.Play.{ArePlayed}
 
 -- The nodes played all these commands, and the headline holds for each of them, for what it heard.
 pub record AreNodesHeadlined (commands : List Command) (nodes : Nodes) : Type 0 where
@@ -31,7 +33,7 @@ pub record AreNodesHeadlined (commands : List Command) (nodes : Nodes) : Type 0 
 pub record AreHeadlined (script text : List ℕ) : Type 0 where
   pub nodes : Nodes
   pub each : AreNodesHeadlined (commands_in script) nodes
-  pub reports : text ≡ flat_map (report_at nodes) (reports_in (commands_in script))
+  pub reports : text ≡ settled_text (reports_of nodes) (commands_in script)
 
 -- The headline holds for the node of this number, with books that show what its report shows. Each link that the script drives carried what
 -- the lines put on it; each other link carried what a courier sent. The node's state is what the applied values make.
@@ -54,7 +56,7 @@ pub record AreReportsHeadlined (commands : List Command) (nodes : List NodeRepor
 pub record AreGatheredHeadlined (script text : List ℕ) : Type 0 where
   pub nodes : List NodeReport
   pub each : AreReportsHeadlined (commands_in script) nodes
-  pub reports : text ≡ flat_map (report_gathered_at nodes) (reports_in (commands_in script))
+  pub reports : text ≡ settled_text (reports_left (commands_in script) nodes []) (commands_in script)
 
 -- ---- the laws of both
 

@@ -1,7 +1,7 @@
 pub use Rattle.scp_threaded_script
+pub use Rattle.scp_report
+pub use Rattle.scp_network
 pub mod Outcome
-pub mod Report
-pub mod Parts
 pub mod Play
 pub mod Links
 pub mod Nodes
@@ -9,4 +9,5 @@ pub mod Player
 pub mod Laws
 pub mod Threads
 pub mod Headlines
+pub mod Commands
 pub mod inside

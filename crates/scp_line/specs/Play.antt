@@ -1,7 +1,6 @@
 -- What playing a script means, and which line shows a message.
-use Rattle.std.specs.Prelude.{ℕ, ◌+◌, ◌-◌, ◌<◌, ◌≤◌, ◌≡◌, ◌⊎◌, Bool, true, false, List, [], ◌∷◌, ◌++◌, Option, Some, None, Err, flat_map, fold, replicate, length, codes, nat_eq, nat_lt, slice_get, get_or, option_map, option_to_list, if◌then◌else◌}
+use Rattle.std.specs.Prelude.{ℕ, ◌+◌, ◌-◌, ◌<◌, ◌≤◌, ◌≡◌, ◌⊎◌, Bool, true, false, List, [], ◌∷◌, ◌++◌, Option, Some, None, Err, flat_map, fold, replicate, length, codes, slice_get, get_or, option_map}
 use Rattle.std.specs.Fmt.{decimal}
-use Rattle.scp_types.specs.declared.names.ConnId.{ConnId}
 use Rattle.scp_types.specs.declared.fault.Fault.{Fault}
 use Rattle.scp_types.specs.declared.fault.Fault.TheVariants.{Malformed, Failed, Refused}
 use Rattle.scp_quorum.specs.QuorumKind.{set_hash}
@@ -13,28 +12,22 @@ use Rattle.scp_wire.specs.declared.message.Message.TheVariants.{Envelope, GetSet
 use Rattle.scp_wire.specs.declared.link.Command.{Command as LocalCommand}
 use Rattle.scp_wire.specs.Message.{message_reading}
 use Rattle.scp_wire.specs.Reading.{reading_of}
-use Rattle.scp_wire.specs.Connections.{conn_at}
-use Rattle.scp_kv.specs.Map.{KvMap}
-use Rattle.scp_kv.specs.State.{fold_of}
-use Rattle.scp_pending.specs.Line.{count_held}
-use Rattle.scp_apply.specs.Applied.{values_of}
 use Rattle.scp_network.specs.scp_core.specs.declared.config.Config.{Config}
 use Rattle.scp_network.specs.scp_core.specs.declared.event.Event.{Event}
 use Rattle.scp_network.specs.scp_core.specs.declared.event.Event.TheVariants as event
 use Rattle.scp_network.specs.scp_core.specs.declared.event.Reply.{Reply}
 use Rattle.scp_network.specs.scp_core.specs.declared.event.Reply.TheVariants.{Accepted, Full}
-use Rattle.scp_network.specs.scp_core.specs.Node.{LinkView, is_full, lives_at}
+use Rattle.scp_network.specs.scp_core.specs.Node.{LinkView, is_full}
 use Rattle.scp_network.specs.scp_core.specs.Kv.{NodeView, LedgerTheorem, HoldsLedger}
 use Rattle.scp_threaded_script.specs.Lines.{local_by}
 use Rattle.scp_script.specs.declared.command.Command.{Command}
 use Rattle.scp_script.specs.declared.command.Command.TheVariants as script
 use Rattle.scp_script.specs.Words.{hex_bytes}
 use Rattle.scp_script.specs.Script.{commands_in, node_count}
-use Rattle.scp_script.specs.Nodes.{id_of, numbers, peers_of, set_at, capacities_in, reports_in}
-use Rattle.scp_line.specs.declared.report.Parked.{Parked}
+use Rattle.scp_script.specs.Nodes.{id_of, peers_of, set_at, capacities_in}
 use Rattle.scp_words.specs.Words.{hex_word}
-use Rattle.scp_line.specs.Report.{ReportView, report_of}
-use Rattle.scp_line.specs.Parts.{entries_of}
+use Rattle.scp_report.specs.Node.{reports_of}
+use Rattle.scp_report.specs.Reports.{settled_text}
 use Rattle.scp_network.specs.Heard.{Nodes, Heard, HaveHeard, past_at, Then, IsNothing, IsOne}
 use Rattle.scp_network.specs.Rounds.{link_of, Rests, RestsAs, Breaks, AllRun}
 use Rattle.scp_network.specs.Network.{driven_more}
@@ -118,40 +111,6 @@ pub record ArePlayed (commands done : List Command) (heard : List Heard) (nodes 
   pub have : HaveHeard heard nodes
   pub run : AllRun nodes
 
--- the connection with the number of its messages that the node holds, if it holds any
-abbrev pub parked_of : NodeView → ConnId → List Parked
-parked_of v conn = if nat_lt 0 (count_held conn v.pending) then record { conn = conn; count = count_held conn v.pending } ∷ [] else []
-
--- the connections from one node to another that have parked messages, with their numbers
-abbrev pub parked_from : NodeView → ℕ → ℕ → List Parked
-parked_from v to from = if nat_eq from to then [] else flat_map (λ life. parked_of v (conn_at (id_of from) (id_of to) life)) (numbers (lives_at v (link_of from to)))
-
--- the connections to the node of this number that have parked messages, with their numbers; `count` is the number of nodes
-abbrev pub parked_in : ℕ → ℕ → NodeView → List Parked
-parked_in count number v = flat_map (parked_from v number) (numbers count)
-
--- The state that a node's applied values make; none if the node has failed.
-abbrev pub running_state : NodeView → Option KvMap
-running_state node = if node.failed then None else Some (fold_of (values_of node.applier.applied))
-
--- what the report of a node shows; `count` is the number of nodes
-abbrev pub view_of_node : ℕ → ℕ → NodeView → ReportView
-view_of_node count number node = record {
-  node = number;
-  journal = node.ledger.journal;
-  parked = parked_in count number node;
-  applied = node.applier.applied;
-  state = entries_of (running_state node);
-}
-
--- the text of a node's report; `count` is the number of nodes
-abbrev pub report_of_node : ℕ → ℕ → NodeView → List ℕ
-report_of_node count number node = report_of (view_of_node count number node)
-
--- the text of the report of the node of this number; empty if there is no such node
-abbrev pub report_at : Nodes → ℕ → List ℕ
-report_at nodes number = flat_map (report_of_node (length nodes) number) (option_to_list (slice_get nodes (number - 1)))
-
 -- the queue of this link to the node of this number is full
 abbrev pub IsLinkFull : Nodes → ℕ → ℕ → Type 0
 IsLinkFull nodes number link = (node : NodeView) × (slice_get nodes (number - 1) ≡ Some node) × (k : LinkView) × (slice_get node.links link ≡ Some k) × is_full k
@@ -231,7 +190,7 @@ pub record AreReports (script text : List ℕ) : Type 0 where
   pub nodes : Nodes
   pub played : ArePlayed (commands_in script) (commands_in script) heard nodes
   pub ledgers : HoldLedgers heard nodes
-  pub reports : text ≡ flat_map (report_at nodes) (reports_in (commands_in script))
+  pub reports : text ≡ settled_text (reports_of nodes) (commands_in script)
 
 -- the word of a statement's kind
 abbrev pub pledges_word : Pledges → List ℕ

@@ -1,4 +1,5 @@
-//! Scripts for up to eight linked nodes: plays them, and writes the reports that they ask for.
+//! Scripts for up to eight linked nodes: plays them, and writes the reports that they ask for. `scp_report` makes these, from its record of
+//! each node.
 //!
 //! What it promises:
 //! - `play` writes one report for each `report` line, in the order of the lines. Its nodes have the quorum sets that the script gives them,
@@ -11,41 +12,38 @@
 //! - `play_in_threads` and `play_gated` write the reports of nodes whose stages ran in threads. The ledger theorem holds of each node for
 //!   what was sent to it, and nothing is left in a channel. The nodes had the commands of the script. A link that a `send` line names carried
 //!   exactly the items of the script; each other link carried exactly what the sender's outbox gave.
+//! - The commands that a node's slot stage took are those of the script's lines, in their order, so each fate is that of its own line
+//!   (`each_fate_is_of_its_command`).
 //! - `Failed` names a node that failed at a line. `Full` comes only where a line's queue was full even after a settle.
 //! - `check` refuses the scripts that `play` can't read, at the same line. `show` writes the line of the message that the hex digits encode.
 //! - Exactly a failure of the reader or the writer is reported as `Device`.
-//! - The connections of a report ascend, and are exactly those with entries or parked messages.
 //!
 //! Not claimed: what a process's own reader and writer read and write. Their bytes are known only for readers and writers in memory.
 #![tactic(auto)]
 
-mod gathered;
 mod laws;
 mod messages;
 mod nodes;
 mod outcome;
 mod player;
 mod playing;
-mod report;
 mod threads;
-mod waiting;
 mod watch;
 
-pub use gathered::{counts_of, write_all_gathered};
-pub use laws::{a_script_has_room, what_is_played_keeps_the_headlines};
-pub use nodes::{act, new_network, write_reports};
+pub use laws::{
+    a_script_has_room, each_fate_is_of_its_command, what_is_played_keeps_the_headlines,
+};
+pub use nodes::{act, new_network, played_reports};
 pub use outcome::{line_of_fault, status};
 pub use player::{Stopped, play_lines};
 pub use playing::{PlayFault, check, play, show};
-pub use report::{
-    Parked, ReportParts, conn_of_fate, connections_are_those_with_entries, connections_of,
-    number_of, write_origin, write_report, write_sections,
-};
 pub use scp_device::{
     FailsAt, MemoryIn, MemoryOut, Process, ReportOut, SCRIPT_LIMIT, ScriptIn, read_script,
     write_text,
 };
+pub use scp_report::{
+    LinkReport, Parked, Report, reports_left, reports_of, sets_of, write_settled,
+};
 pub use scp_threaded_script::Ran;
 pub use threads::{play_gated, play_in_threads, run_in_threads};
-pub use waiting::parked_at;
-pub use watch::{Both, LineWatch, Nobody};
+pub use watch::{Both, LineWatch, Nobody, Steps};

@@ -1,21 +1,22 @@
 //! The nodes of a script, and what its lines do to them.
-ghost use Rattle.std.specs.Prelude.{◌≡◌, ◌≢◌, ◌⊎◌, ◌≤◌, ◌++◌, [], ℕ, List, All, OnOk, IfOk, IfErr, IfSome, IsOkUnless, string_bytes, flat_map, length, replicate, false};
+ghost use Rattle.std.specs.Prelude.{◌≡◌, ◌≢◌, ◌⊎◌, ◌≤◌, ◌++◌, [], ℕ, List, All, OnOk, IfOk, IfErr, IfSome, IsOkUnless, string_bytes, length, replicate, false};
 ghost use Rattle.scp_script.specs.Script.{AreAdmitted, node_count};
-ghost use Rattle.scp_script.specs.Nodes.{NamesNodes, IsSmall, reports_in};
+ghost use Rattle.scp_script.specs.Nodes.{NamesNodes, IsSmall};
+ghost use Rattle.scp_report.specs.Node.{reports_of as records_of};
+ghost use Rattle.scp_report.specs.Reports.{settled_text};
 ghost use Rattle.scp_network.specs.scp_core.specs.Config.{IsConfig};
-ghost use Rattle.scp_line.specs.Play.{config_of, driven_in, event_by, IsNew, AreNew, Played, report_of_node, report_at};
+ghost use Rattle.scp_line.specs.Play.{config_of, driven_in, event_by, IsNew, AreNew, Played};
 ghost use Rattle.scp_network.specs.scp_turn.specs.Watch.{notes};
 ghost use Rattle.scp_line.specs.Nodes.{HaveRoom, AreMade, moment, Offers, Settles, Acts, ActsAlone, ActsAgain, brings_to_rest};
 ghost use Rattle.scp_line.specs.inside.Nodes.{IsPlayed, IsStopped};
 
 use crate::player::play_lines;
 use crate::playing::PlayFault;
-use crate::report::{ReportParts, write_report};
-use crate::waiting::parked_at;
 use crate::watch::Nobody;
 use scp_network::{
     Capacities, Config, Event, KvDriver, Network, NoWatch, Node, Peers, Reply, Watch, link_from,
 };
+use scp_report::{reports_of, settled_report};
 use scp_script::{Command, capacities_of, count_of_nodes, id_from, peers_of_node, set_of_node};
 use scp_threaded_script::command_of;
 use scp_types::Fault;
@@ -258,49 +259,17 @@ pub fn play_alone(
     }
 }
 
-/// Adds the report of the node of this number, if there is one.
-fn write_report_at(nodes: &[Node], text: &mut String, number: u8) -> Result<(), AllocError>
-    requires number { IsSmall number }
-    requires few { length nodes.now ≤ 8 }
-    ensures { OnOk result (string_bytes text.new ≡ string_bytes text.old ++ report_at nodes.now number) }
-{
-    match nodes.get(usize::from(number - 1)) {
-        Some(node) => write_node(text, nodes.len() as u8, number, node),
-        None => Ok(()),
-    }
-}
-
-/// Adds the reports that the lines ask for, in the order of the lines.
-pub fn write_reports(
+/// The reports that the lines ask for, in the order of the lines, in the fixed form. It fails only if it is out of memory.
+pub fn played_reports(
+    alloc: Global,
     nodes: &[Node],
-    text: &mut String,
     commands: &[Command],
-) -> Result<(), AllocError>
+) -> Result<String, AllocError>
     requires names { All NamesNodes commands.now }
     requires few { length nodes.now ≤ 8 }
-    ensures { OnOk result (string_bytes text.new ≡ string_bytes text.old ++ flat_map (report_at nodes.now) (reports_in commands.now)) }
+    ensures { IfOk result (λ text. string_bytes text ≡ settled_text (records_of nodes.now) commands.now) }
 {
-    for command in commands {
-        if let Command::Report(number) = command {
-            write_report_at(nodes, text, *number)?;
-        }
-    }
-    Ok(())
-}
-
-/// Adds the report of a node; `count` is the number of nodes.
-fn write_node(text: &mut String, count: u8, number: u8, node: &Node) -> Result<(), AllocError>
-    requires count { count ≤ 8 }
-    requires number { IsSmall number }
-    ensures { OnOk result (string_bytes text.new ≡ string_bytes text.old ++ report_of_node count number node.now) }
-{
-    let parked = parked_at(*text.allocator(), count, number, node)?;
-    let parts = ReportParts {
-        node: number,
-        journal: node.journal(),
-        parked: parked.as_slice(),
-        applied: node.applied(),
-        state: node.state(),
-    };
-    write_report(text, &parts)
+    let reports = reports_of(alloc, nodes)?;
+    let text = settled_report(alloc, reports.as_slice(), commands)?;
+    Ok(text)
 }

@@ -13,7 +13,7 @@ ghost use Rattle.scp_line.specs.Play.{AreReports, Stops, Overflows, IsShown, IsU
 
 use crate::laws::what_is_played_keeps_the_headlines;
 use crate::messages::line_of;
-use crate::nodes::{new_network, play_alone, write_reports};
+use crate::nodes::{new_network, play_alone, played_reports};
 use scp_device::{ReportOut, SCRIPT_LIMIT, ScriptIn, read_script, write_text};
 use scp_network::{KvDriver, each_node_holds_its_ledger};
 use scp_script::{bytes_of, parse};
@@ -56,9 +56,8 @@ fn played(alloc: Global, text: &[u8]) -> Result<String, PlayFault>
     play_alone(alloc, &mut network, commands)?;
     each_node_holds_its_ledger::<KvDriver>();
     what_is_played_keeps_the_headlines();
-    let mut printed = String::new(alloc);
-    match write_reports(network.nodes(), &mut printed, commands) {
-        Ok(()) => Ok(printed),
+    match played_reports(alloc, network.nodes(), commands) {
+        Ok(printed) => Ok(printed),
         Err(error) => Err(PlayFault::from(Fault::from(error))),
     }
 }

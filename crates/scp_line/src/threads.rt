@@ -1,5 +1,5 @@
 //! Playing a script with nodes whose stages run in threads.
-ghost use Rattle.std.specs.Prelude.{◌≡◌, ◌≢◌, ◌⊎◌, ◌≤◌, ◌<◌, ℕ, List, [], All, length, IfOk, IfErr, IfSome, OnOk, string_bytes};
+ghost use Rattle.std.specs.Prelude.{◌≡◌, ◌≢◌, ◌⊎◌, ◌≤◌, ◌<◌, ℕ, List, [], All, length, IfOk, IfErr, IfSome, IsOkUnless, OnOk, string_bytes};
 ghost use Rattle.scp_types.specs.declared.fault.Fault.TheVariants.{BadScript};
 ghost use Rattle.scp_types.specs.declared.fault.Stage.{Stage};
 ghost use Rattle.scp_device.specs.Device.{Gains, GainsPart, Fails, IsAll};
@@ -7,18 +7,20 @@ ghost use Rattle.scp_script.specs.Script.{AreAdmitted, node_count, IsScript, IsB
 ghost use Rattle.scp_script.specs.Nodes.{NamesNodes};
 ghost use Rattle.scp_threaded_script.specs.Reported.{AreNodesReported, AreAllKept, IsGivenUp};
 ghost use Rattle.scp_threaded_script.specs.Waits.{AreWaits};
+ghost use Rattle.scp_report.specs.Left.{reports_left as records_left};
+ghost use Rattle.scp_report.specs.Reports.{settled_text};
 ghost use Rattle.scp_line.specs.Headlines.{AreGatheredHeadlined};
 ghost use Rattle.scp_line.specs.Nodes.{HaveRoom};
 ghost use Rattle.scp_line.specs.Play.{IsNamed};
 ghost use Rattle.scp_line.specs.Threads.{AreGatheredReports, AreGivenUp, IsOfTheNodes, IsThreadsFault};
 
-use crate::gathered::write_all_gathered;
 use crate::laws::what_is_played_keeps_the_headlines;
 use crate::playing::PlayFault;
 use scp_device::{ReportOut, SCRIPT_LIMIT, ScriptIn, read_script, write_text};
 use scp_gate::{Gate, Open};
-use scp_script::{Command, parse};
-use scp_threaded_script::{NodeFault, Ran, run_lines};
+use scp_report::{reports_left, sets_of, settled_report};
+use scp_script::{Command, count_of_nodes, parse};
+use scp_threaded_script::{NodeFault, NodeReport, Ran, run_lines};
 use scp_types::Fault;
 use std::alloc::Global;
 use std::sync::Wait;
@@ -60,6 +62,21 @@ pub fn run_in_threads<T: Threads + Wait + Sync>(
     }
 }
 
+/// The reports that the lines ask for, in the order of the lines, of nodes that left this. The only refusal is `NoMemory`.
+fn left_reports(alloc: Global, commands: &[Command], nodes: &[NodeReport]) -> Result<String, Fault>
+    requires names { All NamesNodes commands.now }
+    requires admitted { AreAdmitted [] commands.now }
+    requires count { length nodes.now ≡ node_count commands.now }
+    ensures text { IfOk result (λ text. string_bytes text ≡ settled_text (records_left commands.now nodes.now []) commands.now) }
+    ensures only_memory { IsOkUnless result Fault.NoMemory }
+{
+    let _count = count_of_nodes(commands);
+    let sets = sets_of(alloc, commands)?;
+    let reports = reports_left(alloc, commands, sets.as_slice(), nodes, &[])?;
+    let text = settled_report(alloc, reports.as_slice(), commands)?;
+    Ok(text)
+}
+
 /// All that a script prints.
 #[tactic(auto, using(crate::proofs::Threaded::given_up_script, crate::proofs::Threaded::given_up_cause, crate::proofs::Threaded::given_up_named, crate::proofs::Threaded::given_up_not_device, crate::proofs::Threaded::given_up_not_long, crate::proofs::Threaded::given_up_not_bad))]
 fn played<T: Threads + Wait + Sync, G: Gate + Sync>(
@@ -86,10 +103,9 @@ fn played<T: Threads + Wait + Sync, G: Gate + Sync>(
     let ran = run_lines(rt, gate, alloc, commands, false)?;
     let reports = ran.reports.as_slice();
     what_is_played_keeps_the_headlines();
-    let mut printed = String::new(alloc);
-    match write_all_gathered(reports, &mut printed, commands) {
-        Ok(()) => Ok(printed),
-        Err(error) => Err(PlayFault::from(Fault::from(error))),
+    match left_reports(alloc, commands, reports) {
+        Ok(printed) => Ok(printed),
+        Err(_) => Err(PlayFault::from(Fault::NoMemory)),
     }
 }
 

@@ -58,6 +58,38 @@ impl LineWatch for Nobody {
     fn end_line(&mut self, _line: usize, _command: &Command, _calm: bool, _nodes: &[Node]) {}
 }
 
+/// A watch that shows another one the steps of nodes, and notes nothing of lines.
+#[derive(Drop)]
+pub struct Steps<W> {
+    pub watch: W,
+}
+
+impl<W: Watch<KvDriver>> Watch<KvDriver> for Steps<W> {
+    ghost notes_before = { λ old number event node new. W.notes_before old.watch number event node new.watch };
+
+    ghost notes_after = { λ old number reply node new. W.notes_after old.watch number reply node new.watch };
+
+    fn before(&mut self, number: u8, event: &Event, node: &Node) {
+        self.watch.before(number, event, node);
+    }
+
+    fn after(&mut self, number: u8, reply: &Reply, node: &Node) {
+        self.watch.after(number, reply, node);
+    }
+}
+
+impl<W: Watch<KvDriver>> LineWatch for Steps<W> {
+    ghost use Rattle.std.specs.Prelude.{◌≡◌};
+
+    ghost notes_begin = { λ old _ _ _ new. new ≡ old };
+
+    ghost notes_end = { λ old _ _ _ _ new. new ≡ old };
+
+    fn begin_line(&mut self, _line: usize, _command: &Command, _nodes: &[Node]) {}
+
+    fn end_line(&mut self, _line: usize, _command: &Command, _calm: bool, _nodes: &[Node]) {}
+}
+
 /// Two watches that both see everything: one play is enough for both.
 #[derive(Drop)]
 pub struct Both<A, B> {

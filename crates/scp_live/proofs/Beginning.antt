@@ -1,6 +1,8 @@
 -- A node that was made of settings, and the first line of its log.
-use Rattle.std.proofs.Common.{◌≡◌, ℕ, List, [], ◌∷◌, ◌++◌, sym, ◌∙◌, false, subst, append_assoc, refl}
-use Rattle.std.specs.Prelude.{Result, Ok, Err, IfOk, map, codes}
+use Rattle.std.proofs.Common.{◌≡◌, ℕ, List, [], ◌∷◌, ◌++◌, sym, ◌∙◌, ap, false, subst, append_assoc, refl, inl, inr, ⊎_elim}
+use Rattle.std.specs.Prelude.{◌⊎◌, ◌↔◌, Result, Ok, Err, IfOk, IfErr, map, codes}
+use Rattle.scp_types.specs.declared.fault.Fault.TheVariants.{BadConfig, NoMemory}
+use Rattle.scp_core.specs.Config.{IsConfig}
 use Rattle.hex.specs.Hex.{encode_lower}
 use Rattle.scp_types.specs.declared.fault.Fault.{Fault}
 use Rattle.scp_core.specs.declared.config.Config.{Config}
@@ -13,9 +15,19 @@ use Rattle.scp_live.specs.Living.{IsLive}
 use Rattle.scp_live.specs.Beginning.{IsNew, config_in, header_of}
 use Rattle.scp_live.proofs.Living.{live_new}
 
-pub is_new : (r : Result LiveView Fault) (settings : Settings) (config : Config) (names : List (List ℕ)) → config ≡ config_in settings → names ≡ map (λ (peer : Identity). peer.name) settings.peers.items → IfOk r (λ live. live.node.config ≡ config) → IfOk r (λ live. live.names ≡ names) → IfOk r (λ live. LedgerTheorem [] live.node) → IfOk r (IsNew settings)
-is_new (Ok live) settings config names c n config_is names_is theorem = record { config = config_is ∙ c; names = names_is ∙ n; theorem = theorem }
-is_new (Err f) settings config names c n config_is names_is theorem = tt
+pub is_new : (r : Result LiveView Fault) (settings : Settings) (config : Config) (names : List (List ℕ)) (nodes : List Identity) → config ≡ config_in settings → names ≡ map (λ (peer : Identity). peer.name) settings.peers.items → nodes ≡ settings.names.items
+    → IfOk r (λ live. live.node.config ≡ config) → IfOk r (λ live. live.names ≡ names) → IfOk r (λ live. live.nodes ≡ nodes) → IfOk r (λ live. LedgerTheorem [] live.node) → IfOk r (IsNew settings)
+is_new (Ok live) settings config names nodes c n m config_is names_is nodes_are theorem = record { config = config_is ∙ c; names = names_is ∙ n; nodes = nodes_are ∙ m; theorem = theorem }
+is_new (Err f) settings config names nodes c n m config_is names_is nodes_are theorem = tt
+
+-- why there is no new node
+pub new_only : (r : Result LiveView Fault) (settings : Settings) (config : Config) → config ≡ config_in settings → (r ≡ Err BadConfig) ↔ (¬ (IsConfig config)) → IfErr r (λ f. (f ≡ BadConfig) ⊎ (f ≡ NoMemory)) → IfErr r (λ f. (f ≡ NoMemory) ⊎ ((f ≡ BadConfig) × ¬ (IsConfig (config_in settings))))
+new_only (Ok live) settings config is refused only = tt
+new_only (Err f) settings config is refused only =
+    ⊎_elim
+    (λ (bad : f ≡ BadConfig). inr (bad, λ fit. refused.0 (ap (λ (x : Fault). Err x) bad) (subst (λ (c : Config). IsConfig c) (sym is) fit)))
+    (λ (memory : f ≡ NoMemory). inl memory)
+    only
 
 pub is_live : (r : Result LiveView Fault) → IfOk r (λ live. LedgerTheorem [] live.node) → IfOk r (λ live. live.node.failed ≡ false) → IfOk r (λ live. IsLive live.node)
 is_live (Ok live) theorem runs = live_new live.node theorem runs

@@ -3,6 +3,7 @@ pub mod Texts
 pub mod Refusals
 pub mod Reports
 pub mod Going
+pub mod Reporting
 pub mod Living
 pub mod Beginning
 pub mod Replaying

@@ -1,5 +1,5 @@
 -- Two nodes with one past have the same episodes of the same events.
-use Rattle.std.proofs.Common.{◌≡◌, ℕ, zero, suc, false, List, [], ◌∷◌, ◌++◌, refl, sym, ◌∙◌, ap, subst}
+use Rattle.std.proofs.Common.{◌≡◌, ℕ, zero, suc, false, List, [], ◌∷◌, ◌++◌, refl, sym, ◌∙◌, ap, subst, append_assoc}
 use Rattle.std.specs.Prelude.{replicate, slice_get, if◌then◌else◌}
 use Rattle.scp_driver.specs.Kv.{kv_says}
 use Rattle.scp_outboxes.specs.Handing.{waiting_at}
@@ -14,8 +14,9 @@ use Rattle.scp_turn.specs.Turn.{events_of, links_of}
 use Rattle.scp_turn.specs.Kv.{Does}
 use Rattle.scp_episode.specs.Episode.{Follows, drains_of, leaving_at}
 use Rattle.scp_episode.specs.Kv.{FollowsOn}
-use Rattle.scp_live.specs.Episodes.{AnEpisode, AreEpisodes, SameEventsSameEpisodes}
-use Rattle.scp_live.proofs.Steps.{Laws, Both, Same, does_on, does_run, same_steps, then_same}
+use Rattle.scp_turn.specs.Rest.{Then}
+use Rattle.scp_live.specs.Episodes.{AnEpisode, AreEpisodes, SameEventsSameEpisodes, FurtherEventsGoOn}
+use Rattle.scp_live.proofs.Steps.{Laws, Both, Same, does_on, does_run, keeps_on, same_steps, then_same}
 use Rattle.scp_live.proofs.Turns.{rests_does, same_links, same_rest}
 
 -- ---- what follows is steps
@@ -119,3 +120,29 @@ pub same_episodes : Laws → SameEventsSameEpisodes
 same_episodes law = λ events a b v w x y one other config h k run runs.
     let both : Both [] a b = record { one = one; other = other; config = config; enough = tt } in
     let s = same_lives law events [] x y a b v w both h k run runs in (s.same, s.shown)
+
+-- ---- more events
+
+episodes_apart : (events more : List Event) (b w : NodeView) (y : List Exchange) → AreEpisodes (events ++ more) b y w → Then (AreEpisodes events) (AreEpisodes more) b y w
+episodes_apart [] more b w y p = record { mid = b; first = []; rest = y; split = refl; one = (refl, refl); two = p }
+episodes_apart (e ∷ events) more b w y p =
+    let r = episodes_apart events more p.mid w p.rest p.two in
+    record {
+      mid = r.mid;
+      first = p.first ++ r.first;
+      rest = r.rest;
+      split = p.split ∙ ap (λ (h : List Exchange). p.first ++ h) r.split ∙ sym (append_assoc p.first r.first r.rest);
+      one = record { mid = p.mid; first = p.first; rest = r.first; split = refl; one = p.one; two = r.one };
+      two = r.two;
+    }
+
+pub further_events : Laws → FurtherEventsGoOn
+further_events laws events more a b v w x y one other config p q run runs =
+    let s = episodes_apart events more b w y q in
+    let alive = (does_run s.rest s.mid w (episodes_does more s.mid w s.rest s.two) runs).0 in
+    let same = same_episodes laws events a b v s.mid x s.first one other config p s.one run alive in
+    record {
+      more = s.rest;
+      is = s.split ∙ ap (λ (h : List Exchange). h ++ s.rest) (sym same.0);
+      theorem = keeps_on laws.keep y [] b w other (episodes_does (events ++ more) b w y q);
+    }

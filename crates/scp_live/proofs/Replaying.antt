@@ -1,18 +1,28 @@
 -- Entries that are played again, one behind the other.
-use Rattle.std.proofs.Common.{◌≡◌, ◌<◌, ◌+◌, ℕ, suc, Bool, true, List, [], ◌∷◌, ◌++◌, take, get_or, refl, sym, ◌∙◌, ap, subst, append_assoc, append-nil, arith}
-use Rattle.std.specs.Prelude.{length, nat_eq}
+use Rattle.std.proofs.Common.{◌≡◌, ◌<◌, ◌+◌, ℕ, suc, Bool, true, false, List, [], ◌∷◌, ◌++◌, take, get_or, refl, sym, ◌∙◌, ap, subst, append_assoc, append-nil, arith, inl, inr}
+use Rattle.std.specs.Prelude.{◌≢◌, length, nat_eq, Option, Some, None, Result, Ok, Err, OnOk, IfSome, IfNone, IsErrOf}
+use Rattle.std.proofs.lemmas.Option.{slice_get_read}
 use Rattle.std.specs.Cmp.Lexicographic.{pointwise, bytes_decides}
 use Rattle.std.proofs.Math.Seq.{take-suc}
 use Rattle.scp_turn.specs.Kv.{Goes, Noting, Watched}
 use Rattle.scp_core.specs.declared.event.Event.{Event as Happening}
 use Rattle.scp_core.specs.History.{Exchange}
 use Rattle.scp_core.specs.Kv.{NodeView}
+use Rattle.scp_types.specs.declared.fault.Fault.{Fault}
 use Rattle.scp_live_log.specs.Log.{EntryView}
+use Rattle.scp_live_log.specs.declared.kept.LogFault.{LogFault}
+use Rattle.scp_live_log.specs.declared.kept.LogFault.TheVariants.{Damaged, Failed}
+use Rattle.scp_live_lines.specs.declared.asked.Asked.{Asked}
+use Rattle.scp_script.specs.scp_device.specs.declared.bad.WordFault.{WordFault}
+use Rattle.scp_script.specs.scp_device.specs.declared.bad.WordFault.TheVariants.{Bad}
+use Rattle.scp_script.specs.scp_device.specs.declared.bad.BadWord.{BadWord}
+use Rattle.scp_live_lines.specs.Results.{IfRefusal}
 use Rattle.scp_timers.specs.declared.running.Timer.{Timer}
-use Rattle.scp_live_lines.specs.declared.asked.Asked.TheVariants.{Event}
+use Rattle.scp_live_lines.specs.declared.asked.Asked.TheVariants.{Event, Again, State, Report, Stand, Applied, Nothing}
 use Rattle.scp_live_lines.specs.Says.{Says}
 use Rattle.scp_live.specs.Live.{LiveView, IsTold, told_of}
-use Rattle.scp_live.specs.Replays.{IsReplayed, AreReplayed}
+use Rattle.scp_live.specs.Replays.{IsReplayed, AreReplayed, IsNoEvent, SaysNoEvent, IsUnfit, IsUnfitAt}
+use Rattle.scp_live.specs.inside.Replaying.{IsReplayFault}
 use Rattle.scp_live.proofs.Going.{Heard, heard_then, watched_on}
 
 pub replayed_none : (v : LiveView) → AreReplayed [] v [] v
@@ -42,14 +52,14 @@ told_apart event names before after' old new heard text longer digest t =
     (told_of names before after' t.reply old heard new, record { reply = t.reply; episode = t.episode; lines = refl; digest_is = t.digest_is }, t.lines)
 
 -- an event that was played, of which just that was sent whose digest an entry has; and of what was heard this holds besides
-pub replays : (entry : EntryView) (event : Happening) (u v : LiveView) (text longer digest other : List ℕ) (b : Bool) (E : NodeView → List Exchange → NodeView → Type 0) → b ≡ true → b ≡ pointwise nat_eq digest other → other ≡ entry.sent → Says u.names entry.line (Event event) → v.names ≡ u.names
+pub replays : (entry : EntryView) (event : Happening) (u v : LiveView) (text longer digest other : List ℕ) (b : Bool) (E : NodeView → List Exchange → NodeView → Type 0) → b ≡ true → b ≡ pointwise nat_eq digest other → other ≡ entry.sent → Says u.names entry.line (Event event) → v.names ≡ u.names → v.nodes ≡ u.nodes
     → Goes u.node v.node (λ a heard n. IsTold event u.names u.timers v.timers a heard n text longer digest × E a heard n) → Heard u.node v.node (λ heard. IsReplayed entry u heard v × E u.node heard v.node)
-replays entry event u v text longer digest other b E holds eq is says names g =
+replays entry event u v text longer digest other b E holds eq is says names nodes g =
     let same : digest ≡ entry.sent = (bytes_decides digest other).0 (sym eq ∙ holds) ∙ is in
     let t = told_apart event u.names u.timers v.timers u.node v.node g.heard text longer digest g.is.0 in
     record {
       heard = g.heard;
-      is = (record { event = event; says = says; told = t.0; tells = subst (λ (d : List ℕ). IsTold event u.names u.timers v.timers u.node g.heard v.node [] t.0 d) same t.1; names = names }, g.is.1);
+      is = (record { event = event; says = says; told = t.0; tells = subst (λ (d : List ℕ). IsTold event u.names u.timers v.timers u.node g.heard v.node [] t.0 d) same t.1; names = names; nodes = nodes }, g.is.1);
       does = g.does;
       theorem = g.theorem;
     }
@@ -72,14 +82,78 @@ one_replayed {W} Note entries place entry u v w first mid last lt is f g =
         let e : place + 1 ≡ suc place = omega arith in
         ap (λ (n : ℕ). take n entries) e ∙ take-suc entries place entry lt ∙ ap (λ (x : EntryView). take place entries ++ x ∷ []) (sym is)
 
--- entries were played, and then one failed
-pub refused_after : {W : Type 0} (Note : Noting W) (entries : List EntryView) (u v w : LiveView) (first mid last : W) (P : List Exchange → Type 0) → Heard u.node v.node (λ heard. AreReplayed entries u heard v × Watched Note 1 first u.node heard v.node mid) → Heard v.node w.node (λ heard. P heard × Watched Note 1 mid v.node heard w.node last)
-    → Heard u.node w.node (λ heard. Unit {0} × Watched Note 1 first u.node heard w.node last)
-refused_after {W} Note entries u v w first mid last P f g =
-    heard_then u.node v.node w.node (λ heard. AreReplayed entries u heard v × Watched Note 1 first u.node heard v.node mid) (λ heard. P heard × Watched Note 1 mid v.node heard w.node last)
-    (λ heard. Unit {0} × Watched Note 1 first u.node heard w.node last)
-    (λ x y p q. (tt, watched_on Note 1 first mid last u.node v.node w.node x y p.1 q.1)) f g
+-- ---- what is there, or isn't
 
--- of what was heard this holds, whatever else does
-pub beside_none : (old new : NodeView) (E : NodeView → List Exchange → NodeView → Type 0) (P : NodeView → List Exchange → NodeView → Type 0) → Goes old new (λ a heard n. P a heard n × E a heard n) → Heard old new (λ heard. Unit {0} × E old heard new)
-beside_none old new E P g = record { heard = g.heard; is = (tt, g.is.1); does = g.does; theorem = g.theorem }
+pub some_there : {X : Type 0} (o : Option X) (x : X) (Is : X → Type 0) → o ≡ Some x → IfSome o Is → Is x
+some_there o x Is at told = subst (λ p. IfSome p Is) at told
+
+pub none_there : {X : Type 0} (o : Option X) (P : Type 0) → o ≡ None → IfNone o P → P
+none_there o P at none = subst (λ p. IfNone p P) at none
+
+-- ---- a line that says no event
+
+no_event : (asked : Asked) → ((event : Happening) → asked ≡ Event event → ⊥) → IsNoEvent asked
+no_event (Event event) other = absurd (other event refl)
+no_event (Again link) other = tt
+no_event State other = tt
+no_event Report other = tt
+no_event Stand other = tt
+no_event (Applied slot) other = tt
+no_event Nothing other = tt
+
+pub asks_else : (asked : Asked) (names same : List (List ℕ)) (line : List ℕ) → names ≡ same → Says names line asked → ((event : Happening) → asked ≡ Event event → ⊥) → SaysNoEvent same line
+asks_else asked names same line is says other = inl (asked, subst (λ (n : List (List ℕ)). Says n line asked) is says, no_event asked other)
+
+pub says_nothing : (bad : WordFault) (refusal : BadWord) (names same : List (List ℕ)) (line : List ℕ) → bad ≡ Bad refusal → names ≡ same → IfRefusal bad (λ r. (asked : Asked) → ¬ (Says names line asked)) → SaysNoEvent same line
+says_nothing bad refusal names same line at is nothing =
+    let none : (asked : Asked) → ¬ (Says names line asked) = subst (λ (b : WordFault). IfRefusal b (λ r. (asked : Asked) → ¬ (Says names line asked))) at nothing in
+    inr (subst (λ (n : List (List ℕ)). (asked : Asked) → ¬ (Says n line asked)) is none)
+
+-- ---- an entry that can't be played
+
+-- what comes of an entry: it is played, or it is unfit
+abbrev pub Comes : Result (Unit {0}) LogFault → ℕ → EntryView → LiveView → List Exchange → LiveView → Type 0
+Comes r place entry u heard v = OnOk r (IsReplayed entry u heard v) × (r ≡ Err (Damaged place) → IsUnfit entry u heard v)
+
+pub no_event_said : (f : LogFault) (place : ℕ) (entry : EntryView) (u : LiveView) → (f ≡ Damaged place → SaysNoEvent u.names entry.line) → Comes (Err f) place entry u [] u
+no_event_said f place entry u unsaid = (tt, λ is. inl (unsaid (let same : f ≡ Damaged place = cc in same)))
+
+pub not_played : (f : Fault) (place : ℕ) (entry : EntryView) (u v : LiveView) (E P : NodeView → List Exchange → NodeView → Type 0) → Goes u.node v.node (λ a heard n. P a heard n × E a heard n) → Heard u.node v.node (λ heard. Comes (Err (Failed f)) place entry u heard v × E u.node heard v.node)
+not_played f place entry u v E P g = record { heard = g.heard; is = ((tt, λ is. absurd cc), g.is.1); does = g.does; theorem = g.theorem }
+
+pub is_played : (place : ℕ) (entry : EntryView) (u v : LiveView) (E : NodeView → List Exchange → NodeView → Type 0) → Heard u.node v.node (λ heard. IsReplayed entry u heard v × E u.node heard v.node) → Heard u.node v.node (λ heard. Comes (Ok tt) place entry u heard v × E u.node heard v.node)
+is_played place entry u v E g = record { heard = g.heard; is = ((g.is.0, λ is. absurd cc), g.is.1); does = g.does; theorem = g.theorem }
+
+-- an event that was played, of which something else was sent
+pub plays_otherwise : (place : ℕ) (entry : EntryView) (event : Happening) (u v : LiveView) (text longer digest other : List ℕ) (b : Bool) (E : NodeView → List Exchange → NodeView → Type 0) → b ≡ false → b ≡ pointwise nat_eq digest other → other ≡ entry.sent → Says u.names entry.line (Event event)
+    → Goes u.node v.node (λ a heard n. IsTold event u.names u.timers v.timers a heard n text longer digest × E a heard n) → Heard u.node v.node (λ heard. Comes (Err (Damaged place)) place entry u heard v × E u.node heard v.node)
+plays_otherwise place entry event u v text longer digest other b E differs eq is says g =
+    let t = told_apart event u.names u.timers v.timers u.node v.node g.heard text longer digest g.is.0 in
+    let differ : digest ≢ entry.sent = λ same. absurd (let e : true ≡ false = sym ((bytes_decides digest other).1 (same ∙ sym is)) ∙ sym eq ∙ differs in cc) in
+    record {
+      heard = g.heard;
+      is = ((tt, λ e. inr (record { event = event; says = says; told = t.0; digest = digest; tells = t.1; other = differ })), g.is.1);
+      does = g.does;
+      theorem = g.theorem;
+    }
+
+-- entries were played, and then one failed
+unfit_at : (f : LogFault) (entries : List EntryView) (place n : ℕ) (entry : EntryView) (u v w : LiveView) (x y : List Exchange) → place < length entries → entry ≡ get_or entries place entry → IsReplayFault place f → f ≡ Damaged n → AreReplayed (take place entries) u x v → (f ≡ Damaged place → IsUnfit entry v y w) → IsUnfitAt entries n u (x ++ y) w
+unfit_at f entries place n entry u v w x y lt is fault same played unfit =
+    let here : n ≡ place = subst (λ (g : LogFault). IsReplayFault place g) same fault in
+    subst (λ (m : ℕ). IsUnfitAt entries m u (x ++ y) w) (sym here) (record {
+      entry = entry;
+      there = slice_get_read entries (length entries) place entry refl lt is;
+      played = record { mid = v; heard_first = x; heard_next = y; heard_is = refl; first = played; next = unfit (same ∙ ap (λ (m : ℕ). Damaged m) here) };
+    })
+
+pub refused_at : {W : Type 0} (Note : Noting W) (f : LogFault) (entries : List EntryView) (place : ℕ) (entry : EntryView) (u v w : LiveView) (first mid last : W) → place < length entries → entry ≡ get_or entries place entry → IsReplayFault place f
+    → Heard u.node v.node (λ heard. AreReplayed (take place entries) u heard v × Watched Note 1 first u.node heard v.node mid) → Heard v.node w.node (λ heard. Comes (Err f) place entry v heard w × Watched Note 1 mid v.node heard w.node last)
+    → Heard u.node w.node (λ heard. (Unit {0} × ((n : ℕ) → IsErrOf {T = Unit {0}} (Err f) (Damaged n) → IsUnfitAt entries n u heard w)) × Watched Note 1 first u.node heard w.node last)
+refused_at {W} Note f entries place entry u v w first mid last lt is fault p q =
+    heard_then u.node v.node w.node (λ heard. AreReplayed (take place entries) u heard v × Watched Note 1 first u.node heard v.node mid) (λ heard. Comes (Err f) place entry v heard w × Watched Note 1 mid v.node heard w.node last)
+    (λ heard. (Unit {0} × ((n : ℕ) → IsErrOf {T = Unit {0}} (Err f) (Damaged n) → IsUnfitAt entries n u heard w)) × Watched Note 1 first u.node heard w.node last)
+    (λ x y a b. (
+      (tt, λ n e. unfit_at f entries place n entry u v w x y lt is fault (let same : f ≡ Damaged n = cc in same) a.0 (λ same. b.0.1 (ap (λ (g : LogFault). Err g) same))),
+      watched_on Note 1 first mid last u.node v.node w.node x y a.1 b.1,
+    )) p q

@@ -96,7 +96,7 @@ does_run (x ∷ heard) a b d run =
     let step = ran a d.0 x.0 x.1 d.1 more.0 in
     (step.0, (step.1, more.1))
 
-keeps_on : StepsKeep → (heard past : List Exchange) (a b : NodeView) → LedgerTheorem past a → Does a heard b → LedgerTheorem (past ++ heard) b
+pub keeps_on : StepsKeep → (heard past : List Exchange) (a b : NodeView) → LedgerTheorem past a → Does a heard b → LedgerTheorem (past ++ heard) b
 keeps_on keep [] past a b h d = subst (λ (p : List Exchange). LedgerTheorem p b) (sym (append-nil past)) (subst (λ (v : NodeView). LedgerTheorem past v) (sym d) h)
 keeps_on keep (x ∷ heard) past a b h d =
     subst (λ (p : List Exchange). LedgerTheorem p b) (append_assoc past (x ∷ []) heard) (keeps_on keep heard (past ++ x ∷ []) d.0 b (keep past a d.0 x.0 x.1 d.1 h) d.2)

@@ -43,4 +43,5 @@ config_in settings = record {
 pub record IsNew (settings : Settings) (v : LiveView) : Type 0 where
   pub config : v.node.config ≡ config_in settings
   pub names : v.names ≡ map (λ (peer : Identity). peer.name) settings.peers.items
+  pub nodes : v.nodes ≡ settings.names.items
   pub theorem : LedgerTheorem [] v.node

@@ -1,5 +1,5 @@
 -- Two runs of a node that receive the same events.
-use Rattle.std.specs.Prelude.{◌≡◌, false, List, [], ◌∷◌}
+use Rattle.std.specs.Prelude.{◌≡◌, false, List, [], ◌∷◌, ◌++◌}
 use Rattle.scp_core.specs.declared.event.Event.{Event}
 use Rattle.scp_core.specs.declared.event.Reply.{Reply}
 use Rattle.scp_core.specs.History.{Exchange}
@@ -22,3 +22,15 @@ AreEpisodes (event ∷ events) old heard new = Then (AnEpisode event) (AreEpisod
 abbrev pub SameEventsSameEpisodes : Type 0
 SameEventsSameEpisodes =
     (events : List Event) (a b v w : NodeView) (x y : List Exchange) → LedgerTheorem [] a → LedgerTheorem [] b → a.config ≡ b.config → AreEpisodes events a x v → AreEpisodes events b y w → v.failed ≡ false → w.failed ≡ false → (x ≡ y) × ShowSameNode v w
+
+-- A later run received and replied all that an earlier one did, and then more. The ledger theorem holds of all of it.
+pub record GoesOn (earlier later : List Exchange) (new : NodeView) : Type 0 where
+  pub more : List Exchange
+  pub is : later ≡ earlier ++ more
+  pub theorem : LedgerTheorem later new
+
+-- Take two runs of a node with the same configuration, each from the newly made node on. The later one has episodes of the events of the
+-- earlier one, and then of more events. If neither run leaves the node failed, the later one goes on from where the earlier one ended.
+abbrev pub FurtherEventsGoOn : Type 0
+FurtherEventsGoOn =
+    (events more : List Event) (a b v w : NodeView) (x y : List Exchange) → LedgerTheorem [] a → LedgerTheorem [] b → a.config ≡ b.config → AreEpisodes events a x v → AreEpisodes (events ++ more) b y w → v.failed ≡ false → w.failed ≡ false → GoesOn x y w

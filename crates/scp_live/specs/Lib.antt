@@ -4,6 +4,7 @@ pub mod Questions
 pub mod Living
 pub mod Beginning
 pub mod Replays
+pub mod Failing
 pub mod Episodes
 pub mod Lines
 pub mod inside

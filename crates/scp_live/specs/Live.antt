@@ -11,6 +11,7 @@ use Rattle.scp_core.specs.Kv.{NodeView}
 use Rattle.scp_episode.specs.declared.sending.Sending.{Sending}
 use Rattle.scp_episode.specs.Episode.{sent_in}
 use Rattle.scp_episode.specs.Kv.{IsEpisode}
+use Rattle.scp_live_config.specs.Names.{Identity}
 use Rattle.scp_live_lines.specs.Names.{name_at}
 use Rattle.scp_live_lines.specs.Sent.{send_line}
 use Rattle.scp_live_lines.specs.Fates.{fate_line}
@@ -18,10 +19,12 @@ use Rattle.scp_live_lines.specs.Decisions.{decided_line, applied_line}
 use Rattle.scp_live_lines.specs.Replies.{refused_line}
 use Rattle.scp_live_lines.specs.Timers.{changes}
 
--- A node, the names of its peers in the order of the links, and the timers that its host was last asked to run.
+-- A node, the names of its peers in the order of the links, all names that its configuration gives nodes, each with the id that it is for,
+-- and the timers that its host was last asked to run.
 pub record LiveView : Type 0 where
   pub node : NodeView
   pub names : List (List ℕ)
+  pub nodes : List Identity
   pub timers : List Timer
 
 -- The line of a message that was sent.

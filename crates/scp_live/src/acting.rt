@@ -1,5 +1,5 @@
 //! An event, and the lines that report what it did.
-ghost use Rattle.std.specs.Prelude.{◌≡◌, ◌++◌, false, IfOk, OnOk, IsOkUnless, map, flat_map, string_bytes};
+ghost use Rattle.std.specs.Prelude.{◌≡◌, ◌⊎◌, ◌++◌, false, IfOk, IfErr, OnOk, IsOkUnless, map, flat_map, string_bytes};
 ghost use Rattle.sha2.specs.Sha256.{sha256};
 ghost use Rattle.scp_types.specs.declared.fault.Fault.{Fault};
 ghost use Rattle.scp_turn.specs.Kv.{Goes, Watched};
@@ -86,6 +86,7 @@ pub fn act_with<W: Watch<KvDriver>>(
     ensures told { Goes node.old node.new (λ a heard b. IfOk result (λ hash. IsTold event (map string_bytes names.now) running.old.items running.new.items a heard b (string_bytes text.old) (string_bytes text.new) hash.0) × Watched (notes W.notes_before W.notes_after) 1 watch.old a heard b watch.new) }
     ensures timers { OnOk result (AreTimersOf node.new running.new.items) }
     ensures runs { OnOk result (node.new.failed ≡ false) }
+    ensures only { IfErr result (λ f. (f ≡ Fault.NoMemory) ⊎ (f ≡ Fault.Failed)) }
 {
     let marks = Marks::of(node);
     match play_with(alloc, node, event, watch) {

@@ -1,12 +1,13 @@
 //! How the entries of a log are played again.
-ghost use Rattle.std.specs.Prelude.{◌≡◌, ◌<◌, false, ℕ, IfOk, IfErr, OnOk, Err, length};
-ghost use Rattle.scp_live_log.specs.declared.kept.LogFault.TheVariants.{Another, Damaged};
+ghost use Rattle.std.specs.Prelude.{◌≡◌, ◌⊎◌, ◌<◌, ℕ, IfOk, IfErr, IfSome, IfNone, OnOk, Err, length};
+ghost use Rattle.scp_types.specs.declared.fault.Fault.{Fault};
+ghost use Rattle.scp_live_log.specs.declared.kept.LogFault.TheVariants.{Another, Damaged, Failed};
 ghost use Rattle.scp_turn.specs.Kv.{Goes, Watched};
 ghost use Rattle.scp_turn.specs.Watch.{notes};
 ghost use Rattle.scp_live_lines.specs.declared.asked.Asked.TheVariants as asked;
 ghost use Rattle.scp_live_lines.specs.Says.{Says};
 ghost use Rattle.scp_episode.specs.Episode.{IsOfHost};
-ghost use Rattle.scp_live.specs.Replays.{IsReplayed, AreReplayed};
+ghost use Rattle.scp_live.specs.Replays.{IsReplayed, AreReplayed, SaysNoEvent, IsUnfit, IsUnfitAt};
 ghost use Rattle.scp_live.specs.inside.Replaying.{IsReplayFault};
 ghost use Rattle.scp_live.specs.Living.{IsLive};
 
@@ -16,18 +17,39 @@ use scp_live_lines::{Asked, WordFault, read_line};
 use scp_live_log::{Entry, LogFault};
 use scp_turn::Watch;
 use scp_types::Fault;
-use std::alloc::Global;
+use std::alloc::{AllocError, Global};
+
+/// The event that a line says, if it says one.
+pub fn event_in(alloc: Global, live: &Live, line: &[u8]) -> Result<Option<Event>, AllocError>
+    ensures says { IfOk result (λ found. IfSome found (λ event. Says live.now.names line.now (asked.Event event))) }
+    ensures host { IfOk result (λ found. IfSome found IsOfHost) }
+    ensures none { IfOk result (λ found. IfNone found (SaysNoEvent live.now.names line.now)) }
+{
+    let said = match read_line(alloc, live.names(), line) {
+        Ok(said) => said,
+        Err(WordFault::Bad(_)) => return Ok(None),
+        Err(WordFault::NoMemory) => return Err(AllocError),
+    };
+    match said {
+        Asked::Event(event) => Ok(Some(event)),
+        _ => Ok(None),
+    }
+}
 
 /// The event that the line of an entry says. If it says none, the entry at this index is damaged.
 fn event_of(alloc: Global, live: &Live, entry: &Entry, place: usize) -> Result<Event, LogFault>
     ensures says { IfOk result (λ event. Says live.now.names entry.now.line (asked.Event event)) }
     ensures host { IfOk result IsOfHost }
+    ensures unsaid { result ≡ Err (Damaged place) → SaysNoEvent live.now.names entry.now.line }
     ensures only { IfErr result (IsReplayFault place) }
 {
-    match read_line(alloc, live.names(), entry.line()) {
-        Ok(Asked::Event(event)) => Ok(event),
-        Ok(_) | Err(WordFault::Bad(_)) => Err(LogFault::Damaged(place)),
-        Err(WordFault::NoMemory) => Err(LogFault::Failed(Fault::NoMemory)),
+    let found = match event_in(alloc, live, entry.line()) {
+        Ok(found) => found,
+        Err(_) => return Err(LogFault::Failed(Fault::NoMemory)),
+    };
+    match found {
+        Some(event) => Ok(event),
+        None => Err(LogFault::Damaged(place)),
     }
 }
 
@@ -41,13 +63,19 @@ fn replay_entry<W: Watch<KvDriver>>(
     watch: &mut W,
 ) -> Result<(), LogFault>
     requires live { IsLive live.old.node }
-    ensures replayed { Goes live.old.node live.new.node (λ _ heard _. OnOk result (IsReplayed entry.now live.old heard live.new) × Watched (notes W.notes_before W.notes_after) 1 watch.old live.old.node heard live.new.node watch.new) }
+    ensures replayed { Goes live.old.node live.new.node (λ _ heard _. (OnOk result (IsReplayed entry.now live.old heard live.new) × (result ≡ Err (Damaged place) → IsUnfit entry.now live.old heard live.new)) × Watched (notes W.notes_before W.notes_after) 1 watch.old live.old.node heard live.new.node watch.new) }
     ensures live { OnOk result (IsLive live.new.node) }
     ensures only { IfErr result (IsReplayFault place) }
 {
-    let event = event_of(alloc, live, entry, place)?;
+    let event = match event_of(alloc, live, entry, place) {
+        Ok(event) => event,
+        Err(fault) => return Err(fault),
+    };
     let mut told = String::new(alloc);
-    let sent = live.act_with(event, &mut told, watch)?;
+    let sent = match live.act_with(event, &mut told, watch) {
+        Ok(sent) => sent,
+        Err(fault) => return Err(LogFault::Failed(fault)),
+    };
     if sent == entry.sent() {
         Ok(())
     } else {
@@ -55,7 +83,9 @@ fn replay_entry<W: Watch<KvDriver>>(
     }
 }
 
-/// Plays the entries of a log again, in order; the watch is shown each step.
+/// Plays the entries of a log again, in order; the watch is shown each step. Refused by `Damaged` for the first entry that can't be
+/// played: its line says no event, or something else is sent for it now. Refused by `Failed` with `Fault::Failed` if a step failed the
+/// node, and with `Fault::NoMemory`.
 pub fn replay<W: Watch<KvDriver>>(
     alloc: Global,
     live: &mut Live,
@@ -63,13 +93,17 @@ pub fn replay<W: Watch<KvDriver>>(
     watch: &mut W,
 ) -> Result<(), LogFault>
     requires live { IsLive live.old.node }
-    ensures replayed { Goes live.old.node live.new.node (λ _ heard _. OnOk result (AreReplayed entries.now live.old heard live.new) × Watched (notes W.notes_before W.notes_after) 1 watch.old live.old.node heard live.new.node watch.new) }
+    ensures replayed { Goes live.old.node live.new.node (λ _ heard _. (OnOk result (AreReplayed entries.now live.old heard live.new) × ((n : ℕ) → result ≡ Err (Damaged n) → IsUnfitAt entries.now n live.old heard live.new)) × Watched (notes W.notes_before W.notes_after) 1 watch.old live.old.node heard live.new.node watch.new) }
     ensures live { OnOk result (IsLive live.new.node) }
     ensures another { result ≡ Err Another → ⊥ }
     ensures damaged { (n : ℕ) → result ≡ Err (Damaged n) → n < length entries.now }
+    ensures only { (fault : Fault) → result ≡ Err (Failed fault) → (fault ≡ Fault.NoMemory) ⊎ (fault ≡ Fault.Failed) }
 {
     for (place, entry) in entries.iter().enumerate() {
-        replay_entry(alloc, live, entry, place, watch)?;
+        match replay_entry(alloc, live, entry, place, watch) {
+            Ok(()) => {}
+            Err(fault) => return Err(fault),
+        }
     }
     Ok(())
 }

@@ -1,31 +1,49 @@
 //! What is written about a node that can't begin, or that failed.
-ghost use Rattle.std.specs.Prelude.{◌≢◌};
+ghost use Rattle.std.specs.Prelude.{◌≡◌, ◌≢◌, ◌⊎◌, ◌++◌, codes, OnOk, OnErr, IfOk, string_bytes};
+ghost use Rattle.std.specs.Fmt.{decimal};
+ghost use Rattle.scp_types.specs.declared.fault.Fault.TheVariants.{NoMemory};
+ghost use Rattle.scp_device.specs.Device.{Gains, GainsPart, Fails};
+ghost use Rattle.scp_live_log.specs.declared.kept.LogFault.TheVariants.{Failed};
+ghost use Rattle.scp_live_config.specs.Texts.{fault_text};
+ghost use Rattle.scp_live.specs.Failing as words;
 
-use scp_device::{ReportOut, write_numbered, write_text};
+use itoa::Buffer;
+use scp_device::{ReportOut, write_text};
 use scp_live_config::{ConfigFault, write_fault};
 use scp_live_log::LogFault;
 use scp_types::Fault;
 use std::alloc::{AllocError, Global};
 
-/// The line that says why a configuration isn't read: `fault 9 KEY: expected WORDS`, or `fault 12 line NUMBER: WORDS` for a text that
-/// isn't TOML.
-fn fault_line(alloc: Global, fault: &ConfigFault) -> Result<String, AllocError> {
-    let mut line = String::new(alloc);
-    match fault {
-        ConfigFault::NoMemory => return Err(AllocError),
-        ConfigFault::Text { .. } => line.push_str("fault 12 ")?,
-        ConfigFault::Wrong(_) => line.push_str("fault 9 ")?,
-    }
+/// This text, the text of a fault, and a line end.
+fn line_behind(alloc: Global, front: &str, fault: &ConfigFault) -> Result<String, AllocError>
+    ensures { IfOk result (λ line. string_bytes line ≡ front.now ++ fault_text fault.now ++ codes "\n") }
+{
+    let mut line = String::from_str(alloc, front)?;
     write_fault(&mut line, fault)?;
     line.push_str("\n")?;
     Ok(line)
 }
 
-/// Writes why a configuration isn't read. Returns the status.
-pub fn refuse<W: ReportOut>(alloc: Global, fault: &ConfigFault, writer: &mut W) -> u8
-    ensures { result ≢ 0 }
+/// The line that says why a configuration isn't read: `fault 9 KEY: expected WORDS`, or `fault 12 line NUMBER: WORDS` for a text that
+/// isn't TOML.
+fn config_line(alloc: Global, fault: &ConfigFault) -> Result<String, AllocError>
+    ensures line { IfOk result (λ line. string_bytes line ≡ words.config_line fault.now) }
+    ensures status { OnOk result (words.config_status fault.now ≡ 1) }
 {
-    match fault_line(alloc, fault) {
+    match fault {
+        ConfigFault::NoMemory => Err(AllocError),
+        ConfigFault::Text { .. } => line_behind(alloc, "fault 12 ", fault),
+        ConfigFault::Wrong(_) => line_behind(alloc, "fault 9 ", fault),
+    }
+}
+
+/// Writes why a configuration isn't read, or that there is no memory for that. Returns the status: 1, or 3 if memory ran out or the
+/// writer failed.
+pub fn refuse<W: ReportOut>(alloc: Global, fault: &ConfigFault, writer: &mut W) -> u8
+    ensures status { result ≢ 0 }
+    ensures told { words.IsReported (words.config_line fault.now) (words.config_status fault.now) (record { failures = W.failures writer.old; written = W.written writer.old }) (record { failures = W.failures writer.new; written = W.written writer.new }) result ⊎ words.IsReported (words.fault_line (Failed NoMemory)) 3 (record { failures = W.failures writer.old; written = W.written writer.old }) (record { failures = W.failures writer.new; written = W.written writer.new }) result }
+{
+    match config_line(alloc, fault) {
         Ok(line) => match write_text(writer, line.as_str()) {
             Ok(()) => 1,
             Err(_) => 3,
@@ -34,25 +52,71 @@ pub fn refuse<W: ReportOut>(alloc: Global, fault: &ConfigFault, writer: &mut W) 
     }
 }
 
-/// Writes why a node didn't start, or didn't serve its host to the end. Returns the status.
-pub fn fail<W: ReportOut>(fault: LogFault, writer: &mut W) -> u8
-    ensures { result ≢ 0 }
+/// The line of a log at which the entry with this index begins. From 2^64 - 1 on, all have that number.
+#[tactic(auto, using(crate::proofs::Reporting::two_lines))]
+fn log_line(place: usize) -> u64
+    ensures { result ≡ words.log_line place }
 {
-    let (told, status) = match fault {
-        LogFault::Another => (
-            write_text(writer, "fault 9 log of another configuration\n"),
-            1,
-        ),
-        LogFault::Damaged(place) => {
-            let line = (place as u64).saturating_mul(2).saturating_add(2);
-            (write_numbered(writer, "fault 12 log line ", line, "\n"), 1)
-        }
-        LogFault::Failed(fault) => {
-            (
-                write_numbered(writer, "fault ", u64::from(fault.number()), "\n"),
-                3,
-            )
-        }
-    };
-    if told.is_ok() { status } else { 3 }
+    (place as u64).saturating_mul(2).saturating_add(2)
+}
+
+/// Writes two texts, one after the other. The one refusal is `Fault::Device`, if the writer failed.
+fn write_both<W: ReportOut>(writer: &mut W, front: &str, back: &str) -> Result<(), Fault>
+    ensures whole { OnOk result (Gains (W.written writer.old) (front.now ++ back.now) (W.written writer.new)) }
+    ensures part { OnErr result (GainsPart (W.written writer.old) (front.now ++ back.now) (W.written writer.new)) }
+    ensures raised { OnErr result (Fails (W.failures writer.old) (W.failures writer.new)) }
+    ensures kept { OnOk result (W.failures writer.new ≡ W.failures writer.old) }
+{
+    write_text(writer, front)?;
+    write_text(writer, back)
+}
+
+/// Writes a text, a number in decimal digits, and a line end, without memory. The one refusal is `Fault::Device`, if the writer failed.
+fn write_line<W: ReportOut>(writer: &mut W, front: &str, number: u64) -> Result<(), Fault>
+    ensures whole { OnOk result (Gains (W.written writer.old) (front.now ++ decimal number ++ codes "\n") (W.written writer.new)) }
+    ensures part { OnErr result (GainsPart (W.written writer.old) (front.now ++ decimal number ++ codes "\n") (W.written writer.new)) }
+    ensures raised { OnErr result (Fails (W.failures writer.old) (W.failures writer.new)) }
+    ensures kept { OnOk result (W.failures writer.new ≡ W.failures writer.old) }
+{
+    let mut buffer = Buffer::new();
+    let digits = buffer.format(number);
+    write_both(writer, front, digits)?;
+    write_text(writer, "\n")
+}
+
+/// The line of a fault, written without memory.
+fn write_fault_line<W: ReportOut>(fault: LogFault, writer: &mut W) -> Result<(), Fault>
+    ensures whole { OnOk result (Gains (W.written writer.old) (words.fault_line fault) (W.written writer.new)) }
+    ensures part { OnErr result (GainsPart (W.written writer.old) (words.fault_line fault) (W.written writer.new)) }
+    ensures raised { OnErr result (Fails (W.failures writer.old) (W.failures writer.new)) }
+    ensures kept { OnOk result (W.failures writer.new ≡ W.failures writer.old) }
+{
+    match fault {
+        LogFault::Another => write_text(writer, "fault 9 log of another configuration\n"),
+        LogFault::Damaged(place) => write_line(writer, "fault 12 log line ", log_line(place)),
+        LogFault::Failed(fault) => write_line(writer, "fault ", u64::from(fault.number())),
+    }
+}
+
+/// The status of a fault.
+fn status_of(fault: LogFault) -> u8
+    ensures is { result ≡ words.fault_status fault }
+    ensures some { result ≢ 0 }
+{
+    match fault {
+        LogFault::Another | LogFault::Damaged(_) => 1,
+        LogFault::Failed(_) => 3,
+    }
+}
+
+/// Writes why a node didn't start, or didn't serve its host to the end. Returns the status: 1 if the log doesn't fit, 3 if a call
+/// failed, as the writing of this line may.
+pub fn fail<W: ReportOut>(fault: LogFault, writer: &mut W) -> u8
+    ensures status { result ≢ 0 }
+    ensures told { words.IsReported (words.fault_line fault) (words.fault_status fault) (record { failures = W.failures writer.old; written = W.written writer.old }) (record { failures = W.failures writer.new; written = W.written writer.new }) result }
+{
+    match write_fault_line(fault, writer) {
+        Ok(()) => status_of(fault),
+        Err(_) => 3,
+    }
 }

@@ -10,10 +10,13 @@
 //! - what is sent once more to a peer is the node's newest own statements and its requests, and nothing else;
 //! - the ledger theorem holds of the node for all that it received and replied;
 //! - the settings are what the TOML text says, and a node that begins with them has received no event;
-//! - the entries of a log are played in order, each as its line says, and an entry is refused if something else is sent for it;
-//! - a node that can't begin, or that failed, never ends with status 0; one line says why, but no clause says which;
+//! - the entries of a log are played in order, each as its line says. An entry is refused only if its line says no event, or if something
+//!   else is sent for it;
+//! - a node that can't begin, or that failed, ends with the line and the status of its fault. If the writer fails, a part of the line is
+//!   written, and the status is 3;
 //! - take two runs of a node with one configuration that receive the same events, where no step fails the node: both have the same
 //!   exchanges, and their nodes show the same; so the effects of each event, and what is sent on each link, are the same;
+//! - a run that receives these events, and then more, goes on from where those runs ended;
 //! - if no two links have the same name, a line of a host asks for at most one thing.
 #![tactic(auto)]
 
@@ -30,9 +33,12 @@ mod settings;
 mod telling;
 
 pub use check::check_config;
-pub use entries::replay;
+pub use entries::{event_in, replay};
 pub use failing::{fail, refuse};
-pub use laws::{a_line_says_one_thing, the_same_events_give_the_same_episodes};
+pub use laws::{
+    a_line_says_one_thing, further_events_go_on, the_same_events_give_the_same_episodes,
+};
 pub use live::Live;
 pub use nolog::NoLog;
 pub use settings::{begun, header, settings_of};
+pub use telling::name_of;

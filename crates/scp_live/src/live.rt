@@ -12,17 +12,19 @@ ghost use Rattle.scp_live.specs.Live.{IsTold, AreTimersOf};
 
 use crate::acting;
 use scp_core::{Config, Event, KvDriver, Node, PEER_LIMIT};
+use scp_live_config::Named;
 use scp_timers::{Timer, timers};
 use scp_turn::Watch;
 use scp_types::{Fault, Hash};
 use std::alloc::Global;
 use std::marker::Model;
 
-/// A node, the names of its peers, and the timers that its host was last asked to run.
+/// A node, the names of its peers, all names that its configuration gives nodes, and the timers that its host was last asked to run.
 pub struct Live {
     pub(crate) alloc: Global,
     pub(crate) node: Node,
     pub(crate) names: Vec<String>,
+    pub(crate) nodes: Vec<Named>,
     pub(crate) timers: Vec<Timer>,
 }
 
@@ -33,6 +35,7 @@ impl Drop for Live {
             alloc: _,
             node: _,
             names: _,
+            nodes: _,
             timers: _,
         } = self;
     }
@@ -51,17 +54,23 @@ impl Model for Live {
 
     ghost coded = { Prim.hlevel (codes, machine_code driver.the_row.coded, coded_row coded_level) };
 
-    ghost view = { λ a. record { node = a.node; names = map string_bytes a.names.items; timers = a.timers.items } };
+    ghost view = { λ a. record { node = a.node; names = map string_bytes a.names.items; nodes = a.nodes.items; timers = a.timers.items } };
 }
 
 impl Live {
-    /// A node that has received no event, and the names of its peers, in their order. Refused by `BadConfig` when `Node::new` is,
-    /// otherwise by `NoMemory`.
-    pub fn new(alloc: Global, config: Config, names: Vec<String>) -> Result<Live, Fault>
+    /// A node that has received no event, the names of its peers, in their order, and the names of all nodes. Refused by `BadConfig` when
+    /// `Node::new` is, otherwise by `NoMemory`.
+    pub fn new(
+        alloc: Global,
+        config: Config,
+        names: Vec<String>,
+        nodes: Vec<Named>,
+    ) -> Result<Live, Fault>
         // What holds of a node and a list of exchanges holds here of the empty list.
         ensures theorem { IfOk result (λ live. LedgerTheorem [] live.node) }
         ensures config { IfOk result (λ live. live.node.config ≡ config) }
         ensures names { IfOk result (λ live. live.names ≡ map string_bytes names.items) }
+        ensures nodes { IfOk result (λ live. live.nodes ≡ nodes.items) }
         ensures timers { IfOk result (λ live. AreTimersOf live.node live.timers) }
         ensures runs { IfOk result (λ live. live.node.failed ≡ false) }
         ensures refused { result ≡ Err Fault.BadConfig ↔ ¬ (IsConfig config) }
@@ -73,6 +82,7 @@ impl Live {
             alloc,
             node,
             names,
+            nodes,
             timers,
         })
     }
@@ -94,8 +104,10 @@ impl Live {
         // The host was asked to run exactly the timers that should run.
         ensures timers { OnOk result (AreTimersOf self.new.node self.new.timers) }
         ensures names { self.new.names ≡ self.old.names }
+        ensures nodes { self.new.nodes ≡ self.old.nodes }
         // A call during which the node failed is never reported as played.
         ensures runs { OnOk result (self.new.node.failed ≡ false) }
+        ensures only { IfErr result (λ f. (f ≡ Fault.NoMemory) ⊎ (f ≡ Fault.Failed)) }
     {
         acting::act_with(
             self.alloc,
@@ -120,6 +132,13 @@ impl Live {
         ensures { map string_bytes result.now ≡ self.now.names }
     {
         self.names.as_slice()
+    }
+
+    /// All names that its configuration gives nodes, each with the id that it is for.
+    pub fn nodes(&self) -> &[Named]
+        ensures { result.now ≡ self.now.nodes }
+    {
+        self.nodes.as_slice()
     }
 
     /// The number of links.

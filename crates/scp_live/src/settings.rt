@@ -1,22 +1,28 @@
 //! The settings that a text gives, the node with these settings, and the first line of its log.
-ghost use Rattle.std.specs.Prelude.{◌≡◌, IfOk};
+ghost use Rattle.std.specs.Prelude.{◌≡◌, ◌⊎◌, IfOk, IfErr, IsOkUnless};
+ghost use Rattle.scp_core.specs.Config.{IsConfig};
 ghost use Rattle.scp_live_log.specs.Log.{IsLine};
 ghost use Rattle.scp_live.specs.Beginning.{Configures, config_in, header_of, IsNew};
+ghost use Rattle.scp_live.specs.Failing.{IsConfigFault};
 ghost use Rattle.scp_live.specs.Living.{IsLive};
 
 use crate::live::Live;
 use scp_core::{Capacities, Config, Peers};
-use scp_live_config::{ConfigFault, Settings, read_config};
+use scp_live_config::{ConfigFault, Named, Settings, read_config};
 use scp_types::{Fault, Hash};
 use std::alloc::{AllocError, Global};
 use std::str;
 
-/// The settings that a configuration's text gives.
+/// The settings that a configuration's text gives. Refused by its fault if it is no configuration, or by `NoMemory`.
 pub fn settings_of(alloc: Global, config: &[u8]) -> Result<Settings, ConfigFault>
-    ensures { IfOk result (Configures config.now) }
+    ensures read { IfOk result (Configures config.now) }
+    ensures refused { IfErr result (IsConfigFault config.now) }
 {
     match str::from_utf8(config) {
-        Ok(text) => read_config(alloc, text),
+        Ok(text) => match read_config(alloc, text) {
+            Ok(settings) => Ok(settings),
+            Err(fault) => Err(fault),
+        },
         Err(_) => Err(ConfigFault::Text {
             line: 1,
             words: String::from_str(alloc, "expected a text in UTF-8")?,
@@ -26,7 +32,8 @@ pub fn settings_of(alloc: Global, config: &[u8]) -> Result<Settings, ConfigFault
 
 /// The configuration of the node itself.
 fn config_of(alloc: Global, settings: &Settings) -> Result<Config, Fault>
-    ensures { IfOk result (λ config. config ≡ config_in settings.now) }
+    ensures is { IfOk result (λ config. config ≡ config_in settings.now) }
+    ensures only_memory { IsOkUnless result Fault.NoMemory }
 {
     let capacities = settings.capacities;
     Ok(Config {
@@ -42,13 +49,26 @@ fn config_of(alloc: Global, settings: &Settings) -> Result<Config, Fault>
     })
 }
 
-/// A node with these settings that has received no event.
+/// Copies of these names, each with its id.
+fn copied(alloc: Global, names: &[Named]) -> Result<Vec<Named>, AllocError>
+    ensures { IfOk result (λ copies. copies.items ≡ names.now) }
+{
+    let mut copies = Vec::with_capacity(alloc, names.len())?;
+    for name in names {
+        copies.push(name.copy(alloc)?)?;
+    }
+    Ok(copies)
+}
+
+/// A node with these settings that has received no event. Refused by `BadConfig` if no node can have them, otherwise by `NoMemory`.
 pub fn begun(alloc: Global, settings: &Settings) -> Result<Live, Fault>
     ensures new { IfOk result (IsNew settings.now) }
     ensures live { IfOk result (λ live. IsLive live.node) }
+    ensures only { IfErr result (λ f. (f ≡ Fault.NoMemory) ⊎ ((f ≡ Fault.BadConfig) × ¬ (IsConfig (config_in settings.now)))) }
 {
     let config = config_of(alloc, settings)?;
-    Live::new(alloc, config, settings.link_names(alloc)?)
+    let nodes = copied(alloc, settings.names.as_slice())?;
+    Live::new(alloc, config, settings.link_names(alloc)?, nodes)
 }
 
 /// The first line of the log of a configuration with this digest.

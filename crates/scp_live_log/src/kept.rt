@@ -1,5 +1,6 @@
 //! A log in use: how entries are kept, and what is read after a crash.
-ghost use Rattle.std.specs.Prelude.{◌≡◌, ◌⊎◌, ◌++◌, [], List, ℕ, drop, IfOk, IfErr, OnOk, OnErr, IsErrOf, Err, All, string_bytes};
+ghost use Rattle.std.specs.Prelude.{◌≡◌, ◌≢◌, ◌⊎◌, ◌++◌, [], List, ℕ, drop, IfOk, IfErr, OnOk, OnErr, IsErrOf, Err, All, string_bytes};
+ghost use Rattle.scp_types.specs.declared.fault.Fault.{Fault};
 ghost use Rattle.scp_types.specs.declared.fault.Fault.TheVariants.{NoMemory};
 ghost use Rattle.scp_live_log.specs.declared.kept.LogFault.TheVariants.{Failed};
 ghost use Rattle.scp_device.specs.Device.{Gains, GainsPart, Fails};
@@ -107,6 +108,8 @@ impl<L: EventLog> Kept<L> {
         ensures any_moment { (header : List ℕ) (ms : List Marked) → IsSettled L.holds L.may_leave header ms self.old → LeavesOnly L.moment L.left_since self.old.log self.new.log (StartsWith (log_of header ms)) }
         ensures failed { IsErrOf result Fault.Device → Fails (L.faults self.old.log) (L.faults self.new.log) }
         ensures quiet { OnOk result (L.faults self.new.log ≡ L.faults self.old.log) }
+        // A failure of the disk is always reported as `Fault::Device`.
+        ensures hidden { IfErr result (λ fault. fault ≢ Fault.Device → L.faults self.new.log ≡ L.faults self.old.log) }
         ensures only { IfErr result (λ fault. (fault ≡ Fault.Device) ⊎ (fault ≡ Fault.NoMemory)) }
     {
         if !entries.is_empty() {
@@ -122,6 +125,7 @@ impl<L: EventLog> Kept<L> {
         ensures any_moment { (header : List ℕ) (ms : List Marked) → IsSettled L.holds L.may_leave header ms self.old → LeavesOnly L.moment L.left_since self.old.log self.new.log (StartsWith (log_of header ms)) }
         ensures failed { IsErrOf result Fault.Device → Fails (L.faults self.old.log) (L.faults self.new.log) }
         ensures quiet { OnOk result (L.faults self.new.log ≡ L.faults self.old.log) }
+        ensures hidden { IfErr result (λ fault. fault ≢ Fault.Device → L.faults self.new.log ≡ L.faults self.old.log) }
         ensures only { IfErr result (λ fault. (fault ≡ Fault.Device) ⊎ (fault ≡ Fault.NoMemory)) }
     {
         let (bytes, last) = batch_bytes(alloc, self.last, entries)?;
@@ -134,6 +138,8 @@ impl<L: EventLog> Kept<L> {
     fn begin(&mut self, header: &[u8]) -> Result<(), Fault>
         ensures begun { OnOk result ((c : List ℕ) → L.holds self.old.log c → IsSettled L.holds L.may_leave header.now [] self.new) }
         ensures failed { IsErrOf result Fault.Device → Fails (L.faults self.old.log) (L.faults self.new.log) }
+        ensures quiet { OnOk result (L.faults self.new.log ≡ L.faults self.old.log) }
+        ensures hidden { IfErr result (λ fault. fault ≢ Fault.Device → L.faults self.new.log ≡ L.faults self.old.log) }
         ensures only { IfErr result (λ fault. (fault ≡ Fault.Device) ⊎ (fault ≡ Fault.NoMemory)) }
     {
         cut_to(&mut self.log, 0)?;
@@ -160,6 +166,10 @@ impl<L: EventLog> Kept<L> {
         ensures untouched { (c : List ℕ) → L.holds self.old.log c → IsAnother header.now c → IsUntouched L.holds L.may_leave L.moment L.left_since c self.old.log self.new.log }
         ensures damaged { (n : ℕ) → result ≡ Err (LogFault.Damaged n) → (c : List ℕ) → L.holds self.old.log c → IsDamaged header.now n c }
         ensures failed { result ≡ Err (LogFault.Failed Fault.Device) → Fails (L.faults self.old.log) (L.faults self.new.log) }
+        ensures quiet { OnOk result (L.faults self.new.log ≡ L.faults self.old.log) }
+        // A failure of the disk is always reported as `Fault::Device`.
+        ensures hidden { result ≡ Err (LogFault.Failed Fault.NoMemory) → L.faults self.new.log ≡ L.faults self.old.log }
+        ensures only { (fault : Fault) → result ≡ Err (LogFault.Failed fault) → (fault ≡ Fault.Device) ⊎ (fault ≡ Fault.NoMemory) }
     {
         let bytes = self.log.read(alloc)?;
         // (the first line, torn)
@@ -180,7 +190,7 @@ fn front_of(alloc: Global, header: &[u8], bytes: &[u8]) -> Result<Front, LogFaul
     ensures torn { IfOk result (λ front. ¬ (HasBatch (drop front.size bytes.now))) }
     ensures another { result ≡ Err LogFault.Another → ¬ (StartsWith header.now bytes.now) }
     ensures damaged { (n : ℕ) → result ≡ Err (LogFault.Damaged n) → IsDamaged header.now n bytes.now }
-    ensures memory { result ≡ Err (LogFault.Failed Fault.Device) → ⊥ }
+    ensures only_memory { (fault : Fault) → result ≡ Err (LogFault.Failed fault) → fault ≡ Fault.NoMemory }
 {
     if !begins_with(bytes, header) {
         return Err(LogFault::Another);

@@ -7,9 +7,11 @@ use Rattle.scp_live_log.specs.declared.kept.Kept.{Kept}
 use Rattle.scp_live_log.specs.Kept.{IsAllAndMore}
 use Rattle.scp_live_log.specs.Log.{EntryView, Marked, AreEntries, entries_of, log_of}
 use Rattle.scp_live_config.specs.declared.settings.Settings.{Settings}
-use Rattle.scp_kept.specs.declared.happening.Kept.{Kept as Happened}
-use Rattle.scp_kept.specs.Kept.{Keeps}
-use Rattle.scp_kept.specs.Watching.{WatchView, KeptIsWhatHappened, noting}
+use Rattle.scp_account.specs.scp_facts.specs.declared.happening.Kept.{Kept as Happened}
+use Rattle.scp_account.specs.scp_facts.specs.Kept.{Keeps}
+use Rattle.scp_account.specs.scp_facts.specs.Keeping.{WatchView, KeptIsWhatHappened, noting}
+use Rattle.scp_account.specs.scp_report.specs.Node.{reports_of}
+use Rattle.scp_account.specs.declared.node.Mode.TheVariants as ways
 use Rattle.scp_account.specs.Account.{account_text}
 use Rattle.scp_live.specs.Live.{LiveView}
 use Rattle.scp_live_process.specs.Accounts.{AccountsFor, IsAccountOf}
@@ -19,7 +21,7 @@ use Rattle.scp_live.proofs.Going.{Heard, heard_as}
 
 -- it was played, and this was kept of it
 pub accounted : {L : Type 0} (holds : L → List ℕ → Type 0) (header : List ℕ) (log : Kept L) (u v : LiveView) (entries : List EntryView) (first last : WatchView) (kept : List Happened) (text : List ℕ) → KeptIsWhatHappened → first.kept ≡ [] → last.lacks_memory ≡ false → kept ≡ last.kept
-    → ((ms : List Marked) (rest : List ℕ) → AreEntries ms → holds log.log (log_of header ms ++ rest) → IsAllAndMore (entries_of ms) rest entries) → text ≡ account_text (v.node ∷ []) kept
+    → ((ms : List Marked) (rest : List ℕ) → AreEntries ms → holds log.log (log_of header ms ++ rest) → IsAllAndMore (entries_of ms) rest entries) → text ≡ account_text ways.Serial (reports_of (v.node ∷ [])) kept
     → Heard u.node v.node (λ heard. AreReplayed entries u heard v × Watched noting 1 first u.node heard v.node last) → Heard u.node v.node (λ heard. IsAccountOf holds header log u heard v text)
 accounted {L} holds header log u v entries first last kept text law none calm is all told g =
     heard_as u.node v.node (λ heard. AreReplayed entries u heard v × Watched noting 1 first u.node heard v.node last) (λ heard. IsAccountOf holds header log u heard v text)

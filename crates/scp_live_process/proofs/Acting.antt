@@ -37,25 +37,25 @@ memory_not_full : (f : Fault) → IsOkUnless {T = Unit {0}} (Err f) NoMemory →
 memory_not_full f only err = cc
 
 -- an event
-played_more : (event : Happening) (line : List ℕ) (u v : LiveView) (x : List Exchange) (before mid after' : BatchView) (entry : EntryView) (text longer digest : List ℕ) → after' ≡ record mid { entries = mid.entries ++ entry ∷ [] } → mid.entries ≡ before.entries → before.text ≡ text → mid.text ≡ longer → entry ≡ record { line = line; sent = digest } → v.names ≡ u.names → IsTold event u.names u.timers v.timers u.node x v.node text longer digest → Adds (IsPlayed event line) u x v before after'
-played_more event line u v x before mid after' entry text longer digest kept entries old new is names t =
+played_more : (event : Happening) (line : List ℕ) (u v : LiveView) (x : List Exchange) (before mid after' : BatchView) (entry : EntryView) (text longer digest : List ℕ) → after' ≡ record mid { entries = mid.entries ++ entry ∷ [] } → mid.entries ≡ before.entries → before.text ≡ text → mid.text ≡ longer → entry ≡ record { line = line; sent = digest } → v.names ≡ u.names → v.nodes ≡ u.nodes → IsTold event u.names u.timers v.timers u.node x v.node text longer digest → Adds (IsPlayed event line) u x v before after'
+played_more event line u v x before mid after' entry text longer digest kept entries old new is names nodes t =
     let a = told_apart event u.names u.timers v.timers u.node v.node x text longer digest t in
     record {
       kept = entry ∷ [];
       told = a.0;
-      is = record { digest = digest; tells = a.1; names = names; entry = ap (λ (e : EntryView). e ∷ []) is };
+      is = record { digest = digest; tells = a.1; names = names; nodes = nodes; entry = ap (λ (e : EntryView). e ∷ []) is };
       text = ap (λ (b : BatchView). b.text) kept ∙ new ∙ a.2 ∙ ap (λ (l : List ℕ). l ++ a.0) (sym old);
       entries = ap (λ (b : BatchView). b.entries) kept ∙ ap (λ (l : List EntryView). l ++ entry ∷ []) entries;
     }
 
-pub plays : {W : Type 0} (Note : Noting W) (w z : W) (r : Result (Unit {0}) Fault) (event : Happening) (line : List ℕ) (u v : LiveView) (before mid after' : BatchView) (entry : EntryView) (text longer digest : List ℕ) (X : List Exchange → Type 0) → IsOkUnless r NoMemory → OnOk r (after' ≡ record mid { entries = mid.entries ++ entry ∷ [] }) → mid.entries ≡ before.entries → before.text ≡ text → mid.text ≡ longer → entry ≡ record { line = line; sent = digest } → v.names ≡ u.names
+pub plays : {W : Type 0} (Note : Noting W) (w z : W) (r : Result (Unit {0}) Fault) (event : Happening) (line : List ℕ) (u v : LiveView) (before mid after' : BatchView) (entry : EntryView) (text longer digest : List ℕ) (X : List Exchange → Type 0) → IsOkUnless r NoMemory → OnOk r (after' ≡ record mid { entries = mid.entries ++ entry ∷ [] }) → mid.entries ≡ before.entries → before.text ≡ text → mid.text ≡ longer → entry ≡ record { line = line; sent = digest } → v.names ≡ u.names → v.nodes ≡ u.nodes
     → Seen Note w z u.node v.node (λ heard. IsTold event u.names u.timers v.timers u.node heard v.node text longer digest × X heard) → Seen Note w z u.node v.node (λ heard. Told r heard (Adds (IsPlayed event line) u heard v before after'))
-plays {W} Note w z r event line u v before mid after' entry text longer digest X only kept entries old new is names g =
+plays {W} Note w z r event line u v before mid after' entry text longer digest X only kept entries old new is names nodes g =
     seen_as Note w z u.node v.node (λ heard. IsTold event u.names u.timers v.timers u.node heard v.node text longer digest × X heard) (λ heard. Told r heard (Adds (IsPlayed event line) u heard v before after'))
     (λ heard p. by r heard only kept p.0) g
   where
     by : (r : Result (Unit {0}) Fault) (heard : List Exchange) → IsOkUnless r NoMemory → OnOk r (after' ≡ record mid { entries = mid.entries ++ entry ∷ [] }) → IsTold event u.names u.timers v.timers u.node heard v.node text longer digest → Told r heard (Adds (IsPlayed event line) u heard v before after')
-    by (Ok tt) heard only kept t = (played_more event line u v heard before mid after' entry text longer digest kept entries old new is names t, λ e. absurd cc)
+    by (Ok tt) heard only kept t = (played_more event line u v heard before mid after' entry text longer digest kept entries old new is names nodes t, λ e. absurd cc)
     by (Err f) heard only kept t = (tt, λ e. absurd (memory_not_full f only e))
 
 -- where it isn't refused the node runs still
@@ -144,14 +144,14 @@ reply_as asked other v before after' is t = subst (λ (a : Asked). TellsMore (Re
 pub reply_if : (r : Result (Unit {0}) Fault) (asked other : Asked) (v : LiveView) (before after' : BatchView) → asked ≡ other → OnOk r (TellsMore (Replies other v) before after') → OnOk r (TellsMore (Replies asked v) before after')
 reply_if r asked other v before after' is t = subst (λ (a : Asked). OnOk r (TellsMore (Replies a v) before after')) (sym is) t
 
-pub stands : (r : Result (Unit {0}) Fault) (v : LiveView) (n : NodeView) (text longer : List ℕ) (before after' : BatchView) → n ≡ v.node → OnOk r (AddsText text longer (TellsStand n)) → before.text ≡ text → after'.text ≡ longer → after'.entries ≡ before.entries → OnOk r (TellsMore (Replies Stand v) before after')
-stands (Ok tt) v n text longer before after' at t old new entries = record {
+pub stands : (r : Result (Unit {0}) Fault) (v : LiveView) (text longer : List ℕ) (before after' : BatchView) → OnOk r (AddsText text longer (TellsStand v)) → before.text ≡ text → after'.text ≡ longer → after'.entries ≡ before.entries → OnOk r (TellsMore (Replies Stand v) before after')
+stands (Ok tt) v text longer before after' t old new entries = record {
   told = t.0;
-  is = subst (λ (m : NodeView). TellsStand m t.0) at t.2;
+  is = t.2;
   text = new ∙ t.1 ∙ ap (λ (l : List ℕ). l ++ t.0) (sym old);
   entries = entries;
 }
-stands (Err f) v n text longer before after' at t old new entries = tt
+stands (Err f) v text longer before after' t old new entries = tt
 
 -- a refusal is the same of any result
 pub err_as : {T U : Type 0} (f e : Fault) → IsErrOf {T = T} (Err f) e → IsErrOf {T = U} (Err f) e

@@ -34,6 +34,14 @@ seen_then {W} Note w v z a b c P Q R both f s =
 pub then_unseen : {W : Type 0} (Note : Noting W) (w v z : W) (a b c : NodeView) (P Q : List Exchange → Type 0) → Seen Note w v a b P → Seen Note v z b c Q → Seen Note w z a c (λ heard. Unit {0})
 then_unseen {W} Note w v z a b c P Q f g = seen_then Note w v z a b c P Q (λ heard. Unit {0}) (λ x y p q. tt) f g
 
+-- what holds of what was heard, whatever a watch was told
+pub unwatched_as : {W : Type 0} (Note : Noting W) (w z : W) (a b : NodeView) (P Q : List Exchange → Type 0) → ((heard : List Exchange) → P heard → Q heard) → Seen Note w z a b P → Heard a b Q
+unwatched_as {W} Note w z a b P Q f g = heard_as a b (λ heard. Watched Note 1 w a heard b z × P heard) Q (λ heard p. f heard p.1) g
+
+pub unwatched_then : {W : Type 0} (Note : Noting W) (w v z : W) (a b c : NodeView) (P Q R : List Exchange → Type 0) → ((x y : List Exchange) → P x → Q y → R (x ++ y)) → Seen Note w v a b P → Seen Note v z b c Q → Heard a c R
+unwatched_then {W} Note w v z a b c P Q R both f s =
+    heard_then a b c (λ heard. Watched Note 1 w a heard b v × P heard) (λ heard. Watched Note 1 v b heard c z × Q heard) R (λ x y p q. both x y p.1 q.1) f s
+
 -- the same, told first
 pub seen_from : {W : Type 0} (Note : Noting W) (w z : W) (a b : NodeView) (P Q : List Exchange → Type 0) → ((heard : List Exchange) → P heard → Q heard) → Heard a b (λ heard. P heard × Watched Note 1 w a heard b z) → Seen Note w z a b Q
 seen_from {W} Note w z a b P Q f g = heard_as a b (λ heard. P heard × Watched Note 1 w a heard b z) (λ heard. Watched Note 1 w a heard b z × Q heard) (λ heard p. (p.1, f heard p.0)) g

@@ -5,9 +5,11 @@ pub mod Replaying
 pub mod Configs
 pub mod Served
 pub mod Started
+pub mod Refusing
 pub mod Acting
 pub mod Standing
 pub mod Begun
+pub mod Ended
 pub mod Same
 pub mod Traced
 pub mod Accounted

@@ -12,6 +12,7 @@ use Rattle.scp_turn.specs.Watch.{notes}
 use Rattle.scp_episode.specs.Episode.{finds_full, is_full_reply}
 use Rattle.scp_live_process.specs.declared.fullness.JournalWatch.{JournalWatch}
 use Rattle.scp_live_process.specs.Noticing.{before_in, after_in}
+use Rattle.scp_live.proofs.Going.{Heard}
 use Rattle.scp_live_process.proofs.Going.{Seen}
 
 or_assoc : (a b c : Bool) → ((a || b) || c) ≡ (a || (b || c))
@@ -55,3 +56,21 @@ told_else {V} {T} Before After r w z a b P Q other on g =
       does = g.does;
       theorem = g.theorem;
     }
+
+-- the same of what was played again
+pub replayed_full : {V : Type 0} (Before : V → ℕ → Event → NodeView → V → Type 0) (After : V → ℕ → Reply → NodeView → V → Type 0) (w z : JournalWatch V) (a b : NodeView) (P : List Exchange → Type 0) → w.is_full ≡ false → z.is_full ≡ true
+    → Heard a b (λ heard. P heard × Watched (notes (before_in Before) (after_in After)) 1 w a heard b z) → Seen (notes Before After) w.watch z.watch a b (λ heard. Unit {0} × (finds_full heard ≡ true))
+replayed_full {V} Before After w z a b P calm full g =
+    let n = noticed Before After w z a b g.heard g.is.1 in
+    record {
+      heard = g.heard;
+      is = (n.0, (tt, sym (ap (λ (x : Bool). x || finds_full g.heard) calm) ∙ sym n.1 ∙ full));
+      does = g.does;
+      theorem = g.theorem;
+    }
+
+pub replayed_else : {V : Type 0} (Before : V → ℕ → Event → NodeView → V → Type 0) (After : V → ℕ → Reply → NodeView → V → Type 0) (w z : JournalWatch V) (a b : NodeView) (P Q : List Exchange → Type 0) → ((heard : List Exchange) → P heard → Q heard)
+    → Heard a b (λ heard. P heard × Watched (notes (before_in Before) (after_in After)) 1 w a heard b z) → Seen (notes Before After) w.watch z.watch a b Q
+replayed_else {V} Before After w z a b P Q on g =
+    let n = noticed Before After w z a b g.heard g.is.1 in
+    record { heard = g.heard; is = (n.0, on g.heard g.is.0); does = g.does; theorem = g.theorem }

@@ -21,7 +21,7 @@ pub played : (event : Happening) (line : List ℕ) (old new : LiveView) (heard :
 played event line old new heard kept told says p =
     let entry : EntryView = record { line = line; sent = p.digest } in
     subst (λ (k : List EntryView). AreReplayed k old heard new) (sym p.entry)
-    (replayed_one entry old new heard (record { event = event; says = says; told = told; tells = p.tells; names = p.names }))
+    (replayed_one entry old new heard (record { event = event; says = says; told = told; tells = p.tells; names = p.names; nodes = p.nodes }))
 
 done : (asked : Asked) (line : List ℕ) (old new : LiveView) (heard : List Exchange) (kept : List EntryView) (told : List ℕ) → Says old.names line asked → IsDone asked line old heard new kept told → AreReplayed kept old heard new
 done (Event event) line old new heard kept told says p = played event line old new heard kept told says p

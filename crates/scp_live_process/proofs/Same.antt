@@ -1,5 +1,5 @@
 -- What a log says makes one node.
-use Rattle.std.proofs.Common.{◌≡◌, ℕ, zero, suc, List, [], ◌∷◌, Option, None, Some, refl, sym, ◌∙◌, ap, subst, arith, inl, inr, ⊎_elim}
+use Rattle.std.proofs.Common.{◌≡◌, ℕ, zero, suc, List, [], ◌∷◌, ◌++◌, Option, None, Some, refl, sym, ◌∙◌, ap, subst, arith, inl, inr, ⊎_elim}
 use Rattle.std.specs.Prelude.{◌<◌, ◌⊎◌, map, option_map, slice_get}
 use Rattle.std.proofs.lemmas.Option.{slice_get-map}
 use Rattle.scp_turn.specs.scp_core.specs.declared.event.Event.{Event as Happening}
@@ -9,11 +9,12 @@ use Rattle.scp_live_log.specs.Log.{EntryView}
 use Rattle.scp_live_lines.specs.declared.asked.Asked.TheVariants.{Event}
 use Rattle.scp_live_lines.specs.Says.{Says}
 use Rattle.scp_live_config.specs.Names.{Identity, NoTwo}
-use Rattle.scp_live.specs.Episodes.{AreEpisodes, SameEventsSameEpisodes}
+use Rattle.scp_turn.specs.scp_core.specs.Kv.{TheoremGivesLedger}
+use Rattle.scp_live.specs.Episodes.{AreEpisodes, SameEventsSameEpisodes, FurtherEventsGoOn}
 use Rattle.scp_live.specs.Lines.{AreNamedApart, LinesSayOneThing}
 use Rattle.scp_live.specs.Live.{LiveView}
 use Rattle.scp_live.specs.Replays.{AreReplayed}
-use Rattle.scp_live_process.specs.Laws.{LogsMakeOneNode}
+use Rattle.scp_live_process.specs.Laws.{LogsMakeOneNode, LogsGoOn}
 
 -- ---- names
 
@@ -90,3 +91,32 @@ one_node same law config settings a b v w x y entries is new other p q run runs 
     (subst (λ (n : List (List ℕ)). AreSaid n entries one.events) new.names one.said) (subst (λ (n : List (List ℕ)). AreSaid n entries two.events) other.names two.said) in
     same one.events a.node b.node v.node w.node x y new.theorem other.theorem (new.config ∙ sym other.config) one.are
     (subst (λ (es : List Happening). AreEpisodes es b.node y w.node) (sym events) two.are) run runs
+
+-- ---- a log that has grown
+
+-- of the events that entries say, the first ones are said by the first entries
+record SaidApart (names : List (List ℕ)) (entries : List EntryView) (events : List Happening) : Type 0 where
+  front : List Happening
+  back : List Happening
+  is : events ≡ front ++ back
+  said : AreSaid names entries front
+
+said_apart : (names : List (List ℕ)) (entries more : List EntryView) (events : List Happening) → AreSaid names (entries ++ more) events → SaidApart names entries events
+said_apart names [] more events p = record { front = []; back = events; is = refl; said = tt }
+said_apart names (entry ∷ entries) more [] p = absurd p
+said_apart names (entry ∷ entries) more (event ∷ events) p =
+    let r = said_apart names entries more events p.1 in
+    record { front = event ∷ r.front; back = r.back; is = ap (λ (l : List Happening). event ∷ l) r.is; said = (p.0, r.said) }
+
+pub goes_on : FurtherEventsGoOn → LinesSayOneThing → TheoremGivesLedger → LogsGoOn
+goes_on further law ledger config settings a b v w x y entries more is new other p q run runs =
+    let one = episodes entries a v x p in
+    let two = episodes (entries ++ more) b w y q in
+    let names = map (λ (peer : Identity). peer.name) settings.peers.items in
+    let apart : AreNamedApart names = named_apart settings.peers.items is.says.peers.once in
+    let split = said_apart names entries more two.events (subst (λ (n : List (List ℕ)). AreSaid n (entries ++ more) two.events) other.names two.said) in
+    let same : split.front ≡ one.events = said_once law names apart entries split.front one.events split.said (subst (λ (n : List (List ℕ)). AreSaid n entries one.events) new.names one.said) in
+    let events : two.events ≡ one.events ++ split.back = split.is ∙ ap (λ (l : List Happening). l ++ split.back) same in
+    let g = further one.events split.back a.node b.node v.node w.node x y new.theorem other.theorem (new.config ∙ sym other.config) one.are
+    (subst (λ (es : List Happening). AreEpisodes es b.node y w.node) events two.are) run runs in
+    (g.more, g.is, ledger y w.node g.theorem)

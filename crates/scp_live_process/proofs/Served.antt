@@ -1,9 +1,9 @@
 -- What was served of an input, batch by batch.
-use Rattle.std.proofs.Common.{◌≡◌, ℕ, List, [], ◌∷◌, ◌++◌, Option, None, Some, refl, sym, ◌∙◌, ap, subst, append_assoc, append-nil, inl, inr}
-use Rattle.std.specs.Prelude.{◌≤◌, ◌⊎◌, Result, IsErrOf}
+use Rattle.std.proofs.Common.{◌≡◌, ℕ, List, [], ◌∷◌, ◌++◌, Option, None, Some, refl, sym, ◌∙◌, ap, subst, append_assoc, append-nil, arith, inl, inr}
+use Rattle.std.specs.Prelude.{◌≤◌, ◌<◌, ◌≢◌, ◌⊎◌, length, Result, Err, IsErrOf}
 use Rattle.std.proofs.lemmas.Grind.{flat_map-append}
 use Rattle.scp_types.specs.declared.fault.Fault.{Fault}
-use Rattle.scp_types.specs.declared.fault.Fault.TheVariants.{Device}
+use Rattle.scp_types.specs.declared.fault.Fault.TheVariants.{NoMemory, TooLong, Device}
 use Rattle.scp_device.specs.Device.{Loses, HasEnded, Gains, GainsPart}
 use Rattle.scp_turn.specs.scp_core.specs.History.{Exchange}
 use Rattle.scp_live_log.specs.declared.kept.Kept.{Kept}
@@ -156,9 +156,25 @@ served_all holds may_leave left now written longer log log' held number u v x s 
 
 -- ---- what wasn't served to its end
 
+-- where something was read, something was left
+was_left : (left rest : Option (List ℕ)) (bytes : List ℕ) → 0 < length bytes → Loses left bytes rest → left ≡ Some [] → ⊥
+was_left None rest bytes some read is = absurd (let e : None ≡ Some [] = is in cc)
+was_left (Some all) rest [] some read is = absurd (let h : 0 < 0 = some in omega arith)
+was_left (Some all) rest (byte ∷ bytes) some read is =
+    let same : all ≡ [] = cc in
+    let none : byte ∷ (bytes ++ read.0) ≡ [] = sym read.1 ∙ same in
+    cc
+
+more_left : (now rest : Option (List ℕ)) (held held' : List ℕ) (more : List (List ℕ)) → IsRead now held more held' rest → now ≢ Some []
+more_left now rest held held' more r = was_left now rest r.bytes r.some r.read
+
+-- too many reads aren't reported as out of memory
+pub too_many : (left : Option (List ℕ)) → IsErrOf {T = Unit {0}} (Err TooLong) NoMemory → left ≢ Some []
+too_many left e = absurd cc
+
 -- nothing more was kept or written
-pub part_before : {L : Type 0} (holds may_leave : L → List ℕ → Type 0) (result : Result (Unit {0}) Fault) (left now written longer : Option (List ℕ)) (log log' log2 : Kept L) (held : List ℕ) (number : ℕ) (u v : LiveView) (x y : List Exchange) → Serving holds may_leave left now written longer log log' held number u x v → StaysDurable holds may_leave log' log2 → HasServedPart may_leave holds result left written longer log log2 u (x ++ y)
-part_before holds may_leave result left now written longer log log' log2 held number u v x y s still = record {
+pub part_before : {L : Type 0} (holds may_leave : L → List ℕ → Type 0) (result : Result (Unit {0}) Fault) (left now written longer : Option (List ℕ)) (log log' log2 : Kept L) (held : List ℕ) (number : ℕ) (u v : LiveView) (x y : List Exchange) → Serving holds may_leave left now written longer log log' held number u x v → StaysDurable holds may_leave log' log2 → (IsErrOf result NoMemory → now ≢ Some []) → HasServedPart may_leave holds result left written longer log log2 u (x ++ y)
+part_before holds may_leave result left now written longer log log' log2 held number u v x y s still more = record {
   batches = s.batches;
   text = s.text;
   rest = now;
@@ -169,14 +185,18 @@ part_before holds may_leave result left now written longer log log' log2 held nu
   answer = answer_of holds may_leave left now written longer log log' held number u v x s;
   wrote = all_part written longer s.text s.wrote;
   whole = λ other. s.wrote;
+  more = more;
   durable = λ header ms is. still header (ms ++ marked_in s.batches) (s.settled header ms is);
 }
 
 -- no batch more was read
-pub part_here : {L : Type 0} (holds may_leave : L → List ℕ → Type 0) (result : Result (Unit {0}) Fault) (left now written longer : Option (List ℕ)) (log log' : Kept L) (held : List ℕ) (number : ℕ) (u v : LiveView) (x : List Exchange) → Serving holds may_leave left now written longer log log' held number u x v → HasServedPart may_leave holds result left written longer log log' u x
-part_here holds may_leave result left now written longer log log' held number u v x s =
+pub part_here : {L : Type 0} (holds may_leave : L → List ℕ → Type 0) (result : Result (Unit {0}) Fault) (left now written longer : Option (List ℕ)) (log log' : Kept L) (held : List ℕ) (number : ℕ) (u v : LiveView) (x : List Exchange) → Serving holds may_leave left now written longer log log' held number u x v → (IsErrOf result NoMemory → now ≢ Some []) → HasServedPart may_leave holds result left written longer log log' u x
+part_here holds may_leave result left now written longer log log' held number u v x s more =
     subst (λ (h : List Exchange). HasServedPart may_leave holds result left written longer log log' u h) (append-nil x)
-    (part_before holds may_leave result left now written longer log log' log' held number u v x [] s (stays holds may_leave log'))
+    (part_before holds may_leave result left now written longer log log' log' held number u v x [] s (stays holds may_leave log') more)
+
+device_not_memory : (result : Result (Unit {0}) Fault) → IsErrOf result Device → IsErrOf result NoMemory → ⊥
+device_not_memory result device memory = cc
 
 -- a batch more was kept, and a part of what it was answered is written
 pub part_behind : {L : Type 0} (holds may_leave : L → List ℕ → Type 0) (result : Result (Unit {0}) Fault) (left now rest written longer longest : Option (List ℕ)) (log log' log2 : Kept L) (held held' : List ℕ) (number : ℕ) (more : List (List ℕ)) (u v w : LiveView) (x y : List Exchange) → Serving holds may_leave left now written longer log log' held number u x v → IsRead now held more held' rest → IsErrOf result Device → IsBatch holds may_leave (λ text. GainsPart longer text longest) number more log' log2 v y w → HasServedPart may_leave holds result left written longest log log2 u (x ++ y)
@@ -191,6 +211,7 @@ part_behind holds may_leave result left now rest written longer longest log log'
   answer = more_answered holds may_leave left now rest written longer log log' log2 (λ text. GainsPart longer text longest) held held' number more u v w x y s r b;
   wrote = part_on written longer longest s.text b.text s.wrote b.wrote;
   whole = λ other. absurd (other is);
+  more = λ memory. absurd (device_not_memory result is memory);
   durable = λ header ms q. settled_stays holds may_leave header (ms ++ marked_in (s.batches ++ b.entries ∷ [])) log2 (more_settled holds may_leave log log' log2 s.batches b.entries s.settled b.settled header ms q);
 }
 
@@ -199,7 +220,7 @@ pub part_of : {L : Type 0} (holds may_leave : L → List ℕ → Type 0) (result
     → HasServedPart may_leave holds result left written longest log log2 u (x ++ y)
 part_of holds may_leave result left now rest written longer longest log log' log2 held held' number more u v w x y s r (inl same) =
     subst (λ (l : Option (List ℕ)). HasServedPart may_leave holds result left written l log log2 u (x ++ y)) (sym same.0)
-    (part_before holds may_leave result left now written longer log log' log2 held number u v x y s same.1)
+    (part_before holds may_leave result left now written longer log log' log2 held number u v x y s same.1 (λ memory. more_left now rest held held' more r))
 part_of holds may_leave result left now rest written longer longest log log' log2 held held' number more u v w x y s r (inr part) =
     part_behind holds may_leave result left now rest written longer longest log log' log2 held held' number more u v w x y s r part.0 part.1
 

@@ -1,20 +1,14 @@
--- Whether ids are the same.
-use Rattle.std.proofs.Common.{◌≡◌, ℕ, Bool, true, false, List, refl, ap}
-use Rattle.std.specs.Prelude.{nat_eq}
-use Rattle.std.specs.Bool.{Decides, OnTrue, OnFalse}
-use Rattle.std.specs.Cmp.Lexicographic.{pointwise, bytes_decides}
-use Rattle.scp_types.specs.declared.names.NodeId.{NodeId}
+-- Where a node stands, with the names of its configuration.
+use Rattle.std.proofs.Common.{◌≡◌, ℕ, List, None, subst}
+use Rattle.std.specs.Prelude.{Result, Ok, Err, OnOk}
+use Rattle.scp_types.specs.declared.fault.Fault.{Fault}
+use Rattle.scp_turn.specs.scp_core.specs.Kv.{NodeView}
+use Rattle.scp_live.specs.Live.{LiveView}
+use Rattle.scp_stand_slot.specs.declared.names.Names.{Names}
+use Rattle.scp_stand_node.specs.Stand.{IsStand}
+use Rattle.scp_live_process.specs.Stands.{AreNamesIn, TellsStand}
+use Rattle.scp_live_process.specs.inside.Adding.{AddsText}
 
-pub ids_decide : (a b : NodeId) → Decides (pointwise nat_eq a.0 b.0) (a ≡ b)
-ids_decide a b = (
-  λ e. ap (λ (l : List ℕ). record { 0 = l }) ((bytes_decides a.0 b.0).0 e),
-  λ is. (bytes_decides a.0 b.0).1 (ap (λ (n : NodeId). n.0) is),
-)
-
-pub on_yes : (r : Bool) (P : Type 0) → Decides r P → OnTrue r P
-on_yes true P d = d.0 refl
-on_yes false P d = tt
-
-pub on_no : (r : Bool) (P : Type 0) → Decides r P → OnFalse r (P → ⊥)
-on_no true P d = tt
-on_no false P d = λ p. let e : false ≡ true = d.1 p in absurd cc
+pub stand_named : (r : Result (Unit {0}) Fault) (v : LiveView) (names : Names) (n : NodeView) (old new : List ℕ) → n ≡ v.node → AreNamesIn v.nodes names → OnOk r (AddsText old new (IsStand names None n)) → OnOk r (AddsText old new (TellsStand v))
+stand_named (Ok tt) v names n old new at named a = (a.0, a.1, record { names = names; named = named; is = subst (λ (m : NodeView). IsStand names None m a.0) at a.2 })
+stand_named (Err f) v names n old new at named a = tt

@@ -1,40 +1,98 @@
 -- A node that starts with a log, and then serves its host.
-use Rattle.std.proofs.Common.{◌≡◌, ℕ, Bool, true, false, List, [], ◌∷◌, ◌++◌, Option, refl, sym, ◌∙◌, ap, subst, append_assoc, append-nil, arith, ◌+◌, length-append}
-use Rattle.std.specs.Prelude.{◌<◌, length}
+use Rattle.std.proofs.Common.{◌≡◌, ℕ, Bool, true, false, List, [], ◌∷◌, ◌++◌, Option, None, Some, refl, sym, ◌∙◌, ap, subst, append_assoc, append-nil, arith, ◌+◌, length-append, ⊎_elim}
+use Rattle.std.specs.Prelude.{◌<◌, ◌⊎◌, ◌-◌, ◌&&◌, length, map, nat_lt, slice_get, if◌then◌else◌, Err, IsErrOf}
+use Rattle.std.proofs.lemmas.List.{map-append}
+use Rattle.std.proofs.lemmas.Bool.Decides.{nat_tests}
+use Rattle.scp_types.specs.declared.fault.Fault.{Fault}
+use Rattle.scp_types.specs.declared.fault.Fault.TheVariants.{NoMemory, JournalFull, BadConfig}
 use Rattle.scp_turn.specs.scp_core.specs.declared.event.Event.{Event as Happening}
 use Rattle.scp_turn.specs.scp_core.specs.History.{Exchange}
-use Rattle.scp_turn.specs.scp_core.specs.Node.{accepts_at}
+use Rattle.scp_turn.specs.scp_core.specs.Node.{LinkView, accepts_at, accepts_of, room_at, room_of}
+use Rattle.scp_turn.specs.scp_core.specs.Kv.{NodeView}
 use Rattle.scp_turn.specs.Turn.{links_of}
 use Rattle.scp_live_log.specs.declared.kept.Kept.{Kept}
-use Rattle.scp_live_log.specs.Kept.{IsSettled, IsRecovered, IsAllAndMore}
-use Rattle.scp_live_log.specs.Log.{EntryView, Marked, AreEntries, marked_from, batch_of, entries_of, log_of}
+use Rattle.scp_live_log.specs.Kept.{IsSettled, IsRecovered}
+use Rattle.scp_live_log.specs.Log.{EntryView, Marked, marked_from, batch_of, entries_of}
 use Rattle.scp_live_lines.specs.declared.asked.Asked.TheVariants.{Event}
 use Rattle.scp_live_lines.specs.Says.{Says}
 use Rattle.scp_device.specs.Device.{Gains}
 use Rattle.scp_live.specs.Live.{LiveView}
 use Rattle.scp_live_process.specs.Answers.{IsPlayed}
 use Rattle.scp_live.specs.Replays.{AreReplayed}
+use Rattle.scp_live_process.specs.Closing.{is_open_in, is_open_at, open_links, close_line, AreClosed}
 use Rattle.scp_live_process.specs.Serving.{HasServed}
-use Rattle.scp_live_process.specs.Starting.{IsRestarted, HasRun, greeting}
+use Rattle.scp_live_process.specs.Starting.{HasRead, IsRestarted, HasRun, greeting}
 use Rattle.scp_live_process.specs.inside.Adding.{BatchView, Adds}
-use Rattle.scp_live_process.specs.inside.Replaying.{AddsReplayed}
-use Rattle.scp_live.proofs.Replaying.{replayed_none, replayed_on}
-use Rattle.scp_live_process.proofs.Replaying.{played}
+use Rattle.scp_live_process.specs.inside.Replaying.{AddsClose, AddsCloses}
+use Rattle.scp_live.proofs.Replaying.{replayed_none, replayed_one, replayed_on}
 
 -- ---- closes
 
-pub close_added : (event : Happening) (line : List ℕ) (u v : LiveView) (x : List Exchange) (a b : BatchView) → Says u.names line (Event event) → Adds (IsPlayed event line) u x v a b → AddsReplayed u x v a b
-close_added event line u v x a b says p = record { kept = p.kept; replayed = played event line u v x p.kept p.told says p.is; entries = p.entries }
+-- an event that a link's line says, and that was played
+pub close_added : (event : Happening) (link : ℕ) (line : List ℕ) (u v : LiveView) (x : List Exchange) (a b : BatchView) → line ≡ close_line u.names link → Says u.names line (Event event) → Adds (IsPlayed event line) u x v a b → AddsClose link u x v a b × (v.names ≡ u.names)
+close_added event link line u v x a b is says p =
+    let entry : EntryView = record { line = line; sent = p.is.digest } in (
+      record {
+        entry = entry;
+        line = is;
+        replayed = record { event = event; says = says; told = p.told; tells = p.is.tells; names = p.is.names; nodes = p.is.nodes };
+        entries = p.entries ∙ ap (λ (l : List EntryView). a.entries ++ l) p.is.entry;
+      },
+      p.is.names,
+    )
 
-pub none_closed : (v : LiveView) (b : BatchView) → AddsReplayed v [] v b b
-none_closed v b = record { kept = []; replayed = replayed_none v; entries = sym (append-nil b.entries) }
+pub none_closed : (v : LiveView) (b : BatchView) → AddsCloses [] v [] v b b
+none_closed v b = record { kept = []; lines = refl; replayed = replayed_none v; entries = sym (append-nil b.entries) }
 
-pub more_closed : (u v w : LiveView) (x y : List Exchange) (a b c : BatchView) → AddsReplayed u x v a b → AddsReplayed v y w b c → AddsReplayed u (x ++ y) w a c
-more_closed u v w x y a b c p q = record {
-  kept = p.kept ++ q.kept;
-  replayed = replayed_on p.kept q.kept u v w x y p.replayed q.replayed;
-  entries = q.entries ∙ ap (λ (l : List EntryView). l ++ q.kept) p.entries ∙ append_assoc a.entries p.kept q.kept;
+pub one_closed : (links : List ℕ) (link : ℕ) (u v w : LiveView) (x y : List Exchange) (a b c : BatchView) → AddsCloses links u x v a b → v.names ≡ u.names → AddsClose link v y w b c → AddsCloses (links ++ link ∷ []) u (x ++ y) w a c
+one_closed links link u v w x y a b c p names q = record {
+  kept = p.kept ++ q.entry ∷ [];
+  lines = map-append (λ (e : EntryView). e.line) p.kept (q.entry ∷ []) ∙ ap (λ (l : List (List ℕ)). l ++ q.entry.line ∷ []) p.lines
+      ∙ ap (λ (l : List ℕ). map (close_line u.names) links ++ l ∷ []) (q.line ∙ ap (λ (n : List (List ℕ)). close_line n link) names)
+      ∙ sym (map-append (close_line u.names) links (link ∷ []));
+  replayed = replayed_on p.kept (q.entry ∷ []) u v w x y p.replayed (replayed_one q.entry v w y q.replayed);
+  entries = q.entries ∙ ap (λ (l : List EntryView). l ++ q.entry ∷ []) p.entries ∙ append_assoc a.entries p.kept (q.entry ∷ []);
 }
+
+pub are_closed : (links : List ℕ) (u v : LiveView) (x : List Exchange) (empty after' : BatchView) (closes : List EntryView) → empty ≡ record { text = []; entries = [] } → closes ≡ after'.entries → links ≡ open_links u.node (links_of u.node) → ((l : ℕ) → l < links_of v.node → is_open_at v.node l ≡ false) → AddsCloses links u x v empty after' → AreClosed closes u x v
+are_closed links u v x empty after' closes none es are shut a =
+    let kept : closes ≡ a.kept = es ∙ a.entries ∙ ap (λ (b : BatchView). b.entries ++ a.kept) none in
+    record {
+      lines = ap (λ (l : List EntryView). map (λ (e : EntryView). e.line) l) kept ∙ a.lines ∙ ap (λ (l : List ℕ). map (close_line u.names) l) are;
+      replayed = subst (λ (l : List EntryView). AreReplayed l u x v) (sym kept) a.replayed;
+      closed = shut;
+    }
+
+-- ---- links that are open
+
+pub not_added : (b : Bool) (link : ℕ) (links : List ℕ) → b ≡ false → links ≡ links ++ (if b then link ∷ [] else [])
+not_added b link links is = sym (append-nil links) ∙ ap (λ (c : Bool). links ++ (if c then link ∷ [] else [])) (sym is)
+
+pub is_added : (b : Bool) (link : ℕ) (links more : List ℕ) → b ≡ true → more ≡ links ++ link ∷ [] → more ≡ links ++ (if b then link ∷ [] else [])
+is_added b link links more is added = added ∙ ap (λ (c : Bool). links ++ (if c then link ∷ [] else [])) (sym is)
+
+-- a link that has room and takes no message isn't open
+shut_by : (opened room : Bool) → (opened && room) ≡ false → room ≡ true → opened ≡ false
+shut_by true true never some = absurd (let e : true ≡ false = never in cc)
+shut_by true false never some = absurd (let e : false ≡ true = some in cc)
+shut_by false room never some = refl
+
+has_room : (queued room : ℕ) → 0 < room - queued → nat_lt queued room ≡ true
+has_room queued room some = let fits : queued < room = omega arith in grind (arith, nat_tests)
+
+shut_in : (o : Option LinkView) → accepts_of o ≡ false → 0 < room_of o → is_open_in o ≡ false
+shut_in None never some = refl
+shut_in (Some k) never some = shut_by k.is_open (nat_lt (length k.queue) k.room) never (has_room (length k.queue) k.room some)
+
+accepts_alive : (failed accepts : Bool) → failed ≡ false → (if failed then false else accepts) ≡ false → accepts ≡ false
+accepts_alive true accepts runs never = absurd (let e : true ≡ false = runs in cc)
+accepts_alive false accepts runs never = never
+
+pub shut_at : (v : NodeView) (l : ℕ) → v.failed ≡ false → accepts_at v l ≡ false → 0 < room_at v l → is_open_at v l ≡ false
+shut_at v l runs never some = shut_in (slice_get v.links l) (accepts_alive v.failed (accepts_of (slice_get v.links l)) runs never) some
+
+pub event_not_full : (f : Fault) → (f ≡ NoMemory) ⊎ (f ≡ BadConfig) → IsErrOf {T = Unit {0}} (Err f) JournalFull → ⊥
+event_not_full f cause full = let same : f ≡ JournalFull = cc in ⊎_elim (λ (e : f ≡ NoMemory). absurd cc) (λ (e : f ≡ BadConfig). absurd cc) cause
 
 -- ---- the log
 
@@ -56,25 +114,18 @@ recovered_more holds may_leave header entries closes kept kept' r more = record 
 length_on : (xs ys : List EntryView) (n m : ℕ) → n ≡ length xs → m ≡ length ys → n + m ≡ length (xs ++ ys)
 length_on xs ys n m p q = grind (arith, length-append)
 
-pub restarted : {L : Type 0} (holds may_leave : L → List ℕ → Type 0) (header : List ℕ) (log mid log' : Kept L) (u v w : LiveView) (x y : List Exchange) (entries closes : List EntryView) (empty after' : BatchView) (n m : ℕ)
-    → AreReplayed entries u x v → empty ≡ record { text = []; entries = [] } → AddsReplayed v y w empty after' → closes ≡ after'.entries
-    → n ≡ length entries → m ≡ length closes
-    → ((l : ℕ) → l < links_of w.node → accepts_at w.node l ≡ false)
-    → ((ms : List Marked) (rest : List ℕ) → AreEntries ms → holds log.log (log_of header ms ++ rest) → IsAllAndMore (entries_of ms) rest entries)
-    → ((c : List ℕ) → holds log.log c → IsRecovered holds may_leave header entries mid)
+pub restarted : {L : Type 0} (holds may_leave : L → List ℕ → Type 0) (header : List ℕ) (log mid log' : Kept L) (u v w : LiveView) (x y : List Exchange) (entries closes : List EntryView) (n m : ℕ)
+    → AreReplayed entries u x v → AreClosed closes v y w → n ≡ length entries → m ≡ length closes → HasRead holds may_leave header entries log mid
     → ((header : List ℕ) (ms : List Marked) → IsSettled holds may_leave header ms mid → IsSettled holds may_leave header (ms ++ batch_of closes) log')
     → IsRestarted holds may_leave header log log' u (x ++ y) w (n + m)
-restarted holds may_leave header log mid log' u v w x y entries closes empty after' n m p none a es count counts shut all settled more =
-    let kept : closes ≡ a.kept = es ∙ a.entries ∙ ap (λ (b : BatchView). b.entries ++ a.kept) none in
-    record {
-      entries = entries;
-      closes = closes;
-      replayed = replayed_on entries closes u v w x y p (subst (λ (l : List EntryView). AreReplayed l v y w) (sym kept) a.replayed);
-      count_is = length_on entries closes n m count counts;
-      closed = shut;
-      all = all;
-      recovered = λ c h. recovered_more holds may_leave header entries closes mid log' (settled c h) more;
-    }
+restarted holds may_leave header log mid log' u v w x y entries closes n m played shut count counts read more = record {
+  entries = entries;
+  closes = closes;
+  played = record { mid = v; heard_first = x; heard_next = y; heard_is = refl; first = played; next = shut };
+  count_is = length_on entries closes n m count counts;
+  all = read.all;
+  recovered = λ c h. recovered_more holds may_leave header entries closes mid log' (read.recovered c h) more;
+}
 
 -- ---- the whole
 

@@ -8,14 +8,16 @@ use Rattle.scp_live_log.specs.declared.kept.Kept.{Kept}
 use Rattle.scp_live_log.specs.Kept.{IsAllAndMore}
 use Rattle.scp_live_log.specs.Log.{EntryView, Marked, AreEntries, entries_of, log_of}
 use Rattle.scp_live_config.specs.declared.settings.Settings.{Settings}
-use Rattle.scp_kept.specs.declared.happening.Kept.{Kept as Happened}
-use Rattle.scp_kept.specs.Kept.{Keeps}
+use Rattle.scp_account.specs.scp_facts.specs.declared.happening.Kept.{Kept as Happened}
+use Rattle.scp_account.specs.scp_facts.specs.Kept.{Keeps}
+use Rattle.scp_account.specs.scp_report.specs.Node.{reports_of}
+use Rattle.scp_account.specs.declared.node.Mode.TheVariants as ways
 use Rattle.scp_account.specs.Account.{account_text}
 use Rattle.scp_live.specs.Live.{LiveView}
 use Rattle.scp_live.specs.Beginning.{Configures, IsNew, digest_of, header_of}
 use Rattle.scp_live.specs.Replays.{AreReplayed}
 
--- The node played what its log says, this was recorded of its steps, and the text is the account made from both.
+-- The node played what its log says, this was recorded of its steps, and the text is the account made from the node's record and from that.
 pub record IsAccountOf {L : Type 0} (holds : L → List ℕ → Type 0) (header : List ℕ) (log : Kept L) (old : LiveView) (heard : List Exchange) (new : LiveView) (text : List ℕ) : Type 0 where
   pub entries : List EntryView
   pub replayed : AreReplayed entries old heard new
@@ -23,7 +25,7 @@ pub record IsAccountOf {L : Type 0} (holds : L → List ℕ → Type 0) (header 
   pub all : (ms : List Marked) (rest : List ℕ) → AreEntries ms → holds log.log (log_of header ms ++ rest) → IsAllAndMore (entries_of ms) rest entries
   pub kept : List Happened
   pub noted : Watched Keeps 1 [] old.node heard new.node kept
-  pub is : text ≡ account_text (new.node ∷ []) kept
+  pub is : text ≡ account_text ways.Serial (reports_of (new.node ∷ [])) kept
 
 -- The account of a node with these settings was written. From the newly made node on, it played what the log says. The headline holds of
 -- all that it received and replied.

@@ -29,6 +29,7 @@ pub record IsPlayed (event : Happening) (line : List ℕ) (old : LiveView) (hear
   pub digest : List ℕ
   pub tells : IsTold event old.names old.timers new.timers old.node heard new.node [] told digest
   pub names : new.names ≡ old.names
+  pub nodes : new.nodes ≡ old.nodes
   pub entry : kept ≡ record { line = line; sent = digest } ∷ []
 
 -- The answer to a question. An event has no such answer.
@@ -37,7 +38,7 @@ Replies (Event event) v told = ⊥
 Replies (Again link) v told = SaysAgain (name_at v.names link) (again_of v.node.ledger link) [] told
 Replies State v told = told ≡ state_of v
 Replies Report v told = told ≡ report_of v
-Replies Stand v told = TellsStand v.node told
+Replies Stand v told = TellsStand v told
 Replies (Applied slot) v told = told ≡ applied_from v.node slot.0
 Replies Nothing v told = told ≡ []
 

@@ -1,7 +1,8 @@
 -- What is kept is what was played, and it determines the node.
-use Rattle.std.specs.Prelude.{ℕ, ◌≡◌, false, List}
+use Rattle.std.specs.Prelude.{ℕ, ◌≡◌, false, List, ◌++◌}
 use Rattle.scp_turn.specs.scp_core.specs.History.{Exchange}
 use Rattle.scp_live_log.specs.Log.{EntryView}
+use Rattle.scp_turn.specs.scp_core.specs.Kv.{HoldsLedger}
 use Rattle.scp_turn.specs.scp_core.specs.Same.{ShowSameNode}
 use Rattle.scp_live_config.specs.declared.settings.Settings.{Settings}
 use Rattle.scp_live.specs.Live.{LiveView}
@@ -18,3 +19,11 @@ KeptIsPlayed = (number : ℕ) (lines : List (List ℕ)) (old : LiveView) (heard 
 abbrev pub LogsMakeOneNode : Type 0
 LogsMakeOneNode =
     (config : List ℕ) (settings : Settings) (a b v w : LiveView) (x y : List Exchange) (entries : List EntryView) → Configures config settings → IsNew settings a → IsNew settings b → AreReplayed entries a x v → AreReplayed entries b y w → v.node.failed ≡ false → w.node.failed ≡ false → (x ≡ y) × ShowSameNode v.node w.node
+
+-- Take two lives of a node with one configuration that still run. The earlier one played these entries, and the later one a log that has
+-- grown since: these entries, and then more. The later life received and replied all that the earlier one did, and then more, and it holds
+-- its ledger for all of this. So what the earlier life sent over a link is a beginning of what was sent over it in both, and there each
+-- statement is newer than those of its slot and kind before it.
+abbrev pub LogsGoOn : Type 0
+LogsGoOn =
+    (config : List ℕ) (settings : Settings) (a b v w : LiveView) (x y : List Exchange) (entries more : List EntryView) → Configures config settings → IsNew settings a → IsNew settings b → AreReplayed entries a x v → AreReplayed (entries ++ more) b y w → v.node.failed ≡ false → w.node.failed ≡ false → (rest : List Exchange) × (y ≡ x ++ rest) × HoldsLedger y w.node

@@ -2,7 +2,9 @@ pub mod Stands
 pub mod Noticing
 pub mod Answers
 pub mod Serving
+pub mod Closing
 pub mod Starting
+pub mod Ending
 pub mod Laws
 pub mod Accounts
 pub mod inside

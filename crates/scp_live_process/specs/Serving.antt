@@ -1,7 +1,7 @@
 -- What was served of an input (this project's profile).
-use Rattle.std.specs.Prelude.{ℕ, ◌≡◌, List, ◌++◌, Option, Result, IsErrOf, flat_map}
+use Rattle.std.specs.Prelude.{ℕ, ◌≡◌, ◌≢◌, List, [], ◌++◌, Option, Some, Result, IsErrOf, flat_map}
 use Rattle.scp_types.specs.declared.fault.Fault.{Fault}
-use Rattle.scp_types.specs.declared.fault.Fault.TheVariants.{Device}
+use Rattle.scp_types.specs.declared.fault.Fault.TheVariants.{NoMemory, Device}
 use Rattle.scp_device.specs.Device.{Loses, HasEnded, Gains, GainsPart}
 use Rattle.scp_turn.specs.scp_core.specs.History.{Exchange}
 use Rattle.scp_live_log.specs.declared.kept.Kept.{Kept}
@@ -40,7 +40,7 @@ pub record HasServed {L : Type 0} (holds may_leave : L → List ℕ → Type 0) 
   pub settled : (header : List ℕ) (ms : List Marked) → IsSettled holds may_leave header ms log → IsSettled holds may_leave header (ms ++ marked_in batches) log'
 
 -- An input wasn't served to its end. What was written is a prefix of the answers to its first lines. All that is kept of these lines is
--- on the disk. Unless a device failed, all these answers are written.
+-- on the disk. Unless a device failed, all these answers are written. Memory runs out only where more was to be read.
 pub record HasServedPart {L : Type 0} (may_leave holds : L → List ℕ → Type 0) (result : Result (Unit {0}) Fault) (left written longer : Option (List ℕ)) (log log' : Kept L) (old : LiveView) (heard : List Exchange) : Type 0 where
   pub batches : List (List EntryView)
   pub text : List ℕ
@@ -52,4 +52,5 @@ pub record HasServedPart {L : Type 0} (may_leave holds : L → List ℕ → Type
   pub answer : IsAnswer left rest old so_far mid batches text
   pub wrote : GainsPart written text longer
   pub whole : (IsErrOf result Device → ⊥) → Gains written text longer
+  pub more : IsErrOf result NoMemory → rest ≢ Some []
   pub durable : (header : List ℕ) (ms : List Marked) → IsSettled holds may_leave header ms log → (c : List ℕ) → may_leave log'.log c → StartsWith (log_of header (ms ++ marked_in batches)) c

@@ -1,39 +1,22 @@
--- The status of a node that runs as a process, with nodes shown by numbers as in a script (this project's profile).
-use Rattle.std.specs.Prelude.{ℕ, ◌≡◌, ◌≤◌, ◌+◌, ◌⊎◌, List, [], length, get_or, codes}
-use Rattle.scp_turn.specs.scp_core.specs.Kv.{NodeView}
-use Rattle.scp_script.specs.Nodes.{id_of, peers_of}
+-- The status of a node that runs as a process, with nodes shown by the names of its configuration (this project's profile).
+use Rattle.std.specs.Prelude.{ℕ, List, [], None, map}
+use Rattle.scp_live_config.specs.Names.{Identity}
+use Rattle.scp_live.specs.Live.{LiveView}
+use Rattle.scp_stand_slot.specs.NodeNames.{Naming}
 use Rattle.scp_stand_slot.specs.declared.names.Names.{Names}
-use Rattle.scp_stand_slot.specs.Names.{AreNames}
+use Rattle.scp_stand_slot.specs.Names.{AreNamesOf}
 use Rattle.scp_stand_node.specs.Stand.{IsStand}
 
--- The number of the node, if its id is that of a number: the first byte of the id.
-abbrev pub number_in : NodeView → ℕ
-number_in v = get_or v.config.me.0 0 0
+-- The name that a configuration gives a node.
+abbrev pub naming_in : Identity → Naming
+naming_in identity = record { id = identity.id; name = identity.name }
 
--- The number of nodes: the node and its peers.
-abbrev pub count_in : NodeView → ℕ
-count_in v = length v.config.peers + 1
+-- The names are those that a configuration gives nodes. Quorum sets have none, so they are shown by their hashes.
+abbrev pub AreNamesIn : List Identity → Names → Type 0
+AreNamesIn nodes names = AreNamesOf [] (map naming_in nodes) names
 
--- The node is one of at most eight nodes, whose ids are those of their numbers. Its peers are all the others, in their order.
-pub record IsNumbered (v : NodeView) : Type 0 where
-  pub first : 1 ≤ number_in v
-  pub last : number_in v ≤ count_in v
-  pub few : count_in v ≤ 8
-  pub me : v.config.me ≡ id_of (number_in v)
-  pub peers : v.config.peers ≡ peers_of (count_in v) (number_in v)
-
--- The status of the node with its number among all the nodes. There is no script, so quorum sets are shown by their hashes.
-pub record StandsSo (v : NodeView) (told : List ℕ) : Type 0 where
-  pub numbered : IsNumbered v
+-- The status of the node, with these names. It plays in no script.
+pub record TellsStand (v : LiveView) (told : List ℕ) : Type 0 where
   pub names : Names
-  pub of_none : AreNames [] names
-  pub is : IsStand names (count_in v) (number_in v) [] [] v told
-
--- A node without a number isn't shown in this way. The answer is `refused unnamed`.
-pub record IsUnnamed (v : NodeView) (told : List ℕ) : Type 0 where
-  pub other : ¬ (IsNumbered v)
-  pub is : told ≡ codes "refused unnamed\n"
-
--- The status of the node, or that the node has no number.
-abbrev pub TellsStand : NodeView → List ℕ → Type 0
-TellsStand v told = StandsSo v told ⊎ IsUnnamed v told
+  pub named : AreNamesIn v.nodes names
+  pub is : IsStand names None v.node told

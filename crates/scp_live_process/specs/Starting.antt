@@ -1,11 +1,9 @@
 -- How a node starts as a process (this project's profile).
-use Rattle.std.specs.Prelude.{ℕ, ◌≡◌, ◌<◌, false, List, [], ◌++◌, length, codes, Option}
+use Rattle.std.specs.Prelude.{ℕ, ◌≡◌, List, ◌++◌, length, codes, Option}
 use Rattle.std.specs.Fmt.{decimal}
 use Rattle.scp_turn.specs.scp_core.specs.History.{Exchange}
-use Rattle.scp_turn.specs.scp_core.specs.Node.{accepts_at}
 use Rattle.scp_turn.specs.scp_core.specs.Kv.{LedgerTheorem}
 use Rattle.scp_turn.specs.scp_core.specs.Headline.{HoldsHeadline}
-use Rattle.scp_turn.specs.Turn.{links_of}
 use Rattle.scp_device.specs.Device.{Gains}
 use Rattle.scp_live_log.specs.declared.kept.Kept.{Kept}
 use Rattle.scp_live_log.specs.Kept.{IsRecovered, IsAllAndMore}
@@ -15,24 +13,29 @@ use Rattle.scp_live_lines.specs.Replies.{ok_line}
 use Rattle.scp_live.specs.Live.{LiveView}
 use Rattle.scp_live.specs.Questions.{state_of}
 use Rattle.scp_stand_slot.specs.declared.names.Names.{Names}
-use Rattle.scp_stand_slot.specs.Names.{AreNames}
 use Rattle.scp_trace_text.specs.Tracing.{IsTraced}
 use Rattle.scp_live.specs.Beginning.{Configures, digest_of, header_of, IsNew}
-use Rattle.scp_live.specs.Replays.{AreReplayed}
+use Rattle.scp_live.specs.Replays.{AreReplayed, Then}
+use Rattle.scp_live_process.specs.Closing.{AreClosed}
 use Rattle.scp_live_process.specs.Serving.{HasServed}
-use Rattle.scp_live_process.specs.Stands.{number_in}
+use Rattle.scp_live_process.specs.Stands.{AreNamesIn}
 
 -- What is written before any line is read: how many events the log has, the state of the node, and `ok 0`.
 abbrev pub greeting : ℕ → LiveView → List ℕ
 greeting count v = codes "ready " ++ decimal count ++ codes "\n" ++ state_of v ++ ok_line 0
 
+-- The file of a log was read, and these are its entries: all that were kept and, if something followed them in the file, perhaps more.
+-- The log is exactly these entries now, all of it on the disk.
+pub record HasRead {L : Type 0} (holds may_leave : L → List ℕ → Type 0) (header : List ℕ) (entries : List EntryView) (log log' : Kept L) : Type 0 where
+  pub all : (ms : List Marked) (rest : List ℕ) → AreEntries ms → holds log.log (log_of header ms ++ rest) → IsAllAndMore (entries_of ms) rest entries
+  pub recovered : (c : List ℕ) → holds log.log c → IsRecovered holds may_leave header entries log'
+
 -- The node played what its log says, and then closed each link that was open. The log contains these events, too.
 pub record IsRestarted {L : Type 0} (holds may_leave : L → List ℕ → Type 0) (header : List ℕ) (log log' : Kept L) (old : LiveView) (heard : List Exchange) (new : LiveView) (count : ℕ) : Type 0 where
   pub entries : List EntryView
   pub closes : List EntryView
-  pub replayed : AreReplayed (entries ++ closes) old heard new
+  pub played : Then (AreReplayed entries) (AreClosed closes) old heard new
   pub count_is : count ≡ length (entries ++ closes)
-  pub closed : (l : ℕ) → l < links_of new.node → accepts_at new.node l ≡ false
   -- Everything that was kept is played. If nothing followed it in the file, there is nothing more.
   pub all : (ms : List Marked) (rest : List ℕ) → AreEntries ms → holds log.log (log_of header ms ++ rest) → IsAllAndMore (entries_of ms) rest entries
   pub recovered : (c : List ℕ) → holds log.log c → IsRecovered holds may_leave header (entries ++ closes) log'
@@ -71,12 +74,12 @@ pub record IsRun {L : Type 0} (holds may_leave : L → List ℕ → Type 0) (con
   pub runs : RunsAs holds may_leave settings left written longer log
 
 -- A node with these settings ran until its input ended. What happened in its steps, from the first one on, was written to a trace. The
--- trace calls the node by the first byte of its id, and a quorum set by its hash.
+-- trace calls a node by its name, and a quorum set by its hash.
 pub record TracesRun {L : Type 0} (holds may_leave : L → List ℕ → Type 0) (settings : Settings) (left written longer : Option (List ℕ)) (log : L) (trace traced : Option (List ℕ)) : Type 0 where
   pub runs : RunsAs holds may_leave settings left written longer log
   pub names : Names
-  pub of_none : AreNames [] names
-  pub is : IsTraced names (number_in runs.begun.node) runs.begun.node runs.heard runs.node.node trace traced
+  pub named : AreNamesIn settings.names.items names
+  pub is : IsTraced names runs.begun.node runs.heard runs.node.node trace traced
 
 -- The text is a configuration, and a node with it ran until its input ended, with such a trace.
 pub record IsTracedRun {L : Type 0} (holds may_leave : L → List ℕ → Type 0) (config : List ℕ) (left written longer : Option (List ℕ)) (log : L) (trace traced : Option (List ℕ)) : Type 0 where

@@ -5,9 +5,8 @@ ghost use Rattle.scp_live_log.specs.Log.{IsLine};
 ghost use Rattle.scp_live_process.specs.Accounts.{IsAccountOf, AccountsFor, IsAccounted};
 ghost use Rattle.scp_live.specs.Living.{IsLive};
 
-use scp_account::account;
+use scp_account::{KeepingWatch, Mode, account, reports_of, what_is_kept_is_what_happened};
 use scp_device::{ReportOut, write_text};
-use scp_kept::{KeepingWatch, what_is_kept_is_what_happened};
 use scp_live::{Live, begun, fail, header, refuse, replay, settings_of};
 use scp_live_config::Settings;
 use scp_live_log::{EventLog, Kept, LogFault};
@@ -35,7 +34,9 @@ fn account_of<L: EventLog>(
         return Err(LogFault::Failed(Fault::NoMemory));
     }
     let happened = watch.into_kept();
-    let text = account(alloc, slice::from_ref(live.node()), happened.as_slice())?;
+    let reports = reports_of(alloc, slice::from_ref(live.node()))?;
+    let records = reports.as_slice();
+    let text = account(alloc, Mode::Serial, records, happened.as_slice())?;
     Ok(text)
 }
 

@@ -123,7 +123,7 @@ impl Batch {
             Asked::Again(link) => live.again(*link, &mut self.text),
             Asked::State => Ok(live.state(&mut self.text)?),
             Asked::Report => Ok(live.report(&mut self.text)?),
-            Asked::Stand => tell_stand(self.alloc, live.node(), &mut self.text),
+            Asked::Stand => tell_stand(self.alloc, live, &mut self.text),
             Asked::Applied(slot) => Ok(live.applied(*slot, &mut self.text)?),
         }
     }

@@ -1,7 +1,10 @@
 //! Laws of the definitions. Each is the contract of a function that does nothing.
-ghost use Rattle.scp_live_process.specs.Laws.{KeptIsPlayed, LogsMakeOneNode};
+ghost use Rattle.scp_live_process.specs.Laws.{KeptIsPlayed, LogsMakeOneNode, LogsGoOn};
 
-use scp_live::{a_line_says_one_thing, the_same_events_give_the_same_episodes};
+use scp_live::{
+    a_line_says_one_thing, further_events_go_on, the_same_events_give_the_same_episodes,
+};
+use scp_turn::{KvDriver, each_node_holds_its_ledger};
 
 /// What the node did while it answered lines is a replay of what is kept of these lines.
 pub fn what_is_kept_is_what_was_played()
@@ -15,4 +18,14 @@ pub fn what_a_log_says_makes_one_node()
 {
     the_same_events_give_the_same_episodes();
     a_line_says_one_thing();
+}
+
+/// A log that has grown goes on with the same node. A later life of the node, which plays all entries that an earlier one played, and then
+/// more, received and replied all that the earlier one did, and then more. So over each link it takes nothing back.
+pub fn what_a_log_says_goes_on()
+    ensures { LogsGoOn }
+{
+    further_events_go_on();
+    a_line_says_one_thing();
+    each_node_holds_its_ledger::<KvDriver>();
 }

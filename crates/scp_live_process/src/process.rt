@@ -1,9 +1,11 @@
 //! A node with a configuration starts, and serves its host until the input ends.
-ghost use Rattle.std.specs.Prelude.{◌≡◌, IfOk, OnOk, string_bytes};
+ghost use Rattle.std.specs.Prelude.{◌≡◌, ◌≢◌, IfOk, IfErr, OnOk, string_bytes};
 ghost use Rattle.scp_turn.specs.Kv.{Goes, Watched};
 ghost use Rattle.scp_turn.specs.Watch.{notes};
 ghost use Rattle.scp_live_log.specs.Log.{IsLine};
+ghost use Rattle.scp_live.specs.Beginning as begin;
 ghost use Rattle.scp_live.specs.Living.{IsLive};
+ghost use Rattle.scp_live_process.specs.Ending.{streams, StopsBy, Stops, EndsUnserved};
 ghost use Rattle.scp_live_process.specs.Starting.{greeting, HasRun, RunsAs, IsRun};
 
 use crate::fullness::JournalWatch;
@@ -17,6 +19,7 @@ use scp_live_log::{EventLog, Kept, LogFault};
 use scp_turn::{
     KvDriver, NoWatch, Watch, each_node_holds_its_headline, each_node_holds_its_ledger,
 };
+use scp_types::Fault;
 use std::alloc::{AllocError, Global};
 
 /// What is written before any line is read.
@@ -29,6 +32,15 @@ fn greeting_of(alloc: Global, live: &Live, count: usize) -> Result<String, Alloc
     live.state(&mut text)?;
     write_ok(&mut text, 0)?;
     Ok(text)
+}
+
+/// The first line of the log of a node with these settings.
+fn header_of(alloc: Global, settings: &Settings) -> Result<Vec<u8>, AllocError>
+    ensures is { IfOk result (λ line. line.items ≡ begin.header_of (begin.digest_of settings.now)) }
+    ensures line { IfOk result (λ line. ¬ (IsLine line.items)) }
+{
+    let digest = settings.digest(alloc)?;
+    header(alloc, &digest)
 }
 
 /// Starts with the log, writes the state of the node, and serves the host; the watch is shown each step.
@@ -44,12 +56,24 @@ fn run<L: EventLog, R: ScriptIn, W: ReportOut, V: Watch<KvDriver>>(
     requires live { IsLive live.old.node }
     requires line { ¬ (IsLine header.now) }
     ensures ran { Goes live.old.node live.new.node (λ _ heard _. Watched (notes V.notes_before V.notes_after) 1 watch.old.watch live.old.node heard live.new.node watch.new.watch × OnOk result (HasRun L.holds L.may_leave header.now (R.left reader.old) (W.written writer.old) (W.written writer.new) kept.old kept.new live.old heard live.new)) }
+    ensures stopped { Goes live.old.node live.new.node (λ _ heard _. IfErr result (StopsBy L.holds L.may_leave L.faults header.now (streams (R.left reader.old) (R.failures reader.old) (W.written writer.old) (W.failures writer.old)) (streams (R.left reader.new) (R.failures reader.new) (W.written writer.new) (W.failures writer.new)) kept.old kept.new live.old heard live.new)) }
 {
-    let count = restart(alloc, live, kept, header, watch)?;
-    let text = greeting_of(alloc, live, count)?;
-    write_text(writer, text.as_str())?;
-    serve(alloc, live, kept, reader, writer, watch)?;
-    Ok(())
+    let count = match restart(alloc, live, kept, header, watch) {
+        Ok(count) => count,
+        Err(fault) => return Err(fault),
+    };
+    let text = match greeting_of(alloc, live, count) {
+        Ok(text) => text,
+        Err(_) => return Err(LogFault::Failed(Fault::NoMemory)),
+    };
+    match write_text(writer, text.as_str()) {
+        Ok(()) => {}
+        Err(_) => return Err(LogFault::Failed(Fault::Device)),
+    }
+    match serve(alloc, live, kept, reader, writer, watch) {
+        Ok(()) => Ok(()),
+        Err(fault) => Err(LogFault::Failed(fault)),
+    }
 }
 
 /// Runs a node with this configuration; the watch is shown each step.
@@ -62,11 +86,18 @@ pub fn run_settings<L: EventLog + Drop, R: ScriptIn, W: ReportOut, V: Watch<KvDr
     watch: &mut JournalWatch<V>,
 ) -> Result<(), LogFault>
     ensures ran { OnOk result ((runs : RunsAs L.holds L.may_leave settings.now (R.left reader.old) (W.written writer.old) (W.written writer.new) log) × Watched (notes V.notes_before V.notes_after) 1 watch.old.watch runs.begun.node runs.heard runs.node.node watch.new.watch) }
+    ensures stopped { IfErr result (Stops L.holds L.may_leave L.faults settings.now (streams (R.left reader.old) (R.failures reader.old) (W.written writer.old) (W.failures writer.old)) (streams (R.left reader.new) (R.failures reader.new) (W.written writer.new) (W.failures writer.new)) log) }
 {
     each_node_holds_its_ledger::<KvDriver>();
     each_node_holds_its_headline::<KvDriver>();
-    let mut live = begun(alloc, settings)?;
-    let line = header(alloc, &settings.digest(alloc)?)?;
+    let mut live = match begun(alloc, settings) {
+        Ok(live) => live,
+        Err(fault) => return Err(LogFault::Failed(fault)),
+    };
+    let line = match header_of(alloc, settings) {
+        Ok(line) => line,
+        Err(_) => return Err(LogFault::Failed(Fault::NoMemory)),
+    };
     let mut kept = Kept::new(log);
     run(
         alloc,
@@ -90,18 +121,19 @@ pub fn run_node<L: EventLog + Drop, R: ScriptIn, W: ReportOut>(
     writer: &mut W,
 ) -> u8
     ensures ran { result ≡ 0 → IsRun L.holds L.may_leave config.now (R.left reader.old) (W.written writer.old) (W.written writer.new) log }
+    // With any other status, this is what the node did and kept, why it ended, and its last line.
+    ensures stopped { result ≢ 0 → EndsUnserved L.holds L.may_leave L.faults config.now (streams (R.left reader.old) (R.failures reader.old) (W.written writer.old) (W.failures writer.old)) (streams (R.left reader.new) (R.failures reader.new) (W.written writer.new) (W.failures writer.new)) log result }
 {
-    match settings_of(alloc, config) {
-        Ok(settings) => {
-            let mut watch = JournalWatch {
-                watch: NoWatch,
-                is_full: false,
-            };
-            match run_settings(alloc, &settings, log, reader, writer, &mut watch) {
-                Ok(()) => 0,
-                Err(fault) => fail(fault, writer),
-            }
-        }
-        Err(fault) => refuse(alloc, &fault, writer),
+    let settings = match settings_of(alloc, config) {
+        Ok(settings) => settings,
+        Err(fault) => return refuse(alloc, &fault, writer),
+    };
+    let mut watch = JournalWatch {
+        watch: NoWatch,
+        is_full: false,
+    };
+    match run_settings(alloc, &settings, log, reader, writer, &mut watch) {
+        Ok(()) => 0,
+        Err(fault) => fail(fault, writer),
     }
 }

@@ -1,5 +1,5 @@
 //! A node serves its host.
-ghost use Rattle.std.specs.Prelude.{◌≡◌, ◌⊎◌, true, IfOk, IfErr, OnOk, OnErr, IsErrOf};
+ghost use Rattle.std.specs.Prelude.{◌≡◌, ◌≢◌, ◌⊎◌, true, IfOk, IfErr, OnOk, OnErr, IsErrOf};
 ghost use Rattle.scp_device.specs.Device.{Gains, GainsPart, Fails};
 ghost use Rattle.scp_turn.specs.Kv.{Goes, Watched};
 ghost use Rattle.scp_turn.specs.Watch.{notes};
@@ -35,6 +35,7 @@ fn serve_batch<L: EventLog, W: ReportOut, V: Watch<KvDriver>>(
     ensures quiet { OnOk result ((L.faults kept.new.log ≡ L.faults kept.old.log) × (W.failures writer.new ≡ W.failures writer.old)) }
     ensures live { OnOk result (IsLive live.new.node) }
     ensures device { IsErrOf result Fault.Device → Fails (L.faults kept.old.log) (L.faults kept.new.log) ⊎ Fails (W.failures writer.old) (W.failures writer.new) }
+    ensures hidden { IfErr result (λ fault. fault ≢ Fault.Device → (L.faults kept.new.log ≡ L.faults kept.old.log) × (W.failures writer.new ≡ W.failures writer.old)) }
     ensures only { IfErr result (λ f. (f ≡ Fault.NoMemory) ⊎ ((f ≡ Fault.JournalFull) ⊎ ((f ≡ Fault.TooLong) ⊎ (f ≡ Fault.Device)))) }
 {
     let mut batch = Batch::new(alloc);
@@ -71,7 +72,8 @@ pub fn serve<L: EventLog, R: ScriptIn, W: ReportOut, V: Watch<KvDriver>>(
     // refused, the ledger theorem still holds, and all that was written answers lines whose events are on the disk.
     ensures served { Goes live.old.node live.new.node (λ _ heard _. Watched (notes V.notes_before V.notes_after) 1 watch.old.watch live.old.node heard live.new.node watch.new.watch × (OnOk result (HasServed L.holds L.may_leave (R.left reader.old) (W.written writer.old) (W.written writer.new) kept.old kept.new live.old heard live.new) × OnErr result (HasServedPart L.may_leave L.holds result (R.left reader.old) (W.written writer.old) (W.written writer.new) kept.old kept.new live.old heard) × (IsErrOf result Fault.JournalFull → finds_full heard ≡ true))) }
     ensures live { OnOk result (IsLive live.new.node) }
-    // A device failure is reported only if one happened.
+    // A failure of a device is always reported as `Fault::Device`, and is reported only if one happened.
+    ensures hidden { IfErr result (λ fault. fault ≢ Fault.Device → (R.failures reader.new ≡ R.failures reader.old) × (L.faults kept.new.log ≡ L.faults kept.old.log) × (W.failures writer.new ≡ W.failures writer.old)) }
     ensures device { IsErrOf result Fault.Device → Fails (R.failures reader.old) (R.failures reader.new) ⊎ (Fails (L.faults kept.old.log) (L.faults kept.new.log) ⊎ Fails (W.failures writer.old) (W.failures writer.new)) }
     ensures only { IfErr result (λ f. (f ≡ Fault.NoMemory) ⊎ ((f ≡ Fault.JournalFull) ⊎ ((f ≡ Fault.TooLong) ⊎ (f ≡ Fault.Device)))) }
 {

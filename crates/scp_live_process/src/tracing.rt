@@ -1,12 +1,14 @@
 //! A node runs, and what happens in each of its steps is written to a trace.
-ghost use Rattle.std.specs.Prelude.{◌≡◌, [], get_or, OnOk};
-ghost use Rattle.scp_stand_slot.specs.Names.{AreNames};
+ghost use Rattle.std.specs.Prelude.{◌≡◌, ◌≢◌, [], IfOk, OnOk, IfErr};
 ghost use Rattle.scp_trace_text.specs.Watching.{untold};
 ghost use Rattle.scp_live_config.specs.declared.settings.Settings.{Settings};
+ghost use Rattle.scp_live_process.specs.Stands.{AreNamesIn};
+ghost use Rattle.scp_live_process.specs.Ending.{streams, StopsTraced, EndsBy, EndsUntraced};
 ghost use Rattle.scp_live_process.specs.Starting.{IsTracedRun, TracesRun};
 
 use crate::fullness::JournalWatch;
 use crate::process::run_settings;
+use crate::stand::names_of;
 use scp_device::{ReportOut, ScriptIn};
 use scp_live::{fail, refuse, settings_of};
 use scp_live_config::Settings;
@@ -14,10 +16,10 @@ use scp_live_log::{EventLog, LogFault};
 use scp_stand_slot::Names;
 use scp_trace_text::{TracingWatch, what_is_traced_is_what_happened};
 use scp_types::Fault;
-use std::alloc::Global;
+use std::alloc::{AllocError, Global};
 
-/// Runs a node with this configuration; the watch writes what happens in each step. Refused by `Device` if the node ran to its end, but
-/// not all of that could be written.
+/// Runs a node with this configuration; the watch writes what happens in each step. If the node ran to its end, but not all of that could
+/// be written, refused by `NoMemory`, or by `Device` if the trace's writer failed.
 fn run_told<L: EventLog + Drop, R: ScriptIn, W: ReportOut, T: ReportOut + Drop>(
     alloc: Global,
     settings: &Settings,
@@ -26,17 +28,20 @@ fn run_told<L: EventLog + Drop, R: ScriptIn, W: ReportOut, T: ReportOut + Drop>(
     writer: &mut W,
     watch: &mut JournalWatch<TracingWatch<T>>,
 ) -> Result<(), LogFault>
-    requires names { AreNames [] watch.old.watch.names }
-    requires number { watch.old.watch.number ≡ get_or settings.now.node.id.0 0 0 }
+    requires names { AreNamesIn settings.now.names.items watch.old.watch.names }
     requires none { watch.old.watch.facts.tellings ≡ [] }
     ensures ran { OnOk result (TracesRun L.holds L.may_leave settings.now (R.left reader.old) (W.written writer.old) (W.written writer.new) log watch.old.watch.written watch.new.watch.written) }
+    ensures stopped { IfErr result (StopsTraced L.holds L.may_leave L.faults settings.now (streams (R.left reader.old) (R.failures reader.old) (W.written writer.old) (W.failures writer.old)) (streams (R.left reader.new) (R.failures reader.new) (W.written writer.new) (W.failures writer.new)) log watch.new.watch.failures) }
 {
     what_is_traced_is_what_happened();
-    run_settings(alloc, settings, log, reader, writer, watch)?;
-    if watch.watch.has_failed() {
-        return Err(LogFault::Failed(Fault::Device));
+    match run_settings(alloc, settings, log, reader, writer, watch) {
+        Ok(()) => {}
+        Err(fault) => return Err(fault),
     }
-    Ok(())
+    match watch.watch.fault() {
+        Some(fault) => Err(LogFault::Failed(fault)),
+        None => Ok(()),
+    }
 }
 
 /// The same, with its status; an error is written as a line.
@@ -48,10 +53,10 @@ fn run_status<L: EventLog + Drop, R: ScriptIn, W: ReportOut, T: ReportOut + Drop
     writer: &mut W,
     watch: &mut JournalWatch<TracingWatch<T>>,
 ) -> u8
-    requires names { AreNames [] watch.old.watch.names }
-    requires number { watch.old.watch.number ≡ get_or settings.now.node.id.0 0 0 }
+    requires names { AreNamesIn settings.now.names.items watch.old.watch.names }
     requires none { watch.old.watch.facts.tellings ≡ [] }
     ensures ran { result ≡ 0 → TracesRun L.holds L.may_leave settings.now (R.left reader.old) (W.written writer.old) (W.written writer.new) log watch.old.watch.written watch.new.watch.written }
+    ensures stopped { result ≢ 0 → EndsBy (λ stopped fault. StopsTraced L.holds L.may_leave L.faults settings.now (streams (R.left reader.old) (R.failures reader.old) (W.written writer.old) (W.failures writer.old)) stopped log watch.new.watch.failures fault) (streams (R.left reader.new) (R.failures reader.new) (W.written writer.new) (W.failures writer.new)) result }
 {
     match run_told(alloc, settings, log, reader, writer, watch) {
         Ok(()) => 0,
@@ -59,25 +64,30 @@ fn run_status<L: EventLog + Drop, R: ScriptIn, W: ReportOut, T: ReportOut + Drop
     }
 }
 
-/// The watch for a node with this configuration, which writes to this trace.
+/// The names that a configuration gives nodes.
+fn names_in(alloc: Global, settings: &Settings) -> Result<Names, AllocError>
+    ensures { IfOk result (AreNamesIn settings.now.names.items) }
+{
+    names_of(alloc, settings.names.as_slice())
+}
+
+/// A watch that writes to this trace, with these names.
 fn watch_of<T: ReportOut + Drop>(
     alloc: Global,
-    settings: &Settings,
     names: Names,
     trace: T,
 ) -> JournalWatch<TracingWatch<T>>
-    ensures { result.watch ≡ untold names (get_or settings.now.node.id.0 0 0) (T.written trace) }
+    ensures { result.watch ≡ untold names (T.written trace) (T.failures trace) }
 {
-    let number = settings.node.id().0[0];
     JournalWatch {
-        watch: TracingWatch::new(alloc, names, number, trace),
+        watch: TracingWatch::new(alloc, names, trace),
         is_full: false,
     }
 }
 
 /// Runs a node with this configuration as `run_node` does, and writes what happens in each step to the trace, right after the step. The
-/// trace calls the node by the first byte of its id. If the trace can't be written, the node goes on. At its end it then writes `fault
-/// 14`, and the status is 3 instead of 0. Returns the status, and the writer of the trace.
+/// trace calls nodes by the names of the configuration. If the trace can't be written, the node goes on. At its end it then writes `fault
+/// 14`, or `fault 1` if memory ran out, and the status is 3 instead of 0. Returns the status, and the writer of the trace.
 pub fn run_traced<L: EventLog + Drop, R: ScriptIn, W: ReportOut, T: ReportOut + Drop>(
     alloc: Global,
     config: &[u8],
@@ -87,16 +97,18 @@ pub fn run_traced<L: EventLog + Drop, R: ScriptIn, W: ReportOut, T: ReportOut + 
     trace: T,
 ) -> (u8, T)
     ensures ran { result.0 ≡ 0 → IsTracedRun L.holds L.may_leave config.now (R.left reader.old) (W.written writer.old) (W.written writer.new) log (T.written trace) (T.written result.1) }
+    // With any other status, this is what the node did and kept, why it ended, and its last line.
+    ensures stopped { result.0 ≢ 0 → EndsUntraced L.holds L.may_leave L.faults config.now (streams (R.left reader.old) (R.failures reader.old) (W.written writer.old) (W.failures writer.old)) (streams (R.left reader.new) (R.failures reader.new) (W.written writer.new) (W.failures writer.new)) log (T.failures result.1) result.0 }
 {
     let settings = match settings_of(alloc, config) {
         Ok(settings) => settings,
         Err(fault) => return (refuse(alloc, &fault, writer), trace),
     };
-    let names = match Names::of(alloc, &[], 0) {
+    let names = match names_in(alloc, &settings) {
         Ok(names) => names,
-        Err(fault) => return (fail(LogFault::Failed(fault), writer), trace),
+        Err(_) => return (fail(LogFault::Failed(Fault::NoMemory), writer), trace),
     };
-    let mut watch = watch_of(alloc, &settings, names, trace);
+    let mut watch = watch_of(alloc, names, trace);
     let status = run_status(alloc, &settings, log, reader, writer, &mut watch);
     let JournalWatch { watch, .. } = watch;
     (status, watch.into_trace())

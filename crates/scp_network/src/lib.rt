@@ -19,5 +19,6 @@ pub use linked::link_from;
 pub use network::Network;
 pub use scp_turn::{
     Capacities, Command, Config, Decision, Event, Fate, KvDriver, NoWatch, Node, Origin, Peers,
-    Reply, SharedDecision, Watch, each_node_holds_its_headline, each_node_holds_its_ledger,
+    Reply, SharedDecision, Watch, each_command_is_taken_in_its_turn, each_node_holds_its_headline,
+    each_node_holds_its_ledger,
 };

@@ -32,7 +32,7 @@ impl Model for Network {
     ghost use Rattle.scp_xdr.specs.inside.TreeModel.{coded_row};
     ghost use Rattle.scp_quorum.specs.inside.QuorumTree.{coded_level};
     ghost use Rattle.scp_driver.specs.contracts.kv_driver.KvDriver as driver;
-    ghost use Rattle.scp_ledger.specs.inside.Coding.{machine_code};
+    ghost use Rattle.scp_turn.specs.scp_ledger.specs.inside.Coding.{machine_code};
 
     ghost coded = { Prim.hlevel (codes, machine_code driver.the_row.coded, coded_row coded_level) };
 

@@ -1,5 +1,7 @@
 pub mod Queues
 pub mod Watching
+pub mod Placing
+pub mod Owning
 pub mod Runs
 pub mod Order
 pub mod Choices

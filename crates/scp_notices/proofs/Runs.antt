@@ -10,7 +10,9 @@ use Rattle.scp_network.specs.Network.{NetworkView}
 use Rattle.scp_script.specs.declared.command.Command.{Command}
 use Rattle.scp_line.specs.declared.player.Stopped.{Stopped}
 use Rattle.scp_line.specs.declared.watch.Both.{Both}
+use Rattle.scp_line.specs.Commands.{FatesAreOfTheirLines}
 use Rattle.scp_line.specs.Player.{Lining, lining, IsRun, IsStoppedBy}
+use Rattle.scp_line.specs.scp_report.specs.Node.{reports_of}
 use Rattle.scp_line.proofs.Runs.{run_as, run_from, cut_at, first_notes, second_notes}
 use Rattle.scp_script_check.specs.declared.reading.Script.{Script}
 use Rattle.scp_script_check.specs.Lines.{IsSaid}
@@ -18,9 +20,10 @@ use Rattle.scp_notices.specs.declared.commands.Told.{Told}
 use Rattle.scp_notices.specs.declared.notice.Notice.{Notice}
 use Rattle.scp_notices.specs.declared.playing.RunFault.{RunFault}
 use Rattle.scp_notices.specs.declared.playing.Watched.{Watched}
-use Rattle.scp_notices.specs.Run.{Notes, nothing_noted, noticing, run_notices, Shows, IsRan, IsWatched, IsStoppedIn}
+use Rattle.scp_notices.specs.Run.{nothing_noted, noticing, run_notices, IsRan, IsWatched, IsStoppedIn}
 use Rattle.scp_notices.specs.inside.Playing.{ShowsBoth}
 use Rattle.scp_notices.specs.inside.Watching.{WatchView, notes_line, notes_step}
+use Rattle.scp_notices.proofs.Owning.{reports_own}
 use Rattle.scp_notices.proofs.Watching.{notes_event, watching, held, notes_as}
 
 -- what both watches of a run note of it
@@ -36,16 +39,17 @@ abbrev pub pair : {W : Type 0} → WatchView → W → Both WatchView W
 pair {W} first second = record { first = first; second = second }
 
 -- all lines were played
-pub both_shown : {W : Type 0} (Begins : W → ℕ → Command → Nodes → W → Type 0) (Ends : W → ℕ → Command → Bool → Nodes → W → Type 0) (Before : W → ℕ → Event → NodeView → W → Type 0) (After : W → ℕ → Reply → NodeView → W → Type 0) (commands : List Command) (lines : List ℕ) (network : NetworkView) (first : WatchView) (watch : W) (new : Both WatchView W) (told : List Told) (cut : List ℕ) (notices : List Notice)
-    → IsRun (both_note Begins Ends Before After) commands lines network (pair first watch) new → held first ≡ nothing_noted → new.first.lacks_memory ≡ false → told ≡ new.first.told → cut ≡ new.first.cut → notices ≡ run_notices commands lines network.nodes told cut → ShowsBoth (lining Begins Ends Before After) commands lines network notices watch new.second
-both_shown {W} Begins Ends Before After commands lines network first watch new told cut notices run begun calm told_are cut_are is =
+pub both_shown : {W : Type 0} → FatesAreOfTheirLines → (Begins : W → ℕ → Command → Nodes → W → Type 0) (Ends : W → ℕ → Command → Bool → Nodes → W → Type 0) (Before : W → ℕ → Event → NodeView → W → Type 0) (After : W → ℕ → Reply → NodeView → W → Type 0) (commands : List Command) (lines : List ℕ) (network : NetworkView) (first : WatchView) (watch : W) (new : Both WatchView W) (told : List Told) (cut : List ℕ) (notices : List Notice)
+    → IsRun (both_note Begins Ends Before After) commands lines network (pair first watch) new → held first ≡ nothing_noted → new.first.lacks_memory ≡ false → told ≡ new.first.told → cut ≡ new.first.cut → notices ≡ run_notices commands lines (reports_of network.nodes) told cut → ShowsBoth (lining Begins Ends Before After) commands lines network notices watch new.second
+both_shown {W} law Begins Ends Before After commands lines network first watch new told cut notices run begun calm told_are cut_are is =
     let mine = run_as (both_note Begins Ends Before After) (λ (w : Both WatchView W). false) watching (λ (w : Both WatchView W). w.first) (first_notes (λ old line command nodes new. new ≡ old) notes_line notes_event notes_step Begins Ends Before After) commands lines network (pair first watch) new run refl in
     let noted = run_from noticing commands lines network (held first) nothing_noted (held new.first) begun (run_as watching (λ (w : WatchView). w.lacks_memory) noticing held notes_as commands lines network first new.first mine calm) in
     let other = run_as (both_note Begins Ends Before After) (λ (w : Both WatchView W). false) (lining Begins Ends Before After) (λ (w : Both WatchView W). w.second) (second_notes (λ old line command nodes new. new ≡ old) notes_line notes_event notes_step Begins Ends Before After) commands lines network (pair first watch) new run refl in (
       record {
         noted = held new.first;
         run = noted;
-        notices_are = is ∙ ap (λ (t : List Told). run_notices commands lines network.nodes t cut) told_are ∙ ap (λ (k : List ℕ). run_notices commands lines network.nodes new.first.told k) cut_are;
+        own = reports_own law commands lines network (held new.first) noted;
+        notices_are = is ∙ ap (λ (t : List Told). run_notices commands lines (reports_of network.nodes) t cut) told_are ∙ ap (λ (k : List ℕ). run_notices commands lines (reports_of network.nodes) new.first.told k) cut_are;
       },
       record { run = other; one = refl },
     )

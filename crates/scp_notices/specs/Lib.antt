@@ -3,6 +3,8 @@ pub mod Texts
 pub mod Disagreeing
 pub mod Lost
 pub mod Ignoring
+pub mod Own
+pub mod Nodes
 pub mod Run
 pub mod Threads
 pub mod inside

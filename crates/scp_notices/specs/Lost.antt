@@ -1,9 +1,9 @@
 -- Own statements that were replaced or dropped before they were sent (this project's profile).
-use Rattle.std.specs.Prelude.{ℕ, ◌-◌, Bool, ◌||◌, List, [], ◌∷◌, Option, Some, None, length, flat_map, get_or, nat_eq, slice_get, if◌then◌else◌}
+use Rattle.std.specs.Prelude.{ℕ, ◌-◌, Bool, ◌||◌, List, [], ◌∷◌, Option, Some, None, length, flat_map, nat_eq, slice_get, if◌then◌else◌}
 use Rattle.std.specs.List.{list_any}
-use Rattle.scp_outboxes.specs.Handing.{overwritten_at}
-use Rattle.scp_core.specs.Kv.{NodeView}
 use Rattle.scp_network.specs.Rounds.{link_of}
+use Rattle.scp_line.specs.scp_report.specs.declared.report.LinkReport.{LinkReport}
+use Rattle.scp_line.specs.scp_report.specs.Report.{ReportView}
 use Rattle.scp_script.specs.declared.command.Command.{Command}
 use Rattle.scp_script.specs.Nodes.{numbers}
 use Rattle.scp_script_check.specs.Nodes.{sends_on, is_scripted_in}
@@ -15,13 +15,14 @@ use Rattle.scp_notices.specs.declared.notice.Notice.TheVariants.{Overwritten}
 abbrev pub is_silent : List Command → ℕ → ℕ → Bool
 is_silent commands from to = list_any (sends_on from to) commands || is_scripted_in to commands
 
--- the number of own statements that a node lost for the peer of each link, as its outboxes count them
-abbrev pub losses_of : NodeView → ℕ → ℕ
-losses_of node link = overwritten_at node.outboxes link
+-- the number of own statements that were lost on a link; 0 if there is no such link
+abbrev pub lost_over : Option LinkReport → ℕ
+lost_over None = 0
+lost_over (Some link) = link.overwritten
 
--- the same for a node of a run in threads: the count at the link's place, or 0
-abbrev pub losses_in : List ℕ → ℕ → ℕ
-losses_in losses link = get_or losses link 0
+-- the number of own statements that a node lost for the peer of each link, as its record has it
+abbrev pub losses_of : ReportView → ℕ → ℕ
+losses_of report link = lost_over (slice_get report.links link)
 
 -- the count at a link; 0 if there is no such node
 abbrev pub lost_by : Option (ℕ → ℕ) → ℕ → ℕ

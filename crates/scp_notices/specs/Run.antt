@@ -1,12 +1,14 @@
 -- What a run of a script shows, and the notices of it (this project's profile).
 use Rattle.std.specs.Prelude.{ℕ, ◌≡◌, ◌≢◌, Bool, List, [], ◌∷◌, ◌++◌, Some, length, map, slice_get, if◌then◌else◌}
 use Rattle.scp_types.specs.declared.fault.Fault.TheVariants.{NoMemory as no_memory}
-use Rattle.scp_network.specs.Heard.{Nodes}
+use Rattle.scp_core.specs.Kv.{NodeView}
 use Rattle.scp_network.specs.Network.{NetworkView}
 use Rattle.scp_script.specs.declared.command.Command.{Command}
 use Rattle.scp_line.specs.declared.playing.PlayFault.{PlayFault}
 use Rattle.scp_line.specs.Nodes.{IsStoppedAt}
 use Rattle.scp_line.specs.Player.{Lining, IsRun}
+use Rattle.scp_line.specs.scp_report.specs.Report.{ReportView}
+use Rattle.scp_line.specs.scp_report.specs.Node.{reports_of}
 use Rattle.scp_script_check.specs.declared.reading.Script.{Script}
 use Rattle.scp_script_check.specs.Lines.{IsSaid, IsNotRead}
 use Rattle.scp_notices.specs.declared.commands.Told.{Told}
@@ -14,9 +16,9 @@ use Rattle.scp_notices.specs.declared.notice.Notice.{Notice}
 use Rattle.scp_notices.specs.declared.notice.Notice.TheVariants.{Unsettled}
 use Rattle.scp_notices.specs.declared.playing.RunFault.{RunFault}
 use Rattle.scp_notices.specs.declared.playing.RunFault.TheVariants.{Unread, Stopped, GivenUp}
-use Rattle.scp_notices.specs.Disagreeing.{disagreements}
-use Rattle.scp_notices.specs.Ignoring.{Tells, ignored}
-use Rattle.scp_notices.specs.Lost.{losses_of, all_lost}
+use Rattle.scp_notices.specs.Ignoring.{Tells}
+use Rattle.scp_notices.specs.Nodes.{nodes_notices}
+use Rattle.scp_notices.specs.Own.{ReportsOwn}
 
 -- ---- a run, line by line
 
@@ -48,20 +50,16 @@ noticing = record {
 abbrev pub unsettled : List ℕ → List Notice
 unsettled cut = map (λ line. Unsettled line 100000) cut
 
--- The notices of a run, in this order: the lines that were cut off, the lines whose commands did nothing, the slots for which nodes applied
--- different values, and the links whose own statements were lost.
-abbrev pub run_notices : List Command → List ℕ → Nodes → List Told → List ℕ → List Notice
-run_notices commands lines nodes told cut =
-    unsettled cut
-    ++ (ignored told lines commands
-    ++ (disagreements (map (λ node. node.applier.applied) nodes)
-    ++ all_lost commands (map losses_of nodes)))
+-- The notices of a run, from the records of its nodes: first the lines that were cut off, and then those that both ways to run a script have.
+abbrev pub run_notices : List Command → List ℕ → List ReportView → List Told → List ℕ → List Notice
+run_notices commands lines reports told cut = unsettled cut ++ nodes_notices commands lines told reports
 
--- the nodes played all commands, and the notices are those of that run
+-- The nodes played all commands, and the notices are those of that run. The fate that a notice shows for a line is that of the line's command.
 pub record Shows (commands : List Command) (lines : List ℕ) (network : NetworkView) (notices : List Notice) : Type 0 where
   pub noted : Notes
   pub run : IsRun noticing commands lines network nothing_noted noted
-  pub notices_are : notices ≡ run_notices commands lines network.nodes noted.told noted.cut
+  pub own : (place : ℕ) (node : NodeView) → slice_get network.nodes place ≡ Some node → ReportsOwn commands run.played.heard noted.told place node
+  pub notices_are : notices ≡ run_notices commands lines (reports_of network.nodes) noted.told noted.cut
 
 -- The text is a script without a bad line, the nodes played all its lines, and the notices are those of that run.
 pub record IsRan (text : List ℕ) (script : Script) (network : NetworkView) (notices : List Notice) : Type 0 where

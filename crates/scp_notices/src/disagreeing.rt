@@ -4,9 +4,10 @@ ghost use Rattle.std.specs.Option.{option_copied};
 ghost use Rattle.scp_apply.specs.Applied.{AreInOrder, value_of};
 ghost use Rattle.scp_notices.specs.Disagreeing.{choices_from, differ, nodes_with, side_of, sides_of, disagreement, disagreements, most_applied};
 ghost use Rattle.scp_notices.specs.inside.Choices.{choice_seen, values_seen, has_value, side_behind};
+ghost use Rattle.scp_notices.specs.inside.Seen.{applied_in};
 
-use crate::applied::Applies;
 use crate::notice::{Notice, Numbers, Side, Sides};
+use scp_line::Report;
 use scp_types::{Fault, Value};
 use std::alloc::{AllocError, Global};
 
@@ -18,32 +19,32 @@ struct Choice<'a> {
 }
 
 /// The value that a node applied for a slot, if it applied it.
-fn value_for<N: Applies>(node: &N, slot: u64) -> Option<&Value>
-    requires in_order { AreInOrder 1 (N.applied_in node.now) }
+fn value_for<'a>(report: &'a Report<'_>, slot: u64) -> Option<&'a Value>
+    requires in_order { AreInOrder 1 (applied_in report.now) }
     requires slot { 1 ≤ slot }
-    ensures { option_copied result ≡ value_of slot (N.applied_in node.entry.now) }
+    ensures { option_copied result ≡ value_of slot (applied_in report.entry.now) }
 {
-    match node.applied().get((slot - 1) as usize) {
+    match report.applied.get((slot - 1) as usize) {
         Some(decision) => Some(&decision.get().value),
         None => None,
     }
 }
 
 /// What the nodes applied for a slot, in the order of their numbers.
-fn choices<'a, N: Applies>(
+fn choices<'a>(
     alloc: Global,
-    nodes: &'a [N],
+    reports: &'a [Report<'_>],
     slot: u64,
 ) -> Result<Vec<Choice<'a>>, AllocError>
-    requires in_order { All (λ node. AreInOrder 1 (N.applied_in node)) nodes.now }
-    requires few { length nodes.now ≤ 8 }
+    requires in_order { All (λ report. AreInOrder 1 (applied_in report)) reports.now }
+    requires few { length reports.now ≤ 8 }
     requires slot { 1 ≤ slot }
-    ensures { IfOk result (λ choices. map choice_seen choices.items ≡ choices_from slot 1 (map N.applied_in nodes.entry.now)) }
+    ensures { IfOk result (λ choices. map choice_seen choices.items ≡ choices_from slot 1 (map applied_in reports.entry.now)) }
 {
     let mut choices = Vec::new(alloc);
     let mut number: u8 = 1;
-    for node in nodes {
-        if let Some(value) = value_for(node, slot) {
+    for report in reports {
+        if let Some(value) = value_for(report, slot) {
             choices.push(Choice {
                 node: number,
                 value,
@@ -139,15 +140,15 @@ fn sides(alloc: Global, choices: &[Choice<'_>]) -> Result<Sides, Fault>
 }
 
 /// Adds a notice, if nodes applied different values for the slot.
-fn add_slot<N: Applies>(out: &mut Vec<Notice>, nodes: &[N], slot: u64) -> Result<(), Fault>
-    requires in_order { All (λ node. AreInOrder 1 (N.applied_in node)) nodes.now }
-    requires few { length nodes.now ≤ 8 }
+fn add_slot(out: &mut Vec<Notice>, reports: &[Report<'_>], slot: u64) -> Result<(), Fault>
+    requires in_order { All (λ report. AreInOrder 1 (applied_in report)) reports.now }
+    requires few { length reports.now ≤ 8 }
     requires slot { 1 ≤ slot }
-    ensures added { OnOk result (out.new.items ≡ out.old.items ++ disagreement (map N.applied_in nodes.now) slot) }
+    ensures added { OnOk result (out.new.items ≡ out.old.items ++ disagreement (map applied_in reports.now) slot) }
     ensures only_memory { IsOkUnless result Fault.NoMemory }
 {
     let alloc = *out.allocator();
-    let choices = choices(alloc, nodes, slot)?;
+    let choices = choices(alloc, reports, slot)?;
     if are_different(choices.as_slice()) {
         let sides = sides(alloc, choices.as_slice())?;
         out.push(Notice::Disagree { slot, sides })?;
@@ -156,25 +157,25 @@ fn add_slot<N: Applies>(out: &mut Vec<Notice>, nodes: &[N], slot: u64) -> Result
 }
 
 /// The number of slots that the node applied that applied most.
-fn most<N: Applies>(nodes: &[N]) -> usize
-    ensures { result ≡ most_applied (map N.applied_in nodes.now) }
+fn most(reports: &[Report<'_>]) -> usize
+    ensures { result ≡ most_applied (map applied_in reports.now) }
 {
     let mut most = 0;
-    for node in nodes {
-        most = most.max(node.applied().len());
+    for report in reports {
+        most = most.max(report.applied.len());
     }
     most
 }
 
 /// Adds a notice for each slot for which nodes applied different values. Its time grows with the number of slots.
-pub fn add_disagreements<N: Applies>(out: &mut Vec<Notice>, nodes: &[N]) -> Result<(), Fault>
-    requires in_order { All (λ node. AreInOrder 1 (N.applied_in node)) nodes.now }
-    requires few { length nodes.now ≤ 8 }
-    ensures added { OnOk result (out.new.items ≡ out.old.items ++ disagreements (map N.applied_in nodes.now)) }
+pub fn add_disagreements(out: &mut Vec<Notice>, reports: &[Report<'_>]) -> Result<(), Fault>
+    requires in_order { All (λ report. AreInOrder 1 (applied_in report)) reports.now }
+    requires few { length reports.now ≤ 8 }
+    ensures added { OnOk result (out.new.items ≡ out.old.items ++ disagreements (map applied_in reports.now)) }
     ensures only_memory { IsOkUnless result Fault.NoMemory }
 {
-    for place in 0..most(nodes) {
-        add_slot(out, nodes, place as u64 + 1)?;
+    for place in 0..most(reports) {
+        add_slot(out, reports, place as u64 + 1)?;
     }
     Ok(())
 }

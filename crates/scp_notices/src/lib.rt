@@ -17,10 +17,10 @@
 //! answered.
 #![tactic(auto)]
 
-mod applied;
 mod commands;
 mod disagreeing;
 mod lost;
+mod nodes;
 mod notice;
 mod playing;
 mod text;
@@ -29,8 +29,6 @@ mod watch;
 
 pub use notice::{Notice, Numbers, Side, Sides};
 pub use playing::{Ran, RunFault, Watched, run, run_watched};
-pub use scp_line::{
-    PlayFault, line_of_fault, what_is_played_keeps_the_headlines, write_all_gathered, write_reports,
-};
+pub use scp_line::{PlayFault, line_of_fault, what_is_played_keeps_the_headlines};
 pub use text::text_of_notices;
 pub use threads::{RanInThreads, run_in_threads};

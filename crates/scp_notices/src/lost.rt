@@ -1,43 +1,24 @@
 //! Own statements that were replaced or dropped before they were sent.
-ghost use Rattle.std.specs.Prelude.{◌≡◌, ◌≤◌, ◌++◌, ◌||◌, ℕ, OnOk, length, map};
+ghost use Rattle.std.specs.Prelude.{◌≡◌, ◌≤◌, ◌++◌, ◌||◌, OnOk, length, map};
 ghost use Rattle.std.specs.List.{list_any};
 ghost use Rattle.scp_script_check.specs.Nodes.{sends_on as sends_it};
-ghost use Rattle.scp_notices.specs.Lost.{losses_of, losses_in, is_silent, lost_to, lost_on, lost_of, all_lost};
+ghost use Rattle.scp_notices.specs.Lost.{is_silent, lost_to, lost_on, lost_of, all_lost};
+ghost use Rattle.scp_notices.specs.inside.Seen.{lost_in};
 
 use crate::notice::Notice;
-use scp_core::Node;
+use scp_line::Report;
 use scp_network::link_from;
 use scp_script::Command;
 use scp_script_check::is_scripted;
 use std::alloc::AllocError;
 
-/// A type that counts the own statements that a node lost.
-pub trait Loses {
-    /// The count for the peer of each link.
-    ghost losses_at: { Self → ℕ → ℕ };
-
-    /// The count for the peer of a link.
-    fn lost_on(&self, link: u8) -> u64
-        ensures { result ≡ losses_at self.now link };
-}
-
-impl Loses for Node {
-    ghost losses_at = { losses_of };
-
-    fn lost_on(&self, link: u8) -> u64 {
-        self.overwritten(link)
-    }
-}
-
-/// The counts by the places of the links.
-impl Loses for Vec<u64> {
-    ghost losses_at = { λ losses. losses_in losses.items };
-
-    fn lost_on(&self, link: u8) -> u64 {
-        match self.get(usize::from(link)) {
-            Some(count) => *count,
-            None => 0,
-        }
+/// The number of own statements that a node lost for the peer of a link.
+fn lost_over(report: &Report<'_>, link: u8) -> u64
+    ensures { result ≡ lost_in report.now link }
+{
+    match report.links.get(usize::from(link)) {
+        Some(lost) => lost.overwritten,
+        None => 0,
     }
 }
 
@@ -68,31 +49,31 @@ fn is_mute(commands: &[Command], from: u8, to: u8) -> bool
 }
 
 /// The number of own statements of one node for another that were lost, by the numbers of both.
-fn lost<N: Loses>(nodes: &[N], from: u8, to: u8) -> u64
+fn lost(reports: &[Report<'_>], from: u8, to: u8) -> u64
     requires from { 1 ≤ from }
-    ensures { result ≡ lost_to (map N.losses_at nodes.now) from to }
+    ensures { result ≡ lost_to (map lost_in reports.now) from to }
 {
-    match nodes.get(usize::from(from - 1)) {
-        Some(node) => node.lost_on(link_from(to, from)),
+    match reports.get(usize::from(from - 1)) {
+        Some(report) => lost_over(report, link_from(to, from)),
         None => 0,
     }
 }
 
 /// Adds a notice, if own statements of one node for another were lost, though they were meant to go out.
-fn add_link<N: Loses>(
+fn add_link(
     out: &mut Vec<Notice>,
     commands: &[Command],
-    nodes: &[N],
+    reports: &[Report<'_>],
     node: u8,
     peer: u8,
 ) -> Result<(), AllocError>
     requires node { 1 ≤ node }
-    ensures { OnOk result (out.new.items ≡ out.old.items ++ lost_on commands.now (map N.losses_at nodes.now) node peer) }
+    ensures { OnOk result (out.new.items ≡ out.old.items ++ lost_on commands.now (map lost_in reports.now) node peer) }
 {
     if node == peer || is_mute(commands, node, peer) {
         return Ok(());
     }
-    let count = lost(nodes, node, peer);
+    let count = lost(reports, node, peer);
     if count > 0 {
         out.push(Notice::Overwritten { node, peer, count })?;
     }
@@ -100,34 +81,34 @@ fn add_link<N: Loses>(
 }
 
 /// Adds a notice for each other node for which this one lost own statements.
-fn add_node<N: Loses>(
+fn add_node(
     out: &mut Vec<Notice>,
     commands: &[Command],
-    nodes: &[N],
+    reports: &[Report<'_>],
     node: u8,
 ) -> Result<(), AllocError>
     requires node { 1 ≤ node }
-    requires few { length nodes.now ≤ 8 }
-    ensures { OnOk result (out.new.items ≡ out.old.items ++ lost_of commands.now (map N.losses_at nodes.now) node) }
+    requires few { length reports.now ≤ 8 }
+    ensures { OnOk result (out.new.items ≡ out.old.items ++ lost_of commands.now (map lost_in reports.now) node) }
 {
-    for index in 0..nodes.len() {
-        add_link(out, commands, nodes, node, index as u8 + 1)?;
+    for index in 0..reports.len() {
+        add_link(out, commands, reports, node, index as u8 + 1)?;
     }
     Ok(())
 }
 
 /// Adds a notice for each pair of nodes, the first of which lost own statements for the second that were meant to go out, in the order of
 /// their numbers.
-pub fn add_lost<N: Loses>(
+pub fn add_lost(
     out: &mut Vec<Notice>,
     commands: &[Command],
-    nodes: &[N],
+    reports: &[Report<'_>],
 ) -> Result<(), AllocError>
-    requires few { length nodes.now ≤ 8 }
-    ensures { OnOk result (out.new.items ≡ out.old.items ++ all_lost commands.now (map N.losses_at nodes.now)) }
+    requires few { length reports.now ≤ 8 }
+    ensures { OnOk result (out.new.items ≡ out.old.items ++ all_lost commands.now (map lost_in reports.now)) }
 {
-    for index in 0..nodes.len() {
-        add_node(out, commands, nodes, index as u8 + 1)?;
+    for index in 0..reports.len() {
+        add_node(out, commands, reports, index as u8 + 1)?;
     }
     Ok(())
 }

@@ -6,20 +6,20 @@ ghost use Rattle.scp_script.specs.Nodes.{NamesNodes};
 ghost use Rattle.scp_line.specs.Headlines.{AreNodesHeadlined};
 ghost use Rattle.scp_line.specs.Nodes.{HaveRoom};
 ghost use Rattle.scp_line.specs.Player.{lining};
+ghost use Rattle.scp_line.specs.scp_report.specs.Node.{reports_of as records_of};
 ghost use Rattle.scp_notices.specs.Run.{unsettled, run_notices, IsRan, IsWatched, IsRunFault};
 ghost use Rattle.scp_notices.specs.inside.Playing.{stop_of, IsStop, ShowsBoth};
 ghost use Rattle.scp_script_check.specs.scp_device.specs.declared.bad.ReadFault.TheVariants as reads;
 ghost use Rattle.scp_notices.specs.declared.playing.RunFault.TheVariants.{Unread};
 
-use crate::commands::{Told, add_ignored};
-use crate::disagreeing::add_disagreements;
-use crate::lost::add_lost;
+use crate::commands::Told;
+use crate::nodes::add_nodes;
 use crate::notice::Notice;
 use crate::watch::CommandWatch;
 use scp_core::{KvDriver, each_node_holds_its_ledger};
 use scp_line::{
-    Both, LineWatch, Nobody, PlayFault, a_script_has_room, new_network, play_lines,
-    what_is_played_keeps_the_headlines,
+    Both, LineWatch, Nobody, PlayFault, a_script_has_room, each_fate_is_of_its_command,
+    new_network, play_lines, reports_of, what_is_played_keeps_the_headlines,
 };
 use scp_network::Network;
 use scp_script_check::{ReadFault, Script, read};
@@ -118,16 +118,16 @@ fn notices_of(
     requires count { length script.now.lines.items ≡ length script.now.commands.items }
     requires few { length network.now.nodes ≤ 8 }
     requires in_order { All (λ node. AreInOrder 1 node.applier.applied) network.now.nodes }
-    ensures notices { IfOk result (λ notices. notices.items ≡ run_notices script.now.commands.items script.now.lines.items network.now.nodes told.now cut.now) }
+    ensures notices { IfOk result (λ notices. notices.items ≡ run_notices script.now.commands.items script.now.lines.items (records_of network.now.nodes) told.now cut.now) }
     ensures only_memory { IsOkUnless result Fault.NoMemory }
 {
     let commands = script.commands.as_slice();
-    let nodes = network.nodes();
+    let lines = script.lines.as_slice();
+    let reports = reports_of(alloc, network.nodes())?;
+    let records = reports.as_slice();
     let mut notices = Vec::new(alloc);
     add_unsettled(&mut notices, cut)?;
-    add_ignored(&mut notices, commands, script.lines.as_slice(), told)?;
-    add_disagreements(&mut notices, nodes)?;
-    add_lost(&mut notices, commands, nodes)?;
+    add_nodes(&mut notices, commands, lines, told, records)?;
     Ok(notices)
 }
 
@@ -153,6 +153,7 @@ fn played<W: LineWatch + Drop>(
     };
     each_node_holds_its_ledger::<KvDriver>();
     what_is_played_keeps_the_headlines();
+    each_fate_is_of_its_command();
     match play_lines(
         &mut network,
         &mut both,
@@ -183,7 +184,8 @@ pub fn run_watched<W: LineWatch + Drop>(
     text: &[u8],
     watch: W,
 ) -> Result<Watched<W>, RunFault>
-    // No line is bad, and the nodes played exactly its lines. The notices are exactly those of that run, and the watch noted that run.
+    // No line is bad, and the nodes played exactly its lines. The notices are exactly those of that run, each fate of a command is that of its
+    // own line, and the watch noted that run.
     ensures ran { IfOk result (λ played. (is : IsRan text.now played.ran.script played.ran.network played.ran.notices.items) × IsWatched (lining W.notes_begin W.notes_end W.notes_before W.notes_after) played.ran.script.commands.items played.ran.script.lines.items played.ran.network played.ran.notices.items is.shows watch played.watch) }
     // The headline holds for each of its nodes; it says what matters most.
     ensures headline { IfOk result (λ played. AreNodesHeadlined played.ran.script.commands.items played.ran.network.nodes) }
@@ -208,7 +210,8 @@ pub fn run_watched<W: LineWatch + Drop>(
 /// and own statements that were lost unsent.
 /// It takes the time of playing, and then time in proportion to the lines, the slots and the links.
 pub fn run(alloc: Global, text: &[u8]) -> Result<Ran, RunFault>
-    // No line is bad, and the nodes played exactly its lines. The notices are exactly those of that run.
+    // No line is bad, and the nodes played exactly its lines. The notices are exactly those of that run, and each fate of a command is that of
+    // its own line.
     ensures ran { IfOk result (λ ran. IsRan text.now ran.script ran.network ran.notices.items) }
     // The headline holds for each of its nodes; it says what matters most.
     ensures headline { IfOk result (λ ran. AreNodesHeadlined ran.script.commands.items ran.network.nodes) }

@@ -2,25 +2,26 @@
 ghost use Rattle.std.specs.Prelude.{◌≡◌, ◌≢◌, ◌≤◌, ◌++◌, [], All, OnOk, IfOk, IfErr, IsOkUnless, length, map};
 ghost use Rattle.std.specs.List.{list_any};
 ghost use Rattle.scp_apply.specs.Applied.{AreInOrder};
-ghost use Rattle.scp_script.specs.Script.{AreAdmitted};
+ghost use Rattle.scp_script.specs.Script.{AreAdmitted, node_count};
 ghost use Rattle.scp_script.specs.Nodes.{NamesNodes};
 ghost use Rattle.scp_line.specs.Headlines.{AreReportsHeadlined};
 ghost use Rattle.scp_line.specs.Nodes.{HaveRoom};
+ghost use Rattle.scp_line.specs.scp_report.specs.Report.{view_of};
+ghost use Rattle.scp_line.specs.scp_report.specs.Left.{reports_left as records_left};
 ghost use Rattle.scp_line.specs.scp_threaded_script.specs.Reported.{AreAllKept};
 ghost use Rattle.scp_notices.specs.Ignoring.{told_by};
 ghost use Rattle.scp_notices.specs.Threads.{told_in, is_wait, no_wait, gave_up_at, gave_up, threads_notices, ShowsThreads, IsRanInThreads, IsThreadsFault};
 ghost use Rattle.scp_notices.specs.inside.Threads.{ended_by, IsEnding};
 
-use crate::commands::{Told, add_ignored};
-use crate::disagreeing::add_disagreements;
-use crate::lost::add_lost;
+use crate::commands::Told;
+use crate::nodes::add_nodes;
 use crate::notice::Notice;
 use crate::playing::RunFault;
 use scp_core::{CommandFate, KvDriver};
 use scp_gather::{NodeReport, what_is_reported_keeps_the_headline};
 use scp_line::{
-    PlayFault, a_script_has_room, run_in_threads as play_in_threads,
-    what_is_played_keeps_the_headlines,
+    PlayFault, Report, a_script_has_room, each_fate_is_of_its_command, reports_left,
+    run_in_threads as play_in_threads, sets_of, what_is_played_keeps_the_headlines,
 };
 use scp_script::{Command, count_of_nodes};
 use scp_script_check::{ReadFault, Script, read};
@@ -93,14 +94,14 @@ fn add_told(told: &mut Vec<Told>, node: u8, fates: &[CommandFate]) -> Result<(),
 }
 
 /// What the nodes reported of their commands, node 1 first.
-fn told_of(alloc: Global, reports: &[NodeReport]) -> Result<Vec<Told>, AllocError>
+fn told_of(alloc: Global, reports: &[Report<'_>]) -> Result<Vec<Told>, AllocError>
     requires few { length reports.now ≤ 8 }
-    ensures { IfOk result (λ told. told.items ≡ told_in reports.now) }
+    ensures { IfOk result (λ told. told.items ≡ told_in (map view_of reports.now)) }
 {
     let mut told = Vec::new(alloc);
     let mut number: u8 = 1;
     for report in reports {
-        add_told(&mut told, number, report.commands.as_slice())?;
+        add_told(&mut told, number, report.commands)?;
         number += 1;
     }
     Ok(told)
@@ -110,26 +111,28 @@ fn told_of(alloc: Global, reports: &[NodeReport]) -> Result<Vec<Told>, AllocErro
 fn notices_of(
     alloc: Global,
     script: &Script,
-    reports: &[NodeReport],
+    nodes: &[NodeReport],
     places: &[usize],
     losses: &[Vec<u64>],
 ) -> Result<Vec<Notice>, Fault>
     requires names { All NamesNodes script.now.commands.items }
+    requires admitted { AreAdmitted [] script.now.commands.items }
     requires count { length script.now.lines.items ≡ length script.now.commands.items }
-    requires few { length reports.now ≤ 8 }
-    requires few_too { length losses.now ≤ 8 }
-    requires in_order { All (λ report. AreInOrder 1 report.applied.items) reports.now }
-    ensures notices { IfOk result (λ notices. notices.items ≡ threads_notices script.now.commands.items script.now.lines.items reports.now places.now (map (λ row. row.items) losses.now)) }
+    requires total { length nodes.now ≡ node_count script.now.commands.items }
+    requires few { length nodes.now ≤ 8 }
+    requires in_order { All (λ node. AreInOrder 1 node.applied.items) nodes.now }
+    ensures notices { IfOk result (λ notices. notices.items ≡ threads_notices script.now.commands.items script.now.lines.items (records_left script.now.commands.items nodes.now (map (λ row. row.items) losses.now)) places.now) }
     ensures only_memory { IsOkUnless result Fault.NoMemory }
 {
     let commands = script.commands.as_slice();
     let lines = script.lines.as_slice();
-    let told = told_of(alloc, reports)?;
+    let sets = sets_of(alloc, commands)?;
+    let reports = reports_left(alloc, commands, sets.as_slice(), nodes, losses)?;
+    let records = reports.as_slice();
+    let told = told_of(alloc, records)?;
     let mut notices = Vec::new(alloc);
     add_gave_up(&mut notices, lines, places)?;
-    add_ignored(&mut notices, commands, lines, told.as_slice())?;
-    add_disagreements(&mut notices, reports)?;
-    add_lost(&mut notices, commands, losses)?;
+    add_nodes(&mut notices, commands, lines, told.as_slice(), records)?;
     add_no_wait(&mut notices, commands)?;
     Ok(notices)
 }
@@ -169,6 +172,7 @@ fn played<T: Threads + Wait + Sync>(
     };
     what_is_reported_keeps_the_headline::<KvDriver>();
     what_is_played_keeps_the_headlines();
+    each_fate_is_of_its_command();
     let notices = notices_of(
         alloc,
         &script,
@@ -194,7 +198,8 @@ pub fn run_in_threads<T: Threads + Wait + Sync>(
     text: &[u8],
     keeps: bool,
 ) -> Result<RanInThreads, RunFault>
-    // No line is bad, and these are the reports of its nodes. The notices are exactly those of these reports and of these lines.
+    // No line is bad, and these are the reports of its nodes. The notices are exactly those of these reports and of these lines, and each fate of
+    // a command is that of its own line.
     ensures ran { IfOk result (λ ran. IsRanInThreads text.now ran.script ran.reports.items ran.notices.items) }
     // The headline holds for the report of each of its nodes; it says what matters most.
     ensures headline { IfOk result (λ ran. AreReportsHeadlined ran.script.commands.items ran.reports.items) }

@@ -1,27 +1,31 @@
 -- The reports that a script asks for.
-use Rattle.std.proofs.Common.{◌≡◌, ◌<◌, ◌≤◌, ◌+◌, ◌-◌, ℕ, List, [], ◌∷◌, ◌++◌, Option, Some, None, map, length, drop, get_or, refl, sym, ◌∙◌, ap, subst, append_assoc, append-nil, arith}
+use Rattle.std.proofs.Common.{◌≡◌, ◌<◌, ◌≤◌, ◌+◌, ◌-◌, ℕ, zero, suc, List, [], ◌∷◌, ◌++◌, Option, Some, None, map, length, drop, get_or, refl, sym, ◌∙◌, ap, subst, append_assoc, append-nil, arith}
 use Rattle.std.specs.Prelude.{flat_map, slice_get, option_to_list}
-use Rattle.std.proofs.lemmas.List.{at_drop_all}
+use Rattle.std.proofs.lemmas.List.{at_drop_all, length-map}
 use Rattle.std.proofs.lemmas.Option.{slice_get_read, slice_get_past}
 use Rattle.scp_script.specs.declared.command.Command.{Command}
 use Rattle.scp_script.specs.Nodes.{reports_in}
-use Rattle.scp_line.specs.Report.{ReportView}
-use Rattle.scp_report.specs.Reports.{view_at}
+use Rattle.scp_report.specs.Report.{ReportView}
+use Rattle.scp_report.specs.Reports.{record_at}
 
--- what is told of a node that is there, and of one that isn't
-view_there : {N : Type 0} (view : ℕ → ℕ → N → ReportView) (nodes : List N) (number : ℕ) (o : Option N) → slice_get nodes (number - 1) ≡ o → view_at view nodes number ≡ map (view (length nodes) number) (option_to_list o)
-view_there {N} view nodes number o e = ap (λ (x : Option N). map (view (length nodes) number) (option_to_list x)) e
+-- what stands at a place, as it is seen
+pub seen_at : {X Y : Type 0} (see : X → Y) (xs : List X) (k : ℕ) (x : X) → slice_get xs k ≡ Some x → slice_get (map see xs) k ≡ Some (see x)
+seen_at see [] k x e = absurd cc
+seen_at see (y ∷ ys) zero x e = cc
+seen_at see (y ∷ ys) (suc k) x e = seen_at see ys k x e
 
--- the same of a node that is read at its place, and of a place behind the last
-pub view_within : {N : Type 0} (view : ℕ → ℕ → N → ReportView) (nodes : List N) (k number : ℕ) (node : N) → number ≡ k + 1 → k < length nodes → node ≡ get_or nodes k node → view_at view nodes number ≡ view (length nodes) number node ∷ []
-view_within {N} view nodes k number node is within e =
+-- the record that is read at its place, and a place behind the last
+record_within : {X : Type 0} (see : X → ReportView) (xs : List X) (k number : ℕ) (x : X) → number ≡ k + 1 → k < length xs → x ≡ get_or xs k x → record_at (map see xs) number ≡ see x ∷ []
+record_within {X} see xs k number x is within e =
     let place : k ≡ number - 1 = omega (arith, is) in
-    view_there view nodes number (Some node) (subst (λ (i : ℕ). slice_get nodes i ≡ Some node) place (slice_get_read nodes (length nodes) k node refl within e))
+    let there : slice_get (map see xs) k ≡ Some (see x) = seen_at see xs k x (slice_get_read xs (length xs) k x refl within e) in
+    ap (λ (o : Option ReportView). option_to_list o) (subst (λ (i : ℕ). slice_get (map see xs) i ≡ Some (see x)) place there)
 
-pub view_past : {N : Type 0} (view : ℕ → ℕ → N → ReportView) (nodes : List N) (k number : ℕ) → number ≡ k + 1 → length nodes ≤ k → view_at view nodes number ≡ []
-view_past view nodes k number is past =
+record_past : {X : Type 0} (see : X → ReportView) (xs : List X) (k number : ℕ) → number ≡ k + 1 → length xs ≤ k → record_at (map see xs) number ≡ []
+record_past {X} see xs k number is past =
     let place : k ≡ number - 1 = omega (arith, is) in
-    view_there view nodes number None (subst (λ (i : ℕ). slice_get nodes i ≡ None) place (slice_get_past nodes k past))
+    let long : length (map see xs) ≤ k = omega (arith, length-map xs see, past) in
+    ap (λ (o : Option ReportView). option_to_list o) (subst (λ (i : ℕ). slice_get (map see xs) i ≡ None) place (slice_get_past (map see xs) k long))
 
 -- ---- one more
 
@@ -44,18 +48,18 @@ map_flat f g (x ∷ xs) = map_then f (g x) (flat_map g xs) ∙ ap (λ l. map f (
 
 -- ---- of one node
 
-pub told_within : {N A : Type 0} (f : ReportView → List A) (view : ℕ → ℕ → N → ReportView) (nodes : List N) (k number : ℕ) (node : N) → number ≡ k + 1 → k < length nodes → node ≡ get_or nodes k node → flat_map f (view_at view nodes number) ≡ f (view (length nodes) number node)
-told_within f view nodes k number node is within e = ap (flat_map f) (view_within view nodes k number node is within e) ∙ append-nil (f (view (length nodes) number node))
+pub told_within : {X A : Type 0} (f : ReportView → List A) (see : X → ReportView) (xs : List X) (k number : ℕ) (x : X) → number ≡ k + 1 → k < length xs → x ≡ get_or xs k x → flat_map f (record_at (map see xs) number) ≡ f (see x)
+told_within f see xs k number x is within e = ap (flat_map f) (record_within see xs k number x is within e) ∙ append-nil (f (see x))
 
-pub shown_within : {N A : Type 0} (f : ReportView → A) (view : ℕ → ℕ → N → ReportView) (nodes : List N) (k number : ℕ) (node : N) → number ≡ k + 1 → k < length nodes → node ≡ get_or nodes k node → map f (view_at view nodes number) ≡ f (view (length nodes) number node) ∷ []
-shown_within f view nodes k number node is within e = ap (map f) (view_within view nodes k number node is within e)
+pub shown_within : {X A : Type 0} (f : ReportView → A) (see : X → ReportView) (xs : List X) (k number : ℕ) (x : X) → number ≡ k + 1 → k < length xs → x ≡ get_or xs k x → map f (record_at (map see xs) number) ≡ f (see x) ∷ []
+shown_within f see xs k number x is within e = ap (map f) (record_within see xs k number x is within e)
 
 -- where the node isn't there nothing is added
-pub told_past : {N A : Type 0} (f : ReportView → List A) (view : ℕ → ℕ → N → ReportView) (nodes : List N) (k number : ℕ) (out : List A) → number ≡ k + 1 → length nodes ≤ k → out ≡ out ++ flat_map f (view_at view nodes number)
-told_past f view nodes k number out is past = sym (ap (λ vs. out ++ flat_map f vs) (view_past view nodes k number is past) ∙ append-nil out)
+pub told_past : {X A : Type 0} (f : ReportView → List A) (see : X → ReportView) (xs : List X) (k number : ℕ) (out : List A) → number ≡ k + 1 → length xs ≤ k → out ≡ out ++ flat_map f (record_at (map see xs) number)
+told_past f see xs k number out is past = sym (ap (λ rs. out ++ flat_map f rs) (record_past see xs k number is past) ∙ append-nil out)
 
-pub shown_past : {N A : Type 0} (f : ReportView → A) (view : ℕ → ℕ → N → ReportView) (nodes : List N) (k number : ℕ) (out : List A) → number ≡ k + 1 → length nodes ≤ k → out ≡ out ++ map f (view_at view nodes number)
-shown_past f view nodes k number out is past = sym (ap (λ vs. out ++ map f vs) (view_past view nodes k number is past) ∙ append-nil out)
+pub shown_past : {X A : Type 0} (f : ReportView → A) (see : X → ReportView) (xs : List X) (k number : ℕ) (out : List A) → number ≡ k + 1 → length xs ≤ k → out ≡ out ++ map f (record_at (map see xs) number)
+shown_past f see xs k number out is past = sym (ap (λ rs. out ++ map f rs) (record_past see xs k number is past) ∙ append-nil out)
 
 -- ---- at the end
 

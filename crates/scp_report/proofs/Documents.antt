@@ -10,8 +10,9 @@ use Rattle.scp_ledger.specs.declared.journal.Fate.TheVariants.{Taken, Dropped, C
 use Rattle.scp_ledger.specs.declared.journal.Origin.{Origin}
 use Rattle.scp_ledger.specs.declared.journal.Origin.TheVariants.{Machine, Named}
 use Rattle.scp_ledger.specs.declared.journal.Decision.{Decision}
-use Rattle.scp_line.specs.declared.report.Parked.{Parked}
-use Rattle.scp_line.specs.Report.{ReportView, node_number, conns_of}
+use Rattle.scp_report.specs.declared.report.Parked.{Parked}
+use Rattle.scp_report.specs.Report.{ReportView}
+use Rattle.scp_report.specs.Settled.{node_number, conns_of}
 use Rattle.scp_report.specs.Json.{count, fate_json, fates_on, parked_on, connection_json, origin_json, applied_json, state_json, json_of, document_of, document_text}
 
 all_none : {X : Type 0} (f : X → Data) (xs : List X) → ((x : X) → has_float (f x) ≡ false) → items_have_float (items_of (map f xs)) ≡ false

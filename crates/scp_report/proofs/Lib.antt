@@ -1,3 +1,8 @@
-pub mod Asked
-pub mod Documents
+pub mod Numbers
+pub mod Rows
+pub mod Sets
+pub mod Sections
+pub mod ConnectionOrder
 pub mod Sorting
+pub mod Documents
+pub mod Asked

@@ -7,7 +7,7 @@ use Rattle.scp_types.specs.Order.{conn_cmp}
 use Rattle.scp_wire.specs.Connections.{same_conn}
 use Rattle.scp_ledger.specs.declared.journal.Fate.{Fate}
 use Rattle.scp_theorem.specs.Fates.{conn_of}
-use Rattle.scp_line.proofs.Sections.{ties, same_is_equal}
+use Rattle.scp_report.proofs.Sections.{ties, same_is_equal}
 use Rattle.scp_report.specs.Json.{fates_on}
 use Rattle.scp_report.specs.inside.Grouped.{fates_or_none}
 

@@ -13,9 +13,10 @@ use Rattle.scp_ledger.specs.declared.journal.Decision.{Decision}
 use Rattle.scp_wire.specs.Connections.{same_conn}
 use Rattle.scp_theorem.specs.Fates.{conn_of}
 use Rattle.scp_text.specs.Values.{bytes_text, value_text}
-use Rattle.scp_line.specs.declared.report.Parked.{Parked}
+use Rattle.scp_report.specs.declared.report.Parked.{Parked}
 use Rattle.scp_words.specs.Words.{verdict_word, cause_word, drop_word}
-use Rattle.scp_line.specs.Report.{ReportView, node_number, conns_of}
+use Rattle.scp_report.specs.Report.{ReportView}
+use Rattle.scp_report.specs.Settled.{node_number, conns_of}
 
 -- A number of the document.
 abbrev pub count : ℕ → Data

@@ -1,3 +1,8 @@
+pub mod Report
+pub mod Waiting
+pub mod Node
+pub mod Left
+pub mod Settled
 pub mod Text
 pub mod Json
 pub mod Reports

@@ -6,7 +6,8 @@ use Rattle.hex.specs.Hex.{encode_lower}
 use Rattle.scp_ledger.specs.declared.journal.Decision.{Decision}
 use Rattle.scp_text.specs.Pieces.{bracketed}
 use Rattle.scp_text.specs.Values.{bytes_text, value_text}
-use Rattle.scp_line.specs.Report.{ReportView, origin_words, section_of, conns_of}
+use Rattle.scp_report.specs.Report.{ReportView}
+use Rattle.scp_report.specs.Settled.{origin_words, section_of, conns_of}
 
 -- One of the bytes is `=`.
 abbrev pub has_equals : List ℕ → Bool

@@ -5,12 +5,12 @@ ghost use Rattle.hex.specs.Hex.{encode_lower};
 ghost use Rattle.serde_json.specs.Data.{string, array, object, member, no_members};
 ghost use Rattle.serde_json.specs.View.{view, items_of};
 ghost use Rattle.scp_text.specs.Values.{bytes_text, value_text};
-ghost use Rattle.scp_line.specs.Report.{node_number};
+ghost use Rattle.scp_report.specs.Settled.{node_number};
 ghost use Rattle.scp_report.specs.Json.{count, origin_json, applied_json, state_json};
 
+use crate::settled::number_of;
+use scp_core::{Decision, Origin, SharedDecision};
 use scp_kv::KvState;
-use scp_ledger::{Decision, Origin, SharedDecision};
-use scp_line::number_of;
 use scp_text::{Term, write_bytes};
 use scp_types::{ConnId, Fault, Value as Bytes};
 use serde_json::{Value, json};

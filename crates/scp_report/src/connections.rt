@@ -4,14 +4,14 @@ ghost use Rattle.scp_ledger.specs.declared.journal.Fate.{Fate};
 ghost use Rattle.serde_json.specs.Data.{string, array, object, member, no_members};
 ghost use Rattle.serde_json.specs.View.{view, items_of};
 ghost use Rattle.scp_words.specs.Words.{verdict_word, cause_word, drop_word};
-ghost use Rattle.scp_line.specs.Report.{node_number, conns_of};
+ghost use Rattle.scp_report.specs.Settled.{node_number, conns_of};
 ghost use Rattle.scp_report.specs.Json.{count, fate_json, fates_on, parked_on as parked_at, connection_json};
 ghost use Rattle.scp_report.specs.inside.Grouped.{fates_at};
 
 use crate::grouped::grouped;
-use scp_ledger::{Fate, Verdict};
-use scp_line::{Parked, connections_of, number_of};
-use scp_pending::DropCause;
+use crate::report::Parked;
+use crate::settled::{connections_of, number_of};
+use scp_core::{DropCause, Fate, Verdict};
 use scp_types::ConnId;
 use scp_wire::Cause;
 use scp_words::{word_of_cause, word_of_drop, word_of_verdict};

@@ -2,14 +2,13 @@
 ghost use Rattle.std.specs.Prelude.{◌≡◌, map, codes, IfOk, IsOkUnless, List, string_bytes};
 ghost use Rattle.serde_json.specs.Data.{array, object, member, no_members};
 ghost use Rattle.serde_json.specs.View.{view, items_of};
-ghost use Rattle.scp_line.specs.Report.{ReportView};
-ghost use Rattle.scp_line.specs.Parts.{view_of, state_of};
+ghost use Rattle.scp_report.specs.Report.{ReportView, view_of, state_of};
 ghost use Rattle.scp_report.specs.Json.{count, json_of, state_json, document_of, document_text};
 
 use crate::applied::{applied_values, state_values};
 use crate::connections::connection_values;
+use crate::report::Report;
 use scp_kv::KvState;
-use scp_line::ReportParts;
 use scp_types::Fault;
 use serde_json::{Value, json};
 use std::alloc::{AllocError, Global};
@@ -40,15 +39,15 @@ fn node_with(
 
 /// The report of a node as JSON. The time grows with the number of entries times the logarithm of the number of connections. The only refusal
 /// is `NoMemory`.
-pub fn json_of_parts(alloc: Global, parts: &ReportParts<'_>) -> Result<Value, Fault>
-    // It is the JSON of what the parts show.
-    ensures value { IfOk result (λ v. view v ≡ json_of (view_of parts.now)) }
+pub fn value_of(alloc: Global, report: &Report<'_>) -> Result<Value, Fault>
+    // It is the JSON of what the record shows.
+    ensures value { IfOk result (λ v. view v ≡ json_of (view_of report.now)) }
     ensures only_memory { IsOkUnless result Fault.NoMemory }
 {
-    let applied = applied_values(alloc, parts.applied)?;
-    let connections = connection_values(alloc, parts.journal, parts.parked)?;
-    let state = state_or_none(alloc, parts.state)?;
-    let value = node_with(alloc, applied, connections, parts.node, state)?;
+    let applied = applied_values(alloc, report.applied)?;
+    let connections = connection_values(alloc, report.journal, report.parked.as_slice())?;
+    let state = state_or_none(alloc, report.state)?;
+    let value = node_with(alloc, applied, connections, report.node, state)?;
     Ok(value)
 }
 

@@ -7,8 +7,8 @@ ghost use Rattle.scp_theorem.specs.Fates.{conn_of};
 ghost use Rattle.scp_report.specs.Json.{fates_on};
 ghost use Rattle.scp_report.specs.inside.Grouped.{fates_at};
 
-use scp_ledger::Fate;
-use scp_line::conn_of_fate;
+use crate::settled::conn_of_fate;
+use scp_core::Fate;
 use scp_types::ConnId;
 use std::alloc::{AllocError, Global};
 use std::collections::BTreeMap;

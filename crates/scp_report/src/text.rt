@@ -3,12 +3,13 @@ ghost use Rattle.std.specs.Prelude.{◌≡◌, ◌++◌, codes, OnOk, IsOkUnless
 ghost use Rattle.hex.specs.Hex.{encode_lower};
 ghost use Rattle.scp_text.specs.Pieces.{bracketed};
 ghost use Rattle.std.specs.FinMap as map;
-ghost use Rattle.scp_line.specs.Parts.{view_of};
+ghost use Rattle.scp_report.specs.Report.{view_of};
 ghost use Rattle.scp_report.specs.Text.{has_equals, key_text, applied_text_line, state_text_line, text_report_of};
 
+use crate::report::Report;
+use crate::settled::{write_origin, write_sections};
+use scp_core::{Decision, SharedDecision};
 use scp_kv::KvState;
-use scp_ledger::{Decision, SharedDecision};
-use scp_line::{ReportParts, write_origin, write_sections};
 use scp_text::{Term, write_bytes};
 use scp_types::{Fault, Value};
 use std::alloc::AllocError;
@@ -62,7 +63,7 @@ fn write_applied(out: &mut String, applied: &Decision) -> Result<(), Fault>
 }
 
 /// Adds the lines of the applied slots, with their values as text. The only refusal is `NoMemory`.
-pub fn write_applied_list(out: &mut String, applied: &[SharedDecision]) -> Result<(), Fault>
+fn write_applied_list(out: &mut String, applied: &[SharedDecision]) -> Result<(), Fault>
     ensures added { OnOk result (string_bytes out.new ≡ string_bytes out.old ++ flat_map applied_text_line applied.now) }
     ensures only_memory { IsOkUnless result Fault.NoMemory }
 {
@@ -86,7 +87,7 @@ fn write_entry(out: &mut String, key: &Value, value: &Value) -> Result<(), Fault
 }
 
 /// Adds the lines of a state, ascending by key, with keys and values as text. The only refusal is `NoMemory`.
-pub fn write_state(out: &mut String, state: &KvState) -> Result<(), Fault>
+fn write_state(out: &mut String, state: &KvState) -> Result<(), Fault>
     ensures added { OnOk result (string_bytes out.new ≡ string_bytes out.old ++ flat_map state_text_line (map.entries state.now)) }
     ensures only_memory { IsOkUnless result Fault.NoMemory }
 {
@@ -98,16 +99,16 @@ pub fn write_state(out: &mut String, state: &KvState) -> Result<(), Fault>
 
 /// Adds a node's report, with values and keys as people write them. The time grows with the number of entries times the logarithm of the
 /// number of connections. The only refusal is `NoMemory`.
-pub fn write_text_report(out: &mut String, parts: &ReportParts<'_>) -> Result<(), Fault>
-    // It is the report of what the parts show.
-    ensures added { OnOk result (string_bytes out.new ≡ string_bytes out.old ++ text_report_of (view_of parts.now)) }
+pub fn write_text(out: &mut String, report: &Report<'_>) -> Result<(), Fault>
+    // It is the report of what the record shows.
+    ensures added { OnOk result (string_bytes out.new ≡ string_bytes out.old ++ text_report_of (view_of report.now)) }
     ensures only_memory { IsOkUnless result Fault.NoMemory }
 {
-    let node = parts.node;
+    let node = report.node;
     writeln!(out, "node {node}")?;
-    write_sections(out, parts.journal, parts.parked)?;
-    write_applied_list(out, parts.applied)?;
-    if let Some(state) = parts.state {
+    write_sections(out, report.journal, report.parked.as_slice())?;
+    write_applied_list(out, report.applied)?;
+    if let Some(state) = report.state {
         write_state(out, state)?;
     }
     out.push_str("end\n")?;

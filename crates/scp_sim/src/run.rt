@@ -5,7 +5,7 @@ ghost use Rattle.scp_sim.specs.Simulated.{IsSimulated};
 
 use crate::first::{beginning, see_numbers};
 use crate::world::{SimFault, Simulated, World};
-use scp_line::write_reports;
+use scp_line::played_reports;
 use scp_network::Network;
 use scp_script::Command;
 use scp_sim_options::Plan;
@@ -63,9 +63,7 @@ fn reports_of(alloc: Global, network: &Network, commands: &[Command]) -> Result<
 {
     let nodes = network.nodes();
     let few = &nodes[..nodes.len().min(MOST_NODES)];
-    let mut reports = String::new(alloc);
-    write_reports(few, &mut reports, commands)?;
-    Ok(reports)
+    played_reports(alloc, few, commands)
 }
 
 /// The last lines of the script, and the reports.

@@ -1,8 +1,8 @@
 -- A script that was played once more (this project's profile).
-use Rattle.std.specs.Prelude.{ℕ, ◌≡◌, Bool, List, flat_map}
-use Rattle.scp_line.specs.Play.{report_at}
+use Rattle.std.specs.Prelude.{ℕ, ◌≡◌, Bool, List}
+use Rattle.scp_line.specs.scp_report.specs.Node.{reports_of}
+use Rattle.scp_line.specs.scp_report.specs.Reports.{settled_text}
 use Rattle.scp_network.specs.Network.{NetworkView}
-use Rattle.scp_script.specs.Nodes.{reports_in}
 use Rattle.scp_notices.specs.declared.notice.Notice.{Notice}
 use Rattle.scp_notices.specs.Run.{IsRan}
 use Rattle.scp_script_check.specs.declared.reading.Script.{Script}
@@ -12,7 +12,7 @@ use Rattle.scp_sim_findings.specs.Outcome.{IsFound}
 -- The script was played, and its reports are exactly these.
 pub record IsReplayed (text reports : List ℕ) (script : Script) (network : NetworkView) (notices : List Notice) : Type 0 where
   pub ran : IsRan text script network notices
-  pub reports_are : reports ≡ flat_map (report_at network.nodes) (reports_in script.commands.items)
+  pub reports_are : reports ≡ settled_text (reports_of network.nodes) script.commands.items
 
 -- Playing the script leads to this finding.
 pub record ComesTo (text : List ℕ) (finding : Finding) (marks : List Bool) (slots : ℕ) : Type 0 where

@@ -1,12 +1,12 @@
 //! How a script is played once more.
 ghost use Rattle.scp_script.specs.Nodes.{NamesNodes};
-ghost use Rattle.std.specs.Prelude.{◌≡◌, ◌≤◌, length, All, IfOk, IsTrue, string_bytes, flat_map};
-ghost use Rattle.scp_line.specs.Play.{report_at};
-ghost use Rattle.scp_script.specs.Nodes.{reports_in};
+ghost use Rattle.std.specs.Prelude.{◌≡◌, ◌≤◌, length, All, IfOk, IsTrue, string_bytes};
+ghost use Rattle.scp_line.specs.scp_report.specs.Node.{reports_of as records_of};
+ghost use Rattle.scp_line.specs.scp_report.specs.Reports.{settled_text};
 ghost use Rattle.scp_sim_findings.specs.Replayed.{IsReplayed, ComesTo};
 
 use crate::outcome::{Finding, Judging, is_found};
-use scp_line::write_reports;
+use scp_line::played_reports;
 use scp_notices::{Ran, RunFault, run};
 use scp_script_check::ReadFault;
 use std::alloc::{AllocError, Global};
@@ -32,14 +32,10 @@ impl From<AllocError> for ReplayFault {
 fn reports_of(alloc: Global, ran: &Ran) -> Result<String, AllocError>
     requires names { All NamesNodes ran.now.script.commands.items }
     requires few { length ran.now.network.nodes ≤ 8 }
-    ensures { IfOk result (λ text. string_bytes text ≡ flat_map (report_at ran.now.network.nodes) (reports_in ran.now.script.commands.items)) }
+    ensures { IfOk result (λ text. string_bytes text ≡ settled_text (records_of ran.now.network.nodes) ran.now.script.commands.items) }
 {
-    let mut text = String::new(alloc);
-    write_reports(
-        ran.network.nodes(),
-        &mut text,
-        ran.script.commands.as_slice(),
-    )?;
+    let commands = ran.script.commands.as_slice();
+    let text = played_reports(alloc, ran.network.nodes(), commands)?;
     Ok(text)
 }
 

@@ -1,13 +1,13 @@
--- One node, one life or one text more.
-use Rattle.std.proofs.Common.{◌≡◌, ◌+◌, ◌&&◌, ℕ, suc, Bool, true, false, not, List, [], ◌∷◌, ◌++◌, flat_map, filter, map, nat_eq, ap, sym, ◌∙◌, refl, append_assoc, append-nil, arith}
+-- One link, one life or one text more.
+use Rattle.std.proofs.Common.{◌≡◌, ◌+◌, ℕ, suc, Bool, List, [], ◌∷◌, ◌++◌, flat_map, ap, sym, ◌∙◌, refl, append_assoc, append-nil, arith}
 use Rattle.std.specs.Prelude.{if◌then◌else◌}
 use Rattle.std.proofs.lemmas.Grind.{flat_map-append}
-use Rattle.std.proofs.lemmas.List.{map-append}
-use Rattle.std.proofs.lemmas.List.Elements.{filter-append}
 use Rattle.scp_types.specs.declared.names.NodeId.{NodeId}
-use Rattle.scp_script.specs.Nodes.{numbers, id_of}
+use Rattle.scp_core.specs.declared.config.Config.{Config}
+use Rattle.scp_core.specs.History.{peer_at}
+use Rattle.scp_script.specs.Nodes.{numbers}
 use Rattle.scp_stand_slot.specs.Adding.{Adds}
-use Rattle.scp_stand_node.specs.Links.{others_with}
+use Rattle.scp_stand_node.specs.Links.{of_links, peers_with}
 use Rattle.scp_stand_node.specs.Slots.{AreTexts}
 
 pub one_more : {X : Type 0} (f : ℕ → List X) (n : ℕ) → flat_map f (numbers (n + 1)) ≡ flat_map f (numbers n) ++ f (n + 1)
@@ -20,25 +20,24 @@ pub text_more : (f : ℕ → List ℕ) (n : ℕ) (first old new : List ℕ) → 
 text_more f n first old new before more =
     more ∙ ap (λ l. l ++ f (n + 1)) before ∙ append_assoc first (flat_map f (numbers n)) (f (n + 1)) ∙ ap (λ l. first ++ l) (sym (one_more f n))
 
--- ---- nodes that pass a test
+-- ---- links
 
-one_with : (b : Bool) (x : ℕ) → map id_of (if b then x ∷ [] else []) ≡ (if b then id_of x ∷ [] else [])
-one_with true x = refl
-one_with false x = refl
-
-pub with_more : (n number : ℕ) (test : ℕ → Bool) (meant : Bool) (old new : List NodeId) → meant ≡ (not (nat_eq (n + 1) number) && test (n + 1)) → old ≡ others_with n number test → new ≡ old ++ (if meant then id_of (n + 1) ∷ [] else []) → new ≡ others_with (n + 1) number test
-with_more n number test meant old new is before more =
+-- what is told of one link more is added
+pub link_more : (f : ℕ → List ℕ) (n : ℕ) (first old new : List ℕ) → old ≡ first ++ of_links f n → new ≡ old ++ f n → new ≡ first ++ of_links f (n + 1)
+link_more f n first old new before more =
     let e : n + 1 ≡ suc n = omega arith in
-    let t = λ (other : ℕ). not (nat_eq other number) && test other in
-    let is' : meant ≡ t (suc n) = rw (← e) is in
-    let more' : new ≡ old ++ (if meant then id_of (suc n) ∷ [] else []) = rw (← e) more in
+    rw e (more ∙ ap (λ l. l ++ f n) before ∙ append_assoc first (of_links f n) (f n))
+
+-- the node at the other end of one link more, if it passes the test
+pub peer_more : (config : Config) (test : ℕ → Bool) (n : ℕ) (meant : Bool) (node : NodeId) (old new : List NodeId)
+    → meant ≡ test n → node ≡ peer_at config n → old ≡ peers_with config test n → new ≡ old ++ (if meant then node ∷ [] else []) → new ≡ peers_with config test (n + 1)
+peer_more config test n meant node old new is same before more =
+    let e : n + 1 ≡ suc n = omega arith in
     rw e (
-    more'
-    ∙ ap (λ (b : Bool). old ++ (if b then id_of (suc n) ∷ [] else [])) is'
-    ∙ ap (λ l. l ++ (if t (suc n) then id_of (suc n) ∷ [] else [])) before
-    ∙ ap (λ l. map id_of (filter t (numbers n)) ++ l) (sym (one_with (t (suc n)) (suc n)))
-    ∙ sym (map-append id_of (filter t (numbers n)) (filter t (suc n ∷ [])))
-    ∙ ap (λ l. map id_of l) (sym (filter-append t (numbers n) (suc n ∷ []))))
+    more
+    ∙ ap (λ (b : Bool). old ++ (if b then node ∷ [] else [])) is
+    ∙ ap (λ (v : NodeId). old ++ (if test n then v ∷ [] else [])) same
+    ∙ ap (λ (l : List NodeId). l ++ (if test n then peer_at config n ∷ [] else [])) before)
 
 -- ---- texts of which something holds
 

@@ -1,36 +1,35 @@
 -- The lines of a slot and of a node, one behind the other.
 use Rattle.std.proofs.Common.{◌≡◌, ◌⊎◌, inl, inr, ◌↔◌, ℕ, Bool, true, false, List, [], ◌++◌, ap, sym, ◌∙◌, refl, append_assoc, append-nil}
-use Rattle.std.specs.Prelude.{find, IsTrue}
+use Rattle.std.specs.Prelude.{Option, find, IsTrue}
 use Rattle.std.proofs.lemmas.Bool.{false≢true}
 use Rattle.scp_types.specs.declared.names.NodeId.{NodeId}
 use Rattle.scp_nominate.specs.Turns.{AreInTurn}
 use Rattle.scp_ledger.specs.Decisions.{is_at}
 use Rattle.scp_ledger.specs.Seen.{machine_at}
 use Rattle.scp_core.specs.Kv.{NodeView}
-use Rattle.scp_script.specs.declared.command.Command.{Command}
-use Rattle.scp_script.specs.Nodes.{id_of}
+use Rattle.scp_turn.specs.Turn.{links_of}
 use Rattle.scp_stand_slot.specs.declared.names.Names.{Names}
 use Rattle.scp_stand_slot.specs.Adding.{Adds}
-use Rattle.scp_stand_node.specs.Links.{of_others, link_text, queues_text, unsent_text}
-use Rattle.scp_stand_node.specs.Holding.{wants_text, held_from}
+use Rattle.scp_stand_node.specs.Links.{of_links, link_text, queues_text, unsent_text, ScriptLines}
+use Rattle.scp_stand_node.specs.Holding.{wants_text, held_on}
 use Rattle.scp_stand_node.specs.Slots.{decided_text, asked_of, asked_text, IsToldOf, IsSlotText, IsTextAbove, AreTexts}
 use Rattle.scp_stand_node.specs.Stand.{stands_line, IsStand}
 
 three : (old a b c : List ℕ) → ((old ++ a) ++ b) ++ c ≡ old ++ ((a ++ b) ++ c)
 three old a b c = simp append_assoc
 
-pub slot_told : (names : Names) (count number : ℕ) (members : List NodeId) (played : List Command) (v : NodeView) (lowest slot : ℕ) (old one two new : List ℕ)
+pub slot_told : (names : Names) (members : List NodeId) (lines : Option ScriptLines) (v : NodeView) (lowest slot : ℕ) (old one two new : List ℕ)
     → lowest ≡ v.ledger.lowest
-    → one ≡ old ++ decided_text number lowest slot (find (is_at slot) v.ledger.decisions)
-    → two ≡ one ++ asked_text number slot (asked_of count number v slot)
-    → Adds two new (IsToldOf names number members slot v.ledger.journal played (machine_at v.ledger.machines slot))
-    → Adds old new (IsSlotText names count number members played v slot)
-slot_told names count number members played v lowest slot old one two new same decided asked (machine, is, told) =
-    let first = decided_text number v.ledger.lowest slot (find (is_at slot) v.ledger.decisions) in
-    let second = asked_text number slot (asked_of count number v slot) in (
+    → one ≡ old ++ decided_text names v.config.me lowest slot (find (is_at slot) v.ledger.decisions)
+    → two ≡ one ++ asked_text names v.config.me slot (asked_of v slot)
+    → Adds two new (IsToldOf names v.config.me members slot v.ledger.journal lines (machine_at v.ledger.machines slot))
+    → Adds old new (IsSlotText names members lines v slot)
+slot_told names members lines v lowest slot old one two new same decided asked (machine, is, told) =
+    let first = decided_text names v.config.me v.ledger.lowest slot (find (is_at slot) v.ledger.decisions) in
+    let second = asked_text names v.config.me slot (asked_of v slot) in (
       first ++ second ++ machine,
       is
-          ∙ ap (λ l. l ++ machine) (asked ∙ ap (λ l. l ++ second) (decided ∙ ap (λ (n : ℕ). old ++ decided_text number n slot (find (is_at slot) v.ledger.decisions)) same))
+          ∙ ap (λ l. l ++ machine) (asked ∙ ap (λ l. l ++ second) (decided ∙ ap (λ (n : ℕ). old ++ decided_text names v.config.me n slot (find (is_at slot) v.ledger.decisions)) same))
           ∙ three old first second machine,
       record { machine = machine; is = refl; told = told },
     )
@@ -68,19 +67,19 @@ seven old a b c d e f g one two three four five six new p q r s t u v =
     ∙ ap (λ l. l ++ g) (u ∙ ap (λ l. l ++ f) (t ∙ ap (λ l. l ++ e) (s ∙ ap (λ l. l ++ d) (r ∙ ap (λ l. l ++ c) (q ∙ ap (λ l. l ++ b) p)))))
     ∙ simp append_assoc
 
-pub stand_told : (names : Names) (count number : ℕ) (commands played : List Command) (v : NodeView) (members : List NodeId) (old one two three four five six new : List ℕ)
-    → AreInTurn (id_of number) v.config.set members
-    → one ≡ old ++ stands_line number v
-    → two ≡ one ++ of_others count number (link_text number v)
-    → Adds two three (AreTexts (IsTextAbove names count number members played v) 16)
-    → four ≡ three ++ wants_text names count number v
-    → five ≡ four ++ of_others count number (held_from names number v)
-    → six ≡ five ++ queues_text count number v
-    → new ≡ six ++ of_others count number (unsent_text commands played number v)
-    → Adds old new (IsStand names count number commands played v)
-stand_told names count number commands played v members old one two three four five six new these first links (slots, is, are) wants holds queues unsent = (
+pub stand_told : (names : Names) (lines : Option ScriptLines) (v : NodeView) (members : List NodeId) (old one two three four five six new : List ℕ)
+    → AreInTurn v.config.me v.config.set members
+    → one ≡ old ++ stands_line names v
+    → two ≡ one ++ of_links (link_text names v) (links_of v)
+    → Adds two three (AreTexts (IsTextAbove names members lines v) 16)
+    → four ≡ three ++ wants_text names v
+    → five ≡ four ++ of_links (held_on names v) (links_of v)
+    → six ≡ five ++ queues_text names v
+    → new ≡ six ++ of_links (unsent_text names lines v) (links_of v)
+    → Adds old new (IsStand names lines v)
+stand_told names lines v members old one two three four five six new these first links (slots, is, are) wants holds queues unsent = (
   _,
-  seven old (stands_line number v) (of_others count number (link_text number v)) slots (wants_text names count number v) (of_others count number (held_from names number v)) (queues_text count number v) (of_others count number (unsent_text commands played number v))
+  seven old (stands_line names v) (of_links (link_text names v) (links_of v)) slots (wants_text names v) (of_links (held_on names v) (links_of v)) (queues_text names v) (of_links (unsent_text names lines v) (links_of v))
       one two three four five six new first links is wants holds queues unsent,
   record { members = members; these = these; slots = slots; of_slots = are; is = refl },
 )

@@ -15,31 +15,30 @@ use Rattle.scp_ledger.specs.declared.journal.Decision.{Decision}
 use Rattle.scp_ledger.specs.Decisions.{is_at}
 use Rattle.scp_ledger.specs.Seen.{is_asked, machine_at}
 use Rattle.scp_core.specs.Kv.{NodeView}
-use Rattle.scp_network.specs.Rounds.{link_of}
+use Rattle.scp_turn.specs.Turn.{links_of}
 use Rattle.scp_text.specs.Values.{value_text}
 use Rattle.scp_script.specs.declared.command.Command.{Command}
 use Rattle.scp_script.specs.declared.command.Command.TheVariants as script
-use Rattle.scp_script.specs.Nodes.{id_of}
 use Rattle.scp_stand_slot.specs.declared.names.Names.{Names}
-use Rattle.scp_stand_slot.specs.Names.{nodes_text}
+use Rattle.scp_stand_slot.specs.Names.{nodes_text, slot_words}
 use Rattle.scp_stand_slot.specs.Machine.{IsMachineText, IsBlankMachine}
-use Rattle.scp_stand_node.specs.Links.{others_with}
+use Rattle.scp_stand_node.specs.Links.{peers_with, ScriptLines, number_in}
 
 -- ---- decided, or asked for
 
 -- The line of a decision that isn't applied yet, because the lowest slot isn't decided. There is none without a decision.
-abbrev pub decided_text : ℕ → ℕ → ℕ → Option Decision → List ℕ
-decided_text number lowest slot None = []
-decided_text number lowest slot (Some decision) = decimal number ++ codes " slot " ++ decimal slot ++ codes " decided " ++ value_text decision.value ++ codes " waits " ++ decimal lowest ++ codes "\n"
+abbrev pub decided_text : Names → NodeId → ℕ → ℕ → Option Decision → List ℕ
+decided_text names me lowest slot None = []
+decided_text names me lowest slot (Some decision) = slot_words names me slot ++ codes " decided " ++ value_text decision.value ++ codes " waits " ++ decimal lowest ++ codes "\n"
 
 -- The nodes that were asked for the slot's record.
-abbrev pub asked_of : ℕ → ℕ → NodeView → ℕ → List NodeId
-asked_of count number v slot = others_with count number (λ from. is_asked v.ledger.asked (record { link = link_of from number; slot = record { 0 = slot } }))
+abbrev pub asked_of : NodeView → ℕ → List NodeId
+asked_of v slot = peers_with v.config (λ link. is_asked v.ledger.asked (record { link = link; slot = record { 0 = slot } })) (links_of v)
 
 -- The line of the nodes that were asked, if there are any.
-abbrev pub asked_text : ℕ → ℕ → List NodeId → List ℕ
-asked_text number slot [] = []
-asked_text number slot (node ∷ nodes) = decimal number ++ codes " slot " ++ decimal slot ++ codes " asked " ++ nodes_text (node ∷ nodes) ++ codes "\n"
+abbrev pub asked_text : Names → NodeId → ℕ → List NodeId → List ℕ
+asked_text names me slot [] = []
+asked_text names me slot (node ∷ nodes) = slot_words names me slot ++ codes " asked " ++ nodes_text names (node ∷ nodes) ++ codes "\n"
 
 -- ---- whether anything began the slot
 
@@ -102,29 +101,34 @@ abbrev pub is_taken : ℕ → ℕ → List Command → Bool
 is_taken number slot [] = false
 is_taken number slot (command ∷ commands) = if moves number slot command then list_any rests commands else is_taken number slot commands
 
--- Something began the slot at the node. It was another node's envelope that its machine judged, or a round or timer that the node took.
--- The node's own envelope that comes back doesn't begin it, nor does a refused proposal.
-abbrev pub is_begun : ℕ → ℕ → List Fate → List Command → Bool
-is_begun number slot journal played = list_any (is_judged slot) journal || is_taken number slot played
+-- The same, if the node plays in a script.
+abbrev pub is_taken_in : Option ScriptLines → ℕ → ℕ → Bool
+is_taken_in None number slot = false
+is_taken_in (Some lines) number slot = is_taken number slot lines.played
+
+-- Something began the slot at the node. It was another node's envelope that its machine judged, or a round or timer of a script that the
+-- node took. The node's own envelope that comes back doesn't begin it, nor does a refused proposal.
+abbrev pub is_begun : NodeId → ℕ → List Fate → Option ScriptLines → Bool
+is_begun me slot journal lines = list_any (is_judged slot) journal || is_taken_in lines (number_in me) slot
 
 -- The machine isn't shown, because nothing that came changed it, and nothing began the slot.
-abbrev pub IsHidden : ℕ → ℕ → List Fate → List Command → SlotMachine KvDriver → Type 0
-IsHidden number slot journal played machine = IsBlankMachine machine × (is_begun number slot journal played ≡ false)
+abbrev pub IsHidden : NodeId → ℕ → List Fate → Option ScriptLines → SlotMachine KvDriver → Type 0
+IsHidden me slot journal lines machine = IsBlankMachine machine × (is_begun me slot journal lines ≡ false)
 
 -- ---- a slot's lines
 
 -- The lines of the slot's machine, if there is one and it is shown.
-abbrev pub IsToldOf : Names → ℕ → List NodeId → ℕ → List Fate → List Command → Option (SlotMachine KvDriver) → List ℕ → Type 0
-IsToldOf names number members slot journal played None text = text ≡ []
-IsToldOf names number members slot journal played (Some machine) text =
-    (IsHidden number slot journal played machine × (text ≡ []))
-    ⊎ ((¬ (IsHidden number slot journal played machine)) × IsMachineText names number (id_of number) members slot machine text)
+abbrev pub IsToldOf : Names → NodeId → List NodeId → ℕ → List Fate → Option ScriptLines → Option (SlotMachine KvDriver) → List ℕ → Type 0
+IsToldOf names me members slot journal lines None text = text ≡ []
+IsToldOf names me members slot journal lines (Some machine) text =
+    (IsHidden me slot journal lines machine × (text ≡ []))
+    ⊎ ((¬ (IsHidden me slot journal lines machine)) × IsMachineText names me members slot machine text)
 
--- The lines of a slot at a node of this many nodes: its decision, the nodes that it asked, and its machine.
-pub record IsSlotText (names : Names) (count number : ℕ) (members : List NodeId) (played : List Command) (v : NodeView) (slot : ℕ) (text : List ℕ) : Type 0 where
+-- The lines of a slot at a node: its decision, the nodes that it asked, and its machine.
+pub record IsSlotText (names : Names) (members : List NodeId) (lines : Option ScriptLines) (v : NodeView) (slot : ℕ) (text : List ℕ) : Type 0 where
   pub machine : List ℕ
-  pub is : text ≡ decided_text number v.ledger.lowest slot (find (is_at slot) v.ledger.decisions) ++ asked_text number slot (asked_of count number v slot) ++ machine
-  pub told : IsToldOf names number members slot v.ledger.journal played (machine_at v.ledger.machines slot) machine
+  pub is : text ≡ decided_text names v.config.me v.ledger.lowest slot (find (is_at slot) v.ledger.decisions) ++ asked_text names v.config.me slot (asked_of v slot) ++ machine
+  pub told : IsToldOf names v.config.me members slot v.ledger.journal lines (machine_at v.ledger.machines slot) machine
 
 -- The slot this many after the lowest one, if it isn't after the last slot, 4294967295.
 abbrev pub slot_above : ℕ → ℕ → Option ℕ
@@ -136,8 +140,8 @@ IsTextOf P None text = text ≡ []
 IsTextOf P (Some slot) text = P slot text
 
 -- The lines of the slot this many after the lowest one.
-abbrev pub IsTextAbove : Names → ℕ → ℕ → List NodeId → List Command → NodeView → ℕ → List ℕ → Type 0
-IsTextAbove names count number members played v place text = IsTextOf (IsSlotText names count number members played v) (slot_above v.ledger.lowest place) text
+abbrev pub IsTextAbove : Names → List NodeId → Option ScriptLines → NodeView → ℕ → List ℕ → Type 0
+IsTextAbove names members lines v place text = IsTextOf (IsSlotText names members lines v) (slot_above v.ledger.lowest place) text
 
 -- This many texts, one after the other. P says which text each is, by its index from 0 on.
 unfoldable pub AreTexts : (ℕ → List ℕ → Type 0) → ℕ → List ℕ → Type 0

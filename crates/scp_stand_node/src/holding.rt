@@ -1,38 +1,36 @@
 //! The sets that a node wants, and the messages that it holds until they come.
-ghost use Rattle.std.specs.Prelude.{◌≡◌, ◌≤◌, ◌++◌, not, ◌&&◌, false, nat_eq, slice_index_or, IfOk, OnOk, IsOkUnless, string_bytes, flat_map, map};
-ghost use Rattle.scp_network.specs.Rounds.{link_of};
-ghost use Rattle.scp_stand_node.specs.Links.{of_other, of_others};
-ghost use Rattle.scp_stand_node.specs.Holding.{asked_for, asked_line, want_line, wants_text, held_text, life_text, held_from};
+ghost use Rattle.std.specs.Prelude.{◌≡◌, ◌++◌, false, slice_index_or, IfOk, OnOk, IsOkUnless, string_bytes, flat_map, map};
+ghost use Rattle.scp_core.specs.History.{peer_at};
+ghost use Rattle.scp_turn.specs.Turn.{links_of};
+ghost use Rattle.scp_stand_node.specs.Links.{of_links};
+ghost use Rattle.scp_stand_node.specs.Holding.{asked_for, asked_line, want_line, wants_text, held_text, life_text, held_on};
 
-use crate::others::{add_if, conn_between, lives_between};
+use crate::others::{add_if, conn_of, links, peer_of, write_me, write_peer};
 use scp_core::Node;
 use scp_fetch::Want;
-use scp_network::link_from;
 use scp_stand_slot::{Names, write_nodes};
 use scp_types::{Fault, Hash, NodeId, Seq};
 use std::alloc::Global;
 
-/// Whether another node was asked for a wanted set.
-fn is_asked_for(number: u8, want: &Want, from: u8) -> bool
-    requires small { from ≤ 8 }
-    ensures { result ≡ (not (nat_eq from number) && slice_index_or want.now.asked (link_of from number) false) }
+/// Whether the node at the other end of a link was asked for a wanted set.
+fn is_asked_for(want: &Want, link: u8) -> bool
+    ensures { result ≡ slice_index_or want.now.asked link false }
 {
-    if from == number {
-        return false;
+    match want.asked.as_slice().get(usize::from(link)) {
+        Some(is_asked) => *is_asked,
+        None => false,
     }
-    want.asked[usize::from(link_from(from, number))]
 }
 
 /// The nodes that were asked for a wanted set.
-fn nodes_asked(alloc: Global, count: u8, number: u8, want: &Want) -> Result<Vec<NodeId>, Fault>
-    requires few { count ≤ 8 }
-    ensures nodes { IfOk result (λ nodes. nodes.items ≡ asked_for count number want.now) }
+fn nodes_asked(alloc: Global, node: &Node, want: &Want) -> Result<Vec<NodeId>, Fault>
+    ensures nodes { IfOk result (λ nodes. nodes.items ≡ asked_for node.now want.now) }
     ensures only_memory { IsOkUnless result Fault.NoMemory }
 {
     let mut nodes = Vec::new(alloc);
-    for index in 0..count {
-        let is_asked = is_asked_for(number, want, index + 1);
-        add_if(&mut nodes, is_asked, index + 1)?;
+    for link in 0..links(node) {
+        let is_asked = is_asked_for(want, link);
+        add_if(&mut nodes, is_asked, peer_of(node, link))?;
     }
     Ok(nodes)
 }
@@ -41,18 +39,19 @@ fn nodes_asked(alloc: Global, count: u8, number: u8, want: &Want) -> Result<Vec<
 fn write_asked_for(
     out: &mut String,
     names: &Names,
-    number: u8,
+    node: &Node,
     want: &Want,
     nodes: &[NodeId],
 ) -> Result<(), Fault>
-    ensures added { OnOk result (string_bytes out.new ≡ string_bytes out.old ++ asked_line names.now number want.now nodes.now) }
+    ensures added { OnOk result (string_bytes out.new ≡ string_bytes out.old ++ asked_line names.now node.now.config.me want.now nodes.now) }
     ensures only_memory { IsOkUnless result Fault.NoMemory }
 {
     let misses = want.misses;
-    write!(out, "{number} wants ")?;
+    write_me(out, names, node)?;
+    out.push_str(" wants ")?;
     names.write_hash(out, &want.hash)?;
     write!(out, " misses {misses} asked ")?;
-    write_nodes(out, nodes)?;
+    write_nodes(out, names, nodes)?;
     out.push_str("\n")?;
     Ok(())
 }
@@ -62,16 +61,14 @@ fn write_want(
     out: &mut String,
     alloc: Global,
     names: &Names,
-    count: u8,
-    number: u8,
+    node: &Node,
     want: &Want,
 ) -> Result<(), Fault>
-    requires few { count ≤ 8 }
-    ensures added { OnOk result (string_bytes out.new ≡ string_bytes out.old ++ want_line names.now count number want.now) }
+    ensures added { OnOk result (string_bytes out.new ≡ string_bytes out.old ++ want_line names.now node.now want.now) }
     ensures only_memory { IsOkUnless result Fault.NoMemory }
 {
-    let nodes = nodes_asked(alloc, count, number, want)?;
-    write_asked_for(out, names, number, want, nodes.as_slice())?;
+    let nodes = nodes_asked(alloc, node, want)?;
+    write_asked_for(out, names, node, want, nodes.as_slice())?;
     Ok(())
 }
 
@@ -80,35 +77,25 @@ fn write_each_want(
     out: &mut String,
     alloc: Global,
     names: &Names,
-    count: u8,
-    number: u8,
+    node: &Node,
     wants: &[&Want],
 ) -> Result<(), Fault>
-    requires few { count ≤ 8 }
-    ensures added { OnOk result (string_bytes out.new ≡ string_bytes out.old ++ flat_map (want_line names.now count number) (map (λ want. want.now) wants.now)) }
+    ensures added { OnOk result (string_bytes out.new ≡ string_bytes out.old ++ flat_map (want_line names.now node.now) (map (λ want. want.now) wants.now)) }
     ensures only_memory { IsOkUnless result Fault.NoMemory }
 {
     for want in wants {
-        write_want(out, alloc, names, count, number, *want)?;
+        write_want(out, alloc, names, node, *want)?;
     }
     Ok(())
 }
 
 /// Adds the lines of all wanted sets.
-pub fn write_wants(
-    out: &mut String,
-    alloc: Global,
-    names: &Names,
-    count: u8,
-    number: u8,
-    node: &Node,
-) -> Result<(), Fault>
-    requires few { count ≤ 8 }
-    ensures added { OnOk result (string_bytes out.new ≡ string_bytes out.old ++ wants_text names.now count number node.now) }
+pub fn write_wants(out: &mut String, alloc: Global, names: &Names, node: &Node) -> Result<(), Fault>
+    ensures added { OnOk result (string_bytes out.new ≡ string_bytes out.old ++ wants_text names.now node.now) }
     ensures only_memory { IsOkUnless result Fault.NoMemory }
 {
     let wants = node.pending().wants()?;
-    write_each_want(out, alloc, names, count, number, wants.as_slice())?;
+    write_each_want(out, alloc, names, node, wants.as_slice())?;
     Ok(())
 }
 
@@ -116,23 +103,23 @@ pub fn write_wants(
 fn write_first_held(
     out: &mut String,
     names: &Names,
-    number: u8,
-    from: u8,
+    node: &Node,
+    link: u8,
     life: u32,
     count: usize,
     first: Option<(Seq, Hash)>,
 ) -> Result<(), Fault>
-    ensures added { OnOk result (string_bytes out.new ≡ string_bytes out.old ++ held_text names.now number from life count first) }
+    ensures added { OnOk result (string_bytes out.new ≡ string_bytes out.old ++ held_text names.now node.now.config.me (peer_at node.now.config link) life count first) }
     ensures only_memory { IsOkUnless result Fault.NoMemory }
 {
     let Some((seq, hash)) = first else {
         return Ok(());
     };
     let first = seq.0;
-    write!(
-        out,
-        "{number} holds {from} {life} {count} first {first} waits "
-    )?;
+    write_me(out, names, node)?;
+    out.push_str(" holds ")?;
+    write_peer(out, names, node, link)?;
+    write!(out, " {life} {count} first {first} waits ")?;
     names.write_hash(out, &hash)?;
     out.push_str("\n")?;
     Ok(())
@@ -142,70 +129,39 @@ fn write_first_held(
 fn write_life(
     out: &mut String,
     names: &Names,
-    number: u8,
     node: &Node,
-    from: u8,
+    link: u8,
     life: u32,
 ) -> Result<(), Fault>
-    ensures added { OnOk result (string_bytes out.new ≡ string_bytes out.old ++ life_text names.now number node.now from life) }
+    ensures added { OnOk result (string_bytes out.new ≡ string_bytes out.old ++ life_text names.now node.now link life) }
     ensures only_memory { IsOkUnless result Fault.NoMemory }
 {
-    let conn = conn_between(from, number, life);
+    let conn = conn_of(node, link, life);
     let count = node.parked(&conn);
     let first = node.pending().first_waiting(&conn);
-    write_first_held(out, names, number, from, life, count, first)?;
+    write_first_held(out, names, node, link, life, count, first)?;
     Ok(())
 }
 
 /// Adds the lines of what is parked on a link's connections.
-fn write_held(
-    out: &mut String,
-    names: &Names,
-    number: u8,
-    node: &Node,
-    from: u8,
-) -> Result<(), Fault>
-    ensures added { OnOk result (string_bytes out.new ≡ string_bytes out.old ++ held_from names.now number node.now from) }
+fn write_held(out: &mut String, names: &Names, node: &Node, link: u8) -> Result<(), Fault>
+    ensures added { OnOk result (string_bytes out.new ≡ string_bytes out.old ++ held_on names.now node.now link) }
     ensures only_memory { IsOkUnless result Fault.NoMemory }
 {
-    let lives = lives_between(node, number, from);
+    let lives = node.lives(link);
     for index in 0..lives {
-        write_life(out, names, number, node, from, index + 1)?;
+        write_life(out, names, node, link, index + 1)?;
     }
-    Ok(())
-}
-
-/// The same, if the link is from another node.
-fn write_other_held(
-    out: &mut String,
-    names: &Names,
-    number: u8,
-    node: &Node,
-    from: u8,
-) -> Result<(), Fault>
-    ensures added { OnOk result (string_bytes out.new ≡ string_bytes out.old ++ of_other number (held_from names.now number node.now) from) }
-    ensures only_memory { IsOkUnless result Fault.NoMemory }
-{
-    if from == number {
-        return Ok(());
-    }
-    write_held(out, names, number, node, from)?;
     Ok(())
 }
 
 /// Adds the lines of all that is parked.
-pub fn write_holds(
-    out: &mut String,
-    names: &Names,
-    count: u8,
-    number: u8,
-    node: &Node,
-) -> Result<(), Fault>
-    ensures added { OnOk result (string_bytes out.new ≡ string_bytes out.old ++ of_others count number (held_from names.now number node.now)) }
+pub fn write_holds(out: &mut String, names: &Names, node: &Node) -> Result<(), Fault>
+    ensures added { OnOk result (string_bytes out.new ≡ string_bytes out.old ++ of_links (held_on names.now node.now) (links_of node.now)) }
     ensures only_memory { IsOkUnless result Fault.NoMemory }
 {
-    for index in 0..count {
-        write_other_held(out, names, number, node, index + 1)?;
+    for link in 0..links(node) {
+        write_held(out, names, node, link)?;
     }
     Ok(())
 }

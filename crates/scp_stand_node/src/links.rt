@@ -1,14 +1,17 @@
 //! A node's links, its queues, and what it didn't send.
 ghost use Rattle.std.specs.Prelude.{◌≡◌, ◌++◌, true, false, OnOk, IsOkUnless, string_bytes, if◌then◌else◌};
 ghost use Rattle.std.specs.List.{list_any};
+ghost use Rattle.scp_core.specs.History.{peer_at};
+ghost use Rattle.scp_turn.specs.Turn.{links_of};
 ghost use Rattle.scp_script.specs.Script.{opens, closes, is_open};
-ghost use Rattle.scp_stand_node.specs.Links.{of_other, of_others, cause_word, cause_by, ended_by, never_line, closed_text, link_text, queue_text, link_queue_line, link_queue_text, queued_from, queues_text, sends, why_unsent, unsent_line, unsent_text};
+ghost use Rattle.scp_stand_node.specs.Links.{of_links, cause_word, cause_by, ended_by, never_line, closed_text, link_text, queue_text, link_queue_line, queued_on, queues_text, number_in, script_of, sends, why_unsent, unsent_line, unsent_text};
 
-use crate::others::{conn_between, lives_between};
+use crate::others::{conn_of, links, peer_of, write_me, write_peer};
+use crate::stand::Lines;
 use scp_core::{Cause, Fate, Node};
-use scp_network::link_from;
 use scp_script::Command;
-use scp_types::{ConnId, Fault};
+use scp_stand_slot::Names;
+use scp_types::{ConnId, Fault, NodeId};
 
 fn word_of_cause(cause: Cause) -> &'static str
     ensures { result.now ≡ cause_word cause }
@@ -46,133 +49,140 @@ fn end_of(journal: &[Fate], conn: &ConnId) -> Option<Cause>
 /// Adds the line of a connection that ended.
 fn write_closed(
     out: &mut String,
-    number: u8,
-    from: u8,
+    names: &Names,
+    node: &Node,
+    link: u8,
     life: u32,
     end: Option<Cause>,
 ) -> Result<(), Fault>
-    ensures added { OnOk result (string_bytes out.new ≡ string_bytes out.old ++ closed_text number from life end) }
+    ensures added { OnOk result (string_bytes out.new ≡ string_bytes out.old ++ closed_text names.now node.now.config.me (peer_at node.now.config link) life end) }
     ensures only_memory { IsOkUnless result Fault.NoMemory }
 {
     if let Some(cause) = end {
         let word = word_of_cause(cause);
-        writeln!(out, "{number} from {from} closed {life} {word}")?;
+        write_me(out, names, node)?;
+        out.push_str(" from ")?;
+        write_peer(out, names, node, link)?;
+        writeln!(out, " closed {life} {word}")?;
     }
     Ok(())
 }
 
 /// Adds the line of a link that was never open.
-fn write_never(out: &mut String, number: u8, from: u8) -> Result<(), Fault>
-    ensures added { OnOk result (string_bytes out.new ≡ string_bytes out.old ++ never_line number from) }
+fn write_never(out: &mut String, names: &Names, node: &Node, link: u8) -> Result<(), Fault>
+    ensures added { OnOk result (string_bytes out.new ≡ string_bytes out.old ++ never_line names.now node.now.config.me (peer_at node.now.config link)) }
     ensures only_memory { IsOkUnless result Fault.NoMemory }
 {
-    writeln!(out, "{number} from {from} never")?;
+    write_me(out, names, node)?;
+    out.push_str(" from ")?;
+    write_peer(out, names, node, link)?;
+    out.push_str(" never\n")?;
     Ok(())
 }
 
 /// Adds the line of a link that was never open, or whose last connection has ended.
-fn write_link(out: &mut String, number: u8, node: &Node, from: u8) -> Result<(), Fault>
-    ensures added { OnOk result (string_bytes out.new ≡ string_bytes out.old ++ link_text number node.now from) }
+fn write_link(out: &mut String, names: &Names, node: &Node, link: u8) -> Result<(), Fault>
+    ensures added { OnOk result (string_bytes out.new ≡ string_bytes out.old ++ link_text names.now node.now link) }
     ensures only_memory { IsOkUnless result Fault.NoMemory }
 {
-    let life = lives_between(node, number, from);
+    let life = node.lives(link);
     if life == 0 {
-        write_never(out, number, from)?;
+        write_never(out, names, node, link)?;
         return Ok(());
     }
-    let end = end_of(node.journal(), &conn_between(from, number, life));
-    write_closed(out, number, from, life, end)?;
-    Ok(())
-}
-
-/// The same, if the link is from another node.
-fn write_other_link(out: &mut String, number: u8, node: &Node, from: u8) -> Result<(), Fault>
-    ensures added { OnOk result (string_bytes out.new ≡ string_bytes out.old ++ of_other number (link_text number node.now) from) }
-    ensures only_memory { IsOkUnless result Fault.NoMemory }
-{
-    if from == number {
-        return Ok(());
-    }
-    write_link(out, number, node, from)?;
+    let end = end_of(node.journal(), &conn_of(node, link, life));
+    write_closed(out, names, node, link, life, end)?;
     Ok(())
 }
 
 /// Adds the links that were never open, or whose last connection has ended.
-pub fn write_links(out: &mut String, count: u8, number: u8, node: &Node) -> Result<(), Fault>
-    ensures added { OnOk result (string_bytes out.new ≡ string_bytes out.old ++ of_others count number (link_text number node.now)) }
+pub fn write_links(out: &mut String, names: &Names, node: &Node) -> Result<(), Fault>
+    ensures added { OnOk result (string_bytes out.new ≡ string_bytes out.old ++ of_links (link_text names.now node.now) (links_of node.now)) }
     ensures only_memory { IsOkUnless result Fault.NoMemory }
 {
-    for index in 0..count {
-        write_other_link(out, number, node, index + 1)?;
+    for link in 0..links(node) {
+        write_link(out, names, node, link)?;
     }
     Ok(())
 }
 
 /// Adds the line of how much waits in a queue, if anything does.
-fn write_queue(out: &mut String, number: u8, word: &str, count: usize) -> Result<(), Fault>
-    ensures added { OnOk result (string_bytes out.new ≡ string_bytes out.old ++ queue_text number word.now count) }
+fn write_queue(
+    out: &mut String,
+    names: &Names,
+    node: &Node,
+    word: &str,
+    count: usize,
+) -> Result<(), Fault>
+    ensures added { OnOk result (string_bytes out.new ≡ string_bytes out.old ++ queue_text names.now node.now.config.me word.now count) }
     ensures only_memory { IsOkUnless result Fault.NoMemory }
 {
     if count > 0 {
-        writeln!(out, "{number} queued {word} {count}")?;
+        write_me(out, names, node)?;
+        writeln!(out, " queued {word} {count}")?;
     }
     Ok(())
 }
 
 /// Adds the line of how much waits in the queue of a link.
-fn write_on_link(out: &mut String, number: u8, from: u8, count: usize) -> Result<(), Fault>
-    ensures added { OnOk result (string_bytes out.new ≡ string_bytes out.old ++ link_queue_line number from count) }
+fn write_on_link(
+    out: &mut String,
+    names: &Names,
+    node: &Node,
+    link: u8,
+    count: usize,
+) -> Result<(), Fault>
+    ensures added { OnOk result (string_bytes out.new ≡ string_bytes out.old ++ link_queue_line names.now node.now.config.me (peer_at node.now.config link) count) }
     ensures only_memory { IsOkUnless result Fault.NoMemory }
 {
-    writeln!(out, "{number} queued link {from} {count}")?;
+    write_me(out, names, node)?;
+    out.push_str(" queued link ")?;
+    write_peer(out, names, node, link)?;
+    writeln!(out, " {count}")?;
     Ok(())
 }
 
 /// The same, if anything waits there.
-fn write_link_queue(out: &mut String, number: u8, from: u8, count: usize) -> Result<(), Fault>
-    ensures added { OnOk result (string_bytes out.new ≡ string_bytes out.old ++ link_queue_text number from count) }
+fn write_link_queue(out: &mut String, names: &Names, node: &Node, link: u8) -> Result<(), Fault>
+    ensures added { OnOk result (string_bytes out.new ≡ string_bytes out.old ++ queued_on names.now node.now link) }
     ensures only_memory { IsOkUnless result Fault.NoMemory }
 {
+    let count = node.queued_on(link);
     if count > 0 {
-        write_on_link(out, number, from, count)?;
+        write_on_link(out, names, node, link, count)?;
     }
-    Ok(())
-}
-
-/// The same, for the link from another node.
-fn write_queued_from(out: &mut String, number: u8, node: &Node, from: u8) -> Result<(), Fault>
-    ensures added { OnOk result (string_bytes out.new ≡ string_bytes out.old ++ of_other number (queued_from number node.now) from) }
-    ensures only_memory { IsOkUnless result Fault.NoMemory }
-{
-    if from == number {
-        return Ok(());
-    }
-    write_link_queue(out, number, from, node.queued_on(link_from(from, number)))?;
     Ok(())
 }
 
 /// Adds the lines of what is in the queues of links.
-fn write_link_queues(out: &mut String, count: u8, number: u8, node: &Node) -> Result<(), Fault>
-    ensures added { OnOk result (string_bytes out.new ≡ string_bytes out.old ++ of_others count number (queued_from number node.now)) }
+fn write_link_queues(out: &mut String, names: &Names, node: &Node) -> Result<(), Fault>
+    ensures added { OnOk result (string_bytes out.new ≡ string_bytes out.old ++ of_links (queued_on names.now node.now) (links_of node.now)) }
     ensures only_memory { IsOkUnless result Fault.NoMemory }
 {
-    for index in 0..count {
-        write_queued_from(out, number, node, index + 1)?;
+    for link in 0..links(node) {
+        write_link_queue(out, names, node, link)?;
     }
     Ok(())
 }
 
 /// Adds the lines of what no settle moved.
-pub fn write_queues(out: &mut String, count: u8, number: u8, node: &Node) -> Result<(), Fault>
-    ensures added { OnOk result (string_bytes out.new ≡ string_bytes out.old ++ queues_text count number node.now) }
+pub fn write_queues(out: &mut String, names: &Names, node: &Node) -> Result<(), Fault>
+    ensures added { OnOk result (string_bytes out.new ≡ string_bytes out.old ++ queues_text names.now node.now) }
     ensures only_memory { IsOkUnless result Fault.NoMemory }
 {
-    write_link_queues(out, count, number, node)?;
+    write_link_queues(out, names, node)?;
     let (inbox, ready, decided) = node.queued();
-    write_queue(out, number, "inbox", inbox)?;
-    write_queue(out, number, "ready", ready)?;
-    write_queue(out, number, "decided", decided)?;
+    write_queue(out, names, node, "inbox", inbox)?;
+    write_queue(out, names, node, "ready", ready)?;
+    write_queue(out, names, node, "decided", decided)?;
     Ok(())
+}
+
+/// The number that a script has for the node with this id.
+pub fn number_of(id: NodeId) -> u8
+    ensures { result ≡ number_in id }
+{
+    id.0[0]
 }
 
 /// Whether the command sends on the link.
@@ -230,86 +240,72 @@ fn is_open_by(commands: &[Command], from: u8, to: u8) -> bool
 }
 
 /// Why a message for another node isn't sent.
-fn word_of_unsent(commands: &[Command], played: &[Command], number: u8, to: u8) -> &'static str
-    ensures { result.now ≡ why_unsent commands.now played.now number to }
+fn word_of_unsent(lines: Option<Lines<'_>>, from: u8, to: u8) -> &'static str
+    ensures { result.now ≡ why_unsent (script_of lines.entry) from to }
 {
-    if is_driven(commands, number, to) {
+    let Some(lines) = lines else {
+        return "shut";
+    };
+    if is_driven(lines.all, from, to) {
         return "driven";
     }
-    if is_open_by(played, number, to) {
+    if is_open_by(lines.played, from, to) {
         return "open";
     }
     "shut"
 }
 
 /// Adds the line of what wasn't sent.
-fn write_waiting(out: &mut String, number: u8, to: u8, count: usize, why: &str) -> Result<(), Fault>
-    ensures added { OnOk result (string_bytes out.new ≡ string_bytes out.old ++ unsent_line number to count why.now) }
+fn write_waiting(
+    out: &mut String,
+    names: &Names,
+    node: &Node,
+    link: u8,
+    count: usize,
+    why: &str,
+) -> Result<(), Fault>
+    ensures added { OnOk result (string_bytes out.new ≡ string_bytes out.old ++ unsent_line names.now node.now.config.me (peer_at node.now.config link) count why.now) }
     ensures only_memory { IsOkUnless result Fault.NoMemory }
 {
-    writeln!(out, "{number} unsent {to} {count} {why}")?;
+    write_me(out, names, node)?;
+    out.push_str(" unsent ")?;
+    write_peer(out, names, node, link)?;
+    writeln!(out, " {count} {why}")?;
     Ok(())
 }
 
 /// Adds the line of what wasn't sent to a node.
 fn write_unsent_to(
     out: &mut String,
-    commands: &[Command],
-    played: &[Command],
-    number: u8,
+    names: &Names,
+    lines: Option<Lines<'_>>,
     node: &Node,
-    to: u8,
+    link: u8,
 ) -> Result<(), Fault>
-    ensures added { OnOk result (string_bytes out.new ≡ string_bytes out.old ++ unsent_text commands.now played.now number node.now to) }
+    ensures added { OnOk result (string_bytes out.new ≡ string_bytes out.old ++ unsent_text names.now (script_of lines.entry) node.now link) }
     ensures only_memory { IsOkUnless result Fault.NoMemory }
 {
-    let count = node.waiting(link_from(to, number));
+    let count = node.waiting(link);
     if count == 0 {
         return Ok(());
     }
-    write_waiting(
-        out,
-        number,
-        to,
-        count,
-        word_of_unsent(commands, played, number, to),
-    )?;
-    Ok(())
-}
-
-/// The same, if it is another node.
-fn write_other_unsent(
-    out: &mut String,
-    commands: &[Command],
-    played: &[Command],
-    number: u8,
-    node: &Node,
-    to: u8,
-) -> Result<(), Fault>
-    ensures added { OnOk result (string_bytes out.new ≡ string_bytes out.old ++ of_other number (unsent_text commands.now played.now number node.now) to) }
-    ensures only_memory { IsOkUnless result Fault.NoMemory }
-{
-    if to == number {
-        return Ok(());
-    }
-    write_unsent_to(out, commands, played, number, node, to)?;
+    let why = word_of_unsent(lines, number_of(node.me()), number_of(peer_of(node, link)));
+    write_waiting(out, names, node, link, count, why)?;
     Ok(())
 }
 
 /// Adds the lines of what wasn't sent.
 pub fn write_unsent(
     out: &mut String,
-    commands: &[Command],
-    played: &[Command],
-    count: u8,
-    number: u8,
+    names: &Names,
+    lines: Option<Lines<'_>>,
     node: &Node,
 ) -> Result<(), Fault>
-    ensures added { OnOk result (string_bytes out.new ≡ string_bytes out.old ++ of_others count number (unsent_text commands.now played.now number node.now)) }
+    ensures added { OnOk result (string_bytes out.new ≡ string_bytes out.old ++ of_links (unsent_text names.now (script_of lines.entry) node.now) (links_of node.now)) }
     ensures only_memory { IsOkUnless result Fault.NoMemory }
 {
-    for index in 0..count {
-        write_other_unsent(out, commands, played, number, node, index + 1)?;
+    for link in 0..links(node) {
+        write_unsent_to(out, names, lines, node, link)?;
     }
     Ok(())
 }

@@ -1,21 +1,21 @@
 //! The lines of a node's slots.
-ghost use Rattle.std.specs.Prelude.{◌≡◌, ◌↔◌, ◌++◌, not, ◌&&◌, false, nat_eq, find, Some, IsTrue, IfOk, OnOk, IsOkUnless, string_bytes, option_copied};
+ghost use Rattle.std.specs.Prelude.{◌≡◌, ◌↔◌, ◌++◌, false, find, Some, IsTrue, IfOk, OnOk, IsOkUnless, string_bytes, option_copied};
 ghost use Rattle.std.specs.List.{list_any};
 ghost use Rattle.scp_ledger.specs.Decisions.{is_at};
 ghost use Rattle.scp_ledger.specs.Seen.{is_asked, machine_at};
-ghost use Rattle.scp_network.specs.Rounds.{link_of};
 ghost use Rattle.scp_stand_slot.specs.Adding.{Adds};
-ghost use Rattle.scp_stand_node.specs.Slots.{decided_text, asked_of, asked_text, is_machines, is_of, is_judged, moves, rests, is_taken, is_begun, IsHidden, IsToldOf, IsSlotText, slot_above, IsTextOf, IsTextAbove, AreTexts};
+ghost use Rattle.scp_stand_node.specs.Links.{script_of};
+ghost use Rattle.scp_stand_node.specs.Slots.{decided_text, asked_of, asked_text, is_machines, is_of, is_judged, moves, rests, is_taken, is_taken_in, is_begun, IsHidden, IsToldOf, IsSlotText, slot_above, IsTextOf, IsTextAbove, AreTexts};
 
-use crate::others::{add_if, lowest_of};
-use crate::stand::Seen;
+use crate::links::number_of;
+use crate::others::{add_if, links, lowest_of, peer_of};
+use crate::stand::{Lines, Seen};
 use scp_core::{Fate, Node, SharedDecision, Verdict};
 use scp_driver::KvDriver;
 use scp_ledger::{LAST_SLOT, WINDOW};
-use scp_network::link_from;
-use scp_script::{Command, id_from};
+use scp_script::Command;
 use scp_slot::SlotMachine;
-use scp_stand_slot::{Place, is_blank, write_machine, write_nodes};
+use scp_stand_slot::{Names, Place, is_blank, write_machine, write_nodes, write_slot_words};
 use scp_text::Term;
 use scp_types::{Fault, NodeId, Slot};
 use scp_wire::Message;
@@ -43,16 +43,18 @@ fn decision_of<'a>(decisions: &'a [SharedDecision], slot: u64) -> Option<&'a Sha
 /// Adds the line of a decision that isn't applied yet.
 fn write_decision(
     out: &mut String,
-    number: u8,
+    names: &Names,
+    me: NodeId,
     lowest: u64,
     slot: u64,
     decision: Option<&SharedDecision>,
 ) -> Result<(), Fault>
-    ensures added { OnOk result (string_bytes out.new ≡ string_bytes out.old ++ decided_text number lowest slot (option_copied decision.entry)) }
+    ensures added { OnOk result (string_bytes out.new ≡ string_bytes out.old ++ decided_text names.now me lowest slot (option_copied decision.entry)) }
     ensures only_memory { IsOkUnless result Fault.NoMemory }
 {
     if let Some(decision) = decision {
-        write!(out, "{number} slot {slot} decided ")?;
+        write_slot_words(out, names, me, slot)?;
+        out.push_str(" decided ")?;
         decision.get().value.write(out)?;
         writeln!(out, " waits {lowest}")?;
     }
@@ -62,17 +64,18 @@ fn write_decision(
 /// Adds the line of a slot's decision that isn't applied yet.
 fn write_decided(
     out: &mut String,
-    number: u8,
+    names: &Names,
     node: &Node,
     lowest: u64,
     slot: u64,
 ) -> Result<(), Fault>
-    ensures added { OnOk result (string_bytes out.new ≡ string_bytes out.old ++ decided_text number lowest slot (find (is_at slot) node.now.ledger.decisions)) }
+    ensures added { OnOk result (string_bytes out.new ≡ string_bytes out.old ++ decided_text names.now node.now.config.me lowest slot (find (is_at slot) node.now.ledger.decisions)) }
     ensures only_memory { IsOkUnless result Fault.NoMemory }
 {
     write_decision(
         out,
-        number,
+        names,
+        node.me(),
         lowest,
         slot,
         decision_of(node.decisions(), slot),
@@ -80,47 +83,45 @@ fn write_decided(
     Ok(())
 }
 
-/// Whether another node was asked for the slot's record.
-fn is_asked_of(number: u8, node: &Node, slot: u64, from: u8) -> bool
+/// Whether the node at the other end of a link was asked for the slot's record.
+fn is_asked_of(node: &Node, slot: u64, link: u8) -> bool
     requires runs { node.now.failed ≡ false }
-    ensures { result ≡ (not (nat_eq from number) && is_asked node.now.ledger.asked (record { link = link_of from number; slot = record { 0 = slot } })) }
+    ensures { result ≡ is_asked node.now.ledger.asked (record { link = link; slot = record { 0 = slot } }) }
 {
-    if from == number {
-        return false;
-    }
-    node.ledger().was_asked(link_from(from, number), Slot(slot))
+    node.ledger().was_asked(link, Slot(slot))
 }
 
 /// The nodes that were asked for the slot's record.
-fn nodes_asked(
-    alloc: Global,
-    count: u8,
-    number: u8,
-    node: &Node,
-    slot: u64,
-) -> Result<Vec<NodeId>, Fault>
+fn nodes_asked(alloc: Global, node: &Node, slot: u64) -> Result<Vec<NodeId>, Fault>
     requires runs { node.now.failed ≡ false }
-    ensures nodes { IfOk result (λ nodes. nodes.items ≡ asked_of count number node.now slot) }
+    ensures nodes { IfOk result (λ nodes. nodes.items ≡ asked_of node.now slot) }
     ensures only_memory { IsOkUnless result Fault.NoMemory }
 {
     let mut nodes = Vec::new(alloc);
-    for index in 0..count {
-        let is_asked = is_asked_of(number, node, slot, index + 1);
-        add_if(&mut nodes, is_asked, index + 1)?;
+    for link in 0..links(node) {
+        let is_asked = is_asked_of(node, slot, link);
+        add_if(&mut nodes, is_asked, peer_of(node, link))?;
     }
     Ok(nodes)
 }
 
 /// Adds the line of the nodes that were asked, if there are any.
-fn write_nodes_asked(out: &mut String, number: u8, slot: u64, nodes: &[NodeId]) -> Result<(), Fault>
-    ensures added { OnOk result (string_bytes out.new ≡ string_bytes out.old ++ asked_text number slot nodes.now) }
+fn write_nodes_asked(
+    out: &mut String,
+    names: &Names,
+    me: NodeId,
+    slot: u64,
+    nodes: &[NodeId],
+) -> Result<(), Fault>
+    ensures added { OnOk result (string_bytes out.new ≡ string_bytes out.old ++ asked_text names.now me slot nodes.now) }
     ensures only_memory { IsOkUnless result Fault.NoMemory }
 {
     if nodes.is_empty() {
         return Ok(());
     }
-    write!(out, "{number} slot {slot} asked ")?;
-    write_nodes(out, nodes)?;
+    write_slot_words(out, names, me, slot)?;
+    out.push_str(" asked ")?;
+    write_nodes(out, names, nodes)?;
     out.push_str("\n")?;
     Ok(())
 }
@@ -129,17 +130,16 @@ fn write_nodes_asked(out: &mut String, number: u8, slot: u64, nodes: &[NodeId]) 
 fn write_asked(
     out: &mut String,
     alloc: Global,
-    count: u8,
-    number: u8,
+    names: &Names,
     node: &Node,
     slot: u64,
 ) -> Result<(), Fault>
     requires runs { node.now.failed ≡ false }
-    ensures added { OnOk result (string_bytes out.new ≡ string_bytes out.old ++ asked_text number slot (asked_of count number node.now slot)) }
+    ensures added { OnOk result (string_bytes out.new ≡ string_bytes out.old ++ asked_text names.now node.now.config.me slot (asked_of node.now slot)) }
     ensures only_memory { IsOkUnless result Fault.NoMemory }
 {
-    let nodes = nodes_asked(alloc, count, number, node, slot)?;
-    write_nodes_asked(out, number, slot, nodes.as_slice())?;
+    let nodes = nodes_asked(alloc, node, slot)?;
+    write_nodes_asked(out, names, node.me(), slot, nodes.as_slice())?;
     Ok(())
 }
 
@@ -229,28 +229,37 @@ fn has_judgement(journal: &[Fate], slot: u64) -> bool
     false
 }
 
-/// Whether something began the slot at the node: another node's envelope, or a round or timer that the node took. The node's own
-/// envelope doesn't begin it, nor does a refused proposal.
-fn has_begun(number: u8, node: &Node, played: &[Command], slot: u64) -> bool
-    ensures { result ≡ is_begun number slot node.now.ledger.journal played.now }
+/// The same, if the node plays in a script.
+fn was_taken_in(lines: Option<Lines<'_>>, number: u8, slot: u64) -> bool
+    ensures { result ≡ is_taken_in (script_of lines.entry) number slot }
+{
+    match lines {
+        Some(lines) => was_taken(lines.played, number, slot),
+        None => false,
+    }
+}
+
+/// Whether something began the slot at the node: another node's envelope, or a round or timer of a script that the node took. The node's
+/// own envelope doesn't begin it, nor does a refused proposal.
+fn has_begun(node: &Node, lines: Option<Lines<'_>>, slot: u64) -> bool
+    ensures { result ≡ is_begun node.now.config.me slot node.now.ledger.journal (script_of lines.entry) }
 {
     if has_judgement(node.journal(), slot) {
         return true;
     }
-    was_taken(played, number, slot)
+    was_taken_in(lines, number_of(node.me()), slot)
 }
 
 /// Whether the machine isn't shown.
 fn is_left_out(
-    number: u8,
     node: &Node,
-    played: &[Command],
+    lines: Option<Lines<'_>>,
     slot: u64,
     machine: &SlotMachine<KvDriver>,
 ) -> bool
-    ensures { IsTrue result ↔ IsHidden number slot node.now.ledger.journal played.now machine.now }
+    ensures { IsTrue result ↔ IsHidden node.now.config.me slot node.now.ledger.journal (script_of lines.entry) machine.now }
 {
-    if has_begun(number, node, played, slot) {
+    if has_begun(node, lines, slot) {
         return false;
     }
     is_blank(machine)
@@ -264,19 +273,18 @@ fn write_told(
     slot: u64,
     machine: &SlotMachine<KvDriver>,
 ) -> Result<(), Fault>
-    ensures added { OnOk result (Adds (string_bytes out.old) (string_bytes out.new) (IsToldOf seen.entry.names.now seen.entry.number members.now slot seen.entry.node.now.ledger.journal seen.entry.played.now (Some machine.now))) }
+    ensures added { OnOk result (Adds (string_bytes out.old) (string_bytes out.new) (IsToldOf seen.entry.names.now seen.entry.node.now.config.me members.now slot seen.entry.node.now.ledger.journal (script_of seen.entry.lines) (Some machine.now))) }
     ensures only_memory { IsOkUnless result Fault.NoMemory }
 {
-    if is_left_out(seen.number, seen.node, seen.played, slot, machine) {
+    if is_left_out(seen.node, seen.lines, slot, machine) {
         return Ok(());
     }
     let place = Place {
         alloc: seen.alloc,
-        number: seen.number,
         slot,
         members,
     };
-    write_machine(out, place, seen.names, id_from(seen.number), machine)?;
+    write_machine(out, place, seen.names, seen.node.me(), machine)?;
     Ok(())
 }
 
@@ -288,7 +296,7 @@ fn write_machine_of(
     slot: u64,
     machine: Option<&SlotMachine<KvDriver>>,
 ) -> Result<(), Fault>
-    ensures added { OnOk result (Adds (string_bytes out.old) (string_bytes out.new) (IsToldOf seen.entry.names.now seen.entry.number members.now slot seen.entry.node.now.ledger.journal seen.entry.played.now (option_copied machine.entry))) }
+    ensures added { OnOk result (Adds (string_bytes out.old) (string_bytes out.new) (IsToldOf seen.entry.names.now seen.entry.node.now.config.me members.now slot seen.entry.node.now.ledger.journal (script_of seen.entry.lines) (option_copied machine.entry))) }
     ensures only_memory { IsOkUnless result Fault.NoMemory }
 {
     match machine {
@@ -305,7 +313,7 @@ fn write_its_machine(
     slot: u64,
 ) -> Result<(), Fault>
     requires runs { seen.node.now.failed ≡ false }
-    ensures added { OnOk result (Adds (string_bytes out.old) (string_bytes out.new) (IsToldOf seen.entry.names.now seen.entry.number members.now slot seen.entry.node.now.ledger.journal seen.entry.played.now (machine_at seen.entry.node.now.ledger.machines slot))) }
+    ensures added { OnOk result (Adds (string_bytes out.old) (string_bytes out.new) (IsToldOf seen.entry.names.now seen.entry.node.now.config.me members.now slot seen.entry.node.now.ledger.journal (script_of seen.entry.lines) (machine_at seen.entry.node.now.ledger.machines slot))) }
     ensures only_memory { IsOkUnless result Fault.NoMemory }
 {
     let machine = seen.node.ledger().machine(Slot(slot));
@@ -323,11 +331,11 @@ fn write_slot(
 ) -> Result<(), Fault>
     requires runs { seen.node.now.failed ≡ false }
     requires lowest { lowest ≡ seen.node.now.ledger.lowest }
-    ensures added { OnOk result (Adds (string_bytes out.old) (string_bytes out.new) (IsSlotText seen.entry.names.now seen.entry.count seen.entry.number members.now seen.entry.played.now seen.entry.node.now slot)) }
+    ensures added { OnOk result (Adds (string_bytes out.old) (string_bytes out.new) (IsSlotText seen.entry.names.now members.now (script_of seen.entry.lines) seen.entry.node.now slot)) }
     ensures only_memory { IsOkUnless result Fault.NoMemory }
 {
-    write_decided(out, seen.number, seen.node, lowest, slot)?;
-    write_asked(out, seen.alloc, seen.count, seen.number, seen.node, slot)?;
+    write_decided(out, seen.names, seen.node, lowest, slot)?;
+    write_asked(out, seen.alloc, seen.names, seen.node, slot)?;
     write_its_machine(out, seen, members, slot)?;
     Ok(())
 }
@@ -342,7 +350,7 @@ fn write_slot_if(
 ) -> Result<(), Fault>
     requires runs { seen.node.now.failed ≡ false }
     requires lowest { lowest ≡ seen.node.now.ledger.lowest }
-    ensures added { OnOk result (Adds (string_bytes out.old) (string_bytes out.new) (IsTextOf (IsSlotText seen.entry.names.now seen.entry.count seen.entry.number members.now seen.entry.played.now seen.entry.node.now) slot)) }
+    ensures added { OnOk result (Adds (string_bytes out.old) (string_bytes out.new) (IsTextOf (IsSlotText seen.entry.names.now members.now (script_of seen.entry.lines) seen.entry.node.now) slot)) }
     ensures only_memory { IsOkUnless result Fault.NoMemory }
 {
     match slot {
@@ -372,7 +380,7 @@ fn write_slot_above(
 ) -> Result<(), Fault>
     requires runs { seen.node.now.failed ≡ false }
     requires lowest { lowest ≡ seen.node.now.ledger.lowest }
-    ensures added { OnOk result (Adds (string_bytes out.old) (string_bytes out.new) (IsTextAbove seen.entry.names.now seen.entry.count seen.entry.number members.now seen.entry.played.now seen.entry.node.now place)) }
+    ensures added { OnOk result (Adds (string_bytes out.old) (string_bytes out.new) (IsTextAbove seen.entry.names.now members.now (script_of seen.entry.lines) seen.entry.node.now place)) }
     ensures only_memory { IsOkUnless result Fault.NoMemory }
 {
     write_slot_if(out, seen, members, lowest, slot_at(lowest, place))
@@ -388,7 +396,7 @@ fn write_slots_above(
 ) -> Result<(), Fault>
     requires runs { seen.node.now.failed ≡ false }
     requires lowest { lowest ≡ seen.node.now.ledger.lowest }
-    ensures added { OnOk result (Adds (string_bytes out.old) (string_bytes out.new) (AreTexts (IsTextAbove seen.entry.names.now seen.entry.count seen.entry.number members.now seen.entry.played.now seen.entry.node.now) window)) }
+    ensures added { OnOk result (Adds (string_bytes out.old) (string_bytes out.new) (AreTexts (IsTextAbove seen.entry.names.now members.now (script_of seen.entry.lines) seen.entry.node.now) window)) }
     ensures only_memory { IsOkUnless result Fault.NoMemory }
 {
     for place in 0..window {
@@ -400,7 +408,7 @@ fn write_slots_above(
 /// Adds the lines of each slot of the window.
 pub fn write_slots(out: &mut String, seen: Seen<'_>, members: &[NodeId]) -> Result<(), Fault>
     requires runs { seen.node.now.failed ≡ false }
-    ensures added { OnOk result (Adds (string_bytes out.old) (string_bytes out.new) (AreTexts (IsTextAbove seen.entry.names.now seen.entry.count seen.entry.number members.now seen.entry.played.now seen.entry.node.now) 16)) }
+    ensures added { OnOk result (Adds (string_bytes out.old) (string_bytes out.new) (AreTexts (IsTextAbove seen.entry.names.now members.now (script_of seen.entry.lines) seen.entry.node.now) 16)) }
     ensures only_memory { IsOkUnless result Fault.NoMemory }
 {
     write_slots_above(out, seen, members, lowest_of(seen.node), WINDOW)?;

@@ -3,6 +3,7 @@ pub mod Ways
 pub mod Empty
 pub mod Words
 pub mod Named
+pub mod Entries
 pub mod Listing
 pub mod Leading
 pub mod Gathering

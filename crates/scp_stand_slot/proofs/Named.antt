@@ -7,6 +7,7 @@ use Rattle.scp_types.specs.declared.names.Hash.{Hash}
 use Rattle.scp_quorum.specs.QuorumTree.{QuorumTree}
 use Rattle.scp_quorum.specs.QuorumKind.{set_hash}
 use Rattle.scp_text.specs.Sets.{set_text}
+use Rattle.scp_stand_slot.specs.NodeNames.{Naming}
 use Rattle.scp_stand_slot.specs.declared.names.Names.{Names}
 use Rattle.scp_stand_slot.specs.Names.{hash_cmp, text_at, AreNamesOf}
 use Rattle.scp_stand_slot.proofs.Same.{decided, same_hash, hash_itself}
@@ -30,7 +31,7 @@ cond_false : {A : Type 0} (b : Bool) (x y : A) → b ≡ false → cond b x y �
 cond_false true x y e = absurd cc
 cond_false false x y e = refl
 
-module _ (sets : List QuorumTree) (set : QuorumTree) (hash : Hash) (text : List ℕ) (old new : Names) (puts : PutsText hash text old new) (is : hash.0 ≡ set_hash set) (told : text ≡ set_text set) (before : AreNamesOf sets old) where
+module _ (sets : List QuorumTree) (nodes : List Naming) (set : QuorumTree) (hash : Hash) (text : List ℕ) (old new : Names) (puts : PutsText hash text old new) (stays : new.nodes.items ≡ old.nodes.items) (is : hash.0 ≡ set_hash set) (told : text ≡ set_text set) (before : AreNamesOf sets nodes old) where
   here : (h : Hash) → is_at (hash_cmp hash) h ≡ true → text_at new h ≡ Some text
   here h e = puts h ∙ cond_true (is_at (hash_cmp hash) h) (Some text) (text_at old h) e
 
@@ -57,8 +58,8 @@ module _ (sets : List QuorumTree) (set : QuorumTree) (hash : Hash) (text : List 
     | inr same ↦ itself h (ap (λ bytes. let k : Hash = record { 0 = bytes } in k) (is ∙ ap set_hash same ∙ sym e))
   ]
 
-  pub named_more : AreNamesOf (sets ++ set ∷ []) new
-  named_more = record { each = each_more; all = all_more }
+  pub named_more : AreNamesOf (sets ++ set ∷ []) nodes new
+  named_more = record { each = each_more; all = all_more; called = stays ∙ before.called }
 
 pub puts_text : {X : Type 0} (f : X → List ℕ) (hash : Hash) (text : X) (old new : Hash → Option X) → ((h : Hash) → new h ≡ cond (is_at (hash_cmp hash) h) (Some text) (old h))
     → (h : Hash) → option_map f (new h) ≡ cond (is_at (hash_cmp hash) h) (Some (f text)) (option_map f (old h))

@@ -31,7 +31,7 @@ use Rattle.scp_stand_needs.specs.declared.steps.Step.{Step}
 use Rattle.scp_stand_needs.specs.declared.steps.Step.TheVariants.{AcceptNominated, ConfirmNominated, AcceptPrepared, ConfirmPrepared, AcceptCommit, ConfirmCommit}
 use Rattle.scp_stand_needs.specs.declared.steps.Need.{Need}
 use Rattle.scp_stand_slot.specs.declared.names.Names.{Names}
-use Rattle.scp_stand_slot.specs.Names.{nodes_text, said_as, statement_text}
+use Rattle.scp_stand_slot.specs.Names.{nodes_text, slot_words, said_as, statement_text}
 
 -- ---- the rounds
 
@@ -64,9 +64,9 @@ proposal_text me leaders own None = codes "none"
 proposal_text me leaders own (Some value) = leads_word (list_any (λ v. same_node v me) leaders && names_value own value) ++ value_text value
 
 -- The line of the rounds: how many there were, their leaders, and this node's proposal.
-abbrev pub rounds_line : ℕ → ℕ → NodeId → List NodeId → Option Pledges → ℕ → Option (List ℕ) → List ℕ
-rounds_line number slot me leaders own rounds proposal =
-    decimal number ++ codes " slot " ++ decimal slot ++ codes " nominates round " ++ decimal rounds ++ codes " leaders " ++ nodes_text leaders
+abbrev pub rounds_line : Names → NodeId → ℕ → List NodeId → Option Pledges → ℕ → Option (List ℕ) → List ℕ
+rounds_line names me slot leaders own rounds proposal =
+    slot_words names me slot ++ codes " nominates round " ++ decimal rounds ++ codes " leaders " ++ nodes_text names leaders
     ++ codes " proposal " ++ proposal_text me leaders own proposal ++ codes "\n"
 
 -- ---- the phase
@@ -92,17 +92,17 @@ candidate_text [] = codes "-"
 candidate_text (v ∷ vs) = value_text (greatest (v ∷ vs))
 
 -- The line of the phase, and of the value to which the candidates are combined.
-abbrev pub phase_line : ℕ → ℕ → Option Pledges → List (List ℕ) → List ℕ
-phase_line number slot own candidates =
-    decimal number ++ codes " slot " ++ decimal slot ++ codes " phase " ++ phase_word own ++ codes " candidate " ++ candidate_text candidates ++ codes "\n"
+abbrev pub phase_line : Names → NodeId → ℕ → Option Pledges → List (List ℕ) → List ℕ
+phase_line names me slot own candidates =
+    slot_words names me slot ++ codes " phase " ++ phase_word own ++ codes " candidate " ++ candidate_text candidates ++ codes "\n"
 
 -- ---- statements
 
 -- The line of a node's statement in the slot, if there is one.
-abbrev pub statement_line : Names → ℕ → ℕ → List ℕ → NodeId → Option Envelope → List ℕ
-statement_line names number slot word v None = []
-statement_line names number slot word v (Some e) =
-    decimal number ++ codes " slot " ++ decimal slot ++ codes " " ++ word ++ codes " " ++ statement_text names (said_as v slot e) ++ codes "\n"
+abbrev pub statement_line : Names → NodeId → ℕ → List ℕ → NodeId → Option Envelope → List ℕ
+statement_line names me slot word v None = []
+statement_line names me slot word v (Some e) =
+    slot_words names me slot ++ codes " " ++ word ++ codes " " ++ statement_text names (said_as v slot e) ++ codes "\n"
 
 -- The node's own statement, if it is sent.
 abbrev pub sent : Option Envelope → Option Envelope
@@ -110,9 +110,9 @@ sent None = None
 sent (Some e) = if is_sent e.statement.pledges then Some e else None
 
 -- The lines of a node's newest statements: its nomination statement, then its ballot statement.
-abbrev pub lines_of : Names → ℕ → ℕ → List ℕ → Board → Board → NodeId → List ℕ
-lines_of names number slot word nominations ballots v =
-    statement_line names number slot word v (envelope_at Nominating nominations v) ++ statement_line names number slot word v (envelope_at Balloting ballots v)
+abbrev pub lines_of : Names → NodeId → ℕ → List ℕ → Board → Board → NodeId → List ℕ
+lines_of names me slot word nominations ballots v =
+    statement_line names me slot word v (envelope_at Nominating nominations v) ++ statement_line names me slot word v (envelope_at Balloting ballots v)
 
 -- A statement of the node is on one of the boards.
 abbrev pub is_heard : Seen → Seen → NodeId → Bool
@@ -128,9 +128,9 @@ abbrev pub is_silent : NodeId → Seen → Seen → NodeId → Bool
 is_silent me nominations ballots v = not (same_node v me) && not (is_heard nominations ballots v)
 
 -- The line of the nodes that said nothing, if there are any.
-abbrev pub silent_line : ℕ → ℕ → List NodeId → List ℕ
-silent_line number slot [] = []
-silent_line number slot (v ∷ vs) = decimal number ++ codes " slot " ++ decimal slot ++ codes " silent " ++ nodes_text (v ∷ vs) ++ codes "\n"
+abbrev pub silent_line : Names → NodeId → ℕ → List NodeId → List ℕ
+silent_line names me slot [] = []
+silent_line names me slot (v ∷ vs) = slot_words names me slot ++ codes " silent " ++ nodes_text names (v ∷ vs) ++ codes "\n"
 
 -- ---- what is needed
 
@@ -139,9 +139,9 @@ abbrev pub lacks_vote : NodeId → Bool → Seen → NodeId → Bool
 lacks_vote me proposes nominations v = if same_node v me then not proposes else not (is_some (nominations.statement v))
 
 -- The line of the leaders from which no vote can come, if this node votes for nothing yet.
-abbrev pub votes_line : ℕ → ℕ → Option Pledges → List NodeId → List ℕ
-votes_line number slot (Some own) nodes = []
-votes_line number slot None nodes = decimal number ++ codes " slot " ++ decimal slot ++ codes " needs vote from " ++ nodes_text nodes ++ codes "\n"
+abbrev pub votes_line : Names → NodeId → ℕ → Option Pledges → List NodeId → List ℕ
+votes_line names me slot (Some own) nodes = []
+votes_line names me slot None nodes = slot_words names me slot ++ codes " needs vote from " ++ nodes_text names nodes ++ codes "\n"
 
 -- The word of a step.
 abbrev pub step_word : Step → List ℕ
@@ -159,17 +159,17 @@ claim_text (Prepared ballot) = ballot_text (codes "ballot(") ballot
 claim_text (Committed low high value) = ballot_text (codes "commit(") (record { counter = low; value = value })
 
 -- The nodes that vote for the claim, and those that accept it.
-abbrev pub who_text : Need → List ℕ
-who_text need = codes " votes " ++ nodes_text need.votes.items ++ codes " accepts " ++ nodes_text need.accepts.items
+abbrev pub who_text : Names → Need → List ℕ
+who_text names need = codes " votes " ++ nodes_text names need.votes.items ++ codes " accepts " ++ nodes_text names need.accepts.items
 
 -- The nodes that are lacking, those that are against the claim, and those that are short.
-abbrev pub missing_text : Need → List ℕ
-missing_text need = codes " lacks " ++ nodes_text need.lacks.items ++ codes " against " ++ nodes_text need.against.items ++ codes " short " ++ nodes_text need.short.items
+abbrev pub missing_text : Names → Need → List ℕ
+missing_text names need = codes " lacks " ++ nodes_text names need.lacks.items ++ codes " against " ++ nodes_text names need.against.items ++ codes " short " ++ nodes_text names need.short.items
 
 -- The line of what a step of a claim needs.
-abbrev pub need_text : ℕ → ℕ → Need → List ℕ
-need_text number slot need =
-    decimal number ++ codes " slot " ++ decimal slot ++ codes " needs " ++ step_word need.step ++ codes " " ++ claim_text need.claim ++ who_text need ++ missing_text need ++ codes "\n"
+abbrev pub need_text : Names → NodeId → ℕ → Need → List ℕ
+need_text names me slot need =
+    slot_words names me slot ++ codes " needs " ++ step_word need.step ++ codes " " ++ claim_text need.claim ++ who_text names need ++ missing_text names need ++ codes "\n"
 
 -- What values need to be nominated, if there is no candidate. With a candidate, nothing is needed.
 abbrev pub AreToNominate : List (List ℕ) → Board → List NodeId → List Need → Type 0
@@ -188,25 +188,25 @@ pub record Facts : Type 0 where
   pub to_ballot : List Need
 
 -- The lines of the rounds, the phase, and the statements.
-abbrev pub said_lines : Names → ℕ → NodeId → ℕ → Nomination → Facts → List ℕ
-said_lines names number me slot n f =
-    rounds_line number slot me f.leaders ((heard f.nominations).statement (heard f.nominations).me) n.rounds n.proposal
-    ++ phase_line number slot ((seen Balloting f.ballots).statement (seen Balloting f.ballots).me) n.lists.candidates
-    ++ statement_line names number slot (codes "own") me (envelope_at Nominating f.nominations (heard f.nominations).me)
-    ++ statement_line names number slot (codes "own") me (sent (envelope_at Balloting f.ballots (seen Balloting f.ballots).me))
-    ++ flat_map (lines_of names number slot (codes "heard") f.nominations f.ballots) f.others
+abbrev pub said_lines : Names → NodeId → ℕ → Nomination → Facts → List ℕ
+said_lines names me slot n f =
+    rounds_line names me slot f.leaders ((heard f.nominations).statement (heard f.nominations).me) n.rounds n.proposal
+    ++ phase_line names me slot ((seen Balloting f.ballots).statement (seen Balloting f.ballots).me) n.lists.candidates
+    ++ statement_line names me slot (codes "own") me (envelope_at Nominating f.nominations (heard f.nominations).me)
+    ++ statement_line names me slot (codes "own") me (sent (envelope_at Balloting f.ballots (seen Balloting f.ballots).me))
+    ++ flat_map (lines_of names me slot (codes "heard") f.nominations f.ballots) f.others
 
 -- The lines of the nodes that said nothing, and of what the next steps need.
-abbrev pub needs_lines : ℕ → NodeId → List NodeId → ℕ → Bool → Facts → List ℕ
-needs_lines number me members slot proposes f =
-    silent_line number slot (filter (is_silent me (heard f.nominations) (seen Balloting f.ballots)) members)
-    ++ votes_line number slot ((heard f.nominations).statement (heard f.nominations).me) (filter (lacks_vote me proposes (heard f.nominations)) f.leaders)
-    ++ flat_map (need_text number slot) f.to_nominate
-    ++ flat_map (need_text number slot) f.to_ballot
+abbrev pub needs_lines : Names → NodeId → List NodeId → ℕ → Bool → Facts → List ℕ
+needs_lines names me members slot proposes f =
+    silent_line names me slot (filter (is_silent me (heard f.nominations) (seen Balloting f.ballots)) members)
+    ++ votes_line names me slot ((heard f.nominations).statement (heard f.nominations).me) (filter (lacks_vote me proposes (heard f.nominations)) f.leaders)
+    ++ flat_map (need_text names me slot) f.to_nominate
+    ++ flat_map (need_text names me slot) f.to_ballot
 
 -- All lines of a slot's machine.
-abbrev pub machine_lines : Names → ℕ → NodeId → List NodeId → ℕ → Nomination → Facts → List ℕ
-machine_lines names number me members slot n f = said_lines names number me slot n f ++ needs_lines number me members slot (is_some n.proposal) f
+abbrev pub machine_lines : Names → NodeId → List NodeId → ℕ → Nomination → Facts → List ℕ
+machine_lines names me members slot n f = said_lines names me slot n f ++ needs_lines names me members slot (is_some n.proposal) f
 
 -- The facts are those of the machine, for a node with these members.
 pub record AreFacts (me : NodeId) (members : List NodeId) (slot : ℕ) (m : SlotMachine KvDriver) (f : Facts) : Type 0 where
@@ -217,10 +217,10 @@ pub record AreFacts (me : NodeId) (members : List NodeId) (slot : ℕ) (m : Slot
   pub to_nominate : AreToNominate (slot_view m).nomination.lists.candidates f.nominations members f.to_nominate
   pub to_ballot : AreBallotNeeds f.ballots members f.to_ballot
 
--- The lines of the machine in this slot, with these names, at the node with this number and id.
-abbrev pub IsMachineText : Names → ℕ → NodeId → List NodeId → ℕ → SlotMachine KvDriver → List ℕ → Type 0
-IsMachineText names number me members slot m text =
-    (f : Facts) × AreFacts me members slot m f × (text ≡ machine_lines names number me members slot (slot_view m).nomination f)
+-- The lines of the machine in this slot, with these names, at the node with this id.
+abbrev pub IsMachineText : Names → NodeId → List NodeId → ℕ → SlotMachine KvDriver → List ℕ → Type 0
+IsMachineText names me members slot m text =
+    (f : Facts) × AreFacts me members slot m f × (text ≡ machine_lines names me members slot (slot_view m).nomination f)
 
 -- ---- a machine that nothing changed
 

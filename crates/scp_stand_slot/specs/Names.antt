@@ -1,17 +1,21 @@
 -- The names of nodes, quorum sets and statements (this project's profile).
 use Rattle.std.specs.Prelude.{◌≡◌, ℕ, true, List, [], ◌∷◌, ◌++◌, length, map, flat_map, take, drop, Contains, Option, Some, None, option_map, IsSome, if◌then◌else◌, nat_lt, codes, string_bytes}
+use Rattle.std.specs.List.{find}
+use Rattle.std.specs.Fmt.{decimal}
 use Rattle.std.specs.Ordering.{nat_cmp}
 use Rattle.std.specs.declared.cmp.Ordering.{Ordering}
 use Rattle.std.specs.Cmp.Lexicographic.{slice_cmp}
 use Rattle.std.specs.BTreeMap as hash_map
 use Rattle.scp_types.specs.declared.names.Hash.{Hash}
 use Rattle.scp_types.specs.declared.names.NodeId.{NodeId}
-use Rattle.scp_quorum.specs.QuorumTree.{QuorumTree}
+use Rattle.scp_xdr.specs.Tree.{Trees, no_trees, tree_then}
+use Rattle.scp_quorum.specs.QuorumTree.{Level, QuorumTree}
 use Rattle.scp_quorum.specs.QuorumKind.{set_hash}
 use Rattle.scp_envelope.specs.Kinds.{set_hash_of}
 use Rattle.scp_envelope.specs.declared.statement.Envelope.{Envelope}
 use Rattle.scp_wire.specs.declared.message.Message.{Message}
 use Rattle.scp_wire.specs.declared.message.Message.TheVariants.{Envelope as EnvelopeMessage, GetSet, Set as SetMessage, NoSet, GetRecord, Record, Records}
+use Rattle.scp_wire.specs.Connections.{same_node}
 use Rattle.scp_wire.specs.Reading.{reading_of}
 use Rattle.scp_text.specs.Pieces.{listed, bracketed}
 use Rattle.scp_text.specs.Sets.{node_text, hash_text, set_text}
@@ -20,7 +24,45 @@ use Rattle.scp_script.specs.declared.command.Command.{Command}
 use Rattle.scp_script.specs.declared.command.Command.TheVariants.{Caps, Nodes, Set, Open, Close, Send, Propose, Round, Timer, Tick, Ask, Settle, Wait, Report}
 use Rattle.scp_script.specs.Script.{node_count}
 use Rattle.scp_script.specs.Nodes.{numbers, set_at}
+use Rattle.scp_stand_slot.specs.NodeNames.{Naming}
 use Rattle.scp_stand_slot.specs.declared.names.Names.{Names}
+
+-- ---- nodes
+
+-- The name, if there is one, and otherwise the text of the node's id: its number, or its 64 digits.
+abbrev pub name_or_text : Option Naming → NodeId → List ℕ
+name_or_text (Some naming) node = naming.name
+name_or_text None node = node_text node
+
+-- The name of a node: the first that its id has here. A node without one is shown by the text of its id.
+abbrev pub node_name : Names → NodeId → List ℕ
+node_name names node = name_or_text (find (λ naming. same_node naming.id node) names.nodes.items) node
+
+-- Nodes with commas between their names, or a dash for none.
+abbrev pub nodes_text : Names → List NodeId → List ℕ
+nodes_text names [] = codes "-"
+nodes_text names (v ∷ vs) = listed 44 true (map (node_name names) (v ∷ vs))
+
+-- The words with which each line of a slot at a node begins.
+abbrev pub slot_words : Names → NodeId → ℕ → List ℕ
+slot_words names me slot = node_name names me ++ codes " slot " ++ decimal slot
+
+-- ---- quorum sets
+
+-- A threshold, and the texts of the entries.
+unfoldable pub level_named : Names → Level → List (List ℕ) → List ℕ
+level_named names level inner = decimal level.threshold ++ bracketed (codes "of(") (listed 44 true (map (node_name names) level.validators ++ inner))
+
+-- The texts of the sets of a row.
+unfoldable pub row_named : Names → Trees Level → List (List ℕ)
+row_named names no_trees = []
+row_named names (tree_then level inner others) = level_named names level (row_named names inner) ∷ row_named names others
+
+-- The text of a quorum set, as `2of(bob,carol)`: as in a script, but with the names of its nodes.
+unfoldable pub set_named : Names → QuorumTree → List ℕ
+set_named names set = level_named names set.head (row_named names set.inner)
+
+-- ---- hashes
 
 -- Hashes are ordered by their bytes.
 abbrev pub hash_cmp : Hash → Hash → Ordering
@@ -82,30 +124,26 @@ set_sent (Report node) = []
 abbrev pub sets_of : List Command → List QuorumTree
 sets_of commands = map (λ number. set_at number commands) (numbers (node_count commands)) ++ flat_map set_sent commands
 
--- The names are the texts of exactly these sets, each by its hash.
-pub record AreNamesOf (sets : List QuorumTree) (names : Names) : Type 0 where
+-- The names are the texts of exactly these sets, each by its hash, and these names of nodes.
+pub record AreNamesOf (sets : List QuorumTree) (nodes : List Naming) (names : Names) : Type 0 where
   pub each : (hash : Hash) (text : List ℕ) → text_at names hash ≡ Some text → (set : QuorumTree) × Contains sets set × (hash.0 ≡ set_hash set) × (text ≡ set_text set)
   pub all : (set : QuorumTree) → Contains sets set → (hash : Hash) → hash.0 ≡ set_hash set → IsSome (text_at names hash)
+  pub called : names.nodes.items ≡ nodes
 
--- The names are those of the sets of the script.
+-- The names are those of the sets of the script. Its nodes have none, and so are shown by their numbers.
 abbrev pub AreNames : List Command → Names → Type 0
-AreNames commands names = AreNamesOf (sets_of commands) names
+AreNames commands names = AreNamesOf (sets_of commands) [] names
 
 -- ---- texts
 
--- Nodes as `1,2,3`, or a dash for none.
-abbrev pub nodes_text : List NodeId → List ℕ
-nodes_text [] = codes "-"
-nodes_text (v ∷ vs) = listed 44 true (map node_text (v ∷ vs))
-
--- The words, with this word in place of the fourth.
-abbrev pub with_fourth : List ℕ → List (List ℕ) → List (List ℕ)
-with_fourth word words = take 3 words ++ word ∷ drop 4 words
+-- The words, with the first in place of the second, and the other in place of the fourth.
+abbrev pub with_names : List ℕ → List ℕ → List (List ℕ) → List (List ℕ)
+with_names second fourth words = take 1 words ++ second ∷ (take 1 (drop 2 words) ++ fourth ∷ drop 4 words)
 
 -- The envelope's statement, as said by this node in this slot.
 abbrev pub said_as : NodeId → ℕ → Envelope → Envelope
 said_as node slot e = record { statement = record { node = node; slot = record { 0 = slot }; pledges = e.statement.pledges }; signature = e.signature }
 
--- The text of the envelope as a message. The hash in it, which is its fourth word, is shown by its name.
+-- The text of the envelope as a message. The node and the hash in it, which are its second and its fourth word, are shown by their names.
 abbrev pub statement_text : Names → Envelope → List ℕ
-statement_text names e = listed 32 true (with_fourth (name_of names (set_hash_of e.statement.pledges)) (message_words (EnvelopeMessage (record { value = e }))))
+statement_text names e = listed 32 true (with_names (node_name names e.statement.node) (name_of names (set_hash_of e.statement.pledges)) (message_words (EnvelopeMessage (record { value = e }))))

@@ -7,7 +7,7 @@ ghost use Rattle.scp_stand_slot.specs.Machine.{leads_word, has_value as has_valu
 
 use crate::names::Names;
 use crate::statements::write_statement;
-use crate::texts::{write_nodes, write_value};
+use crate::texts::{write_nodes, write_slot_words, write_value};
 use scp_driver::{Driver, KvDriver};
 use scp_envelope::{Pledges, SharedEnvelope};
 use scp_nominate::Nominator;
@@ -82,22 +82,20 @@ fn write_proposal(
 /// Adds the rounds, their leaders, and the proposal.
 pub(crate) fn write_rounds(
     out: &mut String,
-    number: u8,
-    slot: u64,
+    names: &Names,
     me: NodeId,
+    slot: u64,
     leaders: &[NodeId],
     own: Option<&SharedEnvelope>,
     rounds: u64,
     proposal: Option<&Value>,
 ) -> Result<(), Fault>
-    ensures added { OnOk result (string_bytes out.new ≡ string_bytes out.old ++ rounds_line number slot me leaders.now (option_map (λ e. e.now.statement.pledges) own.entry) rounds (option_copied proposal.entry)) }
+    ensures added { OnOk result (string_bytes out.new ≡ string_bytes out.old ++ rounds_line names.now me slot leaders.now (option_map (λ e. e.now.statement.pledges) own.entry) rounds (option_copied proposal.entry)) }
     ensures only_memory { IsOkUnless result Fault.NoMemory }
 {
-    write!(
-        out,
-        "{number} slot {slot} nominates round {rounds} leaders "
-    )?;
-    write_nodes(out, leaders)?;
+    write_slot_words(out, names, me, slot)?;
+    write!(out, " nominates round {rounds} leaders ")?;
+    write_nodes(out, names, leaders)?;
     out.push_str(" proposal ")?;
     write_proposal(out, me, leaders, own, proposal)?;
     out.push_str("\n")?;
@@ -151,16 +149,18 @@ fn write_candidate(
 /// Adds the phase, and the value to which all candidates are combined.
 pub(crate) fn write_phase(
     out: &mut String,
-    number: u8,
+    names: &Names,
+    me: NodeId,
     slot: u64,
     own: Option<&SharedEnvelope>,
     nominator: &Nominator<KvDriver>,
 ) -> Result<(), Fault>
-    ensures added { OnOk result (string_bytes out.new ≡ string_bytes out.old ++ phase_line number slot (option_map (λ e. e.now.statement.pledges) own.entry) (nomination nominator.now).lists.candidates) }
+    ensures added { OnOk result (string_bytes out.new ≡ string_bytes out.old ++ phase_line names.now me slot (option_map (λ e. e.now.statement.pledges) own.entry) (nomination nominator.now).lists.candidates) }
     ensures only_memory { IsOkUnless result Fault.NoMemory }
 {
     let phase = phase_of(own);
-    write!(out, "{number} slot {slot} phase {phase} candidate ")?;
+    write_slot_words(out, names, me, slot)?;
+    write!(out, " phase {phase} candidate ")?;
     write_candidate(out, slot, nominator)?;
     out.push_str("\n")?;
     Ok(())
@@ -200,20 +200,21 @@ pub(crate) fn sent<'a>(own: Option<&'a SharedEnvelope>) -> Option<&'a SharedEnve
 /// Adds a node's statement after a word, if there is one.
 pub(crate) fn write_said(
     out: &mut String,
-    number: u8,
-    slot: u64,
     names: &Names,
+    me: NodeId,
+    slot: u64,
     word: &str,
     node: NodeId,
     statement: Option<&SharedEnvelope>,
 ) -> Result<(), Fault>
-    ensures added { OnOk result (string_bytes out.new ≡ string_bytes out.old ++ statement_line names.now number slot word.now node (option_map (λ e. e.now) statement.entry)) }
+    ensures added { OnOk result (string_bytes out.new ≡ string_bytes out.old ++ statement_line names.now me slot word.now node (option_map (λ e. e.now) statement.entry)) }
     ensures only_memory { IsOkUnless result Fault.NoMemory }
 {
     let Some(statement) = statement else {
         return Ok(());
     };
-    write!(out, "{number} slot {slot} {word} ")?;
+    write_slot_words(out, names, me, slot)?;
+    write!(out, " {word} ")?;
     write_statement(out, names, node, slot, statement.get())?;
     out.push_str("\n")?;
     Ok(())
@@ -222,37 +223,37 @@ pub(crate) fn write_said(
 /// Adds a node's newest statements.
 fn write_node(
     out: &mut String,
-    number: u8,
-    slot: u64,
     names: &Names,
+    me: NodeId,
+    slot: u64,
     nominations: &Board,
     ballots: &Board,
     node: &NodeId,
 ) -> Result<(), Fault>
-    ensures added { OnOk result (string_bytes out.new ≡ string_bytes out.old ++ lines_of names.now number slot (codes "heard") nominations.now ballots.now node.now) }
+    ensures added { OnOk result (string_bytes out.new ≡ string_bytes out.old ++ lines_of names.now me slot (codes "heard") nominations.now ballots.now node.now) }
     ensures only_memory { IsOkUnless result Fault.NoMemory }
 {
     let nomination = nominations.statement(StatementKind::Nomination, node);
-    write_said(out, number, slot, names, "heard", *node, nomination)?;
+    write_said(out, names, me, slot, "heard", *node, nomination)?;
     let ballot = ballots.statement(StatementKind::Balloting, node);
-    write_said(out, number, slot, names, "heard", *node, ballot)
+    write_said(out, names, me, slot, "heard", *node, ballot)
 }
 
 /// Adds the newest statements of these nodes.
 pub(crate) fn write_heard(
     out: &mut String,
-    number: u8,
-    slot: u64,
     names: &Names,
+    me: NodeId,
+    slot: u64,
     nominations: &Board,
     ballots: &Board,
     nodes: &[NodeId],
 ) -> Result<(), Fault>
-    ensures added { OnOk result (string_bytes out.new ≡ string_bytes out.old ++ flat_map (lines_of names.now number slot (codes "heard") nominations.now ballots.now) nodes.now) }
+    ensures added { OnOk result (string_bytes out.new ≡ string_bytes out.old ++ flat_map (lines_of names.now me slot (codes "heard") nominations.now ballots.now) nodes.now) }
     ensures only_memory { IsOkUnless result Fault.NoMemory }
 {
     for node in nodes {
-        write_node(out, number, slot, names, nominations, ballots, node)?;
+        write_node(out, names, me, slot, nominations, ballots, node)?;
     }
     Ok(())
 }
@@ -260,18 +261,20 @@ pub(crate) fn write_heard(
 /// Adds the nodes that said nothing, if there are any.
 pub(crate) fn write_silent(
     out: &mut String,
-    number: u8,
+    names: &Names,
+    me: NodeId,
     slot: u64,
     nodes: &[NodeId],
 ) -> Result<(), Fault>
-    ensures added { OnOk result (string_bytes out.new ≡ string_bytes out.old ++ silent_line number slot nodes.now) }
+    ensures added { OnOk result (string_bytes out.new ≡ string_bytes out.old ++ silent_line names.now me slot nodes.now) }
     ensures only_memory { IsOkUnless result Fault.NoMemory }
 {
     match nodes {
         [] => Ok(()),
         [_, ..] => {
-            write!(out, "{number} slot {slot} silent ")?;
-            write_nodes(out, nodes)?;
+            write_slot_words(out, names, me, slot)?;
+            out.push_str(" silent ")?;
+            write_nodes(out, names, nodes)?;
             out.push_str("\n")?;
             Ok(())
         }
@@ -281,19 +284,21 @@ pub(crate) fn write_silent(
 /// Adds the leaders from which no vote can come, if this node votes for nothing yet.
 pub(crate) fn write_votes(
     out: &mut String,
-    number: u8,
+    names: &Names,
+    me: NodeId,
     slot: u64,
     own: Option<&SharedEnvelope>,
     nodes: &[NodeId],
 ) -> Result<(), Fault>
-    ensures added { OnOk result (string_bytes out.new ≡ string_bytes out.old ++ votes_line number slot (option_map (λ e. e.now.statement.pledges) own.entry) nodes.now) }
+    ensures added { OnOk result (string_bytes out.new ≡ string_bytes out.old ++ votes_line names.now me slot (option_map (λ e. e.now.statement.pledges) own.entry) nodes.now) }
     ensures only_memory { IsOkUnless result Fault.NoMemory }
 {
     match own {
         Some(_) => Ok(()),
         None => {
-            write!(out, "{number} slot {slot} needs vote from ")?;
-            write_nodes(out, nodes)?;
+            write_slot_words(out, names, me, slot)?;
+            out.push_str(" needs vote from ")?;
+            write_nodes(out, names, nodes)?;
             out.push_str("\n")?;
             Ok(())
         }

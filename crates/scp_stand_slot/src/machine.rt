@@ -22,11 +22,10 @@ use scp_types::{Fault, NodeId, Slot};
 use scp_vote::{Board, StatementKind};
 use std::alloc::Global;
 
-/// The place of the lines: a node, a slot, and the members, which are the nodes of the node's set and itself.
+/// The place of the lines: a slot, and the members, which are the nodes of the node's set and itself.
 #[derive(Clone, Copy)]
 pub struct Place<'a> {
     pub alloc: Global,
-    pub number: u8,
     pub slot: u64,
     pub members: &'a [NodeId],
 }
@@ -71,13 +70,12 @@ fn what_it_shows<'a>(
 /// Adds the lines of the rounds, the phase, and the statements.
 fn write_what_is_said(
     out: &mut String,
-    number: u8,
-    slot: u64,
     names: &Names,
     me: NodeId,
+    slot: u64,
     shown: &Shown<'_>,
 ) -> Result<(), Fault>
-    ensures added { OnOk result (string_bytes out.new ≡ string_bytes out.old ++ said_lines names.now number me slot (nomination shown.now.nominator.now) (facts_of shown.now)) }
+    ensures added { OnOk result (string_bytes out.new ≡ string_bytes out.old ++ said_lines names.now me slot (nomination shown.now.nominator.now) (facts_of shown.now)) }
     ensures only_memory { IsOkUnless result Fault.NoMemory }
 {
     let nominator = shown.nominator;
@@ -89,22 +87,22 @@ fn write_what_is_said(
     let leaders = shown.leaders.as_slice();
     write_rounds(
         out,
-        number,
-        slot,
+        names,
         me,
+        slot,
         leaders,
         nomination,
         nominator.rounds(),
         nominator.proposal(),
     )?;
-    write_phase(out, number, slot, ballot, nominator)?;
-    write_said(out, number, slot, names, "own", me, nomination)?;
-    write_said(out, number, slot, names, "own", me, said)?;
+    write_phase(out, names, me, slot, ballot, nominator)?;
+    write_said(out, names, me, slot, "own", me, nomination)?;
+    write_said(out, names, me, slot, "own", me, said)?;
     write_heard(
         out,
-        number,
-        slot,
         names,
+        me,
+        slot,
         nominations,
         ballots,
         shown.others.as_slice(),
@@ -115,15 +113,15 @@ fn write_what_is_said(
 fn write_what_is_needed(
     out: &mut String,
     place: Place<'_>,
+    names: &Names,
     me: NodeId,
     shown: &Shown<'_>,
 ) -> Result<(), Fault>
-    ensures added { OnOk result (string_bytes out.new ≡ string_bytes out.old ++ needs_lines place.entry.number me place.entry.members.now place.entry.slot (is_some (nomination shown.now.nominator.now).proposal) (facts_of shown.now)) }
+    ensures added { OnOk result (string_bytes out.new ≡ string_bytes out.old ++ needs_lines names.now me place.entry.members.now place.entry.slot (is_some (nomination shown.now.nominator.now).proposal) (facts_of shown.now)) }
     ensures only_memory { IsOkUnless result Fault.NoMemory }
 {
     let Place {
         alloc,
-        number,
         slot,
         members,
     } = place;
@@ -132,10 +130,10 @@ fn write_what_is_needed(
     let nodes = silent(alloc, &me, nominations, shown.ballots, members)?;
     let voters = lacking(alloc, &me, proposes, nominations, shown.leaders.as_slice())?;
     let own = nominations.own(StatementKind::Nomination);
-    write_silent(out, number, slot, nodes.as_slice())?;
-    write_votes(out, number, slot, own, voters.as_slice())?;
-    write_needs(out, number, slot, shown.to_nominate.as_slice())?;
-    write_needs(out, number, slot, shown.to_ballot.as_slice())
+    write_silent(out, names, me, slot, nodes.as_slice())?;
+    write_votes(out, names, me, slot, own, voters.as_slice())?;
+    write_needs(out, names, me, slot, shown.to_nominate.as_slice())?;
+    write_needs(out, names, me, slot, shown.to_ballot.as_slice())
 }
 
 /// Adds the lines of a slot's machine.
@@ -146,12 +144,12 @@ pub fn write_machine(
     me: NodeId,
     machine: &SlotMachine<KvDriver>,
 ) -> Result<(), Fault>
-    ensures added { OnOk result (Adds (string_bytes out.old) (string_bytes out.new) (IsMachineText names.now place.entry.number me place.entry.members.now place.entry.slot machine.now)) }
+    ensures added { OnOk result (Adds (string_bytes out.old) (string_bytes out.new) (IsMachineText names.now me place.entry.members.now place.entry.slot machine.now)) }
     ensures only_memory { IsOkUnless result Fault.NoMemory }
 {
     let shown = what_it_shows(place, me, machine)?;
-    write_what_is_said(out, place.number, place.slot, names, me, &shown)?;
-    write_what_is_needed(out, place, me, &shown)
+    write_what_is_said(out, names, me, place.slot, &shown)?;
+    write_what_is_needed(out, place, names, me, &shown)
 }
 
 /// Whether no statement of this kind is on the board.

@@ -1,31 +1,92 @@
-//! The names of quorum sets: the text of a script's set, if it is short.
+//! The names of nodes, and of quorum sets: the text of a script's set, if it is short.
 ghost use Rattle.std.specs.Prelude.{◌≡◌, ◌≤◌, ◌++◌, ◌∷◌, [], List, All, IfOk, IfSome, OnOk, IsOkUnless, map, flat_map, option_map, option_to_list, string_bytes, Some};
+ghost use Rattle.std.specs.List.{find};
 ghost use Rattle.scp_xdr.specs.Kind.{Fits};
 ghost use Rattle.scp_quorum.specs.QuorumKind.{set_kind, set_value};
 ghost use Rattle.scp_quorum.specs.QuorumTree.{QuorumTree};
+ghost use Rattle.scp_wire.specs.Connections.{same_node};
 ghost use Rattle.scp_script.specs.Script.{node_count, AreAdmitted};
 ghost use Rattle.scp_script.specs.Nodes.{NamesNodes, numbers, set_at};
-ghost use Rattle.scp_stand_slot.specs.Names.{text_at, name_by, name_of, set_in_bytes, set_sent, sets_of, AreNamesOf, AreNames};
+ghost use Rattle.scp_stand_slot.specs.NodeNames.{Naming};
+ghost use Rattle.scp_stand_slot.specs.Names.{node_name, text_at, name_by, name_of, set_in_bytes, set_sent, sets_of, AreNamesOf, AreNames};
 
 use scp_quorum::QuorumSet;
 use scp_script::{Command, set_of_node};
 use scp_text::{Term, text_of_set};
-use scp_types::{Fault, Hash};
+use scp_types::{Fault, Hash, NodeId};
 use scp_wire::{Message, decode};
 use std::alloc::Global;
 use std::collections::BTreeMap;
+use std::marker::Model;
 
 /// The digits of a hash have this many characters. A name is shorter.
 const HASH_DIGITS: usize = 64;
 
-/// The texts of a script's sets, by their hashes.
+/// The id of a node, and a name that it has.
+#[derive(Drop)]
+pub struct NodeName {
+    id: NodeId,
+    name: String,
+}
+
+impl Model for NodeName {
+    ghost use Rattle.std.specs.Prelude.{string_bytes};
+    ghost use Rattle.scp_stand_slot.specs.NodeNames.{Naming};
+
+    ghost Value = { Naming };
+
+    ghost view = { λ n. record { id = n.id; name = string_bytes n.name } };
+}
+
+impl NodeName {
+    /// The node with this id, and this name of it. Takes ownership of the name.
+    pub fn new(id: NodeId, name: String) -> NodeName
+        ensures { result ≡ record { id = id; name = string_bytes name } }
+    {
+        NodeName { id, name }
+    }
+
+    /// The id.
+    fn id(&self) -> NodeId
+        ensures { result ≡ self.now.id }
+    {
+        self.id
+    }
+
+    /// The name.
+    fn name(&self) -> &str
+        ensures { result.now ≡ self.now.name }
+    {
+        self.name.as_str()
+    }
+}
+
+/// The first name that a node has among these.
+fn naming_of<'a>(nodes: &'a [NodeName], node: &NodeId) -> Option<&'a NodeName>
+    ensures { option_map (λ naming. naming.now) result ≡ find (λ naming. same_node naming.id node.now) nodes.now }
+{
+    nodes.iter().find(|naming| naming.id() == *node)
+}
+
+/// The names of nodes, and the texts of a script's sets, by their hashes.
 #[derive(Drop)]
 pub struct Names {
+    nodes: Vec<NodeName>,
     sets: BTreeMap<Hash, String>,
 }
 
 impl Names {
-    /// The names of the nodes' sets, and of those that commands send.
+    /// These names of nodes. Quorum sets have none.
+    pub fn of_nodes(alloc: Global, nodes: Vec<NodeName>) -> Names
+        ensures { AreNamesOf [] nodes.items result }
+    {
+        Names {
+            nodes,
+            sets: BTreeMap::new(alloc),
+        }
+    }
+
+    /// The names of a script: those of its nodes' sets, and of the sets that its commands send. Its nodes are shown by their numbers.
     pub fn of(alloc: Global, commands: &[Command], count: u8) -> Result<Names, Fault>
         requires names { All NamesNodes commands.now }
         requires admitted { AreAdmitted [] commands.now }
@@ -42,12 +103,10 @@ impl Names {
     /// The names of these sets.
     fn of_sets(alloc: Global, sets: &[QuorumSet]) -> Result<Names, Fault>
         requires fits { All (λ set. Fits set_kind (set_value set)) sets.now }
-        ensures names { IfOk result (AreNamesOf sets.now) }
+        ensures names { IfOk result (AreNamesOf sets.now []) }
         ensures only_memory { IsOkUnless result Fault.NoMemory }
     {
-        let mut names = Names {
-            sets: BTreeMap::new(alloc),
-        };
+        let mut names = Names::of_nodes(alloc, Vec::new(alloc));
         for set in sets {
             names.add(alloc, set)?;
         }
@@ -57,7 +116,7 @@ impl Names {
     /// Adds a set.
     fn add(&mut self, alloc: Global, set: &QuorumSet) -> Result<(), Fault>
         requires fits { Fits set_kind (set_value set.now) }
-        ensures added { OnOk result ((sets : List QuorumTree) → AreNamesOf sets self.old → AreNamesOf (sets ++ set.now ∷ []) self.new) }
+        ensures added { OnOk result ((sets : List QuorumTree) (nodes : List Naming) → AreNamesOf sets nodes self.old → AreNamesOf (sets ++ set.now ∷ []) nodes self.new) }
         ensures only_memory { IsOkUnless result Fault.NoMemory }
     {
         let hash = set.hash()?;
@@ -73,6 +132,20 @@ impl Names {
         match self.sets.get(hash) {
             Some(text) => Some(text.as_str()),
             None => None,
+        }
+    }
+
+    /// Adds the name of a node, or the text of its id if it has none.
+    pub fn write_node(&self, out: &mut String, node: &NodeId) -> Result<(), Fault>
+        ensures added { OnOk result (string_bytes out.new ≡ string_bytes out.old ++ node_name self.now node.now) }
+        ensures only_memory { IsOkUnless result Fault.NoMemory }
+    {
+        match naming_of(self.nodes.as_slice(), node) {
+            Some(naming) => {
+                out.push_str(naming.name())?;
+                Ok(())
+            }
+            None => node.write(out),
         }
     }
 

@@ -3,7 +3,8 @@ ghost use Rattle.std.specs.Prelude.{◌≡◌, ◌++◌, OnOk, IsOkUnless, flat_
 ghost use Rattle.scp_stand_slot.specs.Names.{nodes_text};
 ghost use Rattle.scp_stand_slot.specs.Machine.{step_word, claim_text, who_text, missing_text, need_text};
 
-use crate::texts::{write_counted, write_nodes, write_value};
+use crate::names::Names;
+use crate::texts::{write_counted, write_nodes, write_slot_words, write_value};
 use scp_stand_needs::{Need, Step};
 use scp_types::{Fault, NodeId};
 use scp_vote::Claim;
@@ -36,43 +37,50 @@ fn write_claim(out: &mut String, claim: &Claim) -> Result<(), Fault>
 }
 
 /// Adds a word and nodes.
-fn write_list(out: &mut String, word: &str, nodes: &[NodeId]) -> Result<(), Fault>
-    ensures added { OnOk result (string_bytes out.new ≡ string_bytes out.old ++ word.now ++ nodes_text nodes.now) }
+fn write_list(out: &mut String, names: &Names, word: &str, nodes: &[NodeId]) -> Result<(), Fault>
+    ensures added { OnOk result (string_bytes out.new ≡ string_bytes out.old ++ word.now ++ nodes_text names.now nodes.now) }
     ensures only_memory { IsOkUnless result Fault.NoMemory }
 {
     out.push_str(word)?;
-    write_nodes(out, nodes)
+    write_nodes(out, names, nodes)
 }
 
 /// Adds the nodes that vote for the claim, and those that accept it.
-fn write_who(out: &mut String, need: &Need) -> Result<(), Fault>
-    ensures added { OnOk result (string_bytes out.new ≡ string_bytes out.old ++ who_text need.now) }
+fn write_who(out: &mut String, names: &Names, need: &Need) -> Result<(), Fault>
+    ensures added { OnOk result (string_bytes out.new ≡ string_bytes out.old ++ who_text names.now need.now) }
     ensures only_memory { IsOkUnless result Fault.NoMemory }
 {
-    write_list(out, " votes ", need.votes.as_slice())?;
-    write_list(out, " accepts ", need.accepts.as_slice())
+    write_list(out, names, " votes ", need.votes.as_slice())?;
+    write_list(out, names, " accepts ", need.accepts.as_slice())
 }
 
 /// Adds the nodes that are lacking, those that are against the claim, and those that are short.
-fn write_missing(out: &mut String, need: &Need) -> Result<(), Fault>
-    ensures added { OnOk result (string_bytes out.new ≡ string_bytes out.old ++ missing_text need.now) }
+fn write_missing(out: &mut String, names: &Names, need: &Need) -> Result<(), Fault>
+    ensures added { OnOk result (string_bytes out.new ≡ string_bytes out.old ++ missing_text names.now need.now) }
     ensures only_memory { IsOkUnless result Fault.NoMemory }
 {
-    write_list(out, " lacks ", need.lacks.as_slice())?;
-    write_list(out, " against ", need.against.as_slice())?;
-    write_list(out, " short ", need.short.as_slice())
+    write_list(out, names, " lacks ", need.lacks.as_slice())?;
+    write_list(out, names, " against ", need.against.as_slice())?;
+    write_list(out, names, " short ", need.short.as_slice())
 }
 
-/// Adds the line of a need, for the node with this number.
-fn write_need(out: &mut String, number: u8, slot: u64, need: &Need) -> Result<(), Fault>
-    ensures added { OnOk result (string_bytes out.new ≡ string_bytes out.old ++ need_text number slot need.now) }
+/// Adds the line of a need, for the node with this id.
+fn write_need(
+    out: &mut String,
+    names: &Names,
+    me: NodeId,
+    slot: u64,
+    need: &Need,
+) -> Result<(), Fault>
+    ensures added { OnOk result (string_bytes out.new ≡ string_bytes out.old ++ need_text names.now me slot need.now) }
     ensures only_memory { IsOkUnless result Fault.NoMemory }
 {
     let word = word_of(need.step);
-    write!(out, "{number} slot {slot} needs {word} ")?;
+    write_slot_words(out, names, me, slot)?;
+    write!(out, " needs {word} ")?;
     write_claim(out, &need.claim)?;
-    write_who(out, need)?;
-    write_missing(out, need)?;
+    write_who(out, names, need)?;
+    write_missing(out, names, need)?;
     out.push_str("\n")?;
     Ok(())
 }
@@ -80,15 +88,16 @@ fn write_need(out: &mut String, number: u8, slot: u64, need: &Need) -> Result<()
 /// Adds the lines of needs.
 pub(crate) fn write_needs(
     out: &mut String,
-    number: u8,
+    names: &Names,
+    me: NodeId,
     slot: u64,
     needs: &[Need],
 ) -> Result<(), Fault>
-    ensures added { OnOk result (string_bytes out.new ≡ string_bytes out.old ++ flat_map (need_text number slot) needs.now) }
+    ensures added { OnOk result (string_bytes out.new ≡ string_bytes out.old ++ flat_map (need_text names.now me slot) needs.now) }
     ensures only_memory { IsOkUnless result Fault.NoMemory }
 {
     for need in needs {
-        write_need(out, number, slot, need)?;
+        write_need(out, names, me, slot, need)?;
     }
     Ok(())
 }

@@ -1,11 +1,10 @@
-//! Statements as text, with the hashes of quorum sets shown by their names.
+//! Statements as text, with nodes and the hashes of quorum sets shown by their names.
 ghost use Rattle.std.specs.Prelude.{◌≡◌, ◌++◌, ◌∷◌, [], OnOk, IsOkUnless, true, false, codes, string_bytes};
 ghost use Rattle.std.specs.Fmt.{decimal};
 ghost use Rattle.scp_text.specs.Pieces.{listed};
-ghost use Rattle.scp_text.specs.Sets.{node_text};
 ghost use Rattle.scp_text.specs.Messages.{optional_text, signature_words, nominate_words, prepare_words, confirm_words, externalize_words, pledges_words};
 ghost use Rattle.scp_envelope.specs.Kinds.{set_hash_of};
-ghost use Rattle.scp_stand_slot.specs.Names.{name_of, with_fourth, said_as, statement_text};
+ghost use Rattle.scp_stand_slot.specs.Names.{node_name, name_of, with_names, said_as, statement_text};
 
 use crate::names::Names;
 use crate::texts::{write_ballot, write_values};
@@ -61,11 +60,12 @@ fn write_front(
     slot: u64,
     hash: &Hash,
 ) -> Result<(), Fault>
-    ensures added { OnOk result (string_bytes out.new ≡ string_bytes out.old ++ listed 32 true (kind.now ∷ node_text node ∷ decimal slot ∷ name_of names.now hash.now ∷ [])) }
+    ensures added { OnOk result (string_bytes out.new ≡ string_bytes out.old ++ listed 32 true (kind.now ∷ node_name names.now node ∷ decimal slot ∷ name_of names.now hash.now ∷ [])) }
     ensures only_memory { IsOkUnless result Fault.NoMemory }
 {
     out.push_str(kind)?;
-    write_term(out, &node)?;
+    out.push_str(" ")?;
+    names.write_node(out, &node)?;
     write_term(out, &Slot(slot))?;
     out.push_str(" ")?;
     names.write_hash(out, hash)
@@ -116,7 +116,7 @@ fn write_nominating(
     slot: u64,
     p: &Nominate,
 ) -> Result<(), Fault>
-    ensures added { OnOk result (string_bytes out.new ≡ string_bytes out.old ++ listed 32 true (codes "nominate" ∷ node_text node ∷ decimal slot ∷ name_of names.now p.now.set_hash ∷ nominate_words p.now)) }
+    ensures added { OnOk result (string_bytes out.new ≡ string_bytes out.old ++ listed 32 true (codes "nominate" ∷ node_name names.now node ∷ decimal slot ∷ name_of names.now p.now.set_hash ∷ nominate_words p.now)) }
     ensures only_memory { IsOkUnless result Fault.NoMemory }
 {
     write_front(out, names, "nominate", node, slot, &p.set_hash)?;
@@ -131,7 +131,7 @@ fn write_preparing(
     slot: u64,
     p: &Prepare,
 ) -> Result<(), Fault>
-    ensures added { OnOk result (string_bytes out.new ≡ string_bytes out.old ++ listed 32 true (codes "prepare" ∷ node_text node ∷ decimal slot ∷ name_of names.now p.now.set_hash ∷ prepare_words p.now)) }
+    ensures added { OnOk result (string_bytes out.new ≡ string_bytes out.old ++ listed 32 true (codes "prepare" ∷ node_name names.now node ∷ decimal slot ∷ name_of names.now p.now.set_hash ∷ prepare_words p.now)) }
     ensures only_memory { IsOkUnless result Fault.NoMemory }
 {
     write_front(out, names, "prepare", node, slot, &p.set_hash)?;
@@ -146,7 +146,7 @@ fn write_confirming(
     slot: u64,
     p: &Confirm,
 ) -> Result<(), Fault>
-    ensures added { OnOk result (string_bytes out.new ≡ string_bytes out.old ++ listed 32 true (codes "confirm" ∷ node_text node ∷ decimal slot ∷ name_of names.now p.now.set_hash ∷ confirm_words p.now)) }
+    ensures added { OnOk result (string_bytes out.new ≡ string_bytes out.old ++ listed 32 true (codes "confirm" ∷ node_name names.now node ∷ decimal slot ∷ name_of names.now p.now.set_hash ∷ confirm_words p.now)) }
     ensures only_memory { IsOkUnless result Fault.NoMemory }
 {
     write_front(out, names, "confirm", node, slot, &p.set_hash)?;
@@ -161,14 +161,14 @@ fn write_externalizing(
     slot: u64,
     p: &Externalize,
 ) -> Result<(), Fault>
-    ensures added { OnOk result (string_bytes out.new ≡ string_bytes out.old ++ listed 32 true (codes "externalize" ∷ node_text node ∷ decimal slot ∷ name_of names.now p.now.set_hash ∷ externalize_words p.now)) }
+    ensures added { OnOk result (string_bytes out.new ≡ string_bytes out.old ++ listed 32 true (codes "externalize" ∷ node_name names.now node ∷ decimal slot ∷ name_of names.now p.now.set_hash ∷ externalize_words p.now)) }
     ensures only_memory { IsOkUnless result Fault.NoMemory }
 {
     write_front(out, names, "externalize", node, slot, &p.set_hash)?;
     write_externalize(out, p)
 }
 
-/// Adds the words of a node's pledges in a slot, with the hash of its set shown by its name.
+/// Adds the words of a node's pledges in a slot, with the node and the hash of its set shown by their names.
 fn write_pledges(
     out: &mut String,
     names: &Names,
@@ -176,7 +176,7 @@ fn write_pledges(
     slot: u64,
     pledges: &Pledges,
 ) -> Result<(), Fault>
-    ensures added { OnOk result (string_bytes out.new ≡ string_bytes out.old ++ listed 32 true (with_fourth (name_of names.now (set_hash_of pledges.now)) (pledges_words node (record { 0 = slot }) pledges.now))) }
+    ensures added { OnOk result (string_bytes out.new ≡ string_bytes out.old ++ listed 32 true (with_names (node_name names.now node) (name_of names.now (set_hash_of pledges.now)) (pledges_words node (record { 0 = slot }) pledges.now))) }
     ensures only_memory { IsOkUnless result Fault.NoMemory }
 {
     match pledges {

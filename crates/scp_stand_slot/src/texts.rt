@@ -3,8 +3,9 @@ ghost use Rattle.std.specs.Prelude.{◌≡◌, ◌++◌, OnOk, IsOkUnless, map, 
 ghost use Rattle.scp_text.specs.Pieces.{listed};
 ghost use Rattle.scp_text.specs.Values.{value_text};
 ghost use Rattle.scp_text.specs.Messages.{ballot_text, values_text};
-ghost use Rattle.scp_stand_slot.specs.Names.{nodes_text};
+ghost use Rattle.scp_stand_slot.specs.Names.{node_name, nodes_text, slot_words};
 
+use crate::names::Names;
 use scp_text::Term;
 use scp_types::{Ballot, Fault, NodeId, Value};
 
@@ -24,9 +25,29 @@ fn write_all<T: Term>(out: &mut String, terms: &[T]) -> Result<(), Fault>
     Ok(())
 }
 
-/// Adds nodes, with commas between them, or a dash for none.
-pub fn write_nodes(out: &mut String, nodes: &[NodeId]) -> Result<(), Fault>
-    ensures added { OnOk result (string_bytes out.new ≡ string_bytes out.old ++ nodes_text nodes.now) }
+/// Adds the names of nodes, with commas between them.
+pub(crate) fn write_each_node(
+    out: &mut String,
+    names: &Names,
+    nodes: &[NodeId],
+) -> Result<(), Fault>
+    ensures added { OnOk result (string_bytes out.new ≡ string_bytes out.old ++ listed 44 true (map (node_name names.now) nodes.now)) }
+    ensures only_memory { IsOkUnless result Fault.NoMemory }
+{
+    let mut first = true;
+    for node in nodes {
+        if !first {
+            out.push_str(",")?;
+        }
+        names.write_node(out, node)?;
+        first = false;
+    }
+    Ok(())
+}
+
+/// Adds the names of nodes, with commas between them, or a dash for none.
+pub fn write_nodes(out: &mut String, names: &Names, nodes: &[NodeId]) -> Result<(), Fault>
+    ensures added { OnOk result (string_bytes out.new ≡ string_bytes out.old ++ nodes_text names.now nodes.now) }
     ensures only_memory { IsOkUnless result Fault.NoMemory }
 {
     match nodes {
@@ -34,8 +55,18 @@ pub fn write_nodes(out: &mut String, nodes: &[NodeId]) -> Result<(), Fault>
             out.push_str("-")?;
             Ok(())
         }
-        [_, ..] => write_all(out, nodes),
+        [_, ..] => write_each_node(out, names, nodes),
     }
+}
+
+/// Adds the words with which each line of a slot at a node begins.
+pub fn write_slot_words(out: &mut String, names: &Names, me: NodeId, slot: u64) -> Result<(), Fault>
+    ensures added { OnOk result (string_bytes out.new ≡ string_bytes out.old ++ slot_words names.now me slot) }
+    ensures only_memory { IsOkUnless result Fault.NoMemory }
+{
+    names.write_node(out, &me)?;
+    write!(out, " slot {slot}")?;
+    Ok(())
 }
 
 /// Adds a value.

@@ -27,7 +27,6 @@ use Rattle.scp_trace.specs.declared.depth.Depth.{Depth}
 use Rattle.scp_trace.specs.declared.depth.Depth.TheVariants.{Stands, Whole}
 use Rattle.scp_trace.specs.Standing.{Moment, beginning, HavePlayed, TellsNode, IsEnd}
 use Rattle.scp_trace.specs.Traced.{line_part, facts_part, AreFacts, IsStandBehind, IsPiece, AreTold, IsWhole, IsCutOff}
-use Rattle.scp_stand_node.specs.Stand.{IsStand}
 use Rattle.scp_trace.specs.inside.Tracing.{Told, tracing, TellsBy, StandsIf, StandsBy, Ends}
 use Rattle.scp_trace.proofs.Noting.{have_facts}
 
@@ -52,25 +51,25 @@ asked_within all before after' number split admitted =
 not_both : {X : Type 0} (found : Option X) (x : X) → found ≡ None → found ≡ Some x → ⊥
 not_both found x none some = cc (none, some)
 
-told_if : (names : Names) (count : ℕ) (all before : List Command) (nodes : NodeList) (number : ℕ) (text : List ℕ) (found : Option NodeView) → 1 ≤ number → number ≤ length nodes → count ≡ node_count all → slice_get nodes (number - 1) ≡ found → StandsIf names count all before number found text → TellsNode names all before nodes number text
-told_if names count all before nodes number text None from within same is stands =
+told_if : (names : Names) (all before : List Command) (nodes : NodeList) (number : ℕ) (text : List ℕ) (found : Option NodeView) → 1 ≤ number → number ≤ length nodes → slice_get nodes (number - 1) ≡ found → StandsIf names all before found text → TellsNode names all before nodes number text
+told_if names all before nodes number text None from within is stands =
     elim (slice_get_cases nodes (number - 1)).1 [
       | inl there ↦ absurd (not_both (slice_get nodes (number - 1)) there.0 is there.2)
       | inr past ↦ absurd (omega (arith, past.0, from, within))
     ]
-told_if names count all before nodes number text (Some node) from within same is stands = (node, is, subst (λ (n : ℕ). IsStand names n number all before node text) same stands)
+told_if names all before nodes number text (Some node) from within is stands = (node, is, stands)
 
 -- nodes that hold their ledgers
 have_played : TheoremGivesLedger → (all before : List Command) (heard : List Heard) (nodes : NodeList) → ArePlayed all before heard nodes → HavePlayed all before (at_moment heard nodes)
 have_played law all before heard nodes far = record { played = far; ledgers = λ i d here. law (past_at (i + 1) heard) (get_or nodes i d) (far.have i d here) }
 
 stands_behind : TheoremGivesLedger → (names : Names) (all before after' : List Command) (command : Command) (calm : Bool) (first last : NodeList) (past heard : List Heard) (text : List ℕ) → all ≡ before ++ command ∷ after' → AreAdmitted [] all → length last ≡ node_count all → ArePlayed all before past first → HearsAs (driven_in all) (node_count all) calm command first heard last
-    → StandsBy names (length last) all before last command text → IsStandBehind names all before (at_moment past first) command text
+    → StandsBy names all before last command text → IsStandBehind names all before (at_moment past first) command text
 stands_behind law names all before after' (script.Report number) calm first last past heard text split admitted count far hears stands =
     let within = asked_within all before after' number split admitted in
     let same : last ≡ first = hears.1.1 in (
       have_played law all before past first far,
-      subst (λ (nodes : NodeList). TellsNode names all before nodes number text) same (told_if names (length last) all before last number text (slice_get last (number - 1)) within.0 (omega (arith, within.1, count)) count refl stands),
+      subst (λ (nodes : NodeList). TellsNode names all before nodes number text) same (told_if names all before last number text (slice_get last (number - 1)) within.0 (omega (arith, within.1, count)) refl stands),
     )
 stands_behind law names all before after' (script.Caps capacities) calm first last past heard text split admitted count far hears stands = stands
 stands_behind law names all before after' (script.Nodes many quorum) calm first last past heard text split admitted count far hears stands = stands
@@ -148,7 +147,7 @@ piece_of law depth names all before after' line command text new first last past
     let within : length before < length all = omega (arith, ap (λ (l : List Command). length l) split, length-append before (command ∷ after')) in
     let longer : length before + 1 ≡ length (before ++ command ∷ []) = sym (length-append before (command ∷ [])) in
     let stand = ended.0 in
-    let stands = subst (λ (l : List Command). StandsBy names (length last) all l last command stand) front ended.1 in
+    let stands = subst (λ (l : List Command). StandsBy names all l last command stand) front ended.1 in
     let part = line_part depth names line command in
     let told = facts_part depth names line last is.done.tellings in
     let piece = part ++ (facts_part depth names line last facts.0 ++ stand) in

@@ -12,17 +12,16 @@ use Rattle.scp_script.specs.declared.command.Command.{Command}
 use Rattle.scp_line.specs.Nodes.{HasPlayed}
 use Rattle.scp_stand_slot.specs.declared.names.Names.{Names}
 use Rattle.scp_stand_slot.specs.Adding.{Adds}
-use Rattle.scp_stand_node.specs.Stand.{IsSeen, IsStand}
+use Rattle.scp_stand_node.specs.Stand.{IsSeen}
 use Rattle.scp_trace.specs.Playing.{IsPlaying, moment_at}
-use Rattle.scp_trace.specs.Standing.{HavePlayed, TellsNode}
+use Rattle.scp_trace.specs.Standing.{HavePlayed, IsStandIn, TellsNode}
 
-pub seen_at : (count : ℕ) (commands played : List Command) (network : NetworkView) (i : ℕ) (v : NodeView) → IsPlaying count commands played network → slice_get network.nodes i ≡ Some v → IsSeen count v
+pub seen_at : (count : ℕ) (commands played : List Command) (network : NetworkView) (i : ℕ) (v : NodeView) → IsPlaying count commands played network → slice_get network.nodes i ≡ Some v → IsSeen v
 seen_at count commands played network i v playing at =
     let far = playing.so_far in
     let runs = far.played.run i v at in
     let theorem = subst (λ (u : NodeView). LedgerTheorem (past_at (i + 1) far.heard) u) (get_or_from_slice_get network.nodes i v v at) (far.played.have i v (slice_get_within network.nodes i v at)) in
     record {
-      few = playing.few;
       runs = runs;
       ledger = subst (λ (u : NodeView). RunsBy kv_says u.ledger) (sym (theorem.now runs)) theorem.flows.journal.running;
     }
@@ -39,10 +38,6 @@ read_at nodes k number v is within e =
     let place : k ≡ number - 1 = omega (arith, is) in
     subst (λ (i : ℕ). slice_get nodes i ≡ Some v) place (slice_get_read nodes (length nodes) k v refl within e)
 
-tells_node : (names : Names) (count : ℕ) (commands played : List Command) (network : NetworkView) (number : ℕ) (v : NodeView) (old new : List ℕ) → IsPlaying count commands played network → slice_get network.nodes (number - 1) ≡ Some v → Adds old new (IsStand names count number commands played v) → Adds old new (TellsNode names commands played network.nodes number)
-tells_node names count commands played network number v old new playing at a =
-    (a.0, a.1, (v, at, subst (λ (n : ℕ). IsStand names n number commands played v a.0) playing.count_is a.2))
-
-pub node_told : (names : Names) (count : ℕ) (commands played : List Command) (network : NetworkView) (number : ℕ) (v : NodeView) (old new : List ℕ) (r : Result (Unit {0}) Fault) → IsPlaying count commands played network → slice_get network.nodes (number - 1) ≡ Some v → OnOk r (Adds old new (IsStand names count number commands played v)) → OnOk r (Adds old new (TellsNode names commands played network.nodes number))
-node_told names count commands played network number v old new (Ok done) playing at a = tells_node names count commands played network number v old new playing at a
-node_told names count commands played network number v old new (Err fault) playing at a = tt
+pub node_told : (names : Names) (commands played : List Command) (network : NetworkView) (number : ℕ) (v : NodeView) (old new : List ℕ) (r : Result (Unit {0}) Fault) → slice_get network.nodes (number - 1) ≡ Some v → OnOk r (Adds old new (IsStandIn names commands played v)) → OnOk r (Adds old new (TellsNode names commands played network.nodes number))
+node_told names commands played network number v old new (Ok done) at a = (a.0, a.1, (v, at, a.2))
+node_told names commands played network number v old new (Err fault) at a = tt

@@ -1,5 +1,5 @@
 -- What the watch does before and after a line.
-use Rattle.std.proofs.Common.{◌≡◌, ◌∙◌, ◌+◌, ◌-◌, ◌<◌, ◌++◌, [], ℕ, Bool, true, false, List, Option, None, Some, inl, inr, length, take, refl, sym, ap, subst, append_assoc, append-nil, arith}
+use Rattle.std.proofs.Common.{◌≡◌, ◌∙◌, ◌+◌, ◌-◌, ◌<◌, ◌++◌, [], ℕ, Bool, true, false, List, Option, None, Some, inl, inr, length, take, refl, sym, ap, subst, append_assoc, append-nil}
 use Rattle.std.specs.Prelude.{◌||◌, Result, Ok, Err, OnOk, slice_get, string_bytes}
 use Rattle.std.proofs.lemmas.Option.{slice_get_within, get_or_from_slice_get}
 use Rattle.scp_types.specs.declared.fault.Fault.{Fault}
@@ -12,7 +12,7 @@ use Rattle.scp_script.specs.declared.command.Command.TheVariants as script
 use Rattle.scp_line.specs.Player.{ArePlaying}
 use Rattle.scp_stand_slot.specs.declared.names.Names.{Names}
 use Rattle.scp_stand_slot.specs.Adding.{Adds}
-use Rattle.scp_stand_node.specs.Stand.{IsSeen, IsStand}
+use Rattle.scp_stand_node.specs.Stand.{IsSeen}
 use Rattle.scp_facts.specs.declared.fact.Telling.{Telling}
 use Rattle.scp_facts.specs.declared.watch.Awaited.TheVariants.{Nothing}
 use Rattle.scp_facts.specs.Watching.{WatchView}
@@ -20,6 +20,7 @@ use Rattle.scp_trace_text.specs.Facts.{facts_text}
 use Rattle.scp_trace.specs.declared.depth.Depth.{Depth}
 use Rattle.scp_trace.specs.declared.depth.Depth.TheVariants.{Stands, Whole}
 use Rattle.scp_trace.specs.declared.tracing.TraceWatch.{TraceWatch}
+use Rattle.scp_trace.specs.Standing.{IsStandIn}
 use Rattle.scp_trace.specs.Traced.{line_part, facts_part}
 use Rattle.scp_trace.specs.inside.Tracing.{Told, held, lacks, StandsIf, StandsBy, LineBegins, LineEnds}
 
@@ -38,40 +39,39 @@ facts_left depth names line nodes tellings text stands = subst (λ (d : Depth). 
 -- ---- where a node stands
 
 -- the node of a report
-pub seen_among : (nodes : NodeList) (count i : ℕ) (v : NodeView) → count ≡ length nodes → ArePlaying nodes → slice_get nodes i ≡ Some v → IsSeen count v
-seen_among nodes count i v many playing at =
+pub seen_among : (nodes : NodeList) (i : ℕ) (v : NodeView) → ArePlaying nodes → slice_get nodes i ≡ Some v → IsSeen v
+seen_among nodes i v playing at =
     let runs = playing.run i v at in
     let theorem = subst (λ (u : NodeView). LedgerTheorem (past_at (i + 1) playing.heard) u) (get_or_from_slice_get nodes i v v at) (playing.have i v (slice_get_within nodes i v at)) in
-    record { few = omega (arith, many, playing.few); runs = runs; ledger = subst (λ (u : NodeView). RunsBy kv_says u.ledger) (sym (theorem.now runs)) theorem.flows.journal.running }
+    record { runs = runs; ledger = subst (λ (u : NodeView). RunsBy kv_says u.ledger) (sym (theorem.now runs)) theorem.flows.journal.running }
 
-stand_added : (names : Names) (count number : ℕ) (all before : List Command) (found : Option NodeView) (v : NodeView) (old new : List ℕ) → found ≡ Some v → Adds old new (IsStand names count number all before v) → Adds old new (StandsIf names count all before number found)
-stand_added names count number all before found v old new at a = (a.0, a.1, subst (λ (o : Option NodeView). StandsIf names count all before number o a.0) (sym at) a.2)
+stand_added : (names : Names) (all before : List Command) (found : Option NodeView) (v : NodeView) (old new : List ℕ) → found ≡ Some v → Adds old new (IsStandIn names all before v) → Adds old new (StandsIf names all before found)
+stand_added names all before found v old new at a = (a.0, a.1, subst (λ (o : Option NodeView). StandsIf names all before o a.0) (sym at) a.2)
 
 -- it was written
-pub stand_written : (names : Names) (nodes : NodeList) (count number : ℕ) (all before played : List Command) (v : NodeView) (old new : List ℕ) (r : Result (Unit {0}) Fault) → count ≡ length nodes → played ≡ before → slice_get nodes (number - 1) ≡ Some v → OnOk r (Adds old new (IsStand names count number all played v)) → OnOk r (Adds old new (StandsIf names (length nodes) all before number (slice_get nodes (number - 1))))
-stand_written names nodes count number all before played v old new (Ok done) many same at a =
-    let here : Adds old new (IsStand names (length nodes) number all before v) = subst (λ (n : ℕ). Adds old new (IsStand names n number all before v)) many (subst (λ (l : List Command). Adds old new (IsStand names count number all l v)) same a) in
-    stand_added names (length nodes) number all before (slice_get nodes (number - 1)) v old new at here
-stand_written names nodes count number all before played v old new (Err fault) many same at a = tt
+pub stand_written : (names : Names) (nodes : NodeList) (number : ℕ) (all before played : List Command) (v : NodeView) (old new : List ℕ) (r : Result (Unit {0}) Fault) → played ≡ before → slice_get nodes (number - 1) ≡ Some v → OnOk r (Adds old new (IsStandIn names all played v)) → OnOk r (Adds old new (StandsIf names all before (slice_get nodes (number - 1))))
+stand_written names nodes number all before played v old new (Ok done) same at a =
+    stand_added names all before (slice_get nodes (number - 1)) v old new at (subst (λ (l : List Command). Adds old new (IsStandIn names all l v)) same a)
+stand_written names nodes number all before played v old new (Err fault) same at a = tt
 
 -- there is no such node
-pub stand_left : (names : Names) (count number : ℕ) (all before : List Command) (found : Option NodeView) (text : List ℕ) → found ≡ None → Adds text text (StandsIf names count all before number found)
-stand_left names count number all before found text none = ([], sym (append-nil text), subst (λ (o : Option NodeView). StandsIf names count all before number o []) (sym none) refl)
+pub stand_left : (names : Names) (all before : List Command) (found : Option NodeView) (text : List ℕ) → found ≡ None → Adds text text (StandsIf names all before found)
+stand_left names all before found text none = ([], sym (append-nil text), subst (λ (o : Option NodeView). StandsIf names all before o []) (sym none) refl)
 
 -- the line asks for it
-pub stand_asked : (names : Names) (count number : ℕ) (all before : List Command) (nodes : NodeList) (command : Command) (old new : List ℕ) (r : Result (Unit {0}) Fault) → command ≡ script.Report number → OnOk r (Adds old new (StandsIf names count all before number (slice_get nodes (number - 1)))) → OnOk r (Adds old new (StandsBy names count all before nodes command))
-stand_asked names count number all before nodes command old new r is a = subst (λ (c : Command). OnOk r (Adds old new (StandsBy names count all before nodes c))) (sym is) a
+pub stand_asked : (names : Names) (number : ℕ) (all before : List Command) (nodes : NodeList) (command : Command) (old new : List ℕ) (r : Result (Unit {0}) Fault) → command ≡ script.Report number → OnOk r (Adds old new (StandsIf names all before (slice_get nodes (number - 1)))) → OnOk r (Adds old new (StandsBy names all before nodes command))
+stand_asked names number all before nodes command old new r is a = subst (λ (c : Command). OnOk r (Adds old new (StandsBy names all before nodes c))) (sym is) a
 
 -- ---- after a line
 
 -- both were added
 pub both_written : (old mid : TraceWatch) (line : ℕ) (command : Command) (nodes : NodeList) (new : List ℕ) (r : Result (Unit {0}) Fault) → mid ≡ record old { text = mid.text; facts = mid.facts } → string_bytes mid.text ≡ string_bytes old.text ++ facts_part old.depth old.names.now line nodes old.facts.tellings
-    → OnOk r (Adds (string_bytes mid.text) new (StandsBy mid.names.now (length nodes) mid.commands.now (take mid.done mid.commands.now) nodes command))
-    → OnOk r (Adds (string_bytes old.text ++ facts_part old.depth old.names.now line nodes old.facts.tellings) new (StandsBy old.names.now (length nodes) old.commands.now (take old.done old.commands.now) nodes command))
+    → OnOk r (Adds (string_bytes mid.text) new (StandsBy mid.names.now mid.commands.now (take mid.done mid.commands.now) nodes command))
+    → OnOk r (Adds (string_bytes old.text ++ facts_part old.depth old.names.now line nodes old.facts.tellings) new (StandsBy old.names.now old.commands.now (take old.done old.commands.now) nodes command))
 both_written old mid line command nodes new r same text a =
     let told = string_bytes old.text ++ facts_part old.depth old.names.now line nodes old.facts.tellings in
-    subst (λ (w : TraceWatch). OnOk r (Adds told new (StandsBy w.names.now (length nodes) w.commands.now (take w.done w.commands.now) nodes command))) same
-    (subst (λ (t : List ℕ). OnOk r (Adds t new (StandsBy mid.names.now (length nodes) mid.commands.now (take mid.done mid.commands.now) nodes command))) text a)
+    subst (λ (w : TraceWatch). OnOk r (Adds told new (StandsBy w.names.now w.commands.now (take w.done w.commands.now) nodes command))) same
+    (subst (λ (t : List ℕ). OnOk r (Adds t new (StandsBy mid.names.now mid.commands.now (take mid.done mid.commands.now) nodes command))) text a)
 
 -- what changed since the line began
 pub same_both : (old mid new : TraceWatch) → mid ≡ record old { text = mid.text; facts = mid.facts } → new ≡ record mid { text = new.text } → new ≡ record old { text = new.text; facts = new.facts }
@@ -86,7 +86,7 @@ told_by depth names all done text tellings = record { depth = depth; names = nam
 
 -- the line is done
 ended_calm : (old mid new : TraceWatch) (line : ℕ) (command : Command) (calm : Bool) (nodes : NodeList) → old.lacks_memory ≡ false → mid ≡ record old { text = mid.text; facts = mid.facts } → mid.facts ≡ record { tellings = []; awaited = Nothing; lacks_memory = false } → old.facts.lacks_memory ≡ false
-    → Adds (string_bytes old.text ++ facts_part old.depth old.names.now line nodes old.facts.tellings) (string_bytes mid.text) (StandsBy old.names.now (length nodes) old.commands.now (take old.done old.commands.now) nodes command)
+    → Adds (string_bytes old.text ++ facts_part old.depth old.names.now line nodes old.facts.tellings) (string_bytes mid.text) (StandsBy old.names.now old.commands.now (take old.done old.commands.now) nodes command)
     → new ≡ record mid { done = new.done } → (mid.done < length mid.commands.now → new.done ≡ mid.done + 1) → LineEnds old line command calm nodes new
 ended_calm old mid new line command calm nodes own same fresh none a counted one =
     let told = facts_part old.depth old.names.now line nodes old.facts.tellings in
@@ -108,7 +108,7 @@ ended_calm old mid new line command calm nodes own same fresh none a counted one
     )
 
 ended_by : (own : Bool) (old mid new : TraceWatch) (line : ℕ) (command : Command) (calm : Bool) (nodes : NodeList) → old.lacks_memory ≡ own → mid ≡ record old { text = mid.text; facts = mid.facts } → mid.facts ≡ record { tellings = []; awaited = Nothing; lacks_memory = false } → old.facts.lacks_memory ≡ false
-    → Adds (string_bytes old.text ++ facts_part old.depth old.names.now line nodes old.facts.tellings) (string_bytes mid.text) (StandsBy old.names.now (length nodes) old.commands.now (take old.done old.commands.now) nodes command)
+    → Adds (string_bytes old.text ++ facts_part old.depth old.names.now line nodes old.facts.tellings) (string_bytes mid.text) (StandsBy old.names.now old.commands.now (take old.done old.commands.now) nodes command)
     → new ≡ record mid { done = new.done } → (mid.done < length mid.commands.now → new.done ≡ mid.done + 1) → LineEnds old line command calm nodes new
 ended_by true old mid new line command calm nodes own same fresh none a counted one =
     let lost : new.lacks_memory ≡ true = ap (λ (w : TraceWatch). w.lacks_memory) counted ∙ ap (λ (w : TraceWatch). w.lacks_memory) same ∙ own in
@@ -116,7 +116,7 @@ ended_by true old mid new line command calm nodes own same fresh none a counted 
 ended_by false old mid new line command calm nodes own same fresh none a counted one = ended_calm old mid new line command calm nodes own same fresh none a counted one
 
 pub line_ended : (old mid new : TraceWatch) (line : ℕ) (command : Command) (calm : Bool) (nodes : NodeList) → mid ≡ record old { text = mid.text; facts = mid.facts } → mid.facts ≡ record { tellings = []; awaited = Nothing; lacks_memory = false } → old.facts.lacks_memory ≡ false
-    → Adds (string_bytes old.text ++ facts_part old.depth old.names.now line nodes old.facts.tellings) (string_bytes mid.text) (StandsBy old.names.now (length nodes) old.commands.now (take old.done old.commands.now) nodes command)
+    → Adds (string_bytes old.text ++ facts_part old.depth old.names.now line nodes old.facts.tellings) (string_bytes mid.text) (StandsBy old.names.now old.commands.now (take old.done old.commands.now) nodes command)
     → new ≡ record mid { done = new.done } → (mid.done < length mid.commands.now → new.done ≡ mid.done + 1) → LineEnds old line command calm nodes new
 line_ended old mid new line command calm nodes same fresh none a counted one = ended_by old.lacks_memory old mid new line command calm nodes refl same fresh none a counted one
 

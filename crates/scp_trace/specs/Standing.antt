@@ -32,9 +32,13 @@ pub record HavePlayed (all done : List Command) (now : Moment) : Type 0 where
   pub played : ArePlayed all done now.heard now.nodes
   pub ledgers : HoldLedgers now.heard now.nodes
 
+-- the text shows where the node stands, in a script of these lines, of which the second ones were played
+abbrev pub IsStandIn : Names → List Command → List Command → NodeView → List ℕ → Type 0
+IsStandIn names all done node text = IsStand names (Some (record { all = all; played = done })) node text
+
 -- the text shows where the node of this number stands, after these lines were played
 abbrev pub TellsNode : Names → List Command → List Command → NodeList → ℕ → List ℕ → Type 0
-TellsNode names all done nodes number text = (node : NodeView) × (slice_get nodes (number - 1) ≡ Some node) × IsStand names (node_count all) number all done node text
+TellsNode names all done nodes number text = (node : NodeView) × (slice_get nodes (number - 1) ≡ Some node) × IsStandIn names all done node text
 
 -- ---- at the end
 

@@ -6,7 +6,7 @@ ghost use Rattle.scp_trace.specs.Playing.{IsPlaying};
 
 use scp_network::Network;
 use scp_script::Command;
-use scp_stand_node::{Seen, write_stand};
+use scp_stand_node::{Lines, Seen, write_stand};
 use scp_stand_slot::Names;
 use scp_types::Fault;
 use std::alloc::Global;
@@ -43,11 +43,11 @@ pub(crate) fn write_node(
             Seen {
                 alloc: playing.alloc,
                 names: playing.names,
-                count: playing.count,
-                number,
                 node,
-                commands: playing.commands,
-                played: playing.played,
+                lines: Some(Lines {
+                    all: playing.commands,
+                    played: playing.played,
+                }),
             },
         ),
         None => Ok(()),

@@ -12,7 +12,7 @@ use crate::lines::write_begin;
 use scp_facts::FactWatch;
 use scp_line::LineWatch;
 use scp_script::Command;
-use scp_stand_node::{Seen, write_stand};
+use scp_stand_node::{Lines, Seen, write_stand};
 use scp_stand_slot::Names;
 use scp_trace_text::{Scene, write_facts};
 use scp_turn::{Event, KvDriver, Node, Reply, Watch};
@@ -103,7 +103,7 @@ impl<'a> TraceWatch<'a> {
     fn write_number(&mut self, number: u8, nodes: &[Node]) -> Result<(), Fault>
         requires number { 1 ≤ number }
         requires playing { ArePlaying nodes.now }
-        ensures added { OnOk result (Adds (string_bytes self.old.text) (string_bytes self.new.text) (StandsIf self.old.names.now (length nodes.now) self.old.commands.now (take self.old.done self.old.commands.now) number (slice_get nodes.now (number - 1)))) }
+        ensures added { OnOk result (Adds (string_bytes self.old.text) (string_bytes self.new.text) (StandsIf self.old.names.now self.old.commands.now (take self.old.done self.old.commands.now) (slice_get nodes.now (number - 1)))) }
         ensures same { self.new ≡ record self.old { text = self.new.text } }
         ensures only_memory { IsOkUnless result Fault.NoMemory }
     {
@@ -113,11 +113,11 @@ impl<'a> TraceWatch<'a> {
                 Seen {
                     alloc: self.alloc,
                     names: self.names,
-                    count: nodes.len() as u8,
-                    number,
                     node,
-                    commands: self.commands,
-                    played: first_of(self.commands, self.done),
+                    lines: Some(Lines {
+                        all: self.commands,
+                        played: first_of(self.commands, self.done),
+                    }),
                 },
             ),
             None => Ok(()),
@@ -128,7 +128,7 @@ impl<'a> TraceWatch<'a> {
     fn write_reported(&mut self, command: &Command, nodes: &[Node]) -> Result<(), Fault>
         requires names { NamesNodes command.now }
         requires playing { ArePlaying nodes.now }
-        ensures added { OnOk result (Adds (string_bytes self.old.text) (string_bytes self.new.text) (StandsBy self.old.names.now (length nodes.now) self.old.commands.now (take self.old.done self.old.commands.now) nodes.now command.now)) }
+        ensures added { OnOk result (Adds (string_bytes self.old.text) (string_bytes self.new.text) (StandsBy self.old.names.now self.old.commands.now (take self.old.done self.old.commands.now) nodes.now command.now)) }
         ensures same { self.new ≡ record self.old { text = self.new.text } }
         ensures only_memory { IsOkUnless result Fault.NoMemory }
     {
@@ -153,7 +153,7 @@ impl<'a> TraceWatch<'a> {
         requires names { NamesNodes command.now }
         requires playing { ArePlaying nodes.now }
         ensures calm { OnOk result (self.old.facts.lacks_memory ≡ false) }
-        ensures added { OnOk result (Adds (string_bytes self.old.text ++ facts_part self.old.depth self.old.names.now line nodes.now self.old.facts.tellings) (string_bytes self.new.text) (StandsBy self.old.names.now (length nodes.now) self.old.commands.now (take self.old.done self.old.commands.now) nodes.now command.now)) }
+        ensures added { OnOk result (Adds (string_bytes self.old.text ++ facts_part self.old.depth self.old.names.now line nodes.now self.old.facts.tellings) (string_bytes self.new.text) (StandsBy self.old.names.now self.old.commands.now (take self.old.done self.old.commands.now) nodes.now command.now)) }
         ensures fresh { self.new.facts ≡ record { tellings = []; awaited = Nothing; lacks_memory = false } }
         ensures same { self.new ≡ record self.old { text = self.new.text; facts = self.new.facts } }
     {

@@ -1,5 +1,5 @@
--- Connections and messages in a trace (this project's profile). Messages are in the notation of scripts, with hashes shown by their
--- names.
+-- Connections and messages in a trace (this project's profile). Messages are in the notation of scripts, with nodes and hashes shown by
+-- their names.
 use Rattle.std.specs.Prelude.{ℕ, List, ◌++◌, Option, Some, None, codes}
 use Rattle.std.specs.Fmt.{decimal}
 use Rattle.scp_types.specs.declared.names.ConnId.{ConnId}
@@ -12,29 +12,28 @@ use Rattle.scp_wire.specs.declared.message.Message.{Message}
 use Rattle.scp_wire.specs.declared.message.Message.TheVariants.{Envelope, GetSet, Set, NoSet, GetRecord, Record, Records}
 use Rattle.scp_wire.specs.declared.side.SideMessage.{SideMessage}
 use Rattle.scp_wire.specs.declared.side.SideMessage.TheVariants as side
-use Rattle.scp_text.specs.Sets.{node_text, set_text}
 use Rattle.scp_text.specs.Values.{value_text}
 use Rattle.scp_text.specs.Messages.{values_text}
 use Rattle.scp_words.specs.Words.{hex_word}
 use Rattle.scp_stand_slot.specs.declared.names.Names.{Names}
-use Rattle.scp_stand_slot.specs.Names.{name_of, statement_text}
+use Rattle.scp_stand_slot.specs.Names.{node_name, set_named, name_of, statement_text}
 use Rattle.scp_trace_text.specs.Words.{kind_word}
 
 -- A connection: the node that sends on it, and its life, which says which opening of the link it is.
-abbrev pub conn_text : ConnId → List ℕ
-conn_text conn = node_text conn.from ++ codes " " ++ decimal conn.life
+abbrev pub conn_text : Names → ConnId → List ℕ
+conn_text names conn = node_name names conn.from ++ codes " " ++ decimal conn.life
 
 -- A message's connection, and its number there.
-abbrev pub place_text : ConnId → Seq → List ℕ
-place_text conn seq = conn_text conn ++ codes " " ++ decimal seq.0
+abbrev pub place_text : Names → ConnId → Seq → List ℕ
+place_text names conn seq = conn_text names conn ++ codes " " ++ decimal seq.0
 
 -- A request for a quorum set.
 abbrev pub get_set_text : Names → Hash → List ℕ
 get_set_text names hash = codes "getset " ++ name_of names hash
 
 -- A quorum set, as a message.
-abbrev pub set_message_text : QuorumTree → List ℕ
-set_message_text set = codes "set " ++ set_text set
+abbrev pub set_message_text : Names → QuorumTree → List ℕ
+set_message_text names set = codes "set " ++ set_named names set
 
 -- The answer that there is no such quorum set.
 abbrev pub no_set_text : Names → Hash → List ℕ
@@ -56,7 +55,7 @@ records_text first values = codes "records " ++ decimal first.0 ++ values_text (
 abbrev pub message_named : Names → Message → List ℕ
 message_named names (Envelope e) = statement_text names e.value
 message_named names (GetSet hash) = get_set_text names hash
-message_named names (Set set) = set_message_text set
+message_named names (Set set) = set_message_text names set
 message_named names (NoSet hash) = no_set_text names hash
 message_named names (GetRecord slot) = get_record_text slot
 message_named names (Record slot value) = record_text slot value
@@ -65,7 +64,7 @@ message_named names (Records first values) = records_text first values
 -- A message without a number as text.
 abbrev pub side_named : Names → SideMessage → List ℕ
 side_named names (side.GetSet hash) = get_set_text names hash
-side_named names (side.Set set) = set_message_text set
+side_named names (side.Set set) = set_message_text names set
 side_named names (side.NoSet hash) = no_set_text names hash
 
 -- The kind of a statement, and its slot.

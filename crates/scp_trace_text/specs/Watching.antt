@@ -15,27 +15,29 @@ use Rattle.scp_facts.specs.declared.watch.Awaited.TheVariants.{Nothing}
 use Rattle.scp_facts.specs.Watching.{WatchView, Awaits, TellsStep}
 use Rattle.scp_trace_text.specs.Tracing.{live_text, IsTraced}
 
--- What contracts see of a watch. It has the names of quorum sets and the number of the node, which its lines use. It has the facts that
--- it was given and hasn't written yet, what is written so far, and whether it failed.
+-- What contracts see of a watch. It has the names of nodes and of quorum sets, which its lines use. It has the facts that it was given and
+-- hasn't written yet, what is written so far, and how often its writer has failed. It knows whether it failed itself, and whether that was
+-- because memory ran out.
 pub record TraceView : Type 0 where
   pub names : Names
-  pub number : ℕ
   pub facts : WatchView
   pub written : Option (List ℕ)
+  pub failures : ℕ
   pub has_failed : Bool
+  pub lacks_memory : Bool
 
 -- No facts that aren't written.
 abbrev pub nothing : WatchView
 nothing = record { tellings = []; awaited = Nothing; lacks_memory = false }
 
 -- A watch that was given no facts yet.
-abbrev pub untold : Names → ℕ → Option (List ℕ) → TraceView
-untold names number written = record { names = names; number = number; facts = nothing; written = written; has_failed = false }
+abbrev pub untold : Names → Option (List ℕ) → ℕ → TraceView
+untold names written failures = record { names = names; facts = nothing; written = written; failures = failures; has_failed = false; lacks_memory = false }
 
--- The lines of a reported fact at the node with this number.
-abbrev pub telling_text : Names → ℕ → NodeView → Telling → List ℕ
-telling_text names number v (Line line) = []
-telling_text names number v (Of told) = live_text names number v told.fact
+-- The lines of a reported fact at a node.
+abbrev pub telling_text : Names → NodeView → Telling → List ℕ
+telling_text names v (Line line) = []
+telling_text names v (Of told) = live_text names v told.fact
 
 -- What the watch knows before a step, unless it failed.
 abbrev pub AwaitsStep : TraceView → ℕ → Event → NodeView → TraceView → Type 0
@@ -44,7 +46,7 @@ AwaitsStep old number event v new = (new.has_failed ≡ true) ⊎ (Awaits old.fa
 -- The lines of all facts that it was given are written, and none of the facts is kept. Memory was enough for all of them.
 pub record WritesStep (old : TraceView) (told : WatchView) (v : NodeView) (new : TraceView) : Type 0 where
   pub calm : told.lacks_memory ≡ false
-  pub wrote : Gains old.written (flat_map (telling_text old.names old.number v) told.tellings) new.written
+  pub wrote : Gains old.written (flat_map (telling_text old.names v) told.tellings) new.written
   pub same : new ≡ record old { facts = nothing; written = new.written }
 
 -- What the watch writes after a step, unless it failed.
@@ -59,4 +61,4 @@ noting = notes AwaitsStep TracesStep
 -- that weren't written.
 abbrev pub TracedIsWhatHappened : Type 0
 TracedIsWhatHappened =
-    (number : ℕ) (old new : NodeView) (heard : List Exchange) (first last : TraceView) → first.facts.tellings ≡ [] → last.has_failed ≡ false → Watched noting number first old heard new last → IsTraced first.names first.number old heard new first.written last.written
+    (number : ℕ) (old new : NodeView) (heard : List Exchange) (first last : TraceView) → first.facts.tellings ≡ [] → last.has_failed ≡ false → Watched noting number first old heard new last → IsTraced first.names old heard new first.written last.written

@@ -2,10 +2,11 @@
 ghost use Rattle.std.specs.Prelude.{◌≡◌, ◌++◌, OnOk, IsOkUnless, codes, string_bytes};
 ghost use Rattle.std.specs.Fmt.{decimal};
 ghost use Rattle.scp_turn.specs.scp_core.specs.History.{peer_at};
-ghost use Rattle.scp_text.specs.Sets.{node_text};
 ghost use Rattle.scp_text.specs.Values.{value_text};
+ghost use Rattle.scp_stand_slot.specs.Names.{node_name};
 ghost use Rattle.scp_trace_text.specs.Commands.{with_one, command_words};
 
+use scp_stand_slot::Names;
 use scp_text::Term;
 use scp_turn::{Command, Node};
 use scp_types::{Fault, NodeId, Slot, Value};
@@ -40,20 +41,25 @@ fn write_proposed(out: &mut String, slot: Slot, value: &Value) -> Result<(), Fau
 }
 
 /// Adds the words of a request to this node for the record of the slot.
-fn write_ask(out: &mut String, asked: NodeId, slot: Slot) -> Result<(), Fault>
-    ensures added { OnOk result (string_bytes out.new ≡ string_bytes out.old ++ (codes "ask " ++ node_text asked ++ codes " " ++ decimal slot.0)) }
+fn write_ask(out: &mut String, names: &Names, asked: NodeId, slot: Slot) -> Result<(), Fault>
+    ensures added { OnOk result (string_bytes out.new ≡ string_bytes out.old ++ (codes "ask " ++ node_name names.now asked ++ codes " " ++ decimal slot.0)) }
     ensures only_memory { IsOkUnless result Fault.NoMemory }
 {
     let number = slot.0;
     out.push_str("ask ")?;
-    asked.write(out)?;
+    names.write_node(out, &asked)?;
     write!(out, " {number}")?;
     Ok(())
 }
 
 /// Adds a command of this node.
-pub(crate) fn write_command(out: &mut String, node: &Node, command: &Command) -> Result<(), Fault>
-    ensures added { OnOk result (string_bytes out.new ≡ string_bytes out.old ++ command_words node.now.config command.now) }
+pub(crate) fn write_command(
+    out: &mut String,
+    names: &Names,
+    node: &Node,
+    command: &Command,
+) -> Result<(), Fault>
+    ensures added { OnOk result (string_bytes out.new ≡ string_bytes out.old ++ command_words names.now node.now.config command.now) }
     ensures only_memory { IsOkUnless result Fault.NoMemory }
 {
     match command {
@@ -64,6 +70,6 @@ pub(crate) fn write_command(out: &mut String, node: &Node, command: &Command) ->
         Command::Propose(slot, value) => write_proposed(out, *slot, value),
         Command::Round(slot) => write_one(out, "round", slot.0),
         Command::Timer(slot) => write_one(out, "timer", slot.0),
-        Command::Ask(link, slot) => write_ask(out, peer_of(node, *link), *slot),
+        Command::Ask(link, slot) => write_ask(out, names, peer_of(node, *link), *slot),
     }
 }

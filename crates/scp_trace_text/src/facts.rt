@@ -1,6 +1,7 @@
 //! The lines of facts.
 ghost use Rattle.std.specs.Prelude.{◌≡◌, ◌++◌, ◌∷◌, IfOk, OnOk, IsOkUnless, map, option_map, slice_get, Some, string_bytes};
 ghost use Rattle.scp_turn.specs.scp_core.specs.History.{peer_at};
+ghost use Rattle.scp_stand_slot.specs.Names.{node_name};
 ghost use Rattle.scp_trace_text.specs.Words.{side_word};
 ghost use Rattle.scp_trace_text.specs.Facts.{full_line, discarded_line, opened_line, parked_line, side_line, tick_line, missed_line, took_line, conflict_line, dropped_line, closed_line, entry_lines, command_line, says_line, machine_words, record_words, origin_words, decided_line, applied_line, answers_line, sent_line, fact_line};
 
@@ -21,6 +22,21 @@ use scp_wire::{Cause, Message, SideMessage};
 use scp_words::{word_of_cause, word_of_drop, word_of_verdict};
 use std::alloc::Global;
 
+/// Adds a node's name, and the words behind it.
+pub(crate) fn write_front(
+    out: &mut String,
+    names: &Names,
+    me: NodeId,
+    words: &str,
+) -> Result<(), Fault>
+    ensures added { OnOk result (string_bytes out.new ≡ string_bytes out.old ++ (node_name names.now me ++ words.now)) }
+    ensures only_memory { IsOkUnless result Fault.NoMemory }
+{
+    names.write_node(out, &me)?;
+    out.push_str(words)?;
+    Ok(())
+}
+
 // ---- connections, and the pending stage
 
 fn write_full(out: &mut String, line: usize) -> Result<(), Fault>
@@ -31,22 +47,22 @@ fn write_full(out: &mut String, line: usize) -> Result<(), Fault>
     Ok(())
 }
 
-fn write_discarded(out: &mut String, number: u8, conn: &ConnId) -> Result<(), Fault>
-    ensures added { OnOk result (string_bytes out.new ≡ string_bytes out.old ++ discarded_line number conn.now) }
+fn write_discarded(out: &mut String, names: &Names, me: NodeId, conn: &ConnId) -> Result<(), Fault>
+    ensures added { OnOk result (string_bytes out.new ≡ string_bytes out.old ++ discarded_line names.now me conn.now) }
     ensures only_memory { IsOkUnless result Fault.NoMemory }
 {
-    write!(out, "{number} discarded ")?;
-    write_conn(out, conn)?;
+    write_front(out, names, me, " discarded ")?;
+    write_conn(out, names, conn)?;
     out.push_str("\n")?;
     Ok(())
 }
 
-fn write_opened(out: &mut String, number: u8, conn: &ConnId) -> Result<(), Fault>
-    ensures added { OnOk result (string_bytes out.new ≡ string_bytes out.old ++ opened_line number conn.now) }
+fn write_opened(out: &mut String, names: &Names, me: NodeId, conn: &ConnId) -> Result<(), Fault>
+    ensures added { OnOk result (string_bytes out.new ≡ string_bytes out.old ++ opened_line names.now me conn.now) }
     ensures only_memory { IsOkUnless result Fault.NoMemory }
 {
-    write!(out, "{number} opened ")?;
-    write_conn(out, conn)?;
+    write_front(out, names, me, " opened ")?;
+    write_conn(out, names, conn)?;
     out.push_str("\n")?;
     Ok(())
 }
@@ -54,18 +70,18 @@ fn write_opened(out: &mut String, number: u8, conn: &ConnId) -> Result<(), Fault
 fn write_parked(
     out: &mut String,
     names: &Names,
-    number: u8,
+    me: NodeId,
     conn: &ConnId,
     seq: Seq,
     why: Why,
     message: &Message,
 ) -> Result<(), Fault>
-    ensures added { OnOk result (string_bytes out.new ≡ string_bytes out.old ++ parked_line names.now number conn.now seq why message.now) }
+    ensures added { OnOk result (string_bytes out.new ≡ string_bytes out.old ++ parked_line names.now me conn.now seq why message.now) }
     ensures only_memory { IsOkUnless result Fault.NoMemory }
 {
     let word = word_of_why(why);
-    write!(out, "{number} parked ")?;
-    write_place(out, conn, seq)?;
+    write_front(out, names, me, " parked ")?;
+    write_place(out, names, conn, seq)?;
     write!(out, " {word} ")?;
     write_message(out, names, message)?;
     out.push_str("\n")?;
@@ -75,16 +91,16 @@ fn write_parked(
 fn write_side_line(
     out: &mut String,
     names: &Names,
-    number: u8,
+    me: NodeId,
     conn: &ConnId,
     word: &str,
     message: &SideMessage,
 ) -> Result<(), Fault>
-    ensures added { OnOk result (string_bytes out.new ≡ string_bytes out.old ++ side_line names.now number conn.now (Some word.now) message.now) }
+    ensures added { OnOk result (string_bytes out.new ≡ string_bytes out.old ++ side_line names.now me conn.now (Some word.now) message.now) }
     ensures only_memory { IsOkUnless result Fault.NoMemory }
 {
-    write!(out, "{number} side ")?;
-    write_conn(out, conn)?;
+    write_front(out, names, me, " side ")?;
+    write_conn(out, names, conn)?;
     write!(out, " {word} ")?;
     write_side(out, names, message)?;
     out.push_str("\n")?;
@@ -94,39 +110,39 @@ fn write_side_line(
 fn write_heard(
     out: &mut String,
     names: &Names,
-    number: u8,
+    me: NodeId,
     conn: &ConnId,
     became: Becoming,
     message: &SideMessage,
 ) -> Result<(), Fault>
-    ensures added { OnOk result (string_bytes out.new ≡ string_bytes out.old ++ side_line names.now number conn.now (side_word became) message.now) }
+    ensures added { OnOk result (string_bytes out.new ≡ string_bytes out.old ++ side_line names.now me conn.now (side_word became) message.now) }
     ensures only_memory { IsOkUnless result Fault.NoMemory }
 {
     match word_of_side(became) {
-        Some(word) => write_side_line(out, names, number, conn, word, message),
+        Some(word) => write_side_line(out, names, me, conn, word, message),
         None => Ok(()),
     }
 }
 
-fn write_tick(out: &mut String, number: u8) -> Result<(), Fault>
-    ensures added { OnOk result (string_bytes out.new ≡ string_bytes out.old ++ tick_line number) }
+fn write_tick(out: &mut String, names: &Names, me: NodeId) -> Result<(), Fault>
+    ensures added { OnOk result (string_bytes out.new ≡ string_bytes out.old ++ tick_line names.now me) }
     ensures only_memory { IsOkUnless result Fault.NoMemory }
 {
-    writeln!(out, "{number} tick")?;
-    Ok(())
+    write_front(out, names, me, " tick\n")
 }
 
 fn write_missed(
     out: &mut String,
     names: &Names,
-    number: u8,
+    me: NodeId,
     hash: &Hash,
     misses: u16,
 ) -> Result<(), Fault>
-    ensures added { OnOk result (string_bytes out.new ≡ string_bytes out.old ++ missed_line names.now number hash.now misses) }
+    ensures added { OnOk result (string_bytes out.new ≡ string_bytes out.old ++ missed_line names.now me hash.now misses) }
     ensures only_memory { IsOkUnless result Fault.NoMemory }
 {
-    write!(out, "{number} missed {misses} ")?;
+    write_front(out, names, me, " missed ")?;
+    write!(out, "{misses} ")?;
     names.write_hash(out, hash)?;
     out.push_str("\n")?;
     Ok(())
@@ -137,18 +153,18 @@ fn write_missed(
 fn write_took(
     out: &mut String,
     names: &Names,
-    number: u8,
+    me: NodeId,
     conn: &ConnId,
     seq: Seq,
     verdict: Verdict,
     message: &Message,
 ) -> Result<(), Fault>
-    ensures added { OnOk result (string_bytes out.new ≡ string_bytes out.old ++ took_line names.now number conn.now seq verdict message.now) }
+    ensures added { OnOk result (string_bytes out.new ≡ string_bytes out.old ++ took_line names.now me conn.now seq verdict message.now) }
     ensures only_memory { IsOkUnless result Fault.NoMemory }
 {
     let word = word_of_verdict(verdict);
-    write!(out, "{number} took ")?;
-    write_place(out, conn, seq)?;
+    write_front(out, names, me, " took ")?;
+    write_place(out, names, conn, seq)?;
     write!(out, " {word} ")?;
     write_message(out, names, message)?;
     out.push_str("\n")?;
@@ -158,19 +174,19 @@ fn write_took(
 fn write_conflict(
     out: &mut String,
     names: &Names,
-    number: u8,
+    me: NodeId,
     conn: &ConnId,
     seq: Seq,
     standing: Option<&SharedEnvelope>,
 ) -> Result<(), Fault>
-    ensures added { OnOk result (string_bytes out.new ≡ string_bytes out.old ++ conflict_line names.now number conn.now seq (option_map (λ e. e.now) standing.entry)) }
+    ensures added { OnOk result (string_bytes out.new ≡ string_bytes out.old ++ conflict_line names.now me conn.now seq (option_map (λ e. e.now) standing.entry)) }
     ensures only_memory { IsOkUnless result Fault.NoMemory }
 {
     let Some(standing) = standing else {
         return Ok(());
     };
-    write!(out, "{number} conflict ")?;
-    write_place(out, conn, seq)?;
+    write_front(out, names, me, " conflict ")?;
+    write_place(out, names, conn, seq)?;
     out.push_str(" ")?;
     write_envelope(out, names, standing.get())?;
     out.push_str("\n")?;
@@ -179,28 +195,35 @@ fn write_conflict(
 
 fn write_dropped(
     out: &mut String,
-    number: u8,
+    names: &Names,
+    me: NodeId,
     conn: &ConnId,
     seq: Seq,
     cause: DropCause,
 ) -> Result<(), Fault>
-    ensures added { OnOk result (string_bytes out.new ≡ string_bytes out.old ++ dropped_line number conn.now seq cause) }
+    ensures added { OnOk result (string_bytes out.new ≡ string_bytes out.old ++ dropped_line names.now me conn.now seq cause) }
     ensures only_memory { IsOkUnless result Fault.NoMemory }
 {
     let word = word_of_drop(cause);
-    write!(out, "{number} dropped ")?;
-    write_place(out, conn, seq)?;
+    write_front(out, names, me, " dropped ")?;
+    write_place(out, names, conn, seq)?;
     writeln!(out, " {word}")?;
     Ok(())
 }
 
-fn write_closed(out: &mut String, number: u8, conn: &ConnId, cause: Cause) -> Result<(), Fault>
-    ensures added { OnOk result (string_bytes out.new ≡ string_bytes out.old ++ closed_line number conn.now cause) }
+fn write_closed(
+    out: &mut String,
+    names: &Names,
+    me: NodeId,
+    conn: &ConnId,
+    cause: Cause,
+) -> Result<(), Fault>
+    ensures added { OnOk result (string_bytes out.new ≡ string_bytes out.old ++ closed_line names.now me conn.now cause) }
     ensures only_memory { IsOkUnless result Fault.NoMemory }
 {
     let word = word_of_cause(cause);
-    write!(out, "{number} closed ")?;
-    write_conn(out, conn)?;
+    write_front(out, names, me, " closed ")?;
+    write_conn(out, names, conn)?;
     writeln!(out, " {word}")?;
     Ok(())
 }
@@ -208,11 +231,11 @@ fn write_closed(out: &mut String, number: u8, conn: &ConnId, cause: Cause) -> Re
 fn write_entry(
     out: &mut String,
     names: &Names,
-    number: u8,
+    me: NodeId,
     standing: Option<&SharedEnvelope>,
     entry: &Fate,
 ) -> Result<(), Fault>
-    ensures added { OnOk result (string_bytes out.new ≡ string_bytes out.old ++ entry_lines names.now number (option_map (λ e. e.now) standing.entry) (Some entry.now)) }
+    ensures added { OnOk result (string_bytes out.new ≡ string_bytes out.old ++ entry_lines names.now me (option_map (λ e. e.now) standing.entry) (Some entry.now)) }
     ensures only_memory { IsOkUnless result Fault.NoMemory }
 {
     match entry {
@@ -223,11 +246,11 @@ fn write_entry(
             verdict,
             ..
         } => {
-            write_took(out, names, number, conn, *seq, *verdict, message)?;
-            write_conflict(out, names, number, conn, *seq, standing)
+            write_took(out, names, me, conn, *seq, *verdict, message)?;
+            write_conflict(out, names, me, conn, *seq, standing)
         }
-        Fate::Dropped { conn, seq, cause } => write_dropped(out, number, conn, *seq, *cause),
-        Fate::Closed { conn, cause } => write_closed(out, number, conn, *cause),
+        Fate::Dropped { conn, seq, cause } => { write_dropped(out, names, me, conn, *seq, *cause) }
+        Fate::Closed { conn, cause } => write_closed(out, names, me, conn, *cause),
     }
 }
 
@@ -235,16 +258,16 @@ fn write_entry(
 fn write_entered(
     out: &mut String,
     names: &Names,
-    number: u8,
+    me: NodeId,
     journal: &[Fate],
     place: usize,
     standing: Option<&SharedEnvelope>,
 ) -> Result<(), Fault>
-    ensures added { OnOk result (string_bytes out.new ≡ string_bytes out.old ++ entry_lines names.now number (option_map (λ e. e.now) standing.entry) (slice_get journal.now place)) }
+    ensures added { OnOk result (string_bytes out.new ≡ string_bytes out.old ++ entry_lines names.now me (option_map (λ e. e.now) standing.entry) (slice_get journal.now place)) }
     ensures only_memory { IsOkUnless result Fault.NoMemory }
 {
     match journal.get(place) {
-        Some(entry) => write_entry(out, names, number, standing, entry),
+        Some(entry) => write_entry(out, names, me, standing, entry),
         None => Ok(()),
     }
 }
@@ -253,17 +276,18 @@ fn write_entered(
 
 fn write_obeyed(
     out: &mut String,
-    number: u8,
+    names: &Names,
     node: &Node,
     fate: CommandFate,
     command: &Command,
 ) -> Result<(), Fault>
-    ensures added { OnOk result (string_bytes out.new ≡ string_bytes out.old ++ command_line number node.now.config fate command.now) }
+    ensures added { OnOk result (string_bytes out.new ≡ string_bytes out.old ++ command_line names.now node.now.config fate command.now) }
     ensures only_memory { IsOkUnless result Fault.NoMemory }
 {
     let word = word_of_verdict(verdict_of(fate));
-    write!(out, "{number} command {word} ")?;
-    write_command(out, node, command)?;
+    write_front(out, names, node.me(), " command ")?;
+    write!(out, "{word} ")?;
+    write_command(out, names, node, command)?;
     out.push_str("\n")?;
     Ok(())
 }
@@ -271,55 +295,61 @@ fn write_obeyed(
 fn write_says(
     out: &mut String,
     names: &Names,
-    number: u8,
+    me: NodeId,
     envelope: &SharedEnvelope,
 ) -> Result<(), Fault>
-    ensures added { OnOk result (string_bytes out.new ≡ string_bytes out.old ++ says_line names.now number envelope.now) }
+    ensures added { OnOk result (string_bytes out.new ≡ string_bytes out.old ++ says_line names.now me envelope.now) }
     ensures only_memory { IsOkUnless result Fault.NoMemory }
 {
-    write!(out, "{number} says ")?;
+    write_front(out, names, me, " says ")?;
     write_envelope(out, names, envelope.get())?;
     out.push_str("\n")?;
     Ok(())
 }
 
-fn write_by_machine(out: &mut String, n: u32, quorum: &Quorum) -> Result<(), Fault>
-    ensures added { OnOk result (string_bytes out.new ≡ string_bytes out.old ++ machine_words n quorum.now) }
+fn write_by_machine(out: &mut String, names: &Names, n: u32, quorum: &Quorum) -> Result<(), Fault>
+    ensures added { OnOk result (string_bytes out.new ≡ string_bytes out.old ++ machine_words names.now n quorum.now) }
     ensures only_memory { IsOkUnless result Fault.NoMemory }
 {
     let nodes = quorum.nodes(*out.allocator())?;
     write!(out, "machine {n} ")?;
-    write_nodes(out, nodes.as_slice())
+    write_nodes(out, names, nodes.as_slice())
 }
 
-fn write_by_record(out: &mut String, conn: &ConnId, seq: Seq) -> Result<(), Fault>
-    ensures added { OnOk result (string_bytes out.new ≡ string_bytes out.old ++ record_words conn.now seq) }
+fn write_by_record(out: &mut String, names: &Names, conn: &ConnId, seq: Seq) -> Result<(), Fault>
+    ensures added { OnOk result (string_bytes out.new ≡ string_bytes out.old ++ record_words names.now conn.now seq) }
     ensures only_memory { IsOkUnless result Fault.NoMemory }
 {
     out.push_str("record ")?;
-    write_place(out, conn, seq)
+    write_place(out, names, conn, seq)
 }
 
 /// Adds what a decision rests on.
-fn write_origin(out: &mut String, origin: &Origin) -> Result<(), Fault>
-    ensures added { OnOk result (string_bytes out.new ≡ string_bytes out.old ++ origin_words origin.now) }
+fn write_origin(out: &mut String, names: &Names, origin: &Origin) -> Result<(), Fault>
+    ensures added { OnOk result (string_bytes out.new ≡ string_bytes out.old ++ origin_words names.now origin.now) }
     ensures only_memory { IsOkUnless result Fault.NoMemory }
 {
     match origin {
-        Origin::Machine { n, quorum, .. } => write_by_machine(out, *n, quorum),
-        Origin::Named { conn, seq } => write_by_record(out, conn, *seq),
+        Origin::Machine { n, quorum, .. } => write_by_machine(out, names, *n, quorum),
+        Origin::Named { conn, seq } => write_by_record(out, names, conn, *seq),
     }
 }
 
-fn write_decision(out: &mut String, number: u8, decision: &Decision) -> Result<(), Fault>
-    ensures added { OnOk result (string_bytes out.new ≡ string_bytes out.old ++ decided_line number (Some decision.now)) }
+fn write_decision(
+    out: &mut String,
+    names: &Names,
+    me: NodeId,
+    decision: &Decision,
+) -> Result<(), Fault>
+    ensures added { OnOk result (string_bytes out.new ≡ string_bytes out.old ++ decided_line names.now me (Some decision.now)) }
     ensures only_memory { IsOkUnless result Fault.NoMemory }
 {
     let slot = decision.slot.0;
-    write!(out, "{number} decided {slot} ")?;
+    write_front(out, names, me, " decided ")?;
+    write!(out, "{slot} ")?;
     decision.value.write(out)?;
     out.push_str(" ")?;
-    write_origin(out, &decision.origin)?;
+    write_origin(out, names, &decision.origin)?;
     out.push_str("\n")?;
     Ok(())
 }
@@ -327,58 +357,67 @@ fn write_decision(out: &mut String, number: u8, decision: &Decision) -> Result<(
 /// Adds the line of the decision at this index, if there is one.
 fn write_decided(
     out: &mut String,
-    number: u8,
+    names: &Names,
+    me: NodeId,
     decisions: &[SharedDecision],
     place: usize,
 ) -> Result<(), Fault>
-    ensures added { OnOk result (string_bytes out.new ≡ string_bytes out.old ++ decided_line number (slice_get decisions.now place)) }
+    ensures added { OnOk result (string_bytes out.new ≡ string_bytes out.old ++ decided_line names.now me (slice_get decisions.now place)) }
     ensures only_memory { IsOkUnless result Fault.NoMemory }
 {
     match decisions.get(place) {
-        Some(decision) => write_decision(out, number, decision.get()),
+        Some(decision) => write_decision(out, names, me, decision.get()),
         None => Ok(()),
     }
 }
 
-fn write_application(out: &mut String, number: u8, decision: &Decision) -> Result<(), Fault>
-    ensures added { OnOk result (string_bytes out.new ≡ string_bytes out.old ++ applied_line number (Some decision.now)) }
+fn write_application(
+    out: &mut String,
+    names: &Names,
+    me: NodeId,
+    decision: &Decision,
+) -> Result<(), Fault>
+    ensures added { OnOk result (string_bytes out.new ≡ string_bytes out.old ++ applied_line names.now me (Some decision.now)) }
     ensures only_memory { IsOkUnless result Fault.NoMemory }
 {
     let slot = decision.slot.0;
-    writeln!(out, "{number} applied {slot}")?;
+    write_front(out, names, me, " applied ")?;
+    writeln!(out, "{slot}")?;
     Ok(())
 }
 
 /// Adds the line that the decision at this index, if there is one, was applied.
 fn write_applied(
     out: &mut String,
-    number: u8,
+    names: &Names,
+    me: NodeId,
     applied: &[SharedDecision],
     place: usize,
 ) -> Result<(), Fault>
-    ensures added { OnOk result (string_bytes out.new ≡ string_bytes out.old ++ applied_line number (slice_get applied.now place)) }
+    ensures added { OnOk result (string_bytes out.new ≡ string_bytes out.old ++ applied_line names.now me (slice_get applied.now place)) }
     ensures only_memory { IsOkUnless result Fault.NoMemory }
 {
     match applied.get(place) {
-        Some(decision) => write_application(out, number, decision.get()),
+        Some(decision) => write_application(out, names, me, decision.get()),
         None => Ok(()),
     }
 }
 
 fn write_answers(
     out: &mut String,
-    number: u8,
+    names: &Names,
+    me: NodeId,
     asker: NodeId,
     slot: Slot,
     is_there: bool,
 ) -> Result<(), Fault>
-    ensures added { OnOk result (string_bytes out.new ≡ string_bytes out.old ++ answers_line number asker slot is_there) }
+    ensures added { OnOk result (string_bytes out.new ≡ string_bytes out.old ++ answers_line names.now me asker slot is_there) }
     ensures only_memory { IsOkUnless result Fault.NoMemory }
 {
     let word = word_of_answer(is_there);
     let slot = slot.0;
-    write!(out, "{number} answers ")?;
-    asker.write(out)?;
+    write_front(out, names, me, " answers ")?;
+    names.write_node(out, &asker)?;
     writeln!(out, " {word} {slot}")?;
     Ok(())
 }
@@ -401,15 +440,15 @@ fn peers_of(alloc: Global, node: &Node, links: &[u8]) -> Result<Vec<NodeId>, Fau
 fn write_sent_to(
     out: &mut String,
     names: &Names,
-    number: u8,
+    me: NodeId,
     nodes: &[NodeId],
     bytes: &[u8],
 ) -> Result<(), Fault>
-    ensures added { OnOk result (string_bytes out.new ≡ string_bytes out.old ++ sent_line names.now number nodes.now bytes.now) }
+    ensures added { OnOk result (string_bytes out.new ≡ string_bytes out.old ++ sent_line names.now me nodes.now bytes.now) }
     ensures only_memory { IsOkUnless result Fault.NoMemory }
 {
-    write!(out, "{number} sent ")?;
-    write_nodes(out, nodes)?;
+    write_front(out, names, me, " sent ")?;
+    write_nodes(out, names, nodes)?;
     out.push_str(" ")?;
     write_sent(out, names, bytes)?;
     out.push_str("\n")?;
@@ -420,16 +459,15 @@ fn write_sent_to(
 fn write_sent_over(
     out: &mut String,
     names: &Names,
-    number: u8,
     node: &Node,
     links: &[u8],
     bytes: &[u8],
 ) -> Result<(), Fault>
-    ensures added { OnOk result (string_bytes out.new ≡ string_bytes out.old ++ sent_line names.now number (map (peer_at node.now.config) links.now) bytes.now) }
+    ensures added { OnOk result (string_bytes out.new ≡ string_bytes out.old ++ sent_line names.now node.now.config.me (map (peer_at node.now.config) links.now) bytes.now) }
     ensures only_memory { IsOkUnless result Fault.NoMemory }
 {
     let nodes = peers_of(*out.allocator(), node, links)?;
-    write_sent_to(out, names, number, nodes.as_slice(), bytes)
+    write_sent_to(out, names, node.me(), nodes.as_slice(), bytes)
 }
 
 /// The link, followed by the others.
@@ -447,27 +485,25 @@ fn with_others(alloc: Global, link: u8, others: &[u8]) -> Result<Vec<u8>, Fault>
 fn write_sent_line(
     out: &mut String,
     names: &Names,
-    number: u8,
     node: &Node,
     link: u8,
     others: &[u8],
     bytes: &[u8],
 ) -> Result<(), Fault>
-    ensures added { OnOk result (string_bytes out.new ≡ string_bytes out.old ++ sent_line names.now number (map (peer_at node.now.config) (link ∷ others.now)) bytes.now) }
+    ensures added { OnOk result (string_bytes out.new ≡ string_bytes out.old ++ sent_line names.now node.now.config.me (map (peer_at node.now.config) (link ∷ others.now)) bytes.now) }
     ensures only_memory { IsOkUnless result Fault.NoMemory }
 {
     let links = with_others(*out.allocator(), link, others)?;
-    write_sent_over(out, names, number, node, links.as_slice(), bytes)
+    write_sent_over(out, names, node, links.as_slice(), bytes)
 }
 
 // ---- a fact
 
-/// The place of a fact: this line, and the node with this number.
+/// The place of a fact: this line, and this node.
 #[derive(Clone, Copy)]
 pub struct Place<'a> {
     pub names: &'a Names,
     pub line: usize,
-    pub number: u8,
     pub node: &'a Node,
 }
 
@@ -478,48 +514,44 @@ pub fn write_fact(
     others: &[u8],
     fact: &Fact,
 ) -> Result<(), Fault>
-    ensures added { OnOk result (string_bytes out.new ≡ string_bytes out.old ++ fact_line place.entry.names.now place.entry.line place.entry.node.now place.entry.number others.now fact.now) }
+    ensures added { OnOk result (string_bytes out.new ≡ string_bytes out.old ++ fact_line place.entry.names.now place.entry.line place.entry.node.now others.now fact.now) }
     ensures only_memory { IsOkUnless result Fault.NoMemory }
 {
-    let Place {
-        names,
-        line,
-        number,
-        node,
-    } = place;
+    let Place { names, line, node } = place;
+    let me = node.me();
     match fact {
         Fact::Full => write_full(out, line),
         Fact::Came(..) | Fact::Given(_) => Ok(()),
-        Fact::Discarded(conn) => write_discarded(out, number, conn),
-        Fact::Opened(conn) => write_opened(out, number, conn),
+        Fact::Discarded(conn) => write_discarded(out, names, me, conn),
+        Fact::Opened(conn) => write_opened(out, names, me, conn),
         Fact::Parked {
             conn,
             seq,
             why,
             message,
-        } => write_parked(out, names, number, conn, *seq, *why, message),
+        } => write_parked(out, names, me, conn, *seq, *why, message),
         Fact::Heard {
             conn,
             became,
             message,
-        } => write_heard(out, names, number, conn, *became, message),
-        Fact::Ticked => write_tick(out, number),
-        Fact::Missed { hash, misses } => write_missed(out, names, number, hash, *misses),
+        } => write_heard(out, names, me, conn, *became, message),
+        Fact::Ticked => write_tick(out, names, me),
+        Fact::Missed { hash, misses } => write_missed(out, names, me, hash, *misses),
         Fact::Entered { entry, standing } => {
             let standing = standing.as_ref();
-            write_entered(out, names, number, node.journal(), *entry, standing)
+            write_entered(out, names, me, node.journal(), *entry, standing)
         }
-        Fact::Obeyed(fate, command) => write_obeyed(out, number, node, *fate, command),
-        Fact::Says(envelope) => write_says(out, names, number, envelope),
-        Fact::Decided(at) => write_decided(out, number, node.decisions(), *at),
-        Fact::Applied(at) => write_applied(out, number, node.applied(), *at),
+        Fact::Obeyed(fate, command) => write_obeyed(out, names, node, *fate, command),
+        Fact::Says(envelope) => write_says(out, names, me, envelope),
+        Fact::Decided(at) => write_decided(out, names, me, node.decisions(), *at),
+        Fact::Applied(at) => write_applied(out, names, me, node.applied(), *at),
         Fact::Answers {
             link,
             slot,
             is_there,
-        } => write_answers(out, number, peer_of(node, *link), *slot, *is_there),
+        } => write_answers(out, names, me, peer_of(node, *link), *slot, *is_there),
         Fact::Sent(link, bytes) => {
-            write_sent_line(out, names, number, node, *link, others, bytes.as_slice())
+            write_sent_line(out, names, node, *link, others, bytes.as_slice())
         }
     }
 }

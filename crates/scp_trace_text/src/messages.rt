@@ -7,30 +7,35 @@ ghost use Rattle.scp_trace_text.specs.Messages.{conn_text, place_text, get_set_t
 use crate::words::word_of_kind;
 use scp_envelope::{Envelope, ValueList};
 use scp_quorum::QuorumSet;
-use scp_stand_slot::{Names, write_statement, write_values};
+use scp_stand_slot::{Names, write_set, write_statement, write_values};
 use scp_text::Term;
 use scp_types::{ConnId, Fault, Hash, Seq, Slot, Value};
 use scp_wire::{Message, SideMessage, decode};
 use scp_words::write_hex;
 
 /// Adds a connection.
-pub(crate) fn write_conn(out: &mut String, conn: &ConnId) -> Result<(), Fault>
-    ensures added { OnOk result (string_bytes out.new ≡ string_bytes out.old ++ conn_text conn.now) }
+pub(crate) fn write_conn(out: &mut String, names: &Names, conn: &ConnId) -> Result<(), Fault>
+    ensures added { OnOk result (string_bytes out.new ≡ string_bytes out.old ++ conn_text names.now conn.now) }
     ensures only_memory { IsOkUnless result Fault.NoMemory }
 {
     let life = conn.life;
-    conn.from.write(out)?;
+    names.write_node(out, &conn.from)?;
     write!(out, " {life}")?;
     Ok(())
 }
 
 /// Adds a message's connection, and its number there.
-pub(crate) fn write_place(out: &mut String, conn: &ConnId, seq: Seq) -> Result<(), Fault>
-    ensures added { OnOk result (string_bytes out.new ≡ string_bytes out.old ++ place_text conn.now seq) }
+pub(crate) fn write_place(
+    out: &mut String,
+    names: &Names,
+    conn: &ConnId,
+    seq: Seq,
+) -> Result<(), Fault>
+    ensures added { OnOk result (string_bytes out.new ≡ string_bytes out.old ++ place_text names.now conn.now seq) }
     ensures only_memory { IsOkUnless result Fault.NoMemory }
 {
     let number = seq.0;
-    write_conn(out, conn)?;
+    write_conn(out, names, conn)?;
     write!(out, " {number}")?;
     Ok(())
 }
@@ -43,12 +48,12 @@ fn write_get_set(out: &mut String, names: &Names, hash: &Hash) -> Result<(), Fau
     names.write_hash(out, hash)
 }
 
-fn write_set(out: &mut String, set: &QuorumSet) -> Result<(), Fault>
-    ensures added { OnOk result (string_bytes out.new ≡ string_bytes out.old ++ set_message_text set.now) }
+fn write_set_message(out: &mut String, names: &Names, set: &QuorumSet) -> Result<(), Fault>
+    ensures added { OnOk result (string_bytes out.new ≡ string_bytes out.old ++ set_message_text names.now set.now) }
     ensures only_memory { IsOkUnless result Fault.NoMemory }
 {
     out.push_str("set ")?;
-    set.write(out)
+    write_set(out, names, set)
 }
 
 fn write_no_set(out: &mut String, names: &Names, hash: &Hash) -> Result<(), Fault>
@@ -86,7 +91,7 @@ fn write_records(out: &mut String, first: Slot, values: &ValueList) -> Result<()
     write_values(out, " values(", values.as_slice())
 }
 
-/// Adds a statement with its signature, and the hash of its set shown by its name.
+/// Adds a statement with its signature, and its node and the hash of its set shown by their names.
 pub(crate) fn write_envelope(
     out: &mut String,
     names: &Names,
@@ -99,7 +104,7 @@ pub(crate) fn write_envelope(
     write_statement(out, names, statement.node, statement.slot.0, envelope)
 }
 
-/// Adds a message, with the hashes in it shown by their names.
+/// Adds a message, with the nodes and hashes in it shown by their names.
 pub fn write_message(out: &mut String, names: &Names, message: &Message) -> Result<(), Fault>
     ensures added { OnOk result (string_bytes out.new ≡ string_bytes out.old ++ message_named names.now message.now) }
     ensures only_memory { IsOkUnless result Fault.NoMemory }
@@ -107,7 +112,7 @@ pub fn write_message(out: &mut String, names: &Names, message: &Message) -> Resu
     match message {
         Message::Envelope(envelope) => write_envelope(out, names, envelope.get()),
         Message::GetSet(hash) => write_get_set(out, names, hash),
-        Message::Set(set) => write_set(out, set),
+        Message::Set(set) => write_set_message(out, names, set),
         Message::NoSet(hash) => write_no_set(out, names, hash),
         Message::GetRecord(slot) => write_get_record(out, *slot),
         Message::Record(slot, value) => write_record(out, *slot, value),
@@ -126,7 +131,7 @@ pub(crate) fn write_side(
 {
     match message {
         SideMessage::GetSet(hash) => write_get_set(out, names, hash),
-        SideMessage::Set(set) => write_set(out, set),
+        SideMessage::Set(set) => write_set_message(out, names, set),
         SideMessage::NoSet(hash) => write_no_set(out, names, hash),
     }
 }

@@ -144,7 +144,6 @@ fn write_of_node(
             Place {
                 names: scene.names,
                 line: scene.line,
-                number,
                 node,
             },
             others,

@@ -1,5 +1,6 @@
 //! A watch that writes what happens at a node.
-ghost use Rattle.std.specs.Prelude.{◌≡◌, OnOk};
+ghost use Rattle.std.specs.Prelude.{◌≡◌, ◌≢◌, ◌⊎◌, ◌<◌, true, false, OnOk, IfErr, IfSome, IfNone};
+ghost use Rattle.std.specs.Bool.{OnFalse};
 ghost use Rattle.scp_trace_text.specs.Watching.{untold, WritesStep};
 
 use crate::lines::lines_of;
@@ -16,13 +17,14 @@ use std::marker::Model;
 pub struct TracingWatch<T: ReportOut + Drop> {
     alloc: Global,
     names: Names,
-    number: u8,
     facts: FactWatch,
     trace: T,
     has_failed: bool,
+    lacks_memory: bool,
 }
 
 impl<T: ReportOut + Drop> Model for TracingWatch<T> {
+    ghost use Rattle.std.specs.Prelude.{◌≡◌, ◌<◌, true, false};
     ghost use Rattle.std.specs.Coded.{codes};
     ghost use Rattle.scp_stand_slot.specs.contracts.names.Names as slot_names;
     ghost use Rattle.scp_facts.specs.contracts.watch.FactWatch as fact_watch;
@@ -32,54 +34,82 @@ impl<T: ReportOut + Drop> Model for TracingWatch<T> {
 
     ghost coded = { Prim.hlevel (codes, slot_names.the_row.coded, fact_watch.the_row.coded) };
 
-    ghost view = { λ w. record { names = w.names; number = w.number; facts = w.facts; written = T.written w.trace; has_failed = w.has_failed } };
+    ghost view = { λ w. record { names = w.names; facts = w.facts; written = T.written w.trace; failures = T.failures w.trace; has_failed = w.has_failed; lacks_memory = w.lacks_memory } };
+
+    ghost invariant = { λ w. w.has_failed ≡ true → w.lacks_memory ≡ false → 0 < T.failures w.trace };
+}
+
+/// Whether memory ran out.
+fn is_memory(fault: Fault) -> bool
+    ensures { OnFalse result (fault ≢ Fault.NoMemory) }
+{
+    match fault {
+        Fault::NoMemory => true,
+        _ => false,
+    }
 }
 
 impl<T: ReportOut + Drop> TracingWatch<T> {
-    /// A watch that was given no facts yet. In its lines the node has this number, and quorum sets have these names.
-    pub fn new(alloc: Global, names: Names, number: u8, trace: T) -> TracingWatch<T>
-        ensures { result ≡ untold names number (T.written trace) }
+    /// A watch that was given no facts yet. In its lines nodes and quorum sets have these names.
+    pub fn new(alloc: Global, names: Names, trace: T) -> TracingWatch<T>
+        ensures { result ≡ untold names (T.written trace) (T.failures trace) }
     {
         TracingWatch {
             alloc,
             names,
-            number,
             facts: FactWatch::new(alloc),
             trace,
             has_failed: false,
+            lacks_memory: false,
         }
     }
 
-    /// Whether memory ran out or the writer failed. From then on nothing more is written.
-    pub fn has_failed(&self) -> bool
-        ensures { result ≡ self.now.has_failed }
+    /// Why the watch failed, if it did: memory ran out, or the writer failed. From then on nothing more is written.
+    pub fn fault(&self) -> Option<Fault>
+        ensures none { IfNone result (self.now.has_failed ≡ false) }
+        ensures why { IfSome result (λ fault. (fault ≡ Fault.NoMemory) ⊎ ((fault ≡ Fault.Device) × (0 < self.now.failures))) }
     {
-        self.has_failed
+        if !self.has_failed {
+            return None;
+        }
+        if self.lacks_memory {
+            return Some(Fault::NoMemory);
+        }
+        Some(Fault::Device)
     }
 
     /// The writer.
     pub fn into_trace(self) -> T
-        ensures { T.written result ≡ self.written }
+        ensures written { T.written result ≡ self.written }
+        ensures failures { T.failures result ≡ self.failures }
     {
         self.trace
     }
 
-    /// Writes the lines of the facts that it was given, and forgets them.
+    /// From now on the watch has failed, by this fault.
+    fn fail(&mut self, fault: Fault)
+        requires why { (fault ≡ Fault.NoMemory) ⊎ (0 < self.old.failures) }
+        ensures failed { self.new.has_failed ≡ true }
+    {
+        self.lacks_memory = is_memory(fault);
+        self.has_failed = true;
+    }
+
+    /// Writes the lines of the facts that it was given, and forgets them. Refused by `NoMemory`, or by `Device` if the writer failed.
     fn write(&mut self, node: &Node) -> Result<(), Fault>
-        ensures { OnOk result (WritesStep self.old self.old.facts node.now self.new) }
+        requires calm { self.old.has_failed ≡ false }
+        ensures wrote { OnOk result (WritesStep self.old self.old.facts node.now self.new) }
+        ensures failed { IfErr result (λ fault. (fault ≡ Fault.NoMemory) ⊎ (0 < self.new.failures)) }
     {
         let told = std::mem::replace(&mut self.facts, FactWatch::new(self.alloc));
         if told.lacks_memory() {
             return Err(Fault::NoMemory);
         }
         let tellings = told.into_tellings();
-        let text = lines_of(
-            self.alloc,
-            &self.names,
-            self.number,
-            node,
-            tellings.as_slice(),
-        )?;
+        let text = match lines_of(self.alloc, &self.names, node, tellings.as_slice()) {
+            Ok(text) => text,
+            Err(fault) => return Err(fault),
+        };
         write_text(&mut self.trace, text.as_str())
     }
 }
@@ -102,8 +132,9 @@ impl<T: ReportOut + Drop> Watch<KvDriver> for TracingWatch<T> {
             return;
         }
         self.facts.after(number, reply, node);
-        if self.write(node).is_err() {
-            self.has_failed = true;
+        match self.write(node) {
+            Ok(()) => {}
+            Err(fault) => self.fail(fault),
         }
     }
 }

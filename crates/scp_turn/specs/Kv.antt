@@ -2,8 +2,10 @@
 use Rattle.std.specs.Prelude.{ℕ, Bool, List}
 use Rattle.scp_driver.specs.declared.kv_driver.KvDriver.{KvDriver}
 use Rattle.scp_driver.specs.Kv.{kv_says}
+use Rattle.scp_turn.specs.Commands.{TakenCommand}
 use Rattle.scp_core.specs.History.{Exchange}
 use Rattle.scp_core.specs.Kv.{NodeView}
+use Rattle.scp_turn.specs.Taking as commands
 use Rattle.scp_turn.specs.Turn as turn
 use Rattle.scp_turn.specs.Rest as rest
 use Rattle.scp_turn.specs.Watch as watch
@@ -11,6 +13,10 @@ use Rattle.scp_turn.specs.Watch as watch
 -- these exchanges are steps of a node, each from what the one before it left
 abbrev pub Does : NodeView → List Exchange → NodeView → Type 0
 Does old heard new = turn.Does kv_says old heard new
+
+-- the commands that the slot stage took in these steps, each with its fate, in order
+abbrev pub taken_over : (old : NodeView) (heard : List Exchange) (new : NodeView) → Does old heard new → List TakenCommand
+taken_over old heard new does = commands.taken_over kv_says old heard new does
 
 -- a node heard more, of which this holds, and the ledger theorem goes on
 abbrev pub Goes : NodeView → NodeView → (NodeView → List Exchange → NodeView → Type 0) → Type 0
@@ -31,3 +37,7 @@ Noting W = watch.Noting KvDriver W
 -- these exchanges are steps of a node of this number, and a watch noted each of them, in order
 abbrev pub Watched : {W : Type 0} → Noting W → ℕ → W → NodeView → List Exchange → NodeView → W → Type 0
 Watched Note number w old heard new z = watch.Watched kv_says Note number w old heard new z
+
+-- the commands that such a node's slot stage took in a whole run are the first of those that it was given, each once, in order
+abbrev pub AllIsTakenInTurn : Type 0
+AllIsTakenInTurn = commands.AllIsTakenInTurn kv_says

@@ -1,7 +1,10 @@
+pub use Rattle.scp_ledger
 pub use Rattle.scp_core
 pub mod Watch
 pub mod Turn
 pub mod Rest
 pub mod Laws
+pub mod Commands
+pub mod Taking
 pub mod Kv
 pub mod inside

@@ -1,8 +1,10 @@
 //! The report of a handmade journal.
 
 use scp_core::{Cause, Fate};
-use scp_line::{ReportParts, write_report};
+use scp_line::{Report, write_settled};
+use scp_quorum::QuorumSet;
 use scp_types::{ConnId, NodeId};
+use std::alloc::Global;
 use std::process::Abort;
 use std::test::Fail;
 
@@ -19,22 +21,46 @@ fn closed(life: u32, cause: Cause) -> Fate {
     Fate::Closed { conn, cause }
 }
 
+/// What is shown of a handmade node: its quorum set, and its journal.
+#[derive(Drop)]
+struct Handmade {
+    set: QuorumSet,
+    journal: [Fate; 3],
+}
+
+impl Handmade {
+    /// The record of the node, to which nothing else happened.
+    fn report(&self, alloc: Global) -> Report<'_> {
+        Report {
+            node: 1,
+            me: NodeId([1; 32]),
+            set: &self.set,
+            links: Vec::new(alloc),
+            journal: self.journal.as_slice(),
+            parked: Vec::new(alloc),
+            decisions: &[],
+            applied: &[],
+            state: None,
+            messages: &[],
+            commands: &[],
+            came: &[],
+        }
+    }
+}
+
 #[test]
 fn each_cause_of_an_end_is_reported(rt: HostRuntime) -> Result<(), Fail> {
-    let journal = [
-        closed(1, Cause::Link),
-        closed(2, Cause::Malformed),
-        closed(3, Cause::Spent),
-    ];
-    let parts = ReportParts {
-        node: 1,
-        journal: journal.as_slice(),
-        parked: &[],
-        applied: &[],
-        state: None,
+    let node = Handmade {
+        set: QuorumSet::of_nodes(1, Vec::new(rt.alloc())),
+        journal: [
+            closed(1, Cause::Link),
+            closed(2, Cause::Malformed),
+            closed(3, Cause::Spent),
+        ],
     };
+    let report = node.report(rt.alloc());
     let mut text = String::from_str(rt.alloc(), "# before\n")?;
-    write_report(&mut text, &parts)?;
+    write_settled(&mut text, &report)?;
     assert_eq!(rt; text.as_str(), REPORT);
     Ok(())
 }

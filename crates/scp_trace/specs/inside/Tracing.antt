@@ -9,13 +9,13 @@ use Rattle.scp_script.specs.declared.command.Command.{Command}
 use Rattle.scp_script.specs.declared.command.Command.TheVariants.{Report}
 use Rattle.scp_line.specs.Player.{Lining}
 use Rattle.scp_stand_slot.specs.declared.names.Names.{Names}
-use Rattle.scp_stand_node.specs.Stand.{IsStand}
 use Rattle.scp_facts.specs.declared.fact.Telling.{Telling}
 use Rattle.scp_facts.specs.Telling.{Tells}
 use Rattle.scp_facts.specs.Watching.{WatchView, Awaits, TellsStep}
 use Rattle.scp_trace.specs.declared.depth.Depth.{Depth}
 use Rattle.scp_trace.specs.declared.depth.Depth.TheVariants.{Stands, Whole}
 use Rattle.scp_trace.specs.declared.tracing.TraceWatch.{TraceWatch}
+use Rattle.scp_trace.specs.Standing.{IsStandIn}
 use Rattle.scp_trace.specs.Traced.{line_part, facts_part}
 
 -- what is shown so far, of how many lines, and the facts of the line that is done now
@@ -62,20 +62,20 @@ TellsBy Stands old number event reply before after' new = new ≡ old
 
 -- ---- a line
 
--- where the node of this number stands after these lines, if there is such a node; `count` is the number of nodes
-abbrev pub StandsIf : Names → ℕ → List Command → List Command → ℕ → Option NodeView → List ℕ → Type 0
-StandsIf names count all before number None text = text ≡ []
-StandsIf names count all before number (Some node) text = IsStand names count number all before node text
+-- where a node stands after these lines, if there is one
+abbrev pub StandsIf : Names → List Command → List Command → Option NodeView → List ℕ → Type 0
+StandsIf names all before None text = text ≡ []
+StandsIf names all before (Some node) text = IsStandIn names all before node text
 
 -- After a `report` line the text shows where its node stands. After any other line there is nothing.
-abbrev pub StandsBy : Names → ℕ → List Command → List Command → NodeList → Command → List ℕ → Type 0
-StandsBy names count all before nodes (Report number) text = StandsIf names count all before number (slice_get nodes (number - 1)) text
-StandsBy names count all before nodes command text = text ≡ []
+abbrev pub StandsBy : Names → List Command → List Command → NodeList → Command → List ℕ → Type 0
+StandsBy names all before nodes (Report number) text = StandsIf names all before (slice_get nodes (number - 1)) text
+StandsBy names all before nodes command text = text ≡ []
 
 -- what is shown after a line that was done: the facts of its steps, and where its node stands
 abbrev pub Ends : Told → ℕ → Command → NodeList → Told → Type 0
 Ends old line command nodes new =
-    (stand : List ℕ) × StandsBy old.names (length nodes) old.all (take old.done old.all) nodes command stand
+    (stand : List ℕ) × StandsBy old.names old.all (take old.done old.all) nodes command stand
     × (old.done < length old.all → new ≡ record old { done = old.done + 1; text = old.text ++ (facts_part old.depth old.names line nodes old.tellings ++ stand); tellings = [] })
 
 -- what is shown of lines

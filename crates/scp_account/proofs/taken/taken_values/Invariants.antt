@@ -1,6 +1,6 @@
 use Rattle.std.proofs.Common.{◌≡◌, ◌++◌, map, drop}
 use Rattle.serde_json.specs.View.{view}
-use Rattle.scp_kept.specs.Taken.{in_order}
+use Rattle.scp_facts.specs.Taken.{in_order}
 use Rattle.scp_account.specs.Commands.{command_json}
 use Rattle.scp_account.specs.Entries.{entry_json}
 use Rattle.scp_account.specs.Taken.{taken_json}

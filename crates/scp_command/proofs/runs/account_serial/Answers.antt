@@ -1,8 +1,12 @@
 use Rattle.std.proofs.Common.{◌≡◌, ◌∙◌, ℕ, List, ap, subst, sym, string_bytes}
 use Rattle.scp_network.specs.Heard.{Nodes}
+use Rattle.scp_report.specs.Node.{reports_of}
+use Rattle.scp_account.specs.declared.node.Mode.TheVariants as ways
 use Rattle.scp_account.specs.Account.{account_text}
-use Rattle.scp_account.specs.scp_kept.specs.declared.happening.Kept.{Kept}
-use Rattle.scp_account.specs.scp_kept.specs.Watching.{WatchView, keeping}
+use Rattle.scp_account.specs.scp_facts.specs.declared.happening.Kept.{Kept}
+use Rattle.scp_account.specs.scp_facts.specs.Keeping.{WatchView}
+use Rattle.scp_account.specs.Run.{keeping}
+use Rattle.scp_notices.specs.scp_line.specs.declared.watch.Steps.{Steps}
 use Rattle.scp_prompt.specs.declared.asked.Mode.TheVariants.{Serial}
 use Rattle.scp_prompt.specs.declared.asked.Shape.TheVariants.{Settled}
 use Rattle.scp_notices.specs.Run.{IsRan, IsRunFault, IsWatched}
@@ -16,12 +20,14 @@ returns-in-Err-clause-cause c = λ input h. not_run Serial Settled input c.of_ru
 pub returns-in-Ok-account_of-clause-answer : goal.returns-in-Ok-account_of-clause-answer
 returns-in-Ok-account_of-clause-answer c = λ input h.
     let ran = c.in-Ok.watched.ran in
-    let watch = c.in-Ok.watched.watch in
-    let is = subst (λ (text : List ℕ). (is : IsRan text ran.script ran.network ran.notices.items) × IsWatched keeping ran.script.commands.items ran.script.lines.items ran.network ran.notices.items is.shows c.new.result watch) c.as_slice.ensures.value c.in-Ok.ensures.ran in
-    let made = kept_of c.what_is_kept_is_what_happened.ensures.run ran.script.commands.items ran.script.lines.items ran.network ran.notices.items is.0.shows c.new.result watch (ap (λ (w : WatchView). w.kept) c.new.ensures) (sym c.lacks_memory.ensures ∙ c.if-lacks_memory.false) is.1 in
+    let steps : Steps WatchView = record { watch = c.new.result } in
+    let seen = c.in-Ok.watched.watch in
+    let watch = seen.watch in
+    let is = subst (λ (text : List ℕ). (is : IsRan text ran.script ran.network ran.notices.items) × IsWatched keeping ran.script.commands.items ran.script.lines.items ran.network ran.notices.items is.shows steps seen) c.as_slice.ensures.value c.in-Ok.ensures.ran in
+    let made = kept_of c.a_run_is_kept_as_it_happened.ensures ran.script.commands.items ran.script.lines.items ran.network ran.notices.items is.0.shows steps seen (ap (λ (w : WatchView). w.kept) c.new.ensures) (sym c.lacks_memory.ensures ∙ c.if-lacks_memory.false) is.1 in
     let kept : c.as_slice-2.result.now ≡ watch.kept = c.as_slice-2.ensures.value ∙ c.into_kept-kept.ensures in
     account_answer input c.args.given.now ran.script ran.network ran.notices.items watch.kept (string_bytes c.in-Ok-account_of.text) c.answer_of.result h is.0 made
-    (c.in-Ok-account_of.ensures.account ∙ ap (λ (nodes : Nodes). account_text nodes c.as_slice-2.result.now) c.nodes.ensures ∙ ap (λ (l : List Kept). account_text ran.network.nodes l) kept)
+    (c.in-Ok-account_of.ensures.account ∙ ap (λ (nodes : Nodes). account_text ways.Serial (reports_of nodes) c.as_slice-2.result.now) c.nodes.ensures ∙ ap (λ (l : List Kept). account_text ways.Serial (reports_of ran.network.nodes) l) kept)
     c.answer_of.ensures.text c.answer_of.ensures.notices
 
 pub returns-in-Ok-account_of-clause-cause : goal.returns-in-Ok-account_of-clause-cause
@@ -30,7 +36,9 @@ returns-in-Ok-account_of-clause-cause c = λ input h. want_fails Serial input c.
 pub returns-in-Err-account_of-clause-cause : goal.returns-in-Err-account_of-clause-cause
 returns-in-Err-account_of-clause-cause c = λ input h.
     let ran = c.in-Ok.watched.ran in
-    let watch = c.in-Ok.watched.watch in
-    let is = subst (λ (text : List ℕ). (is : IsRan text ran.script ran.network ran.notices.items) × IsWatched keeping ran.script.commands.items ran.script.lines.items ran.network ran.notices.items is.shows c.new.result watch) c.as_slice.ensures.value c.in-Ok.ensures.ran in
-    let made = kept_of c.what_is_kept_is_what_happened.ensures.run ran.script.commands.items ran.script.lines.items ran.network ran.notices.items is.0.shows c.new.result watch (ap (λ (w : WatchView). w.kept) c.new.ensures) (sym c.lacks_memory.ensures ∙ c.if-lacks_memory.false) is.1 in
-    not_told input c.args.given.now ran.script.commands.items ran.script.lines.items ran.network watch.kept c.in-Err-account_of.failure h is.0.said made.0 (subst (λ (nodes : Nodes). IsUntold nodes c.in-Err-account_of.failure) c.nodes.ensures c.in-Err-account_of.ensures.cause)
+    let steps : Steps WatchView = record { watch = c.new.result } in
+    let seen = c.in-Ok.watched.watch in
+    let watch = seen.watch in
+    let is = subst (λ (text : List ℕ). (is : IsRan text ran.script ran.network ran.notices.items) × IsWatched keeping ran.script.commands.items ran.script.lines.items ran.network ran.notices.items is.shows steps seen) c.as_slice.ensures.value c.in-Ok.ensures.ran in
+    let made = kept_of c.a_run_is_kept_as_it_happened.ensures ran.script.commands.items ran.script.lines.items ran.network ran.notices.items is.0.shows steps seen (ap (λ (w : WatchView). w.kept) c.new.ensures) (sym c.lacks_memory.ensures ∙ c.if-lacks_memory.false) is.1 in
+    not_told input c.args.given.now ran.script.commands.items ran.script.lines.items ran.network watch.kept c.in-Err-account_of.failure h is.0.said made.0 (subst (λ (nodes : Nodes). IsUntold (reports_of nodes) c.in-Err-account_of.failure) c.nodes.ensures c.in-Err-account_of.ensures.cause)

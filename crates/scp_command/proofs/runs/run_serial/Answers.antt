@@ -4,6 +4,7 @@ use Rattle.scp_network.specs.Heard.{Nodes}
 use Rattle.scp_script.specs.declared.command.Command.{Command}
 use Rattle.scp_script.specs.Nodes.{NamesNodes}
 use Rattle.scp_notices.specs.Run.{IsRan, IsRunFault}
+use Rattle.scp_report.specs.Node.{reports_of}
 use Rattle.scp_command.specs.Answers.{reports_text}
 use Rattle.scp_command.proofs.Reporting.{run_answer}
 use Rattle.scp_command.proofs.runs.run_serial.Goals as goal
@@ -20,5 +21,5 @@ returns-clause-answer c = λ input g.
     run_answer string_bytes c.args.shape input c.args.given.now ran.script ran.network ran.notices.items c.reports_of-reports.result c.answer_of.result g
     (subst (λ (text : List ℕ). IsRan text ran.script ran.network ran.notices.items) c.as_slice.ensures.value c.in-Ok.ensures.ran)
     c.answer_of.ensures.text c.answer_of.ensures.made c.answer_of.ensures.notices
-    (subst (λ (nodes : Nodes). IfOk c.reports_of-reports.result (λ text. string_bytes text ≡ reports_text c.args.shape nodes ran.script.commands.items)) c.nodes.ensures
-    (subst (λ (l : List Command). IfOk c.reports_of-reports.result (λ text. string_bytes text ≡ reports_text c.args.shape c.nodes.result.now l)) c.as_slice-2.ensures.value c.reports_of-reports.ensures.text))
+    (subst (λ (nodes : Nodes). IfOk c.reports_of-reports.result (λ text. string_bytes text ≡ reports_text c.args.shape (reports_of nodes) ran.script.commands.items)) c.nodes.ensures
+    (subst (λ (l : List Command). IfOk c.reports_of-reports.result (λ text. string_bytes text ≡ reports_text c.args.shape (reports_of c.nodes.result.now) l)) c.as_slice-2.ensures.value c.reports_of-reports.ensures.text))

@@ -1,11 +1,12 @@
-use Rattle.std.proofs.Common.{◌≡◌, ◌≤◌, ℕ, List, length, ap, sym, subst, arith, string_bytes}
+use Rattle.std.proofs.Common.{◌≡◌, ◌≤◌, ◌∙◌, ℕ, List, [], length, ap, sym, subst, arith, string_bytes}
 use Rattle.std.specs.Prelude.{All, IfOk}
 use Rattle.scp_gather.specs.Kv.{NodeReport}
 use Rattle.scp_script.specs.declared.command.Command.{Command}
 use Rattle.scp_script.specs.Nodes.{NamesNodes}
-use Rattle.scp_script.specs.Script.{node_count}
+use Rattle.scp_script.specs.Script.{AreAdmitted, node_count}
 use Rattle.scp_notices.specs.Threads.{IsRanInThreads, IsThreadsFault}
-use Rattle.scp_command.specs.Answers.{gathered_text}
+use Rattle.scp_report.specs.Left.{reports_left}
+use Rattle.scp_command.specs.Answers.{reports_text}
 use Rattle.scp_command.proofs.Reporting.{threads_answer}
 use Rattle.scp_command.proofs.runs.run_threads.Goals as goal
 
@@ -18,6 +19,12 @@ count_of_nodes-count-requires g c = record { names = subst (λ (l : List Command
 pub reports_gathered-told-requires-clause-names : goal.reports_gathered-told-requires-clause-names
 reports_gathered-told-requires-clause-names g c = subst (λ (l : List Command). All NamesNodes l) (sym c.as_slice-commands.ensures.value) c.in-Ok.ensures.names
 
+pub reports_gathered-told-requires-clause-admitted : goal.reports_gathered-told-requires-clause-admitted
+reports_gathered-told-requires-clause-admitted g c = subst (λ (l : List Command). AreAdmitted [] l) (sym c.as_slice-commands.ensures.value) c.in-Ok.ensures.admitted
+
+pub reports_gathered-told-requires-clause-total : goal.reports_gathered-told-requires-clause-total
+reports_gathered-told-requires-clause-total g c = ap (λ (l : List NodeReport). length l) c.as_slice-2.ensures.value ∙ c.in-Ok.ensures.ran.shows.reported.count ∙ ap (λ (l : List Command). node_count l) (sym c.as_slice-commands.ensures.value)
+
 pub reports_gathered-told-requires-clause-few : goal.reports_gathered-told-requires-clause-few
 reports_gathered-told-requires-clause-few g c = omega (arith, ap (λ (l : List NodeReport). length l) c.as_slice-2.ensures.value, c.in-Ok.ensures.ran.shows.reported.count, ap (λ (l : List Command). node_count l) c.as_slice-commands.ensures.value, c.count_of_nodes-count.ensures.count, c.count_of_nodes-count.ensures.few)
 
@@ -27,5 +34,5 @@ returns-clause-answer g c = λ input h.
     threads_answer string_bytes c.args.shape input c.args.given.now ran.script ran.reports.items ran.notices.items c.reports_gathered-told.result c.answer_of.result h
     (subst (λ (text : List ℕ). IsRanInThreads text ran.script ran.reports.items ran.notices.items) c.as_slice.ensures.value c.in-Ok.ensures.ran)
     c.answer_of.ensures.text c.answer_of.ensures.made c.answer_of.ensures.notices
-    (subst (λ (nodes : List NodeReport). IfOk c.reports_gathered-told.result (λ text. string_bytes text ≡ gathered_text c.args.shape nodes ran.script.commands.items)) c.as_slice-2.ensures.value
-    (subst (λ (l : List Command). IfOk c.reports_gathered-told.result (λ text. string_bytes text ≡ gathered_text c.args.shape c.as_slice-2.result.now l)) c.as_slice-commands.ensures.value c.reports_gathered-told.ensures.text))
+    (subst (λ (nodes : List NodeReport). IfOk c.reports_gathered-told.result (λ text. string_bytes text ≡ reports_text c.args.shape (reports_left ran.script.commands.items nodes []) ran.script.commands.items)) c.as_slice-2.ensures.value
+    (subst (λ (l : List Command). IfOk c.reports_gathered-told.result (λ text. string_bytes text ≡ reports_text c.args.shape (reports_left l c.as_slice-2.result.now []) l)) c.as_slice-commands.ensures.value c.reports_gathered-told.ensures.text))

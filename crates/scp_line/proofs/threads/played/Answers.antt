@@ -1,16 +1,17 @@
-use Rattle.std.proofs.Common.{◌≡◌, ◌++◌, ◌∙◌, ℕ, List, string_bytes, flat_map, ap, sym, subst}
+use Rattle.std.proofs.Common.{◌≡◌, ◌∙◌, List, length, string_bytes, ap, sym, subst}
+use Rattle.std.proofs.lemmas.Result.{err_from_is_err_and}
 use Rattle.scp_threaded_script.specs.scp_gather.specs.Kv.{NodeReport}
 use Rattle.scp_threaded_script.specs.Reported.{AreNodesReported}
 use Rattle.scp_script.specs.Script.{commands_in}
-use Rattle.scp_script.specs.Nodes.{reports_in}
-use Rattle.scp_line.specs.Threads.{report_gathered_at}
 use Rattle.scp_line.proofs.Headlines.{are_gathered_headlined}
-use Rattle.std.proofs.lemmas.Result.{err_from_is_err_and}
 use Rattle.scp_line.proofs.Threaded.{threads_have_room, are_gathered_reports, given_up_not_bad}
 use Rattle.scp_line.proofs.threads.played.Goals as goal
 
 pub run_lines-requires-clause-room : goal.run_lines-requires-clause-room
 run_lines-requires-clause-room g c = λ lives outlive. threads_have_room c.args.text.now c.as_slice-commands.result.now (c.as_slice-commands.ensures.value ∙ c.in_ok-script.ensures.commands)
+
+pub left_reports-requires-clause-count : goal.left_reports-requires-clause-count
+left_reports-requires-clause-count g c = ap (λ (l : List NodeReport). length l) c.as_slice-reports.ensures.value ∙ c.in_ok-ran.ensures.reported.count
 
 pub returns-in-Ok-clause-reports : goal.returns-in-Ok-clause-reports
 returns-in-Ok-clause-reports g c =
@@ -18,8 +19,7 @@ returns-in-Ok-clause-reports g c =
     let reports = c.as_slice-reports.result.now in
     let same : commands ≡ commands_in c.args.text.now = c.as_slice-commands.ensures.value ∙ c.in_ok-script.ensures.commands in
     let reported : AreNodesReported commands reports = subst (λ (l : List NodeReport). AreNodesReported commands l) (sym c.as_slice-reports.ensures.value) c.in_ok-ran.ensures.reported in
-    let text : string_bytes c.write_all_gathered.new.text ≡ flat_map (report_gathered_at reports) (reports_in commands) = c.in-Ok.ensures ∙ ap (λ (l : List ℕ). l ++ flat_map (report_gathered_at reports) (reports_in commands)) c.new-printed.ensures.bytes in
-    are_gathered_reports c.args.text.now (string_bytes c.write_all_gathered.new.text) commands reports same reported text
+    are_gathered_reports c.args.text.now (string_bytes c.in-Ok.printed) commands reports same reported c.in-Ok.ensures.text
 
 pub returns-in-Ok-clause-headline : goal.returns-in-Ok-clause-headline
 returns-in-Ok-clause-headline g c =
@@ -27,8 +27,7 @@ returns-in-Ok-clause-headline g c =
     let reports = c.as_slice-reports.result.now in
     let same : commands ≡ commands_in c.args.text.now = c.as_slice-commands.ensures.value ∙ c.in_ok-script.ensures.commands in
     let reported : AreNodesReported commands reports = subst (λ (l : List NodeReport). AreNodesReported commands l) (sym c.as_slice-reports.ensures.value) c.in_ok-ran.ensures.reported in
-    let text : string_bytes c.write_all_gathered.new.text ≡ flat_map (report_gathered_at reports) (reports_in commands) = c.in-Ok.ensures ∙ ap (λ (l : List ℕ). l ++ flat_map (report_gathered_at reports) (reports_in commands)) c.new-printed.ensures.bytes in
-    are_gathered_headlined c.what_is_played_keeps_the_headlines.ensures.reported c.args.text.now (string_bytes c.write_all_gathered.new.text) commands reports same reported text
+    are_gathered_headlined c.what_is_played_keeps_the_headlines.ensures.reported c.args.text.now (string_bytes c.in-Ok.printed) commands reports same reported c.in-Ok.ensures.text
 
 pub returns-in_err-ran-clause-line : goal.returns-in_err-ran-clause-line
 returns-in_err-ran-clause-line g c =

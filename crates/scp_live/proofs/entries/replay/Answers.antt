@@ -1,10 +1,13 @@
-use Rattle.std.proofs.Common.{[], arith, refl, take}
-use Rattle.std.proofs.lemmas.Result.{err_from_is_err_and}
+use Rattle.std.proofs.Common.{◌≡◌, [], arith, refl, subst}
+use Rattle.std.specs.Prelude.{Ok}
 use Rattle.scp_turn.specs.Watch.{notes}
 use Rattle.scp_turn.specs.Kv.{Watched}
-use Rattle.scp_live.specs.Replays.{AreReplayed}
-use Rattle.scp_live.proofs.Going.{heard_nothing}
-use Rattle.scp_live.proofs.Replaying.{one_replayed, refused_after}
+use Rattle.scp_live_log.specs.declared.kept.LogFault.{LogFault}
+use Rattle.scp_live_log.specs.declared.kept.LogFault.TheVariants.{Failed}
+use Rattle.scp_live.specs.Replays.{IsReplayed, AreReplayed}
+use Rattle.scp_live.specs.inside.Replaying.{IsReplayFault}
+use Rattle.scp_live.proofs.Going.{heard_nothing, heard_as}
+use Rattle.scp_live.proofs.Replaying.{Comes, one_replayed, refused_at}
 use Rattle.scp_live.proofs.entries.replay.Goals as goal
 
 pub loop-place-init : goal.loop-place-init
@@ -15,14 +18,23 @@ loop-place-init g c =
       live = c.requires.live;
     }
 
-pub returns-in_err-replay_entry-clause-replayed : goal.returns-in_err-replay_entry-clause-replayed
-returns-in_err-replay_entry-clause-replayed g c =
-    let p = err_from_is_err_and c.from_residual.result c.from_residual.ensures.1 in
-    rw p.1 (refused_after (notes g.W.Watch.notes_before g.W.Watch.notes_after) (take c.loop-place.place c.args.entries.now) c.args.live.now c.loop-place.live c.replay_entry.new.live c.args.watch.now c.loop-place.watch c.replay_entry.new.watch _ c.loop-place.invariant.replayed c.replay_entry.ensures.replayed)
+pub returns-in-Err-clause-replayed : goal.returns-in-Err-clause-replayed
+returns-in-Err-clause-replayed g c =
+    refused_at (notes g.W.Watch.notes_before g.W.Watch.notes_after) c.in-Err.fault c.args.entries.now c.loop-place.place c.index-entries-place.result c.args.live.now c.loop-place.live c.replay_entry.new.live c.args.watch.now c.loop-place.watch c.replay_entry.new.watch
+    (omega arith) c.index-entries-place.is c.in-Err.ensures.only c.loop-place.invariant.replayed c.in-Err.ensures.replayed
+
+pub returns-in-Err-clause-only : goal.returns-in-Err-clause-only
+returns-in-Err-clause-only g c fault is =
+    let same : c.in-Err.fault ≡ Failed fault = cc in
+    subst (λ (f : LogFault). IsReplayFault c.loop-place.place f) same c.in-Err.ensures.only
 
 pub loop-place-preserved : goal.loop-place-preserved
 loop-place-preserved g c = record {
   replayed = one_replayed (notes g.W.Watch.notes_before g.W.Watch.notes_after) c.args.entries.now c.loop-place.place c.index-entries-place.result c.args.live.now c.loop-place.live c.replay_entry.new.live c.args.watch.now c.loop-place.watch c.replay_entry.new.watch
-      (omega arith) c.index-entries-place.is c.loop-place.invariant.replayed c.in_ok-replay_entry.ensures.replayed;
-  live = c.in_ok-replay_entry.ensures.live;
+      (omega arith) c.index-entries-place.is c.loop-place.invariant.replayed
+      (heard_as c.loop-place.live.node c.replay_entry.new.live.node
+      (λ heard. Comes (Ok tt) c.loop-place.place c.index-entries-place.result c.loop-place.live heard c.replay_entry.new.live × Watched (notes g.W.Watch.notes_before g.W.Watch.notes_after) 1 c.loop-place.watch c.loop-place.live.node heard c.replay_entry.new.live.node c.replay_entry.new.watch)
+      (λ heard. IsReplayed c.index-entries-place.result c.loop-place.live heard c.replay_entry.new.live × Watched (notes g.W.Watch.notes_before g.W.Watch.notes_after) 1 c.loop-place.watch c.loop-place.live.node heard c.replay_entry.new.live.node c.replay_entry.new.watch)
+      (λ heard p. (p.0.0, p.1)) c.in-Ok.ensures.replayed);
+  live = c.in-Ok.ensures.live;
 }

@@ -1,9 +1,9 @@
 use Rattle.std.proofs.Common.{◌∙◌, Err, refl, ap, inl, inr, ⊎_elim}
-use Rattle.scp_types.specs.declared.fault.Fault.TheVariants.{JournalFull, Device, TooLong}
+use Rattle.scp_types.specs.declared.fault.Fault.TheVariants.{NoMemory, JournalFull, Device, TooLong}
 use Rattle.scp_turn.specs.Watch.{notes}
 use Rattle.scp_live_process.proofs.Going.{seen_nothing, seen_as, seen_then, found_later}
 use Rattle.scp_live_process.proofs.Acting.{err_as, no_full, told_some}
-use Rattle.scp_live_process.proofs.Served.{Serving, nothing_served, served_more, part_here, part_of}
+use Rattle.scp_live_process.proofs.Served.{Serving, nothing_served, served_more, part_here, part_of, too_many}
 use Rattle.scp_live_process.proofs.serving.serve.Goals as goal
 
 pub loop-init : goal.loop-init
@@ -22,7 +22,7 @@ loop-init g c =
 pub returns-in-Err-clause-served : goal.returns-in-Err-clause-served
 returns-in-Err-clause-served g c =
     seen_as (notes g.V.Watch.notes_before g.V.Watch.notes_after) c.args.watch.now.watch c.loop.watch.watch c.args.live.now.node c.loop.live.node _ _
-    (λ heard s. (tt, part_here g.L.EventLog.holds g.L.EventLog.may_leave (Err c.in-Err.fault) _ _ _ _ c.args.kept.now c.loop.kept _ _ c.args.live.now c.loop.live heard s, λ full. absurd (no_full c.in-Err.fault c.in-Err.ensures.cause full)))
+    (λ heard s. (tt, part_here g.L.EventLog.holds g.L.EventLog.may_leave (Err c.in-Err.fault) _ _ _ _ c.args.kept.now c.loop.kept _ _ c.args.live.now c.loop.live heard s (λ e. c.in-Err.ensures.memory (err_as c.in-Err.fault NoMemory e)), λ full. absurd (no_full c.in-Err.fault c.in-Err.ensures.cause full)))
     c.loop.invariant.served
 
 pub returns-in-Err-serve_batch-clause-served : goal.returns-in-Err-serve_batch-clause-served
@@ -50,5 +50,13 @@ loop-preserved g c = record {
 pub returns-clause-served : goal.returns-clause-served
 returns-clause-served g c =
     seen_as (notes g.V.Watch.notes_before g.V.Watch.notes_after) c.args.watch.now.watch c.loop.watch.watch c.args.live.now.node c.loop.live.node _ _
-    (λ heard s. (tt, part_here g.L.EventLog.holds g.L.EventLog.may_leave (Err TooLong) _ _ _ _ c.args.kept.now c.loop.kept _ _ c.args.live.now c.loop.live heard s, λ full. absurd cc))
+    (λ heard s. (tt, part_here g.L.EventLog.holds g.L.EventLog.may_leave (Err TooLong) _ _ _ _ c.args.kept.now c.loop.kept _ _ c.args.live.now c.loop.live heard s (too_many _), λ full. absurd cc))
     c.loop.invariant.served
+
+pub returns-in-Err-clause-hidden : goal.returns-in-Err-clause-hidden
+returns-in-Err-clause-hidden g c other = (c.in-Err.ensures.hidden other ∙ c.loop.invariant.reads, c.loop.invariant.keeps, c.loop.invariant.writes)
+
+pub returns-in-Err-serve_batch-clause-hidden : goal.returns-in-Err-serve_batch-clause-hidden
+returns-in-Err-serve_batch-clause-hidden g c other =
+    let quiet = c.in-Err-serve_batch.ensures.hidden other in
+    (c.in-Ok-Some.ensures.kept ∙ c.loop.invariant.reads, quiet.0 ∙ c.loop.invariant.keeps, quiet.1 ∙ c.loop.invariant.writes)

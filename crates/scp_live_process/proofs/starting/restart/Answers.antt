@@ -1,40 +1,69 @@
-use Rattle.std.proofs.Common.{◌≡◌, List, ◌++◌, length, subst, arith}
-use Rattle.std.proofs.lemmas.Result.{err_from_is_err_and}
-use Rattle.scp_live_log.specs.Kept.{IsSettled}
-use Rattle.scp_live_log.specs.Log.{EntryView, batch_of}
-use Rattle.scp_live.specs.Replays.{AreReplayed}
-use Rattle.scp_live_process.proofs.Started.{restarted}
+use Rattle.std.proofs.Common.{◌≡◌, List, length, sym, subst, arith}
 use Rattle.scp_turn.specs.Watch.{notes}
-use Rattle.scp_live_process.proofs.Going.{Seen, seen_from, seen_nothing, seen_then, then_unseen}
+use Rattle.scp_live_log.specs.Log.{EntryView}
+use Rattle.scp_live.specs.Replays.{AreReplayed}
+use Rattle.scp_live_process.specs.Starting.{HasRead}
+use Rattle.scp_live_process.proofs.Going.{seen_nothing, seen_as, seen_then}
+use Rattle.scp_live_process.proofs.Served.{stays}
+use Rattle.scp_live_process.proofs.Started.{restarted}
+use Rattle.scp_live_process.proofs.Refusing.{recover_fault, replay_fault, close_fault, stays_unread, stays_read}
 use Rattle.scp_live_process.proofs.starting.restart.Goals as goal
 
-pub returns-in_err-entries-clause-restarted : goal.returns-in_err-entries-clause-restarted
-returns-in_err-entries-clause-restarted g c = let p = err_from_is_err_and c.from_residual.result c.from_residual.ensures.1 in rw p.1 (seen_nothing (notes g.V.Watch.notes_before g.V.Watch.notes_after) c.args.watch.now.watch c.args.live.now.node (λ heard. Unit {0}) tt)
+pub returns-in-Err-clause-restarted : goal.returns-in-Err-clause-restarted
+returns-in-Err-clause-restarted g c =
+    seen_nothing (notes g.V.Watch.notes_before g.V.Watch.notes_after) c.args.watch.now.watch c.args.live.now.node _
+    (tt, recover_fault g.L.EventLog.holds g.L.EventLog.may_leave g.L.EventLog.faults c.args.header.now c.args.kept.now c.recover.new.self c.args.live.now c.in-Err.fault c.in-Err.ensures.another c.in-Err.ensures.damaged c.in-Err.ensures.failed c.in-Err.ensures.hidden c.in-Err.ensures.only)
 
-pub returns-in_err-close_all-clause-restarted : goal.returns-in_err-close_all-clause-restarted
-returns-in_err-close_all-clause-restarted g c =
-    let p = err_from_is_err_and c.from_residual-in_err-close_all.result c.from_residual-in_err-close_all.ensures.1 in
-    rw p.1 (then_unseen (notes g.V.Watch.notes_before g.V.Watch.notes_after) c.args.watch.now.watch c.replay.new.watch c.close_all.new.watch.watch c.args.live.now.node c.replay.new.live.node c.close_all.new.live.node (λ heard. Unit {0}) _ (seen_from (notes g.V.Watch.notes_before g.V.Watch.notes_after) c.args.watch.now.watch c.replay.new.watch c.args.live.now.node c.replay.new.live.node _ (λ heard. Unit {0}) (λ heard p. tt) c.replay.ensures.replayed) c.close_all.ensures.closed)
+pub returns-in-Err-clause-stays : goal.returns-in-Err-clause-stays
+returns-in-Err-clause-stays g c = stays_unread g.L.EventLog.holds g.L.EventLog.may_leave g.L.EventLog.moment g.L.EventLog.left_since c.args.header.now c.args.kept.now c.recover.new.self g.met.L.EventLog.counts_now c.recover.ensures.any_moment
 
-pub returns-in_err-_silent-clause-restarted : goal.returns-in_err-_silent-clause-restarted
-returns-in_err-_silent-clause-restarted g c =
-    let p = err_from_is_err_and c.from_residual-in_err-_silent.result c.from_residual-in_err-_silent.ensures.1 in
-    rw p.1 (then_unseen (notes g.V.Watch.notes_before g.V.Watch.notes_after) c.args.watch.now.watch c.replay.new.watch c.close_all.new.watch.watch c.args.live.now.node c.replay.new.live.node c.close_all.new.live.node (λ heard. Unit {0}) _ (seen_from (notes g.V.Watch.notes_before g.V.Watch.notes_after) c.args.watch.now.watch c.replay.new.watch c.args.live.now.node c.replay.new.live.node _ (λ heard. Unit {0}) (λ heard p. tt) c.replay.ensures.replayed) c.close_all.ensures.closed)
+pub returns-in-Err-replay_noticed-clause-restarted : goal.returns-in-Err-replay_noticed-clause-restarted
+returns-in-Err-replay_noticed-clause-restarted g c =
+    let read : HasRead g.L.EventLog.holds g.L.EventLog.may_leave c.args.header.now c.in-Ok.entries.items c.args.kept.now c.recover.new.self = record { all = c.in-Ok.ensures.all; recovered = c.in-Ok.ensures.settled } in
+    let seen = subst (λ (l : List EntryView). HasRead g.L.EventLog.holds g.L.EventLog.may_leave c.args.header.now l c.args.kept.now c.recover.new.self) (sym c.as_slice.ensures.value) read in
+    seen_as (notes g.V.Watch.notes_before g.V.Watch.notes_after) c.args.watch.now.watch c.replay_noticed.new.watch.watch c.args.live.now.node c.replay_noticed.new.live.node _ _
+    (λ heard p. (tt, replay_fault g.L.EventLog.holds g.L.EventLog.may_leave g.L.EventLog.faults c.args.header.now c.args.kept.now c.recover.new.self c.args.live.now c.replay_noticed.new.live heard c.as_slice.result.now c.in-Err-replay_noticed.fault seen c.in-Ok.ensures.quiet p.1))
+    c.in-Err-replay_noticed.ensures.replayed
 
-pub returns-then-has_open-clause-restarted : goal.returns-then-has_open-clause-restarted
-returns-then-has_open-clause-restarted g c =
-    then_unseen (notes g.V.Watch.notes_before g.V.Watch.notes_after) c.args.watch.now.watch c.replay.new.watch c.close_all.new.watch.watch c.args.live.now.node c.replay.new.live.node c.close_all.new.live.node (λ heard. Unit {0}) _ (seen_from (notes g.V.Watch.notes_before g.V.Watch.notes_after) c.args.watch.now.watch c.replay.new.watch c.args.live.now.node c.replay.new.live.node _ (λ heard. Unit {0}) (λ heard p. tt) c.replay.ensures.replayed) c.close_all.ensures.closed
+pub returns-in-Err-replay_noticed-clause-stays : goal.returns-in-Err-replay_noticed-clause-stays
+returns-in-Err-replay_noticed-clause-stays g c =
+    let read : HasRead g.L.EventLog.holds g.L.EventLog.may_leave c.args.header.now c.in-Ok.entries.items c.args.kept.now c.recover.new.self = record { all = c.in-Ok.ensures.all; recovered = c.in-Ok.ensures.settled } in
+    stays_read g.L.EventLog.holds g.L.EventLog.may_leave c.args.header.now c.args.kept.now c.recover.new.self c.recover.new.self c.in-Ok.entries.items read (stays g.L.EventLog.holds g.L.EventLog.may_leave c.recover.new.self)
+
+pub returns-in-Err-close_links-clause-restarted : goal.returns-in-Err-close_links-clause-restarted
+returns-in-Err-close_links-clause-restarted g c =
+    let entries = c.in-Ok.entries.items in
+    let read : HasRead g.L.EventLog.holds g.L.EventLog.may_leave c.args.header.now entries c.args.kept.now c.recover.new.self = record { all = c.in-Ok.ensures.all; recovered = c.in-Ok.ensures.settled } in
+    let fault = c.in-Err-close_links.fault in
+    seen_then (notes g.V.Watch.notes_before g.V.Watch.notes_after) c.args.watch.now.watch c.replay_noticed.new.watch.watch c.close_links.new.watch.watch c.args.live.now.node c.replay_noticed.new.live.node c.close_links.new.live.node _ _ _
+    (λ x y p q. (
+      tt,
+      close_fault g.L.EventLog.holds g.L.EventLog.may_leave g.L.EventLog.faults c.args.header.now c.args.kept.now c.recover.new.self c.close_links.new.kept c.args.live.now c.replay_noticed.new.live c.close_links.new.live x y entries fault read c.in-Ok.ensures.quiet
+          (subst (λ (l : List EntryView). AreReplayed l c.args.live.now x c.replay_noticed.new.live) c.as_slice.ensures.value p.0)
+          c.in-Err-close_links.ensures.device c.in-Err-close_links.ensures.hidden q.1 c.in-Err-close_links.ensures.unsaid c.in-Err-close_links.ensures.still c.in-Err-close_links.ensures.only,
+    ))
+    c.in-Ok-replay_noticed.ensures.replayed c.in-Err-close_links.ensures.closed
+
+pub returns-in-Err-close_links-clause-stays : goal.returns-in-Err-close_links-clause-stays
+returns-in-Err-close_links-clause-stays g c =
+    let read : HasRead g.L.EventLog.holds g.L.EventLog.may_leave c.args.header.now c.in-Ok.entries.items c.args.kept.now c.recover.new.self = record { all = c.in-Ok.ensures.all; recovered = c.in-Ok.ensures.settled } in
+    stays_read g.L.EventLog.holds g.L.EventLog.may_leave c.args.header.now c.args.kept.now c.recover.new.self c.close_links.new.kept c.in-Ok.entries.items read c.close_links.ensures.stays
 
 pub returns-clause-restarted : goal.returns-clause-restarted
 returns-clause-restarted g c =
-    let holds = g.L.EventLog.holds in
-    let may_leave = g.L.EventLog.may_leave in
-    let entries = c.in_ok-entries.entries.items in
-    let replayed = subst (λ (l : List EntryView). Seen (notes g.V.Watch.notes_before g.V.Watch.notes_after) c.args.watch.now.watch c.replay.new.watch c.args.live.now.node c.replay.new.live.node (λ heard. AreReplayed l c.args.live.now heard c.replay.new.live)) c.as_slice.ensures.value (seen_from (notes g.V.Watch.notes_before g.V.Watch.notes_after) c.args.watch.now.watch c.replay.new.watch c.args.live.now.node c.replay.new.live.node _ (λ heard. AreReplayed c.as_slice.result.now c.args.live.now heard c.replay.new.live) (λ heard p. p) c.in_ok-replay.ensures.replayed) in
-    let count : c.len.result ≡ length entries = omega (arith, c.len.ensures, c.in_ok-entries.entries.ok) in
-    let counts : c.len-2.result ≡ length c.into_parts-text.result.1.items = omega (arith, c.len-2.ensures, c.into_parts-text.result.1.ok) in
-    seen_then (notes g.V.Watch.notes_before g.V.Watch.notes_after) c.args.watch.now.watch c.replay.new.watch c.close_all.new.watch.watch c.args.live.now.node c.replay.new.live.node c.close_all.new.live.node _ _ _
-    (λ x y p q. restarted holds may_leave c.args.header.now c.args.kept.now c.recover.new.self c.keep.new.self c.args.live.now c.replay.new.live c.close_all.new.live x y entries c.into_parts-text.result.1.items c.new-batch.result c.close_all.new.batch c.len.result c.len-2.result
-    p c.new-batch.ensures q c.into_parts-text.ensures.entries count counts c.if-has_open.ensures.none c.in_ok-entries.ensures.all c.in_ok-entries.ensures.settled
-    (λ header ms s. subst (λ (l : List EntryView). IsSettled holds may_leave header (ms ++ batch_of l) c.keep.new.self) c.as_slice-2.ensures.value (c.in_ok-_silent.ensures.kept header ms s)))
-    replayed c.in_ok-close_all.ensures.closed
+    let entries = c.in-Ok.entries.items in
+    let read : HasRead g.L.EventLog.holds g.L.EventLog.may_leave c.args.header.now entries c.args.kept.now c.recover.new.self = record { all = c.in-Ok.ensures.all; recovered = c.in-Ok.ensures.settled } in
+    let count : c.len.result ≡ length entries = omega (arith, c.len.ensures, c.in-Ok.entries.ok) in
+    let counts : c.len-2.result ≡ length c.in-Ok-close_links.closes.items = omega (arith, c.len-2.ensures, c.in-Ok-close_links.closes.ok) in
+    seen_then (notes g.V.Watch.notes_before g.V.Watch.notes_after) c.args.watch.now.watch c.replay_noticed.new.watch.watch c.close_links.new.watch.watch c.args.live.now.node c.replay_noticed.new.live.node c.close_links.new.live.node _ _ _
+    (λ x y p q. (
+      restarted g.L.EventLog.holds g.L.EventLog.may_leave c.args.header.now c.args.kept.now c.recover.new.self c.close_links.new.kept c.args.live.now c.replay_noticed.new.live c.close_links.new.live x y entries c.in-Ok-close_links.closes.items c.len.result c.len-2.result
+          (subst (λ (l : List EntryView). AreReplayed l c.args.live.now x c.replay_noticed.new.live) c.as_slice.ensures.value p.0) q.0 count counts read c.in-Ok-close_links.ensures.kept,
+      tt,
+    ))
+    c.in-Ok-replay_noticed.ensures.replayed c.in-Ok-close_links.ensures.closed
+
+pub returns-clause-stays : goal.returns-clause-stays
+returns-clause-stays g c =
+    let read : HasRead g.L.EventLog.holds g.L.EventLog.may_leave c.args.header.now c.in-Ok.entries.items c.args.kept.now c.recover.new.self = record { all = c.in-Ok.ensures.all; recovered = c.in-Ok.ensures.settled } in
+    stays_read g.L.EventLog.holds g.L.EventLog.may_leave c.args.header.now c.args.kept.now c.recover.new.self c.close_links.new.kept c.in-Ok.entries.items read c.close_links.ensures.stays

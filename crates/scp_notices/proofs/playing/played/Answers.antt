@@ -24,7 +24,7 @@ returns-clause-ran g c =
     let both = c.play_lines.new.watch in
     let old = pair c.new.result c.args.watch in
     let run = subst (λ (ls : List ℕ). IsRun L commands ls network old both) c.as_slice-3.ensures.value (subst (λ (cs : List Command). IsRun L cs c.as_slice-3.result.now network old both) c.as_slice-2.ensures.value c.in-Ok.ensures.played) in
-    both_shown begins ends before after' commands lines network c.new.result c.args.watch both c.told.result.now c.cut.result.now c.in_ok-notices.notices.items run (ap held c.new.ensures) (sym c.lacks_memory.ensures ∙ c.if-lacks_memory.false) c.told.ensures c.cut.ensures c.in_ok-notices.ensures.notices
+    both_shown c.each_fate_is_of_its_command.ensures.played begins ends before after' commands lines network c.new.result c.args.watch both c.told.result.now c.cut.result.now c.in_ok-notices.notices.items run (ap held c.new.ensures) (sym c.lacks_memory.ensures ∙ c.if-lacks_memory.false) c.told.ensures c.cut.ensures c.in_ok-notices.ensures.notices
 
 pub returns-clause-headline : goal.returns-clause-headline
 returns-clause-headline g c =

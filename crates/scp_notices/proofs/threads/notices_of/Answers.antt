@@ -1,29 +1,57 @@
-use Rattle.std.proofs.Common.{◌≡◌, ◌∙◌, ◌++◌, ℕ, List, map, subst}
+use Rattle.std.proofs.Common.{◌≡◌, ◌∙◌, ◌++◌, ℕ, List, append_assoc, ap, map, arith}
 use Rattle.std.specs.Global.{Vec}
 use Rattle.scp_script.specs.declared.command.Command.{Command}
+use Rattle.scp_line.specs.scp_report.specs.declared.report.Report.{Report}
+use Rattle.scp_line.specs.scp_report.specs.Report.{ReportView, view_of}
+use Rattle.scp_line.specs.scp_report.specs.Left.{left_behind, reports_left}
 use Rattle.scp_notices.specs.declared.commands.Told.{Told}
-use Rattle.scp_notices.specs.Disagreeing.{disagreements}
-use Rattle.scp_notices.specs.Ignoring.{ignored}
-use Rattle.scp_notices.specs.Lost.{losses_in, all_lost}
+use Rattle.scp_notices.specs.declared.notice.Notice.{Notice}
+use Rattle.scp_notices.specs.Nodes.{nodes_notices}
 use Rattle.scp_notices.specs.Threads.{told_in, no_wait, gave_up, threads_notices}
-use Rattle.scp_notices.proofs.Parts.{five_parts, maps}
+use Rattle.scp_notices.proofs.Order.{left_count, left_in_order, seen_count, seen_in_order}
 use Rattle.scp_notices.proofs.threads.notices_of.Goals as goal
+
+pub told_of-requires : goal.told_of-requires
+told_of-requires c =
+    let rows = map (λ (row : Vec ℕ). row.items) c.args.losses.now in
+    let cs = c.as_slice-commands.result.now in
+    let nodes = c.args.nodes.now in
+    record { few = omega (arith, seen_count c.as_slice-records.result.now c.in_ok-reports.reports.items (left_behind cs rows 0 nodes) c.as_slice-records.ensures.value c.in_ok-reports.ensures, left_count cs rows 0 nodes, c.requires.few) }
+
+pub add_nodes-requires-clause-few : goal.add_nodes-requires-clause-few
+add_nodes-requires-clause-few c =
+    let rows = map (λ (row : Vec ℕ). row.items) c.args.losses.now in
+    let cs = c.as_slice-commands.result.now in
+    let nodes = c.args.nodes.now in
+    omega (arith, seen_count c.as_slice-records.result.now c.in_ok-reports.reports.items (left_behind cs rows 0 nodes) c.as_slice-records.ensures.value c.in_ok-reports.ensures, left_count cs rows 0 nodes, c.requires.few)
+
+pub add_nodes-requires-clause-in_order : goal.add_nodes-requires-clause-in_order
+add_nodes-requires-clause-in_order c =
+    let rows = map (λ (row : Vec ℕ). row.items) c.args.losses.now in
+    let cs = c.as_slice-commands.result.now in
+    let nodes = c.args.nodes.now in
+    seen_in_order c.as_slice-records.result.now c.in_ok-reports.reports.items (left_behind cs rows 0 nodes) c.as_slice-records.ensures.value c.in_ok-reports.ensures (left_in_order cs rows 0 nodes c.requires.in_order)
 
 pub returns-clause-notices : goal.returns-clause-notices
 returns-clause-notices c =
+    let script = c.args.script.now in
     let cs = c.as_slice-commands.result.now in
     let ls = c.as_slice-lines.result.now in
-    let reports = c.args.reports.now in
+    let nodes = c.args.nodes.now in
     let places = c.args.places.now in
-    let losses = c.args.losses.now in
-    let applied = disagreements (map (λ report. report.applied.items) reports) in
+    let rows = map (λ (row : Vec ℕ). row.items) c.args.losses.now in
+    let records = c.as_slice-records.result.now in
+    let told = c.as_slice-2.result.now in
     let out = c.add_no_wait.new.out.items in
-    let parts : out ≡ gave_up ls places ++ (ignored c.as_slice.result.now ls cs ++ (applied ++ (all_lost cs (map (λ (row : Vec ℕ). losses_in row.items) losses) ++ no_wait cs))) =
-    five_parts (gave_up ls places) (ignored c.as_slice.result.now ls cs) applied (all_lost cs (map (λ (row : Vec ℕ). losses_in row.items) losses)) (no_wait cs)
-    c.new-notices.result.items c.add_gave_up.new.out.items c.add_ignored.new.out.items c.add_disagreements.new.out.items c.add_lost.new.out.items out
-    c.new-notices.ensures.items c.in_ok-add_gave_up.ensures c.in_ok-add_ignored.ensures c.in_ok-add_disagreements.ensures.added c.in_ok-add_lost.ensures c.in_ok-add_no_wait.ensures in
-    let told = subst (λ (t : List Told). out ≡ gave_up ls places ++ (ignored t ls cs ++ (applied ++ (all_lost cs (map (λ (row : Vec ℕ). losses_in row.items) losses) ++ no_wait cs)))) (c.as_slice.ensures.value ∙ c.in_ok-told.ensures) parts in
-    let rows : out ≡ threads_notices cs ls reports places (map (λ (row : Vec ℕ). row.items) losses) =
-    subst (λ (fs : List (ℕ → ℕ)). out ≡ gave_up ls places ++ (ignored (told_in reports) ls cs ++ (applied ++ (all_lost cs fs ++ no_wait cs)))) (maps losses_in (λ (row : Vec ℕ). row.items) losses) told in
-    subst (λ (l : List ℕ). out ≡ threads_notices c.args.script.now.commands.items l reports places (map (λ (row : Vec ℕ). row.items) losses)) c.as_slice-lines.ensures.value
-    (subst (λ (l : List Command). out ≡ threads_notices l ls reports places (map (λ (row : Vec ℕ). row.items) losses)) c.as_slice-commands.ensures.value rows)
+    let seen : map view_of records ≡ reports_left cs nodes rows = ap (λ (l : List Report). map view_of l) c.as_slice-records.ensures.value ∙ c.in_ok-reports.ensures in
+    let reported : told ≡ told_in (map view_of records) = c.as_slice-2.ensures.value ∙ c.in_ok-told.ensures in
+    let first : c.add_gave_up.new.out.items ≡ gave_up ls places = c.in_ok-add_gave_up.ensures ∙ ap (λ (l : List Notice). l ++ gave_up ls places) c.new-notices.ensures.items in
+    let second : c.add_nodes.new.out.items ≡ gave_up ls places ++ nodes_notices cs ls told (map view_of records) =
+    c.in_ok-add_nodes.ensures.added ∙ ap (λ (l : List Notice). l ++ nodes_notices cs ls told (map view_of records)) first in
+    let parts : out ≡ gave_up ls places ++ (nodes_notices cs ls told (map view_of records) ++ no_wait cs) =
+    c.in_ok-add_no_wait.ensures ∙ ap (λ (l : List Notice). l ++ no_wait cs) second ∙ append_assoc (gave_up ls places) (nodes_notices cs ls told (map view_of records)) (no_wait cs) in
+    let all : out ≡ threads_notices cs ls (map view_of records) places = parts ∙ ap (λ (t : List Told). gave_up ls places ++ (nodes_notices cs ls t (map view_of records) ++ no_wait cs)) reported in
+    all
+    ∙ ap (λ (l : List ReportView). threads_notices cs ls l places) seen
+    ∙ ap (λ (l : List ℕ). threads_notices cs l (reports_left cs nodes rows) places) c.as_slice-lines.ensures.value
+    ∙ ap (λ (l : List Command). threads_notices l script.lines.items (reports_left l nodes rows) places) c.as_slice-commands.ensures.value

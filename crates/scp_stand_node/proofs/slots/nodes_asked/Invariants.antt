@@ -1,6 +1,7 @@
 use Rattle.std.proofs.Common.{◌≡◌}
-use Rattle.scp_stand_node.specs.Slots.{asked_of}
+use Rattle.scp_ledger.specs.Seen.{is_asked}
+use Rattle.scp_stand_node.specs.Links.{peers_with}
 use Rattle.scp_stand_node.proofs.slots.nodes_asked.Given as goal
 
-abbrev pub invariant-loop-index : goal.invariant-loop-index
-invariant-loop-index l = l.nodes.items ≡ asked_of l.index l.number l.node l.slot
+abbrev pub invariant-loop-link : goal.invariant-loop-link
+invariant-loop-link l = l.nodes.items ≡ peers_with l.node.config (λ link. is_asked l.node.ledger.asked (record { link = link; slot = record { 0 = l.slot } })) l.link

@@ -12,9 +12,9 @@ returns-clause-added c =
     let p = c.args.place in
     let f = facts_of c.in_ok-shown.shown in
     let n = nomination c.in_ok-shown.shown.nominator.now in
-    let lines : Nomination → List ℕ = λ k. machine_lines c.args.names.now p.number c.args.me p.members.now p.slot k f in
+    let lines : Nomination → List ℕ = λ k. machine_lines c.args.names.now c.args.me p.members.now p.slot k f in
     then_ok c.write_what_is_needed.result c.write_what_is_needed.ensures.added (λ e. (
       lines n,
-      joined (string_bytes c.args.out.now) (string_bytes c.write_what_is_said.new.out) (string_bytes c.write_what_is_needed.new.out) (said_lines c.args.names.now p.number c.args.me p.slot n f) (needs_lines p.number c.args.me p.members.now p.slot (is_some n.proposal) f) c.in_ok-write_what_is_said.ensures.added e,
+      joined (string_bytes c.args.out.now) (string_bytes c.write_what_is_said.new.out) (string_bytes c.write_what_is_needed.new.out) (said_lines c.args.names.now c.args.me p.slot n f) (needs_lines c.args.names.now c.args.me p.members.now p.slot (is_some n.proposal) f) c.in_ok-write_what_is_said.ensures.added e,
       (f, c.in_ok-shown.ensures.facts, ap lines c.in_ok-shown.ensures.nomination),
     ))

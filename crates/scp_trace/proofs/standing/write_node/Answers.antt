@@ -20,4 +20,4 @@ returns-in-Some-clause-added c =
     let place : number ≡ c.from.result + 1 = omega (arith, c.requires.number.0, c.from.ensures) in
     let there = c.in-Some.ensures.lookup in
     let at : slice_get c.args.network.now.nodes (number - 1) ≡ Some node = subst (λ (nodes : Nodes). slice_get nodes (number - 1) ≡ Some node) c.nodes-nodes.ensures (read_at c.nodes-nodes.result.now c.from.result number node place there.3.0 there.1) in
-    node_told c.args.playing.names.now c.args.playing.count c.args.playing.commands.now c.args.playing.played.now c.args.network.now number node (string_bytes c.args.out.now) (string_bytes c.write_stand.new.out) c.write_stand.result c.requires.playing at c.write_stand.ensures.added
+    node_told c.args.playing.names.now c.args.playing.commands.now c.args.playing.played.now c.args.network.now number node (string_bytes c.args.out.now) (string_bytes c.write_stand.new.out) c.write_stand.result at c.write_stand.ensures.added

@@ -26,4 +26,4 @@ returns-in_ok-applied-in-Applied-clause-told c =
 pub returns-in-Stand-clause-told : goal.returns-in-Stand-clause-told
 returns-in-Stand-clause-told c =
     reply_if c.tell_stand.result c.args.asked.now _ c.args.live.now c.args.self.now _ c.in-Stand.is
-    (stands c.tell_stand.result c.args.live.now _ _ _ c.args.self.now _ c.node.ensures c.tell_stand.ensures.told (sym (ap (λ (b : BatchView). b.text) c.self.view_is)) refl (ap (λ (b : BatchView). b.entries) c.self.view_is))
+    (stands c.tell_stand.result c.args.live.now _ _ c.args.self.now _ c.tell_stand.ensures.told (sym (ap (λ (b : BatchView). b.text) c.self.view_is)) refl (ap (λ (b : BatchView). b.entries) c.self.view_is))

@@ -1,6 +1,0 @@
-use Rattle.std.proofs.Common.{◌≡◌, map}
-use Rattle.scp_line.specs.Threads.{count_on}
-use Rattle.scp_line.proofs.gathered.counts_of.Given as goal
-
-abbrev pub invariant-loop-conn : goal.invariant-loop-conn
-invariant-loop-conn l = l.counts.items ≡ map (count_on l.messages) (map (λ c. c.now) l.yielded)

@@ -1,8 +1,0 @@
-use Rattle.std.proofs.Common.{◌≡◌, ◌++◌, drop, string_bytes, flat_map}
-use Rattle.scp_script.specs.Nodes.{reports_in}
-use Rattle.scp_line.specs.Play.{report_at}
-use Rattle.scp_line.proofs.nodes.write_reports.Given as goal
-
--- with what is left it is all
-abbrev pub invariant-loop-command : goal.invariant-loop-command
-invariant-loop-command l = string_bytes l.text ++ flat_map (report_at l.nodes) (reports_in (drop l.command-index l.commands)) ≡ string_bytes l.initial.text ++ flat_map (report_at l.nodes) (reports_in l.commands)

@@ -1,8 +1,0 @@
-use Rattle.std.specs.Ordering.{is_eq}
-use Rattle.std.specs.BTreeMap.{get}
-use Rattle.scp_types.specs.Order.{conn_cmp}
-use Rattle.scp_line.proofs.Sections.{put_text}
-use Rattle.scp_line.proofs.report.put_lines.Goals as goal
-
-pub returns : goal.returns
-returns c = λ other. put_text (is_eq (conn_cmp c.args.conn other)) c.args.lines (get conn_cmp c.insert.new.self other) (get conn_cmp c.args.sections.now other) (c.in_ok-insert.ensures.updates.0 other)

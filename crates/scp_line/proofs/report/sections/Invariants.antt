@@ -1,8 +1,0 @@
-use Rattle.std.proofs.Common.{◌≡◌, take}
-use Rattle.scp_types.specs.declared.names.ConnId.{ConnId}
-use Rattle.scp_line.specs.Report.{fate_lines}
-use Rattle.scp_line.specs.inside.Parts.{lines_at}
-use Rattle.scp_line.proofs.report.sections.Given as goal
-
-abbrev pub invariant-loop-fate : goal.invariant-loop-fate
-invariant-loop-fate l = (conn : ConnId) → lines_at l.sections conn ≡ fate_lines (take l.fate-index l.journal) conn

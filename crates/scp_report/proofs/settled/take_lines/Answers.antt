@@ -1,0 +1,11 @@
+use Rattle.std.specs.Ordering.{is_eq}
+use Rattle.std.specs.BTreeMap.{get}
+use Rattle.scp_types.specs.Order.{conn_cmp}
+use Rattle.scp_report.proofs.Sections.{taken_text}
+use Rattle.scp_report.proofs.settled.take_lines.Goals as goal
+
+pub returns-in-Some-clause-others : goal.returns-in-Some-clause-others
+returns-in-Some-clause-others c = λ other. taken_text (is_eq (conn_cmp c.args.conn other)) (get conn_cmp c.remove.new.self other) (get conn_cmp c.args.sections.now other) (c.remove.ensures.updates.0 other)
+
+pub returns-in-None-clause-others : goal.returns-in-None-clause-others
+returns-in-None-clause-others c = λ other. taken_text (is_eq (conn_cmp c.args.conn other)) (get conn_cmp c.remove.new.self other) (get conn_cmp c.args.sections.now other) (c.remove.ensures.updates.0 other)
