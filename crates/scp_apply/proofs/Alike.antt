@@ -50,8 +50,8 @@ one_of ds e f one (i, in', is) (j, jn, js) same =
       ]
     ]
 
--- Two lists in order from one slot on are the same, where their decisions are among those with a slot each, and none of those has
--- the slot behind either.
+-- Two lists in order from one slot on are the same, if their decisions are among those with a
+-- slot each, and none of those has the slot after either list.
 module _ (Among : Decision → Type 0) (one : (e f : Decision) → Among e → Among f → e.slot.0 ≡ f.slot.0 → e ≡ f) where
   same_more : (k : ℕ) (ds es : List Decision) → AreInOrder k ds → AreInOrder k es → ((e : Decision) → Contains ds e → Among e) → ((e : Decision) → Contains es e → Among e) → ((e : Decision) → Among e → e.slot.0 ≢ k + length ds) → ((e : Decision) → Among e → e.slot.0 ≢ k + length es) → ds ≡ es
   same_more k [] [] h g are ares ends ended = refl
@@ -82,7 +82,7 @@ module _ (v : ApplierView) (d : Decision) (v' : ApplierView) (known : IsApplier 
         | inr held ↦ held
       ]
 
-  -- what was held isn't of the slot behind what is applied then
+  -- what was held isn't of the slot after what is applied then
   not_next : (e : Decision) → Contains (Held v d) e → e.slot.0 ≢ 1 + length v.applied + length takes.more
   not_next e held at =
       let long : length v'.applied ≡ length v.applied + length takes.more = ap length takes.grows ∙ length-append v.applied takes.more in

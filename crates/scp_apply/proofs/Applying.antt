@@ -53,7 +53,7 @@ apart ds place k d one within lt ne = elim (cases_lt k place) [
   | inr above ↦ (λ e. one place k d (omega (arith, above, ne)) lt (sym e))
 ]
 
--- where a loop of the applier stands: what it began with, and what it has now
+-- how far a loop of the applier is: what it began with, and what it has now
 pub record IsAdvancing {S : Type 0} (after' : S → List ℕ → S) (start : Slots) (before : S) (now : Slots) (state : S) : Type 0 where
   pub is_applied : IsApplied now
   pub shared_out : IsPermutation (start.applied.items ++ start.buffer.items) (now.applied.items ++ now.buffer.items)

@@ -3,7 +3,7 @@ use Rattle.std.specs.Prelude.{ℕ, ◌+◌, ◌≡◌, List, [], ◌∷◌, Opti
 use Rattle.scp_ledger.specs.declared.journal.Decision.{Decision}
 use Rattle.scp_ledger.specs.Decisions.{is_at}
 
--- the slots from this one on, without a gap
+-- the decisions are those of the slots from this one on, without a gap
 abbrev pub AreInOrder : ℕ → List Decision → Type 0
 AreInOrder slot [] = Unit {0}
 AreInOrder slot (d ∷ ds) = (d.slot.0 ≡ slot) × AreInOrder (slot + 1) ds
@@ -12,7 +12,7 @@ AreInOrder slot (d ∷ ds) = (d.slot.0 ≡ slot) × AreInOrder (slot + 1) ds
 abbrev pub values_of : List Decision → List (List ℕ)
 values_of decisions = map (λ d. d.value) decisions
 
--- the state that decisions make, one after another, from a first one on: each what its value makes of the state before it
+-- the state that decisions make from a first one on: the value of each makes it of the state before it
 abbrev pub made_of : {S : Type 0} → S → (S → List ℕ → S) → List Decision → S
 made_of first after' decisions = fold after' first (values_of decisions)
 

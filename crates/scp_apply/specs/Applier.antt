@@ -9,7 +9,7 @@ use Rattle.scp_ledger.specs.declared.took.Onward.TheVariants.{Decided, Asked}
 use Rattle.scp_ledger.specs.Decisions.{is_decided, OnePerSlot}
 use Rattle.scp_apply.specs.Applied.{AreInOrder, value_of}
 
--- what contracts see of an applier; the state is what its applied values make, and is told where it is read
+-- what contracts see of an applier; the state isn't part of it, since it is what the applied values make
 pub record ApplierView : Type 0 where
   pub failed : Bool
   pub applied : List Decision
@@ -19,12 +19,12 @@ pub record ApplierView : Type 0 where
 pub record IsApplier (v : ApplierView) : Type 0 where
   pub in_order : AreInOrder 1 v.applied
 
--- the slot is one of the 16 from n + 1 on, but not n + 1
+-- the slot is one of the 16 from n + 1 on, but isn't n + 1
 pub record IsLater (n slot : ℕ) : Type 0 where
   pub later : n + 1 < slot
   pub near : slot ≤ n + 16
 
--- slot n + 1 isn't buffered, and no slot twice
+-- only slots n + 2 to n + 16 are buffered, and no slot twice
 pub record IsRunning (v : ApplierView) : Type 0 where
   pub in_window : All (λ d. IsLater (length v.applied) d.slot.0) v.buffer
   pub one : OnePerSlot v.buffer
@@ -36,19 +36,19 @@ pub record IsInWindow (v : ApplierView) (slot : ℕ) : Type 0 where
   pub near : slot ≤ length v.applied + 16
   pub fresh : is_decided slot v.buffer ≡ false
 
--- what the caller gives: a decision of one of the 16 slots from n + 1 on that isn't buffered, or any request for a record
+-- what the caller may give: a decision for one of the 16 slots from n + 1 on that isn't buffered, or any request for a record
 abbrev pub CanTake : ApplierView → Onward → Type 0
 CanTake v (Decided d) = IsInWindow v d.slot.0
 CanTake v (Asked link slot) = Unit {0}
 
--- the decision is buffered, and what is next is applied: what was applied or buffered, and it, is so now
+-- The decision is buffered, and what is next is applied. What was applied or buffered, with it, is applied or buffered now.
 pub record Applies (old : ApplierView) (d : Decision) (new : ApplierView) : Type 0 where
   pub runs : new.failed ≡ false
   pub shared_out : IsPermutation (old.applied ++ (old.buffer ++ d ∷ [])) (new.applied ++ new.buffer)
   pub more : List Decision
   pub grows : new.applied ≡ old.applied ++ more
 
--- a decision has no answer; a slot that is asked for is answered by its record where it is applied, and nothing changes
+-- a decision has no answer; a request for a slot's record is answered if the slot is applied, and changes nothing
 abbrev pub Takes : ApplierView → Onward → Option (ℕ × Message) → ApplierView → Type 0
 Takes old (Decided d) answer new = (answer ≡ None) × Applies old d new
 Takes old (Asked link slot) answer new = (answer ≡ option_map (λ value. (link, Record slot value)) (value_of slot.0 old.applied)) × (new ≡ old)

@@ -50,7 +50,7 @@ impl<A: Application> Applier<A> {
         }
     }
 
-    /// The decisions that are applied, of the slots 1, 2, ...
+    /// The decisions that are applied, those of the slots 1, 2, ...
     pub fn applied(&self) -> &[SharedDecision]
         ensures same { result.now ≡ self.now.applied }
         ensures known { IsApplier self.now }
@@ -58,7 +58,7 @@ impl<A: Application> Applier<A> {
         self.slots.applied.as_slice()
     }
 
-    /// The state that the applied values make, from the first to the last; none once failed.
+    /// The state that the applied values make, from the first to the last. A failed applier has none.
     pub fn state(&self) -> Option<&A::State>
         ensures made { option_copied result ≡ (if self.now.failed then None else Some (made_of A.first A.after self.now.applied)) }
         ensures running { self.now.failed ≡ false → IsRunning self.now }
@@ -69,7 +69,7 @@ impl<A: Application> Applier<A> {
         Some(&self.state)
     }
 
-    /// What is applied, and the state, which is none once failed; once nothing more is taken. Takes no memory.
+    /// The applied decisions and the state, which a failed applier doesn't have. For when nothing more will be taken. Takes no memory.
     pub fn into_applied(self) -> (Vec<SharedDecision>, Option<A::State>)
         ensures applied { result.0.items ≡ self.applied }
         ensures made { result.1 ≡ (if self.failed then None else Some (made_of A.first A.after self.applied)) }
@@ -93,21 +93,21 @@ impl<A: Application> Applier<A> {
         self.slots.value_at(slot)
     }
 
-    /// Whether the decision of a slot can be taken: it is one of the 16 from the first that isn't applied, and isn't buffered.
+    /// Whether the decision of a slot can be taken: the slot is one of the 16 from the first that isn't applied, and isn't buffered.
     pub fn can_take(&self, slot: Slot) -> bool
         ensures { IsTrue result ↔ IsInWindow self.now slot.0 }
     {
         self.slots.is_in_window(slot)
     }
 
-    /// Takes what the slot stage sends on. A decision is buffered, and all that is next is applied; a slot that is asked for
-    /// is answered by its record, for that link, where it is applied. Refused by `NoMemory`, after which it is failed, and a
-    /// failed one by `Failed`, and it stays as it is. The time of a decision grows with what it makes applicable; that of an
-    /// answer with the value.
+    /// Takes what the slot stage sends on. A decision is buffered, and then all that is next is applied. A request for a slot's record is
+    /// answered with the record, for that link, if the slot is applied.
+    /// Refused by `NoMemory`, which leaves it failed, and by `Failed` if it failed before, which changes nothing.
+    /// The time of a decision grows with what it makes applicable; that of an answer with the value.
     pub fn take(&mut self, onward: Onward) -> Result<Option<(u8, Message)>, Fault>
         requires next { self.old.failed ≡ false → CanTake self.old onward }
         ensures takes { IfOk result (λ answer. Takes self.old onward answer self.new) }
-        // What is answered fits a link.
+        // The answer fits a link.
         ensures fits { IfOk result (λ answer. IfSome answer (λ sent. IsFitting sent.1)) }
         ensures known { IsApplier self.new }
         ensures running { self.new.failed ≡ false → IsRunning self.new }

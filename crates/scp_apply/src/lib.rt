@@ -1,14 +1,13 @@
-//! The applier of a node: decisions, applied in the order of their slots.
+//! The applier of a node applies decisions in the order of their slots.
 //!
-//! What it promises, of each `Applier::take`:
-//! - slots 1 to n are applied once each, in order, each with its decision, and the state is what the application makes of their
-//!   values, one after another;
-//! - what was taken and isn't applied yet is buffered, and slot n + 1 isn't: at most 15 decisions, of the slots n + 2 to
-//!   n + 16;
-//! - a slot that is asked for is answered by its record exactly where it is applied;
-//! - who takes the decisions of a ledger in their order never asks for a slot that can't be taken;
-//! - two appliers that show the same and take the same answer and apply the same;
-//! - an applier that failed keeps its applied list, and its state can't be read.
+//! What each `Applier::take` promises:
+//! - Slots 1 to n are applied once each, in order, each with its decision. The state is what
+//!   the application makes of their values, one after another.
+//! - What was taken and isn't applied yet is buffered. Slot n + 1 never is, so at most 15 decisions are, those of slots n + 2 to n + 16.
+//! - A request for a slot's record is answered exactly if the slot is applied.
+//! - Whoever takes a ledger's decisions in their order never meets a slot that can't be taken.
+//! - Two appliers that show the same and take the same give the same answer and apply the same.
+//! - An applier that failed keeps its applied list; its state can't be read.
 #![tactic(auto)]
 
 mod applier;

@@ -32,7 +32,7 @@ impl Slots {
         }
     }
 
-    /// The value of a slot that is applied. Constant time.
+    /// The value of a slot, if it is applied. Constant time.
     pub fn value_at(&self, slot: Slot) -> Option<&Value>
         requires in_order { AreInOrder 1 self.now.applied.items }
         ensures same { option_copied result ≡ value_of slot.0 self.now.applied.items }
@@ -55,8 +55,8 @@ impl Slots {
         slot.0 > applied && slot.0 - applied <= WINDOW && !has_slot(self.buffer.as_slice(), slot)
     }
 
-    /// Takes what the slot stage sends on, and gives the answer for one link. After a refusal the applied list is as before,
-    /// and nothing else may be used.
+    /// Takes what the slot stage sends on, and gives the answer for one link. A refusal keeps
+    /// what was applied before. Nothing else may be used after it.
     pub fn serve<A: Application>(
         &mut self,
         state: &mut A::State,
@@ -80,7 +80,7 @@ impl Slots {
         }
     }
 
-    /// The record of a slot, for that link, where the slot is applied.
+    /// The record of a slot for that link, if the slot is applied.
     fn record_of(&self, link: u8, slot: Slot) -> Result<Option<(u8, Message)>, Fault>
         requires in_order { AreInOrder 1 self.now.applied.items }
         ensures answer { IfOk result (λ answer. answer ≡ option_map (λ value. (link, Message.Record slot value)) (value_of slot.0 self.now.applied.items)) }
@@ -93,8 +93,8 @@ impl Slots {
         }
     }
 
-    /// Takes a decision, and applies what is next as long as it is there. After a refusal the applied list is as before, and
-    /// nothing else may be used.
+    /// Takes a decision, and applies what is next as long as it is there. A refusal keeps
+    /// what was applied before. Nothing else may be used after it.
     fn take<A: Application>(
         &mut self,
         state: &mut A::State,
@@ -143,7 +143,7 @@ impl Slots {
         Ok(())
     }
 
-    /// Where the next slot's decision is buffered, if it is. At most 16 are.
+    /// Where the next slot's decision is buffered, if it is. At most 16 are buffered.
     fn next_place(&self) -> Option<usize>
         ensures { result ≡ position (is_at (length self.now.applied.items + 1)) self.now.buffer.items }
     {
@@ -153,7 +153,7 @@ impl Slots {
             .position(|decision| decision.get().slot.0 == next)
     }
 
-    /// Applies the decision that is buffered at this place. After a refusal the state is to be given up.
+    /// Applies the decision that is buffered at this place. After a refusal the state must not be used.
     fn apply_at<A: Application>(&mut self, state: &mut A::State, place: usize) -> Result<(), Fault>
         requires { place < length self.old.buffer.items }
         ensures ok { OnOk result (AppliesOne A.after self.old state.old place self.new state.new) }

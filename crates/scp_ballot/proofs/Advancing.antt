@@ -80,7 +80,7 @@ goes_in Externalize Confirm hash other s t (inl later) = absurd (omega (arith, l
 goes_in Externalize Confirm hash other s t (inr same) = absurd (let k : Confirm ≡ Externalize = same.0 in cc)
 goes_in Externalize Externalize hash other s t h = tt
 
--- the own statement is an EXTERNALIZE just in that phase
+-- the own statement is an EXTERNALIZE exactly in that phase
 externalize_phase : (ph : Phase) (hash : Hash) (s : State) → IsExternalize (own_in ph hash s) → ph ≡ Externalize
 externalize_phase Prepare hash s h = absurd h
 externalize_phase Confirm hash s h = absurd h
@@ -99,7 +99,7 @@ module _ (own : Option Pledges) (hash : Hash) (s : State) (stands : StandsFor ow
     | inr none ↦ absurd (let k : Prepare ≡ Externalize = sym none.1.phase ∙ e in cc)
   ]
 
-  -- a sane own statement stands on the board
+  -- a sane own statement is on the board
   sane_stands : IsSane (own_of hash s) → own ≡ Some (own_of hash s)
   sane_stands sane = elim stands [ inl e ↦ e | inr none ↦ absurd (blank_insane hash s none.1 sane) ]
 

@@ -116,7 +116,7 @@ at_most_or n hi = elim (cases_order n hi) [ inl e ↦ inl (omega (arith, e)) | i
 pub areahead_less : (b : Seen) (m n : ℕ) → m ≤ n → AreAheadOf b n → AreAheadOf b m
 areahead_less b m n le a = record { nodes = a.nodes; others = λ v h. ahead_less b m n v le (a.others v h); block = a.block }
 
--- From a counter that is free down to n all are, while no free one that a statement has lies between: so n itself would be.
+-- From a counter that is free down to n, all counters are free if no statement has a free one in between; so n itself would be free.
 module _ (b : Seen) (n new : ℕ) (ahead : AreAheadOf b n) (least : (v : NodeId) → IsLeastOfStatement b n new v) where
   down : (k : ℕ) → n + k < new → ¬ (AreAheadOf b (n + k)) → ⊥
   down zero lt free = let e : n ≡ n + 0 = omega arith in free (subst (λ m. AreAheadOf b m) e ahead)

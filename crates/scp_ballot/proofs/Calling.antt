@@ -1,4 +1,4 @@
--- What a balloter's calls promise beside what they give.
+-- What a balloter's calls promise besides what they give.
 use Rattle.std.proofs.Common.{◌≡◌, ◌≢◌, ◌<◌, Bool, ℕ, List, Option, Some, None, IsSome, IsSomeAnd, IfSome, IfNone, refl, sym, ◌∙◌, ap, subst, inl, inr, arith}
 use Rattle.std.specs.Option.{ForSome}
 use Rattle.scp_types.specs.declared.ballot.Ballot.{Ballot}

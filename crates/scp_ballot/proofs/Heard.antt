@@ -36,7 +36,7 @@ module _ (old new : Seen) (node : NodeId) (p : Pledges) (set : QuorumTree) (put 
   pub keeps_put : KeepsOwn old → KeepsOwn new
   keeps_put keeps = same_set ∙ keeps ∙ ap (λ (l : QuorumTree). option_map (λ _. l) (old.statement old.me)) (sym put.puts.local) ∙ ap (option_map (λ _. new.local)) (sym same_own)
 
--- the state stands as it did, on a board with the same own statement
+-- the state is as it was, on a board with the same own statement
 rests_on : (old new : Machine) → KeepsRest old new → new.state ≡ old.state → (ballots_on new.board).me ≡ (ballots_on old.board).me → own_at new ≡ own_at old → KeepsOwn (ballots_on new.board) → IsAtRest old → IsAtRest new
 rests_on old new kept state me own keeps rest = record {
   keeps = keeps;

@@ -1,4 +1,4 @@
--- The licence speaks of the others' part of the board alone.
+-- The licence speaks only of the others' part of the board.
 use Rattle.std.proofs.Common.{◌≡◌, Bool, true, false, cond, List, [], ◌∷◌, Option, Some, refl, sym, ◌∙◌, ap}
 use Rattle.std.specs.Option.{option_map}
 use Rattle.std.specs.BTreeMap.{is_at}

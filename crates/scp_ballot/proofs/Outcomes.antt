@@ -158,7 +158,7 @@ module _ (own : Option Pledges) (hash : Hash) (s : State) (stands : StandsFor ow
     ])
   ]
 
--- the board on which the own statement stands is that with it
+-- the board that has the own statement is the board with it
 module _ (b : Seen) (p : Pledges) (keeps : KeepsOwn b) (is : b.statement b.me ≡ Some p) where
   at_own : {A : Type 0} (f : NodeId → A) (x : A) → f b.me ≡ x → (v : NodeId) (t : Bool) → is_at (node_cmp b.me) v ≡ t → cond t x (f v) ≡ f v
   at_own f x e v true here = sym e ∙ ap f (same_at b.me v here)
@@ -171,7 +171,7 @@ module _ (b : Seen) (p : Pledges) (keeps : KeepsOwn b) (is : b.statement b.me �
       ∙ ap (λ (f : NodeId → Option QuorumTree). let d : Seen = record { me = b.me; local = b.local; statement = b.statement; counted = f } in d)
       (fun_ext (λ v. at_own b.counted (Some b.local) (keeps ∙ ap (option_map (λ _. b.local)) is) v (is_at (node_cmp b.me) v) refl))
 
--- the input changed the state, or its own statement stands
+-- the input changed the state, or its own statement is on the board
 abbrev Changes : Machine → Option State → Type 0
 Changes m first = (next : State) → first ≡ Some next → (next ≢ m.state) ⊎ ((next ≡ m.state) × (own_at m ≡ Some (own_of m.hash m.state)))
 

@@ -26,8 +26,8 @@ use Rattle.scp_ballot.specs.View.{BalloterView}
 use Rattle.scp_ballot.specs.declared.balloted.Balloted.{Balloted}
 use Rattle.scp_ballot.specs.declared.balloted.Certified.{Certified}
 
--- What a balloter knows: its slot, the hash of its set, what it sees of ballots, the state of its own, the composite that is kept,
--- the statement that was emitted last, and whether it failed.
+-- What a balloter knows: its slot, its set's hash, what it sees of ballots, the state of its own ones, the composite that is
+-- kept, the statement emitted last, and whether it failed.
 pub record Ballots : Type 0 where
   pub slot : ℕ
   pub hash : Hash
@@ -49,18 +49,18 @@ own b = b.board.statement b.board.me
 abbrev pub IsDecided : Ballots → Type 0
 IsDecided b = IsSomeAnd (own b) IsExternalize
 
--- the own statement is there, and is no PREPARE of counter 0
+-- the statement is a ballot statement, but no PREPARE with counter 0
 abbrev pub HasCounter : Pledges → Type 0
 HasCounter (Preparing p) = p.ballot.counter ≢ 0
 HasCounter (Confirming p) = Unit {0}
 HasCounter (Externalizing p) = Unit {0}
 HasCounter (Nominating p) = ⊥
 
--- an own statement has a ballot
+-- there is an own statement with a ballot
 abbrev pub HasBallot : Ballots → Type 0
 HasBallot b = IsSomeAnd (own b) HasCounter
 
--- An own statement as it is given: a ballot statement of this node and slot, that on the board, with the hash of the local set
+-- An own statement as it is given: a ballot statement of this node and slot, the one on the board, with the local set's hash
 -- and no signature.
 pub record IsOwnEnvelope (b : Ballots) (e : Envelope) : Type 0 where
   pub node : e.statement.node ≡ b.board.me
@@ -70,16 +70,16 @@ pub record IsOwnEnvelope (b : Ballots) (e : Envelope) : Type 0 where
   pub hash : set_hash_of e.statement.pledges ≡ b.hash
   pub unsigned : e.signature ≡ []
 
--- the statement now is there, sane, and newer than the last one emitted, if there was one
+-- there is a statement now, it is sane, and it is newer than the last one emitted, if there was one
 abbrev pub IsWorthTelling : Option Pledges → Option Pledges → Type 0
 IsWorthTelling last now = IsSomeAnd now (λ q. IsSane q × ForSome last (λ p. ArePledgesNewer p q))
 
--- what was emitted last, after this statement, if there is one
+-- the last statement emitted, after this one, if there is this one
 abbrev pub last_emitted : Option Envelope → Option Pledges → Option Pledges
 last_emitted None last = last
 last_emitted (Some e) last = Some e.statement.pledges
 
--- the own EXTERNALIZE is of this value and number
+-- the own EXTERNALIZE has this value and counter
 abbrev pub Externalizes : Pledges → Certified → Type 0
 Externalizes (Preparing p) d = ⊥
 Externalizes (Confirming p) d = ⊥
@@ -99,7 +99,7 @@ pub record KeepsMaking (old new : Ballots) : Type 0 where
   pub me : new.board.me ≡ old.board.me
   pub local : new.board.local ≡ old.board.local
 
--- After the first statement the second goes no way back: to no earlier kind, and within PREPARE and within CONFIRM to no smaller
+-- The second statement is no step back from the first: to no earlier kind, and within PREPARE and within CONFIRM to no smaller
 -- counter.
 abbrev pub GoesOn : Pledges → Pledges → Type 0
 GoesOn (Preparing p) (Preparing q) = p.ballot.counter ≤ q.ballot.counter
@@ -109,7 +109,7 @@ GoesOn (Externalizing p) (Preparing q) = ⊥
 GoesOn (Externalizing p) (Confirming q) = ⊥
 GoesOn p q = Unit {0}
 
--- the ballot of the own PREPARE; where nothing was said, counter 0 and no bytes
+-- the ballot of the own PREPARE; if nothing was said, counter 0 and no bytes
 abbrev pub HasPresent : Option Pledges → Ballot → Type 0
 HasPresent None x = x ≡ record { counter = 0; value = [] }
 HasPresent (Some (Preparing p)) x = x ≡ p.ballot
@@ -117,18 +117,18 @@ HasPresent (Some (Confirming p)) x = ⊥
 HasPresent (Some (Externalizing p)) x = ⊥
 HasPresent (Some (Nominating p)) x = ⊥
 
--- A PREPARE has the ballot of the one before, or a ballot of its value is confirmed prepared (nH isn't 0), or it has the value of
--- the composite, where there is one.
+-- A PREPARE has the ballot of the one before; or a ballot of its value is confirmed as prepared (nH isn't 0); or it has the
+-- composite's value, if there is a composite.
 abbrev pub KeepsValue : Option Pledges → Option (List ℕ) → Pledges → Type 0
 KeepsValue before composite (Preparing q) = HasPresent before q.ballot ⊎ (q.n_high ≢ 0) ⊎ ForSome composite (λ z. q.ballot.value ≡ z)
 KeepsValue before composite (Confirming q) = Unit {0}
 KeepsValue before composite (Externalizing q) = Unit {0}
 KeepsValue before composite (Nominating q) = Unit {0}
 
--- What an input gives: the own statement is licensed from the one before it, with the others' part of the board as after the
--- input, and goes no way back; a new ballot of a PREPARE has the composite's value, unless one is confirmed prepared; nothing is
--- owed, unless there is more; the statement is emitted exactly where it is worth telling; a decision is given exactly where the
--- own statement becomes an EXTERNALIZE, which then stays as it is.
+-- What an input gives. The own statement is licensed by the one before it, with the others' part of the board as it is after the
+-- input, and is no step back. A new ballot of a PREPARE has the composite's value, unless one is confirmed as prepared. Nothing
+-- is owed, unless there is more. A statement is emitted exactly where it is worth telling. A decision is given exactly where the
+-- own statement becomes an EXTERNALIZE, which then stays.
 pub record Advances (old new : Ballots) (given : Balloted) : Type 0 where
   pub licensed : Licensed new.board (own old) (own new)
   pub rises : ForSome (own old) (λ p. ForSome (own new) (λ q. GoesOn p q))
@@ -151,49 +151,49 @@ IsPrepare (Confirming p) = ⊥
 IsPrepare (Externalizing p) = ⊥
 IsPrepare (Nominating p) = ⊥
 
--- The value is kept as the composite while the own statement is a PREPARE or nothing was said; later the composite stays.
+-- The value becomes the composite while the own statement is a PREPARE or nothing was said; after that the composite stays.
 abbrev pub TakesValue : List ℕ → Ballots → Ballots → Type 0
 TakesValue value old new = (ForSome (own old) IsPrepare × (new.composite ≡ Some value)) ⊎ ((ForSome (own old) IsPrepare → ⊥) × (new.composite ≡ old.composite))
 
--- A PREPARE has the ballot (1, value); or a ballot of its value is confirmed prepared; or the others were ahead of counter 1, and
--- it has a higher counter and this value.
+-- A PREPARE has the ballot (1, value); or a ballot of its value is confirmed as prepared (nH isn't 0); or the others were ahead
+-- of counter 1, and its ballot has this value.
 abbrev pub IsFirst : List ℕ → Seen → Pledges → Type 0
 IsFirst value b (Preparing q) = (q.ballot ≡ record { counter = 1; value = value }) ⊎ (q.n_high ≢ 0) ⊎ (AreAheadOf b 1 × (q.ballot.value ≡ value))
 IsFirst value b (Confirming q) = Unit {0}
 IsFirst value b (Externalizing q) = Unit {0}
 IsFirst value b (Nominating q) = Unit {0}
 
--- Where there was no ballot, the first one is made of the value.
+-- If there was no ballot, the first one is made of the value.
 abbrev pub MakesFirst : List ℕ → Ballots → Ballots → Type 0
 MakesFirst value old new = (HasBallot old → ⊥) → ForSome (own new) (λ q. IsFirst value old.board q)
 
--- The other nodes have the same statements and sets.
+-- The other nodes have the same statements and sets as before.
 pub record KeepsOthers (old new : Seen) : Type 0 where
   pub statements : (v : NodeId) → v ≢ old.me → new.statement v ≡ old.statement v
   pub sets : (v : NodeId) → v ≢ old.me → new.counted v ≡ old.counted v
 
--- Of the other nodes, this one has the given statement and set, and all else is as before.
+-- Among the other nodes, this one has the given statement and set, and all others are as before.
 pub record Hears (old new : Seen) (node : NodeId) (statement : Pledges) (set : QuorumTree) : Type 0 where
   pub statements : (v : NodeId) → v ≢ old.me → new.statement v ≡ cond (is_at (node_cmp node) v) (Some statement) (old.statement v)
   pub sets : (v : NodeId) → v ≢ old.me → new.counted v ≡ cond (is_at (node_cmp node) v) (Some set) (old.counted v)
 
--- another node's ballot statement of this slot, before the own statement is an EXTERNALIZE
+-- another node's ballot statement of this slot, while the own statement is no EXTERNALIZE
 abbrev pub IsHeard : Ballots → Envelope → Type 0
 IsHeard b e = (e.statement.node ≢ b.board.me) × (e.statement.slot.0 ≡ b.slot) × (kind_of_pledges e.statement.pledges ≡ Balloting) × (IsDecided b → ⊥)
 
--- such a statement is put in the place of its node's last one; any other changes nothing of the others' part
+-- such a statement replaces its node's last one; any other statement leaves the others' part as it is
 abbrev pub HearsOnly : Ballots → Ballots → Envelope → QuorumTree → Type 0
 HearsOnly old new e delivered =
     (IsHeard old e × Hears old.board new.board e.statement.node e.statement.pledges (counted_of_other e.statement.node e.statement.pledges delivered))
     ⊎ ((IsHeard old e → ⊥) × KeepsOthers old.board new.board)
 
--- within PREPARE and within CONFIRM the counter is raised, where it is neither 0 nor the greatest
+-- within PREPARE and within CONFIRM the counter is raised, if it was neither 0 nor the greatest
 abbrev pub IsRaised : Pledges → Pledges → Type 0
 IsRaised (Preparing p) (Preparing q) = p.ballot.counter ≢ 0 → p.ballot.counter ≢ 4294967295 → p.ballot.counter < q.ballot.counter
 IsRaised (Confirming p) (Confirming q) = p.ballot.counter ≢ 0 → p.ballot.counter ≢ 4294967295 → p.ballot.counter < q.ballot.counter
 IsRaised p q = Unit {0}
 
--- the own ballot's counter grew
+-- so it is from the old own statement to the new one
 abbrev pub RaisesCounter : Ballots → Ballots → Type 0
 RaisesCounter old new = ForSome (own old) (λ p. ForSome (own new) (λ q. IsRaised p q))
 

@@ -5,7 +5,7 @@ use Rattle.scp_envelope.specs.declared.statement.Pledges.{Pledges}
 use Rattle.scp_vote.specs.declared.board.Board.{Board}
 use Rattle.scp_ballot_rules.specs.declared.state.State.{State}
 
--- The slot, the hash of the local set, the board, the state of the ballots, the composite that is kept, the statement that was
+-- The slot, the local set's hash, the board, the state of the ballots, the composite that is kept, the statement that was
 -- emitted last, and whether it failed.
 pub record BalloterView : Type 0 where
   pub slot : ℕ

@@ -6,11 +6,11 @@ use std::collections::BTreeSet;
 /// What one input of a balloter gives.
 #[derive(Drop)]
 pub struct Balloted {
-    /// The own statement, where it is sane and newer than the one emitted before, without a signature.
+    /// The own statement, if it is sane and newer than the one emitted before, without a signature.
     pub statement: Option<SharedEnvelope>,
     /// The decision, at the input that makes the own statement an EXTERNALIZE.
     pub decided: Option<Certified>,
-    /// Whether the rules were left at their limit of 64 applications; what is left is tried at the next input.
+    /// Whether the rules were stopped at their limit of 64 applications; the rest is tried at the next input.
     pub more: bool,
 }
 
@@ -18,7 +18,7 @@ pub struct Balloted {
 #[derive(Drop)]
 pub struct Certified {
     pub value: Value,
-    /// The number of the commit that is confirmed.
+    /// The counter of the commit that is confirmed.
     pub n: u32,
     /// The greatest quorum at this node among the nodes that accept that commit.
     pub quorum: BTreeSet<NodeId>,

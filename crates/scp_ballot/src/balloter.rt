@@ -11,8 +11,8 @@ use std::alloc::Global;
 use std::marker::Model;
 use std::sync::Arc;
 
-/// The ballots of one node in one slot (the SCP draft, in this project's profile). After a refusal it is failed, and answers
-/// `Fault::Failed` from then on.
+/// The ballots of one node in one slot (the SCP draft, in this project's profile). After a refusal it has failed, and
+/// answers `Fault::Failed` from then on.
 #[derive(Drop)]
 pub struct Balloter {
     machine: Machine,
@@ -41,7 +41,7 @@ impl Balloter {
     ghost use Rattle.scp_ballot.specs.Balloting.{ballots, Begins, Advances, TakesValue, MakesFirst, HasBallot, KeepsOthers, HearsOnly, RaisesCounter};
     ghost use Rattle.scp_ballot.specs.Outcome.{BeginsBlank, ComposesExactly, HearsExactly, TimesExactly};
 
-    /// A balloter that has heard and said nothing, of this node and its set.
+    /// A balloter for this node and its set, that has heard and said nothing.
     pub fn new(alloc: Global, me: NodeId, slot: Slot, local: Arc<SaneSet>) -> Balloter
         ensures begins { Begins me slot.0 local.value (ballots result) }
         ensures blank { BeginsBlank (ballots result) }
@@ -59,8 +59,8 @@ impl Balloter {
         &self.machine.board
     }
 
-    /// A composite of the nomination: while the own statement is a PREPARE it is kept, and makes the first ballot where there
-    /// is none. Refused by `Failed` once a call was refused, else by `NoMemory`.
+    /// Takes a composite from nomination. While the own statement is a PREPARE, the composite is kept, and makes the first
+    /// ballot if there is none. Refused by `Failed` if an earlier call was refused, else by `NoMemory`.
     pub fn candidate(&mut self, value: Value) -> Result<Balloted, Fault>
         ensures advances { IfOk result (λ given. Advances (ballots self.old) (ballots self.new) given) }
         ensures exact { IfOk result (λ given. ComposesExactly value (ballots self.old) (ballots self.new) given) }
@@ -82,9 +82,9 @@ impl Balloter {
         Ok(given)
     }
 
-    /// Another node's fresh ballot statement, with the quorum set that was delivered with it. A statement of this node, of
-    /// another slot or of nomination, or one that comes after the decision, isn't put on the board. Refused by `Failed` once
-    /// a call was refused, else by `NoMemory`.
+    /// Takes another node's ballot statement, with the quorum set that was delivered with it; that it is newer is for the
+    /// caller to test. A statement of this node, of another slot or of nomination, or one after the decision, isn't put on
+    /// the board. Refused by `Failed` if an earlier call was refused, else by `NoMemory`.
     pub fn take(
         &mut self,
         envelope: SharedEnvelope,
@@ -109,9 +109,8 @@ impl Balloter {
         Ok(given)
     }
 
-    /// A timer: the counter of the ballot is raised, where the own statement stays a PREPARE or a CONFIRM, and the counter was
-    /// neither 0 nor at its greatest.
-    /// Refused by `Failed` once a call was refused, else by `NoMemory`.
+    /// A timer went off. While the own statement stays a PREPARE, or stays a CONFIRM, the counter of its ballot is raised, unless it was 0
+    /// or the greatest. Refused by `Failed` if an earlier call was refused, else by `NoMemory`.
     pub fn timer(&mut self) -> Result<Balloted, Fault>
         ensures advances { IfOk result (λ given. Advances (ballots self.old) (ballots self.new) given) }
         ensures exact { IfOk result (λ given. TimesExactly (ballots self.old) (ballots self.new) given) }

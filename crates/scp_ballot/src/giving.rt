@@ -23,8 +23,8 @@ use scp_types::{Ballot, Fault, NodeId, SharedValue};
 use scp_vote::{Board, Claim};
 use std::collections::BTreeSet;
 
-/// Whether the statement is newer than the one emitted before, if there was one. That one is kept for it, so that no fact
-/// about the rules is needed.
+/// Whether the statement is newer than the one emitted before, if there was one. That one is kept for this test, which
+/// then needs no fact about the rules.
 fn is_newer(before: &Option<SharedStatement>, own: &Statement) -> bool
     ensures { IsTrue result ↔ ForSome before.now (λ s. IsNewer s own.now) }
 {
@@ -59,7 +59,7 @@ fn certificate(
 impl Machine {
     ghost use Rattle.scp_ballot.specs.inside.Gives.{Emits, IsCertifiedAt, Decides, Gives};
 
-    /// The own statement, if it is to be emitted, which is then the last one that was.
+    /// The own statement, if it is to be emitted; it is then the last one emitted.
     fn emit(&mut self) -> Result<Option<SharedEnvelope>, Fault>
         ensures emits { IfOk result (λ found. Emits self.old self.new found) }
         ensures only_memory { IsOkUnless result Fault.NoMemory }
@@ -114,7 +114,7 @@ impl Machine {
         }
     }
 
-    /// The decision, where the phase has become Externalize.
+    /// The decision, if the phase has become Externalize.
     fn decided(&self, before: Phase) -> Result<Option<Certified>, Fault>
         requires ready { IsReady self.now.state }
         requires confirmed { (before ≡ Externalize → ⊥) → IsConfirmedAt (ballots_on self.now.board) self.now.state }
@@ -128,7 +128,7 @@ impl Machine {
         Ok(found)
     }
 
-    /// Settles, and gives what there is to emit and what is decided.
+    /// Settles. Returns what is to be emitted and what is decided.
     pub(crate) fn advance(&mut self, first: Option<State>) -> Result<Balloted, Fault>
         requires rest { IsAtRest self.old }
         requires first { IfSome first (λ next. IsChange (ballots_on self.old.board) self.old.state next) }

@@ -23,7 +23,7 @@ use scp_types::{Ballot, Fault, SharedValue, Value};
 use scp_vote::{StatementKind, kind_of_pledges};
 use std::sync::Arc;
 
-/// The present ballot, or the first one of the value.
+/// The current ballot; if there is none, the first one, of this value.
 fn first_ballot(present: &Option<Ballot>, value: &SharedValue) -> Result<Option<Ballot>, Fault>
     ensures first { IfOk result (λ first. ((first ≡ present.now) × IsSome present.now) ⊎ ((present.now ≡ None) × (first ≡ Some (record { counter = 1; value = value.now })))) }
     ensures only_memory { IsOkUnless result Fault.NoMemory }
@@ -40,7 +40,7 @@ fn first_ballot(present: &Option<Ballot>, value: &SharedValue) -> Result<Option<
     }
 }
 
-/// In the phase Prepare, the state with this composite, and with a first ballot of it where there was none.
+/// In the phase Prepare: the state with this composite, and with a first ballot of it if there was none.
 fn compose(state: &State, value: SharedValue) -> Result<State, Fault>
     ensures composes { IfOk result (λ next. Composes value state.now next) }
     ensures only_memory { IsOkUnless result Fault.NoMemory }
@@ -54,7 +54,7 @@ fn compose(state: &State, value: SharedValue) -> Result<State, Fault>
     })
 }
 
-/// What a composite makes of the state. In the later phases it is of no use any more.
+/// What a composite makes of the state; `None` in the later phases, which have no use for it.
 fn composed(state: &State, value: SharedValue) -> Result<Option<State>, Fault>
     ensures composes { IfOk result (λ found. IfSome found (λ next. (state.now.phase ≡ Prepare) × Composes value state.now next)) }
     ensures none { IfOk result (λ found. IfNone found (state.now.phase ≡ Prepare → ⊥)) }
@@ -69,7 +69,7 @@ fn composed(state: &State, value: SharedValue) -> Result<Option<State>, Fault>
     }
 }
 
-/// What a timer makes of the state: a counter more, unless it is at its greatest or there is no value for a ballot.
+/// What a timer makes of the state: a counter one higher, unless it is the greatest or there is no value for a ballot.
 fn timed(state: &State) -> Result<Option<State>, Fault>
     ensures raises { IfOk result (λ found. IfSome found (λ next. Times state.now next)) }
     ensures none { IfOk result (λ found. IfNone found (CannotRaise state.now)) }
@@ -104,7 +104,7 @@ impl Machine {
     ghost use Rattle.scp_ballot.specs.inside.Inputs.{TakesComposite, TakesTimer, IsHeardBy, HearsOne, TakesStatement};
     ghost use Rattle.scp_ballot.specs.inside.Gives.{Gives};
 
-    /// A composite of the nomination.
+    /// Takes a composite from nomination.
     pub(crate) fn candidate(&mut self, value: Value) -> Result<Balloted, Fault>
         requires rest { IsAtRest self.old }
         ensures takes { IfOk result (λ given. TakesComposite value self.old self.new given) }
@@ -116,7 +116,7 @@ impl Machine {
         Ok(given)
     }
 
-    /// A timer.
+    /// A timer went off.
     pub(crate) fn timer(&mut self) -> Result<Balloted, Fault>
         requires rest { IsAtRest self.old }
         ensures takes { IfOk result (λ given. TakesTimer self.old self.new given) }
@@ -127,8 +127,8 @@ impl Machine {
         Ok(given)
     }
 
-    /// Whether the statement is put on the board: another node's ballot statement of this slot, before anything is
-    /// externalized.
+    /// Whether the statement is put on the board: it is another node's ballot statement of this slot, and nothing
+    /// is externalized yet.
     fn is_heard(&self, envelope: &Envelope) -> bool
         ensures { IsTrue result ↔ IsHeardBy self.now envelope.now }
     {
@@ -138,7 +138,7 @@ impl Machine {
             && self.state.phase != Phase::Externalize
     }
 
-    /// Puts such a statement on the board.
+    /// Puts such a statement on the board, and ignores any other.
     fn hear(&mut self, envelope: SharedEnvelope, delivered: Arc<SaneSet>) -> Result<(), Fault>
         ensures hears { OnOk result (HearsOne self.old self.new envelope delivered.value) }
         ensures only_memory { IsOkUnless result Fault.NoMemory }
@@ -150,7 +150,7 @@ impl Machine {
         Ok(())
     }
 
-    /// Another node's statement, with the quorum set that was delivered with it.
+    /// Takes another node's statement, with the quorum set that was delivered with it.
     pub(crate) fn take(
         &mut self,
         envelope: SharedEnvelope,

@@ -33,7 +33,7 @@ pub(crate) struct Machine {
 impl Machine {
     ghost use Rattle.scp_ballot.specs.inside.Machine.{own_at, IsAtRest, IsSettled, Renews, IsOwnStatement, MachineBegins};
 
-    /// An empty board of this node and its set, and nothing said.
+    /// An empty board for this node and its set, and nothing said.
     pub(crate) fn new(alloc: Global, me: NodeId, slot: Slot, local: Arc<SaneSet>) -> Machine
         ensures begins { MachineBegins me local.value result }
         ensures slot { result.slot ≡ slot }
@@ -62,7 +62,7 @@ impl Machine {
         })
     }
 
-    /// Puts the own statement of a state on the board, and takes the state.
+    /// Puts the own statement of a state on the board, and keeps the state.
     fn renew(&mut self, state: State) -> Result<(), Fault>
         ensures renews { OnOk result (Renews self.old self.new state) }
         ensures only_memory { IsOkUnless result Fault.NoMemory }
@@ -75,8 +75,8 @@ impl Machine {
         Ok(())
     }
 
-    /// Takes what an input made of the state, if it changed it, and applies the rules until none changes anything, at most
-    /// 64 times (this project's profile). Whether it ended by this limit.
+    /// Keeps what an input made of the state, if it changed it, and applies the rules until none changes the state, at
+    /// most 64 times (this project's profile). Returns whether it ended by this limit.
     pub(crate) fn settle(&mut self, first: Option<State>) -> Result<bool, Fault>
         requires rest { IsAtRest self.old }
         requires first { IfSome first (λ next. IsChange (ballots_on self.old.board) self.old.state next) }

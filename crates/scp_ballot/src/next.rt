@@ -26,7 +26,7 @@ use scp_types::Fault;
 use scp_vote::Board;
 use std::alloc::Global;
 
-/// The first two rules, in the phase Prepare.
+/// Rules 1 and 2, in the phase Prepare.
 fn prepare_next(alloc: Global, board: &Board, state: &State) -> Result<Option<State>, Fault>
     ensures step { IfOk result (λ next. IfSome next (λ next. AcceptsPrepared (ballots_on board.now) state.now next ⊎ ConfirmsPrepared (ballots_on board.now) state.now next)) }
     ensures rests { IfOk result (λ next. IfNone next (AcceptsNoMore (ballots_on board.now) state.now × ConfirmsNoMore (ballots_on board.now) state.now)) }
@@ -44,7 +44,7 @@ fn prepare_next(alloc: Global, board: &Board, state: &State) -> Result<Option<St
     }
 }
 
-/// The third rule and the fifth, in the phase Prepare.
+/// Rules 3 and 5, in the phase Prepare.
 fn commit_next(alloc: Global, board: &Board, state: &State) -> Result<Option<State>, Fault>
     ensures step { IfOk result (λ next. IfSome next (λ next. AcceptsCommit (ballots_on board.now) state.now next ⊎ CatchesUp (ballots_on board.now) state.now next)) }
     ensures rests { IfOk result (λ next. IfNone next (CommitsNone (ballots_on board.now) × RaisesNone (ballots_on board.now) state.now)) }
@@ -79,7 +79,7 @@ fn next_preparing(alloc: Global, board: &Board, state: &State) -> Result<Option<
     }
 }
 
-/// The first rule, in the phase Confirm.
+/// Rule 1, in the phase Confirm.
 fn accept_next(alloc: Global, board: &Board, state: &State) -> Result<Option<State>, Fault>
     ensures step { IfOk result (λ next. IfSome next (λ next. AcceptsMore (ballots_on board.now) state.now next)) }
     ensures exact { IfOk result (λ next. Answers (AcceptPrepared Confirm (ballots_on board.now)) state.now next) }
@@ -91,7 +91,7 @@ fn accept_next(alloc: Global, board: &Board, state: &State) -> Result<Option<Sta
     Ok(next)
 }
 
-/// The third and the fourth rule, in the phase Confirm.
+/// Rules 3 and 4, in the phase Confirm.
 fn range_next(alloc: Global, board: &Board, state: &State) -> Result<Option<State>, Fault>
     requires ready { IsConfirming state.now }
     ensures step { IfOk result (λ next. IfSome next (λ next. (AcceptsCommit (ballots_on board.now) state.now next × Grows state.now next) ⊎ ConfirmsCommit (ballots_on board.now) state.now next)) }
@@ -110,7 +110,7 @@ fn range_next(alloc: Global, board: &Board, state: &State) -> Result<Option<Stat
     }
 }
 
-/// The third, fourth and fifth rule, in the phase Confirm.
+/// Rules 3, 4 and 5, in the phase Confirm.
 fn later_next(alloc: Global, board: &Board, state: &State) -> Result<Option<State>, Fault>
     requires ready { IsConfirming state.now }
     ensures step { IfOk result (λ next. IfSome next (λ next. (AcceptsCommit (ballots_on board.now) state.now next × Grows state.now next) ⊎ ConfirmsCommit (ballots_on board.now) state.now next ⊎ RaisesMore state.now next)) }
@@ -145,7 +145,7 @@ fn next_confirming(alloc: Global, board: &Board, state: &State) -> Result<Option
     }
 }
 
-/// The state that the first rule which changes it makes of it; `None` where no rule does.
+/// The state that the first rule which changes the state makes of it; `None` if no rule changes it.
 pub(crate) fn next(alloc: Global, board: &Board, state: &State) -> Result<Option<State>, Fault>
     requires ready { IsReady state.now }
     ensures step { IfOk result (λ next. IfSome next (λ next. IsStep (ballots_on board.now) state.now next)) }

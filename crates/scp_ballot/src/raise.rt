@@ -1,4 +1,4 @@
-//! The fifth rule: a higher counter, where the others are ahead.
+//! Rule 5: a higher counter if the other nodes are ahead.
 ghost use Rattle.std.specs.Prelude.{◌≡◌, ◌≢◌, ◌<◌, ◌≤◌, ◌⊎◌, ℕ, IsSomeAnd, ◌↔◌, None, Some, IsSome, IsTrue, IfOk, IfSome, IfNone, IsOkUnless};
 ghost use Rattle.std.specs.Option.{ForSome};
 ghost use Rattle.scp_types.specs.declared.names.NodeId.{NodeId};
@@ -31,7 +31,7 @@ fn is_ahead(me: NodeId, node: &NodeId, entry: &Entry, n: u32) -> bool
     *node != me && n < counter_of_pledges(&entry.envelope.get().statement.pledges)
 }
 
-/// The other nodes whose counter is above n.
+/// The other nodes whose counters are above n.
 fn nodes_ahead(alloc: Global, board: &Board, n: u32) -> Result<BTreeSet<NodeId>, AllocError>
     ensures { IfOk result (λ nodes. PicksAhead (ballots_on board.now) n (is_in nodes)) }
 {
@@ -45,7 +45,7 @@ fn nodes_ahead(alloc: Global, board: &Board, n: u32) -> Result<BTreeSet<NodeId>,
     Ok(nodes)
 }
 
-/// Whether the other nodes whose counter is above n block the local set.
+/// Whether the other nodes whose counters are above n block the local set.
 fn are_ahead(alloc: Global, board: &Board, n: u32) -> Result<bool, Fault>
     ensures exact { IfOk result (λ yes. IsTrue yes ↔ AreAheadOf (ballots_on board.now) n) }
     ensures someone { IfOk result (λ yes. IsTrue yes → ((v : NodeId) → IsAhead (ballots_on board.now) n v → ⊥) → ⊥) }
@@ -58,7 +58,7 @@ fn are_ahead(alloc: Global, board: &Board, n: u32) -> Result<bool, Fault>
     Ok(yes)
 }
 
-/// The greater of a counter above n and the greatest so far.
+/// The greater of the greatest counter so far and a counter above n.
 fn greater(top: Option<u32>, counter: u32, n: u32) -> Option<u32>
     requires above { n < counter }
     requires top { ForSome top (λ t. n < t) }
@@ -89,7 +89,7 @@ fn highest_above(board: &Board, n: u32) -> Option<u32>
     top
 }
 
-/// The counter where it is above n, below the least so far, and the nodes above it don't block the local set; else the least.
+/// The counter, if it is above n and below the least so far and the nodes above it don't block the local set; else the least.
 fn lesser(alloc: Global, board: &Board, n: u32, counter: u32, least: u32) -> Result<u32, Fault>
     requires above { n < least }
     ensures above { IfOk result (λ new. n < new) }
@@ -106,8 +106,7 @@ fn lesser(alloc: Global, board: &Board, n: u32, counter: u32, least: u32) -> Res
     }
 }
 
-/// The least counter above n, and at most the greatest one, for which the nodes with a counter above it don't block the local
-/// set.
+/// The least counter above n, and at most `top`, for which the nodes with a counter above it don't block the local set.
 fn least_counter(alloc: Global, board: &Board, n: u32, top: u32) -> Result<u32, Fault>
     requires above { n < top }
     requires free { ¬ (AreAheadOf (ballots_on board.now) top) }
@@ -125,7 +124,7 @@ fn least_counter(alloc: Global, board: &Board, n: u32, top: u32) -> Result<u32, 
     Ok(least)
 }
 
-/// The counter to raise to, where the other nodes whose counter is above n block the local set: the least one for which those
+/// The counter to raise to, if the other nodes whose counters are above n block the local set: the least one for which those
 /// above it don't.
 fn raised_counter(alloc: Global, board: &Board, n: u32) -> Result<Option<u32>, Fault>
     ensures above { IfOk result (λ found. IfSome found (λ new. n < new)) }
@@ -163,7 +162,7 @@ fn share_raised_value(state: &State) -> Result<Option<SharedValue>, Fault>
     }
 }
 
-/// A copy of the low end where it is compatible with a present ballot of this value.
+/// A copy of the low end if it has this value.
 fn copy_compatible(low: &Option<Ballot>, value: &SharedValue) -> Result<Option<Ballot>, Fault>
     ensures kept { IfOk result (λ kept. (kept ≡ None) ⊎ ((kept ≡ low.now) × ForSome low.now (λ c. c.value ≡ value.now))) }
     ensures exact { IfOk result (λ kept. Where (IsSomeAnd low.now (λ c. c.value ≢ value.now)) None low.now kept) }
@@ -175,7 +174,7 @@ fn copy_compatible(low: &Option<Ballot>, value: &SharedValue) -> Result<Option<B
     }
 }
 
-/// A copy of the confirmed ballot, or else of the high end.
+/// A copy of the confirmed ballot; if there is none, of the high end.
 fn copy_high(state: &State) -> Result<Option<Ballot>, Fault>
     ensures exact { IfOk result (λ high. Where (IsSome state.now.confirmed) state.now.confirmed state.now.high high) }
     ensures high { IfOk result (λ high. (IfSome state.now.confirmed (λ w. high ≡ state.now.confirmed)) × (state.now.confirmed ≡ None → high ≡ state.now.high)) }
@@ -187,7 +186,7 @@ fn copy_high(state: &State) -> Result<Option<Ballot>, Fault>
     }
 }
 
-/// In the phase Prepare, the state with a present ballot of this counter; `None` where there is no value for it.
+/// In the phase Prepare: the state with a current ballot of this counter; `None` if there is no value for it.
 #[tactic(auto, using(scp_ballot_rules::proofs::Raised::raised, scp_ballot_rules::proofs::Raised::no_value))]
 pub(crate) fn raise_preparing(state: &State, counter: u32) -> Result<Option<State>, Fault>
     requires higher { counter_of state.now.present < counter }
@@ -212,7 +211,7 @@ pub(crate) fn raise_preparing(state: &State, counter: u32) -> Result<Option<Stat
     }
 }
 
-/// The state with a present ballot of this counter and value.
+/// The state with a current ballot of this counter and value.
 fn with_present(state: &State, counter: u32, value: SharedValue) -> Result<State, Fault>
     ensures made { IfOk result (λ next. next ≡ record state.now { present = Some (record { counter = counter; value = value }) }) }
     ensures only_memory { IsOkUnless result Fault.NoMemory }
@@ -224,7 +223,7 @@ fn with_present(state: &State, counter: u32, value: SharedValue) -> Result<State
     })
 }
 
-/// In the phase Confirm, the state with a present ballot of this counter.
+/// In the phase Confirm: the state with a current ballot of this counter; `None` if there is no low end.
 pub(crate) fn raise_confirming(state: &State, counter: u32) -> Result<Option<State>, Fault>
     requires higher { counter_of state.now.present < counter }
     ensures raised { IfOk result (λ next. IfSome next (λ next. RaisesMore state.now next × (counter_of next.present ≡ counter))) }
@@ -249,7 +248,7 @@ fn has_value(state: &State) -> bool
     state.confirmed.is_some() || state.composite.is_some() || state.prepared.is_some()
 }
 
-/// In the phase Prepare: the state raised above where the others are ahead, if they are and there is a value.
+/// In the phase Prepare: the state raised to where the others aren't ahead, if they are ahead now and there is a value.
 pub(crate) fn catch_up(alloc: Global, board: &Board, state: &State) -> Result<Option<State>, Fault>
     ensures step { IfOk result (λ next. IfSome next (λ next. CatchesUp (ballots_on board.now) state.now next)) }
     ensures rests { IfOk result (λ next. IfNone next (RaisesNone (ballots_on board.now) state.now)) }
@@ -268,7 +267,7 @@ pub(crate) fn catch_up(alloc: Global, board: &Board, state: &State) -> Result<Op
     }
 }
 
-/// In the phase Confirm: the state raised above where the others are ahead, if they are.
+/// In the phase Confirm: the state raised to where the others aren't ahead, if they are ahead now.
 pub(crate) fn catch_up_more(
     alloc: Global,
     board: &Board,

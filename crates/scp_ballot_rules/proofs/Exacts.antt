@@ -1,4 +1,4 @@
--- What the protocol says is a function: from one state, over one board, each rule comes to one state, and so do the rules.
+-- The protocol is a function: from one state, over one board, each rule comes to exactly one state, and so do the rules in turn.
 use Rattle.std.proofs.Common.{◌≡◌, ◌≢◌, ◌≤◌, ◌<◌, ℕ, zero, suc, List, Bool, Option, Some, None, IsSome, IsSomeAnd, refl, sym, ◌∙◌, ap, subst, ◌⊎◌, inl, inr, arith}
 use Rattle.std.specs.Option.{ForSome}
 use Rattle.std.specs.Ordering.{ordering_reverse}
@@ -30,7 +30,7 @@ use Rattle.scp_ballot_rules.specs.Steps.{OrElse, Step, renewed, Settles}
 use Rattle.scp_ballot_rules.proofs.Options.{some_of, some_same, some_or_none, none_some}
 use Rattle.scp_ballot_rules.proofs.Order.{less_turn}
 
--- two ballots each at most the other are one
+-- two ballots that are each at most the other are one ballot
 both_ways : (x y : Ballot) → AtMost x y → AtMost y x → x ≡ y
 both_ways x y (inl e) k = e
 both_ways x y (inr l) (inl e) = sym e

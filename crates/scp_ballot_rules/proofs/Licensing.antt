@@ -1,4 +1,4 @@
--- What the protocol says, where it changes the state, is a step that is licensed.
+-- Each change of state that the protocol makes is a step that is licensed.
 use Rattle.std.proofs.Common.{◌≡◌, ◌≢◌, ◌≤◌, ◌<◌, ℕ, List, true, false, Option, Some, None, IsSome, IsSomeAnd, IfSome, refl, sym, ◌∙◌, ap, subst, ◌⊎◌, inl, inr, arith}
 use Rattle.std.specs.Option.{ForSome, option_map}
 use Rattle.scp_types.specs.declared.ballot.Ballot.{Ballot}

@@ -21,7 +21,7 @@ use Rattle.scp_ballot_rules.specs.inside.Rises.{place, HasComposite, Moves}
 use Rattle.scp_ballot_rules.proofs.Options.{some_of, some_and, at_some, some_same, none_some, some_or_none}
 use Rattle.scp_ballot_rules.proofs.Rising.{step_rises}
 
--- who is ahead is told by the others' statements and the local set
+-- which nodes are ahead depends only on the others' statements and the local set
 pub ahead_same : (b c : Seen) (n : ℕ) → c.me ≡ b.me → c.local ≡ b.local → ((v : NodeId) → v ≢ b.me → c.statement v ≡ b.statement v) → AreAheadOf c n → AreAheadOf b n
 ahead_same b c n me local same ahead = record {
   nodes = ahead.nodes;
@@ -67,7 +67,7 @@ raised_moves old next ready step = elim (some_or_none old.confirmed) [
 phases_apart : (p : Phase) → p ≡ Prepare → p ≡ Confirm → ⊥
 phases_apart p e f = let k : Prepare ≡ Confirm = sym e ∙ f in cc
 
--- what was so stays so where present ballot, high end and composite are the same
+-- what held still holds if present, high and composite are the same
 carried : (b : Seen) (s t u : State) → Moves b s t → t.phase ≡ Prepare → u.present ≡ t.present → u.high ≡ t.high → u.composite ≡ t.composite
     → ((u.present ≡ s.present) × (u.high ≡ s.high)) ⊎ (counter_of u.high ≢ 0) ⊎ (AreAheadOf b (counter_of s.present) × HasComposite u)
 carried b s t u moves phase present high composite = elim (moves phase) [

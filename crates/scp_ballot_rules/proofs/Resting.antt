@@ -1,4 +1,4 @@
--- Where no rule changes the state, as the protocol says it, nothing is owed.
+-- If no rule of the protocol changes the state, nothing is owed.
 use Rattle.std.proofs.Common.{◌≡◌, ◌≢◌, ◌≤◌, ◌<◌, ℕ, None, IsSomeAnd, refl, sym, ◌∙◌, ap, subst, inl, inr, arith}
 use Rattle.std.specs.Option.{option_map}
 use Rattle.scp_types.specs.declared.ballot.Ballot.{Ballot}

@@ -1,4 +1,4 @@
--- The rules say only values that stand on the board or in the state.
+-- The rules say only values that are on the board or in the state.
 use Rattle.std.proofs.Common.{◌≡◌, ◌≢◌, ℕ, zero, suc, Bool, true, false, List, [], Option, Some, None, cond, refl, sym, ap, subst, inl, inr}
 use Rattle.std.specs.Prelude.{IsSomeAnd}
 use Rattle.std.specs.Option.{ForSome, option_map}
@@ -83,7 +83,7 @@ module _ (P : List ℕ → Type 0) where
   same_has : (s t : State) → t ≡ s → StateSaysOnly P s → StateSaysOnly P t
   same_has s t e h = subst (λ (x : State). StateSaysOnly P x) (sym e) h
 
-  -- 1
+  -- rule 1
   accepts_prepare : (b : Seen) (s t : State) → BoardSaysOnly P b → StateSaysOnly P s → AcceptsInPrepare b s t → StateSaysOnly P t
   accepts_prepare b s t board h a =
       let held : (x : Ballot) → IsHeld s x → P x.value = λ x is. elim is [ inl e ↦ h.prepared x e | inr e ↦ h.prime x e ] in
@@ -113,7 +113,7 @@ module _ (P : List ℕ → Type 0) where
   accept_prepared Confirm b s t board h a = accepts_confirm b s t board h a
   accept_prepared Externalize b s t board h e = same_has s t e h
 
-  -- 2
+  -- rule 2
   record Joined (t : State) : Type 0 where
     pub confirmed : Has t.confirmed
     pub present : Has t.present
@@ -154,7 +154,7 @@ module _ (P : List ℕ → Type 0) where
   confirm_prepared Confirm b s t board h e = same_has s t e h
   confirm_prepared Externalize b s t board h e = same_has s t e h
 
-  -- 3
+  -- rule 3
   takes_range : (v : List ℕ) (lo hi : ℕ) (s t : State) → P v → StateSaysOnly P s → Has t.prepared → TakesRange v lo hi s t → StateSaysOnly P t
   takes_range v lo hi s t pv h prepared a = record {
     present = where_has _ _ s.present t.present a.present (ballot_has (ballot_at hi v) pv) h.present;
@@ -177,7 +177,7 @@ module _ (P : List ℕ → Type 0) where
   accept_commit Confirm b s t board h (inr none) = same_has s t none.1 h
   accept_commit Externalize b s t board h e = same_has s t e h
 
-  -- 4
+  -- rule 4
   commits : (b : Seen) (v : List ℕ) (lo hi : ℕ) (s t : State) → BoardSaysOnly P b → StateSaysOnly P s → Commits b v lo hi s t → StateSaysOnly P t
   commits b v lo hi s t board h a =
       let pv : P v = boundary_has b v hi board a.range.high.0 in
@@ -189,7 +189,7 @@ module _ (P : List ℕ → Type 0) where
   confirm_commit Confirm b s t board h (inr none) = same_has s t none.1 h
   confirm_commit Externalize b s t board h e = same_has s t e h
 
-  -- 5
+  -- rule 5
   raised_has : (w : Option Ballot) (z : Option (List ℕ)) (p : Option Ballot) → Has w → ForSome z P → Has p → ForSome (raised_value w z p) P
   raised_has (Some w) z p hw hz hp = one_has P w.value (hw w refl)
   raised_has None (Some z) p hw hz hp = hz

@@ -1,19 +1,19 @@
--- The greatest of some ballots, and what a part of a state becomes.
+-- The greatest of some ballots, and what becomes of a part of a state.
 use Rattle.std.specs.Prelude.{◌≡◌, ◌⊎◌, ℕ, List, Option, IsSomeAnd}
 use Rattle.std.specs.Option.{ForSome}
 use Rattle.scp_types.specs.declared.ballot.Ballot.{Ballot}
 use Rattle.scp_ballot_rules.specs.Order.{AtMost}
 
--- the greatest ballot for which P holds, if there is one: it is among them, and none is greater
+-- the greatest ballot for which P holds, or none if P holds for none
 pub record IsGreatestOf (P : Ballot → Type 0) (o : Option Ballot) : Type 0 where
   pub among : ForSome o P
   pub greatest : (x : Ballot) → P x → IsSomeAnd o (λ y. AtMost x y)
 
--- what it becomes where P holds, and else what it was
+-- what it becomes if P holds, and else what it was
 abbrev pub Where : {A : Type 0} → Type 0 → A → A → A → Type 0
 Where P becomes was new = (P × (new ≡ becomes)) ⊎ ((P → ⊥) × (new ≡ was))
 
--- the ballot is there and compatible with the value; an absent one is compatible with none
+-- there is a ballot, and it has the value
 abbrev pub IsOf : List ℕ → Option Ballot → Type 0
 IsOf v o = IsSomeAnd o (λ x. x.value ≡ v)
 

@@ -1,4 +1,4 @@
--- What a node owes: what it may vote for, accept or confirm, it has (this project's profile).
+-- What a node owes: whatever it may vote for, accept or confirm, it has done so (this project's profile).
 use Rattle.std.specs.Prelude.{◌≡◌, ◌≢◌, ◌<◌, ◌⊎◌, Bool, true, ℕ, List, [], Option, Some, None, IsSome, IsSomeAnd}
 use Rattle.scp_types.specs.declared.ballot.Ballot.{Ballot}
 use Rattle.scp_types.specs.declared.names.NodeId.{NodeId}
@@ -19,52 +19,52 @@ Names (Confirming p) x = (p.ballot ≡ x) ⊎ (record { counter = p.n_prepared; 
 Names (Externalizing p) x = (p.commit ≡ x) ⊎ (record { counter = p.n_high; value = p.commit.value } ≡ x)
 Names (Nominating p) x = ⊥
 
--- A candidate ballot is named by a statement on the board, and has another counter than 0.
+-- A candidate ballot is one that a statement on the board names, with a counter other than 0.
 pub record IsCandidate (b : Seen) (x : Ballot) : Type 0 where
   pub node : NodeId
   pub named : IsSomeAnd (b.statement node) (λ p. Names p x)
   pub counted : x.counter ≢ 0
 
--- the ends of a range of commit of the value that a statement votes for or accepts
+-- n is an end of a range of commits of the value that the statement votes for or accepts
 abbrev pub Bounds : Pledges → List ℕ → ℕ → Type 0
 Bounds (Preparing p) v n = (p.n_commit ≢ 0) × (p.ballot.value ≡ v) × ((p.n_commit ≡ n) ⊎ (p.n_high ≡ n))
 Bounds (Confirming p) v n = (p.ballot.value ≡ v) × ((p.n_commit ≡ n) ⊎ (p.n_high ≡ n))
 Bounds (Externalizing p) v n = (p.commit.value ≡ v) × ((p.commit.counter ≡ n) ⊎ (p.n_high ≡ n))
 Bounds (Nominating p) v n = ⊥
 
--- a statement on the board has this end of a range of commit of the value
+-- a statement on the board has n as an end of a range of commits of the value
 pub record IsBoundary (b : Seen) (v : List ℕ) (n : ℕ) : Type 0 where
   pub node : NodeId
   pub bounds : IsSomeAnd (b.statement node) (λ p. Bounds p v n)
   pub counted : n ≢ 0
 
--- a statement's counter is that of its ballot, of an EXTERNALIZE its nH
+-- a statement's counter: that of its ballot, and of an EXTERNALIZE its nH
 abbrev pub counter_in : Pledges → ℕ
 counter_in (Preparing p) = p.ballot.counter
 counter_in (Confirming p) = p.ballot.counter
 counter_in (Externalizing p) = p.n_high
 counter_in (Nominating p) = 0
 
--- The other nodes whose counter is above n block the local set.
+-- Some other nodes whose counters are above n block the local set.
 pub record AreAheadOf (b : Seen) (n : ℕ) : Type 0 where
   pub nodes : NodeId → Bool
   pub others : (v : NodeId) → nodes v ≡ true → (v ≢ b.me) × IsSomeAnd (b.statement v) (λ p. n < counter_in p)
   pub block : Blocks nodes b.local
 
--- Nothing is owed by a PREPARE.
+-- The own PREPARE owes nothing on this board.
 pub record IsPrepareSettled (b : Seen) (q : Prepare) : Type 0 where
   pub prepared : (x : Ballot) → IsCandidate b x → Accepted b (Prepared x) → ¬ (IsAbove x q.prepared)
   pub commit : (v : List ℕ) (n : ℕ) → IsBoundary b v n → ¬ (Accepted b (Committed n n v))
   pub confirmed : q.ballot.counter ≢ 0 → Confirmed b (Prepared q.ballot) → (q.n_high ≡ q.ballot.counter) × ((q.n_commit ≢ 0) ⊎ IsOver q.prepared q.ballot ⊎ IsOver q.prepared_prime q.ballot)
   pub counter : IsSome q.prepared → ¬ (AreAheadOf b q.ballot.counter)
 
--- Nothing is owed by a CONFIRM.
+-- The own CONFIRM owes nothing on this board.
 pub record IsConfirmSettled (b : Seen) (q : Confirm) : Type 0 where
   pub confirmed : (n : ℕ) → IsBoundary b q.ballot.value n → ¬ (Confirmed b (Committed n n q.ballot.value))
   pub accepted : (n : ℕ) → IsBoundary b q.ballot.value n → q.n_high < n → ¬ (Accepted b (Committed n n q.ballot.value))
   pub counter : ¬ (AreAheadOf b q.ballot.counter)
 
--- the own statement owes nothing more, by its kind
+-- the own statement owes nothing on this board, by its kind
 abbrev pub IsSettled : Seen → Pledges → Type 0
 IsSettled b (Preparing q) = IsPrepareSettled b q
 IsSettled b (Confirming q) = IsConfirmSettled b q
@@ -75,7 +75,7 @@ IsSettled b (Nominating q) = Unit {0}
 abbrev pub nothing_said : Hash → Pledges
 nothing_said hash = Preparing (record { set_hash = hash; ballot = record { counter = 0; value = [] }; prepared = None; prepared_prime = None; n_commit = 0; n_high = 0 })
 
--- the own statement; where there is none, one that says nothing
+-- the own statement; if there is none, one that says nothing
 abbrev pub own_or_nothing : Hash → Option Pledges → Pledges
 own_or_nothing hash None = nothing_said hash
 own_or_nothing hash (Some p) = p

@@ -19,8 +19,8 @@ IsLowUnder c h = (c.counter ≢ 0) × (c.value ≡ h.value) × (c.counter ≤ h.
 abbrev pub NoneOver : State → Ballot → Type 0
 NoneOver s h = (IsOver s.prepared h → ⊥) × (IsOver s.prime h → ⊥)
 
--- What holds of a state of the phase Prepare each time that its own statement is renewed, of how its ballots lie to one another: prime below
--- prepared, confirmed at most prepared and at most the own one, high at most confirmed, low at most high.
+-- What holds of a state in the phase Prepare each time its own statement is renewed, above all how its ballots lie: prime is below prepared,
+-- confirmed at most prepared and at most present, high at most confirmed, and low at most high.
 pub record IsPreparing (s : State) : Type 0 where
   pub prime : ForSome s.prime (λ x. IsSomeAnd s.prepared (λ p. FitsUnder x p))
   pub present : ForSome s.present (λ b. (b.counter ≢ 0) × HasValue s)
@@ -31,17 +31,17 @@ pub record IsPreparing (s : State) : Type 0 where
   pub low : ForSome s.low (λ c. IsSomeAnd s.high (λ h. IsLowUnder c h × NoneOver s h))
   pub vote : ForSome s.high (λ h. s.present ≡ Some h → s.low ≡ None → IsOver s.prepared h ⊎ IsOver s.prime h)
 
--- a state of the phase Confirm: a range of commit under the own ballot, of one value, and a `prepared` of that value or none
+-- a state in the phase Confirm: a range of commit of one value, at most the own ballot, and a prepared of that value or none
 pub record IsConfirming (s : State) : Type 0 where
   pub range : IsSomeAnd s.low (λ c. IsSomeAnd s.high (λ h. IsLowUnder c h × IsSomeAnd s.present (λ b. (h.value ≡ b.value) × (h.counter ≤ b.counter))))
   pub prepared : ForSome s.prepared (λ p. IsSomeAnd s.low (λ c. p.value ≡ c.value))
   pub prime : s.prime ≡ None
 
--- a state of the phase Externalize: a range of commit, of one value
+-- a state in the phase Externalize: a range of commit of one value
 pub record IsExternalized (s : State) : Type 0 where
   pub range : IsSomeAnd s.low (λ c. IsSomeAnd s.high (λ h. IsLowUnder c h))
 
--- what holds of a state of this phase each time that its own statement is renewed
+-- what holds of a state in this phase each time its own statement is renewed
 abbrev pub IsReadyIn : Phase → State → Type 0
 IsReadyIn Prepare s = IsPreparing s
 IsReadyIn Confirm s = IsConfirming s

@@ -1,4 +1,4 @@
--- What it says that no rule of the ballot machine changes its state.
+-- What it means that no rule of the ballot machine changes its state.
 use Rattle.std.specs.Prelude.{◌<◌, ℕ, List, IsSomeAnd}
 use Rattle.std.specs.Option.{ForSome}
 use Rattle.scp_types.specs.declared.ballot.Ballot.{Ballot}
@@ -9,11 +9,11 @@ use Rattle.scp_ballot_rules.specs.Order.{AtMost, IsAbove}
 use Rattle.scp_ballot_rules.specs.Own.{counter_of}
 use Rattle.scp_ballot_rules.specs.Owed.{IsCandidate, IsBoundary}
 
--- Nothing more is accepted prepared, in the phase Prepare.
+-- No further ballot is accepted as prepared, in the phase Prepare.
 abbrev pub AcceptsNoMore : Seen → State → Type 0
 AcceptsNoMore b s = (x : Ballot) → IsCandidate b x → Accepted b (Prepared x) → ¬ (IsAbove x s.prepared)
 
--- Nothing more is confirmed prepared.
+-- No further ballot is confirmed as prepared.
 abbrev pub ConfirmsNoMore : Seen → State → Type 0
 ConfirmsNoMore b s = (x : Ballot) → IsCandidate b x → Confirmed b (Prepared x) → IsSomeAnd s.confirmed (λ w. AtMost x w)
 

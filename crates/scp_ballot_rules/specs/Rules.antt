@@ -1,4 +1,4 @@
--- What each rule of the ballot machine does to its state, over what a node sees.
+-- What each rule of the ballot machine does to its state, given what the node sees.
 use Rattle.std.specs.Prelude.{◌≡◌, ◌≢◌, ◌<◌, ◌≤◌, ◌⊎◌, ℕ, List, Option, Some, None, IsSomeAnd}
 use Rattle.std.specs.Option.{ForSome}
 use Rattle.scp_types.specs.declared.ballot.Ballot.{Ballot}
@@ -11,11 +11,11 @@ use Rattle.scp_ballot_rules.specs.Order.{AtMost, FitsUnder, IsOver, IsAbove}
 use Rattle.scp_ballot_rules.specs.Own.{counter_of}
 use Rattle.scp_ballot_rules.specs.Ready.{NoneOver}
 
--- the ballot was accepted prepared by the old state, or is Accepted so on the board
+-- the ballot is the state's prepared or prime
 abbrev pub IsHeld : State → Ballot → Type 0
 IsHeld s x = (s.prepared ≡ Some x) ⊎ (s.prime ≡ Some x)
 
--- Accept prepared, in the phase Prepare.
+-- Accept a ballot as prepared, in the phase Prepare.
 pub record AcceptsPrepared (b : Seen) (old next : State) : Type 0 where
   pub frame : next ≡ record old { prepared = next.prepared; prime = next.prime; low = next.low }
   pub prepared : (next.prepared ≡ old.prepared) ⊎ IsSomeAnd next.prepared (λ x. Accepted b (Prepared x) × IsAbove x old.prepared)
@@ -23,20 +23,20 @@ pub record AcceptsPrepared (b : Seen) (old next : State) : Type 0 where
   pub kept : (x : Ballot) → IsHeld old x → IsSomeAnd next.prepared (λ p. FitsUnder x p) → IsSomeAnd next.prime (λ y. AtMost x y)
   pub low : ((next.low ≡ None) × IsSomeAnd old.high (λ h. IsOver next.prepared h ⊎ IsOver next.prime h)) ⊎ ((next.low ≡ old.low) × ForSome old.high (λ h. NoneOver next h))
 
--- Accept prepared, in the phase Confirm.
+-- Accept a further ballot as prepared, in the phase Confirm.
 pub record AcceptsMore (b : Seen) (old next : State) : Type 0 where
   pub frame : next ≡ record old { prepared = next.prepared }
   pub prepared : IsSomeAnd next.prepared (λ x. Accepted b (Prepared x) × IsAbove x old.prepared × IsSomeAnd old.low (λ c. x.value ≡ c.value) × (x.counter ≢ 0))
 
--- How a newly confirmed ballot comes into the state.
+-- How a newly confirmed ballot enters the state.
 abbrev pub Joins : Ballot → State → State → Type 0
 Joins x old next =
     (ForSome old.present (λ b. IsLess b x) × (next.present ≡ Some x) × (next.high ≡ Some x))
     ⊎ (IsSomeAnd old.present (λ b. AtMost x b × (x.value ≡ b.value)) × (next.present ≡ old.present) × (next.high ≡ Some x))
     ⊎ (IsSomeAnd old.present (λ b. AtMost x b × (x.value ≢ b.value)) × (next.present ≡ old.present) × (next.high ≡ old.high))
 
--- The low end is kept where it is compatible with the present ballot; else the present ballot is voted for where it is
--- the high end and none is over it; else there is none.
+-- low is kept if it has present's value. Else low becomes present, if present is the high end and neither prepared nor
+-- prime is over it. Else low is absent.
 abbrev pub LowAfter : State → State → Type 0
 LowAfter old next =
     ((next.low ≡ old.low) × IsSomeAnd old.low (λ c. IsSomeAnd next.present (λ b. c.value ≡ b.value)))
@@ -44,14 +44,14 @@ LowAfter old next =
     × IsSomeAnd next.high (λ h. (next.present ≡ Some h) × (next.low ≡ Some h) × NoneOver old h))
     ⊎ ((next.low ≡ None) × ForSome next.high (λ h. next.present ≡ Some h → IsOver old.prepared h ⊎ IsOver old.prime h) × ForSome old.low (λ c. ForSome next.present (λ b. c.value ≢ b.value)))
 
--- Confirm prepared, in the phase Prepare.
+-- Confirm a ballot as prepared, in the phase Prepare.
 pub record ConfirmsPrepared (b : Seen) (old next : State) : Type 0 where
   pub frame : next ≡ record old { present = next.present; confirmed = next.confirmed; high = next.high; low = next.low }
   pub confirmed : ((next.confirmed ≡ old.confirmed) × (next.present ≡ old.present) × (next.high ≡ old.high))
       ⊎ IsSomeAnd next.confirmed (λ x. (x.counter ≢ 0) × Confirmed b (Prepared x) × IsAbove x old.confirmed × Joins x old next)
   pub low : LowAfter old next
 
--- Accept commit, in the phases Prepare and Confirm.
+-- Accept a commit, in the phases Prepare and Confirm.
 pub record AcceptsCommit (b : Seen) (old next : State) : Type 0 where
   pub phase : next.phase ≡ Confirm
   pub range : IsSomeAnd next.low (λ c. IsSomeAnd next.high (λ h. (c.counter ≢ 0) × (c.value ≡ h.value) × (c.counter ≤ h.counter) × Accepted b (Committed c.counter h.counter h.value)
@@ -60,20 +60,20 @@ pub record AcceptsCommit (b : Seen) (old next : State) : Type 0 where
   pub prime : next.prime ≡ None
   pub composite : next.composite ≡ old.composite
 
--- Confirm commit, in the phase Confirm.
+-- Confirm a commit, in the phase Confirm.
 pub record ConfirmsCommit (b : Seen) (old next : State) : Type 0 where
   pub phase : next.phase ≡ Externalize
   pub range : IsSomeAnd next.low (λ c. IsSomeAnd next.high (λ h. (c.counter ≢ 0) × (c.value ≡ h.value) × (c.counter ≤ h.counter) × Confirmed b (Committed c.counter h.counter h.value)))
   pub composite : next.composite ≡ old.composite
 
--- the value for a raised ballot, in the phase Prepare: that of w, else z, else that of p
+-- the value for a raised ballot, in the phase Prepare: that of confirmed, else the composite, else that of prepared
 abbrev pub raised_value : Option Ballot → Option (List ℕ) → Option Ballot → Option (List ℕ)
 raised_value (Some w) z p = Some w.value
 raised_value None (Some z) p = Some z
 raised_value None None (Some p) = Some p.value
 raised_value None None None = None
 
--- What a further accepted commit does besides, in the phase Confirm.
+-- What accepting a further commit does besides, in the phase Confirm.
 pub record Grows (old next : State) : Type 0 where
   pub prepared : next.prepared ≡ old.prepared
   pub high : counter_of old.high < counter_of next.high

@@ -11,15 +11,15 @@ use Rattle.scp_ballot_rules.specs.AcceptCommit.{AcceptCommit}
 use Rattle.scp_ballot_rules.specs.ConfirmCommit.{ConfirmCommit}
 use Rattle.scp_ballot_rules.specs.RaiseCounter.{RaiseCounter}
 
--- the first, where it changes the state, and else the second
+-- the first relation if it changes the state, and else the second
 abbrev pub OrElse : (State → State → Type 0) → (State → State → Type 0) → State → State → Type 0
 OrElse R Q s t = (R s t × (t ≢ s)) ⊎ (R s s × Q s t)
 
--- The first rule that changes the state is applied; none, where none does.
+-- The first rule that changes the state is applied; if none does, the state stays.
 abbrev pub Step : Seen → State → State → Type 0
 Step b s t = OrElse (AcceptPrepared s.phase b) (OrElse (ConfirmPrepared s.phase b) (OrElse (AcceptCommit s.phase b) (OrElse (ConfirmCommit s.phase b) (RaiseCounter b)))) s t
 
--- a rule's answer: the state where it changes it, none where it doesn't
+-- a rule's answer: the new state if it changes the state, and none if it doesn't
 abbrev pub Answers : (State → State → Type 0) → State → Option State → Type 0
 Answers R s None = R s s
 Answers R s (Some t) = R s t × (t ≢ s)
@@ -28,7 +28,7 @@ Answers R s (Some t) = R s t × (t ≢ s)
 abbrev pub renewed : Hash → Seen → State → Seen
 renewed hash b s = with_own b (Some (own_of hash s))
 
--- Rules are applied until none changes anything, or so many times, and there is more then.
+-- Rules are applied until none changes the state, or until this many were applied; then `more` is true.
 abbrev pub Settles : ℕ → Hash → Seen → State → Seen → State → Bool → Type 0
 Settles zero hash b s c t more = (c ≡ b) × (t ≡ s) × (more ≡ true)
 Settles (suc n) hash b s c t more = (Step b s s × (c ≡ b) × (t ≡ s) × (more ≡ false)) ⊎ ((next : State) × Step b s next × (next ≢ s) × Settles n hash (renewed hash b next) next c t more)

@@ -1,4 +1,4 @@
--- Which values the rules say: only those that stand on the board, in the state, or in the composite.
+-- Which values the rules say: only those on the board, in the state, or in the composite.
 use Rattle.std.specs.Prelude.{ℕ, List, [], Bool, IsTrue}
 use Rattle.std.specs.Option.{ForSome}
 use Rattle.scp_types.specs.declared.names.NodeId.{NodeId}
@@ -24,24 +24,24 @@ pub record StateSaysOnly (P : List ℕ → Type 0) (s : State) : Type 0 where
   pub low : ForSome s.low (λ x. P x.value)
   pub composite : ForSome s.composite P
 
--- a test of values, as what holds of those that pass
+-- what holds of the values that pass a test
 abbrev pub Passes : (List ℕ → Bool) → List ℕ → Type 0
 Passes test v = IsTrue (test v)
 
--- where each value on the board and in the state passes, so do those that a rule says
+-- if each value on the board and in the state passes, so does each that a rule leaves in the state
 abbrev pub StepSaysNoMore : Type 0
 StepSaysNoMore = (test : List ℕ → Bool) (b : Seen) (s t : State) → BoardSaysOnly (Passes test) b → StateSaysOnly (Passes test) s → Step b s t → StateSaysOnly (Passes test) t
 
--- where the composite passes too, so does what is made of it
+-- if the composite passes too, so does each value in the state that is made of it
 abbrev pub ComposingSaysNoMore : Type 0
 ComposingSaysNoMore = (test : List ℕ → Bool) (p : Phase) (z : List ℕ) (s t : State) → Passes test z → StateSaysOnly (Passes test) s → Compose p z s t → StateSaysOnly (Passes test) t
 
--- where each value in a state passes a test, so does each that a timer leaves in it
+-- if each value in a state passes a test, so does each that a timer leaves in it
 abbrev pub TimingSaysNoMore : Type 0
 TimingSaysNoMore = (test : List ℕ → Bool) (s t : State) → StateSaysOnly (Passes test) s → Time s t → StateSaysOnly (Passes test) t
 
--- and where no bytes pass, as which an absent ballot is said, so does what the rules come to after an input, on the board and in
--- the state
+-- If an absent ballot's value, which has no bytes, passes, so does each value that the rules come to after an input, on the
+-- board and in the state.
 abbrev pub InputSaysNoMore : Type 0
 InputSaysNoMore =
     (test : List ℕ → Bool) (hash : Hash) (b : Seen) (s mid : State) (c : Seen) (t : State) (more : Bool) → Passes test [] → BoardSaysOnly (Passes test) b → StateSaysOnly (Passes test) mid

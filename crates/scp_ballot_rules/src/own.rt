@@ -8,7 +8,7 @@ use scp_envelope::{Confirm, Externalize, Pledges, Prepare};
 use scp_types::{Ballot, Fault, Hash, SharedValue, Value};
 use std::alloc::Global;
 
-/// The ballot's counter, 0 where there is none.
+/// The ballot's counter; 0 if there is no ballot.
 pub fn counter(ballot: &Option<Ballot>) -> u32
     ensures { result ≡ counter_of ballot.now }
 {
@@ -18,7 +18,7 @@ pub fn counter(ballot: &Option<Ballot>) -> u32
     }
 }
 
-/// The counter of a ballot statement: that of its ballot, of an EXTERNALIZE its high end (this project's profile); of a NOMINATE 0.
+/// The counter of a ballot statement: that of its ballot, and of an EXTERNALIZE its nH (this project's profile). Of a NOMINATE it is 0.
 pub fn counter_of_pledges(pledges: &Pledges) -> u32
     ensures { result ≡ counter_in pledges.now }
 {
@@ -30,7 +30,7 @@ pub fn counter_of_pledges(pledges: &Pledges) -> u32
     }
 }
 
-/// A copy of the ballot, which shares its value, if there is one. The one refusal is `Fault::NoMemory`.
+/// A copy of the ballot, if there is one, which shares its value. The only refusal is `Fault::NoMemory`.
 pub fn copy_some(ballot: &Option<Ballot>) -> Result<Option<Ballot>, Fault>
     ensures same { IfOk result (λ copied. copied ≡ ballot.now) }
     ensures only_memory { IsOkUnless result Fault.NoMemory }
@@ -52,7 +52,7 @@ pub(crate) fn share_value(value: &Option<SharedValue>) -> Result<Option<SharedVa
     }
 }
 
-/// A copy of the ballot, or the one of counter 0 with no bytes.
+/// A copy of the ballot; if there is none, one with counter 0 and no bytes.
 fn copy_or_zero(alloc: Global, ballot: &Option<Ballot>) -> Result<Ballot, Fault>
     ensures same { IfOk result (λ copied. copied ≡ or_zero ballot.now) }
     ensures only_memory { IsOkUnless result Fault.NoMemory }
@@ -104,7 +104,7 @@ fn externalize(alloc: Global, hash: Hash, state: &State) -> Result<Externalize, 
     })
 }
 
-/// What a node with this state says, with the hash of its set (the SCP draft). The one refusal is `Fault::NoMemory`.
+/// What a node with this state says, with the hash of its set (the SCP draft). The only refusal is `Fault::NoMemory`.
 pub fn pledges_of(alloc: Global, hash: Hash, state: &State) -> Result<Pledges, Fault>
     ensures same { IfOk result (λ p. p ≡ own_of hash state.now) }
     ensures only_memory { IsOkUnless result Fault.NoMemory }

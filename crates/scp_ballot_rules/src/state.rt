@@ -4,7 +4,7 @@ ghost use Rattle.std.specs.Prelude.{◌≡◌, IfOk, IsOkUnless, None};
 use crate::own::{copy_some, share_value};
 use scp_types::{Ballot, Fault, SharedValue};
 
-/// How far the ballots of a slot are.
+/// How far the ballots of a slot have come.
 #[derive(Clone, Copy, Debug, PartialEq, Eq)]
 pub enum Phase {
     Prepare,
@@ -16,19 +16,19 @@ pub enum Phase {
 #[derive(Debug, Drop)]
 pub struct State {
     pub phase: Phase,
-    /// The present ballot.
+    /// The current ballot.
     pub present: Option<Ballot>,
-    /// The highest ballot that is accepted prepared.
+    /// The highest ballot that is accepted as prepared.
     pub prepared: Option<Ballot>,
-    /// The highest one below it and incompatible with it.
+    /// The highest ballot below `prepared`, and incompatible with it, that is accepted as prepared.
     pub prime: Option<Ballot>,
-    /// The highest ballot that is confirmed prepared.
+    /// The highest ballot that is confirmed as prepared.
     pub confirmed: Option<Ballot>,
     /// The high end of the range of commit.
     pub high: Option<Ballot>,
     /// The low end of the range of commit.
     pub low: Option<Ballot>,
-    /// The composite of the nomination.
+    /// The composite that nomination gave.
     pub composite: Option<SharedValue>,
 }
 
@@ -52,7 +52,7 @@ impl State {
         }
     }
 
-    /// Another state of the same fields, which shares their values. The one refusal is `Fault::NoMemory`.
+    /// Another state with the same fields, which shares their values. The only refusal is `Fault::NoMemory`.
     pub fn copy(&self) -> Result<State, Fault>
         ensures same { IfOk result (λ copied. copied ≡ self.now) }
         ensures only_memory { IsOkUnless result Fault.NoMemory }

@@ -10,7 +10,7 @@ use Rattle.scp_ballot_rules.proofs.Options.{some_of, some_and, none_some, some_s
 use Rattle.scp_ballot_rules.proofs.Order.{less_trans, less_irrefl}
 use Rattle.scp_ballot_steps.specs.inside.Finding.{IsGreatest, Betters, IsFound, Finds}
 
--- the ballot stands in the list before the index
+-- the ballot is in the list before the index
 abbrev pub IsBefore : List Ballot → ℕ → Ballot → Type 0
 IsBefore list i x = (k : ℕ) × (k < i) × (get_or list k x ≡ x)
 

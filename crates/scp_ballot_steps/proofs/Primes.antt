@@ -99,7 +99,7 @@ no_prime_of b list old prepared none = record {
   greatest = λ x h. let y = some_of (λ p. FitsUnder x p) prepared h.1 in none_some prepared y.0 none y.1;
 }
 
--- nothing stands below an absent ballot
+-- nothing is below an absent ballot
 pub no_prime : (b : Seen) (old : State) (prepared : Option Ballot) → prepared ≡ None → IsPrimeUnder b old prepared None
 no_prime b old prepared none = record {
   below = λ x e. none_some None x refl e;

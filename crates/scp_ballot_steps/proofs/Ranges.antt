@@ -1,4 +1,4 @@
--- What the rules on commits build is one of their steps, and what they find nothing for is at rest.
+-- What the rules on commits build is one of their steps; if they find nothing, the state is at rest.
 use Rattle.std.proofs.Common.{◌≡◌, ◌≢◌, ◌<◌, ◌≤◌, ℕ, List, Option, Some, None, IsSomeAnd, Contains, refl, sym, ◌∙◌, ap, subst, inl, inr, arith}
 use Rattle.scp_types.specs.declared.ballot.Ballot.{Ballot}
 use Rattle.scp_envelope.specs.Ballots.{IsLess}

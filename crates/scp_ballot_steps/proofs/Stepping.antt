@@ -1,4 +1,4 @@
--- What each rule builds is one of its steps, and what it finds nothing for is at rest.
+-- What each rule builds is one of its steps; if it finds nothing, the state is at rest.
 use Rattle.std.proofs.Common.{Bool, true, false, IsTrue, IfSome, ◌≡◌, ◌≢◌, ◌↔◌, List, Option, Some, None, IsSomeAnd, Contains, refl, sym, ◌∙◌, ap, subst, ◌⊎◌, inl, inr}
 use Rattle.std.specs.Option.{ForSome}
 use Rattle.scp_types.specs.declared.ballot.Ballot.{Ballot}

@@ -4,10 +4,10 @@ use Rattle.scp_types.specs.declared.ballot.Ballot.{Ballot}
 use Rattle.scp_vote.specs.Board.{Seen}
 use Rattle.scp_ballot_rules.specs.Owed.{IsCandidate, IsBoundary}
 
--- the candidate ballots
+-- the list has exactly the candidate ballots
 abbrev pub AreCandidates : Seen → List Ballot → Type 0
 AreCandidates b list = (x : Ballot) → Contains list x ↔ IsCandidate b x
 
--- the boundaries, each as a ballot of its counter and value
+-- the list has exactly the boundaries, each as a ballot of its counter and value
 abbrev pub AreBoundaries : Seen → List Ballot → Type 0
 AreBoundaries b list = (x : Ballot) → Contains list x ↔ IsBoundary b x.value x.counter

@@ -1,4 +1,4 @@
-//! The third rule: what is accepted as committed.
+//! Rule 3: what is accepted as committed.
 ghost use Rattle.std.specs.Prelude.{◌≡◌, ◌≢◌, ◌<◌, ◌≤◌, ◌⊎◌, ◌↔◌, Contains, Some, None, Option, IsSomeAnd, IsTrue, IfOk, IfSome, IfNone, IsOkUnless};
 ghost use Rattle.std.specs.Option.{ForSome};
 ghost use Rattle.scp_types.specs.declared.ballot.Ballot.{Ballot};
@@ -24,7 +24,7 @@ use scp_ballot_rules::{Phase, State, copy_some, counter};
 use scp_types::{Ballot, Fault, SharedValue};
 use scp_vote::Board;
 
-/// A copy of the ballot where it has the value.
+/// A copy of the ballot if it has the value.
 fn copy_of_value(ballot: &Option<Ballot>, value: &SharedValue) -> Result<Option<Ballot>, Fault>
     ensures copied { IfOk result (λ copied. (IsSomeAnd ballot.now (λ x. x.value ≡ value.now) × (copied ≡ ballot.now)) ⊎ ((copied ≡ None) × ForSome ballot.now (λ x. x.value ≢ value.now))) }
     ensures only_memory { IsOkUnless result Fault.NoMemory }
@@ -38,7 +38,7 @@ fn copy_of_value(ballot: &Option<Ballot>, value: &SharedValue) -> Result<Option<
     }
 }
 
-/// The higher of the accepted ballots that has the value.
+/// The higher of the accepted ballots that have the value.
 fn held_of(state: &State, value: &SharedValue) -> Result<Option<Ballot>, Fault>
     ensures kept { IfOk result (λ held. KeepsHeld state.now value.now held) }
     ensures exact { IfOk result (λ held. IsHeldOf value.now state.now held) }
@@ -52,7 +52,7 @@ fn held_of(state: &State, value: &SharedValue) -> Result<Option<Ballot>, Fault>
     Ok(prime)
 }
 
-/// The present ballot, or the high end where that is absent, less or incompatible with it.
+/// The current ballot; or the high end, if the current one is absent, less or incompatible with it.
 fn at_least(present: &Option<Ballot>, high: &Ballot) -> Result<Ballot, Fault>
     ensures reaches { IfOk result (λ new. Reaches present.now high.now new) }
     ensures only_memory { IsOkUnless result Fault.NoMemory }
@@ -69,7 +69,7 @@ fn at_least(present: &Option<Ballot>, high: &Ballot) -> Result<Ballot, Fault>
     }
 }
 
-/// The state in the phase Confirm with this range, and this as the highest accepted ballot.
+/// The state in the phase Confirm with this range, and this ballot as the highest accepted as prepared.
 fn with_range(state: &State, range: Range, prepared: Option<Ballot>) -> Result<State, Fault>
     ensures made { IfOk result (λ next. IsSomeAnd next.present (λ p. Reaches state.now.present range.high p) × (next ≡ record state.now { phase = Confirm; present = next.present; prepared = prepared; prime = None; high = Some range.high; low = Some range.low })) }
     ensures only_memory { IsOkUnless result Fault.NoMemory }
@@ -88,7 +88,7 @@ fn with_range(state: &State, range: Range, prepared: Option<Ballot>) -> Result<S
     })
 }
 
-/// In the phase Prepare: the state with the first range of commit that is accepted, if there is one.
+/// In the phase Prepare: the state with the first range of commit that is accepted, or `None` if there is none.
 pub fn accept_commit(
     board: &Board,
     state: &State,
@@ -129,8 +129,8 @@ fn higher_range(
     Ok(found)
 }
 
-/// In the phase Confirm: the state with the accepted range of the same value that reaches above the high end, if there is
-/// one.
+/// In the phase Confirm: the state with the accepted range of the same value that reaches above the high end, or `None`
+/// if there is none.
 pub fn accept_higher(
     board: &Board,
     state: &State,

@@ -1,4 +1,4 @@
-//! The first rule: what is accepted as prepared.
+//! Rule 1: what is accepted as prepared.
 ghost use Rattle.std.specs.Prelude.{◌≡◌, ◌≢◌, ◌⊎◌, ◌↔◌, Contains, Some, None, Option, IsSomeAnd, IsTrue, IfOk, IfSome, IfNone, IsOkUnless};
 ghost use Rattle.std.specs.Option.{ForSome};
 ghost use Rattle.scp_types.specs.declared.ballot.Ballot.{Ballot};
@@ -19,7 +19,7 @@ use scp_ballot_rules::{State, copy_some};
 use scp_types::{Ballot, Fault};
 use scp_vote::Board;
 
-/// The better of the best so far and a ballot that counts.
+/// The ballot if it counts and is greater than the best so far, else the best so far.
 fn higher(
     bound: &Bound,
     ballot: &Option<Ballot>,
@@ -37,8 +37,8 @@ fn higher(
     }
 }
 
-/// The greatest ballot less than the highest accepted one and incompatible with it, of those that are accepted now or were
-/// before.
+/// The greatest ballot that is less than the highest accepted one and incompatible with it, among those that are accepted
+/// now or were before.
 fn prime_under(
     board: &Board,
     state: &State,
@@ -61,7 +61,7 @@ fn prime_under(
     }
 }
 
-/// The low end, unless an accepted ballot is over the high end.
+/// The low end; none if an accepted ballot is over the high end.
 fn low_unless_over(
     state: &State,
     prepared: &Option<Ballot>,
@@ -76,7 +76,7 @@ fn low_unless_over(
     }
 }
 
-/// Whether these are what the state holds.
+/// Whether the state holds exactly these.
 fn is_held(
     state: &State,
     prepared: &Option<Ballot>,
@@ -88,7 +88,7 @@ fn is_held(
     is_same(prepared, &state.prepared) && is_same(prime, &state.prime) && is_same(low, &state.low)
 }
 
-/// The state with these in place of what it holds.
+/// The state with these in place of its own.
 fn holding(
     state: &State,
     prepared: Option<Ballot>,
@@ -107,7 +107,7 @@ fn holding(
     })
 }
 
-/// The state in which what is accepted as prepared now is held, if it differs.
+/// In the phase Prepare: the state that holds what is accepted as prepared now, or `None` if that changes nothing.
 pub fn accept_prepared(
     board: &Board,
     state: &State,
@@ -130,7 +130,7 @@ pub fn accept_prepared(
     Ok(Some(next))
 }
 
-/// The state with this as its highest accepted ballot.
+/// The state with this as its highest ballot that is accepted as prepared.
 fn with_prepared(state: &State, prepared: Option<Ballot>) -> Result<State, Fault>
     ensures made { IfOk result (λ next. next ≡ record state.now { prepared = prepared }) }
     ensures only_memory { IsOkUnless result Fault.NoMemory }
@@ -140,7 +140,7 @@ fn with_prepared(state: &State, prepared: Option<Ballot>) -> Result<State, Fault
 }
 
 /// In the phase Confirm, with this low end: the state that holds the greatest ballot of its value that is accepted as
-/// prepared, if that differs.
+/// prepared, or `None` if that changes nothing.
 fn accept_of(
     board: &Board,
     state: &State,
@@ -168,8 +168,8 @@ fn accept_of(
     Ok(Some(next))
 }
 
-/// In the phase Confirm: the state that holds the greatest ballot of the range's value that is accepted as prepared, if that
-/// differs.
+/// In the phase Confirm: the state that holds the greatest ballot of the range's value that is accepted as prepared, or
+/// `None` if that changes nothing.
 pub fn accept_more(
     board: &Board,
     state: &State,

@@ -12,7 +12,7 @@ use scp_types::{Ballot, Fault, SharedValue};
 use scp_vote::{Board, StatementKind};
 use std::alloc::Global;
 
-/// The boundaries, each as a ballot of its counter and value; 0 is left out (this project's profile).
+/// The boundaries on the board, each as a ballot of its counter and value. Counter 0 is left out (this project's profile).
 pub fn boundaries(alloc: Global, board: &Board) -> Result<Vec<Ballot>, Fault>
     ensures all { IfOk result (λ list. AreBoundaries (ballots_on board.now) list.items) }
     ensures only_memory { IsOkUnless result Fault.NoMemory }
@@ -35,7 +35,7 @@ fn add_ends(list: &mut Vec<Ballot>, low: u32, high: u32, value: &SharedValue) ->
     Ok(())
 }
 
-/// Adds the ends of the range that a PREPARE votes for, if it does.
+/// Adds the ends of the range that a PREPARE votes for, if it votes for one.
 fn add_vote(list: &mut Vec<Ballot>, prepare: &Prepare) -> Result<(), Fault>
     ensures added { OnOk result (Adds (λ x. (prepare.now.n_commit ≢ 0) × (prepare.now.ballot.value ≡ x.value) × ((prepare.now.n_commit ≡ x.counter) ⊎ (prepare.now.n_high ≡ x.counter))) list.old.items list.new.items) }
     ensures only_memory { IsOkUnless result Fault.NoMemory }

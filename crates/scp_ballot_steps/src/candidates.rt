@@ -11,8 +11,8 @@ use scp_types::{Ballot, Fault, SharedValue};
 use scp_vote::{Board, StatementKind};
 use std::alloc::Global;
 
-/// The candidate ballots, and no others. Each that is named is looked for in the list. Ballots of counter 0 are left out (this
-/// project's profile). They are gathered anew for each rule that is tried: a board of 1,000 nodes gives 3,000 at most.
+/// The candidate ballots, and no others; counter 0 is left out (this project's profile). They are gathered anew for each rule
+/// that is tried. A board of 1,000 nodes gives at most 3,000, and each is compared with those before it.
 pub fn candidates(alloc: Global, board: &Board) -> Result<Vec<Ballot>, Fault>
     ensures all { IfOk result (λ list. AreCandidates (ballots_on board.now) list.items) }
     ensures only_memory { IsOkUnless result Fault.NoMemory }
@@ -32,7 +32,7 @@ fn is_ballot_of(ballot: &Ballot, counter: u32, value: &SharedValue) -> bool
     ballot.counter == counter && ballot.value == *value
 }
 
-/// Whether the ballot stands in the list.
+/// Whether the ballot of this counter and value is in the list.
 fn holds(list: &[Ballot], counter: u32, value: &SharedValue) -> bool
     ensures { IsTrue result ↔ Contains list.now (record { counter = counter; value = value.now }) }
 {

@@ -1,4 +1,4 @@
-//! The fourth rule: what is confirmed as committed.
+//! Rule 4: what is confirmed as committed.
 ghost use Rattle.std.specs.Prelude.{◌≡◌, ◌≢◌, ◌<◌, ◌≤◌, ◌⊎◌, Contains, Some, None, Option, IsSomeAnd, IsTrue, IfOk, IfSome, IfNone, IsOkUnless};
 ghost use Rattle.scp_types.specs.declared.ballot.Ballot.{Ballot};
 ghost use Rattle.scp_vote.specs.declared.claim.Claim.TheVariants.{Committed};
@@ -55,7 +55,7 @@ fn confirmed_range(
     Ok(found)
 }
 
-/// In the phase Confirm: the state that externalizes the value of the range, if a commit of it is confirmed.
+/// In the phase Confirm: the state that externalizes the range's value, or `None` if no commit of it is confirmed.
 pub fn confirm_commit(
     board: &Board,
     state: &State,

@@ -1,4 +1,4 @@
-//! The second rule: what is confirmed as prepared, and the vote to commit it.
+//! Rule 2: what is confirmed as prepared, and the vote to commit it.
 ghost use Rattle.std.specs.Prelude.{◌≡◌, ◌≢◌, ◌⊎◌, ◌↔◌, Contains, Some, None, Option, IsSomeAnd, IsTrue, IfOk, IfSome, IfNone, IsOkUnless};
 ghost use Rattle.std.specs.Option.{ForSome};
 ghost use Rattle.scp_types.specs.declared.ballot.Ballot.{Ballot};
@@ -42,7 +42,7 @@ fn newly_confirmed(
     Ok(best)
 }
 
-/// The state in which the newly confirmed ballot is the present one and the high end.
+/// The state in which the newly confirmed ballot is the current one and the high end.
 fn raise_to(state: &State, ballot: &Ballot) -> Result<State, Fault>
     ensures made { IfOk result (λ next. next ≡ record state.now { present = Some ballot.now; confirmed = Some ballot.now; high = Some ballot.now }) }
     ensures only_memory { IsOkUnless result Fault.NoMemory }
@@ -59,7 +59,7 @@ fn raise_to(state: &State, ballot: &Ballot) -> Result<State, Fault>
     })
 }
 
-/// The state with the newly confirmed ballot, which is the high end where it is compatible with the present one.
+/// The state with the newly confirmed ballot, which is the high end if it is compatible with the current one.
 fn confirm_below(state: &State, present: &Ballot, ballot: &Ballot) -> Result<State, Fault>
     ensures made { IfOk result (λ next. ((present.now.value ≡ ballot.now.value) × (next ≡ record state.now { confirmed = Some ballot.now; high = Some ballot.now })) ⊎ ((present.now.value ≢ ballot.now.value) × (next ≡ record state.now { confirmed = Some ballot.now }))) }
     ensures only_memory { IsOkUnless result Fault.NoMemory }
@@ -81,8 +81,8 @@ fn confirm_below(state: &State, present: &Ballot, ballot: &Ballot) -> Result<Sta
     })
 }
 
-/// The state with the newly confirmed ballot: it becomes the present one where that is less, and else the high end where it
-/// is compatible with it.
+/// The state with the newly confirmed ballot. It becomes the current one if that is less, and else the high end if it is
+/// compatible with the current one.
 fn join_present(state: &State, present: &Ballot, ballot: &Ballot) -> Result<State, Fault>
     requires present { state.now.present ≡ Some present.now }
     ensures joins { IfOk result (λ next. JoinsState ballot.now state.now next) }
@@ -96,8 +96,8 @@ fn join_present(state: &State, present: &Ballot, ballot: &Ballot) -> Result<Stat
     Ok(next)
 }
 
-/// The state with the newly confirmed ballot: it becomes the present one where that is absent or less, and else the high end
-/// where it is compatible with the present one.
+/// The state with the newly confirmed ballot. It becomes the current one if that is absent or less, and else the high end if
+/// it is compatible with the current one.
 fn join(state: &State, ballot: &Ballot) -> Result<State, Fault>
     ensures joins { IfOk result (λ next. JoinsState ballot.now state.now next) }
     ensures only_memory { IsOkUnless result Fault.NoMemory }
@@ -111,7 +111,7 @@ fn join(state: &State, ballot: &Ballot) -> Result<State, Fault>
     }
 }
 
-/// Whether the present ballot is there and has the value of the low end.
+/// Whether there is a current ballot that has the low end's value.
 fn keeps_low(state: &State) -> bool
     ensures { IsTrue result ↔ KeepsLow state.now }
 {
@@ -124,7 +124,7 @@ fn keeps_low(state: &State) -> bool
     }
 }
 
-/// Whether the present ballot is the high end, and no accepted ballot is over it.
+/// Whether the current ballot is the high end, and no accepted ballot is over it.
 fn may_vote(state: &State) -> bool
     ensures { IsTrue result ↔ MayVote state.now }
 {
@@ -134,7 +134,7 @@ fn may_vote(state: &State) -> bool
     }
 }
 
-/// Whether the ballot is the present one.
+/// Whether the ballot is the current one.
 fn is_present(state: &State, ballot: &Ballot) -> bool
     ensures { IsTrue result ↔ (state.now.present ≡ Some ballot.now) }
 {
@@ -151,7 +151,7 @@ fn none_over(state: &State, ballot: &Ballot) -> bool
     !is_over(&state.prepared, ballot) && !is_over(&state.prime, ballot)
 }
 
-/// The low end, where it is compatible with the present ballot; else the present ballot, where it is voted for.
+/// The low end if it is compatible with the current ballot; else the current ballot if it may be voted for; else none.
 fn revised_low(state: &State) -> Result<Option<Ballot>, Fault>
     ensures low { IfOk result (λ low. Revises state.now low) }
     ensures only_memory { IsOkUnless result Fault.NoMemory }
@@ -174,7 +174,7 @@ fn with_low(state: &State, low: Option<Ballot>) -> Result<State, Fault>
     Ok(State { low, ..copied })
 }
 
-/// The state with the newly confirmed ballot, and its low end revised.
+/// The state with the newly confirmed ballot, and with its low end revised.
 fn confirm(board: &Board, state: &State, ballot: &Ballot) -> Result<State, Fault>
     requires confirmed { (ballot.now.counter ≢ 0) × Confirmed (ballots_on board.now) (Prepared ballot.now) × IsAbove ballot.now state.now.confirmed }
     requires greatest { IsGreatestOf (λ y. IsConfirmedCandidate (ballots_on board.now) y) (Some ballot.now) }
@@ -188,7 +188,7 @@ fn confirm(board: &Board, state: &State, ballot: &Ballot) -> Result<State, Fault
     Ok(next)
 }
 
-/// The state with its low end revised, if that differs.
+/// The state with its low end revised, or `None` if that changes nothing.
 fn revise(state: &State) -> Result<Option<State>, Fault>
     ensures revised { IfOk result (λ next. IfSome next (λ next. (next ≡ record state.now { low = next.low }) × Revises state.now next.low)) }
     ensures exact { IfOk result (λ next. Answers RevisesLow state.now next) }
@@ -202,7 +202,7 @@ fn revise(state: &State) -> Result<Option<State>, Fault>
     Ok(Some(next))
 }
 
-/// The state in which what is confirmed as prepared now is held, and voted for, if it differs.
+/// In the phase Prepare: the state that holds what is confirmed as prepared now and votes to commit it, or `None` if that changes nothing.
 pub fn confirm_prepared(
     board: &Board,
     state: &State,

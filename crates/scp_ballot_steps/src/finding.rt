@@ -1,4 +1,4 @@
-//! The greatest candidate ballot that voting has brought so far.
+//! The greatest candidate ballot that has reached a stage of voting.
 ghost use Rattle.std.specs.Prelude.{◌≡◌, ◌⊎◌, ◌↔◌, Contains, Some, Option, IsSomeAnd, IsTrue, IfOk, IsOkUnless};
 ghost use Rattle.std.specs.Option.{ForSome};
 ghost use Rattle.scp_types.specs.declared.ballot.Ballot.{Ballot};
@@ -48,7 +48,7 @@ fn fits_under(ballot: &Ballot, other: &Ballot) -> bool
     is_less(ballot, other) && ballot.value != other.value
 }
 
-/// Whether the ballot is there, greater than the other and incompatible with it.
+/// Whether there is a ballot that is greater than the other and incompatible with it.
 pub(crate) fn is_over(ballot: &Option<Ballot>, other: &Ballot) -> bool
     ensures { IsTrue result ↔ IsOver ballot.now other.now }
 {
@@ -58,7 +58,7 @@ pub(crate) fn is_over(ballot: &Option<Ballot>, other: &Ballot) -> bool
     }
 }
 
-/// Whether the two are the same ballot, or both absent.
+/// Whether the two are the same ballot, or both are absent.
 pub(crate) fn is_same(ballot: &Option<Ballot>, other: &Option<Ballot>) -> bool
     ensures { IsTrue result ↔ (ballot.now ≡ other.now) }
 {
@@ -77,7 +77,7 @@ fn is_ballot(ballot: &Ballot, other: &Option<Ballot>) -> bool
     }
 }
 
-/// Whether the ballot counts.
+/// Whether the ballot is within the bound.
 pub(crate) fn is_within(ballot: &Ballot, bound: &Bound) -> bool
     ensures { IsTrue result ↔ IsWithin bound.now ballot.now }
 {
@@ -88,7 +88,7 @@ pub(crate) fn is_within(ballot: &Ballot, bound: &Bound) -> bool
     }
 }
 
-/// Whether the ballot counts, is greater than the best so far, and voting on it has come so far.
+/// Whether the ballot is within the bound and greater than the best so far, and its `prepare` has reached the stage.
 fn is_better(
     board: &Board,
     stage: Stage,
@@ -105,7 +105,7 @@ fn is_better(
     reached_prepared(board, stage, ballot)
 }
 
-/// The best so far, or the ballot where it is better.
+/// The ballot if it is better, else the best so far.
 fn better(
     board: &Board,
     stage: Stage,
@@ -123,8 +123,8 @@ fn better(
     }
 }
 
-/// The greatest of the floor and of those ballots of the list that count and on whose `prepare` voting has come so far.
-/// Tests a ballot only where it is greater than the best so far.
+/// The greatest of the floor and of those ballots of the list that are within the bound and whose `prepare` has reached
+/// the stage. Tests a ballot only if it is greater than the best so far.
 pub(crate) fn greatest(
     board: &Board,
     stage: Stage,

@@ -1,9 +1,9 @@
-//! The steps of the ballot protocol of one slot (the SCP draft, in this project's profile): what a board tells of ballots, which
-//! ballots may be asked for, and the rules that accept and confirm.
+//! The steps of the ballot protocol of one slot (the SCP draft, in this project's profile): what a board shows of ballots, which
+//! ballots are looked at, and the rules that accept and confirm.
 //!
-//! What it promises of each rule: the state that it answers is a step of that rule from the one before; and where it answers
-//! none, no greater ballot is accepted, or confirmed, as prepared, or no such commit is accepted, or confirmed. Of `accept_more`
-//! nothing is promised there, nor of preparedPrime and the vote to commit. The one refusal is want of memory.
+//! What it promises for each rule: in the rule's phase, it answers exactly what the protocol's rule makes of the state. That is
+//! a new state, or `None` if the rule leaves the state as it is; then nothing further is accepted, or confirmed, by it. The only
+//! refusal is `NoMemory`.
 #![tactic(auto)]
 
 pub mod accept_commit;

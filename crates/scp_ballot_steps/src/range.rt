@@ -1,4 +1,4 @@
-//! The range of commit on which voting has come so far.
+//! The range of commit that has reached a stage of voting.
 ghost use Rattle.std.specs.Prelude.{◌≡◌, ◌≢◌, ◌<◌, ◌≤◌, ◌⊎◌, ◌↔◌, Contains, Some, None, Option, IsSomeAnd, IsTrue, IfOk, IfSome, IfNone, IsOkUnless};
 ghost use Rattle.std.specs.Option.{ForSome};
 ghost use Rattle.scp_types.specs.declared.ballot.Ballot.{Ballot};
@@ -19,7 +19,7 @@ pub(crate) struct Range {
     pub(crate) high: Ballot,
 }
 
-/// Whether the boundary goes before the best so far: the values ascend, and of one value the greatest comes first.
+/// Whether the boundary goes before the best so far: the values ascend, and for one value the greatest counter comes first.
 fn goes_before(boundary: &Ballot, best: &Option<Ballot>) -> bool
     ensures { IsTrue result ↔ GoesBefore boundary.now best.now }
 {
@@ -30,14 +30,14 @@ fn goes_before(boundary: &Ballot, best: &Option<Ballot>) -> bool
     }
 }
 
-/// Whether the boundary counts and is above the floor.
+/// Whether the boundary is within the bound and above the floor.
 fn counts(bound: &Bound, floor: u32, boundary: &Ballot) -> bool
     ensures { IsTrue result ↔ ((floor < boundary.now.counter) × IsWithin bound.now boundary.now) }
 {
     floor < boundary.counter && is_within(boundary, bound)
 }
 
-/// Whether the boundary counts, is above the floor, and voting on its commit has come so far.
+/// Whether the boundary is within the bound and above the floor, and its commit has reached the stage.
 fn is_reached(
     board: &Board,
     stage: Stage,
@@ -56,7 +56,7 @@ fn is_reached(
     Ok(yes)
 }
 
-/// The best so far, or the boundary where it goes before it and is reached.
+/// The boundary if it is reached and goes before the best so far, else the best so far.
 fn first(
     board: &Board,
     stage: Stage,
@@ -78,8 +78,8 @@ fn first(
     }
 }
 
-/// Of the boundaries that count, are above the floor and on whose commit voting has come so far, those of the least value,
-/// and the greatest of them.
+/// The first of the boundaries that are within the bound and above the floor, and whose commit has reached the stage: of
+/// those with the least value, the one with the greatest counter.
 fn highest(
     board: &Board,
     stage: Stage,
@@ -97,7 +97,7 @@ fn highest(
     Ok(best)
 }
 
-/// The boundary where it is lower than the least so far and voting on the range from it has come so far, else the least.
+/// The boundary's counter, if it has the high end's value and is below the least so far, and the range from it has reached the stage; else the least.
 fn lower(
     board: &Board,
     stage: Stage,
@@ -119,7 +119,7 @@ fn lower(
     }
 }
 
-/// The least boundary of the high end's value such that voting on the range from it to the high end has come so far.
+/// The least counter of a boundary of the high end's value from which the range to the high end has reached the stage.
 fn lowest(board: &Board, stage: Stage, boundaries: &[Ballot], high: &Ballot) -> Result<u32, Fault>
     requires counted { (x : Ballot) → Contains boundaries.now x → x.counter ≢ 0 }
     requires high { high.now.counter ≢ 0 }
@@ -137,8 +137,8 @@ fn lowest(board: &Board, stage: Stage, boundaries: &[Ballot], high: &Ballot) -> 
     Ok(least)
 }
 
-/// The range whose high end is the greatest boundary of the least value, and whose low end the least boundary below it,
-/// among those that count and are above the floor. `None` exactly where there is no such boundary.
+/// The range that has reached the stage. Its high end is the first boundary within the bound and above the floor, its
+/// low end the least of that value from which the range is reached. `None` exactly where there is no such high end.
 pub(crate) fn reached_range(
     board: &Board,
     stage: Stage,

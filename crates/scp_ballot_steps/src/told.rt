@@ -1,4 +1,4 @@
-//! What the board tells of ballots.
+//! What the board shows of ballots.
 ghost use Rattle.std.specs.Prelude.{◌≡◌, ◌↔◌, IsTrue, IfOk, OnOk, OnErr, IsOkUnless};
 ghost use Rattle.scp_vote.specs.Board.{kind_of, kind_of_pledges, PutsCounted, IsNewBoard, KeepsOwn};
 ghost use Rattle.scp_quorum.specs.Sane.{IsSane};
@@ -15,7 +15,7 @@ use scp_vote::{Board, Claim};
 use std::alloc::Global;
 use std::sync::Arc;
 
-/// How far federated voting on a claim has come.
+/// The stages of federated voting on a claim.
 #[derive(Clone, Copy, Debug, PartialEq, Eq)]
 pub(crate) enum Stage {
     Acceptance,
@@ -42,7 +42,7 @@ pub fn put_ballot(
     board.put(envelope, delivered)
 }
 
-/// Whether voting on the claim has come so far.
+/// Whether the claim has reached the stage of voting.
 fn reached(board: &Board, stage: Stage, claim: &Claim) -> Result<bool, Fault>
     ensures exact { IfOk result (λ yes. IsTrue yes ↔ Reached stage (seen (kind_of claim.now) board.now) claim.now) }
     ensures only_memory { IsOkUnless result Fault.NoMemory }
@@ -53,7 +53,7 @@ fn reached(board: &Board, stage: Stage, claim: &Claim) -> Result<bool, Fault>
     }
 }
 
-/// Whether voting on `prepare` of the ballot has come so far.
+/// Whether `prepare` of the ballot has reached the stage of voting.
 pub(crate) fn reached_prepared(board: &Board, stage: Stage, ballot: &Ballot) -> Result<bool, Fault>
     ensures exact { IfOk result (λ yes. IsTrue yes ↔ Reached stage (ballots_on board.now) (Prepared ballot.now)) }
     ensures only_memory { IsOkUnless result Fault.NoMemory }
@@ -62,7 +62,7 @@ pub(crate) fn reached_prepared(board: &Board, stage: Stage, ballot: &Ballot) -> 
     reached(board, stage, &claim)
 }
 
-/// Whether voting on `commit(n, value)` has come so far for each n from the low counter to the high one.
+/// Whether `commit(n, value)` has reached the stage of voting, for all n from the low counter to the high one together.
 pub(crate) fn reached_commit(
     board: &Board,
     stage: Stage,

@@ -114,7 +114,7 @@ module _ {D : Type 0} where
         λ other ne. ap (λ (xs : List LinkView). room_of (slice_get xs other)) is ∙ ap room_of (others_set v.links l other k2 ne),
       )
 
-  -- a reader's take; for want of memory the node fails
+  -- a reader's take; if memory runs out the node fails
   abbrev failing : NodeView D → Reply → NodeView D
   failing v NoMemory = record v { failed = true }
   failing v reply = v

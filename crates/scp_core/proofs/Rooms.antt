@@ -35,7 +35,7 @@ module _ {D : Type 0} (says : Says D) where
       let opens = lives_from never_open (p.links l).items in
       omega (arith, tail, opens)
 
--- a link of the same life stands there
+-- a link of the same life is there
 same_place : (xs ys : List LinkView) (l : ℕ) (k : LinkView) → map life_of xs ≡ map life_of ys → slice_get xs l ≡ Some k → (k2 : LinkView) × (slice_get ys l ≡ Some k2) × (k.life ≡ k2.life)
 same_place [] ys l k e there = absurd cc
 same_place (x ∷ xs) [] l k e there = absurd cc

@@ -7,12 +7,12 @@ use Rattle.scp_core.specs.declared.config.Capacities.{Capacities}
 use Rattle.scp_core.specs.declared.config.Config.{Config}
 use Rattle.scp_types.specs.Range.{IsInRange}
 
--- none stands there twice
+-- no peer is in the list twice
 abbrev pub are_apart : List NodeId → Bool
 are_apart [] = true
 are_apart (peer ∷ peers) = not (is_among peer peers) && are_apart peers
 
--- each of the four capacities is
+-- each of the four capacities is in range
 abbrev pub AreInRange : Capacities → Type 0
 AreInRange c = IsInRange c.link × IsInRange c.inbox × IsInRange c.ready × IsInRange c.decided
 
@@ -23,7 +23,7 @@ pub record IsFit (me : NodeId) (peers : List NodeId) (capacities : Capacities) :
   pub others : is_among me peers ≡ false
   pub in_range : AreInRange capacities
 
--- and a sane quorum set
+-- a configuration that is fit, with a sane quorum set
 pub record IsConfig (c : Config) : Type 0 where
   pub sane : IsSane c.set
   pub fit : IsFit c.me c.peers c.capacities

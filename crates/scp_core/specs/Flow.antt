@@ -1,4 +1,4 @@
--- How a node that runs stands to its past: each queue and each hand has what was put there and not taken.
+-- A running node and its past: each queue and each hand has what was put there and not taken.
 use Rattle.std.specs.Prelude.{ℕ, ◌+◌, ◌≤◌, ◌≡◌, false, List, ◌++◌, Option, Some, length, slice_get, option_to_list, take, drop}
 use Rattle.scp_driver.specs.Driver.{Says}
 use Rattle.scp_types.specs.declared.names.NodeId.{NodeId}
@@ -25,13 +25,12 @@ pub record LinkFlows (me peer : NodeId) (room : ℕ) (o : OnLink) (k : LinkView)
   pub given : o.given ≤ length (read_so_far o)
   pub hand : k.hand ≡ drop o.given (read_so_far o)
 
--- what went on from a stage: what the next one took, then the queue between, then the stage's hand
+-- what a stage passed on: what the next one took, then the queue between, then the stage's hand
 abbrev pub IsOnWay : {X : Type 0} → List X → List X → List X → Option X → Type 0
 IsOnWay gone taken queue hand = gone ≡ taken ++ (queue ++ option_to_list hand)
 
 module _ {D : Type 0} (says : Says D) where
-  -- Of a node that runs: each queue and hand has what was put there and not taken, and each stage stands to what it took as its own contract
-  -- says.
+  -- Of a node that runs: each queue and hand has what was put there and not taken, and each stage is, for what it took, as its own contract says.
   pub record Flows (p : Past) (v : NodeView D) : Type 0 where
     pub runs : v.failed ≡ false
     pub rooms : (v.inbox_room ≡ v.config.capacities.inbox) × (v.ready_room ≡ v.config.capacities.ready) × (v.decided_room ≡ v.config.capacities.decided)
@@ -40,7 +39,7 @@ module _ {D : Type 0} (says : Says D) where
     pub apart : AreApart v.config.peers
     pub links : (l : ℕ) → (k : LinkView) → slice_get v.links l ≡ Some k → (peer : NodeId) → slice_get v.config.peers l ≡ Some peer → LinkFlows v.config.me peer v.config.capacities.link (p.links l) k
     pub came : (l : ℕ) → (peer : NodeId) → slice_get v.config.peers l ≡ Some peer → of_peer peer p.came ≡ take (p.links l).given (readings_of (p.links l))
-    -- the pending stage, of the node's own quorum set, took all that came but what the inbox holds
+    -- the pending stage, with the node's own quorum set, took all that came except what the inbox holds
     pub local : v.pending.settled.store.local ≡ v.config.set
     pub arrived : List Inbound
     pub inbox : p.came ≡ arrived ++ v.inbox

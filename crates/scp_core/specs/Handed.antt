@@ -22,7 +22,7 @@ use Rattle.scp_core.specs.Node.{NodeView, Step, HandsEach, PendBrings, PendTakes
 -- ---- what a step hands out
 
 module _ {D : Type 0} where
-  -- the pending stage hands out its reply to the item that it takes, and nothing where it brings what is ready
+  -- the pending stage hands out its reply to the item that it takes, and nothing if it only brings what is ready
   abbrev pub PendHands : NodeView D → List Outgoing → NodeView D → Type 0
   PendHands old handed new = (PendBrings old new × (handed ≡ [])) ⊎ ((takes : PendTakes old new) × (handed ≡ out_of (reply_to old.pending.settled takes.x)))
 
@@ -50,7 +50,7 @@ module _ {D : Type 0} (says : Says D) where
 
 -- ---- what a drain gives
 
--- the bytes of what is next in the outbox of the link, Idle where nothing is next, and nothing of a link that isn't there
+-- the bytes of what is next in the link's outbox; Idle if nothing is next; NoLink if the link isn't there
 abbrev pub IsDrained : List OutboxView → ℕ → Reply → List OutboxView → Type 0
 IsDrained old link (Sent bytes) new = (message : Message) × GivesThere old link (Some message) new × SpellsMessage bytes (message_value message)
 IsDrained old link Idle new = GivesThere old link None new
@@ -58,7 +58,7 @@ IsDrained old link NoLink new = (slice_get old link ≡ None) × (new ≡ old)
 IsDrained old link reply new = ⊥
 
 module _ {D : Type 0} (says : Says D) where
-  -- a drain of a node that runs answers so, or lacks memory
+  -- a drain of a running node answers so, or runs out of memory
   abbrev pub DrainsGiveNext : Type 0
   DrainsGiveNext = (old new : NodeView D) (link : ℕ) (reply : Reply) → old.failed ≡ false → Step says old (Drain link) reply new → reply ≢ NoMemory → IsDrained old.outboxes link reply new.outboxes
 

@@ -8,19 +8,19 @@ use Rattle.scp_core.specs.Ledger.{account_of, HoldsLedger}
 use Rattle.scp_core.specs.Node.{NodeView}
 
 module _ {D : Type 0} where
-  -- the node's books, by the exchanges: what its events sent over its links, what it holds, and what it shows
+  -- the node's books, from the exchanges: what its events sent over its links, what it holds, and what it shows
   abbrev pub books_at : List Exchange → NodeView D → Books
   books_at past v = books_of (account_of past v [])
 
-  -- the node failed since, and still shows the journal, the decisions and the applied list that it showed then
+  -- the node has failed since, and still shows the journal, the decisions and the applied list that it showed then
   pub record ShowsStill (moment v : NodeView D) : Type 0 where
     pub failed : v.failed ≡ true
     pub journal : v.ledger.journal ≡ moment.ledger.journal
     pub decisions : v.ledger.decisions ≡ moment.ledger.decisions
     pub applied : v.applier.applied ≡ moment.applier.applied
 
-  -- The headline holds of the node's books after all exchanges; or, where the node failed, of its books at some moment, by a beginning of the
-  -- exchanges. Only `HoldsLedger` says that it is the one before the step that failed it.
+  -- The headline holds of the node's books after all exchanges; or, if the node failed, of its books at some moment, after a beginning of the
+  -- exchanges. Only `HoldsLedger` says that this is the moment before the step that failed it.
   pub record HoldsHeadline (past : List Exchange) (v : NodeView D) : Type 0 where
     pub earlier : List Exchange
     pub later : List Exchange

@@ -28,11 +28,11 @@ pub record OnLink : Type 0 where
 abbrev pub unused : OnLink
 unused = record { items = []; taken = 0; given = 0 }
 
--- how often it was opened, and whether it is open
+-- how often the link was opened, and whether it is open
 abbrev pub tail_of : OnLink → Tail
 tail_of o = fold goes never_open o.items
 
--- what the reader makes of it: of all, and of what it took
+-- what all items of the link are read as
 abbrev pub readings_of : OnLink → List Inbound
 readings_of o = readings unread o.items
 
@@ -55,11 +55,11 @@ pub record Past : Type 0 where
 abbrev pub nothing_heard : Past
 nothing_heard = record { failed = false; links = λ l. unused; came = []; ready_put = 0; ready_taken = 0; decided_put = 0; decided_taken = 0 }
 
--- one link changes
+-- one link's part is changed
 abbrev pub changed : (ℕ → OnLink) → ℕ → OnLink → ℕ → OnLink
 changed links l o m = if nat_eq m l then o else links m
 
--- an item stands behind those of its link
+-- an item is added after those of its link
 abbrev pub goes_in : Past → ℕ → LinkItem → Past
 goes_in p l x = record p { links = changed p.links l (record (p.links l) { items = (p.links l).items ++ x ∷ [] }) }
 
@@ -67,7 +67,7 @@ goes_in p l x = record p { links = changed p.links l (record (p.links l) { items
 abbrev pub peer_at : Config → ℕ → NodeId
 peer_at c l = slice_index_or c.peers l c.me
 
--- what an accepted event adds: its item to its link, stamped with the link's life, or its command to what came
+-- what an accepted event adds: its item to its link, with the link's life, or its command to what came
 abbrev pub accepts : Config → Past → Event → Past
 accepts c p (Open l) = goes_in p l (item.Opened (conn_at (peer_at c l) c.me ((tail_of (p.links l)).life + 1)))
 accepts c p (Send l bytes) = goes_in p l (item.Bytes (conn_at (peer_at c l) c.me (tail_of (p.links l)).life) bytes)
@@ -75,7 +75,7 @@ accepts c p (Close l) = goes_in p l (item.Closed (conn_at (peer_at c l) c.me (ta
 accepts c p (Local command) = record p { came = p.came ++ inbound.Local command ∷ [] }
 accepts c p event = p
 
--- the j-th Moved of ReaderPut(l) brings the j-th reading of link l
+-- what an event that moved adds; the j-th Moved of ReaderPut(l) brings the j-th reading of link l
 abbrev pub moves : Past → Event → Past
 moves p (ReaderTake l) = record p { links = changed p.links l (record (p.links l) { taken = (p.links l).taken + 1 }) }
 moves p (ReaderPut l) = record p { links = changed p.links l (record (p.links l) { given = (p.links l).given + 1 }); came = p.came ++ take 1 (drop (p.links l).given (readings_of (p.links l))) }

@@ -1,4 +1,4 @@
--- Nodes whose values are operation lists (this project's profile): what is said of nodes, by what their application says of values.
+-- Nodes whose values are operation lists (this project's profile): the definitions of nodes, over what that application says of values.
 use Rattle.std.specs.Prelude.{List}
 use Rattle.scp_driver.specs.declared.kv_driver.KvDriver.{KvDriver}
 use Rattle.scp_driver.specs.Kv.{kv_says}
@@ -25,7 +25,7 @@ Moves old event new = node.Moves kv_says old event new
 abbrev pub Step : NodeView → Event → Reply → NodeView → Type 0
 Step old event reply new = node.Step kv_says old event reply new
 
--- how it stands to its past
+-- how the node and its past fit
 abbrev pub Flows : Past → NodeView → Type 0
 Flows p v = flow.Flows kv_says p v
 
@@ -37,11 +37,11 @@ made c = theorem.made (record {}) c
 abbrev pub LedgerTheorem : List Exchange → NodeView → Type 0
 LedgerTheorem past v = theorem.LedgerTheorem kv_says past v
 
--- what holds of a list of exchanges holds of the list with one step more
+-- what holds of a list of exchanges holds of the list with one more step
 abbrev pub StepsKeep : Type 0
 StepsKeep = theorem.StepsKeep kv_says
 
--- it failed at the exchange behind these, by a step from what it was then
+-- it failed at the exchange after these, by a step from what it was then
 abbrev pub FailedAfter : List Exchange → List Exchange → NodeView → NodeView → Type 0
 FailedAfter past earlier v moment = ledger.FailedAfter kv_says past earlier v moment
 
@@ -49,7 +49,7 @@ FailedAfter past earlier v moment = ledger.FailedAfter kv_says past earlier v mo
 abbrev pub HoldsLedger : List Exchange → NodeView → Type 0
 HoldsLedger past v = ledger.HoldsLedger kv_says past v
 
--- what `LedgerTheorem` holds of, `HoldsLedger` holds of
+-- `HoldsLedger` follows from `LedgerTheorem`
 abbrev pub TheoremGivesLedger : Type 0
 TheoremGivesLedger = ledger.TheoremGivesLedger kv_says
 

@@ -42,14 +42,14 @@ module _ {D : Type 0} where
 
 -- ---- a node that failed
 
--- a reply that says so
+-- a reply that says that the node failed
 abbrev pub IsFailure : Reply → Type 0
 IsFailure NoMemory = Unit {0}
 IsFailure JournalFull = Unit {0}
 IsFailure reply = ⊥
 
 module _ {D : Type 0} (says : Says D) where
-  -- it failed at the exchange behind these, by a step from what it was then, has answered Failed ever since, and keeps what it shows
+  -- it failed at the exchange after these, by a step from what it was then, has answered Failed ever since, and keeps what it shows
   pub record FailedAfter (past earlier : List Exchange) (v moment : NodeView D) : Type 0 where
     pub failed : v.failed ≡ true
     pub event : Event
@@ -63,8 +63,8 @@ module _ {D : Type 0} (says : Says D) where
 
   -- ---- the ledger theorem
 
-  -- The ledger theorem of a node: these exchanges led to a moment, step by step from the node as it is made, and of what was sent to the node by
-  -- then `KeepsLedger` holds. That moment is the node, or of one that failed what it was before the step that failed it.
+  -- The ledger theorem of a node. These exchanges led to a moment, step by step from the node as it is made, and `KeepsLedger` holds of what
+  -- was sent to the node by then. That moment is the node; or, if the node failed, what it was before the step that failed it.
   pub record HoldsLedger (past : List Exchange) (v : NodeView D) : Type 0 where
     -- the exchanges and the node, as they are; of a node that failed, as they were before the step that failed it
     pub earlier : List Exchange
@@ -74,14 +74,14 @@ module _ {D : Type 0} (says : Says D) where
     -- these exchanges led to that, step by step, from the node as it is made, with its application
     pub driver : D
     pub steps : AreSteps says v.config nothing_heard (made driver v.config) earlier moment
-    -- what came to the pending stage: all that was put into the inbox, but for what waits there
+    -- what came to the pending stage: all that was put into the inbox, except what waits there
     pub came : List Inbound
     pub came_is : (past_of v.config earlier).came ≡ came ++ moment.inbox
-    -- each message has its fate, each fate and each verdict its cause, and each decision its ground
+    -- each message has at most one fate, each fate and each verdict has its cause, and each decision has what it rests on
     pub keeps : KeepsLedger says.level says.extracted says.combined says.place (account_of earlier moment came)
-    -- all that was sent to each peer has its ground
+    -- all that was sent to each peer has its reason
     pub sent : (link : ℕ) → IsSentOut (grounds_of moment came) link (sent_to link past)
 
-  -- what `LedgerTheorem` holds of, `HoldsLedger` holds of
+  -- `HoldsLedger` follows from `LedgerTheorem`
   abbrev pub TheoremGivesLedger : Type 0
   TheoremGivesLedger = (past : List Exchange) (v : NodeView D) → LedgerTheorem says past v → HoldsLedger past v

@@ -68,7 +68,7 @@ pub record NodeView (D : Type 0) : Type 0 where
   pub ready_room : ℕ
   pub ledger : LedgerView D
   pub slot_hand : Option Onward
-  pub last_command : Option CommandFate  -- what became of the command that the slot stage took last; None where what it took last is no command
+  pub last_command : Option CommandFate  -- what became of the command that the slot stage took last; None if what it took last was no command
   pub last_said : List Envelope  -- the own statements for all peers that the slot stage handed out when it took last, in order
   pub decided : List Onward
   pub decided_room : ℕ
@@ -80,12 +80,12 @@ module _ {D : Type 0} where
   abbrev pub AtLink : NodeView D → ℕ → (LinkView → Type 0) → Type 0
   AtLink v l P = (k : LinkView) × (slice_get v.links l ≡ Some k) × P k
 
--- its queue has no room left
+-- the link's queue has no room left
 abbrev pub is_full : LinkView → Type 0
 is_full k = length k.queue ≡ k.room
 
 module _ {D : Type 0} where
-  -- one link is new
+  -- the node with one link changed
   abbrev pub with_link : NodeView D → ℕ → LinkView → NodeView D
   with_link v l k = record v { links = slice_set v.links l k }
 
@@ -106,7 +106,7 @@ module _ {D : Type 0} where
 abbrev pub HandsOne : List OutboxView → Outgoing → List OutboxView → Type 0
 HandsOne old outgoing new = HandsOut old (handed_by (outgoing ∷ [])) new
 
--- so each of these, in order
+-- each of these is put so, in order
 abbrev pub HandsEach : List OutboxView → List Outgoing → List OutboxView → Type 0
 HandsEach old [] new = new ≡ old
 HandsEach old (one ∷ outgoing) new = (between : List OutboxView) × HandsOne old one between × HandsEach between outgoing new
@@ -126,7 +126,7 @@ Hands old None new = new ≡ old
 Hands old (Some answer) new = HandsOne old (To answer.0 answer.1) new
 
 module _ {D : Type 0} where
-  -- the pending stage brings what is ready, or takes one item and then brings what is ready, if anything
+  -- the pending stage brings what is ready into its hand
   pub record PendBrings (old new : NodeView D) : Type 0 where
     pub thing : Ready
     pub after' : PendingView
@@ -134,8 +134,8 @@ module _ {D : Type 0} where
     pub same : after' ≡ record old.pending { leaving = after'.leaving }
     pub is : new ≡ record old { pending = after'; pend_hand = Some thing }
 
-  -- the pending stage, with nothing ready, takes the first item of the inbox by its rules: what is then ready goes into its hand, and the
-  -- reply into an outbox
+  -- The pending stage, with nothing ready, takes the first item of the inbox by its rules. What is
+  -- ready then goes into its hand, and its reply into an outbox.
   pub record PendTakes (old new : NodeView D) : Type 0 where
     pub x : Inbound
     pub rest : List Inbound
@@ -153,7 +153,7 @@ module _ {D : Type 0} where
     pub is : new ≡ record old { inbox = rest; pending = after'; pend_hand = thing; outboxes = new.outboxes }
 
 module _ {D : Type 0} (says : Says D) where
-  -- the slot stage takes the first ready thing: what it gives on goes into its hand, and what goes out into the outboxes
+  -- the slot stage takes the first ready thing; what it gives on goes into its hand, and what goes out into the outboxes
   pub record SlotTakes (old new : NodeView D) : Type 0 where
     pub x : Ready
     pub rest : List Ready
@@ -260,7 +260,7 @@ module _ {D : Type 0} where
     pub applied : new.applier.applied ≡ old.applier.applied
     pub lives : map life_of new.links ≡ map life_of old.links
 
--- how many items a link's queue can still take; 0 for a link that isn't there
+-- how many items a link's queue can still take
 abbrev pub room_in : LinkView → ℕ
 room_in k = k.room - length k.queue
 
@@ -270,7 +270,7 @@ room_of None = 0
 room_of (Some k) = room_in k
 
 module _ {D : Type 0} where
-  -- how many items the queue of the link of this number can still take; 0 where it isn't there
+  -- how many items the queue of the link of this number can still take; 0 if it isn't there
   abbrev pub room_at : NodeView D → ℕ → ℕ
   room_at v l = room_of (slice_get v.links l)
 
@@ -280,7 +280,7 @@ queued_in None = 0
 queued_in (Some k) = length k.queue
 
 module _ {D : Type 0} where
-  -- how many items wait in the queue of the link of this number; 0 where it isn't there
+  -- how many items wait in the queue of the link of this number; 0 if it isn't there
   abbrev pub queued_at : NodeView D → ℕ → ℕ
   queued_at v l = queued_in (slice_get v.links l)
 
@@ -298,7 +298,7 @@ module _ {D : Type 0} where
 abbrev pub has_read : LinkView → Bool
 has_read k = is_some (slice_get k.hand 0)
 
--- the same of a link that may not be there
+-- the same for a link that may not be there
 abbrev pub has_read_in : Option LinkView → Bool
 has_read_in None = false
 has_read_in (Some k) = has_read k
@@ -308,12 +308,12 @@ module _ {D : Type 0} where
   abbrev pub has_read_at : NodeView D → ℕ → Bool
   has_read_at v l = has_read_in (slice_get v.links l)
 
-  -- The room of each link at the event that fails a node: what it was, and one more where the link's reader took an item.
+  -- The room of each link after the event that fails a node: what it was, and one more if the link's reader took an item.
   abbrev pub LeavesRoom : NodeView D → Event → NodeView D → Type 0
   LeavesRoom old (ReaderTake l) new = (room_at new l ≡ room_at old l + 1) × ((other : ℕ) → other ≢ l → room_at new other ≡ room_at old other)
   LeavesRoom old event new = (l : ℕ) → room_at new l ≡ room_at old l
 
-  -- an event fails a node that ran: what `Keeps` names stays, and the room of each link is as `LeavesRoom` says
+  -- an event fails a node that ran; what `Keeps` names stays, and the room of each link is as `LeavesRoom` says
   pub record Fails (old : NodeView D) (event : Event) (new : NodeView D) : Type 0 where
     pub was : old.failed ≡ false
     pub failed : new.failed ≡ true
@@ -325,7 +325,7 @@ module _ {D : Type 0} where
   FillsJournal v SlotTake = (v.slot_hand ≡ None) × (x : Ready) × (rest : List Ready) × (v.ready ≡ x ∷ rest) × (adds_entry x ≡ true) × (length v.ledger.journal ≡ JOURNAL_LIMIT)
   FillsJournal v event = ⊥
 
-  -- an event that can fail for want of memory: no other reply fits
+  -- an event that can run out of memory: no other reply fits
   abbrev pub TakesMemory : NodeView D → Event → Type 0
   TakesMemory v (ReaderTake l) = AtLink v l (λ k. (k.hand ≡ []) × (k.queue ≢ []))
   TakesMemory v PendTake = (v.pend_hand ≡ None) × (v.inbox ≢ []) × IsIdle v.pending
@@ -351,7 +351,7 @@ lives_of None = 0
 lives_of (Some k) = k.life
 
 module _ {D : Type 0} where
-  -- how often the link of this number was opened; 0 where it isn't there
+  -- how often the link of this number was opened; 0 if it isn't there
   abbrev pub lives_at : NodeView D → ℕ → ℕ
   lives_at v l = lives_of (slice_get v.links l)
 
@@ -359,7 +359,7 @@ module _ {D : Type 0} where
 abbrev pub link_accepts : LinkView → Bool
 link_accepts k = k.is_open && nat_lt (length k.queue) k.room
 
--- whether what is sent on a link would be accepted; on one that isn't there it isn't
+-- whether what is sent on a link would be accepted; never on one that isn't there
 abbrev pub accepts_of : Option LinkView → Bool
 accepts_of None = false
 accepts_of (Some k) = link_accepts k

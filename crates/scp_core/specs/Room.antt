@@ -1,4 +1,4 @@
--- Lengths of queues, and how often links were opened, by the replies; of a node that failed too.
+-- Lengths of queues, and how often links were opened, from the replies; also of a node that failed.
 use Rattle.std.specs.Prelude.{ℕ, ◌+◌, ◌-◌, ◌≤◌, ◌≡◌, true, false, List, [], ◌∷◌, ◌++◌, Some, length, slice_get}
 use Rattle.scp_driver.specs.Driver.{Says}
 use Rattle.scp_wire.specs.declared.link.LinkItem.{LinkItem}
@@ -16,19 +16,19 @@ opened_by (Opened conn) = 1
 opened_by (Bytes conn bytes) = 0
 opened_by (Closed conn) = 0
 
--- how often a link was opened that took these items
+-- how often a link with these items was opened
 abbrev pub opens_in : List LinkItem → ℕ
 opens_in [] = 0
 opens_in (x ∷ xs) = opened_by x + opens_in xs
 
 module _ {D : Type 0} where
-  -- a link's queue holds what was accepted at its tail less what its reader took, and its room is its capacity less that
+  -- A link's queue holds what was accepted at its tail minus what its reader took. Its room is its capacity minus that.
   pub record LinkHasRoom (v : NodeView D) (p : Past) (l : ℕ) (k : LinkView) : Type 0 where
     pub room : k.room ≡ v.config.capacities.link
     pub held : length k.queue + (p.links l).taken ≡ length (p.links l).items
     pub left : room_at v l ≡ v.config.capacities.link - length k.queue
 
-  -- of a node that runs
+  -- the same for all links and queues of a node that runs
   pub record RunningHasRoom (v : NodeView D) (p : Past) : Type 0 where
     pub links : (l : ℕ) → (k : LinkView) → slice_get v.links l ≡ Some k → LinkHasRoom v p l k
     pub rooms : (v.inbox_room ≡ v.config.capacities.inbox) × (v.ready_room ≡ v.config.capacities.ready) × (v.decided_room ≡ v.config.capacities.decided)
@@ -48,13 +48,13 @@ module _ {D : Type 0} where
     pub was : RunningHasRoom moment (past_of moment.config earlier)
     pub left : LeavesRoom moment event v
 
-  -- the lives of each link are the accepted opens, of a node that failed too
+  -- the lives of each link are the accepted opens, also for a node that failed
   pub record HasRoom (past : List Exchange) (v : NodeView D) : Type 0 where
     pub lives : (l : ℕ) → (k : LinkView) → slice_get v.links l ≡ Some k → lives_at v l ≡ opens_in ((past_of v.config past).links l).items
     pub running : v.failed ≡ false → RunningHasRoom v (past_of v.config past)
     pub failed : v.failed ≡ true → FailedHasRoom past v
 
 module _ {D : Type 0} (says : Says D) where
-  -- what `LedgerTheorem` holds of, `HasRoom` holds of
+  -- `HasRoom` follows from `LedgerTheorem`
   abbrev pub TheoremGivesRoom : Type 0
   TheoremGivesRoom = (past : List Exchange) (v : NodeView D) → LedgerTheorem says past v → HasRoom past v

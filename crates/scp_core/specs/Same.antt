@@ -1,4 +1,4 @@
--- What is the same where the same events came.
+-- What is the same if the same events came.
 use Rattle.std.specs.Prelude.{ℕ, ◌≡◌, ◌≢◌, false, List, Option, Some, None, map}
 use Rattle.std.specs.List.{AllByRecursion}
 use Rattle.scp_driver.specs.Driver.{Says}
@@ -20,8 +20,8 @@ use Rattle.scp_core.specs.History.{Exchange}
 use Rattle.scp_core.specs.Node.{NodeView, life_of, room_at}
 use Rattle.scp_core.specs.Theorem.{LedgerTheorem}
 
--- Two machines of a slot show the same: nomination and ballots, the newest statements with their sets, and whether it decided. In
--- memory a set may lie at another place.
+-- Two machines of a slot show the same: nomination and ballots, the newest statements with their sets, and
+-- whether they decided. A set may be at different places in memory.
 pub record ShowSameSlot (v w : SlotView) : Type 0 where
   pub me : v.me ≡ w.me
   pub slot : v.slot ≡ w.slot
@@ -42,8 +42,8 @@ ShowSameMachine (Some m) (Some n) = (driver_of m ≡ driver_of n) × ShowSameSlo
 abbrev pub said : Fate → Entry × List Verdict
 said fate = (entry_in fate, verdict_in fate)
 
--- Two ledgers show the same: their journals say the same, entry by entry, they have the same decisions, asked the same links, and
--- the machine of each slot shows the same.
+-- Two ledgers show the same. Their journals say the same, entry by entry; they have the same decisions and asked the same links; and the
+-- machine of each slot shows the same.
 pub record ShowSameLedger {D : Type 0} (v w : LedgerView D) : Type 0 where
   pub me : v.me ≡ w.me
   pub local : v.local ≡ w.local
@@ -59,8 +59,8 @@ pub record ShowSameLedger {D : Type 0} (v w : LedgerView D) : Type 0 where
 -- ---- nodes
 
 module _ {D : Type 0} where
-  -- Two nodes that run show the same: all that they hold is the same. Of the ledger it is what is seen of it, and the applier's buffer
-  -- may stand in another order.
+  -- Two nodes that run show the same: all that they hold is the same. Of the ledger this is what is
+  -- seen of it, and the applier's buffer may be in another order.
   pub record RunAlike (v w : NodeView D) : Type 0 where
     pub links : v.links ≡ w.links
     pub inbox : (v.inbox ≡ w.inbox) × (v.inbox_room ≡ w.inbox_room)
@@ -73,7 +73,7 @@ module _ {D : Type 0} where
     pub applier : ShowTheSame v.applier w.applier
     pub outboxes : v.outboxes ≡ w.outboxes
 
-  -- Two nodes show the same: of nodes that failed what they keep, and of nodes that run all.
+  -- Two nodes show the same: failed nodes in what they keep, and running nodes in everything.
   pub record ShowSameNode (v w : NodeView D) : Type 0 where
     pub config : v.config ≡ w.config
     pub failed : v.failed ≡ w.failed
@@ -92,13 +92,13 @@ module _ {D : Type 0} where
 abbrev pub event_of : Exchange → Event
 event_of exchange = exchange.0
 
--- no step lacked memory
+-- no step ran out of memory
 abbrev pub NoneLackedMemory : List Exchange → Type 0
 NoneLackedMemory exchanges = AllByRecursion (λ exchange. exchange.1 ≢ NoMemory) exchanges
 
 module _ {D : Type 0} (says : Says D) where
-  -- The same events give the same replies, journal, decisions, applied list and state: two lists of exchanges of one application and
-  -- configuration, with the same events, where no step lacked memory, are one list, and the nodes that they left show the same.
+  -- The same events give the same replies, journal, decisions, applied list and state. Take two lists of exchanges with one application, one
+  -- configuration and the same events, in which no step ran out of memory. They are one list, and the nodes that they left show the same.
   abbrev pub SameEventsSameReplies : Type 0
   SameEventsSameReplies =
       (one other : List Exchange) (v w : NodeView D) → (h : LedgerTheorem says one v) → (k : LedgerTheorem says other w) → h.driver ≡ k.driver → v.config ≡ w.config → map event_of one ≡ map event_of other → NoneLackedMemory one → NoneLackedMemory other → (one ≡ other) × ShowSameNode v w

@@ -1,4 +1,4 @@
--- Where the pending stage answers Idle, all that it holds waits rightly.
+-- When the pending stage answers Idle, all that it holds waits rightly.
 use Rattle.std.specs.Prelude.{◌≡◌}
 use Rattle.scp_driver.specs.Driver.{Says}
 use Rattle.scp_pending.specs.Rules.{PendingView, settled_by}
@@ -19,6 +19,6 @@ pub record IsSettledAt (c : Config) (p : Past) (pending : PendingView) : Type 0 
   pub settled : IsSettledBy (start_of (who_of c)) p.came pending
 
 module _ {D : Type 0} (says : Says D) where
-  -- where PendTake answers Idle nothing is ready, and what heads each lane of the pending stage is an envelope that waits
+  -- if PendTake answers Idle, nothing is ready, and the head of each lane of the pending stage is an envelope that waits
   abbrev pub IdleIsSettled : Type 0
   IdleIsSettled = (c : Config) (p : Past) (before after' : NodeView D) → WasStep says c p before PendTake Idle after' → IsSettledAt c p before.pending

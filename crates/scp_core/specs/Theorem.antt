@@ -36,7 +36,7 @@ module _ {D : Type 0} where
   }
 
 module _ {D : Type 0} (says : Says D) where
-  -- the exchange was a step from a node of this configuration, which stood so to its past
+  -- the exchange was a step from a node of this configuration that fits its past as `Flows` says
   pub record WasStep (c : Config) (p : Past) (before : NodeView D) (event : Event) (reply : Reply) (after' : NodeView D) : Type 0 where
     pub config : before.config ≡ c
     pub flows : Flows says p before
@@ -46,15 +46,15 @@ module _ {D : Type 0} (says : Says D) where
   abbrev pub IsReply : Config → Past → NodeView D → Event → Reply → NodeView D → Type 0
   IsReply c p before event reply after' = ((p.failed ≡ true) × (reply ≡ Failed) × (after' ≡ before)) ⊎ ((p.failed ≡ false) × WasStep c p before event reply after')
 
-  -- the exchanges were so, each from the node that the one before it left
+  -- each exchange was so, from the node that the one before it left
   abbrev pub AreSteps : Config → Past → NodeView D → List Exchange → NodeView D → Type 0
   AreSteps c p v [] last = last ≡ v
   AreSteps c p v (x ∷ xs) last = (next : NodeView D) × IsReply c p v x.0 x.1 next × AreSteps c (hears c p x.0 x.1) next xs last
 
-  -- Each exchange was a step by the table of replies, from the node as it is made. The node is as `Flows` says, or keeps what is left of one
-  -- that was when it failed.
+  -- Each exchange was a step by the table of replies, from the node as it is made. The node is as `Flows`
+  -- says, or keeps what is left of one that was so when it failed.
   pub record LedgerTheorem (past : List Exchange) (v : NodeView D) : Type 0 where
-    -- the application that it was made with, and every step from the node as it is made
+    -- the application that the node was made with, and every step from the node as it is made
     pub driver : D
     pub replies : AreSteps v.config nothing_heard (made driver v.config) past v
     pub failed : v.failed ≡ (past_of v.config past).failed
@@ -64,6 +64,6 @@ module _ {D : Type 0} (says : Says D) where
     pub now : v.failed ≡ false → v ≡ moment
     pub keeps : Keeps moment v
 
-  -- what holds of a list of exchanges holds of the list with one step more
+  -- what holds of a list of exchanges holds of the list with one more step
   abbrev pub StepsKeep : Type 0
   StepsKeep = (past : List Exchange) (old new : NodeView D) (event : Event) (reply : Reply) → Step says old event reply new → LedgerTheorem past old → LedgerTheorem (past ++ (event, reply) ∷ []) new

@@ -21,7 +21,7 @@ impl Model for Peers {
 }
 
 impl Peers {
-    /// These peers.
+    /// The list of these peers.
     pub fn new(nodes: Vec<NodeId>) -> Peers
         ensures { result ≡ nodes.items }
     {
@@ -36,7 +36,7 @@ impl Peers {
     }
 }
 
-/// The most items that each queue holds: of each link, the inbox, the ready and the decided queue; each 1 to 1,024.
+/// The most items that each queue holds: each link's queue, the inbox, the ready and the decided queue. Each number is 1 to 1,024.
 #[derive(Clone, Copy, Debug, PartialEq, Eq)]
 pub struct Capacities {
     pub link: u16,
@@ -63,12 +63,12 @@ fn is_in_range(capacity: u16) -> bool
     capacity >= 1 && capacity <= CAPACITY_LIMIT
 }
 
-/// Who a node is, whom it is linked to, and what its queues hold.
+/// Who a node is, what it is linked to, and what its queues hold.
 #[derive(Debug, Drop)]
 pub struct Config {
     /// The node itself.
     pub me: NodeId,
-    /// Its quorum set: a sane one.
+    /// Its quorum set, which is sane.
     pub set: QuorumSet,
     /// Its peers: at most seven other nodes, none twice.
     pub peers: Peers,
@@ -76,7 +76,7 @@ pub struct Config {
     pub capacities: Capacities,
 }
 
-/// Whether no peer stands there twice.
+/// Whether no peer is in the list twice.
 pub fn are_peers_apart(peers: &[NodeId]) -> bool
     ensures { result ≡ are_apart peers.now }
 {

@@ -1,4 +1,4 @@
-//! The slot stage, the queue behind it, and the applier.
+//! The slot stage, the queue after it, and the applier.
 ghost use Rattle.std.specs.Prelude.{◌≡◌, ◌≢◌, ◌≤◌, ◌∷◌, [], ◌<◌, false, true, length, None, Some, IfOk, IfSome, IsOkUnless, option_copied, slice_get, if◌then◌else◌};
 ghost use Rattle.scp_wire.specs.Fitting.{IsFitting};
 ghost use Rattle.scp_apply.specs.Applied.{made_of, value_of};
@@ -27,8 +27,8 @@ use std::alloc::Global;
 use std::marker::Model;
 use std::sync::Arc;
 
-/// What decides and applies. While it hasn't failed, what the ledger decided was taken by the applier, waits in the queue,
-/// or is in the slot stage's hand: so the applier can take what is next.
+/// What decides and applies. Until it fails, what the ledger decided was taken by the applier, waits in the queue, or is in the slot stage's
+/// hand. So the applier can take what is next.
 #[derive(Drop)]
 pub struct Decider<A: Application + Drop + Copy> {
     failed: bool,
@@ -57,7 +57,7 @@ impl<A: Application + Drop + Copy> Model for Decider<A> {
 }
 
 impl<A: Application + Drop + Copy> Decider<A> {
-    /// One that took nothing.
+    /// A decider that took nothing.
     pub fn new(
         alloc: Global,
         me: NodeId,
@@ -153,7 +153,7 @@ impl<A: Application + Drop + Copy> Decider<A> {
         self.applier.applied()
     }
 
-    /// The state; `None` once failed.
+    /// The state; `None` once it has failed.
     pub fn state(&self) -> Option<&A::State>
         ensures { option_copied result ≡ (if self.now.failed then None else Some (made_of A.first A.after self.now.applier.applied)) }
     {
@@ -163,7 +163,7 @@ impl<A: Application + Drop + Copy> Decider<A> {
         self.applier.state()
     }
 
-    /// It is failed from now on.
+    /// Marks it as failed from now on.
     pub fn fail(&mut self)
         ensures { self.new ≡ failed_now self.old }
     {
@@ -195,7 +195,7 @@ impl<A: Application + Drop + Copy> Decider<A> {
         }
     }
 
-    /// What is in the hand goes into the queue.
+    /// Moves what is in the hand into the queue.
     pub fn put(&mut self) -> Reply
         requires runs { self.old.failed ≡ false }
         ensures { PutsOn self.old result self.new }

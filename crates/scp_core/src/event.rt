@@ -4,7 +4,7 @@ ghost use Rattle.std.specs.Prelude.{◌≡◌, IfOk, IsOkUnless};
 use scp_types::Fault;
 use scp_wire::{Bytes, Command};
 
-/// What happens at a node: one step of one link's tail, or of one stage. Links are numbered as the peers they come from.
+/// What happens at a node: one step of one link's tail, or of one stage. Links are numbered in the order of the peers they come from.
 #[derive(Debug, Drop)]
 pub enum Event {
     /// The peer opens the link: its next life, a new connection, begins.
@@ -15,16 +15,15 @@ pub enum Event {
     Close(u8),
     /// A local command enters the inbox.
     Local(Command),
-    /// The link's reader takes the next item of the link's queue, and what it reads comes to its hand: of a batch its records.
+    /// The link's reader takes the next item of the link's queue. What it reads comes into its hand; for a batch, its records.
     ReaderTake(u8),
     /// The first of what is in the reader's hand goes into the inbox.
     ReaderPut(u8),
-    /// The next ready thing of the pending stage comes to its hand; where there is none, the stage takes the next item of
-    /// the inbox first.
+    /// The next ready thing of the pending stage comes into its hand. If there is none, the stage takes the next item of the inbox first.
     PendTake,
     /// What is in the pending stage's hand goes into the ready queue.
     PendPut,
-    /// The slot stage takes the next ready thing, and what goes on to the applier comes to its hand.
+    /// The slot stage takes the next ready thing. What goes on to the applier comes into its hand.
     SlotTake,
     /// What is in the slot stage's hand goes into the decided queue.
     SlotPut,
@@ -35,7 +34,7 @@ pub enum Event {
 }
 
 impl Event {
-    /// An event that equals this one. It copies a send's bytes and a proposal's value; the one refusal is `Fault::NoMemory`.
+    /// An event that equals this one. It copies a send's bytes and a proposal's value. The only refusal is `Fault::NoMemory`.
     pub fn copy(&self) -> Result<Event, Fault>
         ensures same { IfOk result (λ copied. copied ≡ self.now) }
         ensures only_memory { IsOkUnless result Fault.NoMemory }
@@ -57,16 +56,15 @@ impl Event {
     }
 }
 
-/// What a node answers to an event. Of several that fit, the first in this order: `Failed`, `NoLink`, those of the event's
-/// own in the order of the stages' documentation, and last `NoMemory`. It can't be copied or compared, since `Sent` has the
-/// bytes: match on it.
+/// What a node answers to an event. If several fit, it is the first in this order: `Failed`, `NoLink`, the event's own in the order of the
+/// stages' documentation, and `NoMemory` last. It can't be copied or compared, since `Sent` has the bytes: match on it.
 #[derive(Debug, Drop)]
 pub enum Reply {
     /// The event was taken at the tail of a link, or into the inbox.
     Accepted,
     /// The stage did its step.
     Moved,
-    /// These bytes are sent: they spell a link message.
+    /// These bytes are sent: they encode a link message.
     Sent(Bytes),
     /// There is nothing to take, nothing in the hand to put, or nothing to send.
     Idle,
@@ -76,16 +74,16 @@ pub enum Reply {
     Full,
     /// The link isn't open.
     NotOpen,
-    /// The link is open.
+    /// The link is open already.
     AlreadyOpen,
-    /// The link was opened 65,535 times.
+    /// The link was opened 65,535 times already.
     LivesSpent,
     /// There is no such link.
     NoLink,
     /// The node failed before.
     Failed,
-    /// The journal has 1,000,000 entries; the node is failed.
+    /// The journal has 1,000,000 entries; the node has failed.
     JournalFull,
-    /// A growth was refused; the node is failed.
+    /// The node is out of memory, and has failed.
     NoMemory,
 }

@@ -33,8 +33,8 @@ fn hand(outboxes: &mut Outboxes, link: u8, message: Message)
     outboxes.put(link, FittingMessage::of(message));
 }
 
-/// Puts all that goes out into the outboxes, in order, and gives the own statements among it. Where a copy of what goes to all
-/// peers is refused, some outboxes have it and others haven't.
+/// Puts all that goes out into the outboxes, in order, and gives the own statements among it. If a copy of what goes to all peers is refused,
+/// some outboxes have it and others don't.
 pub fn hand_out_all(outboxes: &mut Outboxes, outgoing: OutgoingList) -> Result<SaidList, Fault>
     ensures said { IfOk result (λ said. said ≡ said_among outgoing) }
     ensures hands { OnOk result (HandsEach outboxes.old outgoing outboxes.new) }
@@ -51,8 +51,7 @@ pub fn hand_out_all(outboxes: &mut Outboxes, outgoing: OutgoingList) -> Result<S
     }
 }
 
-/// The own statements for all peers among what goes out, in order, each shared: nothing is copied. It is refused only where one of
-/// them is there.
+/// The own statements for all peers among what goes out, in order, each shared, so nothing is copied. Refused only if there is such a statement.
 fn said_in(alloc: Global, outgoing: &[Outgoing]) -> Result<SaidList, Fault>
     ensures said { IfOk result (λ said. said ≡ said_among outgoing.now) }
     ensures to_all { OnErr result (Any IsToAll outgoing.now) }
@@ -66,7 +65,7 @@ fn said_in(alloc: Global, outgoing: &[Outgoing]) -> Result<SaidList, Fault>
     Ok(SaidList::new(said))
 }
 
-/// Adds the own statement that goes to all peers, if it is one.
+/// Adds the own statement, if this goes to all peers.
 fn add_said(said: &mut Vec<SharedEnvelope>, outgoing: &Outgoing) -> Result<(), Fault>
     ensures adds { OnOk result (said.new.items ≡ said.old.items ++ said_by outgoing.now) }
     ensures to_all { OnErr result (IsToAll outgoing.now) }
@@ -85,7 +84,7 @@ fn add_shared(said: &mut Vec<SharedEnvelope>, envelope: &SharedEnvelope) -> Resu
     Ok(())
 }
 
-/// The same of a list, the last of which comes at last.
+/// The same for a list, whose last element comes last.
 fn hand_out_rest(outboxes: &mut Outboxes, outgoing: Vec<Outgoing>) -> Result<(), Fault>
     requires fits { All FitsOut outgoing.items }
     ensures hands { OnOk result (HandsEach outboxes.old outgoing.items outboxes.new) }
@@ -143,7 +142,7 @@ fn spell(alloc: Global, message: &Message) -> Reply
     }
 }
 
-/// Why there is nothing of a link: nothing waits, or there is no such link.
+/// Why a link gives nothing: nothing waits, or there is no such link.
 fn empty(count: usize, link: u8) -> Reply
     ensures { result ≡ empty_reply count link }
 {

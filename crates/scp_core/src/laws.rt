@@ -1,4 +1,4 @@
-//! Laws of the definitions, each the contract of a function that does nothing: what the ledger theorem gives.
+//! Laws of the definitions, each the contract of a function that does nothing: what follows from the ledger theorem.
 ghost use Rattle.scp_core.specs.Theorem.{StepsKeep};
 ghost use Rattle.scp_core.specs.Ledger.{TheoremGivesLedger};
 ghost use Rattle.scp_core.specs.Headline.{LedgerGivesHeadline};
@@ -27,7 +27,7 @@ use scp_wire::{
     what_is_read_keeps_the_shape,
 };
 
-/// What holds of a list of exchanges and the node holds of the list with one step more.
+/// What holds of a list of exchanges and the node holds of the list with one more step.
 pub fn what_holds_of_a_past_holds_with_one_step_more<D: Driver + Drop + Copy>()
     ensures { StepsKeep D.says }
 {
@@ -39,8 +39,8 @@ pub fn what_holds_of_a_past_holds_with_one_step_more<D: Driver + Drop + Copy>()
     what_holds_of_an_applier_holds_with_one_thing_more();
 }
 
-/// The node holds its ledger: each message has one fate, each fate and each verdict its cause, each decision its ground, and
-/// all that was sent has its ground.
+/// The node holds its ledger. Each message has at most one fate, each fate and each verdict has its cause, each decision has what it rests
+/// on, and all that was sent has its reason.
 pub fn each_node_holds_its_ledger<D: Driver + Drop + Copy>()
     ensures ledger { TheoremGivesLedger D.says }
 {
@@ -54,22 +54,21 @@ pub fn each_node_holds_its_ledger<D: Driver + Drop + Copy>()
     what_is_sent_was_handed_out();
 }
 
-/// A node that holds its ledger holds its headline: of what was sent, what it holds and what it shows.
+/// A node that holds its ledger holds its headline: what was sent to it, what it holds and what it shows.
 pub fn each_node_holds_its_headline<D: Driver + Drop + Copy>()
     ensures headline { LedgerGivesHeadline D.says }
 {
     what_keeps_the_ledger_keeps_the_headline::<D>();
 }
 
-/// Where the pending stage answers Idle nothing is ready, and the head of each lane that it holds is an envelope that waits for
-/// its quorum set.
+/// When the pending stage answers Idle, nothing is ready, and the head of each lane that it holds is an envelope that waits for its quorum set.
 pub fn what_is_idle_is_settled<D: Driver + Drop + Copy>()
     ensures settled { IdleIsSettled D.says }
 {}
 
-/// The length of each queue is what was put into it less what was taken; its room is its capacity less that; and the lives of
-/// a link are its accepted opens. Of a node that failed it is so at the moment before, and each link's room is what it was, but for
-/// the item that a reader took.
+/// The length of each queue is what was put into it minus what was taken. Its room is its capacity minus that
+/// length. A link's lives are its accepted opens. For a node that failed this holds at the moment before. Each
+/// link's room is what it was then, plus one if its reader took an item.
 pub fn queues_hold_what_was_put_and_not_taken<D: Driver + Drop + Copy>()
     ensures room { TheoremGivesRoom D.says }
 {}
@@ -83,16 +82,16 @@ pub fn whatever_is_replied_fits()
     the_last_sets_are_stored();
 }
 
-/// Each step puts all that its stage hands out into the outboxes of its links, in order; and a drain of a link gives what its
-/// outbox gives next, Idle where that is nothing.
+/// Each step puts all that its stage hands out into the outboxes of its links, in order. A drain of a link
+/// gives what its outbox gives next, or Idle if that is nothing.
 pub fn what_is_handed_out_is_put<D: Driver + Drop + Copy>()
     ensures puts { StepsPutAll D.says }
     ensures drains { DrainsGiveNext D.says }
 {}
 
-/// The same events give the same replies: two runs of one application and configuration and the same events, where no step lacked memory, have the
-/// same replies, and leave nodes that show the same. What isn't said: the places at which values lie, and the order of the applier's
-/// buffer.
+/// The same events give the same replies. Two runs with the same application, configuration and events, in which no
+/// step ran out of memory, have the same replies and leave nodes that show the same. Two things aren't promised: where
+/// in memory values lie, and the order of the applier's buffer.
 pub fn what_two_runs_reply_is_the_same<D: Driver + Drop + Copy>()
     ensures same { SameEventsSameReplies D.says }
 {

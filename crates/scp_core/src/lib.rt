@@ -1,17 +1,17 @@
 //! One node of a ledger pipeline, of any application: up to seven links with their readers, an inbox, a pending stage, a slot stage and an
 //! applier, with bounded queues between them. One event is one step of one stage.
 //!
-//! What it promises, for every list of events, of a node that runs, and of one that failed as it stood before (`HoldsLedger` in
-//! `specs/Ledger.antt`, by `run`, and by `Node::step` with the law `each_node_holds_its_ledger`):
-//! - its links, queues, hands and stages keep the ledger as `scp_theorem` says: one fate for each message, in order, none lost;
-//!   its cause for each fate and each verdict; one decision for each slot, with its ground; and the applied
-//!   values; the state is what the application makes of them, one after another (`Node::state`);
-//! - all that was sent over a link spells messages that may be sent there, each own statement newer than those before it.
+//! What it promises for every list of events (`HoldsLedger` in `specs/Ledger.antt`), of a node that runs, and of one that failed as it was
+//! before. `run` promises it, and so does `Node::step` with the law `each_node_holds_its_ledger`:
+//! - Its links, queues, hands and stages keep the ledger as `scp_theorem` says. Each message has at most one fate, in order, and none is
+//!   lost. Each fate and each verdict has its cause. Each slot has at most one decision, with what it rests on. Slots are applied in order,
+//!   and the state is what the application makes of the applied values, one after another (`Node::state`).
+//! - All that was sent over a link encodes messages that may be sent there. Each own statement is newer than those before it.
 //!
-//! And of each event: its reply is that of the table of replies, and a queue is full exactly at its capacity; what a stage hands
-//! out for a link is put into that link's outbox, in order; and a drain gives what is next.
+//! For each event: its reply is that of the table of replies. A queue is full exactly at its capacity. What a stage hands out for a link is
+//! put into that link's outbox, in order. A drain gives what is next.
 //!
-//! And of two runs: the same events give the same replies, where no step lacks memory (`what_two_runs_reply_is_the_same`).
+//! For two runs: the same events give the same replies, if no step runs out of memory (`what_two_runs_reply_is_the_same`).
 #![tactic(auto)]
 
 mod config;

@@ -1,4 +1,4 @@
-//! The links of a node, at their receiving ends.
+//! The receiving ends of a node's links.
 ghost use Rattle.std.specs.Prelude.{◌≡◌, ◌≢◌, ◌-◌, ◌∷◌, [], ◌⊎◌, length, Some, None, IsSome, false, true, IfOk, slice_get, slice_set, replicate, IsOkUnless, MatchOption, option_copied};
 ghost use Rattle.scp_core.specs.Node.{new_link, link_accepts, has_read};
 ghost use Rattle.scp_core.specs.inside.Links.{Opens, Sends, Closes, Reads, OnLinks, Gives, Puts};
@@ -13,8 +13,8 @@ use scp_wire::{Bytes, Inbound, LinkItem, LinkReader};
 use std::alloc::Global;
 use std::marker::Model;
 
-/// A link. Its hand is what its reader read of the last item and isn't put yet: the first of that, and of a batch the rest,
-/// which the reader has.
+/// A link. Its hand has what its reader read of the last item and didn't put yet: the first
+/// thing of that; the rest of a batch is still with the reader.
 #[derive(Drop)]
 pub struct Link {
     life: u32,
@@ -165,7 +165,7 @@ impl Link {
         }
     }
 
-    /// The first of what is in the hand, out of it where there is room for it; then the next is the first.
+    /// Takes the first thing out of the hand if there is room for it; then the next one is the first.
     fn give(&mut self, is_full: bool) -> Result<Inbound, Stop>
         ensures { Gives self.old is_full (told result) self.new }
     {
@@ -212,7 +212,7 @@ pub fn close(links: &mut Vec<Link>, link: u8, from: NodeId, to: NodeId) -> Reply
     }
 }
 
-/// The link's reader takes an item. Where memory is wanting, the item is gone.
+/// The link's reader takes an item. If it runs out of memory, the item is gone.
 pub fn read(alloc: Global, links: &mut Vec<Link>, link: u8) -> Reply
     ensures { OnLinks Reads links.old.items link result links.new.items }
 {
@@ -222,7 +222,7 @@ pub fn read(alloc: Global, links: &mut Vec<Link>, link: u8) -> Reply
     }
 }
 
-/// The first of what is in the reader's hand, out of it, unless there is no such link, nothing in the hand, or no room for it.
+/// Takes the first thing out of the reader's hand, unless there is no such link, nothing in the hand, or no room for it.
 pub fn give(links: &mut Vec<Link>, link: u8, is_full: bool) -> Result<Inbound, Stop>
     ensures { Puts links.old.items link is_full (told result) links.new.items }
 {
@@ -232,7 +232,7 @@ pub fn give(links: &mut Vec<Link>, link: u8, is_full: bool) -> Result<Inbound, S
     }
 }
 
-/// So many links that were never open.
+/// This many links that were never open.
 pub fn new_links(alloc: Global, count: usize, room: usize) -> Result<Vec<Link>, Fault>
     ensures new { IfOk result (λ links. links.items ≡ replicate count (new_link room)) }
     ensures only_memory { IsOkUnless result Fault.NoMemory }

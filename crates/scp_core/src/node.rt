@@ -35,8 +35,7 @@ use std::alloc::Global;
 use std::marker::Model;
 use std::sync::Arc;
 
-/// A node whose links come from its peers, in their order. Its values are those of the application; of operation lists, where none
-/// is named.
+/// A node whose links come from its peers, in order. Its values are those of the application; operation lists, if no application is named.
 #[derive(Drop)]
 pub struct Node<A: Application + Drop + Copy = KvDriver> {
     alloc: Global,
@@ -86,9 +85,9 @@ impl<A: Application + Drop + Copy> Model for Node<A> {
 }
 
 impl<A: Application + Drop + Copy> Node<A> {
-    /// A node that has heard nothing, with a link for each of its peers; it takes all the room that its queues will need.
-    /// Refused by `BadConfig` where the quorum set isn't sane, where there are more than seven peers, a peer twice, or the
-    /// node among its peers, and where a capacity isn't 1 to 1,024; else by `NoMemory`.
+    /// A node that has heard nothing, with a link for each of its peers. It takes all the room that its queues will need.
+    /// Refused by `BadConfig` if the quorum set isn't sane, or a capacity isn't 1 to 1,024. Also if there are more than seven peers, a peer
+    /// twice, or the node among its peers. Else refused by `NoMemory`.
     pub fn new(alloc: Global, config: Config, application: A) -> Result<Node<A>, Fault>
         // What holds of a list of events holds of the empty list.
         ensures theorem { IfOk result (λ node. LedgerTheorem A.says [] node) }
@@ -115,7 +114,7 @@ impl<A: Application + Drop + Copy> Node<A> {
         Node::with_set(alloc, me, set, application, peers, capacities)
     }
 
-    /// A node of a configuration that is fit.
+    /// A node with a configuration that is fit.
     fn with_set(
         alloc: Global,
         me: NodeId,
@@ -170,35 +169,35 @@ impl<A: Application + Drop + Copy> Node<A> {
         self.me
     }
 
-    /// The nodes at the other ends of its links, in their order.
+    /// The nodes at the other ends of its links, in order.
     pub fn peers(&self) -> &[NodeId]
         ensures { result.now ≡ self.now.config.peers }
     {
         self.peers.as_slice()
     }
 
-    /// Every fate so far, in the order in which they fell; of a failed node, those of before the step that failed it.
+    /// Every fate so far, in the order in which they were entered; of a failed node, those from before the step that failed it.
     pub fn journal(&self) -> &[Fate]
         ensures { result.now ≡ self.now.ledger.journal }
     {
         self.decider.journal()
     }
 
-    /// Every decision so far, in the order in which they were made; of a failed node as `journal`.
+    /// Every decision so far, in the order in which they were made; of a failed node as for `journal`.
     pub fn decisions(&self) -> &[SharedDecision]
         ensures { result.now ≡ self.now.ledger.decisions }
     {
         self.decider.decisions()
     }
 
-    /// The decisions of slots 1 to n, which were applied; of a failed node as `journal`.
+    /// The decisions of slots 1 to n, which were applied; of a failed node as for `journal`.
     pub fn applied(&self) -> &[SharedDecision]
         ensures { result.now ≡ self.now.applier.applied }
     {
         self.decider.applied()
     }
 
-    /// The decisions that were applied of the slots behind this one, in their order: what a host hasn't seen that knows of it.
+    /// The applied decisions of the slots after this one, in order: those that a host which knows the slots up to this one hasn't seen.
     pub fn applied_since(&self, slot: Slot) -> &[SharedDecision]
         ensures { result.now ≡ drop slot.0 self.now.applier.applied }
     {
@@ -210,7 +209,7 @@ impl<A: Application + Drop + Copy> Node<A> {
         }
     }
 
-    /// The state that the applied values make, one after another, from the application's first; `None` once the node is failed.
+    /// The state that the applied values make, one after another, from the application's first state; `None` once the node has failed.
     pub fn state(&self) -> Option<&A::State>
         ensures { option_copied result ≡ (if self.now.failed then None else Some (made_of A.first A.after self.now.applier.applied)) }
     {
@@ -224,15 +223,15 @@ impl<A: Application + Drop + Copy> Node<A> {
         self.set.set()
     }
 
-    /// What was taken, decided and asked, and the machines of slots. Of a failed node it says nothing.
+    /// What was taken, decided and asked, and the machines of slots. It says nothing of a failed node.
     pub fn ledger(&self) -> &Ledger<A>
         ensures { self.now.failed ≡ false → result.now ≡ self.now.ledger }
     {
         self.decider.ledger()
     }
 
-    /// The timers that should run now: of each of the 16 open slots that of its nomination, and that of its ballot. How long each runs
-    /// is the host's; when one runs out, the host tells the node so by `Round` or `Timer` of its slot. Of a failed node it says nothing.
+    /// The timers that should run now: for each of the 16 open slots that of its nomination, and that of its ballot. The host chooses how
+    /// long each runs. When one runs out, the host tells the node by `Round` or `Timer` of its slot. It says nothing of a failed node.
     pub fn timers(&self, alloc: Global) -> Result<Vec<Timer>, Fault>
         ensures exact { self.now.failed ≡ false → IfOk result (λ found. AreTimers self.now.ledger.machines self.now.ledger.lowest 16 found.items) }
         ensures only_memory { IsOkUnless result Fault.NoMemory }
@@ -254,24 +253,24 @@ impl<A: Application + Drop + Copy> Node<A> {
         self.outboxes.waiting(link)
     }
 
-    /// How many own statements for the peer of this link were lost before they were sent: those that a newer one of their slot
-    /// and kind replaced, and those that were dropped where 64 others waited; 0 for a link that isn't there.
+    /// How many own statements for the peer of this link were lost before they were sent. A newer one of their slot and kind replaced them,
+    /// or they were dropped because 64 others waited. 0 for a link that isn't there.
     pub fn overwritten(&self, link: u8) -> u64
         ensures { result ≡ overwritten_at self.now.outboxes link }
     {
         self.outboxes.overwritten(link)
     }
 
-    /// What became of the command that the slot stage took last, at the last SlotTake that moved; `None` where that took
-    /// something else, or where there was none yet. Of a failed node, what it was before the step that failed it.
+    /// What became of the command that the slot stage took last, at the last SlotTake that moved; `None` if that took something else, or if
+    /// there was none yet. For a failed node, what it was before the step that failed it.
     pub fn last_command(&self) -> Option<CommandFate>
         ensures { result ≡ self.now.last_command }
     {
         self.decider.last_command()
     }
 
-    /// The own statements for all peers that the slot stage handed out at the last SlotTake that moved, in order, each shared with
-    /// those who hold it; none where there was no such step yet. Of a failed node, what it was before the step that failed it.
+    /// The own statements for all peers that the slot stage handed out at the last SlotTake that moved, in order. Each is shared with its
+    /// other holders. None before the first such step. For a failed node, what they were before the step that failed it.
     pub fn last_said(&self) -> &[SharedEnvelope]
         ensures { result.now ≡ self.now.last_said }
     {
@@ -288,8 +287,8 @@ impl<A: Application + Drop + Copy> Node<A> {
         }
     }
 
-    /// Whether the reader of the link holds something that it read and that isn't in the inbox yet. Just behind a ReaderTake that moved
-    /// it holds nothing exactly where what it took was discarded, since its connection had ended.
+    /// Whether the link's reader holds something that it read and that isn't in the inbox yet. Right after a ReaderTake that moved, it holds
+    /// nothing exactly if what it took was discarded because its connection had ended.
     pub fn has_read(&self, link: u8) -> bool
         ensures { result ≡ has_read_at self.now link }
     {
@@ -354,8 +353,8 @@ impl<A: Application + Drop + Copy> Node<A> {
         }
     }
 
-    /// How many items the link's queue can still take: its capacity less its length; 0 for a link that isn't there. Of a
-    /// failed node that is what it was before the step that failed it, and one more where that step's reader took an item.
+    /// How many items the link's queue can still take: its capacity minus its length; 0 for a link that isn't there. For a failed node, what
+    /// it was before the step that failed it, and one more if that step's reader took an item.
     pub fn room(&self, link: u8) -> usize
         ensures { result ≡ room_at self.now link }
     {
@@ -378,7 +377,7 @@ impl<A: Application + Drop + Copy> Node<A> {
         }
     }
 
-    /// Whether a step failed, for want of memory or of room in the journal.
+    /// Whether a step failed, because it ran out of memory or the journal was full.
     pub fn has_failed(&self) -> bool
         ensures { result ≡ self.now.failed }
     {
@@ -392,27 +391,26 @@ impl<A: Application + Drop + Copy> Node<A> {
         self.pending.parked(conn)
     }
 
-    /// One event. What holds of a list of events, their replies and the node holds of the list with one more.
+    /// Plays one event. What holds of a list of events, their replies and the node holds of the list with one more.
     ///
-    /// A reader's take costs the message's length; a take of the pending stage what `Pending::take` costs, one of the slot
-    /// stage what `Ledger::take`, one of the applier what `Applier::take` and a drain what `scp_wire::encode` costs; an own
-    /// statement is copied for each link; all else is constant. Only the takes of the reader, the pending stage, the slot
-    /// stage and the applier, and a drain, can lack memory.
+    /// A reader's take costs the message's length. The pending stage's take costs what `Pending::take` costs; the slot stage's, what
+    /// `Ledger::take` costs; the applier's, what `Applier::take` costs. A drain costs what `scp_wire::encode` costs. An own statement is
+    /// copied for each link. All else is constant. Only these takes and a drain can run out of memory.
     pub fn step(&mut self, event: Event) -> Reply
         // What the event does to this node, by the table of replies.
         ensures step { Step A.says self.old event result self.new }
-        // What holds of every list of events, their replies and the node.
+        // What holds of every list of events, of their replies and of the node.
         ensures theorem { (past : List Exchange) → LedgerTheorem A.says past self.old → LedgerTheorem A.says (past ++ (event, result) ∷ []) self.new }
         // A refusal leaves the node as it was.
         ensures same { result ≢ Reply.Accepted → result ≢ Reply.Moved → result ≢ Reply.JournalFull → result ≢ Reply.NoMemory → ((bytes : List ℕ) → result ≢ Reply.Sent bytes) → self.new ≡ self.old }
-        // A node that fails keeps its journal, its decisions and whom it asked, what is applied, and how often each link was opened.
+        // A node that fails keeps its journal, its decisions, the links it asked, what is applied, and how often each link was opened.
         ensures kept { (result ≡ Reply.NoMemory) ⊎ (result ≡ Reply.JournalFull) → Keeps self.old self.new }
         ensures fails { (result ≡ Reply.NoMemory) ⊎ (result ≡ Reply.JournalFull) → self.new.failed ≡ true }
-        // Each link's room is then what it was, but for the item that a reader took.
+        // Each link's room is then what it was, plus one if its reader took an item.
         ensures room { (result ≡ Reply.NoMemory) ⊎ (result ≡ Reply.JournalFull) → LeavesRoom self.old event self.new }
-        // A failed node answers so, and no other does.
+        // A failed node answers `Failed`, and no other node does.
         ensures failed { result ≡ Reply.Failed ↔ (self.old.failed ≡ true) }
-        // The journal grows at its end alone.
+        // The journal grows only at its end.
         ensures grows { (more : List Fate) × (self.new.ledger.journal ≡ self.old.ledger.journal ++ more) }
         ensures config { self.new.config ≡ self.old.config }
     {
@@ -613,7 +611,7 @@ impl<A: Application + Drop + Copy> Node<A> {
     }
 }
 
-/// Whether peers and capacities are those of a configuration.
+/// Whether peers and capacities are as a configuration needs them.
 fn is_fit(me: &NodeId, peers: &[NodeId], capacities: Capacities) -> bool
     ensures { IsTrue result ↔ IsFit me.now peers.now capacities }
 {

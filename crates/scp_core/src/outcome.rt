@@ -4,7 +4,7 @@ use crate::event::Reply;
 use crate::node::Node;
 use scp_driver::{Application, KvDriver};
 
-/// The replies to a list of events, in their order, and the node that they left.
+/// The replies to a list of events, in order, and the node that the events left.
 #[derive(Drop)]
 pub struct Run<A: Application + Drop + Copy = KvDriver> {
     pub replies: Vec<Reply>,

@@ -1,4 +1,4 @@
-//! A list of events on a new node.
+//! Running a list of events on a new node.
 ghost use Rattle.std.specs.Prelude.{◌≡◌, ◌↔◌, ◌⊎◌, [], IfOk, IfErr, OnOk, IsOkUnless, zip, length, Err};
 ghost use Rattle.scp_core.specs.Ledger.{HoldsLedger};
 ghost use Rattle.scp_core.specs.Headline.{HoldsHeadline};
@@ -15,19 +15,19 @@ use scp_driver::Application;
 use scp_types::Fault;
 use std::alloc::Global;
 
-/// Runs the events in order on a new node of the application; each is copied. Refused by `BadConfig` as `Node::new`, else by want of memory for
-/// the node, the copies and the replies. A refusal within a step is that step's reply.
+/// Runs the events in order on a new node of the application; each event is copied. Refused by `BadConfig` as `Node::new` is, else by
+/// `NoMemory` for the node, the copies and the replies. A refusal within a step is that step's reply.
 pub fn run<A: Application + Drop + Copy>(
     alloc: Global,
     config: Config,
     application: A,
     events: &[Event],
 ) -> Result<Run<A>, Fault>
-    // What holds of every list of events, their replies and the node.
+    // What holds of every list of events, of their replies and of the node.
     ensures theorem { IfOk result (λ run. LedgerTheorem A.says (zip events.now run.replies.items) run.node) }
-    // So the node holds its ledger, by the events and the replies.
+    // So the node holds its ledger, for these events and replies.
     ensures ledger { IfOk result (λ run. HoldsLedger A.says (zip events.now run.replies.items) run.node) }
-    // And its headline, which says what matters most of that.
+    // And the node holds its headline, which says what matters most of that.
     ensures headline { IfOk result (λ run. HoldsHeadline (zip events.now run.replies.items) run.node) }
     ensures count { IfOk result (λ run. length run.replies.items ≡ length events.now) }
     ensures config { IfOk result (λ run. run.node.config ≡ config) }

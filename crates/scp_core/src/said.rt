@@ -3,7 +3,7 @@
 use scp_envelope::SharedEnvelope;
 use std::marker::Model;
 
-/// Own statements for all peers, in their order. Contracts see the list.
+/// Own statements for all peers, in order. Contracts see the list.
 #[derive(Debug, Drop)]
 pub struct SaidList(Vec<SharedEnvelope>);
 

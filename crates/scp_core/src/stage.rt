@@ -21,7 +21,7 @@ use std::alloc::Global;
 use std::marker::Model;
 use std::sync::Arc;
 
-/// What a taken thing gives: what goes on to the applier, what became of a command, and the own statements for all peers.
+/// What the stage gives for a thing: what goes on to the applier, what became of a command, and the own statements for all peers.
 #[derive(Drop)]
 pub struct Given {
     pub onward: Option<Onward>,
@@ -36,8 +36,8 @@ pub struct Shown {
     pub decisions: usize,
 }
 
-/// A ledger. Where a copy of what goes to all peers is refused, after the ledger took its thing, it has failed, and shows its
-/// lists as they were before.
+/// A ledger. If a copy of what goes to all peers is refused after the ledger took its thing,
+/// the stage has failed, and shows the lists as they were before.
 #[derive(Drop)]
 pub struct SlotStage<A: Application + Drop + Copy> {
     ledger: Ledger<A>,
@@ -60,7 +60,7 @@ impl<A: Application + Drop + Copy> Model for SlotStage<A> {
 }
 
 impl<A: Application + Drop + Copy> SlotStage<A> {
-    /// One that took nothing.
+    /// A slot stage that took nothing.
     pub fn new(
         alloc: Global,
         me: NodeId,
@@ -79,7 +79,7 @@ impl<A: Application + Drop + Copy> SlotStage<A> {
         }
     }
 
-    /// The ledger; of a stage that failed its lists may be longer than those that are shown.
+    /// The ledger. If the stage failed, its lists may be longer than those that are shown.
     #[tactic(auto, using(crate::proofs::Cutting::shown_same))]
     pub fn ledger(&self) -> &Ledger<A>
         ensures { self.now.failed ≡ false → result.now ≡ self.now }
@@ -131,7 +131,7 @@ impl<A: Application + Drop + Copy> SlotStage<A> {
     }
 }
 
-/// So many of a list from the first on, or all.
+/// The first elements of a list, this many, or all if there are fewer.
 fn first<T>(list: &[T], count: usize) -> &[T]
     ensures { result.now ≡ take count list.now }
 {

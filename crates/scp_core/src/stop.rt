@@ -4,7 +4,7 @@ ghost use Rattle.scp_core.specs.inside.Stops.{reply_of};
 
 use crate::event::Reply;
 
-/// Why a stage gives nothing: those replies that carry nothing, so that what is given or not fits in few bytes.
+/// Why a stage gives nothing: the replies that carry nothing, so a result of giving stays a few bytes.
 #[derive(Clone, Copy, Debug)]
 pub enum Stop {
     NoLink,

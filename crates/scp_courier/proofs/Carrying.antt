@@ -28,7 +28,7 @@ spelt_more : (xs : List LinkItem) (x : LinkItem) → AreSpelt xs → IsSpelt x �
 spelt_more [] x a s = (s, tt)
 spelt_more (y ∷ xs) x a s = (a.0, spelt_more xs x a.1 s)
 
--- and what was sent spells messages
+-- and what was sent encodes messages
 pub spelt_then : (x : Out) (old new : LinkEnd) → Carries x old new → AreSpelt old.tail.sent → AreSpelt new.tail.sent
 spelt_then (out.Mark Opened) old new c a = rw c (spelt_more old.tail.sent _ a tt)
 spelt_then (out.Mark Closed) old new c a = rw c (spelt_more old.tail.sent _ a tt)

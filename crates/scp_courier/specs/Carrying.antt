@@ -14,13 +14,13 @@ use Rattle.scp_desk.specs.Ends.{TakerView}
 
 -- ---- what goes over a link
 
--- bytes that were sent spell a message
+-- bytes that were sent encode a message
 abbrev pub IsSpelt : LinkItem → Type 0
 IsSpelt (item.Opened conn) = Unit {0}
 IsSpelt (item.Bytes conn bytes) = (message : Message) × SpellsMessage bytes (message_value message)
 IsSpelt (item.Closed conn) = Unit {0}
 
--- all bytes among the items spell messages
+-- all bytes among the items encode messages
 abbrev pub AreSpelt : List LinkItem → Type 0
 AreSpelt items = AllByRecursion IsSpelt items
 
@@ -30,13 +30,13 @@ Tells Opened old new = new ≡ with_item old (item.Opened (conn_next old))
 Tells Closed old new = new ≡ with_item old (item.Closed (conn_now old))
 Tells Stop old new = new ≡ old
 
--- what was given is what was sent: a mark, or the spelling of a message
+-- what was given is what was sent: a mark, or the encoding of a message
 abbrev pub Carries : Out → LinkEnd → LinkEnd → Type 0
 Carries (out.Mark mark) old new = Tells mark old new
 Carries (out.Message message) old new = (bytes : List ℕ) × SpellsMessage bytes (message_value message) × (new ≡ with_item old (item.Bytes (conn_now old) bytes))
 Carries out.Nothing old new = new ≡ old
 
--- each of these was, one after the other
+-- each of these was carried, one after the other
 abbrev pub Carried : List Out → LinkEnd → LinkEnd → Type 0
 Carried [] old new = new ≡ old
 Carried (x ∷ xs) old new = (between : LinkEnd) × Carries x old between × Carried xs between new
@@ -45,7 +45,7 @@ Carried (x ∷ xs) old new = (between : LinkEnd) × Carries x old between × Car
 abbrev pub unsent : LinkEnd → LinkEnd
 unsent k = record k { tail = record k.tail { sent = [] } }
 
--- ---- what it was told
+-- ---- what it was given
 
 -- it is the mark that ends a courier
 abbrev pub is_stop : Out → Bool
@@ -55,11 +55,11 @@ is_stop (out.Mark Closed) = false
 is_stop (out.Message message) = false
 is_stop out.Nothing = false
 
--- none of these is
+-- none of these is Stop
 abbrev pub HaveNoStop : List Out → Type 0
 HaveNoStop outs = AllByRecursion (λ x. is_stop x ≡ false) outs
 
--- the last is, and no other
+-- the last one is Stop, and no other
 pub record EndAtStop (outs : List Out) : Type 0 where
   pub front : List Out
   pub last : outs ≡ front ++ out.Mark Stop ∷ []
@@ -67,28 +67,28 @@ pub record EndAtStop (outs : List Out) : Type 0 where
 
 -- ---- a courier
 
--- what contracts see of a courier that works: the sending end of its link, the end of the outbox by which it is given what waits, and
--- whether it failed
+-- what contracts see of a courier that works: the sending end of its link, the end of the outbox
+-- through which it is given what waits, and whether it failed
 pub record CourierWorking : Type 0 where
   pub link : LinkEnd
   pub taker : TakerView
   pub failed : Bool
 
--- what it ends with: its link's end is there where it ended well; the end of the outbox; how often it opened the link, and whether it left
--- it open
+-- what a courier ends with: its link's end, if it ended well; the end of the outbox; how
+-- often it opened the link; and whether it left the link open
 pub record CourierEnd : Type 0 where
   pub link : Option LinkEnd
   pub taker : TakerView
   pub lives : ℕ
   pub is_open : Bool
 
--- so the link stands, and all bytes that went over it spell messages
+-- the link was opened this often and is open or not as this says, and all bytes that went over it encode messages
 pub record IsCarried (lives : ℕ) (is_open : Bool) (k : LinkEnd) : Type 0 where
   pub opened : (stands k).life ≡ lives
   pub left_open : (stands k).is_open ≡ is_open
   pub spelt : AreSpelt k.tail.sent
 
--- the last that it was given is Stop, and no other is; and what it sent is all of that, in order, from the first on
+-- the last that it was given is Stop, and no other is; what it sent is all of that, in order, from the first on
 pub record HasCarried (given : List Out) (k : LinkEnd) : Type 0 where
   pub ends : EndAtStop given
   pub carried : Carried given (unsent k) k

@@ -40,7 +40,7 @@ impl Model for Courier {
     ghost invariant = { λ w. AreSpelt w.link.tail.sent × (w.failed ≡ false → Carried w.taker.gave (unsent w.link) w.link) };
 }
 
-/// What a courier ends with: the end of the outbox, how its link stands, and where it ended well, what the link's end leaves.
+/// What a courier ends with: the end of the outbox, how its link is left, and, if it ended well, what the link's end leaves.
 #[derive(Drop)]
 pub struct CourierEnded {
     done: Option<LinkDone>,
@@ -73,28 +73,28 @@ impl CourierEnded {
         self.done.is_some()
     }
 
-    /// How often it opened its link.
+    /// How often the courier opened its link.
     pub fn lives(&self) -> u32
         ensures { result ≡ self.now.lives }
     {
         self.lives
     }
 
-    /// Whether it left its link open.
+    /// Whether the courier left its link open.
     pub fn is_open(&self) -> bool
         ensures { result ≡ self.now.is_open }
     {
         self.is_open
     }
 
-    /// What the link's end leaves, where the courier ended well; and the end of the outbox.
+    /// What the link's end leaves, if the courier ended well; and the end of the outbox.
     pub fn into_parts(self) -> (Option<LinkDone>, Taker)
         ensures link { result.0 ≡ self.link }
-        // By this end the courier was given all that it carried.
+        // All that the courier carried was given through this end.
         ensures taker { result.1 ≡ self.taker }
-        // So the link stands, and all bytes that were sent spell messages.
+        // The link was opened this often and is open or not as reported, and all bytes that were sent encode messages.
         ensures carried { IfSome result.0 (IsCarried self.lives self.is_open) }
-        // It was given all up to Stop, and sent it.
+        // It was given all up to Stop, and sent that.
         ensures given { IfSome result.0 (HasCarried self.taker.gave) }
     {
         let CourierEnded { done, taker, .. } = self;
@@ -103,8 +103,8 @@ impl CourierEnded {
 }
 
 impl Courier {
-    /// A courier of this node for the link of this number, between an outbox of which nothing was given yet and a link over which
-    /// nothing was sent yet. Takes no memory.
+    /// A courier of this node for the link of this number, between an outbox that gave nothing yet
+    /// and a link over which nothing was sent yet. Takes no memory.
     pub fn new(alloc: Global, node: NodeId, link: u8, taker: Taker, tx: LinkTx) -> Courier
         requires unused { tx.tail.sent ≡ [] }
         requires fresh { taker.gave ≡ [] }
@@ -119,8 +119,8 @@ impl Courier {
         }
     }
 
-    /// Carries what is given until that is the mark Stop, and then ends the link. Where it fails, for want of memory, because
-    /// the link refuses or because the receiving end is gone, it goes on taking and gives up what it takes.
+    /// Carries what is given until the mark Stop comes, and then ends the link. If it fails, because it is out of memory, the link refuses or
+    /// the receiving end is gone, it goes on taking and drops what it takes.
     pub fn run<R: Wait, G: Gate>(mut self, rt: &R, gate: &G) -> CourierEnded
         requires { self.taker.gave ≡ [] }
         // It ends with the link and the end of the outbox that it was given.
@@ -134,7 +134,7 @@ impl Courier {
         self.end(rt, gate)
     }
 
-    /// Takes what is next, and carries it. Says whether to go on. Before it waits for that, the link's reader is told of what was sent.
+    /// Takes what is next, and carries it. Returns whether to go on. Before it waits, the link's reader is woken for what was sent.
     fn step<R: Wait, G: Gate>(&mut self, rt: &R, gate: &G) -> bool
         requires { HaveNoStop self.old.taker.gave }
         ensures same { IsSameLink self.old.link self.new.link }
@@ -148,7 +148,7 @@ impl Courier {
         !over
     }
 
-    /// Takes what is next, and carries it where nothing was lost before. Gives what it took.
+    /// Takes what is next, and carries it unless something was lost before. Returns what it took.
     fn take<R: Wait, G: Gate>(&mut self, rt: &R, gate: &G) -> Out
         ensures same { IsSameLink self.old.link self.new.link }
         ensures given { self.new.taker ≡ record self.old.taker { gave = self.old.taker.gave ++ result ∷ [] } }
@@ -193,7 +193,7 @@ impl Courier {
     }
 }
 
-/// Carries what was given. Says whether it was sent.
+/// Carries what was given. Returns whether it was sent.
 fn carry<R: Wait, G: Gate>(
     rt: &R,
     alloc: Global,
@@ -220,7 +220,7 @@ fn is_stop(given: &Out) -> bool
     matches!(given, Out::Mark(Mark::Stop))
 }
 
-/// Opens the link. Says whether it could.
+/// Opens the link. Returns whether it could.
 fn open<R: Wait, G: Gate>(rt: &R, gate: &G, counter: &mut Counter, link: &mut LinkTx) -> bool
     ensures { MatchBool result (Carries (out.Mark mark.Opened) link.old link.new) (link.new ≡ link.old) }
 {
@@ -228,7 +228,7 @@ fn open<R: Wait, G: Gate>(rt: &R, gate: &G, counter: &mut Counter, link: &mut Li
     link.open(rt).is_ok()
 }
 
-/// Closes the link. Says whether it could.
+/// Closes the link. Returns whether it could.
 fn close<R: Wait, G: Gate>(rt: &R, gate: &G, counter: &mut Counter, link: &mut LinkTx) -> bool
     ensures { MatchBool result (Carries (out.Mark mark.Closed) link.old link.new) (link.new ≡ link.old) }
 {
@@ -236,7 +236,7 @@ fn close<R: Wait, G: Gate>(rt: &R, gate: &G, counter: &mut Counter, link: &mut L
     link.close(rt).is_ok()
 }
 
-/// Sends the spelling of the message. Says whether it could.
+/// Sends the message's encoding. Returns whether it could.
 fn send<R: Wait, G: Gate>(
     rt: &R,
     alloc: Global,
@@ -254,7 +254,7 @@ fn send<R: Wait, G: Gate>(
     link.send(rt, Bytes::new(bytes)).is_ok()
 }
 
-/// Ends the link's end. What it leaves is there where the courier did well, and the receiving end isn't gone.
+/// Ends the link's end. Returns what it leaves if the courier did well and the receiving end isn't gone.
 fn stop_well<R: Wait>(rt: &R, link: LinkTx, well: bool) -> Option<LinkDone>
     ensures { IfSome result (λ d. (d ≡ link) × (well ≡ true)) }
 {

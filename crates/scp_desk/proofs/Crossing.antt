@@ -60,7 +60,7 @@ outbox_send m x b = search (sendable, crosses) depth 40
 its_outbox_send : IsSend outbox.the_row
 its_outbox_send = outbox_send (buffer_send mark.the_row mark_send) (buffer_send message.the_row (message_send set_send boxed_send)) (buffer_send boxed.the_row boxed_send)
 
--- a place may cross threads as what lies in it may
+-- a place may cross threads if what is in it may
 module _ (S D Q : RattleType) (g : Ghosts Q.Denot S.Denot D.Denot unit.Denot) where
   table_send : IsSend S → IsSend (table.the_row S D unit Q heap.the_row g ghosts)
   table_send s = search (sendable, crosses, shared.the_send, lease.the_send) depth 40
@@ -80,7 +80,7 @@ lying = option.the_row outbox.the_row
 lying_send : IsSend outbox.the_row → IsSend lying
 lying_send o = search (sendable, crosses) depth 40
 
--- the ghost members of the rule of what lies there
+-- the ghost members of the rule of what is there
 abbrev its_rule : Ghosts (turns.the_row rule.the_row).Denot lying.Denot (doing.the_row outbox.the_row part.the_row).Denot unit.Denot
 its_rule = turns_rule.ghosts outbox.the_row part.the_row rule.the_row one_order.ghosts turns_rule.no_dict
 

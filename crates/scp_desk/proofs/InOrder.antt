@@ -1,4 +1,4 @@
--- Statements that one producer alone puts, in order, are given in order.
+-- Statements that only one producer puts, in order, are given in order.
 use Rattle.std.proofs.Common.{arith, ◌≡◌, ◌≢◌, ◌⊎◌, inl, inr, ℕ, ◌+◌, ◌==◌, cond, true, false, List, [], ◌∷◌, ◌++◌, length, length-append, get_or, append-nil, sym, refl, ap, ◌∙◌, subst}
 use Rattle.std.specs.Prelude.{Option, Some, None, All, AllPairs, Contains}
 use Rattle.std.proofs.lemmas.Bool.{cases_eq}
@@ -63,7 +63,7 @@ put_grows p q message turns = elim (p == q) as (λ b. (more : List Message) × (
 ]
 
 module _ (sayer : ℕ) where
-  -- the sayer alone put statements, each newer than those of its slot and kind before it
+  -- only the sayer put statements, each newer than those of its slot and kind before it
   abbrev OneSays : List Turn → Type 0
   OneSays turns = AreNewer (put_by sayer turns) × ((p : ℕ) → p ≢ sayer → All IsOther (put_by p turns))
 

@@ -50,7 +50,7 @@ few_wait (Marks mark ∷ turns) o stands =
     omega (arith, length-append stands.0.marks (mark ∷ []), length-append (marked turns) (mark ∷ []))
 few_wait (Gives out ∷ turns) o stands = let few = few_wait turns stands.0 stands.1 in let less = fewer_after stands.0 out o stands.2 in omega arith
 
--- where 16 marks wait, as many were left
+-- if 16 marks wait, as many were left
 pub full_left : (v w : Part) (o : OutboxView) → IsInHand v o w → v.marks ≡ true → (length o.marks < 16 → ⊥) → 16 ≤ length v.marked
 full_left v w o hand may full =
     let few = few_wait hand.0 o hand.2 in

@@ -16,7 +16,7 @@ use Rattle.scp_desk.proofs.Views.{All, all_set, all_snoc, at_end, update, update
 off : false ≡ true → ⊥
 off e = true≢false (sym e)
 
--- who has the outbox in hand finds its place empty, so where the outbox lies nobody has it in hand
+-- whoever has the outbox in hand finds its place empty; so if the outbox is there, no end has it in hand
 pub takes_out : (pass : ℕ) (v : Part) → Pops Kept pass v (IsInHand v)
 takes_out pass v x items views h at =
     let seats = h.0 in let turns = h.1 in let old = h.3 pass v at in let lies = h.2 in
@@ -57,7 +57,7 @@ put_here n message turns = ap (λ b. cond b (put_by n turns ++ message ∷ []) (
 put_else : (n p : ℕ) (message : Message) (turns : List Turn) → n ≢ p → put_by p turns ≡ put_by p (Puts n message ∷ turns)
 put_else n p message turns apart = sym (ap (λ b. cond b (put_by p turns ++ message ∷ []) (put_by p turns)) (ne_eqb n p apart))
 
--- a turn is one more of who made it, and of nobody else's
+-- a turn is one more of the end that made it, and of no other end
 mine_after : (seats : Seats) (turns : List Turn) (items items' : List OutboxView) (pass : ℕ) (v : Part) (t : Turn) → IsMine t v → Fits seats turns items pass v → Fits seats (t ∷ turns) items' pass (after t v)
 mine_after seats turns items items' pass v (Puts n message) mine old = record {
   holds = λ p. absurd (off p);
@@ -171,7 +171,7 @@ makes pass v may none items views h at =
           }),
     )
 
--- the pass of who leaves marks is made
+-- the pass of the end that leaves marks is made
 pub makes_marker : (pass : ℕ) (v : Part) → v.marks ≡ true → Forks Kept pass v (record v { marks = false; marked = [] }) (marker v.marked)
 makes_marker pass v may items views h at =
     let seats = h.0 in let turns = h.1 in let old = h.3 pass v at in let left : Part = record v { marks = false; marked = [] } in let vs : List Part = set views pass left in
@@ -186,7 +186,7 @@ makes_marker pass v may items views h at =
           (record { holds = λ p. absurd (off p); puts = λ p. absurd (off p); marks = λ _. (refl, (old.marks may).1); takes = λ p. absurd (off p); unmade = λ p. absurd (off p) }),
     )
 
--- another pass, where this one's view is new
+-- another pass, if this one's view is new
 was_there : (views : List Part) (pass other : ℕ) (both w : Part) → ¬ (other ≡ pass) → get_elem? (set views pass both) other ≡ some w → get_elem? views other ≡ some w
 was_there views pass other both w two at' = ⊎_elim (λ x. absurd (two x.0)) (λ x. x.1) (at_set views pass other both w at')
 
@@ -213,7 +213,7 @@ hears pass v other w may theirs items views h at two at' =
       unmade = λ p. absurd (apart ((o.takes p).0 ∙ sym (old.takes may).0));
     }) in (seats', turns, h.2, all_set (Fits seats' turns items) vs other nobody (nobody_fits seats' turns items other) (λ j u apart e. now j u e apart))
 
--- the pass of who leaves marks is taken in
+-- the pass of the end that leaves marks is taken in
 pub hears_marks : (pass : ℕ) (v : Part) (other : ℕ) (w : Part) → w.marks ≡ true → Merges Kept pass v other w (record v { marks = true; marked = w.marked }) nobody
 hears_marks pass v other w theirs items views h at two at' =
     let both : Part = record v { marks = true; marked = w.marked } in let seats = h.0 in let turns = h.1 in let old = h.3 pass v at in let vs : List Part = set views pass both in

@@ -11,12 +11,12 @@ pub record PutterView : Type 0 where
   pub number : ℕ
   pub put : List Message
 
--- the end of who leaves marks: which outbox it is, and what was marked
+-- the end that leaves marks: which outbox it is, and what was marked
 pub record MarkerView : Type 0 where
   pub desk : TableId
   pub marked : List Mark
 
--- the end of who is given what waits: which outbox it is, how many producers it has, and what was given
+-- the end that is given what waits: which outbox it is, how many producers it has, and what was given
 pub record TakerView : Type 0 where
   pub desk : TableId
   pub producers : ℕ
@@ -26,7 +26,7 @@ pub record TakerView : Type 0 where
 abbrev pub AreFresh : TableId → List PutterView → Type 0
 AreFresh desk putters = (i : ℕ) → i < length putters → slice_get putters i ≡ Some (record { desk = desk; number = i; put = [] })
 
--- the ends of an outbox as it is made: of producers 0, 1, 2, .., of who leaves marks, and of who is given what waits
+-- the ends of a new outbox: those of producers 0, 1, 2, .., the one that leaves marks, and the one that is given what waits
 pub record AreNew (producers : ℕ) (putters : List PutterView) (marker : MarkerView) (taker : TakerView) : Type 0 where
   pub many : length putters ≡ producers
   pub putters_are : AreFresh taker.desk putters
@@ -37,13 +37,13 @@ pub record AreNew (producers : ℕ) (putters : List PutterView) (marker : Marker
 abbrev pub AreOf : TableId → List PutterView → Type 0
 AreOf desk putters = (i : ℕ) (p : PutterView) → slice_get putters i ≡ Some p → (p.desk ≡ desk) × (p.number ≡ i)
 
--- all ends of the taker's outbox, those of its producers in the order of their numbers
+-- all ends of the taker's outbox, with its producers' in the order of their numbers
 pub record AreAll (putters : List PutterView) (marker : MarkerView) (taker : TakerView) : Type 0 where
   pub many : length putters ≡ taker.producers
   pub putters_are : AreOf taker.desk putters
   pub marker_is : marker.desk ≡ taker.desk
 
--- what the producer of this end put; nothing, where there is none
+-- what the producer of this end put; nothing if there is none
 abbrev pub put_of : Option PutterView → List Message
 put_of None = []
 put_of (Some p) = p.put

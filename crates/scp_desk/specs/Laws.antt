@@ -1,4 +1,4 @@
--- What follows where something is what an outbox gives.
+-- What follows if something is what an outbox gives.
 use Rattle.std.specs.Prelude.{◌≡◌, ◌≢◌, ℕ, List, [], ◌∷◌, ◌++◌, None, All, Contains}
 use Rattle.scp_wire.specs.declared.message.Message.{Message}
 use Rattle.scp_outbox.specs.declared.mark.Mark.{Mark}
@@ -30,6 +30,6 @@ messages_of (out.Mark mark ∷ rest) = messages_of rest
 messages_of (out.Message message ∷ rest) = message ∷ messages_of rest
 messages_of (out.Nothing ∷ rest) = messages_of rest
 
--- where one producer alone puts statements, each newer than those of its slot and kind before it, those that are given are so too
+-- if only one producer puts statements, each newer than those of its slot and kind before it, those that are given are so too
 abbrev pub StatementsGoInOrder : Type 0
 StatementsGoInOrder = (puts : ℕ → List Message) (marks : List Mark) (gave : List Out) (left : OutboxView) → IsOutOf puts marks gave left → (sayer : ℕ) → AreNewer (puts sayer) → ((p : ℕ) → p ≢ sayer → All (λ m. statement_of m ≡ None) (puts p)) → AreNewer (messages_of gave)

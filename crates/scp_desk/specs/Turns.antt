@@ -1,4 +1,4 @@
--- What an outbox gives, of what its producers put and what is marked.
+-- What an outbox gives, from what its producers put and what is marked.
 use Rattle.std.specs.Prelude.{◌≡◌, ℕ, ◌==◌, if◌then◌else◌, false, List, [], ◌∷◌, ◌++◌}
 use Rattle.scp_wire.specs.declared.message.Message.{Message}
 use Rattle.scp_outbox.specs.declared.mark.Mark.{Mark}
@@ -8,18 +8,18 @@ use Rattle.scp_outbox.specs.Outbox as outbox
 use Rattle.scp_desk.specs.declared.turn.Turn.{Turn}
 use Rattle.scp_desk.specs.declared.turn.Turn.TheVariants.{Puts, Marks, Gives}
 
--- an outbox as it is made: not live, and nothing waits
+-- a new outbox: not live, and nothing waits
 abbrev pub unused : OutboxView
 unused = record { live = false; marks = []; ring = []; statements = []; overwritten = 0 }
 
--- the outbox stands so after these turns, the latest first
+-- the outbox is like this after these turns, the latest first
 abbrev pub Stands : List Turn → OutboxView → Type 0
 Stands [] new = new ≡ unused
 Stands (Puts p message ∷ turns) new = (old : OutboxView) × Stands turns old × outbox.Puts old message new
 Stands (Marks mark ∷ turns) new = (old : OutboxView) × Stands turns old × (new ≡ record old { marks = old.marks ++ mark ∷ [] })
 Stands (Gives out ∷ turns) new = (old : OutboxView) × Stands turns old × outbox.Gives old out new
 
--- what the producer of this number put, oldest first
+-- what the producer with this number put, oldest first
 abbrev pub put_by : ℕ → List Turn → List Message
 put_by p [] = []
 put_by p (Puts n message ∷ turns) = if n == p then put_by p turns ++ message ∷ [] else put_by p turns
@@ -40,7 +40,7 @@ given (Puts p message ∷ turns) = given turns
 given (Marks mark ∷ turns) = given turns
 given (Gives out ∷ turns) = given turns ++ out ∷ []
 
--- what was given is what an outbox gives, of one order of what its producers put and of what was marked, and this is left
+-- in some single order of what the producers put, what was marked and what was given, one outbox gives this, and this is left
 pub record IsOutOf (puts : ℕ → List Message) (marks : List Mark) (gave : List Out) (left : OutboxView) : Type 0 where
   pub turns : List Turn
   pub stands : Stands turns left

@@ -17,7 +17,7 @@ use scp_wire::FittingMessage;
 use std::marker::Brand;
 use std::sync::{Condvar, Mutex, Wait};
 
-/// An outbox in its place. Under the lock is the count of the own statements that were lost; who has the lock takes the outbox
+/// An outbox in its place. Under the lock is the count of own statements that were lost. Whoever has the lock takes the outbox
 /// out of its place, and puts it back.
 #[derive(Drop)]
 pub(crate) struct Desk {
@@ -26,7 +26,7 @@ pub(crate) struct Desk {
     pub(crate) changed: Condvar,
 }
 
-/// Takes the outbox out. Who has the lock, or all ends, finds it there.
+/// Takes the outbox out. Whoever has the lock, or all ends, finds it there.
 pub(crate) fn take_out<R: Wait>(rt: &R, place: &Place, pass: &mut Pass) -> Outbox
     requires place { IsPassOf place.now pass.old }
     ensures place { IsPassOf place.now pass.new }
@@ -40,7 +40,7 @@ pub(crate) fn take_out<R: Wait>(rt: &R, place: &Place, pass: &mut Pass) -> Outbo
     unreachable!()
 }
 
-/// Puts the outbox back. Who took it out finds the place empty.
+/// Puts the outbox back. Whoever took it out finds the place empty.
 fn put_back<M: Outcome<Outbox, Part>, R: Wait>(
     rt: &R,
     place: &Place,
@@ -84,7 +84,7 @@ fn tell<J: Said, R: Wait>(rt: &R, place: &Place, pass: &mut Pass, outbox: Outbox
     put_back::<Tells<J>, R>(rt, place, pass, outbox);
 }
 
-/// A producer's turn. Gives how many own statements were lost so far.
+/// A producer's turn. Returns how many own statements were lost so far.
 pub(crate) fn put<J: Said, R: Wait>(
     rt: &R,
     place: &Place,
@@ -105,7 +105,7 @@ pub(crate) fn put<J: Said, R: Wait>(
     lost
 }
 
-/// A turn of who leaves marks.
+/// A turn of the end that leaves marks.
 pub(crate) fn mark<J: Said, R: Wait>(
     rt: &R,
     place: &Place,
@@ -132,7 +132,7 @@ pub(crate) fn mark<J: Said, R: Wait>(
     }
 }
 
-/// A turn of who is given what waits: nothing, where nothing waits.
+/// A turn of the end that is given what waits. Returns `Out::Nothing` if nothing waits.
 pub(crate) fn give<R: Wait>(rt: &R, place: &Place, pass: &mut Pass) -> Out
     requires place { IsPassOf place.now pass.old }
     requires mine { (view pass.old).takes ≡ true }
@@ -146,7 +146,7 @@ pub(crate) fn give<R: Wait>(rt: &R, place: &Place, pass: &mut Pass) -> Out
     given
 }
 
-/// Puts the outbox back after this was given, or nothing.
+/// Puts the outbox back after this was given, or nothing was.
 fn tell_given<J: Said, R: Wait>(rt: &R, place: &Place, pass: &mut Pass, outbox: Outbox, given: &Out)
     requires place { IsPassOf place.now pass.old }
     requires holds { (view pass.old).holds ≡ true }
@@ -162,7 +162,7 @@ fn tell_given<J: Said, R: Wait>(rt: &R, place: &Place, pass: &mut Pass, outbox: 
     }
 }
 
-/// Turns of who is given what waits, until something is given; it sleeps where nothing waits.
+/// Turns of the end that is given what waits, until something is given; it sleeps while nothing waits.
 pub(crate) fn next<R: Wait>(rt: &R, desk: &Desk, pass: &mut Pass) -> Out
     requires place { IsPassOf desk.now.place pass.old }
     requires mine { (view pass.old).takes ≡ true }

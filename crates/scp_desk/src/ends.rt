@@ -44,7 +44,7 @@ impl Model for Putter {
     ghost invariant = { λ s. IsPassOf (arc_value s.desk).place s.pass × passes.IsPutting s.number s.pass };
 }
 
-/// The end of who leaves marks.
+/// The end that leaves marks.
 #[derive(Drop)]
 pub struct Marker {
     desk: Arc<Desk>,
@@ -69,7 +69,7 @@ impl Model for Marker {
     ghost invariant = { λ s. IsPassOf (arc_value s.desk).place s.pass × passes.IsMarking s.pass };
 }
 
-/// The end of who is given what waits.
+/// The end that is given what waits.
 #[derive(Drop)]
 pub struct Taker {
     desk: Arc<Desk>,
@@ -114,10 +114,10 @@ impl Putter {
         pass
     }
 
-    /// Lets a message wait, as `Outbox::put` does, and wakes whoever waits in `next`. It is never refused, takes no memory and
-    /// waits for nothing but the lock.
+    /// Lets a message wait, as `Outbox::put` does, and wakes whoever waits in `next`. Is never refused, takes no memory, and
+    /// waits only for the lock.
     pub fn put<R: Wait>(&mut self, rt: &R, message: FittingMessage)
-        // It is known to be put, last of all that this producer put.
+        // The end knows that it was put, after all that this producer put before.
         ensures { self.new ≡ record self.old { put = self.old.put ++ message ∷ [] } }
     {
         {
@@ -133,8 +133,8 @@ impl Putter {
         self.desk.changed.notify_all();
     }
 
-    /// How many own statements were lost since the outbox was made, before they were given, as `Outbox::overwritten` counts them
-    /// up to this turn. Waits for nothing but the lock.
+    /// How many own statements were lost, before they were given, since the outbox was made, as `Outbox::overwritten` counts
+    /// them up to this turn. Waits only for the lock.
     pub fn overwritten<R: Wait>(&self, rt: &R) -> u64 {
         *self.desk.lost.lock(rt)
     }
@@ -156,10 +156,10 @@ impl Marker {
         pass
     }
 
-    /// Lets a mark wait, as `Outbox::mark` does, and wakes whoever waits in `next`. `Fault::Full` where 16 marks wait, so never for one of
-    /// the first 16; nothing changes then. Takes no memory, and waits for nothing but the lock.
+    /// Lets a mark wait, as `Outbox::mark` does, and wakes whoever waits in `next`. `Fault::Full` if 16 marks wait, so never for one of
+    /// the first 16; nothing changes then. Takes no memory, and waits only for the lock.
     pub fn mark<R: Wait>(&mut self, rt: &R, mark: Mark) -> Result<(), Fault>
-        // It is known to be left; or there were 16, and all is as it was.
+        // The end knows that it was left; or at least 16 were left before, and all is as it was.
         ensures { MatchResult result (λ _. self.new ≡ record self.old { marked = self.old.marked ++ mark ∷ [] }) (λ fault. (fault ≡ Fault.Full) × (MARK_LIMIT ≤ length self.old.marked) × (self.new ≡ self.old)) }
     {
         {
@@ -192,9 +192,9 @@ impl Taker {
         (desk, pass)
     }
 
-    /// What is to be sent next, as `Outbox::next` gives it. Where there is nothing it waits until there is. Takes no memory.
+    /// What is to be sent next, as `Outbox::next` gives it. If there is nothing, it waits until there is. Takes no memory.
     pub fn next<R: Wait>(&mut self, rt: &R) -> Out
-        // It is known to be given.
+        // The end knows that it was given.
         ensures given { self.new ≡ record self.old { gave = self.old.gave ++ result ∷ [] } }
         // It is a mark or a message.
         ensures some { result ≢ Out.Nothing }

@@ -1,4 +1,4 @@
-//! Laws of the ends, and of what an outbox gives, each the contract of a function that does nothing.
+//! Laws of the ends, and of what an outbox gives. Each is the contract of a function that does nothing.
 ghost use Rattle.scp_desk.specs.Crossing.{EndsCross};
 ghost use Rattle.scp_desk.specs.Laws.{GivenWasPut, MarksComeInOrder, StatementsGoInOrder};
 
@@ -19,7 +19,7 @@ pub fn marks_are_given_in_order()
     ensures order { MarksComeInOrder }
 {}
 
-/// Where one producer alone puts statements, each newer than those of its slot and kind before it, those that are given are so too.
+/// If only one producer puts statements, each newer than those of its slot and kind before it, those that are given are so too.
 pub fn statements_are_given_in_order()
     ensures order { StatementsGoInOrder }
 {

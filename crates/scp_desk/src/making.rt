@@ -14,12 +14,12 @@ use scp_types::Fault;
 use std::alloc::{AllocError, Global};
 use std::sync::{Arc, Condvar, Mutex};
 
-/// The ends of a new outbox, of a link that isn't live: one for each producer, one for who leaves marks, and one for who is given
-/// what waits. It takes all the memory that it ever needs, and the one refusal is `Fault::NoMemory`.
+/// The ends of a new outbox, for a link that isn't live: one for each producer, one that leaves marks, and one that is given what
+/// waits. Takes all the memory that it ever needs. The only refusal is `Fault::NoMemory`.
 pub fn make(alloc: Global, producers: u8) -> Result<(Vec<Putter>, Marker, Taker), Fault>
-    // The ends are of one outbox, and nothing was put, marked or given.
+    // The ends belong to one outbox, and nothing was put, marked or given.
     ensures ends { IfOk result (λ r. AreNew producers r.0.items r.1 r.2) }
-    // Only want of memory is a reason to refuse.
+    // The only refusal is `NoMemory`.
     ensures only_memory { IsOkUnless result Fault.NoMemory }
 {
     let (desk, mut pass) = placed(alloc, Outbox::new(alloc, false)?)?;
@@ -28,7 +28,7 @@ pub fn make(alloc: Global, producers: u8) -> Result<(Vec<Putter>, Marker, Taker)
     Ok((putters, marker, Taker::made(desk, pass)))
 }
 
-/// Lays a new outbox into its place. The new place has room, so `Fault::NoMemory` means what it says.
+/// Puts a new outbox into its place. The new place has room, so the only refusal really is `Fault::NoMemory`.
 fn placed(alloc: Global, outbox: Outbox) -> Result<(Arc<Desk>, Pass), Fault>
     requires { outbox ≡ unused }
     ensures placed { IfOk result (λ r. IsPassOf (arc_value r.0).place r.1 × (view r.1 ≡ taker true 0)) }
@@ -46,7 +46,7 @@ fn placed(alloc: Global, outbox: Outbox) -> Result<(Arc<Desk>, Pass), Fault>
     Ok((Arc::new(alloc, desk)?, pass))
 }
 
-/// The end of who leaves marks.
+/// The end that leaves marks.
 fn hand_marker(desk: &Arc<Desk>, pass: &mut Pass) -> Result<Marker, AllocError>
     requires { IsPassOf (arc_value desk.now).place pass.old × (view pass.old ≡ taker true 0) }
     ensures { IfOk result (λ m. (m ≡ record { desk = pass.new.table_id; marked = [] }) × IsPassOf (arc_value desk.now).place pass.new × (view pass.new ≡ taker false 0)) }

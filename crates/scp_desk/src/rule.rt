@@ -1,4 +1,4 @@
-//! The rule of an outbox in its place: it stands so as the turns so far have left it.
+//! The rule of an outbox in its place: it is as the turns so far have left it.
 use crate::turn::{Part, Turn};
 use crossbeam_queue::RuledArrayQueue;
 use crossbeam_queue::protocol::{Join, Lesson, Outcome, Protocol, Split};
@@ -16,13 +16,13 @@ impl Protocol<Outbox, Part> for OneOrder {
     ghost first = { beginner };
 }
 
-/// The place of an outbox, out of which who has a turn takes it, and puts it back.
+/// The place of an outbox. Whoever has a turn takes the outbox out of it, and puts it back.
 pub type Place = RuledArrayQueue<Outbox, Part, OneOrder>;
 
 /// A pass of a place.
 pub type Pass = crossbeam_queue::Pass<Outbox, Part>;
 
-/// The outbox is taken out: who does knows the turns so far.
+/// The outbox is taken out: whoever takes it then knows the turns so far.
 pub struct TakesOut;
 
 impl Outcome<Outbox, Part> for TakesOut {
@@ -41,7 +41,7 @@ impl Outcome<Outbox, Part> for Leaves {
     ghost then = { λ v x w. w ≡ emptied v };
 }
 
-/// A turn, for the proof alone. The call that ends the turn picks it.
+/// A turn, only for the proof. The call that ends the turn picks it.
 pub trait Said {
     ghost use Rattle.scp_desk.specs.declared.turn.Turn.{Turn};
 
@@ -77,7 +77,7 @@ impl Split<Part> for Makes {
     ghost right = { λ v. producer v.made };
 }
 
-/// The pass of who leaves marks is made.
+/// The pass of the end that leaves marks is made.
 pub struct MakesMarker;
 
 impl Split<Part> for MakesMarker {
@@ -101,7 +101,7 @@ impl Join<Part> for Hears {
     ghost spent = { nobody };
 }
 
-/// The pass of who leaves marks is taken in.
+/// The pass of the end that leaves marks is taken in.
 pub struct HearsMarks;
 
 impl Join<Part> for HearsMarks {
@@ -113,7 +113,7 @@ impl Join<Part> for HearsMarks {
     ghost spent = { nobody };
 }
 
-/// What the producer that was taken in put, is what it put in the turns so far.
+/// What the producer put whose pass was taken in is what it put in the turns so far.
 pub struct ToldPuts;
 
 impl Lesson<Outbox, Part> for ToldPuts {
@@ -123,7 +123,7 @@ impl Lesson<Outbox, Part> for ToldPuts {
     ghost fact = { λ v items. put_by v.number v.turns ≡ v.put };
 }
 
-/// What was marked and what was given, is what was so in the turns so far; and other producers than those that were made put nothing.
+/// What was marked and given is what the turns so far say. No producer put anything, except those that were made.
 pub struct ToldRest;
 
 impl Lesson<Outbox, Part> for ToldRest {

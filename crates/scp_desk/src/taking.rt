@@ -12,10 +12,10 @@ use crate::rule::{Hears, HearsMarks, Pass, Place, ToldPuts, ToldRest};
 use scp_outbox::Outbox;
 use std::sync::Wait;
 
-/// Takes all ends of an outbox back, and gives the outbox. What was given is what an outbox gives, of one order of what the producers
-/// put and of what was marked, and the outbox is what is left.
+/// Takes all ends of an outbox back, and returns the outbox. What was given is what an outbox gives in one order of what the
+/// producers put and of what was marked, and the outbox is what is left.
 pub fn take_back<R: Wait>(rt: &R, putters: Vec<Putter>, marker: Marker, taker: Taker) -> Outbox
-    // They are all ends of one outbox, those of the producers in the order of their numbers.
+    // They are all ends of one outbox, with the producers' in the order of their numbers.
     requires all { AreAll putters.items marker taker }
     ensures { IsOutOf (puts_of putters.items) marker.marked taker.gave result }
 {
@@ -51,7 +51,7 @@ fn hear(place: &Place, pass: &mut Pass, putter: Putter)
     place.learn_as::<ToldPuts>(pass);
 }
 
-/// Takes the pass of who leaves marks in: what was marked and given is what was so in the turns so far.
+/// Takes the pass of the end that leaves marks in: what was marked and given is what the turns so far say.
 fn hear_marks(place: &Place, pass: &mut Pass, marker: Marker)
     requires place { IsPassOf place.now pass.old }
     requires one { marker.desk ≡ pass.old.table_id }

@@ -1,11 +1,11 @@
-//! The turns at an outbox, and what a pass knows of them.
+//! The turns at an outbox, and what a pass knows about them.
 use scp_outbox::{Mark, Out};
 use scp_wire::Message;
 use std::collections::LinkedList;
 
-/// One turn at an outbox. No value of it is made.
+/// One turn at an outbox. No value of it is ever made.
 pub enum Turn {
-    /// The producer of this number put a message.
+    /// The producer with this number put a message.
     Puts(u8, Message),
     /// A mark was left.
     Marks(Mark),
@@ -13,7 +13,7 @@ pub enum Turn {
     Gives(Out),
 }
 
-/// What a pass knows. No value of it is made.
+/// What a pass knows. No value of it is ever made.
 pub struct Part {
     /// It is a producer's.
     pub puts: bool,
@@ -21,11 +21,11 @@ pub struct Part {
     pub number: u8,
     /// What that producer put.
     pub put: LinkedList<Message>,
-    /// It is that of who leaves marks.
+    /// It belongs to the end that leaves marks.
     pub marks: bool,
     /// The marks that were left.
     pub marked: LinkedList<Mark>,
-    /// It is that of who is given what waits.
+    /// It belongs to the end that is given what waits.
     pub takes: bool,
     /// What was given.
     pub gave: LinkedList<Out>,
@@ -33,6 +33,6 @@ pub struct Part {
     pub made: u8,
     /// It has the outbox in hand.
     pub holds: bool,
-    /// The turns before, where it has the outbox in hand: the latest first.
+    /// The turns before, the latest first, if it has the outbox in hand.
     pub turns: LinkedList<Turn>,
 }

@@ -40,7 +40,7 @@ came_of a b c putters marks gave left is out = record {
 -- ---- all links to one node
 
 module _ (to : ℕ) (outlets : List Outlets) (takers front : List (Option TakerView)) (t : Option TakerView) (ts : takers ≡ front ++ t ∷ []) where
-  -- where the peer at the last place stands
+  -- where the peer at the last place is
   abbrev last_place : ℕ
   last_place = peer_at (length front) to - 1
 
@@ -123,7 +123,7 @@ module _ (to : ℕ) (outlets : List Outlets) (takers front : List (Option TakerV
     pub found_last : (o : Outlets) (place : ℕ) → place ≡ last_place → o ≡ get_or outlets place o → slice_get outlets last_place ≡ Some o
     found_last o place same found = ap (slice_get outlets) (sym same) ∙ slice_get-get_or outlets place o (omega (arith, same, last_within)) ∙ ap (λ (x : Outlets). Some x) (sym found)
 
-    -- those of the others stand as they did
+    -- those of the others are as they were
     pub stand_less : (o2 : Outlets) → StandLast to (slice_set outlets last_place o2) front2 front
     stand_less o2 = record {
       many = as_many;

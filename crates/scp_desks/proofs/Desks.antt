@@ -12,7 +12,7 @@ use Rattle.scp_desks.proofs.Lists.{get_left}
 
 -- ---- in a row
 
--- what stands there with one marker more
+-- what is there with one more marker
 pub desk_more : (markers new : List MarkerView) (m : MarkerView) → new ≡ markers ++ m ∷ [] → (place : ℕ) (d : TableId) → desk_in markers place ≡ Some d → desk_in new place ≡ Some d
 desk_more markers new m is place d h = by (slice_get markers place) refl
   where

@@ -1,4 +1,4 @@
--- Lists whose elements each stand so to their place.
+-- Lists in which P relates each element to its place.
 use Rattle.std.proofs.Common.{◌≡◌, ◌∙◌, ℕ, zero, suc, ap, sym, refl, subst, List, [], ◌∷◌, ◌++◌, length, Some, None}
 use Rattle.std.specs.Prelude.{slice_get}
 use Rattle.scp_desks.specs.Places.{Each}

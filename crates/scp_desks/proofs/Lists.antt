@@ -40,7 +40,7 @@ module _ {T : Type 0} where
   last_of (x ∷ []) one = ([], x, refl)
   last_of (x ∷ y ∷ ys) one = let rest = last_of (y ∷ ys) (omega arith) in (x ∷ rest.0, rest.1, ap (λ l. x ∷ l) rest.2)
 
-  -- ---- what stands at a place
+  -- ---- what is at a place
 
   pub there_is : (xs : List T) (i : ℕ) → i < length xs → (x : T) × (slice_get xs i ≡ Some x)
   there_is [] i lt = absurd (omega (arith, lt))

@@ -16,7 +16,7 @@ places_if index to b e = ap (λ (c : Bool). if c then index else index - 1) e
 peer_if : (place to : ℕ) (b : Bool) → nat_lt (place + 1) to ≡ b → peer_at place to ≡ (if b then place + 1 else place + 2)
 peer_if place to b e = ap (λ (c : Bool). if c then place + 1 else place + 2) e
 
--- the node behind the first ones is a peer, at its place
+-- the node after the first ones is a peer, at its place
 pub place_next : (index to : ℕ) → 1 ≤ to → index + 1 ≢ to → (places_before (index + 1) to ≡ places_before index to + 1) × (peer_at (places_before index to) to ≡ index + 1)
 place_next index to one apart = ⊎_elim
     (λ lt.
@@ -54,7 +54,7 @@ place_apart to l m e = grind (arith, nat_tests, e)
 place_if : (from to : ℕ) (b : Bool) → nat_lt from to ≡ b → link_of from to ≡ (if b then from - 1 else from - 2)
 place_if from to b e = ap (λ (c : Bool). if c then from - 1 else from - 2) e
 
--- at a node's place stands that node
+-- at a node's place is that node
 pub peer_of_place : (from to : ℕ) → 1 ≤ from → 1 ≤ to → from ≢ to → peer_at (link_of from to) to ≡ from
 peer_of_place from to one some apart = by (nat_lt from to) refl
   where
@@ -69,7 +69,7 @@ peer_of_place from to one some apart = by (nat_lt from to) refl
         let next : nat_lt (from - 2 + 1) to ≡ false = grind (arith, nat_tests, lt, some) in
         ap (λ n. peer_at n to) (place_if from to false e) ∙ peer_if (from - 2) to false next ∙ omega (arith, lt, some)
 
--- and each place is that of the node that stands there
+-- and each place is that of the node that is there
 pub place_of_peer : (place to : ℕ) → link_of (peer_at place to) to ≡ place
 place_of_peer place to = by (nat_lt (place + 1) to) refl
   where
@@ -80,11 +80,11 @@ place_of_peer place to = by (nat_lt (place + 1) to) refl
         let next : nat_lt (place + 2) to ≡ false = grind (arith, nat_tests, le) in
         ap (λ n. link_of n to) (peer_if place to false e) ∙ place_if (place + 2) to false next ∙ omega arith
 
--- the peer behind the first nodes stands behind those of them that are peers
+-- the place of the peer after the first nodes comes after those of them that are peers
 pub next_place : (index to : ℕ) → 1 ≤ to → index + 1 ≢ to → link_of (index + 1) to ≡ places_before index to
 next_place index to one apart = ap (λ n. link_of n to) (sym (place_next index to one apart).1) ∙ place_of_peer (places_before index to) to
 
--- a peer among the first nodes stands at one of their places
+-- a peer among the first nodes is at one of their places
 pub place_among : (from to index : ℕ) → 1 ≤ from → from ≤ index → 1 ≤ to → from ≢ to → link_of from to < places_before index to
 place_among from to index some most one apart = by (nat_lt from to) refl (nat_lt index to) refl
   where
@@ -102,7 +102,7 @@ place_among from to index some most one apart = by (nat_lt from to) refl (nat_lt
         let le : to ≤ from = grind (arith, nat_tests, e) in
         omega (arith, place_if from to false e, places_if index to false f, le, apart, some, most)
 
--- who stands at one of their places is one of them
+-- whichever node is at one of their places is one of them
 pub peer_among : (place to index : ℕ) → place < places_before index to → 1 ≤ peer_at place to × peer_at place to ≤ index
 peer_among place to index lt = by (nat_lt (place + 1) to) refl (nat_lt index to) refl
   where
@@ -121,7 +121,7 @@ peer_among place to index lt = by (nat_lt (place + 1) to) refl (nat_lt index to)
         let at = peer_if place to false e in
         (omega (arith, at), omega (arith, at, places_if index to false f, lt))
 
--- who stands at a place is another node
+-- the node at a place is another node
 pub peer_apart : (place to : ℕ) → peer_at place to ≢ to
 peer_apart place to = by (nat_lt (place + 1) to) refl
   where

@@ -96,7 +96,7 @@ module _ (count : ℕ) (outlets news : List Outlets) (markers front : List (Vec 
   desk_here : (place : ℕ) → desk_at markers (peer_at place to) to ≡ desk_in row.items place
   desk_here place = desk_at_last front markers row ms (peer_at place to) to refl ∙ ap (desk_in row.items) (place_of_peer place to)
 
-  -- the ends of its links stand behind those of the other links
+  -- the ends of its links come after those of the other links
   pub row_stands : StandLast to outlets row.items ends.items
   row_stands = record { many = omega (arith, row_many, ends_many); ends = stage_ends; takers_are = row_takers }
     where
@@ -153,7 +153,7 @@ module _ (count : ℕ) (outlets news : List Outlets) (markers front : List (Vec 
         taker i place None lt h = tt
         taker i place (Some t) lt h = (sym (desk_at_front front markers row ms (peer_at place (i + 1)) (i + 1) (omega arith) (omega (arith, lt))) ∙ h.0, h.1)
 
-        -- a node's ends for the first nodes, by their markers alone
+        -- a node's ends for the first nodes, by their markers only
         still : (node number : ℕ) (xs : List PutterView) → ArePeers (IsEndTo markers node number) node (length front) xs → ArePeers (IsEndTo front node number) node (length front) xs
         still node number xs all = record {
           count = all.count;
@@ -195,7 +195,7 @@ module _ (count : ℕ) (outlets news : List Outlets) (markers front : List (Vec 
             })
             (cases_eq (i + 1) to)
 
-    -- what was given over its links came out, where it did over the others
+    -- what was given over its links came out, if it did over the others
     pub came_more : FirstCameOut count (length front) news front2 → FirstCameOut count (length markers) outlets takers
     came_more came from to2 two le o at t there replies said answers put1 put2 put3 = ⊎_elim at_last before (cases_eq to2 to)
       where

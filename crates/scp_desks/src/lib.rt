@@ -1,10 +1,10 @@
-//! The outboxes of a few nodes of which each is a peer of all others: one for each link.
+//! The outboxes of a few nodes, each a peer of all others: one outbox for each link.
 //!
 //! What it promises, under every schedule:
-//! - each stage of a node is given an end of the outbox of each of its links, at the link's place; and to each node are given, for each link to it,
-//!   the end by which marks are left and that by which is given what goes over it;
-//! - once all these ends are taken back, what was given over a link is what its outbox gives, of one order of what the three stages of its sender
-//!   put there, and of some marks.
+//! - each stage of a node gets an end of the outbox of each of its links, at the link's place. Each node gets, for each link to it, the end that
+//!   leaves marks and the end that is given what goes over it;
+//! - once all these ends are taken back, what was given over a link came out of its outbox. The outbox took what its sender's three stages put,
+//!   and some marks, in one order.
 //!
 //! Not claimed: which marks were left.
 #![tactic(auto)]

@@ -10,7 +10,7 @@ use scp_desk::{Marker, Putter, Taker, make};
 use scp_types::Fault;
 use std::alloc::{AllocError, Global};
 
-/// The ends of all outboxes: by each node n, at place n - 1, those of its own stages; and the rows of those that belong to the links to it.
+/// The ends of all outboxes: for each node n, at place n - 1, those of its own stages; and a row of those that belong to the links to it.
 #[derive(Drop)]
 pub struct Made {
     pub outlets: Vec<Outlets>,
@@ -18,7 +18,7 @@ pub struct Made {
     pub takers: Vec<Vec<Taker>>,
 }
 
-/// The ends of the outboxes of so many nodes, of which each is a peer of all others. The one refusal is `Fault::NoMemory`.
+/// The ends of the outboxes of `count` nodes, each a peer of all others. The only refusal is `Fault::NoMemory`.
 pub fn make_all(alloc: Global, count: u8) -> Result<Made, Fault>
     requires few { count ≤ 8 }
     ensures made { IfOk result (λ made. AreMade count made.outlets.items made.markers.items made.takers.items) }
@@ -41,7 +41,7 @@ pub fn make_all(alloc: Global, count: u8) -> Result<Made, Fault>
     })
 }
 
-/// For each of so many nodes no ends yet.
+/// No ends yet, for each of `count` nodes.
 fn none_yet(alloc: Global, count: u8) -> Result<Vec<Outlets>, AllocError>
     ensures { IfOk result (λ outlets. (length outlets.items ≡ count) × Each HasNone outlets.items) }
 {
@@ -63,8 +63,8 @@ struct Row {
     takers: Vec<Taker>,
 }
 
-/// The outboxes of all links to the node of this number. The ends of their producers go to the nodes from which the links come, behind
-/// those of their links to the nodes before it: just at the link's place.
+/// The outboxes of all links to the node with this number. Their producers' ends go to the nodes from which the links come, after the
+/// ends of these nodes' links to earlier nodes: so exactly to the link's place.
 fn row_to(alloc: Global, count: u8, to: u8, outlets: &mut Vec<Outlets>) -> Result<Row, Fault>
     requires many { length outlets.old.items ≡ count }
     requires number { (1 ≤ to) × (to ≤ count) }
@@ -90,7 +90,7 @@ fn row_to(alloc: Global, count: u8, to: u8, outlets: &mut Vec<Outlets>) -> Resul
     Ok(Row { markers, takers })
 }
 
-/// Gives each stage one of these ends more.
+/// Gives each stage one more of these ends.
 fn add(outlets: &mut Outlets, putters: Vec<Putter>) -> Result<(), AllocError>
     requires three { length putters.items ≡ 3 }
     ensures { OnOk result ((first second third : PutterView) → putters.items ≡ first ∷ second ∷ third ∷ [] → IsLonger outlets.old outlets.new first second third) }

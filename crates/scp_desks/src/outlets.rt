@@ -1,7 +1,7 @@
 //! The ends by which the stages of a node put into its outboxes.
 use scp_desk::Putter;
 
-/// The ends by which the three stages of a node put into the outboxes of its links: each has one for each link, at its place.
+/// The ends by which a node's three stages put into the outboxes of its links. Each stage has one for each link, at the link's place.
 #[derive(Drop)]
 pub struct Outlets {
     /// The pending stage's.

@@ -1,8 +1,8 @@
-//! Where a node stands among the peers of another.
+//! The place of a node among the peers of another.
 ghost use Rattle.std.specs.Prelude.{◌≡◌, ◌<◌};
 ghost use Rattle.scp_desks.specs.Places.{link_of, peer_at};
 
-/// Which link of a node comes from another: the place of that one among its peers.
+/// Which link of the node `to` comes from the node `from`: the place of `from` among its peers.
 pub fn link_of(from: u8, to: u8) -> u8
     ensures { result ≡ link_of from to }
 {

@@ -10,8 +10,8 @@ use scp_types::Fault;
 use std::alloc::{AllocError, Global};
 use std::sync::Wait;
 
-/// Takes the ends of the outboxes of so many nodes back: what was given over each link of which the end is there is what came out of its outbox.
-/// The one refusal is `Fault::NoMemory`.
+/// Takes the ends of the outboxes of `count` nodes back. What was given over each link whose taker is there is what came out of its outbox. The
+/// only refusal is `Fault::NoMemory`.
 pub fn take_all_back<R: Wait>(
     rt: &R,
     alloc: Global,
@@ -34,7 +34,7 @@ pub fn take_all_back<R: Wait>(
     Ok(())
 }
 
-/// Takes the ends of the outboxes of all links to the node of this number back: those of the nodes after it are back already, so each
+/// Takes the ends of the outboxes of all links to the node with this number back. Those of the later nodes are back already, so each
 /// stage's end is its last.
 fn take_row<R: Wait>(
     rt: &R,
@@ -66,7 +66,7 @@ fn take_row<R: Wait>(
     Ok(())
 }
 
-/// Takes the ends of the outbox of one link back: the producers' are the last that the stages have.
+/// Takes the ends of one link's outbox back: the producers' ends are the last that the stages have.
 fn take_link<R: Wait>(
     rt: &R,
     alloc: Global,

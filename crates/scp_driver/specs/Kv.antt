@@ -9,7 +9,7 @@ use Rattle.scp_driver.specs.declared.driver.Level.{Level}
 use Rattle.scp_driver.specs.declared.kv_driver.KvDriver.{KvDriver}
 use Rattle.scp_driver.specs.declared.driver.Level.TheVariants.{FullyValidated, Invalid}
 
--- fully validated where it is an operation list, else invalid
+-- fully validated if it is an operation list, else invalid
 abbrev pub level_if : Bool → Level
 level_if true = FullyValidated
 level_if false = Invalid
@@ -32,11 +32,11 @@ abbrev pub greatest : List (List ℕ) → List ℕ
 greatest [] = []
 greatest (v ∷ vs) = greatest_from v vs
 
--- the place (slot + round - 2) mod n over the integers, for a round and an n of at least 1: n is added so that nothing is negative
+-- the place (slot + round - 2) mod n over the integers, for a round and an n of at least 1; n is added so that nothing is negative
 abbrev pub leader_place : ℕ → ℕ → ℕ → ℕ
 leader_place slot round n = (slot + round + n - 2) % n
 
--- what the product's application says of values; it takes nothing of one that is invalid
+-- what the product's application says about values; it takes nothing from an invalid one
 abbrev pub kv_says : Says KvDriver
 kv_says = record {
   level = λ driver slot value. kv_level value;
@@ -50,7 +50,7 @@ pub record IsGreatest (vs : List (List ℕ)) (v : List ℕ) : Type 0 where
   pub among : Contains vs v
   pub none_greater : (w : List ℕ) → Contains vs w → slice_cmp nat_cmp v w ≢ Less
 
--- one of n places, and slot + round - 2 up to multiples of n: there are i and j with place + 2 + i n = slot + round + j n
+-- one of n places, equal to slot + round - 2 up to multiples of n: there are i and j with place + 2 + i n = slot + round + j n
 pub record IsPlace (slot round n place : ℕ) : Type 0 where
   pub below : place < n
   pub turns : (i : ℕ) × (j : ℕ) × (place + 2 + i * n ≡ slot + round + j * n)

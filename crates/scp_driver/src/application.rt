@@ -1,15 +1,15 @@
-//! The trait by which an application makes its state of decided values.
+//! The trait by which an application builds its state from decided values.
 ghost use Rattle.std.specs.Prelude.{◌≡◌, ℕ, List, Bool, true, OnOk, IsOkUnless};
 
 use crate::driver::Driver;
 use scp_types::{Fault, Value};
 use std::alloc::Global;
 
-/// What an application makes of the values that are decided, slot after slot. The state after a value is a function of the
-/// state and the value, and of nothing that one node alone has: so it is said of the type, and nodes of one application that
-/// applied the same values have the same state. Any value may be decided, also one that this node finds invalid, so each has
-/// its state; an implementation says which it refuses, and proves that those leave the state. The state is what contracts see
-/// of it (its `Model`).
+/// What an application makes of the decided values, slot after slot. The state after a value depends only on the state and
+/// the value, and on nothing that a single node has. So the clauses speak of the type: nodes of one application that applied
+/// the same values have the same state. Any value may be decided, even one that this node finds invalid, so each has a state
+/// after it. An implementation says which values it refuses, and proves that these leave the state as it was. Contracts see
+/// the state's `Model`.
 pub trait Application: Driver {
     type State: Drop;
 
@@ -23,11 +23,11 @@ pub trait Application: Driver {
     fn new_state(alloc: Global) -> Self::State
         ensures { result ≡ first };
 
-    /// Whether the value is one that leaves the state. Takes no memory.
+    /// Whether the value is one that leaves the state as it was. Takes no memory.
     fn refuses(state: &Self::State, value: &Value) -> bool
         ensures { result ≡ is_refused state.now value.now };
 
-    /// Applies a value. Where memory is wanting the state may be left half done, and is given up.
+    /// Applies a value. If memory runs out, the state may be left half done, and the caller drops it.
     fn apply(state: &mut Self::State, value: &Value) -> Result<(), Fault>
         ensures after { OnOk result (state.new ≡ after state.old value.now) }
         ensures only_memory { IsOkUnless result Fault.NoMemory };

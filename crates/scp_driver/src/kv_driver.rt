@@ -12,13 +12,13 @@ use scp_kv::{KvState, apply_value, is_ops};
 use scp_types::{Fault, Slot, Value};
 use std::alloc::Global;
 
-/// The product's application (this project's profile): operation lists are fully validated and all else is invalid, nothing is
-/// taken of an invalid value, the greatest candidate by bytes is the composite, and nodes lead in turn; the state is a map from
-/// keys to values, to which the operations of each list are applied.
+/// The product's application (this project's profile). Operation lists are fully validated, and everything else is invalid;
+/// nothing is taken from an invalid value. The composite is the greatest candidate by bytes, and nodes lead in turn. The state
+/// is a map from keys to values, to which each list's operations are applied.
 #[derive(Clone, Copy, Debug)]
 pub struct KvDriver;
 
-/// The greatest of the values, of which there is one, by bytes. Takes no memory.
+/// The greatest of the values by bytes; there is at least one. Takes no memory.
 pub fn greatest_of(values: &[Value]) -> &Value
     requires some { values.now ≢ [] }
     ensures exact { result.now ≡ greatest values.now }
@@ -87,7 +87,7 @@ impl Application for KvDriver {
     ghost refused_stays = { no_list_stays };
 }
 
-/// The place (slot + round - 2) mod n, over the integers, of a round's leader among n nodes: nodes lead in turn, and for slot 1
+/// The place (slot + round - 2) mod n, over the integers, of a round's leader among n nodes. Nodes lead in turn, and for slot 1
 /// and round 1 it is the first.
 pub fn place_of(slot: Slot, round: u64, n: usize) -> usize
     requires rounds { 1 ≤ round }

@@ -1,5 +1,5 @@
-//! What an application says of values: which are valid, what is taken of others, how candidates are combined, and who leads; and
-//! what it makes of those that are decided.
+//! What an application says about values: which are valid, what is taken from others, how candidates are combined, and who
+//! leads; and what it makes of the decided values.
 #![tactic(auto)]
 
 mod application;

@@ -26,7 +26,7 @@ pub record Receiver (T : Type 0) : Type 0 where
   pub room : ℕ
   pub got : List (Item T)
 
--- how many producers there may be, and how many items the channel may hold
+-- there are 1 to 8 producers, and the channel holds 1 to `CAPACITY_LIMIT` items
 pub record IsOfSize (producers capacity : ℕ) : Type 0 where
   pub some_producer : 0 < producers
   pub few_producers : producers ≤ 8
@@ -39,11 +39,11 @@ module _ {T : Type 0} where
   ones n [] = []
   ones n (x ∷ xs) = One n x ∷ ones n xs
 
-  -- all that producer n sends, ended
+  -- all items that producer n sends, with its end last
   abbrev pub ended : ℕ → List T → List (Item T)
   ended n xs = ones n xs ++ Stop n ∷ []
 
-  -- whether producer n has ended among these
+  -- whether producer n has ended, by these items
   abbrev pub stopped : ℕ → List (Item T) → Bool
   stopped p [] = false
   stopped p (One n x ∷ xs) = stopped p xs
@@ -57,7 +57,7 @@ module _ {T : Type 0} where
   abbrev pub AreFresh : Line T → List (Sender T) → Type 0
   AreFresh line xs = (i : ℕ) → i < length xs → slice_get xs i ≡ Some (fresh line i)
 
-  -- what was received of producer p
+  -- the things that were received from producer p
   abbrev pub heard : ℕ → List (Item T) → List T
   heard p got = values (of p got)
 
@@ -65,8 +65,8 @@ module _ {T : Type 0} where
 abbrev pub HeardAll : {T : Type 0} → Receiver T → Type 0
 HeardAll r = (p : ℕ) → p < r.producers → stopped p r.got ≡ true
 
--- One producer that ended, and its consumer: what it sent is what was received of it and then what the channel holds of it,
--- in order, its end last; nothing is of a number that no producer has; and the channel holds no more than its room.
+-- One producer that ended, and its consumer. What it sent is what was received of it, followed by what the channel holds of it, in order, its
+-- end last. No item has a number that no producer has. The channel holds no more than its room.
 pub record IsQueued {T : Type 0} (r : Receiver T) (s : Sender T) : Type 0 where
   pub number : s.number < r.producers
   pub queue : List (Item T)

@@ -23,7 +23,7 @@ pub type InboxTx = Tx<Inbound, Any>;
 /// The receiving end of an inbox.
 pub type InboxRx = Rx<Inbound, Any>;
 
-/// What a producer of an inbox leaves.
+/// What a producer of an inbox leaves when it has ended.
 pub type InboxDone = Done<Inbound, Any>;
 
 /// The sending end from the pending stage to the slot stage.
@@ -32,7 +32,7 @@ pub type ReadyTx = Tx<Ready, Any>;
 /// The receiving end from the pending stage to the slot stage.
 pub type ReadyRx = Rx<Ready, Any>;
 
-/// What the pending stage's sending end leaves.
+/// What the pending stage's sending end leaves when it has ended.
 pub type ReadyDone = Done<Ready, Any>;
 
 /// The sending end from the slot stage to the applier.
@@ -41,10 +41,10 @@ pub type DecidedTx = Tx<Onward, InWindow>;
 /// The receiving end from the slot stage to the applier.
 pub type DecidedRx = Rx<Onward, InWindow>;
 
-/// What the slot stage's sending end leaves.
+/// What the slot stage's sending end leaves when it has ended.
 pub type DecidedDone = Done<Onward, InWindow>;
 
-/// The ends of the link from one node to another. Its capacity is 1 to 1,024 items; another is refused by `Fault::BadConfig`.
+/// The ends of the link from one node to another. Its capacity is 1 to 1,024 items; any other is refused by `Fault::BadConfig`.
 pub fn link(
     alloc: Global,
     from: NodeId,
@@ -59,7 +59,7 @@ pub fn link(
     Ok((LinkTx::made(from, to, tail), rx))
 }
 
-/// The ends of an inbox of 1 to 8 producers and 1 to 1,024 items; other numbers are refused by `Fault::BadConfig`.
+/// The ends of an inbox of 1 to 8 producers and 1 to 1,024 items; any other number is refused by `Fault::BadConfig`.
 pub fn inbox(
     alloc: Global,
     producers: u8,
@@ -72,7 +72,7 @@ pub fn inbox(
     channel(alloc, producers, capacity)
 }
 
-/// The ends of the channel from the pending stage to the slot stage, of 1 to 1,024 items.
+/// The ends of the channel from the pending stage to the slot stage, of 1 to 1,024 items; any other capacity is refused by `Fault::BadConfig`.
 pub fn ready(alloc: Global, capacity: usize) -> Result<(ReadyTx, ReadyRx), Fault>
     ensures ends { IfOk result (λ r. (r.0 ≡ fresh r.1.line 0) × (r.1 ≡ record { line = r.1.line; producers = 1; room = capacity; got = [] })) }
     ensures bad_config { IsErrOf result Fault.BadConfig ↔ (IsOfSize 1 capacity → ⊥) }
@@ -81,7 +81,7 @@ pub fn ready(alloc: Global, capacity: usize) -> Result<(ReadyTx, ReadyRx), Fault
     lone_channel(alloc, capacity)
 }
 
-/// The ends of the channel from the slot stage to the applier, of 1 to 1,024 items.
+/// The ends of the channel from the slot stage to the applier, of 1 to 1,024 items; any other capacity is refused by `Fault::BadConfig`.
 pub fn decided(alloc: Global, capacity: usize) -> Result<(DecidedTx, DecidedRx), Fault>
     ensures ends { IfOk result (λ r. (r.0 ≡ fresh r.1.line 0) × (r.1 ≡ record { line = r.1.line; producers = 1; room = capacity; got = [] })) }
     ensures bad_config { IsErrOf result Fault.BadConfig ↔ (IsOfSize 1 capacity → ⊥) }

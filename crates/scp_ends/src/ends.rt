@@ -15,15 +15,15 @@ use crossbeam_channel::{Pass, RuledReceiver, RuledSender};
 use std::marker::Model;
 use std::sync::Wait;
 
-/// What was to be sent, where the other end is gone.
+/// What was to be sent when the other end was gone.
 #[derive(Drop)]
 pub struct Gone<T>(pub T);
 
-/// That no producer is there any more; only a receive finds it.
+/// No producer is there any more; only a receive finds this.
 #[derive(Drop)]
 pub struct Nobody(());
 
-/// The end of one producer.
+/// A producer's end.
 #[derive(Drop)]
 pub struct Tx<T: Drop, L: Law<T>> {
     sender: RuledSender<Item<T>, View<T>, InOrder<L>>,
@@ -40,7 +40,7 @@ impl<T: Drop, L: Law<T>> Model for Tx<T, L> {
     ghost invariant = { λ s. IsSeatAt (sends_on s.sender) s.pass × passes.IsSending s.number s.pass × passes.HasRoom (ruled_capacity (sends_on s.sender)) s.pass };
 }
 
-/// A producer's end that couldn't be ended, since the consumer is gone; only `stop` makes one.
+/// A producer's end that couldn't be ended because the consumer is gone; only `stop` makes one.
 #[derive(Drop)]
 pub struct Unheard<T: Drop, L: Law<T>> {
     end: Tx<T, L>,
@@ -79,7 +79,7 @@ impl<T: Drop, L: Law<T>> Model for Done<T, L> {
     ghost invariant = { λ s. IsSeatAt (sends_on s.sender) s.pass × passes.IsEnded s.number s.pass };
 }
 
-/// The end of the one consumer.
+/// The consumer's end.
 #[derive(Drop)]
 pub struct Rx<T: Drop, L: Law<T>> {
     receiver: RuledReceiver<Item<T>, View<T>, InOrder<L>>,
@@ -114,7 +114,7 @@ impl<T: Drop, L: Law<T>> Tx<T, L> {
         }
     }
 
-    /// Sends one thing.
+    /// Sends one thing. If the consumer is gone, hands the thing back.
     pub fn send_as<R: Wait>(&mut self, rt: &R, thing: T) -> Result<(), Gone<T>>
         requires { L.fits (self.old.sent ++ thing ∷ []) }
         ensures { MatchResult result (λ _. self.new ≡ record self.old { sent = self.old.sent ++ thing ∷ [] }) (λ e. (e.0 ≡ thing) × (self.new ≡ self.old)) }
@@ -134,14 +134,14 @@ impl<T: Drop, L: Law<T>> Tx<T, L> {
         }
     }
 
-    /// Wakes the consumer, where it wasn't told of all that was put. To be called before this thread waits for something else.
+    /// Wakes the consumer if it wasn't woken for all that was put. To be called before this thread waits for something else.
     pub fn flush(&mut self)
         ensures { self.new ≡ self.old }
     {
         self.ringer.tell_receiver();
     }
 
-    /// Ends the producer. Where the other end is gone, hands the end back.
+    /// Ends the producer. If the consumer is gone, hands the end back.
     pub fn stop<R: Wait>(mut self, rt: &R) -> Result<Done<T, L>, Unheard<T, L>>
         ensures { MatchResult result (λ d. d ≡ self) (λ e. e ≡ self) }
     {
@@ -200,7 +200,7 @@ impl<T: Drop, L: Law<T>> Rx<T, L> {
         }
     }
 
-    /// Receives the next item, of any producer, where one is there; `None` where none is.
+    /// Receives the next item, of any producer, if there is one; otherwise `None`.
     pub fn try_recv_as<R: Wait>(&mut self, rt: &R) -> Result<Option<Item<T>>, Gone<Nobody>>
         ensures received { MatchResult result (λ found. MatchOption found (self.new ≡ self.old) (λ x. (self.new ≡ record self.old { got = self.old.got ++ x ∷ [] }) × (order.number_of x < self.old.producers))) (λ _. self.new ≡ self.old) }
         ensures fits { IfOk result (λ found. IfSome found (λ x. (p : ℕ) → L.fits (order.values (order.of p (self.old.got ++ x ∷ []))))) }
@@ -217,7 +217,7 @@ impl<T: Drop, L: Law<T>> Rx<T, L> {
         }
     }
 
-    /// Receives the next item, of any producer. Before it waits, it wakes the consumer behind `out`.
+    /// Receives the next item, of any producer. Before it waits, it wakes the consumer of `out`.
     pub fn recv_before<R: Wait, U: Drop, M: Law<U>>(
         &mut self,
         rt: &R,
@@ -235,7 +235,7 @@ impl<T: Drop, L: Law<T>> Rx<T, L> {
         self.recv_as(rt)
     }
 
-    /// Takes a producer's pass back: what it sent is what was received of it, and then what the channel holds of it.
+    /// Takes a producer's pass back. What the producer sent is what was received of it, followed by what the channel holds of it.
     pub fn take_back(&mut self, done: Done<T, L>)
         requires { done.line ≡ self.old.line }
         ensures same { self.new ≡ self.old }

@@ -1,15 +1,15 @@
 //! The channels between the workers of a node, each under a rule.
 //!
 //! What it promises, under every schedule:
-//! - what each producer sent comes out in its order, each thing once, its end last, and nothing else comes;
-//! - a channel holds no more items than its capacity;
-//! - a send that is handed back changes nothing, and an end whose stop found nobody says so;
-//! - over a link goes what a link's tail may send: lives 1, 2, .., each opened once and closed at most once;
-//! - the decisions that go on to the applier are each of one of the 16 slots from the lowest undecided one on.
+//! - What each producer sent comes out in its order, each thing once and its end last. Nothing else comes out.
+//! - A channel holds no more items than its capacity.
+//! - A send that is handed back changes nothing. An end whose stop found nobody says so.
+//! - A link carries what a link's tail may send: lives 1, 2, .., each opened once and closed at most once.
+//! - Each decision that goes on to the applier is for one of the 16 slots from the lowest undecided one on.
 //!
-//! What is put is there at once; who sleeps is woken late, so that few things cost a switch between threads.
+//! What is put is there at once. A sleeper is woken late, so few things cost a switch between threads.
 //!
-//! Not claimed: that a call returns, when who sleeps is woken, or when it is found that the other end is gone.
+//! Not claimed: that a call returns, when a sleeper is woken, or when it is found that the other end is gone.
 #![tactic(auto)]
 
 mod channels;

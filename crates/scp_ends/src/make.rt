@@ -19,7 +19,7 @@ use std::sync::Arc;
 /// The most producers of a channel: a node's links and its own commands.
 const PRODUCER_LIMIT: u8 = PEER_LIMIT as u8 + 1;
 
-/// The consumer's pass learns the capacity.
+/// Lets the consumer's pass know the capacity.
 fn size<T: Drop, L: Law<T>, J: Room>(
     sender: &RuledSender<Item<T>, View<T>, InOrder<L>>,
     pass: &mut Pass<Item<T>, View<T>>,
@@ -32,7 +32,7 @@ fn size<T: Drop, L: Law<T>, J: Room>(
     let _spent = sender.another::<Sizes<J>>(pass);
 }
 
-/// The end of the next producer.
+/// Makes the end of the next producer.
 fn hand_out<T: Drop, L: Law<T>>(
     sender: &RuledSender<Item<T>, View<T>, InOrder<L>>,
     pass: &mut Pass<Item<T>, View<T>>,
@@ -72,7 +72,7 @@ pub(crate) fn channel<T: Drop, L: Law<T>>(
     Ok(made)
 }
 
-/// The ends of all producers, in their order.
+/// The ends of all producers, in the order of their numbers.
 fn hand_out_all<T: Drop, L: Law<T>>(
     alloc: Global,
     sender: &RuledSender<Item<T>, View<T>, InOrder<L>>,

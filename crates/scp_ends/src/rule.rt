@@ -3,7 +3,7 @@ use crate::item::{Item, View};
 use crossbeam_channel::protocol::{Join, Lesson, Outcome, Protocol, Split};
 use std::marker::{Brand, PhantomData};
 
-/// What a producer may send, by all that it sent.
+/// What a producer may send, as a law of all that it sent.
 pub trait Law<T> {
     ghost use Rattle.std.specs.Prelude.{[], ◌++◌, List};
 
@@ -14,7 +14,7 @@ pub trait Law<T> {
     ghost before: { (xs ys : List T) → fits (xs ++ ys) → fits xs };
 }
 
-/// The law that allows all.
+/// The law that allows everything.
 pub struct Any;
 
 impl<T> Law<T> for Any {
@@ -48,7 +48,7 @@ impl Room for Brand {
     ghost room = { 0 };
 }
 
-/// The channel is made: the consumer learns its capacity.
+/// The channel is made: the consumer's pass learns its capacity.
 pub struct Sizes<J>(PhantomData<J>);
 
 impl<T, J: Room> Split<View<T>> for Sizes<J> {
@@ -71,7 +71,7 @@ impl<T> Split<View<T>> for Makes {
     ghost right = { λ v. sender v.room v.made [] };
 }
 
-/// A producer's pass is taken back: the receiver is told what was sent.
+/// A producer's pass is taken back: the receiver's pass learns what was sent.
 pub struct Takes;
 
 impl<T> Join<View<T>> for Takes {
@@ -110,8 +110,8 @@ impl<T, L: Law<T>> Lesson<Item<T>, View<T>> for Receives<L> {
     ghost fact = { λ v items. Unit {0} };
 }
 
-/// What the producer that the consumer was told of sent is what was received of it, and then what the channel holds of it;
-/// it is one of the producers, and there are no others; and the channel holds no more items than its capacity.
+/// The producer whose pass was taken back is one of the producers, and there are no others. What it sent is what was received of it, followed
+/// by what the channel holds of it. The channel holds no more items than its capacity.
 pub struct Told;
 
 impl<T> Lesson<Item<T>, View<T>> for Told {

@@ -17,7 +17,7 @@ use std::sync::Wait;
 pub enum NotSent {
     /// `Fault::NotOpen`, `Fault::AlreadyOpen` or `Fault::LivesSpent`.
     Refused(Fault),
-    /// The receiving end is gone; here is what was to be sent.
+    /// The receiving end is gone; this is what was to be sent.
     Gone(LinkItem),
 }
 
@@ -42,7 +42,7 @@ impl Model for LinkTx {
     ghost invariant = { λ k. IsLink (record { from = k.from; to = k.to; tail = k.tail }) × (stands (record { from = k.from; to = k.to; tail = k.tail }) ≡ record { life = k.life; is_open = k.is_open }) };
 }
 
-/// What the sending end of a link leaves.
+/// What the sending end of a link leaves when it has ended.
 #[derive(Drop)]
 pub struct LinkDone {
     from: NodeId,
@@ -88,7 +88,7 @@ impl LinkTx {
         self.is_open
     }
 
-    /// Opens the link: its next connection begins.
+    /// Opens the link: its next connection begins. Refused by `AlreadyOpen`, and by `LivesSpent` after 65,535 lives.
     pub fn open<R: Wait>(&mut self, rt: &R) -> Result<(), NotSent>
         ensures opened { OnOk result (self.new ≡ with_item self.old (item.Opened (conn_next self.old))) }
         ensures same { OnErr result (self.new ≡ self.old) }
@@ -117,7 +117,7 @@ impl LinkTx {
         }
     }
 
-    /// Sends bytes on the open connection.
+    /// Sends bytes on the open connection. Refused by `NotOpen`.
     pub fn send<R: Wait>(&mut self, rt: &R, bytes: Bytes) -> Result<(), NotSent>
         ensures sent { OnOk result (self.new ≡ with_item self.old (item.Bytes (conn_now self.old) bytes)) }
         ensures same { OnErr result (self.new ≡ self.old) }
@@ -134,7 +134,7 @@ impl LinkTx {
         }
     }
 
-    /// Closes the open connection.
+    /// Closes the open connection. Refused by `NotOpen`.
     pub fn close<R: Wait>(&mut self, rt: &R) -> Result<(), NotSent>
         ensures closed { OnOk result (self.new ≡ with_item self.old (item.Closed (conn_now self.old))) }
         ensures same { OnErr result (self.new ≡ self.old) }
@@ -154,14 +154,14 @@ impl LinkTx {
         }
     }
 
-    /// Wakes the reader, where it wasn't told of all that was sent. To be called before this thread waits for something else.
+    /// Wakes the reader if it wasn't woken for all that was sent. To be called before this thread waits for something else.
     pub fn flush(&mut self)
         ensures { self.new ≡ self.old }
     {
         self.tail.flush();
     }
 
-    /// Ends the link. Where the receiving end is gone, hands the end back.
+    /// Ends the link. If the receiving end is gone, hands the end back.
     pub fn stop<R: Wait>(self, rt: &R) -> Result<LinkDone, Gone<LinkTx>>
         ensures { MatchResult result (λ d. d ≡ self) (λ e. e.0 ≡ self) }
     {
@@ -184,7 +184,7 @@ impl LinkTx {
         }
     }
 
-    /// The connection that is open, or was last.
+    /// The connection that is open, or was last open.
     fn conn(&self) -> ConnId
         ensures { result ≡ conn_now self.now }
     {
@@ -197,7 +197,7 @@ impl LinkTx {
 }
 
 impl LinkDone {
-    /// Gives the link's pass back to its receiving end: what was sent is what was received, and then what the link holds.
+    /// Gives the link's pass back to its receiving end. What was sent is what was received, followed by what the link holds.
     pub fn return_to(self, rx: &mut Rx<LinkItem, Any>)
         requires line { self.tail.line ≡ rx.old.line }
         ensures same { rx.new ≡ rx.old }

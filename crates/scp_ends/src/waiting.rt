@@ -1,4 +1,4 @@
-//! How the two sides of a channel wait for each other: what is put is there at once, and who sleeps is woken late.
+//! How the two sides of a channel wait for each other. What is put is there at once; a sleeper is woken late.
 ghost use Rattle.std.specs.Prelude.{◌≡◌, MatchOption, MatchResult};
 ghost use Rattle.crossbeam_channel.specs.Claims.{view, IsSeatAt};
 ghost use Rattle.crossbeam_channel.specs.Ends.{sends_on, receives_on, ruled_capacity};
@@ -13,17 +13,17 @@ use std::sync::{Arc, Wait};
 /// How often an end tries before it sleeps.
 const TRIES: u32 = 4;
 
-/// The most things of a sender of which its receiver isn't told.
+/// The most things that a sender puts without waking its receiver.
 const MOST_UNTOLD: u64 = 32;
 
-/// Who sleeps at one side of a channel, and how often it was rung.
+/// The threads that sleep at one side of a channel, and how often they were rung for.
 ///
-/// A sleeper reads the rings, is counted, looks once more and then sleeps while no ring came. Whoever it waits for acts first and then looks
-/// whether one is counted. So either that look of the sleeper's finds what was done, or a ring comes.
+/// A sleeper reads the count of rings, is counted, looks once more, and then sleeps until a ring comes. Whoever it waits for acts first, and
+/// then looks whether a sleeper is counted. So either the sleeper's last look finds what was done, or a ring comes.
 #[derive(Drop)]
 struct Bell {
     rings: AtomicU64,
-    /// At least as many as sleep. One that found what it looked for stays counted until the next ring, which then wakes nobody.
+    /// At least the number of sleepers. One that found what it looked for stays counted until the next ring, which then wakes nobody.
     asleep: AtomicU64,
 }
 
@@ -35,7 +35,7 @@ impl Bell {
         }
     }
 
-    /// Wakes all who sleep.
+    /// Wakes all sleepers.
     fn ring_for_all(&self) {
         if self.asleep.load(Ordering::SeqCst) != 0 && self.asleep.swap(0, Ordering::SeqCst) != 0 {
             self.rings.fetch_add(1, Ordering::SeqCst);
@@ -43,7 +43,7 @@ impl Bell {
         }
     }
 
-    /// Wakes so many of those who sleep; all, where as many sleep at most, or another one is counted meanwhile.
+    /// Wakes this many sleepers; all of them if there are no more, or if another one is counted meanwhile.
     fn ring_for(&self, most: u64) {
         let asleep = self.asleep.load(Ordering::SeqCst);
         let left = asleep.saturating_sub(most);
@@ -57,14 +57,14 @@ impl Bell {
         }
     }
 
-    /// Counts those who are left asleep, where nobody else counts meanwhile. Says whether it did.
+    /// Counts those who are left asleep, unless somebody else counts meanwhile. Returns whether it did.
     fn leaves(&self, asleep: u64, left: u64) -> bool {
         self.asleep
             .compare_exchange(asleep, left, Ordering::SeqCst, Ordering::SeqCst)
             .is_ok()
     }
 
-    /// To be called before a last look, and then `sleep` with the answer.
+    /// To be called before the last look; `sleep` then takes the answer.
     fn listen(&self) -> u32 {
         let seen = self.rings.load(Ordering::SeqCst);
         self.asleep.fetch_add(1, Ordering::SeqCst);
@@ -76,7 +76,7 @@ impl Bell {
     }
 }
 
-/// The bells of a channel: on the one its receiver sleeps, on the other who waits for room.
+/// The bells of a channel: the receiver sleeps on one, and whoever waits for room on the other.
 #[derive(Drop)]
 pub(crate) struct Bells {
     things: Bell,
@@ -92,7 +92,7 @@ impl Bells {
     }
 }
 
-/// An end's hold of its channel's bells, which rings both when the end goes; and how much it did since it last rang.
+/// An end's hold of its channel's bells, and how much the end did since it last rang. When the end goes, both bells are rung.
 pub(crate) struct Ringer {
     bells: Arc<Bells>,
     untold: u64,
@@ -117,7 +117,7 @@ fn half_of(capacity: usize) -> u64 {
 }
 
 impl Ringer {
-    /// Of a sending end.
+    /// The hold of a sending end.
     pub(crate) fn of_sender(bells: Arc<Bells>, capacity: usize) -> Ringer {
         Ringer {
             bells,
@@ -126,7 +126,7 @@ impl Ringer {
         }
     }
 
-    /// Of a receiving end.
+    /// The hold of a receiving end.
     pub(crate) fn of_receiver(bells: Arc<Bells>, capacity: usize) -> Ringer {
         Ringer {
             bells,
@@ -135,20 +135,20 @@ impl Ringer {
         }
     }
 
-    /// The receiver is told of what was put.
+    /// Rings for the receiver, if something was put since the last ring.
     pub(crate) fn tell_receiver(&mut self) {
         if self.untold > 0 {
             self.call_receiver();
         }
     }
 
-    /// The receiver is rung, whoever put what is there: before a wait for room, and behind the end of a producer.
+    /// Rings for the receiver, whoever put what is there: before a wait for room, and after a producer's end.
     pub(crate) fn call_receiver(&mut self) {
         self.untold = 0;
         self.bells.things.ring_for_all();
     }
 
-    /// As many senders are told as there is room that none was told of.
+    /// Wakes as many senders as there are places that none was woken for.
     fn tell_senders(&mut self) {
         let room = self.untold;
         if room > 0 {
@@ -187,7 +187,7 @@ impl Patience {
         }
     }
 
-    /// Lets the call try again at once some times, then once more while it listens, and then sleeps.
+    /// Lets the call try again at once a few times, then once more while it listens, and then sleeps.
     fn wait<R: Wait>(&mut self, rt: &R, bell: &Bell) {
         match self.heard {
             Some(heard) => {
@@ -235,7 +235,7 @@ pub(crate) fn send_late<T: Drop, V, P: Protocol<T, V>, M: Outcome<T, V> + Lesson
     unreachable!()
 }
 
-/// What is there, as the channel's `try_recv_as` has it: `None` where nothing is there now.
+/// Looks for an item as the channel's `try_recv_as` does: `None` if there is none now.
 pub(crate) fn look<T: Drop, V, P: Protocol<T, V>, M: Outcome<T, V> + Lesson<T, V>, R: Wait>(
     rt: &R,
     receiver: &RuledReceiver<T, V, P>,

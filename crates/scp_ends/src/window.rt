@@ -2,8 +2,8 @@
 use crate::rule::Law;
 use scp_ledger::Onward;
 
-/// Each decision that is sent is of one of the 16 slots from the least one that no decision sent before it has, and of one
-/// that none of those has.
+/// Each decision that is sent is for one of the 16 slots from the lowest one without a
+/// decision sent before. No decision for its own slot was sent before.
 pub struct InWindow;
 
 impl Law<Onward> for InWindow {

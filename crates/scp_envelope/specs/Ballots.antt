@@ -6,7 +6,7 @@ use Rattle.std.specs.declared.cmp.Ordering.TheVariants.{Less, Greater}
 use Rattle.std.specs.Cmp.Lexicographic.{slice_cmp}
 use Rattle.scp_types.specs.declared.ballot.Ballot.{Ballot}
 
--- values are compared as bytes, a proper prefix being less than the whole
+-- values are compared as bytes; a proper prefix is less than the whole
 abbrev pub value_cmp : List ℕ → List ℕ → Ordering
 value_cmp v w = slice_cmp nat_cmp v w
 
@@ -14,7 +14,7 @@ value_cmp v w = slice_cmp nat_cmp v w
 abbrev pub ballot_cmp : Ballot → Ballot → Ordering
 ballot_cmp a b = ordering_then (nat_cmp a.counter b.counter) (value_cmp a.value b.value)
 
--- one ballot is less than another, or at most it, by that comparison
+-- one ballot is less than another by that comparison
 abbrev pub IsLess : Ballot → Ballot → Type 0
 IsLess a b = ballot_cmp a b ≡ Less
 

@@ -14,11 +14,11 @@ use Rattle.scp_envelope.specs.declared.statement.Pledges.{Pledges}
 use Rattle.scp_envelope.specs.declared.statement.Pledges.TheVariants.{Prepare as Preparing, Confirm as Confirming, Externalize as Externalizing, Nominate as Nominating}
 use Rattle.scp_envelope.specs.Kinds.{prepare_kind, confirm_kind, externalize_kind, nominate_kind, pledges_kind, statement_kind, envelope_kind, envelope_value}
 
--- back to its ballot
+-- back from a value of the kind to its ballot
 abbrev pub ballot_of : Values ballot_kind → Ballot
 ballot_of v = record { counter = v.0; value = v.1 }
 
--- back to its PREPARE
+-- back from a value of the kind to its PREPARE
 abbrev pub prepare_of : Values prepare_kind → Prepare
 prepare_of v = record {
   set_hash = record { 0 = v.0 };
@@ -29,7 +29,7 @@ prepare_of v = record {
   n_high = v.1.1.1.1.1;
 }
 
--- back to its CONFIRM
+-- back from a value of the kind to its CONFIRM
 abbrev pub confirm_of : Values confirm_kind → Confirm
 confirm_of v = record {
   ballot = ballot_of v.0;
@@ -39,15 +39,15 @@ confirm_of v = record {
   set_hash = record { 0 = v.1.1.1.1 };
 }
 
--- back to its EXTERNALIZE
+-- back from a value of the kind to its EXTERNALIZE
 abbrev pub externalize_of : Values externalize_kind → Externalize
 externalize_of v = record { commit = ballot_of v.0; n_high = v.1.0; set_hash = record { 0 = v.1.1 } }
 
--- back to its NOMINATE
+-- back from a value of the kind to its NOMINATE
 abbrev pub nominate_of : Values nominate_kind → Nominate
 nominate_of v = record { set_hash = record { 0 = v.0 }; votes = v.1.0; accepted = v.1.1 }
 
--- back to its pledges, by the arm
+-- back from a value of the kind to its pledges, by the arm
 abbrev pub pledges_of : Values pledges_kind → Pledges
 pledges_of (inl v) = Preparing (prepare_of v)
 pledges_of (inr (inl v)) = Confirming (confirm_of v)
@@ -55,7 +55,7 @@ pledges_of (inr (inr (inl v))) = Externalizing (externalize_of v)
 pledges_of (inr (inr (inr (inl v)))) = Nominating (nominate_of v)
 pledges_of (inr (inr (inr (inr v)))) = elim v [ ]
 
--- back to its statement
+-- back from a value of the kind to its statement
 abbrev pub statement_of : Values statement_kind → Statement
 statement_of v = record { node = node_of v.0; slot = record { 0 = v.1.0 }; pledges = pledges_of v.1.1 }
 
@@ -63,7 +63,7 @@ statement_of v = record { node = node_of v.0; slot = record { 0 = v.1.0 }; pledg
 abbrev pub envelope_of : Values envelope_kind → Envelope
 envelope_of v = record { statement = statement_of v.0; signature = v.1 }
 
--- an envelope is what its value says, and each value of the kind is that of an envelope
+-- each envelope is the one that its value is read back as
 abbrev pub EnvelopeIsItsValue : Type 0
 EnvelopeIsItsValue = (e : Envelope) → envelope_of (envelope_value e) ≡ e
 

@@ -15,27 +15,27 @@ use Rattle.scp_envelope.specs.declared.statement.Envelope.{Envelope}
 use Rattle.scp_envelope.specs.declared.statement.Pledges.{Pledges}
 use Rattle.scp_envelope.specs.declared.statement.Pledges.TheVariants.{Prepare as Preparing, Confirm as Confirming, Externalize as Externalizing, Nominate as Nominating}
 
--- quorumSetHash, ballot, prepared, preparedPrime, nC, nH
+-- the fields of a PREPARE: quorumSetHash, ballot, prepared, preparedPrime, nC, nH
 abbrev pub prepare_kind : Kind
 prepare_kind = both hash_kind (both ballot_kind (both (optional ballot_kind) (both (optional ballot_kind) (both uint32 uint32))))
 
--- what stands for a PREPARE as a value of its kind
+-- a PREPARE as a value of its kind
 abbrev pub prepare_value : Prepare → Values prepare_kind
 prepare_value p = (p.set_hash.0, (ballot_value p.ballot, (option_map ballot_value p.prepared, (option_map ballot_value p.prepared_prime, (p.n_commit, p.n_high)))))
 
--- ballot, nPrepared, nCommit, nH, quorumSetHash
+-- the fields of a CONFIRM: ballot, nPrepared, nCommit, nH, quorumSetHash
 abbrev pub confirm_kind : Kind
 confirm_kind = both ballot_kind (both uint32 (both uint32 (both uint32 hash_kind)))
 
--- what stands for a CONFIRM
+-- a CONFIRM as a value of its kind
 abbrev pub confirm_value : Confirm → Values confirm_kind
 confirm_value p = (ballot_value p.ballot, (p.n_prepared, (p.n_commit, (p.n_high, p.set_hash.0))))
 
--- commit, nH, commitQuorumSetHash
+-- the fields of an EXTERNALIZE: commit, nH, commitQuorumSetHash
 abbrev pub externalize_kind : Kind
 externalize_kind = both ballot_kind (both uint32 hash_kind)
 
--- what stands for an EXTERNALIZE
+-- an EXTERNALIZE as a value of its kind
 abbrev pub externalize_value : Externalize → Values externalize_kind
 externalize_value p = (ballot_value p.commit, (p.n_high, p.set_hash.0))
 
@@ -43,46 +43,46 @@ externalize_value p = (ballot_value p.commit, (p.n_high, p.set_hash.0))
 abbrev pub list_kind : Kind
 list_kind = array LIST_LIMIT value_kind
 
--- quorumSetHash, votes, accepted
+-- the fields of a NOMINATE: quorumSetHash, votes, accepted
 abbrev pub nominate_kind : Kind
 nominate_kind = both hash_kind (both list_kind list_kind)
 
--- what stands for a NOMINATE
+-- a NOMINATE as a value of its kind
 abbrev pub nominate_value : Nominate → Values nominate_kind
 nominate_value p = (p.set_hash.0, (p.votes, p.accepted))
 
--- 0 PREPARE, 1 CONFIRM, 2 EXTERNALIZE, 3 NOMINATE
+-- the discriminants of pledges: 0 PREPARE, 1 CONFIRM, 2 EXTERNALIZE, 3 NOMINATE
 abbrev pub pledges_kind : Kind
 pledges_kind = union (arm 0 prepare_kind (arm 1 confirm_kind (arm 2 externalize_kind (arm 3 nominate_kind no_arm))))
 
--- what stands for pledges: the arm of their kind
+-- pledges as a value of their kind, in the arm of that kind
 abbrev pub pledges_value : Pledges → Values pledges_kind
 pledges_value (Preparing p) = inl (prepare_value p)
 pledges_value (Confirming p) = inr (inl (confirm_value p))
 pledges_value (Externalizing p) = inr (inr (inl (externalize_value p)))
 pledges_value (Nominating p) = inr (inr (inr (inl (nominate_value p))))
 
--- nodeID, slotIndex, pledges
+-- the fields of a statement: nodeID, slotIndex, pledges
 abbrev pub statement_kind : Kind
 statement_kind = both node_kind (both uint64 pledges_kind)
 
--- what stands for a statement: its node, its slot and its pledges
+-- a statement as a value of its kind: its node, its slot and its pledges
 abbrev pub statement_value : Statement → Values statement_kind
 statement_value s = (inl s.node.0, (s.slot.0, pledges_value s.pledges))
 
--- at most 64 bytes
+-- a signature: at most 64 bytes
 abbrev pub signature_kind : Kind
 signature_kind = opaque SIGNATURE_LIMIT
 
--- statement, signature
+-- the fields of an envelope: statement, signature
 abbrev pub envelope_kind : Kind
 envelope_kind = both statement_kind signature_kind
 
--- what stands for an envelope: its statement and its signature
+-- an envelope as a value of its kind: its statement and its signature
 abbrev pub envelope_value : Envelope → Values envelope_kind
 envelope_value e = (statement_value e.statement, e.signature)
 
--- the hash of the quorum set that a statement names: quorumSetHash, of an EXTERNALIZE commitQuorumSetHash
+-- the hash of the quorum set that a statement names: quorumSetHash, or commitQuorumSetHash of an EXTERNALIZE
 abbrev pub set_hash_of : Pledges → Hash
 set_hash_of (Preparing p) = p.set_hash
 set_hash_of (Confirming p) = p.set_hash

@@ -23,11 +23,11 @@ NewerIsTransitive = (s t u : Statement) → IsNewer s t → IsNewer t u → IsNe
 abbrev pub NewerIsAsymmetric : Type 0
 NewerIsAsymmetric = (s t : Statement) → IsNewer s t → ¬ (IsNewer t s)
 
--- of ascending lists, one that contains another is larger, the other not containing it, where it is longer
+-- of ascending lists, one that contains another is larger, so that the other doesn't contain it, exactly where it is longer
 abbrev pub LargerIsLonger : Type 0
 LargerIsLonger = (old new : List (List ℕ)) → IsStrictlySortedBy value_cmp old → IsStrictlySortedBy value_cmp new → ContainsAll new old → (¬ (ContainsAll old new)) ↔ (length old < length new)
 
--- what is accepted as prepared stays so under a smaller or equal compatible ballot
+-- what is accepted as prepared is also accepted under a smaller or equal compatible ballot
 abbrev pub AcceptedPreparedGoesDown : Type 0
 AcceptedPreparedGoesDown = (p : Pledges) (b below : Ballot) → AcceptsPrepare p b → IsCovered below b → AcceptsPrepare p below
 
@@ -36,10 +36,10 @@ pub record Externalizes (e : Externalize) (c : Confirm) : Type 0 where
   pub counter : e.commit.counter ≡ c.n_commit
   pub value : e.commit.value ≡ c.ballot.value
 
--- such an EXTERNALIZE accepts as prepared, and as committed, what the CONFIRM accepts
+-- such an EXTERNALIZE accepts as prepared what the CONFIRM accepts as prepared
 abbrev pub ExternalizeAcceptsPrepared : Type 0
 ExternalizeAcceptsPrepared = (e : Externalize) (c : Confirm) (b : Ballot) → Externalizes e c → AcceptsPrepare (Confirming c) b → AcceptsPrepare (Externalizing e) b
 
--- what such a CONFIRM accepts as committed, the EXTERNALIZE accepts
+-- such an EXTERNALIZE accepts as committed what the CONFIRM accepts as committed
 abbrev pub ExternalizeAcceptsCommitted : Type 0
 ExternalizeAcceptsCommitted = (e : Externalize) (c : Confirm) (n : ℕ) (v : List ℕ) → Externalizes e c → AcceptsCommit (Confirming c) n v → AcceptsCommit (Externalizing e) n v

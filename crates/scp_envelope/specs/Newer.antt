@@ -1,4 +1,4 @@
--- Which of two statements of one node and slot is the newer (this project's profile).
+-- Which of two statements of one node and slot is newer (this project's profile).
 use Rattle.std.specs.Prelude.{◌≡◌, ◌⊎◌, ℕ, List, All, Contains}
 use Rattle.std.specs.Option.{option_cmp}
 use Rattle.std.specs.Ordering.{nat_cmp, ordering_then}
@@ -12,7 +12,7 @@ use Rattle.scp_envelope.specs.declared.statement.Pledges.{Pledges}
 use Rattle.scp_envelope.specs.declared.statement.Pledges.TheVariants.{Prepare as Preparing, Confirm as Confirming, Externalize as Externalizing, Nominate as Nominating}
 use Rattle.scp_envelope.specs.Ballots.{ballot_cmp}
 
--- PREPAREs are compared by ballot, then prepared, then preparedPrime, then nH, an absent ballot being less than any
+-- PREPAREs are compared by ballot, then prepared, then preparedPrime, then nH; an absent ballot is less than any ballot
 abbrev pub prepare_cmp : Prepare → Prepare → Ordering
 prepare_cmp p q = ordering_then (ballot_cmp p.ballot q.ballot) (ordering_then (option_cmp ballot_cmp p.prepared q.prepared) (ordering_then (option_cmp ballot_cmp p.prepared_prime q.prepared_prime) (nat_cmp p.n_high q.n_high)))
 
@@ -20,18 +20,18 @@ prepare_cmp p q = ordering_then (ballot_cmp p.ballot q.ballot) (ordering_then (o
 abbrev pub confirm_cmp : Confirm → Confirm → Ordering
 confirm_cmp p q = ordering_then (ballot_cmp p.ballot q.ballot) (ordering_then (nat_cmp p.n_prepared q.n_prepared) (nat_cmp p.n_high q.n_high))
 
--- a list contains another where it has each value of it
+-- a list contains another if it has each value of it
 unfoldable pub ContainsAll : List (List ℕ) → List (List ℕ) → Type 0
 ContainsAll new old = All (λ v. Contains new v) old
 
--- a NOMINATE is newer where both its lists contain the old ones, and at least one is larger: the old one doesn't contain it
+-- a NOMINATE is newer if both its lists contain the old ones and at least one is larger, so that the old one doesn't contain it
 pub record IsNewerNominate (old new : Nominate) : Type 0 where
   pub votes : ContainsAll new.votes old.votes
   pub accepted : ContainsAll new.accepted old.accepted
   pub larger : (¬ (ContainsAll old.votes new.votes)) ⊎ (¬ (ContainsAll old.accepted new.accepted))
 
--- a ballot statement of a later kind is newer, within PREPARE and within CONFIRM the greater one; no EXTERNALIZE is newer
--- than another, and ballot statements and nominations aren't compared
+-- A ballot statement of a later kind is newer; within PREPARE and within CONFIRM, the greater one is. No EXTERNALIZE is
+-- newer than another. Ballot statements and nominations aren't compared.
 abbrev pub ArePledgesNewer : Pledges → Pledges → Type 0
 ArePledgesNewer (Preparing old) (Preparing new) = prepare_cmp old new ≡ Less
 ArePledgesNewer (Preparing old) (Confirming new) = Unit {0}
@@ -50,7 +50,7 @@ ArePledgesNewer (Nominating old) (Confirming new) = ⊥
 ArePledgesNewer (Nominating old) (Externalizing new) = ⊥
 ArePledgesNewer (Nominating old) (Nominating new) = IsNewerNominate old new
 
--- statements of two nodes or two slots aren't compared either
+-- the statement is of the same node and slot, and its pledges are newer
 pub record IsNewer (old new : Statement) : Type 0 where
   pub same_node : old.node ≡ new.node
   pub same_slot : old.slot ≡ new.slot

@@ -10,7 +10,7 @@ use Rattle.scp_envelope.specs.declared.statement.Pledges.{Pledges}
 use Rattle.scp_envelope.specs.declared.statement.Pledges.TheVariants.{Prepare as Preparing, Confirm as Confirming, Externalize as Externalizing, Nominate as Nominating}
 use Rattle.scp_envelope.specs.Ballots.{value_cmp, IsLess, IsCompatible}
 
--- where both are there, preparedPrime is less than prepared and incompatible with it
+-- if both are there, preparedPrime is less than prepared and incompatible with it
 abbrev pub AreApart : Option Ballot → Option Ballot → Type 0
 AreApart (Some prepared) (Some prime) = IsLess prime prepared × (¬ (IsCompatible prime prepared))
 AreApart (Some prepared) None = Unit {0}
@@ -41,7 +41,7 @@ pub record IsSaneNominate (p : Nominate) : Type 0 where
   pub votes_ascend : IsStrictlySortedBy value_cmp p.votes
   pub accepted_ascend : IsStrictlySortedBy value_cmp p.accepted
 
--- each kind of statement by its own rule
+-- each kind of statement has its own rule
 abbrev pub IsSane : Pledges → Type 0
 IsSane (Preparing p) = IsSanePrepare p
 IsSane (Confirming p) = IsSaneConfirm p

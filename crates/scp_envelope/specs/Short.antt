@@ -1,4 +1,4 @@
--- Short envelopes, which keep the limits of their kind and fit a link for certain (this project's profile).
+-- Short envelopes, which surely keep the limits of their kind and fit a link (this project's profile).
 use Rattle.std.specs.Prelude.{◌≤◌, ℕ, List, length, Contains}
 use Rattle.std.specs.Option.{ForSome}
 use Rattle.scp_types.specs.declared.limits.TheConstants.{VALUE_LIMIT}
@@ -18,7 +18,7 @@ SaysOnly P (Confirm p) = P p.ballot.value
 SaysOnly P (Externalize p) = P p.commit.value
 SaysOnly P (Nominate p) = ((v : List ℕ) → Contains p.votes v → P v) × ((v : List ℕ) → Contains p.accepted v → P v)
 
--- the lists of a nomination have at most seven values each, as those of own statements
+-- a nomination's lists have at most seven values each, as those of own statements have
 abbrev pub HasShortLists : Pledges → Type 0
 HasShortLists (Prepare p) = Unit {0}
 HasShortLists (Confirm p) = Unit {0}

@@ -13,7 +13,7 @@ fn is_covered(ballot: &Ballot, top: &Ballot) -> bool
     ballot.counter <= top.counter && ballot.value == top.value
 }
 
-/// Whether the other ballot is there and covers this one.
+/// Whether there is a ballot that covers this one.
 fn is_covered_by_some(ballot: &Ballot, top: &Option<Ballot>) -> bool
     ensures { IsTrue result ↔ IsSomeAnd top.now (λ top. IsCovered ballot.now top) }
 {
@@ -24,8 +24,8 @@ fn is_covered_by_some(ballot: &Ballot, top: &Option<Ballot>) -> bool
 }
 
 impl Statement {
-    /// Whether the statement votes to prepare the ballot: a PREPARE each ballot of its ballot's value up to its counter, a
-    /// CONFIRM each of its value. No other statement does.
+    /// Whether the statement votes to prepare the ballot. A PREPARE votes for each ballot of its ballot's value up to its
+    /// counter, a CONFIRM for each ballot of its value. No other statement does.
     pub fn votes_prepare(&self, ballot: &Ballot) -> bool
         ensures { IsTrue result ↔ VotesPrepare self.now.pledges ballot.now }
     {
@@ -37,8 +37,8 @@ impl Statement {
         }
     }
 
-    /// Whether the statement accepts the ballot as prepared: a PREPARE what is of the value of prepared or preparedPrime up
-    /// to its counter, a CONFIRM its value up to nPrepared, an EXTERNALIZE its value at each counter. No NOMINATE does.
+    /// Whether the statement accepts the ballot as prepared. A PREPARE accepts what prepared or preparedPrime covers: their values,
+    /// up to their counters. A CONFIRM accepts its value up to nPrepared, an EXTERNALIZE its value at each counter. No NOMINATE does.
     pub fn accepts_prepare(&self, ballot: &Ballot) -> bool
         ensures { IsTrue result ↔ AcceptsPrepare self.now.pledges ballot.now }
     {
@@ -55,8 +55,8 @@ impl Statement {
         }
     }
 
-    /// Whether the statement votes to commit the ballot of this counter and value: a PREPARE whose nC isn't 0 its ballot's
-    /// value from nC to nH, a CONFIRM its value from nCommit on. No other statement does.
+    /// Whether the statement votes to commit the ballot of this counter and value. A PREPARE whose nC isn't 0 votes for
+    /// its ballot's value from nC to nH, a CONFIRM for its value from nCommit on. No other statement does.
     pub fn votes_commit(&self, counter: u32, value: &Value) -> bool
         ensures { IsTrue result ↔ VotesCommit self.now.pledges counter value.now }
     {
@@ -75,8 +75,8 @@ impl Statement {
         }
     }
 
-    /// Whether the statement accepts the ballot of this counter and value as committed: a CONFIRM its value from nCommit to
-    /// nH, an EXTERNALIZE its value from its commit's counter on. No other statement does.
+    /// Whether the statement accepts the ballot of this counter and value as committed. A CONFIRM accepts its value from
+    /// nCommit to nH, an EXTERNALIZE its value from its commit's counter on. No other statement does.
     pub fn accepts_commit(&self, counter: u32, value: &Value) -> bool
         ensures { IsTrue result ↔ AcceptsCommit self.now.pledges counter value.now }
     {
@@ -94,7 +94,7 @@ impl Statement {
         }
     }
 
-    /// Whether the statement votes to nominate the value: it is a NOMINATE with the value in votes. Compares n values.
+    /// Whether the statement votes to nominate the value: it is a NOMINATE with the value in votes. Compares up to n values.
     pub fn votes_value(&self, value: &Value) -> bool
         ensures { IsTrue result ↔ VotesValue self.now.pledges value.now }
     {
@@ -104,7 +104,7 @@ impl Statement {
         }
     }
 
-    /// Whether the statement accepts the value as nominated: it is a NOMINATE with the value in accepted. Compares n values.
+    /// Whether the statement accepts the value as nominated: it is a NOMINATE with the value in accepted. Compares up to n values.
     pub fn accepts_value(&self, value: &Value) -> bool
         ensures { IsTrue result ↔ AcceptsValue self.now.pledges value.now }
     {

@@ -1,6 +1,6 @@
-//! The spelling of statements and envelopes (RFC 4506; Stellar-SCP.x).
+//! The encoding of statements and envelopes (RFC 4506; Stellar-SCP.x).
 //!
-//! A `let _name = ..` that nothing uses tells the prover the range of that number.
+//! A `let _name = ..` that nothing uses shows the prover the range of that number.
 ghost use Rattle.std.specs.Prelude.{◌↔◌, ◌⊎◌, ◌≡◌, IfOk, IfErr, IsErrOf, Ok};
 ghost use Rattle.scp_xdr.specs.Kind.{Values, Fits, Spells};
 ghost use Rattle.scp_xdr.specs.Reading.{reading_whole};
@@ -427,28 +427,28 @@ impl Xdr for Envelope {
     }
 }
 
-/// The envelope that the bytes spell, all of the bytes (RFC 4506; at most 4,096 bytes of a value, 64 values of a list
-/// and 64 bytes of a signature). From left to right the first fault is answered before memory is taken: `Malformed`
-/// with its place, or `TooLong` for a length or a count over its limit. It copies each value's bytes once.
+/// The envelope that all of the bytes encode (RFC 4506; at most 4,096 bytes in a value, 64 values in a list and 64
+/// bytes in a signature). The first fault from left to right is answered before memory is taken: `Malformed` with its
+/// place, or `TooLong` for a length or a count over its limit. Copies each value's bytes once.
 pub fn decode(alloc: Global, bytes: &[u8]) -> Result<Envelope, Fault>
-    // What is read is spelt by just these bytes.
+    // What is read is encoded by exactly these bytes.
     ensures found { IfOk result (λ e. Spells envelope_kind bytes.now (envelope_value e)) }
-    // What is spelt is read, unless memory runs out.
+    // What is encoded is read, unless memory runs out.
     ensures only { (v : Values envelope_kind) → Spells envelope_kind bytes.now v → Gives envelope_value result (Ok v) }
     // Which fault is the first, and its place.
     ensures exact { Gives envelope_value result (reading_whole envelope_kind bytes.now) }
-    // Memory is short only where the bytes spell an envelope.
+    // Memory runs out only if the bytes encode an envelope.
     ensures memory_last { IsErrOf result Fault.NoMemory → (v : Values envelope_kind) × Spells envelope_kind bytes.now v }
 {
     scp_xdr::decode(alloc, bytes)
 }
 
-/// The one spelling of the envelope (RFC 4506). `TooLong` where a value has over 4,096 bytes, a list over 64 values or
-/// the signature over 64 bytes; else `NoMemory`.
+/// The one encoding of the envelope (RFC 4506). `TooLong` exactly where a value has over 4,096 bytes, a list over 64
+/// values or the signature over 64 bytes. The only other refusal is `NoMemory`.
 pub fn encode(alloc: Global, envelope: &Envelope) -> Result<Vec<u8>, Fault>
-    // What is written spells the envelope.
+    // What is written encodes the envelope.
     ensures spells { IfOk result (λ bytes. Spells envelope_kind bytes.items (envelope_value envelope.now)) }
-    // It is too long just where it breaks a limit.
+    // It is too long exactly where it breaks a limit.
     ensures too_long { IsErrOf result Fault.TooLong ↔ ¬ (Fits envelope_kind (envelope_value envelope.now)) }
     // There are two reasons to refuse.
     ensures only { IfErr result (λ f. (f ≡ Fault.NoMemory) ⊎ (f ≡ Fault.TooLong)) }

@@ -78,7 +78,7 @@ fn copy_pledges(pledges: &Pledges) -> Result<Pledges, Fault>
 }
 
 impl Statement {
-    /// An equal statement. Ballots share their values; the values of a nomination are copied, once. The one refusal is `Fault::NoMemory`.
+    /// An equal statement. Ballots share their values; a nomination's values are copied once. The only refusal is `Fault::NoMemory`.
     pub fn copy(&self) -> Result<Statement, Fault>
         ensures same { IfOk result (λ copied. copied ≡ self.now) }
         ensures only_memory { IsOkUnless result Fault.NoMemory }
@@ -92,7 +92,7 @@ impl Statement {
 }
 
 impl Envelope {
-    /// An equal envelope. Ballots share their values; the values of a nomination are copied, once. The one refusal is `Fault::NoMemory`.
+    /// An equal envelope. Ballots share their values; a nomination's values are copied once. The only refusal is `Fault::NoMemory`.
     pub fn copy(&self) -> Result<Envelope, Fault>
         ensures same { IfOk result (λ copied. copied ≡ self.now) }
         ensures only_memory { IsOkUnless result Fault.NoMemory }

@@ -3,7 +3,7 @@ ghost use Rattle.std.specs.Prelude.{◌≡◌, ◌↔◌, IfOk, IsOkUnless, IsTr
 use scp_types::{Fault, Value};
 use std::marker::Model;
 
-/// Values in order. The limit of 64 is that of the spelling (this project's profile).
+/// Values in order. The limit of 64 is that of the encoding (this project's profile).
 #[derive(Debug, Drop)]
 pub struct ValueList(Vec<Value>);
 
@@ -16,7 +16,7 @@ impl Model for ValueList {
 }
 
 impl ValueList {
-    /// The list of these values. Moves them and takes no memory.
+    /// The list of these values. Moves them, and takes no memory.
     pub fn new(values: Vec<Value>) -> ValueList
         ensures { result ≡ values.items }
     {
@@ -30,7 +30,7 @@ impl ValueList {
         self.0.as_slice()
     }
 
-    /// Gives the values back. Takes no memory.
+    /// Gives the values back, and takes no memory.
     pub fn into_vec(self) -> Vec<Value>
         ensures { result.items ≡ self }
     {
@@ -38,7 +38,7 @@ impl ValueList {
         inside
     }
 
-    /// Another list of the same values, in the same allocator.
+    /// Another list of the same values, in the same allocator. The only refusal is `Fault::NoMemory`.
     pub fn copy(&self) -> Result<ValueList, Fault>
         ensures same { IfOk result (λ list. list ≡ self.now) }
         ensures only_memory { IsOkUnless result Fault.NoMemory }

@@ -1,4 +1,4 @@
-//! Which of two statements is the newer.
+//! Which of two statements is newer.
 ghost use Rattle.std.specs.Prelude.{◌≡◌, ◌↔◌, ◌⊎◌, IsTrue};
 ghost use Rattle.std.specs.declared.cmp.Ordering.TheVariants.{Less};
 ghost use Rattle.scp_envelope.specs.Newer.{prepare_cmp, confirm_cmp, IsNewerNominate, ContainsAll, ArePledgesNewer, IsNewer};
@@ -7,11 +7,11 @@ use crate::lists::contains;
 use crate::statement::{Confirm, Nominate, Pledges, Prepare, Statement};
 use scp_types::Value;
 
-/// Whether `new` is newer than `old`: both are of one node and slot, and both are nominations or both ballot
-/// statements, else the answer is false. A NOMINATE is newer where both its lists contain the old ones and one has a
-/// value more. Of ballot statements a later kind is newer (PREPARE, CONFIRM, EXTERNALIZE), and within PREPARE the
-/// greater by ballot, prepared, preparedPrime and nH, an absent ballot being less than any, within CONFIRM the greater by
-/// ballot, nPrepared and nH. Lists of n and m values cost n m comparisons.
+/// Whether `new` is newer than `old`. False unless both are of one node and slot, and both are nominations or both ballot
+/// statements. A NOMINATE is newer if both its lists contain the old ones and one has a value more. Of ballot statements
+/// a later kind is newer (PREPARE, CONFIRM, EXTERNALIZE). Within PREPARE the greater one is newer, by ballot, prepared,
+/// preparedPrime and nH, where an absent ballot is less than any; within CONFIRM, by ballot, nPrepared and nH. Lists of n
+/// and m values cost n m comparisons.
 pub fn newer(old: &Statement, new: &Statement) -> bool
     ensures { IsTrue result ↔ IsNewer old.now new.now }
 {

@@ -8,10 +8,10 @@ use crate::statement::{Confirm, Externalize, Nominate, Pledges, Prepare, Stateme
 use scp_types::{Ballot, Value};
 
 impl Statement {
-    /// Whether the statement is sane (this project's profile). PREPARE: its ballot's counter is above 0; where both are
+    /// Whether the statement is sane (this project's profile). PREPARE: the ballot's counter is above 0; if both are
     /// there, preparedPrime is less than prepared and incompatible with it; nH is 0, or prepared is there and nH is at
     /// most its counter; nC is 0, or nH isn't 0 and nC <= nH <= the ballot's counter. CONFIRM: the ballot's counter is
-    /// above 0 and nCommit <= nH <= that counter. EXTERNALIZE: the commit's counter is above 0 and at most nH.
+    /// above 0, and nCommit <= nH <= that counter. EXTERNALIZE: the commit's counter is above 0 and at most nH.
     /// NOMINATE: not both lists are empty, and each ascends strictly by bytes.
     pub fn sane(&self) -> bool
         ensures { IsTrue result ↔ IsSane self.now.pledges }

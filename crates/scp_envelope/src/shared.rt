@@ -21,7 +21,7 @@ impl Model for SharedEnvelope {
 }
 
 impl SharedEnvelope {
-    /// The envelope, to be shared.
+    /// The envelope, ready to be shared.
     pub fn new(alloc: Global, envelope: Envelope) -> Result<SharedEnvelope, Fault>
         ensures same { IfOk result (λ s. s ≡ envelope) }
         ensures only_memory { IsOkUnless result Fault.NoMemory }
@@ -37,7 +37,7 @@ impl SharedEnvelope {
         Ok(SharedEnvelope(Arc::try_clone(&self.0)?))
     }
 
-    /// Another holder of it, that shows the statement alone; nothing is copied.
+    /// Another holder of it, which shows only the statement; nothing is copied.
     pub fn share_statement(&self) -> Result<SharedStatement, Fault>
         ensures same { IfOk result (λ s. s ≡ self.now.statement) }
         ensures only_memory { IsOkUnless result Fault.NoMemory }

@@ -1,6 +1,6 @@
 //! Short envelopes keep the limits of their kind.
 //!
-//! A `let _name = ..` that nothing uses tells the prover the range of that number.
+//! A `let _name = ..` that nothing uses shows the prover the range of that number.
 ghost use Rattle.std.specs.Prelude.{◌≡◌, ◌<◌, ◌^◌, length, option_map};
 ghost use Rattle.std.specs.Option.{ForSome};
 ghost use Rattle.scp_xdr.specs.Kind.{optional, Fits};
@@ -84,7 +84,7 @@ fn see_pledges(pledges: &Pledges)
     }
 }
 
-/// That a short envelope keeps the limits of its kind: each of its values, lists and numbers. Does nothing.
+/// The law that a short envelope keeps the limits of its kind, in each of its values, lists and numbers. Does nothing.
 pub fn a_short_envelope_fits(envelope: &Envelope)
     ensures { IsShort envelope.now → Fits envelope_kind (envelope_value envelope.now) }
 {

@@ -3,7 +3,7 @@ ghost use Rattle.std.specs.Prelude.{◌≡◌, IfOk, IsOkUnless};
 use scp_types::Fault;
 use std::marker::Model;
 
-/// A signature: bytes that are kept and not checked. The limit of 64 is that of the spelling.
+/// A signature: bytes that are kept and not checked. The limit of 64 is that of the encoding.
 #[derive(Debug, Drop)]
 pub struct Signature(Vec<u8>);
 
@@ -16,7 +16,7 @@ impl Model for Signature {
 }
 
 impl Signature {
-    /// The signature of these bytes. Moves them and takes no memory.
+    /// The signature of these bytes. Moves them, and takes no memory.
     pub fn new(bytes: Vec<u8>) -> Signature
         ensures { result ≡ bytes.items }
     {
@@ -30,7 +30,7 @@ impl Signature {
         self.0.as_slice()
     }
 
-    /// Gives the bytes back. Takes no memory.
+    /// Gives the bytes back, and takes no memory.
     pub fn into_vec(self) -> Vec<u8>
         ensures { result.items ≡ self }
     {

@@ -15,18 +15,18 @@ pub struct Prepare {
     pub ballot: Ballot,
     /// The highest ballot that it accepted as prepared.
     pub prepared: Option<Ballot>,
-    /// The highest one below it and incompatible with it that it accepted as prepared.
+    /// The highest ballot below `prepared` and incompatible with it that it accepted as prepared.
     pub prepared_prime: Option<Ballot>,
-    /// The lowest counter that it votes to commit; 0 where it votes for none.
+    /// The lowest counter that it votes to commit; 0 if it votes for none.
     pub n_commit: u32,
-    /// The highest counter that it confirmed as prepared; 0 where there is none.
+    /// The highest counter that it confirmed as prepared; 0 if there is none.
     pub n_high: u32,
 }
 
 /// What a node says once it accepted a commit.
 #[derive(Debug, Drop)]
 pub struct Confirm {
-    /// Its present ballot, whose value is the one that it accepted.
+    /// Its current ballot, whose value is the one that it accepted.
     pub ballot: Ballot,
     /// The highest counter that it accepted as prepared.
     pub n_prepared: u32,
@@ -45,7 +45,7 @@ pub struct Externalize {
     pub commit: Ballot,
     /// The highest counter that it confirmed as committed.
     pub n_high: u32,
-    /// The hash of the quorum set by which it confirmed.
+    /// The hash of the quorum set with which it confirmed.
     pub set_hash: Hash,
 }
 
@@ -73,12 +73,12 @@ pub enum Pledges {
     Nominate(Nominate),
 }
 
-/// What a node says of a slot.
+/// What a node says about a slot.
 #[derive(Debug, Drop)]
 pub struct Statement {
-    /// Who says it.
+    /// The node that says it.
     pub node: NodeId,
-    /// Of which slot.
+    /// The slot that it is about.
     pub slot: Slot,
     /// What it says.
     pub pledges: Pledges,
@@ -94,7 +94,7 @@ pub struct Envelope {
 }
 
 impl Envelope {
-    /// The hash of the quorum set that the statement names: quorumSetHash, for EXTERNALIZE commitQuorumSetHash.
+    /// The hash of the quorum set that the statement names: quorumSetHash, or commitQuorumSetHash of an EXTERNALIZE.
     pub fn set_hash(&self) -> Hash
         ensures { result ≡ set_hash_of self.now.statement.pledges }
     {

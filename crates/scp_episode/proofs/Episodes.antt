@@ -45,7 +45,7 @@ module _ {D : Type 0} (says : Says D) where
       or_false true = refl
       or_false false = refl
 
-  -- what follows, as a watch was told
+  -- what follows, as a watch was shown it
   abbrev pub Follow : {W : Type 0} → Noting D W → Result (Unit {0}) Fault → Reply → W → List Sending → List Sending → W → Saying D
   Follow {W} Note s r w before after' z o heard n = OnOk s (FollowsOn says r o heard n × (after' ≡ before ++ sent_in heard)) × Watched says Note 1 w o heard n z
 
@@ -178,11 +178,11 @@ module _ {D : Type 0} (says : Says D) where
   abbrev pub IsPlayed : Result Played Fault → Event → Saying D
   IsPlayed r e a heard b = IfOk r (λ played. IsEpisode says e played.reply a heard b × (played.sent.items ≡ sent_in heard))
 
-  -- and a watch was told of it
+  -- and a watch was shown it
   abbrev pub GoesWatched : {W : Type 0} → Noting D W → Result Played Fault → Event → W → NodeView D → NodeView D → W → Type 0
   GoesWatched {W} Note r e w old new z = Goes says old new (λ a heard b. IsPlayed r e a heard b × Watched says Note 1 w a heard b z)
 
-  -- and it is told as a full journal exactly where one was found
+  -- and a full journal is reported exactly if one was found
   abbrev pub GoesPlayed : Result Played Fault → Event → NodeView D → NodeView D → Type 0
   GoesPlayed r e old new = Goes says old new (λ a heard b. IsPlayed r e a heard b × (IsErrOf r JournalFull ↔ (finds_full heard ≡ true)))
 
@@ -213,13 +213,13 @@ module _ {D : Type 0} (says : Says D) where
         q.1 ∙ ap (λ (l : List Sending). l ++ sent_in y) (sym (host_sends_none e r host)),
       )) g
 
-  -- a full journal was found, and that is told
+  -- a full journal was found, and that is reported
   pub found_full : (r : Result Played Fault) (e : Event) (a b : NodeView D) (w z : Fullness) → w.is_full ≡ false → z.is_full ≡ true → GoesWatched notes_full r e w a b z → GoesPlayed (Err JournalFull) e a b
   found_full r e a b w z start full g =
       goes_as says a b (λ o heard n. IsPlayed r e o heard n × Watched says notes_full 1 w o heard n z) (λ o heard n. IsPlayed (Err JournalFull) e o heard n × (IsErrOf {T = Played} {E = Fault} (Err JournalFull) JournalFull ↔ (finds_full heard ≡ true)))
       (λ heard does p. (tt, (λ is. sym (full_of heard w z a b start p.1) ∙ full, λ found. refl))) g
 
-  -- no full journal was found, and none is told
+  -- no full journal was found, and none is reported
   pub full_nowhere : (r : Result Played Fault) (e : Event) (a b : NodeView D) (w z : Fullness) → w.is_full ≡ false → z.is_full ≡ false → (IsErrOf r JournalFull → ⊥) → GoesWatched notes_full r e w a b z → GoesPlayed r e a b
   full_nowhere r e a b w z start full none g =
       goes_as says a b (λ o heard n. IsPlayed r e o heard n × Watched says notes_full 1 w o heard n z) (λ o heard n. IsPlayed r e o heard n × (IsErrOf r JournalFull ↔ (finds_full heard ≡ true)))

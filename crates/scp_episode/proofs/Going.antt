@@ -42,7 +42,7 @@ all_on P [] ys p q = q
 all_on P (x ∷ xs) ys p q = (p.0, all_on P xs ys p.1 q)
 
 module _ {D : Type 0} (says : Says D) where
-  -- a watch was told of one step
+  -- a watch was shown one step
   pub watched_one : {W : Type 0} (Note : Noting D W) (w z : W) (a b : NodeView D) (e : Event) (r : Reply) → Step says a e r b → Note w 1 e r a b z → Watched says Note 1 w a ((e, r) ∷ []) b z
   watched_one Note w z a b e r step note = (b, z, step, note, (refl, refl))
 

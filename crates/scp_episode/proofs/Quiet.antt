@@ -85,13 +85,13 @@ module _ {D : Type 0} (says : Says D) where
   rest_sends_none true a b heard r = none_and_none r.2.first r.2.rest heard r.2.split (turns_send_none r.0 a r.2.mid r.2.first r.2.one) (turn_sends_none r.2.mid b r.2.rest r.2.two.1)
   rest_sends_none false a b heard r = turns_send_none 100000 a b heard r
 
-  -- ---- turns, of which a watch is told
+  -- ---- turns, which a watch is shown
 
   -- a turn, of which it is said whether it moved something
   abbrev pub Turns : {W : Type 0} → Noting D W → W → Bool → NodeView D → NodeView D → W → Type 0
   Turns {W} Note w moved old new z = Goes says old new (λ a heard b. IsTurn a heard b × Watched says Note 1 w a heard b z × ((moved ≡ false) ↔ IsStill heard))
 
-  -- it rested so, and a watch was told of it
+  -- it rested so, and a watch was shown it
   abbrev pub RestsWatched : {W : Type 0} → Noting D W → Saying D → W → NodeView D → NodeView D → W → Type 0
   RestsWatched {W} Note Is w old new z = Goes says old new (λ a heard b. Is a heard b × Watched says Note 1 w a heard b z)
 
@@ -138,7 +138,7 @@ turned : (a b c : Bool) → (b || (a || c)) ≡ ((a || b) || c)
 turned a b c = grind arith
 
 module _ {D : Type 0} (says : Says D) where
-  -- it remembers just that
+  -- the watch remembers exactly that
   pub remembers : (heard : List Exchange) (w z : Fullness) (a b : NodeView D) → Watched says notes_full 1 w a heard b z → z.is_full ≡ (finds_full heard || w.is_full)
   remembers [] w z a b p = ap (λ (u : Fullness). u.is_full) p.1
   remembers (x ∷ heard) w z a b p =

@@ -1,4 +1,4 @@
--- What comes of an event that a host tells a node: the node comes to rest, and then all that waits for a peer goes out.
+-- What comes of an event that a host gives to a node: the node comes to rest, and then all that waits for a peer goes out.
 use Rattle.std.specs.Prelude.{ℕ, ◌≡◌, zero, suc, Bool, true, false, List, [], ◌∷◌, ◌++◌, replicate, flat_map, if◌then◌else◌}
 use Rattle.std.specs.List.{AllByRecursion, list_any}
 use Rattle.scp_driver.specs.Driver.{Says}
@@ -13,7 +13,7 @@ use Rattle.scp_turn.specs.Turn.{Does, events_of, links_of}
 use Rattle.scp_turn.specs.Rest.{Rests}
 use Rattle.scp_episode.specs.declared.sending.Sending.{Sending}
 
--- an event that a host tells: at the tail of a link, or a command; the others are steps of the node's stages
+-- an event that a host gives: at the tail of a link, or a command; the others are steps of the node's stages
 abbrev pub IsOfHost : Event → Type 0
 IsOfHost (event.Open l) = Unit {0}
 IsOfHost (event.Send l bytes) = Unit {0}
@@ -22,11 +22,11 @@ IsOfHost (event.Local command) = Unit {0}
 IsOfHost e = ⊥
 
 module _ {D : Type 0} where
-  -- how many messages go out over a link: all that wait in its outbox, where the link is open and has room; else none
+  -- how many messages go out over a link: all that wait in its outbox if the link is open and has room, else none
   abbrev pub leaving_at : NodeView D → ℕ → ℕ
   leaving_at v l = if accepts_at v l then waiting_at v.outboxes l else 0
 
-  -- what goes out of a node over so many links: of each, in their order, all that is leaving
+  -- what goes out of a node over this many links: link by link, all that is leaving
   abbrev pub drains_of : NodeView D → ℕ → List Event
   drains_of v zero = []
   drains_of v (suc l) = drains_of v l ++ replicate (leaving_at v l) (event.Drain l)
@@ -36,7 +36,7 @@ abbrev pub IsSentReply : Reply → Type 0
 IsSentReply (reply.Sent bytes) = Unit {0}
 IsSentReply other = ⊥
 
--- bytes went out by each
+-- bytes went out by each of these
 abbrev pub AreSent : List Exchange → Type 0
 AreSent heard = AllByRecursion (λ x. IsSentReply x.1) heard
 
@@ -53,12 +53,12 @@ module _ {D : Type 0} (says : Says D) where
     pub all : events_of drains ≡ drains_of rested (links_of rested)
     pub sent : AreSent drains
 
-  -- after an event that was accepted all this follows, and after one that was refused nothing
+  -- all this follows after an event that was accepted, and nothing after one that was refused
   abbrev pub FollowsOn : Reply → NodeView D → List Exchange → NodeView D → Type 0
   FollowsOn reply.Accepted old heard new = Follows old heard new
   FollowsOn other old heard new = (heard ≡ []) × (new ≡ old)
 
-  -- An episode of an event: its step, and what follows of it.
+  -- An episode of an event: its step, and what follows from it.
   pub record IsEpisode (event : Event) (reply : Reply) (old : NodeView D) (heard : List Exchange) (new : NodeView D) : Type 0 where
     pub stepped : NodeView D
     pub rest : List Exchange

@@ -21,7 +21,7 @@ fn add(sent: &mut Vec<Sending>, link: u8, bytes: Bytes) -> Result<(), Fault>
     Ok(())
 }
 
-/// The next message of a link goes out: of one that waits there, unless there is no memory for it.
+/// The next message of a link goes out. It is called only if one waits, so any other reply is reported as out of memory.
 fn draw<A: Application + Drop + Copy, W: Watch<A>>(
     node: &mut Node<A>,
     link: u8,
@@ -39,7 +39,7 @@ fn draw<A: Application + Drop + Copy, W: Watch<A>>(
     }
 }
 
-/// So many messages of a link go out.
+/// This many messages of a link go out.
 fn draw_all<A: Application + Drop + Copy, W: Watch<A>>(
     node: &mut Node<A>,
     link: u8,
@@ -69,7 +69,7 @@ fn leaving<A: Application + Drop + Copy>(node: &Node<A>, link: u8) -> usize
     }
 }
 
-/// All that waits for the peer of each open link goes out, link by link; the watch is told of it.
+/// All that waits for the peer of each open link goes out, link by link; the watch is shown each step.
 pub fn drain<A: Application + Drop + Copy, W: Watch<A>>(
     node: &mut Node<A>,
     sent: &mut Vec<Sending>,

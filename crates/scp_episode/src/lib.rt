@@ -1,13 +1,13 @@
-//! What comes of an event that a host tells a node, the host being what has the sockets, the clock and the proposals.
+//! What comes of an event that a host gives to a node. The host is the program that has the sockets, the clock and the proposals.
 //!
 //! What it promises:
-//! - an event that isn't accepted is one step of the node, and nothing follows of it;
-//! - after one that is accepted the node comes to rest, and then all that waits for the peer of an open link goes out, link by
-//!   link in their order, and nothing over a link that isn't open;
-//! - what went out is answered, each message with its link, in order;
-//! - where a step fails the node, that is the answer: a full journal where a step found it full, else want of memory; and a node that
-//!   had failed before is told to have;
-//! - the ledger theorem holds of the node for all that it heard, refused or not.
+//! - An event that isn't accepted is one step of the node, and nothing follows from it.
+//! - After an event that is accepted, the node comes to rest. Then all that waits for the peer of an open link goes out, link by link in
+//!   order, and nothing over a link that isn't open.
+//! - What went out is returned, each message with its link, in order.
+//! - If a step fails the node, that is the answer: a full journal if a step found it full, else out
+//!   of memory. A node that had failed before answers `Failed`.
+//! - The ledger theorem holds of the node for all that it heard, refused or not.
 #![tactic(auto)]
 
 mod draining;

@@ -21,7 +21,7 @@ pub struct Played {
     pub sent: Vec<Sending>,
 }
 
-/// The node comes to rest, and what waits goes out. Refused by `Failed` where a step failed the node.
+/// The node comes to rest, and what waits goes out. Refused by `Failed` if a step failed the node.
 fn follow<A: Application + Drop + Copy, W: Watch<A>>(
     node: &mut Node<A>,
     sent: &mut Vec<Sending>,
@@ -38,7 +38,7 @@ fn follow<A: Application + Drop + Copy, W: Watch<A>>(
     drain(node, sent, watch)
 }
 
-/// What follows of an event with this reply, of a node that ran.
+/// What follows after an event with this reply, at a node that ran.
 fn follow_on<A: Application + Drop + Copy, W: Watch<A>>(
     node: &mut Node<A>,
     reply: &Reply,
@@ -56,8 +56,8 @@ fn follow_on<A: Application + Drop + Copy, W: Watch<A>>(
     }
 }
 
-/// The event, and all that follows of it; the watch is told of each step. Refused by `Failed` where the node had failed before, or a step
-/// failed it; and by `NoMemory` where there is none for what went out: then that isn't answered, but the watch was told of it.
+/// Plays the event, and all that follows from it; the watch is shown each step. Refused by `Failed` if the node had failed before or a step
+/// failed it, and by `NoMemory` if there is none for what went out. Then that isn't returned, but the watch was shown it.
 pub fn play_with<A: Application + Drop + Copy, W: Watch<A>>(
     alloc: Global,
     node: &mut Node<A>,
@@ -65,10 +65,10 @@ pub fn play_with<A: Application + Drop + Copy, W: Watch<A>>(
     watch: &mut W,
 ) -> Result<Played, Fault>
     requires { IsOfHost event }
-    // What the node heard is an episode of the event, and what went out is what is answered. Also where it is refused the watch was told of each
-    // step, and the ledger theorem goes on.
+    // What the node heard is an episode of the event, and what went out is what is returned. Also after a refusal the watch was shown each
+    // step, and the ledger theorem goes on holding.
     ensures episode { Goes A.says node.old node.new (λ a heard b. IfOk result (λ played. IsEpisode A.says event played.reply a heard b × (played.sent.items ≡ sent_in heard)) × Watched A.says (notes W.notes_before W.notes_after) 1 watch.old a heard b watch.new) }
-    // A node that failed isn't told to have played it.
+    // A node that failed isn't reported to have played it.
     ensures runs { OnOk result (node.new.failed ≡ false) }
     ensures only { IfErr result (λ f. (f ≡ Fault.NoMemory) ⊎ (f ≡ Fault.Failed)) }
 {
@@ -81,18 +81,19 @@ pub fn play_with<A: Application + Drop + Copy, W: Watch<A>>(
     Ok(Played { reply, sent })
 }
 
-/// The event, and all that follows of it. Refused by `Failed` where the node had failed before; by `JournalFull` where a step found its
-/// journal full, and by `NoMemory` where a step lacked memory, each of which failed it; and by `NoMemory` where there is none for what
-/// went out: then that isn't told.
+/// Plays the event, and all that follows from it. Refused by `Failed` if the node had failed before. Refused by `JournalFull` if a step found
+/// the journal full, and by `NoMemory` if a step ran out of memory; each of these failed the node. Also refused by `NoMemory` if there is
+/// none for what went out; then that isn't returned.
 pub fn play<A: Application + Drop + Copy>(
     alloc: Global,
     node: &mut Node<A>,
     event: Event,
 ) -> Result<Played, Fault>
     requires { IsOfHost event }
-    // What the node heard is an episode of the event, and what went out is what is answered. Also where it is refused, the ledger theorem goes on.
+    // What the node heard is an episode of the event, and what went out is what is
+    // returned. Also after a refusal the ledger theorem goes on holding.
     ensures episode { Goes A.says node.old node.new (λ a heard b. IfOk result (λ played. IsEpisode A.says event played.reply a heard b × (played.sent.items ≡ sent_in heard)) × (IsErrOf result Fault.JournalFull ↔ (finds_full heard ≡ true))) }
-    // A node that failed isn't told to have played it.
+    // A node that failed isn't reported to have played it.
     ensures runs { OnOk result (node.new.failed ≡ false) }
     ensures failed { IsErrOf result Fault.Failed ↔ (node.old.failed ≡ true) }
     ensures only { IfErr result (λ f. (f ≡ Fault.NoMemory) ⊎ ((f ≡ Fault.JournalFull) ⊎ (f ≡ Fault.Failed))) }

@@ -1,4 +1,4 @@
-//! A node comes to rest, and a watch is told of its steps.
+//! A node comes to rest, and a watch is shown its steps.
 ghost use Rattle.std.specs.Prelude.{◌≡◌};
 ghost use Rattle.scp_turn.specs.Watch.{notes, Watched};
 ghost use Rattle.scp_turn.specs.Turn.{Goes};
@@ -42,7 +42,7 @@ impl<A: Application + Drop + Copy> Watch<A> for Fullness {
     }
 }
 
-/// Brings a node to rest: turns, until one moves nothing, or 100,000; the watch is told of each step. Whether it came to rest.
+/// Brings a node to rest: turns, until one moves nothing, or 100,000; the watch is shown each step. Returns whether it came to rest.
 pub fn rest<A: Application + Drop + Copy, W: Watch<A>>(node: &mut Node<A>, watch: &mut W) -> bool
     ensures { Goes A.says node.old node.new (λ a heard b. Rests A.says result a heard b × Watched A.says (notes W.notes_before W.notes_after) 1 watch.old a heard b watch.new) }
 {

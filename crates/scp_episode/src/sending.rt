@@ -2,7 +2,7 @@
 
 use scp_core::Bytes;
 
-/// Bytes that go out over a link: they spell a link message.
+/// Bytes that go out over a link: they encode a link message.
 #[derive(Debug, Drop)]
 pub struct Sending {
     pub link: u8,

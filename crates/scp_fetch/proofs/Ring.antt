@@ -15,7 +15,7 @@ use Rattle.scp_fetch.specs.inside.Ring.{Entry, set_at, IsUnderItsHash, turned, p
 
 -- ---- finding
 
--- among sets that stand under their own hashes, the one with the hash is the one under it
+-- among sets that are kept under their own hashes, the one with the hash is the one under it
 pub find_is : (hash : Hash) (es : List Entry) → AllByRecursion IsUnderItsHash es → find (has_hash hash) (map set_at es) ≡ option_map (λ (s : SharedSet). s.value) (lookup (pointwise nat_eq hash.0) es)
 find_is hash [] a = refl
 find_is hash (e ∷ es) a = rw (a.0) (by_test (pointwise nat_eq hash.0 (set_hash e.1.value)) (find_is hash es a.1))
@@ -27,7 +27,7 @@ find_is hash (e ∷ es) a = rw (a.0) (by_test (pointwise nat_eq hash.0 (set_hash
 abbrev NoneOf : (List ℕ → Bool) → List Entry → Type 0
 NoneOf test es = lookup test es ≡ None
 
--- what isn't found in the front is found behind it
+-- what isn't found in the front is found after it
 lookup-behind : (test : List ℕ → Bool) (ys zs : List Entry) → lookup test ys ≡ None → lookup test (ys ++ zs) ≡ lookup test zs
 lookup-behind test [] zs n = refl
 lookup-behind test (y ∷ ys) zs n = by_test (test y.0) n (lookup-behind test ys zs)
@@ -40,7 +40,7 @@ lookup-over : (test : List ℕ → Bool) (ys xs : List Entry) (e : Entry) → te
 lookup-over test [] xs e f = rw f refl
 lookup-over test (y ∷ ys) xs e f = ap (λ r. cond (test y.0) (Some y.1) r) (lookup-over test ys xs e f)
 
--- where a key is the one, no other key is
+-- if a key is the one, no other key is
 others_none : (h k : List ℕ) (es : List Entry) → pointwise nat_eq h k ≡ true → AllByRecursion (λ y. pointwise nat_eq k y ≡ false) (keys_of es) → lookup (pointwise nat_eq h) es ≡ None
 others_none h k [] e a = refl
 others_none h k (x ∷ xs) e a =

@@ -23,7 +23,7 @@ at hash = pointwise nat_eq hash.0
 same_bytes : (a b : List ℕ) → pointwise nat_eq a b ≡ true → a ≡ b
 same_bytes a b e = same_text a b (sym e)
 
--- the key tells the hash
+-- the key shows the hash
 key_is : (hash : Hash) (e : WantEntry) → IsUnderHash e → at hash e.0 ≡ is_for hash e.1
 key_is hash e u = ap (pointwise nat_eq hash.0) u
 
@@ -118,7 +118,7 @@ first_waits hash w ws o few = by_tests (is_for hash w) (nat_lt 10 w.misses) o.0 
 
 -- ---- in a table
 
--- behind a key that is the hash there is no other want of it
+-- after a key that is the hash there is no other want of it
 none_behind : (hash : Hash) (key : List ℕ) (es : List WantEntry) → at hash key ≡ true → AllByRecursion IsUnderHash es → AllByRecursion (λ y. pointwise nat_eq key y ≡ false) (keys_of es) → NoneFor hash (wants_in es)
 none_behind hash key [] e a d = tt
 none_behind hash key (x ∷ es) e a d = (sym (key_is hash x a.0) ∙ ap (λ k. pointwise nat_eq k x.0) (same_bytes hash.0 key e) ∙ d.0, none_behind hash key es e a.1 d.1)
@@ -126,7 +126,7 @@ none_behind hash key (x ∷ es) e a d = (sym (key_is hash x a.0) ∙ ap (λ k. p
 abbrev pub waiting_of : Want → List ConnId
 waiting_of w = w.waiting
 
--- where the one want of the hash stands, or that there is none
+-- where the one want of the hash is, or that there is none
 pub record Stands (hash : Hash) (es : List WantEntry) (r : Option Want) : Type 0 where
   pub wanted : is_some r ≡ is_wanted hash (wants_in es)
   pub listed : waiting_for hash (wants_in es) ≡ option_map_or waiting_of r []

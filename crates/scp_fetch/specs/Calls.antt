@@ -40,7 +40,7 @@ opens_not link (ends c) = true
 opens_not link (misses miss) = true
 opens_not link (answers hash) = true
 
--- the link was asked for the hash, and since then the hash stayed wanted, and the link didn't open
+-- the link was asked for the hash, and since then the hash stayed wanted and the link didn't open
 pub record WasAsked (hash : Hash) (link : ℕ) (ws : List Want) (calls : List Call) : Type 0 where
   pub before : List Call
   pub conn : ConnId
@@ -49,6 +49,6 @@ pub record WasAsked (hash : Hash) (link : ℕ) (ws : List Want) (calls : List Ca
   pub wanted : StaysWanted hash (made (fold made ws before) (wants hash link conn)) rest
   pub shut : AllByRecursion (λ call. opens_not link call ≡ true) rest
 
--- just then it counts as asked
+-- a link counts as asked exactly where it was asked so
 abbrev pub AskedByTheCalls : Type 0
 AskedByTheCalls = (calls : List Call) (hash : Hash) (link : ℕ) → link < 8 → (is_asked hash link (wanted_after calls) ≡ true) ↔ WasAsked hash link [] calls

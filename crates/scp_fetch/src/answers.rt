@@ -1,17 +1,17 @@
 //! What becomes of a wanted hash.
 
-/// What a miss does: a node said that it has no set of the hash, or time went on.
+/// What a miss does. A miss is that a node said it has no set with the hash, or that time went on.
 #[derive(Clone, Copy, Debug, PartialEq, Eq)]
 pub enum Missed {
     /// The hash isn't wanted.
     Unwanted,
-    /// It is wanted still.
+    /// It is still wanted.
     Waiting,
-    /// This was the twelfth miss, and the hash isn't wanted any more.
+    /// This was the twelfth miss, and the hash isn't wanted anymore.
     GaveUp,
 }
 
-/// What the coming of a set does.
+/// What happens when a set comes.
 #[derive(Clone, Copy, Debug, PartialEq, Eq)]
 pub enum Answer {
     /// Its hash isn't wanted.

@@ -12,15 +12,15 @@ use scp_types::{ConnId, Fault, Hash};
 use std::alloc::{AllocError, Global};
 use std::marker::Model;
 
-/// At so many misses a hash is given up (this project's profile).
+/// With this many misses a hash is given up (this project's profile).
 pub const MISS_LIMIT: u8 = 12;
 
 /// Links have numbers below this (this project's profile).
 pub const LINK_LIMIT: u8 = 8;
 
 /// The hashes that are wanted, in the order in which they became so, each with its misses, the links that were asked, and the
-/// connections that wait for it. A look-up is one by a hash table; a miss of all, an opened link and the end of a connection
-/// walk them, and the end of a want moves those behind it.
+/// connections that wait for it. A look-up is one in a hash table. A miss of all, an opened link and the end of a connection
+/// walk all wants; the end of a want moves those after it.
 #[derive(Debug, Drop)]
 pub struct Fetcher {
     wants: IndexMap<[u8; 32], Want>,
@@ -40,7 +40,7 @@ impl Model for Fetcher {
 }
 
 impl Fetcher {
-    /// Nothing is wanted. Takes no memory.
+    /// A fetcher that wants nothing. Takes no memory.
     pub fn new(alloc: Global) -> Fetcher
         ensures { result ≡ [] }
     {
@@ -49,7 +49,7 @@ impl Fetcher {
         }
     }
 
-    /// What is wanted, in the order in which it became so.
+    /// The wants, in the order in which their hashes became wanted. The only refusal is `AllocError`.
     pub fn wants(&self) -> Result<Vec<&Want>, AllocError>
         ensures { IfOk result (λ wants. map (λ want. want.now) wants.items ≡ self.now) }
     {
@@ -63,15 +63,15 @@ impl Fetcher {
         has_want(&self.wants, hash)
     }
 
-    /// Whether one more miss of the hash, which is wanted, is its twelfth.
+    /// Whether the hash is wanted and one more miss is its twelfth.
     pub fn is_at_last_miss(&self, hash: &Hash) -> bool
         ensures { result ≡ gives_up Miss.All self.now hash.now }
     {
         has_last(&self.wants, Miss::All, hash)
     }
 
-    /// The hashes for which one more miss is the twelfth, in the order in which they became wanted. The one refusal is
-    /// `Fault::NoMemory`.
+    /// The hashes for which one more miss is the twelfth, in the order in which they became wanted. The only refusal
+    /// is `Fault::NoMemory`.
     pub fn at_last_miss(&self) -> Result<Vec<Hash>, Fault>
         ensures hashes { IfOk result (λ hashes. hashes.items ≡ last_missed self.now) }
         ensures only_memory { IsOkUnless result Fault.NoMemory }
@@ -79,17 +79,17 @@ impl Fetcher {
         last_hashes(&self.wants)
     }
 
-    /// The connections that wait for the hash, each once, in the order of their first wait; none where it isn't wanted. Takes
-    /// no memory, and costs one look-up by a hash table.
+    /// The connections that wait for the hash, each once, in the order of their first wait; none if it isn't wanted. Takes no
+    /// memory, and costs one look-up in a hash table.
     pub fn waiting(&self, hash: &Hash) -> &[ConnId]
         ensures { result.now ≡ waiting_for hash.now self.now }
     {
         waiters(&self.wants, hash)
     }
 
-    /// Wants the hash for the connection, and says whether that link is to be asked: `true` exactly where it wasn't asked since
-    /// both the hash became wanted and the link last opened. The link counts as asked from then on, and the connection waits,
-    /// behind those that waited before. The one refusal is `Fault::NoMemory`, and it leaves all as it was.
+    /// Wants the hash for the connection, and returns whether the link is to be asked: `true` exactly where it wasn't asked
+    /// since both the hash became wanted and the link last opened. From then on the link counts as asked, and the connection
+    /// waits, after those that waited before. The only refusal is `Fault::NoMemory`, and it leaves all as it was.
     pub fn want(&mut self, hash: &Hash, link: u8, conn: &ConnId) -> Result<bool, Fault>
         requires link { link < LINK_LIMIT }
         ensures asks { IfOk result (λ asks. asks ≡ not (is_asked hash.now link self.old)) }
@@ -104,7 +104,7 @@ impl Fetcher {
         Ok(true)
     }
 
-    /// Whether the hash is wanted and that link was asked for it since both the hash became wanted and the link last
+    /// Whether the hash is wanted, and the link was asked for it since both the hash became wanted and the link last
     /// opened.
     pub fn asked(&self, hash: &Hash, link: u8) -> bool
         requires link { link < LINK_LIMIT }
@@ -113,7 +113,7 @@ impl Fetcher {
         has_asked(&self.wants, hash, link as usize)
     }
 
-    /// One miss of the hash: a node has no such set. The twelfth gives it up, and it isn't wanted any more.
+    /// One miss of the hash: a node has no such set. The twelfth gives it up, and then it isn't wanted anymore.
     pub fn miss(&mut self, hash: &Hash) -> Missed
         ensures answer { result ≡ miss_of hash.now self.old }
         ensures counted { self.new ≡ missed_by (Miss.One hash.now) self.old }
@@ -129,14 +129,14 @@ impl Fetcher {
         Missed::Waiting
     }
 
-    /// One miss of each hash that is wanted: time went on. Those for which it is the twelfth aren't wanted any more.
+    /// One miss of each hash that is wanted: time went on. Those for which it is the twelfth aren't wanted anymore.
     pub fn miss_all(&mut self)
         ensures { self.new ≡ missed_by Miss.All self.old }
     {
         count_all(&mut self.wants);
     }
 
-    /// A set of that hash came. What was wanted isn't any more.
+    /// A set with this hash came, so the hash isn't wanted anymore.
     pub fn answer(&mut self, hash: &Hash, is_sane: bool) -> Answer
         ensures answer { result ≡ answer_of hash.now is_sane self.old }
         ensures ended { self.new ≡ without hash.now self.old }
@@ -150,7 +150,7 @@ impl Fetcher {
         }
     }
 
-    /// The link opened: it is unasked for all hashes.
+    /// The link opened: it counts as not asked for any hash.
     pub fn opened(&mut self, link: u8)
         requires link { link < LINK_LIMIT }
         ensures { self.new ≡ unasked link self.old }
@@ -158,8 +158,8 @@ impl Fetcher {
         note_unasked(&mut self.wants, link as usize);
     }
 
-    /// The connection ended: it waits for nothing any more, and a hash for which no other one waits isn't wanted any more.
-    /// Walks all that is wanted.
+    /// The connection ended. It waits for nothing anymore, and a hash for which no other connection waits isn't wanted
+    /// anymore. Walks all wants.
     pub fn closed(&mut self, conn: &ConnId)
         ensures { self.new ≡ left_by conn.now self.old }
     {

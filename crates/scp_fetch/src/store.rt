@@ -14,11 +14,11 @@ use std::alloc::Global;
 use std::marker::Model;
 use std::sync::Arc;
 
-/// Besides the local set at most so many (this project's profile).
+/// The most sets besides the local one (this project's profile).
 pub const OTHER_SETS_LIMIT: usize = 256;
 
-/// The local quorum set and others, each under its own hash. The others lie in a ring, and `first` is the place of the one
-/// that was stored first: to take the first out of an ordered map would move all others.
+/// The local quorum set and others, each under its own hash. The others are in a ring, and `first` is the place of the one
+/// that was stored first. (Taking the first out of an ordered map would move all others.)
 #[derive(Drop)]
 pub struct SetStore {
     local: Arc<SaneSet>,
@@ -45,7 +45,7 @@ impl Model for SetStore {
 }
 
 impl SetStore {
-    /// A store of the local set alone. Takes no memory.
+    /// A store with only the local set. Takes no memory.
     pub fn new(alloc: Global, local: Arc<SaneSet>) -> SetStore
         ensures local { result.local ≡ local.value }
         ensures others { result.others ≡ [] }
@@ -57,7 +57,7 @@ impl SetStore {
         }
     }
 
-    /// The set under the hash, if it is there. One look-up by a hash table, whose cost doesn't grow with the sets.
+    /// The set with this hash, if it is there. One look-up in a hash table, whose cost doesn't grow with the number of sets.
     pub fn get(&self, hash: &Hash) -> Option<&Arc<SaneSet>>
         ensures found { option_map (λ set. set.now.value) result ≡ lookup hash.now self.now }
         ensures its_hash { IfSome result (λ set. set_hash set.now.value ≡ hash.now.0) }
@@ -68,9 +68,9 @@ impl SetStore {
         find(&self.others, hash)
     }
 
-    /// Stores a set under its own hash. Where one of that hash is there, nothing changes; of 257 others the one that was
-    /// stored first is taken out. The one refusal is `Fault::NoMemory`, and it leaves all as it was. Costs a look-up, and
-    /// moves one set.
+    /// Stores a set under its own hash. If a set with that hash is there, nothing changes; if there are 256 others, the
+    /// one that was stored first is removed. The only refusal is `Fault::NoMemory`, and it leaves all as it was. Costs a
+    /// look-up, and moves one set.
     pub fn insert(&mut self, set: Arc<SaneSet>) -> Result<(), Fault>
         ensures stored { OnOk result (self.new ≡ stored set.value self.old) }
         ensures unchanged { OnErr result (self.new ≡ self.old) }
@@ -86,7 +86,7 @@ impl SetStore {
     }
 }
 
-/// The set under the hash among the others.
+/// The set with this hash among the others.
 fn find<'s>(others: &'s IndexMap<[u8; 32], Arc<SaneSet>>, hash: &Hash) -> Option<&'s Arc<SaneSet>>
     requires { AllByRecursion IsUnderItsHash others.now.entries }
     ensures found { (first : ℕ) → option_map (λ set. set.now.value) result ≡ sets_find (has_hash hash.now) (map set_at (turned first others.now.entries)) }
@@ -96,8 +96,8 @@ fn find<'s>(others: &'s IndexMap<[u8; 32], Arc<SaneSet>>, hash: &Hash) -> Option
     others.get(&hash.0)
 }
 
-/// Puts a set under a new key: last while there is room, and else in the place of the one that was stored first. Gives
-/// the place of the one that is the first then.
+/// Puts a set under a new key: last while there is room, and else in the place of the one that was stored first.
+/// Returns the place of the one that is then the first.
 fn place(
     others: &mut IndexMap<[u8; 32], Arc<SaneSet>>,
     first: usize,

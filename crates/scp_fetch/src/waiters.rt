@@ -22,7 +22,7 @@ impl Model for Waiters {
 }
 
 impl Waiters {
-    /// This one alone.
+    /// Only this connection. The only refusal is `Fault::NoMemory`.
     pub fn of(alloc: Global, conn: ConnId) -> Result<Waiters, Fault>
         ensures alone { IfOk result (λ waiters. waiters ≡ conn ∷ []) }
         ensures only_memory { IsOkUnless result Fault.NoMemory }
@@ -45,7 +45,7 @@ impl Waiters {
         self.0.iter().any(|other| *conn == *other)
     }
 
-    /// Adds the connection, where it isn't there. The one refusal is `Fault::NoMemory`, and it leaves all as it was.
+    /// Adds the connection, if it isn't there. The only refusal is `Fault::NoMemory`, and it leaves all as it was.
     pub fn join(&mut self, conn: &ConnId) -> Result<(), Fault>
         ensures joined { OnOk result (self.new ≡ joined conn.now self.old) }
         ensures unchanged { OnErr result (self.new ≡ self.old) }
@@ -65,7 +65,7 @@ impl Waiters {
         self.0.iter().any(|other| *conn != *other)
     }
 
-    /// The connection isn't there any more.
+    /// Removes the connection, if it is there.
     pub fn leave(&mut self, conn: &ConnId)
         ensures { self.new ≡ filter (λ other. not (same_conn conn.now other)) self.old }
     {

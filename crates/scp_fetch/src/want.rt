@@ -1,4 +1,4 @@
-//! A wanted hash, and the table of those that are wanted.
+//! A wanted hash, and the table of the wanted hashes.
 ghost use Rattle.std.specs.Prelude.{◌≡◌, ◌<◌, ◌++◌, ◌∷◌, [], ℕ, Bool, true, false, map, filter, not, nat_lt, slice_index_or, slice_set, IfOk, OnOk, OnErr, IsOkUnless, IfSome, IfNone, is_some};
 ghost use Rattle.scp_types.specs.declared.names.ConnId.{ConnId};
 ghost use Rattle.std.specs.List.{AllByRecursion};
@@ -11,21 +11,21 @@ use indexmap::IndexMap;
 use scp_types::{ConnId, Fault, Hash};
 use std::alloc::{AllocError, Global};
 
-/// A wanted hash, with its misses since it became so, of each link whether it was asked since both the hash became wanted and
-/// the link last opened, and the connections that wait for it.
+/// A wanted hash: its misses since it became so; for each link, whether it was asked since both the hash became wanted and
+/// the link last opened; and the connections that wait for it.
 #[derive(Debug, Drop)]
 pub struct Want {
     /// The hash of a quorum set.
     pub hash: Hash,
-    /// How many nodes had no such set, and how often time went on.
+    /// How often a node had no such set, or time went on.
     pub misses: u8,
-    /// By the number of a link.
+    /// Whether each link was asked, by the link's number.
     pub asked: [bool; LINK_LIMIT as usize],
-    /// In the order of their first wait.
+    /// The connections that wait, in the order of their first wait.
     pub waiting: Waiters,
 }
 
-/// A miss of one hash, or one of each that is wanted.
+/// A miss of one hash, or one miss of each that is wanted.
 #[derive(Clone, Copy, Debug)]
 pub enum Miss {
     One(Hash),
@@ -80,14 +80,14 @@ pub fn has_asked(wants: &IndexMap<[u8; 32], Want>, hash: &Hash, link: usize) -> 
     }
 }
 
-/// What is wanted, in its order.
+/// The wants, in their order.
 pub fn all_wants<'w>(wants: &'w IndexMap<[u8; 32], Want>) -> Result<Vec<&'w Want>, AllocError>
     ensures { IfOk result (λ found. map (λ want. want.now) found.items ≡ wants_in wants.now.entries) }
 {
     wants.values().collect(*wants.allocator())
 }
 
-/// The hashes for which a miss of each is the last.
+/// The hashes for which one more miss of each is the last.
 pub fn last_hashes(wants: &IndexMap<[u8; 32], Want>) -> Result<Vec<Hash>, Fault>
     ensures hashes { IfOk result (λ hashes. hashes.items ≡ last_missed (wants_in wants.now.entries)) }
     ensures only_memory { IsOkUnless result Fault.NoMemory }
@@ -129,7 +129,7 @@ fn first_want(alloc: Global, hash: Hash, link: usize, conn: ConnId) -> Result<Wa
     })
 }
 
-/// The hash becomes wanted, the link is asked, and the connection waits.
+/// The hash becomes wanted, the link counts as asked, and the connection waits.
 pub fn add_want(
     wants: &mut IndexMap<[u8; 32], Want>,
     hash: &Hash,
@@ -150,7 +150,7 @@ pub fn add_want(
     Ok(())
 }
 
-/// The link is asked and the connection waits; then whether the link wasn't asked before.
+/// The link counts as asked, and the connection waits. Returns whether the link wasn't asked before.
 fn note(want: &mut Want, link: usize, conn: &ConnId) -> Result<bool, Fault>
     requires link { link < LINK_LIMIT }
     ensures asks { IfOk result (λ asks. asks ≡ not (slice_index_or want.old.asked link false)) }
@@ -164,8 +164,8 @@ fn note(want: &mut Want, link: usize, conn: &ConnId) -> Result<bool, Fault>
     Ok(asks)
 }
 
-/// The link is asked and the connection waits, where the hash is wanted: then whether the link wasn't asked before. One look-up
-/// does all of it, since each message that waits needs it.
+/// If the hash is wanted, the link counts as asked and the connection waits. Then returns whether the link wasn't asked before.
+/// One look-up does all of it, since each message that waits needs it.
 pub fn note_asked(
     wants: &mut IndexMap<[u8; 32], Want>,
     hash: &Hash,
@@ -190,7 +190,7 @@ pub fn note_asked(
     }
 }
 
-/// Where another connection waits too, this one leaves.
+/// Removes the connection if another one waits too. Returns whether that is so.
 fn part(want: &mut Want, conn: &ConnId) -> bool
     ensures stays { result ≡ waits_besides conn.now want.old }
     ensures left { waits_besides conn.now want.old ≡ true → want.new ≡ leave conn.now want.old }
@@ -202,7 +202,7 @@ fn part(want: &mut Want, conn: &ConnId) -> bool
     true
 }
 
-/// The connection waits for nothing any more.
+/// The connection waits for nothing anymore.
 pub fn part_all(wants: &mut IndexMap<[u8; 32], Want>, conn: &ConnId)
     requires under { AllByRecursion IsUnderHash wants.old.entries }
     ensures left { wants_in wants.new.entries ≡ left_by conn.now (wants_in wants.old.entries) }
@@ -215,7 +215,7 @@ pub fn part_all(wants: &mut IndexMap<[u8; 32], Want>, conn: &ConnId)
     );
 }
 
-/// One miss of the hash, which isn't its twelfth.
+/// One miss of the hash that isn't its twelfth.
 pub fn note_missed(wants: &mut IndexMap<[u8; 32], Want>, hash: &Hash)
     requires under { AllByRecursion IsUnderHash wants.old.entries }
     requires waits { gives_up (Miss.One hash.now) (wants_in wants.old.entries) hash.now ≡ false }
@@ -228,7 +228,7 @@ pub fn note_missed(wants: &mut IndexMap<[u8; 32], Want>, hash: &Hash)
     }
 }
 
-/// The twelfth miss of the hash: it isn't wanted any more.
+/// The twelfth miss of the hash: it isn't wanted anymore.
 pub fn end_missed(wants: &mut IndexMap<[u8; 32], Want>, hash: &Hash)
     requires under { AllByRecursion IsUnderHash wants.old.entries }
     requires last { gives_up (Miss.One hash.now) (wants_in wants.old.entries) hash.now ≡ true }
@@ -239,7 +239,7 @@ pub fn end_missed(wants: &mut IndexMap<[u8; 32], Want>, hash: &Hash)
     end_want(wants, hash);
 }
 
-/// The hash isn't wanted any more.
+/// The hash isn't wanted anymore.
 pub fn end_want(wants: &mut IndexMap<[u8; 32], Want>, hash: &Hash)
     requires under { AllByRecursion IsUnderHash wants.old.entries }
     ensures ended { wants_in wants.new.entries ≡ without hash.now (wants_in wants.old.entries) }
@@ -249,7 +249,7 @@ pub fn end_want(wants: &mut IndexMap<[u8; 32], Want>, hash: &Hash)
     let _ = wants.shift_remove(&hash.0);
 }
 
-/// One miss more, unless it is the last.
+/// One more miss, unless it is the last. Returns whether it isn't.
 fn count(want: &mut Want) -> bool
     ensures waits { result ≡ not (is_last Miss.All want.old) }
     ensures counted { not (is_last Miss.All want.old) ≡ true → want.new ≡ count_miss Miss.All want.old }
@@ -261,7 +261,7 @@ fn count(want: &mut Want) -> bool
     true
 }
 
-/// One miss of each; those for which it is the twelfth end.
+/// One miss of each want; those for which it is the twelfth end.
 pub fn count_all(wants: &mut IndexMap<[u8; 32], Want>)
     requires under { AllByRecursion IsUnderHash wants.old.entries }
     ensures counted { wants_in wants.new.entries ≡ missed_by Miss.All (wants_in wants.old.entries) }
@@ -274,7 +274,7 @@ pub fn count_all(wants: &mut IndexMap<[u8; 32], Want>)
     );
 }
 
-/// The link is unasked for all.
+/// The link counts as not asked for any hash.
 pub fn note_unasked(wants: &mut IndexMap<[u8; 32], Want>, link: usize)
     requires link { link < LINK_LIMIT }
     requires under { AllByRecursion IsUnderHash wants.old.entries }

@@ -60,7 +60,7 @@ module _ {D : Type 0} (says : Says D) where
     pub settled : RestIsSettled
     pub parked : ParkedStandFor
 
-  -- the stage of the node stands to what it took and gave
+  -- the node's stage is, for what it took and gave, as its calls promise
   pub node_pends : (me : NodeId) (set : QuorumTree) (peers : List NodeId) (e : Left D) → IsNode me set peers e → (w : EndWell says e) → Pends me peers (values e.pend.input.got) w.given.sent e.pend.stage
   node_pends me set peers e n w =
       let f : PendsFor me peers set e.pend.first = n.pends_for in

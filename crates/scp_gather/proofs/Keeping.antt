@@ -26,7 +26,7 @@ all_yielded {B = B} R links front tails readers yielded rest e f a none same =
     let few : length rest ≡ 0 = omega (arith, same, pairs, ap length e, ap length f, ap length none, length-append front tails, length-append yielded rest) in
     f ∙ ap (λ (rs : List B). yielded ++ rs) (nil_from_length rest few) ∙ append-nil yielded
 
--- what stands at a place of a list that was mapped
+-- what is at a place of a list that was mapped
 at_map : {X Y : Type 0} (f : X → Y) (xs : List X) (l : ℕ) (y : Y) → slice_get (map f xs) l ≡ Some y → (x : X) × (slice_get xs l ≡ Some x) × (f x ≡ y)
 at_map f [] l y e = absurd cc
 at_map f (x ∷ xs) zero y e = (x, refl, some_is (f x) y e)

@@ -32,7 +32,7 @@ module _ {X : Type 0} where
   all_map P Q f [] a = tt
   all_map P Q f (x ∷ xs) a = (f x a.0, all_map P Q f xs a.1)
 
-  -- what holds of each element of a list holds of the one that stands here
+  -- what holds of each element of a list holds of the one at this place
   pub all_mid : (P : X → Type 0) (all xs ys : List X) (x : X) → all ≡ xs ++ x ∷ ys → AllByRecursion P all → P x
   all_mid P all xs ys x e a = at xs (subst (AllByRecursion P) e a)
     where

@@ -29,13 +29,13 @@ use Rattle.scp_gather.specs.Sending.{ArePutOut}
 use Rattle.scp_gather.proofs.Commands.{came, onwards, told_of}
 
 module _ {D : Type 0} (says : Says D) where
-  -- one thing was taken after another, whatever is told of it
+  -- one thing was taken after another, whatever is reported of it
   leads_of : (old : LedgerView D) (takes : List Taking) (new : LedgerView D) → TellsEach says old takes new → LeadsBy says old takes new
   leads_of old [] new h = h
   leads_of old (t ∷ takes) new h = (h.0, h.1, leads_of h.0 takes new h.3)
 
   module _ (passes : CommandsPass) (me : NodeId) (set : QuorumTree) (peers : List NodeId) (e : Left D) (n : IsNode me set peers e) (w : EndWell says e) (g : Gathered says me set peers e) where
-    -- each request that the applier took stands in the journal
+    -- each request that the applier took is in the journal
     requested : requests_on (values e.apply.input.got) ≡ flat_map (request_by peers) e.slot.stage.ledger.journal
     requested =
         let first = e.slot.first.ledger in

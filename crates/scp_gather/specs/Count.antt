@@ -23,14 +23,14 @@ pub record Filled (T : Type 0) : Type 0 where
   pub room : ℕ
   pub queue : List (Item T)
 
--- a link: its channel; and its reader, which has in hand what it read and hasn't sent yet
+-- a link: its channel, and its reader's hand, which has what the reader read and hasn't sent yet
 pub record FilledLink : Type 0 where
   pub channel : Filled LinkItem
   pub hand : List Inbound
 
--- What a node holds at some moment: in its links and its other channels; in its pending stage, as it was when it last had nothing ready,
--- and as it is, and what its worker is about to send; what the slot stage's worker took, or what that gave and it is about to send; what the applier's
--- worker took; and what the applier buffers.
+-- What a node holds at some moment. Its links and its other channels. Its pending stage, as it was when it last had nothing ready and as it
+-- is, and what its worker is about to send. What the slot stage's worker took, or what that gave and the worker is about to send. What the
+-- applier's worker took, and what the applier buffers.
 pub record Holding : Type 0 where
   pub links : List FilledLink
   pub inbox : Filled Inbound
@@ -55,7 +55,7 @@ HasBytes (item.Opened conn) = Unit {0}
 HasBytes (item.Bytes conn bytes) = AreBytes bytes
 HasBytes (item.Closed conn) = Unit {0}
 
--- a reader has in hand what is left of what one item is read as: of a batch up to 32 records
+-- a reader has in hand what is left of what one item is read as: up to 32 records of a batch
 pub record IsInHand (hand : List Inbound) : Type 0 where
   pub at : ReaderView
   pub item : LinkItem
@@ -68,7 +68,7 @@ pub record IsLinkWithin (k : FilledLink) : Type 0 where
   pub channel : IsWithin k.channel
   pub hand : IsInHand k.hand
 
--- from a stage that takes and gives by its rules, one item was taken, and some of what that released was given
+-- one item was taken from a stage that takes and gives by its rules, and some of what that released was given
 pub record TookOne (old now : PendingView) : Type 0 where
   pub me : NodeId
   pub peers : List NodeId
@@ -91,7 +91,7 @@ pub record KeepsBounds (h : Holding) : Type 0 where
 
 -- ---- how much that is
 
--- it is a message, delivered or dropped; neither the end of a connection nor a command
+-- it is a message, delivered or dropped, and neither the end of a connection nor a command
 abbrev pub is_message : Ready → Bool
 is_message (Deliver delivery) = true
 is_message (Dropped conn seq cause) = true
@@ -110,7 +110,7 @@ messages_held v = count_by is_message v.leaving + parked_in_all v.settled.queues
 abbrev pub link_held : FilledLink → ℕ
 link_held k = length k.channel.queue + length k.hand
 
--- how many at most: what its channel has room for, and 32 in hand
+-- how many it holds at most: what its channel has room for, and 32 in hand
 abbrev pub link_room : FilledLink → ℕ
 link_room k = k.channel.room + 32
 
@@ -120,12 +120,12 @@ underway h =
     sum_by link_held h.links + length h.inbox.queue + length h.ready.queue + length h.decided.queue
     + length (option_to_list h.given) + length (option_to_list h.slot) + length (option_to_list h.deciding)
 
--- and all of it: of the pending stage the messages
+-- all that the node holds; of the pending stage the messages
 abbrev pub held : Holding → ℕ
 held h = underway h + messages_held h.pending + length h.applier.buffer
 
--- At most what the channels have room for, up to 32 in each reader's hand and one in each other worker's, 64 messages for each connection
--- that was open when the pending stage last had nothing ready and the one that it took since, and 16 that are buffered.
+-- At most what the channels have room for, with up to 32 in each reader's hand and one in each other worker's. Then 64 messages for each
+-- connection that was open when the pending stage last had nothing ready, and the one that it took since. And 16 decisions that are buffered.
 abbrev pub HoldsAtMost : Type 0
 HoldsAtMost = (h : Holding) → KeepsBounds h →
     held h ≤ sum_by link_room h.links + h.inbox.room + h.ready.room + h.decided.room + 3

@@ -1,4 +1,4 @@
--- What follows where every worker of a node ended well.
+-- What follows if every worker of a node ended well.
 use Rattle.std.specs.Prelude.{◌≡◌, ℕ, Bool, true, false, List, [], ◌++◌, Some, IfSome, slice_get, filter}
 use Rattle.std.specs.List.{AllByRecursion}
 use Rattle.scp_driver.specs.Driver.{Says}
@@ -33,8 +33,8 @@ use Rattle.scp_gather.specs.Node.{IsNode, EndWell}
 -- ---- the node, with nothing in a queue or a hand
 
 module _ {D : Type 0} where
-  -- the node as the ledger theorem sees it: what the sending ends of its links sent, what its pending stage received, its stages, and nothing
-  -- in a queue or a hand
+  -- the node as the ledger theorem sees it: what the sending ends of its links sent, what its pending stage
+  -- received, and its stages, with nothing in a queue or a hand
   abbrev pub account_gathered : NodeId → QuorumTree → List NodeId → Left D → Account D
   account_gathered me set peers e = record {
     me = me;
@@ -53,15 +53,15 @@ module _ {D : Type 0} where
 
 -- ---- channels
 
--- the channel kept its producer's order, and holds no more than its room; all that the producer sent was received, and whatever the channel
--- holds, it holds nothing of the producer any more
+-- The channel kept its producer's order, and holds no more than its room. All that the producer sent was received. Whatever the channel
+-- holds, nothing of the producer is left in it.
 pub record IsEmptied {T : Type 0} (r : Receiver T) (s : Sender T) : Type 0 where
   pub queued : IsQueued r s
   pub all : heard s.number r.got ≡ s.sent
   pub left : (q : IsQueued r s) → of s.number q.queue ≡ []
 
 module _ {D : Type 0} where
-  -- nothing is left in a link's queue, in the inbox, or in the queues behind it
+  -- nothing is left in a link's queue, in the inbox, or in the queues after it
   pub record AreEmptied (peers : List NodeId) (e : Left D) : Type 0 where
     pub links : (l : ℕ) → (peer : NodeId) → slice_get peers l ≡ Some peer → (k : LinkEnd) → slice_get e.links l ≡ Some k → (reader : ReaderEnd) → slice_get e.readers l ≡ Some reader → IsEmptied reader.input k.tail × IfSome reader.output (IsEmptied e.pend.input)
     pub commands : IsEmptied e.pend.input e.local
@@ -70,19 +70,19 @@ module _ {D : Type 0} where
 
 -- ---- what is parked
 
--- a parked message of the connection is that of its number
+-- a parked message of the connection is the one with its number
 abbrev pub IsOfItsNumber : ConnId → List Message → Carried → Type 0
 IsOfItsNumber c messages x = same_conn x.conn c ≡ true → slice_get messages x.seq.0 ≡ Some x.message
 
 module _ {D : Type 0} where
-  -- In each lane of the connection, its entries and then its parked messages are what was sent on it, whole; or where it was cut off a
-  -- beginning of that. Nothing stands after its end; and each parked message is that of its number.
+  -- In each lane of the connection, its entries followed by its parked messages are all that was sent on it; or a beginning of that if it was
+  -- cut off. Nothing comes after its end. Each parked message is the one with its number.
   pub record HasItsLine (a : Account D) (l : ℕ) (c : ConnId) (parked : List Carried) : Type 0 where
     pub whole : (s : ℕ) → IsWhole (in_lane (slots_sent a l c) s (line_sent a l c)) (in_lane (slots_sent a l c) s (marks_on c a.ledger.journal ++ marks_of_messages c parked))
     pub ends : (s : ℕ) → EndsLast (in_lane (slots_sent a l c) s (marks_on c a.ledger.journal ++ marks_of_messages c parked))
     pub messages_are : AllByRecursion (IsOfItsNumber c (carried_of CARRIED_LIMIT (sent c (a.sent l)))) parked
 
-  -- so it is for each connection of a link; and no message is parked of any other
+  -- each connection of a link is so, and no message is parked of any other connection
   pub record AreLeftParked (a : Account D) (parked : List Carried) : Type 0 where
     pub lines : (l : ℕ) → (peer : NodeId) → slice_get a.peers l ≡ Some peer → (life : ℕ) → HasItsLine a l (conn_at peer a.me life) parked
     pub of_links : AllByRecursion (λ x. IsOfLink a.me a.peers x.conn) parked
@@ -98,12 +98,12 @@ is_command (inbound.Closed conn cause) = false
 is_command (inbound.Local command) = true
 
 module _ {D : Type 0} (says : Says D) where
-  -- What holds of a node in threads of which each worker ended well: the ledger theorem, of what was sent and received; nothing is left in a
-  -- channel; and what is parked waits for its quorum set.
+  -- What holds of a node in threads if each worker ended well. The ledger theorem holds of what was sent and received. Nothing is left in a
+  -- channel. What is parked waits for its quorum set.
   pub record Gathered (me : NodeId) (set : QuorumTree) (peers : List NodeId) (e : Left D) : Type 0 where
     -- the ledger theorem, of what was sent over the links and what came to the pending stage
     pub keeps : KeepsLedger says.level says.extracted says.combined says.place (account_gathered me set peers e)
-    -- what came is what each link's items are read as, and the commands, each in its order
+    -- what came is what each link's items are read as, and the commands, each in order
     pub read : (l : ℕ) → (peer : NodeId) → slice_get peers l ≡ Some peer → of_peer peer (values e.pend.input.got) ≡ readings unread (sent_over e.links l)
     pub told : filter is_command (values e.pend.input.got) ≡ e.local.sent
     pub shape : HasShape me peers (values e.pend.input.got)
@@ -113,6 +113,6 @@ module _ {D : Type 0} (says : Says D) where
     pub settled : IsSettledBy (fresh me peers set) (values e.pend.input.got) e.pend.stage
     pub parked : (parked : List Carried) → AreParked e.pend.stage parked → AreLeftParked (account_gathered me set peers e) parked
 
-  -- where the ends are those of one node, and each worker ended well, `Gathered` holds
+  -- `Gathered` holds if the ends are those of one node and each worker ended well
   abbrev pub WhatEndsWellIsGathered : Type 0
   WhatEndsWellIsGathered = (me : NodeId) (set : QuorumTree) (peers : List NodeId) (e : Left D) → IsNode me set peers e → EndWell says e → Gathered me set peers e

@@ -13,11 +13,11 @@ use Rattle.scp_gather.specs.Left.{Left}
 use Rattle.scp_gather.specs.Report.{IsReportOf}
 
 module _ {D : Type 0} where
-  -- its books: what went over its links and what it still holds, by what its threads left, and the journal and the applied list of its report
+  -- its books: what went over its links and what it still holds, from what its threads left; the journal and the applied list are its report's
   abbrev pub books_reported : NodeId → QuorumTree → List NodeId → Left D → List Fate → List Decision → Books
   books_reported me set peers e journal applied = record (books_of (account_gathered me set peers e)) { journal = journal; applied = applied }
 
 module _ {D : Type 0} (says : Says D) where
-  -- what is the report of a node keeps the headline
+  -- the headline holds of a node's report
   abbrev pub ReportsKeepHeadline : Type 0
   ReportsKeepHeadline = (me : NodeId) (set : QuorumTree) (peers : List NodeId) (e : Left D) (journal : List Fate) (parked : List Carried) (applied : List Decision) → IsReportOf says me set peers e journal parked applied → Headline (books_reported me set peers e journal applied)

@@ -1,4 +1,4 @@
--- What the threads of a node left whose values are operation lists (this project's profile).
+-- What the threads of a node left, if its values are operation lists (this project's profile).
 use Rattle.std.specs.Prelude.{List}
 use Rattle.scp_types.specs.declared.names.NodeId.{NodeId}
 use Rattle.scp_quorum.specs.QuorumTree.{QuorumTree}
@@ -16,7 +16,7 @@ use Rattle.scp_gather.specs.Report as report
 use Rattle.scp_gather.specs.Sending as sending
 use Rattle.scp_gather.specs.Headline as headline
 
--- what contracts see of the worker of the slot stage, and of what it ends with
+-- what contracts see of the worker of the slot stage
 abbrev pub SlotWork : Type 0
 SlotWork = slot.SlotWork KvDriver
 
@@ -24,11 +24,11 @@ SlotWork = slot.SlotWork KvDriver
 abbrev pub SlotEnd : Type 0
 SlotEnd = slot.SlotEnd KvDriver
 
--- what its threads left
+-- what the node's threads left
 abbrev pub Left : Type 0
 Left = left.Left KvDriver
 
--- what is told of it
+-- what is reported of the node
 abbrev pub NodeReport : Type 0
 NodeReport = gathering.NodeReport KvDriver KvMap
 
@@ -36,14 +36,14 @@ NodeReport = gathering.NodeReport KvDriver KvMap
 abbrev pub IsReportOf : NodeId → QuorumTree → List NodeId → Left → List Fate → List Carried → List Decision → Type 0
 IsReportOf me set peers e journal parked applied = report.IsReportOf kv_says me set peers e journal parked applied
 
--- this became of its own commands but the ticks, in their order
+-- this became of its own commands, except ticks, in order
 abbrev pub AreFatesOf : NodeId → QuorumTree → List NodeId → Left → List CommandFate → Type 0
 AreFatesOf me set peers e fates = report.AreFatesOf kv_says me set peers e fates
 
--- into the outbox of each link its stages put what they handed out for it
+-- its stages put into each link's outbox what they handed out for the link
 abbrev pub ArePutOut : NodeId → QuorumTree → List NodeId → Left → Type 0
 ArePutOut me set peers e = sending.ArePutOut kv_says me set peers e
 
--- what is the report of a node keeps the headline
+-- the headline holds of a node's report
 abbrev pub ReportsKeepHeadline : Type 0
 ReportsKeepHeadline = headline.ReportsKeepHeadline kv_says

@@ -9,8 +9,8 @@ use Rattle.scp_workers.specs.Pending.{PendEnd}
 use Rattle.scp_workers.specs.Slot.{SlotEnd}
 use Rattle.scp_workers.specs.Apply.{ApplyEnd}
 
--- what its readers ended with, and the sending ends of its links, both in the order of its peers; the sending end of its own
--- commands; and what the workers of its stages ended with
+-- What its readers ended with, and the sending ends of its links, both in the order of its peers. The sending end of its own commands. What
+-- the workers of its stages ended with.
 pub record Left (D : Type 0) : Type 0 where
   pub readers : List ReaderEnd
   pub links : List LinkEnd
@@ -19,11 +19,11 @@ pub record Left (D : Type 0) : Type 0 where
   pub slot : SlotEnd D
   pub apply : ApplyEnd
 
--- what was sent over the link of this number
+-- what was sent over the link, if there is one
 abbrev pub items_of : Option LinkEnd → List LinkItem
 items_of None = []
 items_of (Some k) = k.tail.sent
 
--- what was sent over the link of a number
+-- what was sent over the link of this number
 abbrev pub sent_over : List LinkEnd → ℕ → List LinkItem
 sent_over links l = items_of (slice_get links l)

@@ -1,4 +1,4 @@
--- What was left is of the channels of one node, and each worker ended well.
+-- What was left belongs to the channels of one node, and each worker ended well.
 use Rattle.std.specs.Prelude.{◌≡◌, ℕ, ◌+◌, List, length, Some, IfSome, slice_get}
 use Rattle.scp_driver.specs.Driver.{Says}
 use Rattle.scp_types.specs.declared.names.NodeId.{NodeId}
@@ -18,7 +18,7 @@ use Rattle.scp_pending.specs.Peers.{AreApart}
 
 -- ---- names, places and numbers
 
--- the link that stands at this place, from this peer, and its reader
+-- the link at this place, from this peer, and its reader
 pub record IsLinkAt (me peer : NodeId) (place : ℕ) (k : LinkEnd) (e : ReaderEnd) : Type 0 where
   pub from : k.from ≡ peer
   pub to : k.to ≡ me
@@ -26,8 +26,8 @@ pub record IsLinkAt (me peer : NodeId) (place : ℕ) (k : LinkEnd) (e : ReaderEn
   pub number : IfSome e.output (λ s. s.number ≡ place)
 
 module _ {D : Type 0} where
-  -- One link and one reader for each peer, no peer twice; the inbox has a producer for each link and one for the commands, each other
-  -- channel has one; and the stages are those of the node.
+  -- There is one link and one reader for each peer, and no peer twice. The inbox has a producer for each link and one for the commands; each
+  -- other channel has one. The stages are those of the node.
   pub record IsNode (me : NodeId) (set : QuorumTree) (peers : List NodeId) (e : Left D) : Type 0 where
     pub apart : AreApart peers
     pub links_count : length e.links ≡ length peers
@@ -42,7 +42,7 @@ module _ {D : Type 0} where
 
 -- ---- each ended well
 
--- what the tail sent went to the reader, and what the reader sent went to the inbox, in order
+-- what the link's tail sent went to the reader, and what the reader sent went to the inbox, in order
 pub record IsReadOut (inbox : Receiver Inbound) (k : LinkEnd) (e : ReaderEnd) : Type 0 where
   pub output : Sender Inbound
   pub ended : e.output ≡ Some output

@@ -11,8 +11,8 @@ use Rattle.scp_workers.specs.Working.{HavePut}
 use Rattle.scp_gather.specs.Left.{Left}
 
 module _ {D : Type 0} where
-  -- what a node that has ended may have sent, by what its threads left: who it is, what came to its pending stage, and what its slot stage and its
-  -- applier made of that
+  -- what a node that has ended may have sent, from what its threads left: who it is, what came to its pending
+  -- stage, and what its slot stage and its applier made of that
   abbrev pub grounds_gathered : NodeId → QuorumTree → List NodeId → Left D → Grounds
   grounds_gathered me set peers e = record {
     who = record { me = me; peers = peers; set = set };
@@ -23,7 +23,7 @@ module _ {D : Type 0} where
   }
 
 module _ {D : Type 0} (says : Says D) where
-  -- into the outbox of each link each of the three stages put what it handed out for that link, in order
+  -- each of the three stages put into each link's outbox what it handed out for that link, in order
   pub record ArePutOut (me : NodeId) (set : QuorumTree) (peers : List NodeId) (e : Left D) : Type 0 where
     pub replies : List Outgoing
     pub said : List Outgoing

@@ -9,8 +9,8 @@ use scp_types::Stage;
 use scp_workers::{ApplyEnded, PendEnded, ReaderEnded, SlotEnded};
 use std::marker::Model;
 
-/// What the workers of a node ended with, each link's reader and its sending end in the order of the node's peers, and the ended
-/// sending end of its own commands.
+/// What the workers of a node ended with: the reader and the sending end of each link, in the order of the node's peers; the ended sending
+/// end of its own commands; and its three other stages.
 #[derive(Drop)]
 pub struct Ends<A: Application + Drop + Copy = KvDriver> {
     pub readers: Vec<ReaderEnded>,
@@ -36,7 +36,7 @@ impl<A: Application + Drop + Copy> Model for Ends<A> {
 }
 
 impl<A: Application + Drop + Copy> Ends<A> {
-    /// The first stage, in the order of the pipeline, of which a worker failed.
+    /// The first stage, in the order of the pipeline, whose worker failed.
     pub fn first_failed(&self) -> Option<Stage>
         ensures exact { result ≡ first_failed_of self.now }
     {
@@ -49,7 +49,7 @@ impl<A: Application + Drop + Copy> Ends<A> {
     }
 }
 
-/// The first stage, in the order of the pipeline, of which a worker failed: whether one of the readers did is passed.
+/// The first stage, in the order of the pipeline, whose worker failed. Whether a reader failed is passed in.
 pub fn first_failed<A: Application + Drop + Copy>(
     reader: bool,
     pend: &PendEnded,
@@ -73,7 +73,7 @@ pub fn first_failed<A: Application + Drop + Copy>(
     None
 }
 
-/// Whether a worker of one of the readers failed.
+/// Whether the worker of one of the readers failed.
 fn any_failed(readers: &[ReaderEnded]) -> bool
     ensures { result ≡ list_any failed readers.now }
 {

@@ -39,17 +39,17 @@ pub struct NodeReport<A: Application = KvDriver> {
     pub journal: Vec<Fate>,
     /// The messages that wait for their quorum sets, ascending by sender, life and number.
     pub parked: Vec<Carried>,
-    /// The decisions that were applied, of the slots 1, 2, ..
+    /// The decisions that were applied, those of the slots 1, 2, ..
     pub applied: Vec<SharedDecision>,
     /// The state that their values make.
     pub state: A::State,
-    /// What became of its own commands but the ticks, in their order.
+    /// What became of its own commands, except ticks, in order.
     pub commands: Vec<CommandFate>,
-    /// What came over each of its links, in the order of its peers, where that was to be kept.
+    /// What came over each of its links, in the order of its peers, if it was to be kept.
     pub came: Vec<Option<Vec<LinkItem>>>,
 }
 
-/// What is told of a node, and the ends by which its stages put into the outboxes of its links.
+/// What is reported of a node, and the ends by which its stages put into its links' outboxes.
 #[derive(Drop)]
 pub struct Gathering<A: Application = KvDriver> {
     pub report: NodeReport<A>,
@@ -72,7 +72,7 @@ fn take_back(inbox: &mut InboxRx, reader: ReaderEnded, link: LinkDone) -> Option
     kept
 }
 
-/// Takes back what each link and its reader left, and gives what each reader kept, in their order.
+/// Takes back what each link and its reader left, and gives what each reader kept, in order.
 fn take_each_back(
     inbox: &mut InboxRx,
     readers: Vec<ReaderEnded>,
@@ -96,8 +96,7 @@ fn take_each_back(
     Ok(came)
 }
 
-/// What the stages of a node left: each stage, what became of the commands, what the readers kept, and the ends by which they put into the
-/// outboxes.
+/// What a node's stages left: each stage, what became of the commands, what the readers kept, and the ends by which they put into the outboxes.
 #[derive(Drop)]
 struct Stages<A: Application + Drop + Copy> {
     pending: Pending,
@@ -150,7 +149,7 @@ fn settle<A: Application + Drop + Copy>(ends: Ends<A>) -> Result<Stages<A>, Faul
     })
 }
 
-/// What the stages tell.
+/// The report that the stages give.
 fn told<A: Application + Drop + Copy>(
     pending: Pending,
     ledger: Ledger<A>,
@@ -180,21 +179,21 @@ fn told<A: Application + Drop + Copy>(
     })
 }
 
-/// What became of all that was sent to a node over its links, and what it did, where each of its workers ended well. Refused by
-/// `Refused` with the first stage, in the order of the pipeline, of which a worker failed; else by `NoMemory`.
+/// What became of all that was sent to a node over its links, and what it did, if each of its workers ended well. Refused by `Refused` with
+/// the first stage, in the order of the pipeline, whose worker failed; else by `NoMemory`.
 pub fn gather<A: Application + Drop + Copy>(ends: Ends<A>) -> Result<Gathering<A>, Fault>
     requires joined { AreJoined ends }
     ensures theorem { (me : NodeId) → (set : QuorumTree) → (peers : List NodeId) → IsNode me set peers ends → IfOk result (λ r. IsReportOf A.says me set peers ends r.report.journal.items r.report.parked.items r.report.applied.items) }
-    // And the headline, which says what matters most of that.
+    // The headline, which says what matters most of that.
     ensures headline { (me : NodeId) → (set : QuorumTree) → (peers : List NodeId) → IsNode me set peers ends → IfOk result (λ r. Headline (books_reported me set peers ends r.report.journal.items r.report.applied.items)) }
     // The state is what the application makes of the applied values, one after another.
     ensures state { IfOk result (λ r. r.report.state ≡ made_of A.first A.after r.report.applied.items) }
-    // And what became of the node's own commands.
+    // What became of the node's own commands.
     ensures commands { (me : NodeId) → (set : QuorumTree) → (peers : List NodeId) → IsNode me set peers ends → IfOk result (λ r. AreFatesOf A.says me set peers ends r.report.commands.items) }
-    // And what came over each of its links, where that was to be kept.
+    // What came over each of its links, if that was to be kept.
     ensures came { (me : NodeId) → (set : QuorumTree) → (peers : List NodeId) → IsNode me set peers ends → IfOk result (λ r. AreCame ends r.report.came.items) }
     ensures kept { (me : NodeId) → (set : QuorumTree) → (peers : List NodeId) → IsNode me set peers ends → IfOk result (λ r. AreKept (map keeps_by ends.readers) r.report.came.items) }
-    // And what its stages put into the outboxes of its links, by ends that are given back.
+    // What its stages put into its links' outboxes, by ends that are given back.
     ensures put { (me : NodeId) → (set : QuorumTree) → (peers : List NodeId) → IsNode me set peers ends → IfOk result (λ r. ArePutOut A.says me set peers ends) }
     ensures outlets { IfOk result (λ r. (r.outlets.pend.items ≡ ends.pend.outlets) × (r.outlets.slot.items ≡ ends.slot.outlets) × (r.outlets.apply.items ≡ ends.apply.outlets)) }
     ensures refused { (s : Stage) → IsErrOf result (Fault.Refused s) ↔ (first_failed ends ≡ Some s) }

@@ -14,8 +14,8 @@ use scp_wire::{
     what_is_read_is_what_was_sent, what_is_read_keeps_the_shape,
 };
 
-/// Where every worker of a node ended well, and each channel kept the order of each of its producers, what was sent to the node and
-/// what its stages made of it keeps the ledger, with nothing in a queue or a hand.
+/// If every worker of a node ended well, and each channel kept each producer's order, nothing is left in a queue or a hand. The ledger
+/// theorem holds of what was sent to the node and of what its stages made of it.
 pub fn what_ends_well_is_gathered<D: Driver + Drop + Copy>()
     ensures { WhatEndsWellIsGathered D.says }
 {
@@ -29,16 +29,16 @@ pub fn what_ends_well_is_gathered<D: Driver + Drop + Copy>()
     what_has_nothing_ready_is_settled();
 }
 
-/// What is the report of a node keeps the headline, of what went over its links.
+/// The headline holds of a node's report, and of what went over the node's links.
 pub fn what_is_reported_keeps_the_headline<D: Driver + Drop + Copy>()
     ensures headline { ReportsKeepHeadline D.says }
 {
     what_keeps_the_ledger_keeps_the_headline::<D>();
 }
 
-/// At each moment a node whose stages run in threads holds at most what its channels have room for; in a reader's hand up to 32 records of
-/// a batch, in each other worker's one thing; 64 messages that are parked or leave for each connection that is open, and one that was just
-/// taken; and 16 decisions that are buffered.
+/// At each moment a node whose stages run in threads holds at most this much. Its channels hold what they have room for; a reader's hand
+/// holds up to 32 records of a batch, each other worker's hand one thing. At most 64 messages for each open connection are parked or leave,
+/// and one more that was just taken. At most 16 decisions are buffered.
 pub fn a_node_holds_so_much()
     ensures { HoldsAtMost }
 {

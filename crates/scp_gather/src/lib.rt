@@ -1,15 +1,15 @@
 //! What the threads of a node left, gathered.
 //!
-//! What it promises, under every schedule, where each worker of a node ended well:
-//! - the ledger theorem, of what was sent over the node's links and what came to it, with nothing left in a queue or a hand;
-//! - what came are the items of each link, as they are read, and the node's own commands, each in its order;
-//! - of each of those commands but the ticks, in order, what its ledger told of it, as it stood when it took it;
-//! - what is parked waits for its quorum set; and the fates of a connection and then its parked messages are what was sent on it;
-//! - into the outbox of each link its stages put what they handed out for it, which may be sent there;
-//! - what came over a link is told too, where its reader kept it: it is all that was sent over it.
+//! What it promises, under every schedule, if each worker of a node ended well:
+//! - The ledger theorem holds of what was sent over the node's links and of what came to it. Nothing is left in a queue or a hand.
+//! - What came are the items of each link, as they are read, and the node's own commands, each in order.
+//! - For each of those commands, except ticks, it reports in order what the ledger said of it, as the ledger was when it took the command.
+//! - What is parked waits for its quorum set. A connection's fates, followed by its parked messages, are what was sent on it.
+//! - The stages put into each link's outbox what they handed out for it, and it may be sent there.
+//! - What came over a link is reported too, if its reader kept it. It is all that was sent over the link.
 //!
-//! Where a worker failed, `gather` tells the first such stage. How much a node holds while it runs is a law of its own, of each channel, each
-//! hand, what leaves and what is parked.
+//! If a worker failed, `gather` returns the first stage whose worker did. How much a node holds while it runs is a law of its own: of each
+//! channel, each hand, what leaves and what is parked.
 //!
 //! Not claimed: that a worker ends.
 #![tactic(auto)]

@@ -109,7 +109,7 @@ entry_in peers (fate ∷ journal) link slot h = elim (Contains-append_cases (req
   | inr later ↦ later_entry peers fate journal link slot (entry_in peers journal link slot later)
 ]
 
--- a request that goes on to the applier stands in the journal, of a connection of its link
+-- a request that goes on to the applier is in the journal, from a connection of its link
 pub request_stands : (g : Grounds) (link : ℕ) (slot : Slot) → AllByRecursion (λ fate. IsOfLink g.who.me g.who.peers (conn_of fate)) g.journal → Contains (flat_map (request_by g.who.peers) g.journal) (Asked link slot) → AsksForRecord g link slot
 request_stands g link slot links there =
     let h = entry_in g.who.peers g.journal link slot there in

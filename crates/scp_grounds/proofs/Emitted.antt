@@ -35,7 +35,7 @@ use Rattle.scp_grounds.proofs.Basics.{some_there, there_some, none_some}
 
 -- ---- one statement
 
--- what is emitted where `before` stood last and `now` stands then: an own statement of this kind, newer than the one before
+-- what is emitted if `before` was the last and `now` is the last then: an own statement of this kind, newer than the one before
 pub record IsTold (me : NodeId) (at : ℕ) (hash : Hash) (kind : Bool) (before now : Option Pledges) (e : Enveloped) : Type 0 where
   pub node : e.statement.node ≡ me
   pub slot : e.statement.slot.0 ≡ at
@@ -46,7 +46,7 @@ pub record IsTold (me : NodeId) (at : ℕ) (hash : Hash) (kind : Bool) (before n
   pub stands : now ≡ Some e.statement.pledges
   pub newer : ForSome before (λ p. ArePledgesNewer p e.statement.pledges)
 
--- what is emitted is told, and where nothing is what stands stays
+-- what is emitted is said; if nothing is, the last one stays
 pub record Tells (me : NodeId) (at : ℕ) (hash : Hash) (kind : Bool) (before : Option Pledges) (found : Option Enveloped) (now : Option Pledges) : Type 0 where
   pub still : found ≡ None → now ≡ before
   pub told : (e : Enveloped) → found ≡ Some e → IsTold me at hash kind before now e

@@ -102,7 +102,7 @@ module _ {D : Type 0} where
   -- ---- own statements
 
   module _ (g : Grounds) (before v : LedgerView D) (same : g.decisions ≡ v.decisions) where
-    -- a statement that is told, ahead of all
+    -- a statement that is said, ahead of all
     fit_told : (out : List Outgoing) (e : Enveloped) → MayTell g.who before v e → IsAheadOf out e → AreFit g v out → AreFit g v (out ++ ToAll e ∷ [])
     fit_told out e t ahead f = record {
       allowed = all_more (MaySend g) out (ToAll e ∷ []) f.allowed (all_each (MaySend g) e (λ link. (t.own, rw same t.decided)));

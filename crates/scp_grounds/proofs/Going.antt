@@ -76,7 +76,7 @@ module _ {D : Type 0} where
   abbrev with_ledger : Grounds → LedgerView D → Grounds
   with_ledger g v = record g { journal = v.journal; decisions = v.decisions }
 
-  -- how the ledger stands, and what was handed out by then
+  -- what the ledger is, and what was handed out by then
   record Stands (g : Grounds) (v : LedgerView D) (out : List Outgoing) : Type 0 where
     me_is : v.me ≡ g.who.me
     set_is : v.local ≡ g.who.set
@@ -136,7 +136,7 @@ all_more_applied : (old : ApplierView) (xs : List Onward) (out : List Outgoing) 
 all_more_applied old [] out new a = no_more old.applied new.applied (ap (λ (v : ApplierView). v.applied) a.1)
 all_more_applied old (x ∷ xs) out new a = more_still old.applied a.1.applied new.applied (applied_more old x a.0 a.1 a.2) (all_more_applied a.1 xs a.3 new a.5)
 
--- each request that is taken stands in the journal
+-- each request that is taken is in the journal
 abbrev WereAsked : Grounds → List Onward → Type 0
 WereAsked g xs = (request : Onward) → Contains (requests_on xs) request → Contains (flat_map (request_by g.who.peers) g.journal) request
 

@@ -60,7 +60,7 @@ newer_trans s p q r a b =
     let all : IsNewer (record s { pledges = p }) (record s { pledges = r }) = transitive (record s { pledges = p }) (record s { pledges = q }) (record s { pledges = r }) one two in
     all.newer
 
--- what is told is newer than all that was said
+-- what is said is newer than all that was said
 told_ahead : (me : NodeId) (at : ℕ) (hash : Hash) (kind : Bool) (before now : Option Pledges) (e : Enveloped) (p : Pledges) → IsTold me at hash kind before now e → IsUpTo p before → ArePledgesNewer p e.statement.pledges
 told_ahead me at hash kind before now e p t h = elim h.upto [
   | inl same ↦ subst (λ (q : Pledges). ArePledgesNewer q e.statement.pledges) (sym same) (t.newer h.last h.there)
@@ -254,7 +254,7 @@ module _ {D : Type 0} where
         by_decided e (Some d) some =
             none_some (machine_at new.machines s) m (ap (λ (n : ℕ). machine_at new.machines n) (sym e) ∙ here ∙ ap (λ (o : Option Certified). cond (is_some o) None (Some r.after)) some) there
 
-    -- a statement that is told of a kind
+    -- a statement of a kind that is said
     may_tell : (kind : Bool) (e : Enveloped) → IsTold who.me at.0 hash kind (said kind before) (said kind after') e → IsDecided new.decisions e e.statement.pledges → MayTell who old new e
     may_tell kind e t decided = record {
       own = record { node = t.node; set = t.set; unsigned = t.unsigned; sane = t.sane };

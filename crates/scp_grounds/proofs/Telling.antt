@@ -1,4 +1,4 @@
--- A message behind others, and a statement that is told ahead of them.
+-- A message after others, and a statement that is said ahead of them.
 use Rattle.std.proofs.Common.{◌≡◌, ℕ, Bool, true, false, List, [], ◌∷◌, ◌++◌, refl, sym, ◌∙◌, subst, arith, append-nil, All, get_or, nat_eq}
 use Rattle.std.specs.Prelude.{Option, Some, None, if◌then◌else◌}
 use Rattle.std.specs.Option.{ForSome}
@@ -29,7 +29,7 @@ all_to P to link m p = by_test (nat_eq link to) refl
     by_test true e = all_one (P link) m (subst (λ (l : ℕ). P l m) (sym (eqb-true link to e)) p)
     by_test false e = All-nil (P link)
 
--- ---- a message behind others
+-- ---- a message after others
 
 pub none_newer : AreNewer []
 none_newer i j d lt below = absurd (omega (arith, below))
@@ -80,7 +80,7 @@ module _ {D : Type 0} where
       some_is : (x y : Statement) → Some x ≡ Some y → x ≡ y
       some_is x y k = cc
 
-  -- a message that was handed out, and a statement that is told
+  -- a message that was handed out, and a statement that is said
   pub step_told : (g : Grounds) (old new : LedgerView D) (link : ℕ) (e : Enveloped) (n : Message) → MaySend g link n → IsSaid old n → MayTell g.who old new e → IsStep (statement_of n) (Some e.statement)
   step_told g old new link e (Envelope b) may said tell = λ alike. tell.ahead b.value.statement may.0.node (said b.value.statement refl) alike
   step_told g old new link e (GetSet hash) may said tell = tt

@@ -34,13 +34,13 @@ use Rattle.scp_ledger.specs.declared.journal.Verdict.{Verdict}
 
 -- ---- what a message rests on
 
--- who a node is: its own id, its peers by the places of their links, and its quorum set
+-- who a node is: its own id, its peers in the order of their links, and its quorum set
 pub record Who : Type 0 where
   pub me : NodeId
   pub peers : List NodeId
   pub set : QuorumTree
 
--- what is settled at its pending stage before anything came
+-- what its pending stage is before anything came
 abbrev pub start_of : Who → Settled
 start_of who = fresh who.me who.peers who.set
 
@@ -111,7 +111,7 @@ TellsToAsk link slot (inbound.Side conn message) = ⊥
 TellsToAsk link slot (inbound.Closed conn cause) = ⊥
 TellsToAsk link slot (inbound.Local command) = Tells link slot command
 
--- a request for the record of the slot stands in the journal, of a connection of the link
+-- the journal has a request for the record of the slot, from a connection of the link
 pub record AsksForRecord (g : Grounds) (link : ℕ) (slot : Slot) : Type 0 where
   pub conn : ConnId
   pub of_link : IsLifeOf g.who link conn
@@ -136,7 +136,7 @@ MaySend g link (message.Records first values) = ⊥  -- never: each record is se
 
 -- ---- all that was sent
 
--- what was sent spells messages that may be sent, and each statement is newer than all of its slot and kind sent before
+-- what was sent encodes messages that may be sent, and each statement is newer than all of its slot and kind sent before
 pub record IsSentOut (g : Grounds) (link : ℕ) (sent : List (List ℕ)) : Type 0 where
   pub messages : List Message
   pub spelt : AllZip (λ bytes m. SpellsMessage bytes (message_value m)) sent messages

@@ -38,11 +38,11 @@ replies_from s (item ∷ items) = out_of (reply s item) ++ replies_from (rules s
 abbrev pub out_by : Taking → List Outgoing
 out_by t = t.gave.outgoing
 
--- with each of these, in order
+-- what the slot stage hands out with each of these, in order
 abbrev pub outs_of : List Taking → List Outgoing
 outs_of takes = flat_map out_by takes
 
--- an applier took these, one after another, handed its answers out, and stands so then
+-- an applier took these, one after another, handed its answers out, and is the new one then
 abbrev pub Answers : ApplierView → List Onward → List Outgoing → ApplierView → Type 0
 Answers old [] out new = (out ≡ []) × (new ≡ old)
 Answers old (x ∷ xs) out new = (answer : Option (ℕ × Message)) × (between : ApplierView) × Takes old x answer between × (rest : List Outgoing) × (out ≡ out_of answer ++ rest) × Answers between xs rest new

@@ -19,8 +19,8 @@ use Rattle.scp_grounds.specs.Grounds.{Grounds, MaySend, start_of}
 use Rattle.scp_grounds.specs.Handed.{handed_by, replies_from, outs_of, Answers}
 
 module _ {D : Type 0} (says : Says D) where
-  -- What the three stages of a node of these grounds handed out: the pending stage its replies to all that came; the slot stage what its ledger gave
-  -- with each thing that it took, of which each command came; the applier its answers to what it took, of which each request stands in the journal.
+  -- What the three stages of a node with these grounds handed out. The pending stage: its replies to all that came. The slot stage: what its ledger
+  -- gave with each thing taken; each command among these came. The applier: its answers to what it took; each request there is in the journal.
   pub record AreHandedOut (g : Grounds) (replies said answers : List Outgoing) : Type 0 where
     pub replies_are : replies ≡ replies_from (start_of g.who) g.taken
     pub ledger : LedgerView D
@@ -38,12 +38,12 @@ module _ {D : Type 0} (says : Says D) where
     pub requests : (request : Onward) → Contains (requests_on took) request → Contains (flat_map (request_by g.who.peers) g.journal) request
     pub applied_is : g.applied ≡ applier.applied
 
--- it may be sent over the link, and is no statement
+-- the message may be sent over the link, and is no statement
 abbrev pub MayAnswer : Grounds → ℕ → Message → Type 0
 MayAnswer g link m = MaySend g link m × (statement_of m ≡ None)
 
--- of what is handed out for a link all may be sent over it, and each statement is newer than those of its slot and kind before it; only the slot
--- stage hands statements out
+-- All that is handed out for a link may be sent over it. Only the slot stage hands out statements,
+-- and each is newer than those of its slot and kind before it.
 pub record MayGo (g : Grounds) (link : ℕ) (replies said answers : List Message) : Type 0 where
   pub replies_may : All (MayAnswer g link) replies
   pub said_may : All (MaySend g link) said
@@ -51,6 +51,6 @@ pub record MayGo (g : Grounds) (link : ℕ) (replies said answers : List Message
   pub answers_may : All (MayAnswer g link) answers
 
 module _ {D : Type 0} (says : Says D) where
-  -- so it is with all that a node's stages hand out
+  -- all that a node's stages hand out is so
   abbrev pub HandedOutMayGo : Type 0
   HandedOutMayGo = (g : Grounds) (replies said answers : List Outgoing) → AreHandedOut says g replies said answers → (link : ℕ) → MayGo g link (handed_by replies link) (handed_by said link) (handed_by answers link)

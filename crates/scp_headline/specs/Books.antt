@@ -1,4 +1,4 @@
--- How the books of a node are read off its account, and that the ledger theorem keeps the headline.
+-- How a node's books are read off its account, and that the headline follows from the ledger theorem.
 use Rattle.std.specs.Prelude.{ℕ, List, ◌++◌, Option, map, is_some}
 use Rattle.scp_types.specs.declared.limits.TheConstants.{CARRIED_LIMIT}
 use Rattle.scp_driver.specs.declared.driver.Level.{Level}
@@ -20,11 +20,11 @@ message_of (Waits x) = x.message
 message_of (Free delivery) = delivery.message
 message_of (Lost x cause) = x.message
 
--- what is parked, as one that waits
+-- what is parked, as a message that waits
 abbrev pub waiter_of : Parked → Waiter
 waiter_of p = record { place = (seq_of p).0; message = message_of p }
 
--- what was sent is what its bytes read as, up to the limit of carried messages of a connection
+-- the messages that were sent are those that the bytes read as, up to the limit of carried messages of a connection
 abbrev pub books_of : {D : Type 0} → Account D → Books
 books_of a = record {
   me = a.me;
@@ -41,6 +41,6 @@ books_of a = record {
   applied = a.applier.applied;
 }
 
--- what keeps the ledger keeps the headline
+-- the headline follows from the ledger theorem
 abbrev pub LedgerKeepsHeadline : {D : Type 0} → (D → ℕ → List ℕ → Level) → (D → ℕ → List ℕ → Option (List ℕ)) → (D → ℕ → List (List ℕ) → List ℕ) → (D → ℕ → ℕ → ℕ → ℕ) → Type 0
 LedgerKeepsHeadline {D} level extracted combined place = (a : Account D) → KeepsLedger level extracted combined place a → Headline (books_of a)

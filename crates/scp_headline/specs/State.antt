@@ -6,12 +6,12 @@ use Rattle.scp_kv.specs.Map.{KvMap}
 use Rattle.scp_kv.specs.Op.{ops_kind, IsOps}
 use Rattle.scp_kv.specs.State.{after_ops, fold_of}
 
--- what a value makes of the state: its operations in order, where its bytes are an operation list, and else nothing
+-- what a value makes of the state: what its operations do, in order, if its bytes are an operation list, and else nothing
 pub record IsAfter (old : KvMap) (value : List ℕ) (new : KvMap) : Type 0 where
   pub does : (ops : Values ops_kind) → IsOps value ops → new ≡ after_ops old ops
   pub stays : All (λ byte. byte < 256) value → ((ops : Values ops_kind) → IsOps value ops → ⊥) → new ≡ old
 
--- what values make of it, one after another
+-- what values make of the state, one after another
 abbrev pub IsFold : KvMap → List (List ℕ) → KvMap → Type 0
 IsFold old [] new = new ≡ old
 IsFold old (value ∷ values) new = (between : KvMap) × IsAfter old value between × IsFold between values new

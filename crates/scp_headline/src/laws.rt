@@ -5,13 +5,13 @@ ghost use Rattle.scp_headline.specs.State.{FoldIsMade};
 use scp_driver::Driver;
 use scp_kv::ops_in_finds_the_list;
 
-/// Where the ledger theorem holds, so does the headline, of the books that the node's account makes.
+/// Where the ledger theorem holds of a node's account, the headline holds of the books that the account makes.
 pub fn what_keeps_the_ledger_keeps_the_headline<D: Driver + Drop + Copy>()
     ensures headline { LedgerKeepsHeadline D.says.level D.says.extracted D.says.combined D.says.place }
 {}
 
-/// The state that operation lists fold to, as `KvDriver` applies them, is what their operations make of the empty map, in order; a value that is
-/// no operation list leaves it.
+/// The state that operation lists fold to, as `KvDriver` applies them, is what their operations make of the empty map, in order. A value that
+/// is no operation list doesn't change it.
 pub fn the_fold_is_what_lists_make()
     ensures { FoldIsMade }
 {

@@ -21,7 +21,7 @@ pub ops_in-long : (bytes : List ℕ) → 4096 < length bytes → ops_in bytes �
 unfolding ops_in
 ops_in-long bytes lt = let t : nat_le (length bytes) 4096 ≡ false = lt-leb (length bytes) 4096 lt in rw t refl
 
--- ---- ops_in finds just the list
+-- ---- ops_in finds exactly the list
 
 ok_of : {X : Type 0} (r : Result X Fault) (x : X) → result_ok r ≡ Some x → r ≡ Ok x
 ok_of (Ok y) x e = cc
@@ -56,7 +56,7 @@ some_list bytes None fits e = (λ t. absurd cc, λ o. absurd (not_some (ops_in b
 pub lists_decided : (bytes : List ℕ) (b : Bool) → IsBytes bytes → b ≡ is_some (ops_in bytes) → IsTrue b ↔ ((ops : Values ops_kind) × IsOps bytes ops)
 lists_decided bytes b fits e = rw e (some_list bytes (ops_in bytes) fits refl)
 
--- the test for a spelling, within the limit on the length
+-- the test for an encoding, within the limit on the length
 pub spells_same : (bytes : List ℕ) (b : Bool) → IsBytes bytes → length bytes ≤ 4096 → IsTrue b ↔ ((ops : Values ops_kind) × Spells ops_kind bytes ops) → b ≡ is_some (ops_in bytes)
 spells_same bytes b fits le decided = at b (ops_in bytes) refl decided
   where

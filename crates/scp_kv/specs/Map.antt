@@ -1,4 +1,4 @@
--- The map that the operations build: from keys to values, each of them bytes, the keys in the order of bytes.
+-- The map that the operations build: from keys to values, both of them bytes, with the keys in the order of bytes.
 use Rattle.std.specs.Prelude.{ℕ, List}
 use Rattle.std.specs.Ordering.{nat_cmp}
 use Rattle.std.specs.Cmp.Lexicographic.{slice_cmp}

@@ -1,4 +1,4 @@
-//! Laws of the definitions, each the contract of a function that does nothing.
+//! Laws of the definitions. Each is the contract of a function that does nothing.
 ghost use Rattle.std.specs.Prelude.{◌≡◌, ◌≢◌, ◌↔◌, ◌<◌, ◌++◌, ◌∷◌, [], ℕ, List, All, Some, None};
 ghost use Rattle.std.specs.FinMap as map;
 ghost use Rattle.scp_xdr.specs.Kind.{Values};
@@ -6,7 +6,7 @@ ghost use Rattle.scp_kv.specs.Map.{KvMap};
 ghost use Rattle.scp_kv.specs.Op.{put, del, ops_kind, ops_in, IsOps};
 ghost use Rattle.scp_kv.specs.State.{after_op, after_value, fold_of};
 
-/// `ops_in` finds just the list that the bytes are.
+/// `ops_in` finds a list exactly where the bytes are one, and it finds that list.
 pub fn ops_in_finds_the_list()
     ensures found { (bytes : List ℕ) (ops : Values ops_kind) → All (λ b. b < 256) bytes → ops_in bytes ≡ Some ops → IsOps bytes ops }
     ensures only { (bytes : List ℕ) (ops : Values ops_kind) → IsOps bytes ops → ops_in bytes ≡ Some ops }
@@ -24,7 +24,7 @@ pub fn a_del_takes_its_key_alone()
     ensures others { (state : KvMap) (key other : List ℕ) → other ≢ key → map.get (after_op state (del key)) other ≡ map.get state other }
 {}
 
-/// The fold of a list with one value more is the fold of the list, to which that value is then applied.
+/// Folding a list with one value more at its end is folding the list, and then applying that value.
 pub fn a_value_more_is_one_step_more()
     ensures { (values : List (List ℕ)) (value : List ℕ) → fold_of (values ++ value ∷ []) ≡ after_value (fold_of values) value }
 {}

@@ -23,21 +23,21 @@ const KEY_LIMIT: u32 = 64;
 /// The most bytes of a value that is put at a key (this project's profile).
 const ENTRY_LIMIT: u32 = 256;
 
-/// One change of the state. In an operation list a key has at most 64 bytes and a value at most 256. Its XDR is that of
-/// a union: 0 and the key and the value, or 1 and the key.
+/// One change of the state. In an operation list a key has at most 64 bytes, and a value at most 256. Its XDR is a
+/// union: 0, the key and the value; or 1 and the key.
 #[derive(Debug, Drop)]
 pub enum Op {
-    /// Sets the key, the first, to the value, the second.
+    /// Sets a key to a value.
     Put(Value, Value),
-    /// Takes the key out, if it is there.
+    /// Takes a key out, if it is there.
     Del(Value),
 }
 
-/// The operations of a value. Their XDR is that of an array: their count, and each of them.
+/// The operations of a value. Their XDR is an array: their count, and each of them.
 #[derive(Debug, Drop)]
 struct OpList(Vec<Op>);
 
-/// At most `max` bytes behind their length. A refusal leaves the reader anywhere.
+/// At most `max` bytes, after their length. A refusal leaves the reader anywhere.
 fn read_bytes(alloc: Global, max: u32, reader: &mut Reader<'_>) -> Result<Value, Fault>
     ensures { Decodes (λ v. v) reader.new result (reading (opaque max) reader.old) }
 {
@@ -170,7 +170,7 @@ fn read_list(alloc: Global, bytes: &[u8]) -> Result<Option<Vec<Op>>, Fault>
 }
 
 /// Whether the value is an operation list: at most 4,096 bytes that are the XDR (RFC 4506, section 4) of an array of
-/// at most 64 operations, with nothing after it. Four zero bytes are the empty list; no bytes are no list. It takes no
+/// at most 64 operations, with nothing after it. Four zero bytes are the empty list; no bytes are no list. Takes no
 /// memory, and its time grows with the value's length.
 pub fn is_ops(value: &Value) -> bool
     ensures lists { IsTrue result ↔ ((ops : Values ops_kind) × IsOps value.now ops) }
@@ -179,9 +179,9 @@ pub fn is_ops(value: &Value) -> bool
     is_list(value.as_slice())
 }
 
-/// The operations of the value, where it is an operation list (see `is_ops`), and `None` where it isn't. The only
-/// refusal is `NoMemory`, and it comes only for a value that is an operation list. It goes over the bytes twice: first
-/// without memory, and then, where they are a list, it copies each key and value once.
+/// The operations of the value if it is an operation list (see `is_ops`), and `None` if it isn't. The only refusal is
+/// `NoMemory`, and it comes only for an operation list. Goes over the bytes twice: first without memory, and then, if
+/// they are a list, it copies each key and value once.
 pub fn ops_of(alloc: Global, value: &Value) -> Result<Option<Vec<Op>>, Fault>
     ensures same { IfOk result (λ found. option_map (λ ops. ops_value ops.items) found ≡ ops_in value.now) }
     ensures found { IfOk result (λ found. IfSome found (λ ops. IsOps value.now (ops_value ops.items))) }

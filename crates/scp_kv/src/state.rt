@@ -15,7 +15,7 @@ use std::collections::BTreeMap;
 use std::collections::btree_map::Iter;
 use std::marker::Model;
 
-/// The keys that were put and not deleted since, each with its last value. It is seen as a finite map from bytes to
+/// The keys that were put and not deleted since, each with its last value. Contracts see a finite map from bytes to
 /// bytes, in the order of the keys.
 #[derive(Drop)]
 pub struct KvState {
@@ -36,7 +36,7 @@ impl Model for KvState {
 }
 
 impl KvState {
-    /// A state without keys. It takes no memory.
+    /// A state without keys. Takes no memory.
     pub fn new(alloc: Global) -> KvState
         ensures { result ≡ map.empty }
     {
@@ -87,7 +87,7 @@ impl KvState {
         Ok(())
     }
 
-    /// The keys with their values, ascending by key: bytes are compared from the first on, and a proper prefix is
+    /// The keys with their values, ascending by key. Bytes are compared from the first on, and a proper prefix is
     /// less. Each step takes constant time on average.
     pub fn lines(&self) -> Iter<'_, Value, Value>
         ensures entries { result ≡ map.entries self.now }
@@ -97,10 +97,9 @@ impl KvState {
     }
 }
 
-/// Applies the operations of the value in order, where it is an operation list; any other value leaves the state.
-/// The only refusal is `NoMemory`, and it comes only for an operation list. After it some of the operations, from the
-/// first on, have been applied and no more, so the caller must give the state up. The time grows with the value's length, and for each operation with
-/// the logarithm of the number of keys.
+/// Applies the operations of the value in order if it is an operation list; any other value leaves the state as it was. The only refusal is
+/// `NoMemory`, and it comes only for an operation list. After it some operations, from the first on, are applied and the rest aren't: the
+/// caller must drop the state. The time grows with the value's length and, for each operation, with the logarithm of the number of keys.
 pub fn apply_value(state: &mut KvState, value: &Value) -> Result<(), Fault>
     ensures applied { OnOk result (state.new ≡ after_value state.old value.now) }
     ensures only_memory { IsOkUnless result Fault.NoMemory }

@@ -37,7 +37,7 @@ brings Round verdict = None
 brings Timer verdict = None
 brings (Envelope envelope set) verdict = if is_fresh verdict then Some (record { statement = envelope.statement; set = set.value }) else None
 
--- it stands in the place of the node's last of that kind, and all others stay
+-- it takes the place of the node's last statement of that kind, and all others stay
 abbrev pub Boards : SlotView → Option Heard → SlotView → Type 0
 Boards old None new = (kind : StatementKind) (v : NodeId) → heard_at kind new v ≡ heard_at kind old v
 Boards old (Some h) new = (kind : StatementKind) (v : NodeId) → heard_at kind new v ≡ cond (is_its kind v h) (Some h) (heard_at kind old v)

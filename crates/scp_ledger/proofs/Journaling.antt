@@ -335,7 +335,7 @@ module _ {D : Type 0} (level : D → ℕ → List ℕ → Level) (extracted : D 
   pub runs_on : (old : LedgerView D) (x : Ready) (t : Took) (new : LedgerView D) → old.failed ≡ false → Takes level extracted combined place old x t new → new.failed ≡ false
   runs_on old x t new runs takes = (goes old x t new takes).runs ∙ runs
 
-  -- what is taken, and what stands there
+  -- what is taken, and what is there
   pub takes_grow : TakesGrow level extracted combined place
   takes_grow = λ old x t new takes. (let g = goes old x t new takes in record { runs = g.runs; fates = g.fates; journal = g.journal; decisions = g.decisions; asked = g.asked_stay })
 

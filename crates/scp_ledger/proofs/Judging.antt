@@ -1,4 +1,4 @@
--- A run with one thing more: the verdict on it is the first that fits over what stood before it.
+-- A run with one thing more: the verdict on it is the first that fits by what was there before it.
 use Rattle.std.proofs.Common.{◌≡◌, ℕ, Bool, true, false, List, [], ◌∷◌, ◌++◌, ◌<◌, inl, inr, refl, sym, ◌∙◌, ap, subst, append_assoc, arith}
 use Rattle.std.specs.Prelude.{Option, Some, None, IsSomeAnd, ◌||◌, flat_map, option_to_list}
 use Rattle.std.specs.List.{list_any}
@@ -55,7 +55,7 @@ heard_pushed takes t = flat_map-append freshly_heard takes (t ∷ []) ∙ ap (λ
 pub asked_pushed : (takes : List Taking) (t : Taking) (a : Asking) → (stood_by (takes ++ t ∷ [])).asked a ≡ ((stood_by takes).asked a || freshly_asks a t)
 asked_pushed takes t a = list_any-append (freshly_asks a) takes (t ∷ []) ∙ ap (λ b. list_any (freshly_asks a) takes || b) (or_false (freshly_asks a t))
 
--- ---- of what stood before, only what it says of each link and slot counts
+-- ---- of what was there before, only what it says of each link and slot counts
 
 module _ (level : ℕ → List ℕ → Level) (me : NodeId) (peers : List NodeId) (lowest : ℕ) (s : Stood) (asked : Asking → Bool) (same : (a : Asking) → s.asked a ≡ asked a) where
   same_message : (conn : ConnId) (message : Message) (verdict : Verdict) → IsMessageVerdict level me peers lowest s conn message verdict → IsMessageVerdict level me peers lowest (record s { asked = asked }) conn message verdict

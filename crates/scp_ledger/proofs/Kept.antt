@@ -165,7 +165,7 @@ undecided_of : (ds : List Decision) (more : Option Decision) → IfSome more (Is
 undecided_of ds None n = tt
 undecided_of ds (Some d) n = n.undecided
 
--- a ledger keeps what holds of it: the last fresh statements of decided slots stay, and a decision more has its ground
+-- a ledger keeps what holds of it: the last fresh statements of decided slots stay, and one more decision has what it rests on
 pub IsLedger-grown : {D : Type 0} (old new : LedgerView D) (fates : List Fate) (more : Option Decision) → IsLedger old → Adds old new fates more
     → ((slot : ℕ) → is_decided slot old.decisions ≡ true → (kind : StatementKind) (v : NodeId) → newest slot kind v new.journal ≡ newest slot kind v old.journal)
     → IfSome more (IsNext old.decisions) → IfSome more (λ d. IsFounded old.me old.local (link_of old.peers) new.asked new.journal d)

@@ -61,7 +61,7 @@ made_and_kept old new m true false none b = b
 made_and_kept old new m false true none b = b
 made_and_kept old new m false false none b = b
 
--- a machine that ran where it lies, and is given up then
+-- a machine that ran in its place, and is dropped then
 pub run_and_gone : {M : Type 0} (old mid new : Option M) (m : M) (at : Bool) → mid ≡ cond at (Some m) old → new ≡ cond at None mid → new ≡ cond at None old
 run_and_gone old mid new m true a b = b
 run_and_gone old mid new m false a b = b ∙ a

@@ -93,7 +93,7 @@ idle_some o m false told is exact stays none = inl ((λ there. not_so (exact.1 (
     not_so t = let e : false ≡ true = t in cc
 
 module _ {D : Type 0} (level : D → ℕ → List ℕ → Level) (extracted : D → ℕ → List ℕ → Option (List ℕ)) (combined : D → ℕ → List (List ℕ) → List ℕ) (place : D → ℕ → ℕ → ℕ → ℕ) where
-  -- ---- what is told of a command changes nothing else
+  -- ---- what is reported of a command changes nothing else
 
   run_told : (v w : LedgerView D) (at : Slot) (given : SlotInput) (took : Took) (told : Option CommandFate) → RunsAt level extracted combined place v at given [] took w → RunsAt level extracted combined place v at given [] (record took { command = told }) w
   run_told v w at given took told r = record {
@@ -153,7 +153,7 @@ module _ {D : Type 0} (level : D → ℕ → List ℕ → Level) (extracted : D 
     passed_told : (later : CommandFate → Type 0) (idle fresh : CommandFate) (verdict : Verdict) → BehindWindow v.lowest v.decisions at.0 (λ x. ⊥) verdict → took.verdict ≡ Some verdict → BeforeMachine v.lowest v.decisions at.0 later (fate_by took.verdict idle fresh)
     passed_told later idle fresh verdict h is = subst (λ (o : Option Verdict). BeforeMachine v.lowest v.decisions at.0 later (fate_by o idle fresh)) (sym is) (shut_told v.lowest at.0 v.decisions later idle fresh verdict h)
 
-    -- what comes behind the window
+    -- what comes after the window is checked
     abbrev OfProposal : List ℕ → CommandFate → Type 0
     OfProposal value = FirstOf (level v.driver at.0 value ≢ FullyValidated) fate.BadValue (ByMachine v at (λ m. FirstOf (IsSome m.nomination.proposal) fate.ProposedBefore (λ x. x ≡ fate.Proposed)))
 

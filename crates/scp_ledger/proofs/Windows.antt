@@ -1,4 +1,4 @@
--- Where the loop over decided slots stands.
+-- How far the loop over decided slots is.
 use Rattle.std.proofs.Common.{◌≡◌, ℕ, ◌<◌, ◌≤◌, true}
 use Rattle.scp_ledger.specs.declared.window.Window.{Window}
 use Rattle.scp_ledger.specs.inside.Window.{is_ahead, IsBounded}

@@ -1,4 +1,4 @@
--- A ledger by what its application says of values.
+-- The definitions of a ledger, over what its application says of values.
 use Rattle.std.specs.Prelude.{List}
 use Rattle.scp_types.specs.declared.names.NodeId.{NodeId}
 use Rattle.scp_quorum.specs.QuorumTree.{QuorumTree}
@@ -18,11 +18,11 @@ module _ {D : Type 0} (says : Says D) where
   abbrev pub TakesBy : LedgerView D → Ready → Took → LedgerView D → Type 0
   TakesBy old x took new = Takes says.level says.extracted says.combined says.place old x took new
 
-  -- what it tells of a command that it takes, and of nothing else
+  -- what it reports of a command that it takes; of anything else it reports nothing
   abbrev pub TellsBy : LedgerView D → Ready → Took → Type 0
   TellsBy old x took = TellsFate says.level old x took
 
-  -- what holds of a ledger that runs
+  -- what holds of a ledger that hasn't failed
   abbrev pub RunsBy : LedgerView D → Type 0
   RunsBy v = IsRunning says.level says.place v
 
@@ -30,6 +30,6 @@ module _ {D : Type 0} (says : Says D) where
   abbrev pub JournalsBy : NodeId → QuorumTree → List NodeId → List Ready → List Onward → LedgerView D → Type 0
   JournalsBy me local peers took onwards v = Journals says.level says.extracted says.combined says.place me local peers took onwards v
 
-  -- each was taken by the ledger that the one before it left
+  -- each thing was taken by the ledger that the one before it left
   abbrev pub LeadsBy : LedgerView D → List Taking → LedgerView D → Type 0
   LeadsBy old takes new = Leads says.level says.extracted says.combined says.place old takes new

@@ -16,15 +16,15 @@ use Rattle.scp_envelope.specs.declared.statement.Pledges.TheVariants.{Prepare, C
 use Rattle.scp_vote.specs.Board.{counted_of_other}
 use Rattle.scp_ledger.specs.Journal.{Heard}
 
--- the set that counts for another node: itself alone where its statement is an EXTERNALIZE, else the one that came with it
+-- the set that counts for another node: that node alone if its statement is an EXTERNALIZE, else the set that came with the statement
 abbrev pub counted_of : NodeId → Heard → QuorumTree
 counted_of v h = counted_of_other v h.statement.pledges h.set
 
--- the set that counts for each node: for this node its own
+-- the set that counts for each node; for this node its own
 abbrev pub counted : NodeId → QuorumTree → (NodeId → Option Heard) → NodeId → Option QuorumTree
 counted me local heard v = cond (is_at (node_cmp me) v) (Some local) (option_map (counted_of v) (heard v))
 
--- the node stands in the list
+-- the node is in the list
 abbrev pub has_node : List NodeId → NodeId → Bool
 has_node nodes v = list_any (is_at (node_cmp v)) nodes
 
@@ -43,7 +43,7 @@ pub record IsOwnExternalize (me : NodeId) (local : QuorumTree) (at : ℕ) (x : L
   pub externalizes : Externalizes own.statement.pledges x n
   pub unsigned : own.signature ≡ []
 
--- The nodes are a quorum at this node; each other one's last ballot statement accepts commit(n, x).
+-- The nodes are a quorum at this node, and the last ballot statement of each other one accepts commit(n, x).
 -- `heard` gives the last ballot statement of each other node with its set.
 pub record IsCertificate (me : NodeId) (local : QuorumTree) (heard : NodeId → Option Heard) (x : List ℕ) (n : ℕ) (nodes : List NodeId) : Type 0 where
   pub quorum : IsQuorum (counted me local heard) me (has_node nodes)

@@ -20,7 +20,7 @@ use Rattle.scp_ledger.specs.Seen.{LedgerView, machine_at, is_asked}
 use Rattle.scp_ledger.specs.Takes.{IsMachineFor}
 use Rattle.scp_ledger.specs.Verdicts.{FirstOf, IsFar}
 
--- what comes before the machine of a slot is asked: the slot is below the lowest undecided one, beyond the window, or decided
+-- what is checked before a slot's machine is asked: the slot is below the lowest undecided one, beyond the window, or decided
 abbrev pub BeforeMachine : ℕ → List Decision → ℕ → (CommandFate → Type 0) → CommandFate → Type 0
 BeforeMachine lowest decisions slot later =
     FirstOf (slot < lowest) OldSlot
@@ -28,11 +28,11 @@ BeforeMachine lowest decisions slot later =
     (FirstOf (is_decided slot decisions ≡ true) Decided
     later))
 
--- by the machine of the slot as it was: the one that is there, or one that has heard and said nothing
+-- by the slot's machine as it was before: the one that is there, or one that has heard and said nothing
 abbrev pub ByMachine : {D : Type 0} → LedgerView D → Slot → (SlotView → CommandFate → Type 0) → CommandFate → Type 0
 ByMachine {D} v at told fate = (m : SlotMachine D) × IsMachineFor v at (machine_at v.machines at.0) m × told (slot_view m) fate
 
--- of a proposal at an open slot: it isn't fully validated, one was kept before, or it is kept
+-- a proposal's fate at an open slot: it isn't fully validated, one was kept before, or it is kept
 abbrev pub IsProposalFate : {D : Type 0} → (D → ℕ → List ℕ → Level) → LedgerView D → Slot → List ℕ → CommandFate → Type 0
 IsProposalFate level v at value =
     BeforeMachine v.lowest v.decisions at.0
@@ -40,14 +40,14 @@ IsProposalFate level v at value =
     (ByMachine v at (λ m. FirstOf (IsSome m.nomination.proposal) ProposedBefore
     (λ fate. fate ≡ Proposed))))
 
--- of a round at an open slot: there were as many rounds as there are nodes to lead one, or it is added
+-- a round's fate at an open slot: there were as many rounds as nodes that can lead one, or it is added
 abbrev pub IsRoundFate : {D : Type 0} → LedgerView D → Slot → CommandFate → Type 0
 IsRoundFate v at =
     BeforeMachine v.lowest v.decisions at.0
     (ByMachine v at (λ m. FirstOf (length m.nomination.nodes ≤ m.nomination.rounds) NoRoundLeft
     (λ fate. fate ≡ RoundAdded)))
 
--- of a timer at an open slot: an own ballot statement goes out, there was no ballot, or there was one
+-- a timer's fate at an open slot: an own ballot statement goes out, there was no ballot, or there was one
 abbrev pub IsTimerFate : {D : Type 0} → LedgerView D → Slot → List Outgoing → CommandFate → Type 0
 IsTimerFate v at outgoing =
     BeforeMachine v.lowest v.decisions at.0
@@ -55,8 +55,8 @@ IsTimerFate v at outgoing =
     (ByMachine v at (λ m. FirstOf (¬ (HasBallot m.ballots)) NoBallot
     (λ fate. fate ≡ BallotStays))))
 
--- of the command to ask a link for a slot: the slot is decided or below the lowest undecided one, beyond the window, or the link
--- was asked for it before, or is asked now
+-- the fate of the command to ask a link for a slot: the slot is decided or below the lowest undecided one; it is beyond the window; the link
+-- was asked for it before; or it is asked now
 abbrev pub IsAskFate : {D : Type 0} → LedgerView D → ℕ → Slot → CommandFate → Type 0
 IsAskFate v link at =
     FirstOf ((is_decided at.0 v.decisions ≡ true) ⊎ (at.0 < v.lowest)) Decided
@@ -64,7 +64,7 @@ IsAskFate v link at =
     (FirstOf (is_asked v.asked (record { link = link; slot = at }) ≡ true) AskedBefore
     (λ fate. fate ≡ Asked)))
 
--- of each command just one is told; of a Tick none
+-- exactly one fate is reported for each command, and none for a Tick
 abbrev pub TellsCommand : {D : Type 0} → (D → ℕ → List ℕ → Level) → LedgerView D → Command → Took → Type 0
 TellsCommand level v (Propose at value) took = IsSomeAnd took.command (IsProposalFate level v at value)
 TellsCommand level v (Round at) took = IsSomeAnd took.command (IsRoundFate v at)
@@ -72,7 +72,7 @@ TellsCommand level v (Timer at) took = IsSomeAnd took.command (IsTimerFate v at 
 TellsCommand level v Tick took = took.command ≡ None
 TellsCommand level v (Ask link at) took = IsSomeAnd took.command (IsAskFate v link at)
 
--- and none of anything else
+-- a fate is reported only for a command
 abbrev pub TellsFate : {D : Type 0} → (D → ℕ → List ℕ → Level) → LedgerView D → Ready → Took → Type 0
 TellsFate level v (ready.Deliver d) took = took.command ≡ None
 TellsFate level v (ready.Dropped conn seq cause) took = took.command ≡ None

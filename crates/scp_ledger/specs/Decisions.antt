@@ -20,7 +20,7 @@ use Rattle.scp_ledger.specs.Seen.{is_asked}
 use Rattle.scp_ledger.specs.Journal.{newest}
 use Rattle.scp_ledger.specs.Certificate.{IsCertificate, IsOwnExternalize}
 
--- the decision is of the slot
+-- the decision is for the slot
 abbrev pub is_at : ℕ → Decision → Bool
 is_at slot decision = nat_eq decision.slot.0 slot
 
@@ -28,7 +28,7 @@ is_at slot decision = nat_eq decision.slot.0 slot
 abbrev pub is_decided : ℕ → List Decision → Bool
 is_decided slot decisions = list_any (is_at slot) decisions
 
--- no slot has two
+-- no slot has two decisions
 abbrev pub OnePerSlot : List Decision → Type 0
 OnePerSlot decisions = AllPairs (λ d e. d.slot.0 ≢ e.slot.0) decisions
 
@@ -67,7 +67,7 @@ pub record IsLowest (decisions : List Decision) (lowest : ℕ) : Type 0 where
   pub decided : (slot : ℕ) → 1 ≤ slot → slot < lowest → is_decided slot decisions ≡ true
   pub undecided : is_decided lowest decisions ≡ false
 
--- a decision after these is of a slot that has none yet, one of the 16 from the lowest such slot on (this project's profile)
+-- a decision after these is for a slot that has none yet, one of the 16 from the lowest such slot on (this project's profile)
 pub record IsNext (earlier : List Decision) (d : Decision) : Type 0 where
   pub undecided : is_decided d.slot.0 earlier ≡ false
   pub lowest : ℕ
@@ -75,7 +75,7 @@ pub record IsNext (earlier : List Decision) (d : Decision) : Type 0 where
   pub from : lowest ≤ d.slot.0
   pub near : d.slot.0 < lowest + 16
 
--- each decision is so where it stands
+-- each decision is so after those before it
 abbrev pub AreInWindow : List Decision → List Decision → Type 0
 AreInWindow earlier [] = Unit {0}
 AreInWindow earlier (d ∷ ds) = IsNext earlier d × AreInWindow (earlier ++ d ∷ []) ds

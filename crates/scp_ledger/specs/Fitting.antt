@@ -4,7 +4,7 @@ use Rattle.scp_wire.specs.declared.message.Message.TheVariants.{Envelope}
 use Rattle.scp_ledger.specs.declared.took.Outgoing.{Outgoing}
 use Rattle.scp_ledger.specs.declared.took.Outgoing.TheVariants.{ToAll, To}
 
--- its message breaks no limit of a link message
+-- the message that goes out breaks no limit of a link message
 abbrev pub FitsOut : Outgoing → Type 0
 FitsOut (ToAll envelope) = IsFitting (Envelope (record { value = envelope }))
 FitsOut (To l message) = IsFitting message

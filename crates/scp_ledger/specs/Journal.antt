@@ -1,4 +1,4 @@
--- Which statement of a slot, a kind and a node was the last to be fresh, with the quorum set beside it.
+-- The last fresh statement of a slot, a kind and a node, with the quorum set that came with it.
 use Rattle.std.specs.Prelude.{ℕ, Bool, true, false, ◌&&◌, List, [], ◌∷◌, ◌++◌, Option, Some, None, nat_eq, if◌then◌else◌, filter, fold, option_to_list}
 use Rattle.std.specs.BTreeMap.{is_at}
 use Rattle.scp_types.specs.declared.names.NodeId.{NodeId}
@@ -36,7 +36,7 @@ is_fresh Fresh = true
 is_fresh Forwarded = false
 is_fresh Decided = false
 
--- an envelope's statement, with the set beside it
+-- an envelope's statement, with the set that came with it
 abbrev pub heard_in : Message → Option SharedSet → Option Heard
 heard_in (Envelope envelope) (Some set) = Some (record { statement = envelope.value.statement; set = set.value })
 heard_in (Envelope envelope) None = None
@@ -47,7 +47,7 @@ heard_in (GetRecord slot) set = None
 heard_in (Record slot value) set = None
 heard_in (Records first values) set = None
 
--- that of an entry which was taken as fresh
+-- the statement of an entry that was taken as fresh
 abbrev pub fresh_heard : Fate → Option Heard
 fresh_heard (Taken conn seq message set verdict) = if is_fresh verdict then heard_in message set else None
 fresh_heard (Dropped conn seq cause) = None
@@ -62,7 +62,7 @@ fresh_in (fate ∷ fates) = option_to_list (fresh_heard fate) ++ fresh_in fates
 abbrev pub last_of : List Heard → Option Heard
 last_of hs = fold (λ earlier h. Some h) None hs
 
--- both nominations, or both ballot statements
+-- both are nominations, or both are ballot statements
 abbrev pub same_kind : StatementKind → StatementKind → Bool
 same_kind Nomination Nomination = true
 same_kind Nomination Balloting = false
@@ -77,6 +77,6 @@ is_its kind v h = same_kind (kind_of_pledges h.statement.pledges) kind && is_at 
 abbrev pub is_of : ℕ → StatementKind → NodeId → Heard → Bool
 is_of slot kind v h = nat_eq h.statement.slot.0 slot && is_its kind v h
 
--- the last fresh one of that slot, kind and node
+-- the last fresh statement of that slot, kind and node
 abbrev pub newest : ℕ → StatementKind → NodeId → List Fate → Option Heard
 newest slot kind v journal = last_of (filter (is_of slot kind v) (fresh_in journal))

@@ -1,4 +1,4 @@
--- What holds of what the slot stage took, gave, and is.
+-- What holds of the slot stage: of what it took, of what it gave, and of its ledger.
 use Rattle.std.specs.Prelude.{◌≡◌, ℕ, true, false, List, [], ◌∷◌, ◌++◌, Option, Any, Contains, IfSome, map, flat_map, option_map, option_to_list}
 use Rattle.scp_types.specs.declared.names.ConnId.{ConnId}
 use Rattle.scp_types.specs.declared.names.NodeId.{NodeId}
@@ -48,14 +48,13 @@ entry_of (ready.Dropped conn seq cause) = dropped conn seq cause ∷ []
 entry_of (ready.Closed conn cause) = closed conn cause ∷ []
 entry_of (ready.Local command) = []
 
--- the request for a record that an entry sends on, for the link that it came over
+-- the request for a record that an entry passes on, with the link that it came over
 abbrev pub request_by : List NodeId → Fate → List Onward
 request_by peers (Taken conn seq (GetRecord slot) set verdict) = Asked (link_of peers conn) slot ∷ []
 request_by peers fate = []
 
--- The slot stage has one entry for each thing that it took but the commands. It gave each decision and each request for a
--- record once, in their orders, and whom it asked for a slot a command told it to. What each thing gave, and which verdict
--- stands on it, is that of a run.
+-- The slot stage has one entry for each thing that it took, except commands. It gave each decision once and each request for a record once,
+-- in order. It asked a link for a slot only where a command said so. What each thing gave, and the verdict on it, is that of a run.
 pub record Journals {D : Type 0} (level : D → ℕ → List ℕ → Level) (extracted : D → ℕ → List ℕ → Option (List ℕ)) (combined : D → ℕ → List (List ℕ) → List ℕ) (place : D → ℕ → ℕ → ℕ → ℕ) (me : NodeId) (local : QuorumTree) (peers : List NodeId) (took : List Ready) (onwards : List Onward) (v : LedgerView D) : Type 0 where
   pub runs : v.failed ≡ false
   pub me_is : v.me ≡ me
@@ -77,8 +76,8 @@ abbrev pub IsToAll : Outgoing → Type 0
 IsToAll (ToAll envelope) = Unit {0}
 IsToAll (To link message) = ⊥
 
--- a ledger that takes a thing runs on; its journal and its decisions grow at their ends, the decisions by what goes on; and with
--- a thing that gives own statements no link is asked
+-- Taking a thing doesn't make a ledger fail. Its journal and its decisions grow at their ends, the decisions by what goes on. A thing that
+-- gives own statements asks no link for a slot.
 pub record Grows {D : Type 0} (old : LedgerView D) (t : Took) (new : LedgerView D) : Type 0 where
   pub runs : new.failed ≡ old.failed
   pub fates : List Fate
@@ -86,11 +85,11 @@ pub record Grows {D : Type 0} (old : LedgerView D) (t : Took) (new : LedgerView 
   pub decisions : new.decisions ≡ old.decisions ++ decisions_on (option_to_list t.onward)
   pub asked : Any IsToAll t.outgoing → new.asked ≡ old.asked
 
--- a take adds to the journal and to the decisions, as `Grows` says
+-- each take is as `Grows` says
 abbrev pub TakesGrow : {D : Type 0} → (D → ℕ → List ℕ → Level) → (D → ℕ → List ℕ → Option (List ℕ)) → (D → ℕ → List (List ℕ) → List ℕ) → (D → ℕ → ℕ → ℕ → ℕ) → Type 0
 TakesGrow {D} level extracted combined place = (old : LedgerView D) (x : Ready) (t : Took) (new : LedgerView D) → Takes level extracted combined place old x t new → Grows old t new
 
--- it holds of a ledger that took nothing, and with one thing more
+-- `Journals` holds of a ledger that took nothing, and it holds with one thing more
 pub record JournalsPass {D : Type 0} (level : D → ℕ → List ℕ → Level) (extracted : D → ℕ → List ℕ → Option (List ℕ)) (combined : D → ℕ → List (List ℕ) → List ℕ) (place : D → ℕ → ℕ → ℕ → ℕ) : Type 0 where
   pub begins : (me : NodeId) (local : QuorumTree) (peers : List NodeId) (v : LedgerView D) → v ≡ nothing_taken me local v.driver peers → IsLedger v → LedgerRuns level place v → Journals level extracted combined place me local peers [] [] v
   pub passes : (me : NodeId) (local : QuorumTree) (peers : List NodeId) (old : LedgerView D) (x : Ready) (t : Took) (new : LedgerView D) → Takes level extracted combined place old x t new → IsLedger new → (new.failed ≡ false → LedgerRuns level place new) → Passes (Journals level extracted combined place me local peers) (x ∷ []) (option_to_list t.onward) old new

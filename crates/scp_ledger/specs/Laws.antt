@@ -9,6 +9,6 @@ use Rattle.scp_ledger.specs.Seen.{LedgerView}
 use Rattle.scp_ledger.specs.Takes.{Takes}
 use Rattle.scp_ledger.specs.Marks.{marks_of}
 
--- of each connection the journal says what the things said that were taken
+-- for each connection, the journal grows by what each thing that is taken says of it
 abbrev pub JournalStands : {D : Type 0} → (D → ℕ → List ℕ → Level) → (D → ℕ → List ℕ → Option (List ℕ)) → (D → ℕ → List (List ℕ) → List ℕ) → (D → ℕ → ℕ → ℕ → ℕ) → Type 0
 JournalStands {D} level extracted combined place = (c : ConnId) (old : LedgerView D) (ready : Ready) (took : Took) (new : LedgerView D) → Takes level extracted combined place old ready took new → marks_of c new.journal ≡ marks_of c old.journal ++ ready_mark c ready

@@ -30,7 +30,7 @@ pub record IsLedger {D : Type 0} (v : LedgerView D) : Type 0 where
   pub sets : All HasItsSet v.journal
   pub few : length v.journal ≤ JOURNAL_LIMIT
 
--- what a machine keeps of a statement, without the place where the set lies
+-- a statement as a machine keeps it, but with its set as a value
 abbrev pub heard_of : Kept → Heard
 heard_of h = record { statement = h.statement; set = h.set.value }
 
@@ -38,8 +38,7 @@ heard_of h = record { statement = h.statement; set = h.set.value }
 abbrev pub heard_at : StatementKind → SlotView → NodeId → Option Heard
 heard_at kind m v = option_map heard_of (m.newest kind v)
 
--- The machine of an undecided slot: it is of this node, its set and its driver; its board has the last fresh statements of
--- that slot; and it hasn't decided.
+-- The machine of an undecided slot has this node, its set and its driver. Its board has the last fresh statements of that slot. It hasn't decided.
 pub record IsMachineOf {D : Type 0} (level : D → ℕ → List ℕ → Level) (place : D → ℕ → ℕ → ℕ → ℕ) (me : NodeId) (local : QuorumTree) (driver : D) (journal : List Fate) (decisions : List Decision) (at : ℕ) (m : SlotMachine D) : Type 0 where
   pub node : (slot_view m).me ≡ me
   pub slot : (slot_view m).slot ≡ at
@@ -52,16 +51,16 @@ pub record IsMachineOf {D : Type 0} (level : D → ℕ → List ℕ → Level) (
   pub board : (kind : StatementKind) (v : NodeId) → heard_at kind (slot_view m) v ≡ newest at kind v journal
   pub silent : (slot_view m).decided ≡ false
 
--- where a slot has no machine, nothing was heard of it, unless it is decided
+-- a slot's machine is as above; an undecided slot without a machine has no fresh statement in the journal
 abbrev pub FitsMachine : {D : Type 0} → (D → ℕ → List ℕ → Level) → (D → ℕ → ℕ → ℕ → ℕ) → NodeId → QuorumTree → D → List Fate → List Decision → ℕ → Option (SlotMachine D) → Type 0
 FitsMachine level place me local driver journal decisions at None = is_decided at decisions ≡ false → (kind : StatementKind) (v : NodeId) → newest at kind v journal ≡ None
 FitsMachine level place me local driver journal decisions at (Some m) = IsMachineOf level place me local driver journal decisions at m
 
--- of each slot the machine, or that there is none, fits the journal and the decisions
+-- each slot's machine, or that it has none, fits the journal and the decisions
 abbrev pub HasMachines : {D : Type 0} → (D → ℕ → List ℕ → Level) → (D → ℕ → ℕ → ℕ → ℕ) → LedgerView D → Type 0
 HasMachines level place v = (at : ℕ) → FitsMachine level place v.me v.local v.driver v.journal v.decisions at (machine_at v.machines at)
 
--- what holds besides of a ledger that runs
+-- what else holds of a ledger that hasn't failed
 pub record IsRunning {D : Type 0} (level : D → ℕ → List ℕ → Level) (place : D → ℕ → ℕ → ℕ → ℕ) (v : LedgerView D) : Type 0 where
   pub lowest : IsLowest v.decisions v.lowest
   pub machines : HasMachines level place v

@@ -12,6 +12,6 @@ entry_mark c (Taken conn seq message set verdict) = one_if (same_conn conn c) (n
 entry_mark c (Dropped conn seq cause) = one_if (same_conn conn c) (number seq.0)
 entry_mark c (Closed conn cause) = one_if (same_conn conn c) (ended cause)
 
--- the numbers of its messages that have a fate, and its end
+-- the numbers of the connection's messages that have a fate, and its end
 abbrev pub marks_of : ConnId → List Fate → List Mark
 marks_of c journal = flat_map (entry_mark c) journal

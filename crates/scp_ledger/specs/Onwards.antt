@@ -5,7 +5,7 @@ use Rattle.scp_ledger.specs.declared.took.Onward.{Onward}
 use Rattle.scp_ledger.specs.declared.took.Onward.TheVariants.{Decided, Asked}
 use Rattle.scp_ledger.specs.Decisions.{IsNext, AreInWindow}
 
--- the decision, where one goes on
+-- the decision, if it is one that goes on
 abbrev pub decision_on : Onward → List Decision
 decision_on (Decided d) = d ∷ []
 decision_on (Asked link slot) = []
@@ -14,7 +14,7 @@ decision_on (Asked link slot) = []
 abbrev pub decisions_on : List Onward → List Decision
 decisions_on onwards = flat_map decision_on onwards
 
--- the request for a record, where one goes on
+-- the request for a record, if it is one that goes on
 abbrev pub request_on : Onward → List Onward
 request_on (Decided d) = []
 request_on (Asked link slot) = Asked link slot ∷ []
@@ -25,17 +25,17 @@ requests_on onwards = flat_map request_on onwards
 
 -- ---- the window
 
--- after these the thing may be sent: the slot of a decision is one of the 16 from the least slot of at least 1 that none of them
--- has, and none of them has it
+-- After these the thing may be sent: a request always; a decision if its slot is one of the 16 from the
+-- lowest slot without a decision among them, and has none itself.
 abbrev pub MaySend : List Onward → Onward → Type 0
 MaySend earlier (Decided d) = IsNext (decisions_on earlier) d
 MaySend earlier (Asked link slot) = Unit {0}
 
--- each thing might be sent where it stands
+-- each thing might be sent after those before it
 abbrev pub KeepsWindow : List Onward → Type 0
 KeepsWindow sent = AreInWindow [] (decisions_on sent)
 
--- it holds of each beginning of a list, and with one thing more just where that may be sent
+-- The window is kept by each beginning of a list that keeps it, and with one thing more exactly where that may be sent.
 pub record WindowIsKept : Type 0 where
   pub begins : (xs ys : List Onward) → KeepsWindow (xs ++ ys) → KeepsWindow xs
   pub more : (xs : List Onward) (x : Onward) → KeepsWindow xs → MaySend xs x → KeepsWindow (xs ++ x ∷ [])

@@ -1,4 +1,4 @@
--- A run of the slot stage: what it took, one thing after another, what each gave, and which verdict stands on each.
+-- A run of the slot stage: the things that it took, one after another, what each gave, and the verdict on each.
 use Rattle.std.specs.Prelude.{ℕ, ◌≡◌, Bool, false, ◌&&◌, if◌then◌else◌, List, [], ◌∷◌, ◌++◌, Option, Some, None, IsSomeAnd, option_to_list, map, filter, flat_map}
 use Rattle.std.specs.List.{list_any}
 use Rattle.std.specs.BTreeMap as tree
@@ -42,7 +42,7 @@ thing_of t = t.thing
 abbrev pub things : List Taking → List Ready
 things takes = map thing_of takes
 
--- what the take of one thing gave on
+-- what taking one thing gave to the applier
 abbrev pub onward_of : Taking → List Onward
 onward_of t = option_to_list t.gave.onward
 
@@ -56,19 +56,19 @@ onwards_of takes = flat_map onward_of takes
 abbrev pub nothing_taken : {D : Type 0} → NodeId → QuorumTree → D → List NodeId → LedgerView D
 nothing_taken me local driver peers = record { me = me; local = local; driver = driver; peers = peers; failed = false; journal = []; decisions = []; lowest = 1; asked = []; machines = [] }
 
--- each was taken by the ledger that the one before it left
+-- each thing was taken by the ledger that the one before it left
 abbrev pub Leads : {D : Type 0} → (D → ℕ → List ℕ → Level) → (D → ℕ → List ℕ → Option (List ℕ)) → (D → ℕ → List (List ℕ) → List ℕ) → (D → ℕ → ℕ → ℕ → ℕ) → LedgerView D → List Taking → LedgerView D → Type 0
 Leads {D} level extracted combined place old [] new = new ≡ old
 Leads {D} level extracted combined place old (t ∷ takes) new = (between : LedgerView D) × Takes level extracted combined place old t.thing t.gave between × Leads level extracted combined place between takes new
 
--- ---- what stood before a thing was taken
+-- ---- what was there before a thing was taken
 
 -- the verdict was Fresh
 abbrev pub was_fresh : Option Verdict → Bool
 was_fresh None = false
 was_fresh (Some verdict) = is_fresh verdict
 
--- an envelope's statement, with the set beside it
+-- an envelope's statement, with the set that came with it
 abbrev pub heard_beside : Message → Option QuorumTree → List Heard
 heard_beside (Envelope envelope) (Some set) = record { statement = envelope.value.statement; set = set } ∷ []
 heard_beside (Envelope envelope) None = []
@@ -90,7 +90,7 @@ heard_on (ready.Local command) = []
 abbrev pub freshly_heard : Taking → List Heard
 freshly_heard t = if was_fresh t.gave.verdict then heard_on t.thing else []
 
--- the command to ask this link for this slot
+-- the command asks this link for this slot
 abbrev pub is_asking : Asking → Command → Bool
 is_asking a (Propose slot value) = false
 is_asking a (Round slot) = false
@@ -115,13 +115,13 @@ pub record Stood : Type 0 where
   pub heard : List Heard
   pub asked : Asking → Bool
 
--- by what was taken, and what that gave
+-- these three, from what was taken and what that gave
 abbrev pub stood_by : List Taking → Stood
 stood_by takes = record { decisions = decisions_on (onwards_of takes); heard = flat_map freshly_heard takes; asked = λ a. list_any (freshly_asks a) takes }
 
--- ---- the verdict on each: the first that fits, over what stood before it
+-- ---- the verdict on each: the first that fits, by what was there before it
 
--- on a message that came over a connection
+-- the verdict on a message that came over a connection
 abbrev pub IsMessageVerdict : (ℕ → List ℕ → Level) → NodeId → List NodeId → ℕ → Stood → ConnId → Message → Verdict → Type 0
 IsMessageVerdict level me peers lowest stood conn (Envelope e) verdict =
     BehindWindow lowest stood.decisions e.value.statement.slot.0
@@ -139,7 +139,7 @@ IsMessageVerdict level me peers lowest stood conn (Record at value) verdict =
 abbrev pub IsFound : Verdict → Type 0
 IsFound verdict = (found : Found) × (verdict ≡ verdict_from found)
 
--- on a command; a Tick has none
+-- the verdict on a command; a Tick has none
 abbrev pub IsCommandVerdict : ℕ → Stood → Command → Option Verdict → Type 0
 IsCommandVerdict lowest stood (Propose at value) said = IsSomeAnd said (BehindWindow lowest stood.decisions at.0 IsFound)
 IsCommandVerdict lowest stood (Round at) said = IsSomeAnd said (BehindWindow lowest stood.decisions at.0 IsFound)
@@ -148,18 +148,18 @@ IsCommandVerdict lowest stood Tick said = said ≡ None
 IsCommandVerdict lowest stood (Ask link at) said =
     IsSomeAnd said (IsVerdictOnAsk lowest stood.decisions at.0 (stood.asked (record { link = link; slot = at })))
 
--- on each thing; what is dropped, and the end of a connection, has none
+-- the verdict on each thing; what was dropped and the end of a connection have none
 abbrev pub IsVerdict : (ℕ → List ℕ → Level) → NodeId → List NodeId → ℕ → Stood → Ready → Option Verdict → Type 0
 IsVerdict level me peers lowest stood (ready.Deliver d) said = IsSomeAnd said (IsMessageVerdict level me peers lowest stood d.conn d.message)
 IsVerdict level me peers lowest stood (ready.Dropped conn seq cause) said = said ≡ None
 IsVerdict level me peers lowest stood (ready.Closed conn cause) said = said ≡ None
 IsVerdict level me peers lowest stood (ready.Local command) said = IsCommandVerdict lowest stood command said
 
--- by the lowest slot without a decision then
+-- the verdict is that by the lowest slot that had no decision then
 abbrev pub IsJudged : (ℕ → List ℕ → Level) → NodeId → List NodeId → Stood → Taking → Type 0
 IsJudged level me peers stood t = (lowest : ℕ) × IsLowest stood.decisions lowest × IsVerdict level me peers lowest stood t.thing t.gave.verdict
 
--- each is judged so where it stands
+-- each is judged by what was there before it
 abbrev pub AreJudged : (ℕ → List ℕ → Level) → NodeId → List NodeId → List Taking → List Taking → Type 0
 AreJudged level me peers earlier [] = Unit {0}
 AreJudged level me peers earlier (t ∷ takes) = IsJudged level me peers (stood_by earlier) t × AreJudged level me peers (earlier ++ t ∷ []) takes
@@ -183,13 +183,13 @@ verdict_on (ready.Local command) said = []
 abbrev pub verdict_by : Taking → List Verdict
 verdict_by t = verdict_on t.thing t.gave.verdict
 
--- A ledger of this node, set and peers took these, one after another, and each gave what stands beside it.
+-- A ledger of this node, set and peers took these, one after another, and each gave what is noted with it.
 pub record IsRun {D : Type 0} (level : D → ℕ → List ℕ → Level) (extracted : D → ℕ → List ℕ → Option (List ℕ)) (combined : D → ℕ → List (List ℕ) → List ℕ) (place : D → ℕ → ℕ → ℕ → ℕ) (me : NodeId) (local : QuorumTree) (peers : List NodeId) (takes : List Taking) (v : LedgerView D) : Type 0 where
-  -- the first was taken by a ledger that took nothing, each other one by that which the one before it left
+  -- the first was taken by a ledger that took nothing, each other one by the ledger that the one before it left
   pub leads : Leads level extracted combined place (nothing_taken me local v.driver peers) takes v
-  -- each verdict is the first that fits over what stood before it
+  -- each verdict is the first that fits by what was there before it
   pub judged : AreJudged (level v.driver) me peers [] takes
-  -- and those on messages stand in the journal's entries, in order
+  -- the journal's entries have the verdicts on messages, in order
   pub verdicts : flat_map verdict_in v.journal ≡ flat_map verdict_by takes
   -- the decisions, the fresh statements in the journal and the asked slots are those of what was taken
   pub decided : v.decisions ≡ (stood_by takes).decisions

@@ -29,7 +29,7 @@ pub record LedgerView (D : Type 0) : Type 0 where
 abbrev pub machine_at : {D : Type 0} → List (ℕ × SlotMachine D) → ℕ → Option (SlotMachine D)
 machine_at machines slot = lookup (tree.is_at (nat_cmp slot)) machines
 
--- by the slots, the newest first, and then by the links
+-- the order by slot, the highest first, and then by link
 abbrev pub asking_cmp : Asking → Asking → Ordering
 asking_cmp a b = ordering_then (nat_cmp b.slot.0 a.slot.0) (nat_cmp a.link b.link)
 

@@ -83,8 +83,9 @@ to_all envelope = ToAll envelope
 abbrev pub to_peers : Emitted → List Outgoing
 to_peers e = map to_all (option_to_list e.nomination ++ option_to_list e.ballot)
 
--- An input at an open slot runs its machine, which is made where there is none, and is given up where it decides; its decision
--- goes on, with a certificate whose nodes ascend, and what it emits goes to all peers. Its driver stays. Its votes, accepted values and candidates are those that the
+-- An input at an open slot runs its machine: one is made if there is none, and dropped if it decides. A decision goes on, with a certificate
+-- whose nodes ascend. What the machine emits goes to all peers, and its driver stays. Its votes, accepted values and candidates are those
+-- that the steps of nomination come to. Each new vote has its reason: it votes for nothing that nobody proposed.
 -- steps of nomination come to, and each new vote has its reason: it votes for nothing that nobody proposed.
 pub record RunsAt {D : Type 0} (level : D → ℕ → List ℕ → Level) (extracted : D → ℕ → List ℕ → Option (List ℕ)) (combined : D → ℕ → List (List ℕ) → List ℕ) (place : D → ℕ → ℕ → ℕ → ℕ) (old : LedgerView D) (at : Slot) (given : SlotInput) (fates : List Fate) (took : Took) (new : LedgerView D) : Type 0 where
   pub is_open : IsOpen old.lowest old.decisions at.0
@@ -106,7 +107,7 @@ pub record RunsAt {D : Type 0} (level : D → ℕ → List ℕ → Level) (extra
   pub journal : new.journal ≡ old.journal ++ fates
   pub same : new ≡ record old { journal = new.journal; decisions = new.decisions; machines = new.machines; lowest = new.lowest }
 
--- Nothing but these entries comes of it.
+-- Only these entries come of it.
 pub record Passes {D : Type 0} (old : LedgerView D) (said : Option Verdict) (fates : List Fate) (took : Took) (new : LedgerView D) : Type 0 where
   pub verdict : took.verdict ≡ said
   pub onward : took.onward ≡ None
@@ -115,14 +116,14 @@ pub record Passes {D : Type 0} (old : LedgerView D) (said : Option Verdict) (fat
 
 -- ---- messages
 
--- an envelope's verdict is that of its statement; it runs the machine of its slot where that is open
+-- an envelope's verdict is that of its statement; it runs its slot's machine if the slot is open
 abbrev pub TakesEnvelope : {D : Type 0} → (D → ℕ → List ℕ → Level) → (D → ℕ → List ℕ → Option (List ℕ)) → (D → ℕ → List (List ℕ) → List ℕ) → (D → ℕ → ℕ → ℕ → ℕ) → LedgerView D → ConnId → Seq → Boxed → Option QuorumTree → Took → LedgerView D → Type 0
 TakesEnvelope level extracted combined place old conn seq e beside took new =
     (set : SharedSet) × (beside ≡ Some set.value) × (verdict : Verdict) × IsStatementVerdict level old e.value.statement verdict × (took.verdict ≡ Some verdict)
     × (((¬ (IsOpen old.lowest old.decisions e.value.statement.slot.0)) × Passes old (Some verdict) (Taken conn seq (Envelope e) (Some set) verdict ∷ []) took new)
     ⊎ ((shared : SharedSet) × (shared.value ≡ set.value) × RunsAt level extracted combined place old e.value.statement.slot (input.Envelope e.value shared) (Taken conn seq (Envelope e) (Some set) verdict ∷ []) took new))
 
--- A record that decides: its decision goes on, and the machine of its slot is given up.
+-- A record that decides: its decision goes on, and the machine of its slot is dropped.
 pub record Decides {D : Type 0} (old : LedgerView D) (conn : ConnId) (seq : Seq) (at : Slot) (value : List ℕ) (set : Option SharedSet) (took : Took) (new : LedgerView D) : Type 0 where
   pub onward : took.onward ≡ Some (Decided (named_by conn seq at value))
   pub outgoing : took.outgoing ≡ []
@@ -131,25 +132,25 @@ pub record Decides {D : Type 0} (old : LedgerView D) (conn : ConnId) (seq : Seq)
   pub machines : (s : ℕ) → machine_at new.machines s ≡ cond (tree.is_at (nat_cmp at.0) s) None (machine_at old.machines s)
   pub same : new ≡ record old { journal = new.journal; decisions = new.decisions; machines = new.machines; lowest = new.lowest }
 
--- of a record: its verdict, its entry, and where that is Decided the decision
+-- what a record gives: its verdict, its entry, and the decision if the verdict is Decided
 abbrev pub TakesRecord : {D : Type 0} → LedgerView D → ConnId → Seq → Slot → List ℕ → Option SharedSet → Took → LedgerView D → Type 0
 TakesRecord old conn seq at value set took new =
     (verdict : Verdict) × IsRecordVerdict old (link_of old.peers conn) at verdict × (took.verdict ≡ Some verdict)
     × (((¬ (verdict ≡ Deciding)) × Passes old (Some verdict) (Taken conn seq (Record at value) set verdict ∷ []) took new)
     ⊎ ((verdict ≡ Deciding) × Decides old conn seq at value set took new))
 
--- A request for a record goes on to the applier, for the link that it came over.
+-- A request for a record goes on to the applier, with the link that it came over.
 pub record Forwards {D : Type 0} (old : LedgerView D) (conn : ConnId) (seq : Seq) (at : Slot) (set : Option SharedSet) (took : Took) (new : LedgerView D) : Type 0 where
   pub verdict : took.verdict ≡ Some Forwarded
   pub onward : took.onward ≡ Some (Asked (link_of old.peers conn) at)
   pub outgoing : took.outgoing ≡ []
   pub same : new ≡ record old { journal = old.journal ++ Taken conn seq (GetRecord at) set Forwarded ∷ [] }
 
--- the set that stands in an entry is the one that stood beside the message
+-- the entry has the quorum set that came with the message
 abbrev pub WithSet : Option QuorumTree → (Option SharedSet → Type 0) → Type 0
 WithSet beside P = (set : Option SharedSet) × (option_map (λ s. s.value) set ≡ beside) × P set
 
--- of a message, by its kind
+-- what a message gives, by its kind
 abbrev pub TakesMessage : {D : Type 0} → (D → ℕ → List ℕ → Level) → (D → ℕ → List ℕ → Option (List ℕ)) → (D → ℕ → List (List ℕ) → List ℕ) → (D → ℕ → ℕ → ℕ → ℕ) → LedgerView D → ConnId → Seq → Message → Option QuorumTree → Took → LedgerView D → Type 0
 TakesMessage level extracted combined place old conn seq (Envelope e) beside took new = TakesEnvelope level extracted combined place old conn seq e beside took new
 TakesMessage level extracted combined place old conn seq (GetSet hash) beside took new = ⊥
@@ -161,7 +162,7 @@ TakesMessage level extracted combined place old conn seq (Records first values) 
 
 -- ---- commands
 
--- a command of a machine, which is told of nothing at a slot that isn't open
+-- a command for a slot's machine, which isn't run if the slot isn't open
 abbrev pub Commands : {D : Type 0} → (D → ℕ → List ℕ → Level) → (D → ℕ → List ℕ → Option (List ℕ)) → (D → ℕ → List (List ℕ) → List ℕ) → (D → ℕ → ℕ → ℕ → ℕ) → LedgerView D → Slot → SlotInput → Took → LedgerView D → Type 0
 Commands level extracted combined place old at given took new =
     ((verdict : Verdict) × BehindWindow old.lowest old.decisions at.0 (λ _. ⊥) verdict × Passes old (Some verdict) [] took new)
@@ -174,13 +175,13 @@ pub record Asks {D : Type 0} (old : LedgerView D) (link : ℕ) (at : Slot) (took
   pub asked : (a : Asking) → is_asked new.asked a ≡ cond (tree.is_at (asking_cmp (record { link = link; slot = at })) a) true (is_asked old.asked a)
   pub same : new ≡ record old { asked = new.asked }
 
--- of the command to ask a link: its verdict, and where that is Fresh the request
+-- what the command to ask a link gives: its verdict, and the request if the verdict is Fresh
 abbrev pub TakesAsk : {D : Type 0} → LedgerView D → ℕ → Slot → Took → LedgerView D → Type 0
 TakesAsk old link at took new =
     (verdict : Verdict) × IsAskVerdict old link at verdict × (took.verdict ≡ Some verdict)
     × (((¬ (verdict ≡ Fresh)) × Passes old (Some verdict) [] took new) ⊎ ((verdict ≡ Fresh) × Asks old link at took new))
 
--- of a command, by its kind
+-- what a command gives, by its kind
 abbrev pub TakesCommand : {D : Type 0} → (D → ℕ → List ℕ → Level) → (D → ℕ → List ℕ → Option (List ℕ)) → (D → ℕ → List (List ℕ) → List ℕ) → (D → ℕ → ℕ → ℕ → ℕ) → LedgerView D → Command → Took → LedgerView D → Type 0
 TakesCommand level extracted combined place old (Propose at value) took new = Commands level extracted combined place old at (input.Propose value) took new
 TakesCommand level extracted combined place old (Round at) took new = Commands level extracted combined place old at input.Round took new
@@ -190,14 +191,14 @@ TakesCommand level extracted combined place old (Ask link at) took new = TakesAs
 
 -- ---- all that is taken
 
--- what a thing gives and leaves, by what it is
+-- what a thing gives and leaves, by its kind
 abbrev pub Takes : {D : Type 0} → (D → ℕ → List ℕ → Level) → (D → ℕ → List ℕ → Option (List ℕ)) → (D → ℕ → List (List ℕ) → List ℕ) → (D → ℕ → ℕ → ℕ → ℕ) → LedgerView D → Ready → Took → LedgerView D → Type 0
 Takes level extracted combined place old (ready.Deliver d) took new = TakesMessage level extracted combined place old d.conn d.seq d.message d.set took new
 Takes level extracted combined place old (ready.Dropped conn seq cause) took new = Passes old None (Dropped conn seq cause ∷ []) took new
 Takes level extracted combined place old (ready.Closed conn cause) took new = Passes old None (Closed conn cause ∷ []) took new
 Takes level extracted combined place old (ready.Local command) took new = TakesCommand level extracted combined place old command took new
 
--- what adds an entry
+-- the thing adds an entry
 abbrev pub adds_entry : Ready → Bool
 adds_entry (ready.Deliver d) = true
 adds_entry (ready.Dropped conn seq cause) = true

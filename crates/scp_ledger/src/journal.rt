@@ -12,29 +12,29 @@ use std::sync::Arc;
 /// The most entries that a journal may have (this project's profile).
 pub const JOURNAL_LIMIT: usize = 1_000_000;
 
-/// What was found of a message or a command that was taken.
+/// What the slot stage found of a message or a command that it took.
 #[derive(Clone, Copy, Debug, PartialEq, Eq)]
 pub enum Verdict {
     /// The slot of an envelope or a command is below the lowest undecided one.
     OldSlot,
     /// The slot is above 4,294,967,295, or 16 or more above the lowest undecided one.
     FarSlot,
-    /// The slot has a decision; for a record or an ask also: it is below the lowest undecided one.
+    /// The slot has a decision. For a record or an ask also: it is below the lowest undecided one.
     Already,
     /// A record came over a link that wasn't asked for its slot.
     Unasked,
-    /// An envelope is of the node itself.
+    /// The envelope's statement is the node's own.
     Own,
-    /// An envelope's statement isn't sane.
+    /// The envelope's statement isn't sane.
     BadStatement,
-    /// A ballot statement holds an invalid value, or a proposal isn't fully validated.
+    /// A ballot statement has an invalid value, or a proposal isn't fully validated.
     BadValue,
-    /// An envelope isn't newer than the last fresh one of its node, slot and kind.
+    /// The envelope isn't newer than the last fresh one of its node, slot and kind.
     Stale,
-    /// A command changed nothing, or the link was asked for the slot before.
+    /// A command changed nothing, or the link had been asked for the slot before.
     Idle,
-    /// An envelope is newer than all fresh ones before it of its node, slot and kind; a command changed something; a link is
-    /// asked for a slot.
+    /// An envelope is newer than all earlier fresh ones of its node, slot and kind. Of a command: it
+    /// changed something. Of an ask: its link is asked for the slot now.
     Fresh,
     /// A request for a record goes on to the applier.
     Forwarded,
@@ -50,7 +50,7 @@ pub enum Fate {
         conn: ConnId,
         seq: Seq,
         message: Message,
-        /// The quorum set that an envelope names; none beside other messages.
+        /// The quorum set that an envelope names; other messages have none.
         set: Option<Arc<SaneSet>>,
         verdict: Verdict,
     },
@@ -67,23 +67,23 @@ pub enum Fate {
     },
 }
 
-/// Who says what was decided.
+/// What a decision rests on.
 #[derive(Debug, Drop)]
 pub enum Origin {
-    /// This node's machine of the slot: the number of the commit, a quorum that accepts it, and the own EXTERNALIZE.
+    /// This node's machine of the slot: the counter of the commit, a quorum that accepts it, and the own EXTERNALIZE.
     Machine {
         n: u32,
         quorum: Quorum,
         own: SharedEnvelope,
     },
-    /// The record of this number on this connection named it.
+    /// The record of this number on this connection named the value.
     Named {
         conn: ConnId,
         seq: Seq,
     },
 }
 
-/// The value of a slot, and who says so.
+/// The value of a slot, and what the decision rests on.
 #[derive(Debug, Drop)]
 pub struct Decision {
     pub slot: Slot,
@@ -91,7 +91,7 @@ pub struct Decision {
     pub origin: Origin,
 }
 
-/// A link that was asked for the record of a slot. The newest slot comes first: what is looked for stands near the front.
+/// A link that was asked for the record of a slot. Higher slots come first, so what is looked for is near the front.
 #[derive(Clone, Copy, Debug, PartialEq, Eq)]
 pub struct Asking {
     pub slot: Slot,

@@ -22,8 +22,8 @@ use std::alloc::Global;
 use std::marker::Model;
 use std::sync::Arc;
 
-/// The slot stage of a node: the journal and the decisions, which grow at their ends alone, and a machine for each undecided
-/// slot that had an input, at most 16. Machines check and combine values by the driver.
+/// The slot stage of a node: the journal and the decisions, which grow only at their ends, and at most 16 machines, one for each undecided
+/// slot that had an input. Machines check and combine values by the driver.
 #[derive(Drop)]
 pub struct Ledger<D: Driver + Drop + Copy> {
     state: State<D>,
@@ -49,8 +49,8 @@ impl<D: Driver + Drop + Copy> Model for Ledger<D> {
 }
 
 impl<D: Driver + Drop + Copy> Ledger<D> {
-    /// An empty ledger of the node `me`, whose own quorum set is `local`. `peers[l]` is the sender of link l, and a link's
-    /// number is a byte. Takes no memory.
+    /// An empty ledger of the node `me`, whose own quorum set is `local`. `peers[l]` is the
+    /// sender of link l; a link's number is a byte. Takes no memory.
     pub fn new(
         alloc: Global,
         me: NodeId,
@@ -85,7 +85,7 @@ impl<D: Driver + Drop + Copy> Ledger<D> {
         self.state.decisions.as_slice()
     }
 
-    /// The lowest slot from 1 on that has no decision. Of a ledger that failed it says nothing.
+    /// The lowest slot from 1 on that has no decision. It says nothing if the ledger failed.
     pub fn lowest(&self) -> u64
         ensures same { result ≡ self.now.lowest }
         ensures running { self.now.failed ≡ false → IsRunning D.says.level D.says.place self.now }
@@ -93,7 +93,7 @@ impl<D: Driver + Drop + Copy> Ledger<D> {
         self.state.window.lowest
     }
 
-    /// The machine of an undecided slot that had an input.
+    /// The machine of this slot, if there is one: an undecided slot has one once it had an input.
     pub fn machine(&self, slot: Slot) -> Option<&SlotMachine<D>>
         ensures { option_copied result ≡ machine_at self.now.machines slot.0 }
     {
@@ -107,7 +107,7 @@ impl<D: Driver + Drop + Copy> Ledger<D> {
         self.state.was_asked(link, slot)
     }
 
-    /// The journal alone, once nothing more is taken. Takes no memory.
+    /// The journal alone, when nothing more will be taken. Takes no memory.
     pub fn into_journal(self) -> Vec<Fate>
         ensures same { result.items ≡ self.journal }
     {
@@ -116,22 +116,23 @@ impl<D: Driver + Drop + Copy> Ledger<D> {
         journal
     }
 
-    /// Takes one thing: adds its entry, with the verdict on a message, runs the machine of an open slot, and gives what goes on
-    /// to the applier and out to peers. Refused by `JournalFull` where an entry more would be one above the limit, which leaves
-    /// the ledger as it was; by `NoMemory`, after which it is failed; and a failed one by `Failed`, and it stays as it is. The
-    /// time grows with the message's length, the work of the slot's machine, and the logarithm of what was asked for.
+    /// Takes one thing. It adds the entry, with the verdict on a message, runs the machine of an open
+    /// slot, and returns what goes on to the applier and out to peers.
+    /// Refused by `JournalFull` where one more entry would exceed the limit; the ledger is as before then. Refused by `NoMemory`, which
+    /// leaves it failed. A ledger that failed before refuses by `Failed`, and doesn't change.
+    /// The time grows with the message's length, the work of the slot's machine, and the logarithm of what was asked for.
     pub fn take(&mut self, ready: Ready) -> Result<Took, Fault>
-        // The entry, the verdict, the machine, the decision and the answer are these.
+        // `Takes` says the entry, the verdict, the machine, the decision and the answer.
         ensures takes { IfOk result (λ took. Takes D.says.level D.says.extracted D.says.combined D.says.place self.old ready took self.new) }
         // What became of a command.
         ensures tells { IfOk result (λ took. TellsFate D.says.level self.old ready took) }
         // What goes out fits a link.
         ensures fits { IfOk result (λ took. All FitsOut took.outgoing) }
-        // Of each connection the journal says what the things said that were taken.
+        // For each connection, the journal gained exactly what the thing says of it.
         ensures marks { OnOk result ((c : ConnId) → marks_of c self.new.journal ≡ marks_of c self.old.journal ++ ready_mark c ready) }
-        // At most one decision per slot, and each has its certificate over the journal, or the record that named it, failed or not.
+        // Failed or not: at most one decision per slot, and each has its certificate over the journal, or the record that named it.
         ensures known { IsLedger self.new }
-        // The lowest slot is the least without a decision, and each machine's board is that of the journal.
+        // Unless it failed: the lowest slot is the least without a decision, and each machine's board is that of the journal.
         ensures running { self.new.failed ≡ false → IsRunning D.says.level D.says.place self.new }
         // When each refusal comes, and what it leaves.
         ensures failed { IsErrOf result Fault.Failed ↔ (self.old.failed ≡ true) }

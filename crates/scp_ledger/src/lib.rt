@@ -1,19 +1,19 @@
 //! The slot stage of a node: what became of each message, and which slots are decided.
 //!
-//! What it promises, of each `Ledger::take`:
-//! - what was delivered, dropped or closed adds just one entry to the journal, and nothing else does;
-//! - the verdict on a message or a command is the first that fits, over the journal, the decisions and the asked slots as they
-//!   were before;
-//! - an open slot's machine runs on its envelopes and commands, over a board of the last fresh statements in the journal; it
-//!   votes for nothing that nobody proposed; it is given up once its slot has a decision;
-//! - a machine's decision has its certificate over the journal; a record decides its slot where its link was asked for it; and
-//!   no slot has two decisions;
-//! - each decision is of one of the 16 slots from the lowest that had none, so that an applier can take them in their order;
-//! - what goes out fits a link, and a decision's value has at most 4,096 bytes;
-//! - a decision goes on to the applier as it was made, and so does each request for a record; what a machine emits goes to all
-//!   peers, and the request of a fresh ask to its link;
-//! - of each command it says what became of it: it did something, or why it did nothing;
-//! - a ledger that failed keeps its journal and its decisions.
+//! What each `Ledger::take` promises:
+//! - What was delivered, dropped or closed adds exactly one entry to the journal. Nothing else adds one.
+//! - The verdict on a message or a command is the first that fits. It is judged by the
+//!   journal, the decisions and the asked links as they were before.
+//! - An open slot's machine runs on its envelopes and commands. Its board has the last fresh statements in the journal. It votes for nothing
+//!   that nobody proposed. It is dropped once its slot has a decision.
+//! - A machine's decision has its certificate over the journal. A record decides an open slot if
+//!   its link was asked for that slot. No slot has two decisions.
+//! - Each decision is for one of the 16 slots from the lowest undecided one on, so an applier can take them in order.
+//! - What goes out fits a link, and a decision's value has at most 4,096 bytes.
+//! - Each decision goes on to the applier as it was made, and so does each request for a record. What a machine emits goes to all peers. The
+//!   request of a fresh ask goes to its link.
+//! - The answer to a command says what became of it: it did something, or why it did nothing. A Tick has no such answer.
+//! - A ledger that failed keeps its journal and its decisions.
 #![tactic(auto)]
 
 mod journal;

@@ -1,4 +1,4 @@
-//! What is told of a ledger's lists by plain functions.
+//! Functions over a ledger's lists.
 ghost use Rattle.std.specs.Prelude.{◌≡◌, ◌<◌, ◌≤◌, ◌++◌, ◌∷◌, [], OnOk, OnErr, IfOk, IfSome, IsOkUnless, Some, None, All, option_to_list, map, length, position, vec_len};
 ghost use Rattle.std.specs.Vec.{vec_capacity};
 ghost use Rattle.std.specs.Option.{ForSome};
@@ -17,7 +17,7 @@ use scp_types::{ConnId, Fault, NodeId};
 use scp_wire::what_fits_a_link;
 use std::alloc::Global;
 
-/// The link of a connection: the place of its sender among the peers, or their number, which is no link.
+/// The link of a connection: the place of its sender among the peers. If the sender is no peer, it is the number of peers, which is no link.
 pub fn link_of(peers: &[NodeId], conn: &ConnId) -> u8
     requires few { length peers.now ≤ 255 }
     ensures { result ≡ link_of peers.now conn.now }
@@ -35,7 +35,7 @@ fn place_of(peers: &[NodeId], node: &NodeId) -> Option<usize>
     peers.iter().position(|peer| *peer == *node)
 }
 
-/// Adds an entry and a decision, if there are any. A refusal leaves both lists.
+/// Adds an entry and a decision, if there are any. A refusal leaves both lists as they were.
 pub fn add(
     journal: &mut Vec<Fate>,
     decisions: &mut Vec<SharedDecision>,
@@ -101,7 +101,7 @@ fn push_some(all: &mut Vec<Outgoing>, envelope: Option<SharedEnvelope>) -> Resul
     Ok(())
 }
 
-/// A short statement, which fits a link, for each peer.
+/// An own statement for each peer. It is short, so it fits a link.
 fn to_each(envelope: SharedEnvelope) -> Outgoing
     requires short { IsShort envelope }
     ensures same { result ≡ to_all envelope }

@@ -22,21 +22,21 @@ impl Model for Quorum {
 }
 
 impl Quorum {
-    /// These nodes. Takes no memory.
+    /// The set of these nodes. Takes no memory.
     pub(crate) fn new(nodes: BTreeSet<NodeId>) -> Quorum
         ensures { result ≡ keys nodes }
     {
         Quorum(nodes)
     }
 
-    /// Whether the node is one of them. Its time grows with the logarithm of their number.
+    /// Whether the node is one of them. The time grows with the logarithm of their number.
     pub fn contains(&self, node: NodeId) -> bool
         ensures { result ≡ has_node self.now node }
     {
         self.0.contains(&node)
     }
 
-    /// How many they are.
+    /// How many nodes there are.
     pub fn count(&self) -> usize
         ensures { result ≡ length self.now }
     {

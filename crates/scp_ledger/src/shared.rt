@@ -11,8 +11,7 @@ use std::sync::Arc;
 /// The most bytes of a decision's value (this project's profile).
 pub const DECIDED_LIMIT: usize = VALUE_LIMIT;
 
-/// A decision that several lists hold, kept once: its value has at most 4,096 bytes, so that a record of it fits a link.
-/// Contracts see the decision.
+/// A decision that several lists hold, kept once. Its value has at most 4,096 bytes, so a record of it fits a link. Contracts see the decision.
 #[derive(Debug, Drop)]
 pub struct SharedDecision(Arc<Decision>);
 
@@ -28,7 +27,7 @@ impl Model for SharedDecision {
 }
 
 impl SharedDecision {
-    /// The decision, to be shared. Refused by `TooLong` where its value has over 4,096 bytes, else by `NoMemory`.
+    /// Makes a decision that can be shared. Refused by `TooLong` where its value has over 4,096 bytes, else by `NoMemory`.
     pub fn new(alloc: Global, decision: Decision) -> Result<SharedDecision, Fault>
         ensures same { IfOk result (λ s. s ≡ decision) }
         ensures too_long { IsErrOf result Fault.TooLong ↔ (DECIDED_LIMIT < length decision.value) }
@@ -40,7 +39,7 @@ impl SharedDecision {
         Ok(SharedDecision(Arc::new(alloc, decision)?))
     }
 
-    /// Another holder of the same decision; nothing is copied.
+    /// Another handle on the same decision; nothing is copied.
     pub fn share(&self) -> Result<SharedDecision, Fault>
         ensures same { IfOk result (λ s. s ≡ self.now) }
         ensures only_memory { IsOkUnless result Fault.NoMemory }

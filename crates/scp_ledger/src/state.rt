@@ -39,7 +39,7 @@ use std::alloc::Global;
 use std::collections::{BTreeMap, BTreeSet};
 use std::sync::Arc;
 
-/// The journal and the decisions, which grow at their ends alone, the machines of undecided slots, and what was asked for.
+/// The journal and the decisions, which grow only at their ends, the machines of undecided slots, and what was asked for.
 #[derive(Drop)]
 pub struct State<D: Driver + Drop + Copy> {
     pub alloc: Global,
@@ -63,7 +63,7 @@ impl<D: Driver + Drop + Copy> State<D> {
     ghost use Rattle.scp_ledger.specs.inside.State.{state_view, IsSound, IsTakenOut, Ran, KeepsRest, Leaves, IsMade};
     ghost use Rattle.scp_ledger.specs.Ledger.{HasMachines};
 
-    /// Of nothing.
+    /// The state of a ledger that took nothing.
     pub fn new(
         alloc: Global,
         me: NodeId,
@@ -172,7 +172,7 @@ impl<D: Driver + Drop + Copy> State<D> {
         Ok(machine)
     }
 
-    /// Runs the slot's machine on an input where it lies, and gives it up where it decides. A machine isn't moved by it.
+    /// Runs the slot's machine on an input in its place, so no machine is moved. Drops the machine if it decides.
     fn run(&mut self, slot: Slot, input: SlotInput) -> Result<SlotOutput, Fault>
         requires sound { IsSound D.says.level D.says.place self.old }
         requires is_open { IsOpen self.old.window.lowest self.old.decisions.items slot.0 }
@@ -209,7 +209,7 @@ impl<D: Driver + Drop + Copy> State<D> {
         Ok(out)
     }
 
-    /// Keeps the machine of a slot that isn't decided.
+    /// Keeps a slot's machine, unless it is done.
     fn keep(&mut self, slot: Slot, machine: SlotMachine<D>, is_done: bool) -> Result<(), Fault>
         ensures put { OnOk result ((s : ℕ) → machine_at self.new.machines.entries s ≡ cond (cond is_done false (tree.is_at (nat_cmp slot.0) s)) (Some machine) (machine_at self.old.machines.entries s)) }
         ensures same { self.new ≡ record self.old { machines = self.new.machines } }
@@ -241,7 +241,7 @@ impl<D: Driver + Drop + Copy> State<D> {
 
     // ---- entries and decisions
 
-    /// Adds nothing but an entry.
+    /// Adds an entry and does nothing else.
     fn pass(&mut self, verdict: Option<Verdict>, fate: Fate) -> Result<Took, Fault>
         ensures verdict { IfOk result (λ took. took.verdict ≡ verdict) }
         ensures untold { IfOk result (λ took. took.command ≡ None) }
@@ -264,7 +264,7 @@ impl<D: Driver + Drop + Copy> State<D> {
         })
     }
 
-    /// Adds an entry that is of nothing fresh and decides nothing.
+    /// Adds an entry that has no fresh statement and decides nothing.
     fn pass_entry(&mut self, verdict: Option<Verdict>, fate: Fate) -> Result<Took, Fault>
         requires sound { IsSound D.says.level D.says.place self.old }
         requires room { length self.old.journal.items < JOURNAL_LIMIT }
@@ -292,7 +292,7 @@ impl<D: Driver + Drop + Copy> State<D> {
         }
     }
 
-    /// Takes what came of an input of a slot's machine: the decision, if there is one, and the entry, if there is one.
+    /// Keeps what came of an input to a slot's machine: the decision, if there is one, and the entry, if there is one.
     fn settle(&mut self, slot: Slot, out: SlotOutput, fate: Option<Fate>) -> Result<Took, Fault>
         requires fits { KeepsLimits out }
         requires window { IsWindow self.old.decisions.items self.old.window }
@@ -364,7 +364,7 @@ impl<D: Driver + Drop + Copy> State<D> {
         Ok(None)
     }
 
-    /// Adds a decision of an open slot, with the entry, and finds the lowest slot without one.
+    /// Adds a decision of an open slot, with its entry, and finds the new lowest undecided slot.
     fn conclude(&mut self, decision: SharedDecision, fate: Option<Fate>) -> Result<Onward, Fault>
         requires window { IsWindow self.old.decisions.items self.old.window }
         requires is_open { IsOpen self.old.window.lowest self.old.decisions.items decision.slot.0 }
@@ -384,7 +384,7 @@ impl<D: Driver + Drop + Copy> State<D> {
 
     // ---- what is taken
 
-    /// An input of an open slot, with the entry that its verdict gives.
+    /// Takes an input of an open slot, and adds the entry that its verdict gives.
     fn take_input(
         &mut self,
         slot: Slot,
@@ -608,7 +608,7 @@ impl<D: Driver + Drop + Copy> State<D> {
         Ok(told(took, idle, CommandFate::BallotMoved))
     }
 
-    /// What became of a timer that gives no statement.
+    /// What became of a timer after which no statement goes out.
     fn idle_timer(&self, slot: Slot) -> CommandFate
         ensures { IsIdleTimer (machine_at self.now.machines.entries slot.0) result }
     {
@@ -663,8 +663,8 @@ impl<D: Driver + Drop + Copy> State<D> {
         })
     }
 
-    /// Takes one thing, for which the journal has room. A refusal leaves the journal, the decisions and what was asked for, and
-    /// nothing else may be used after it.
+    /// Takes one thing, for which the journal has room. A refusal keeps the journal, the
+    /// decisions and what was asked for. Nothing else may be used after it.
     pub fn take(&mut self, ready: Ready) -> Result<Took, Fault>
         requires sound { IsSound D.says.level D.says.place self.old }
         requires room { adds_entry ready ≡ true → length self.old.journal.items < JOURNAL_LIMIT }
@@ -745,7 +745,7 @@ fn is_deciding(verdict: Verdict) -> bool
     verdict == Verdict::Decided
 }
 
-/// What came of a command, with its fate by its verdict: `idle` where nothing changed, `fresh` where something did.
+/// What came of a command, with the fate that its verdict gives: `idle` if nothing changed, `fresh` if something did.
 fn told(took: Took, idle: CommandFate, fresh: CommandFate) -> Took
     ensures { result ≡ record took { command = Some (fate_as took.verdict idle fresh) } }
 {
@@ -782,7 +782,7 @@ fn idle_timer_of(has_ballot: bool) -> CommandFate
     }
 }
 
-/// Whether the own ballot statement is there, and is no PREPARE of counter 0.
+/// Whether there is an own ballot statement that is no PREPARE of counter 0.
 fn has_ballot(board: &Board) -> bool
     ensures { IsTrue result ↔ IsSomeAnd ((seen Balloting board.now).statement (seen Balloting board.now).me) HasCounter }
 {
@@ -802,7 +802,7 @@ fn has_counter(pledges: &Pledges) -> bool
     }
 }
 
-/// Gives an input to a machine. Want of memory is the one refusal that it tells.
+/// Gives an input to a machine. Each refusal is reported as out of memory.
 fn enter<D: Driver + Drop + Copy>(
     machine: &mut SlotMachine<D>,
     input: SlotInput,
@@ -829,7 +829,7 @@ fn enter<D: Driver + Drop + Copy>(
     }
 }
 
-/// Does nothing: a set's nodes ascend, and the list of a certificate's nodes is that of its set.
+/// Does nothing when it runs. Its contract says that a certificate's nodes ascend, since those of a set do.
 fn see_that_it_ascends(decided: &Option<Certified>)
     ensures { ForSome decided.now HasAscendingNodes }
 {
@@ -838,7 +838,7 @@ fn see_that_it_ascends(decided: &Option<Certified>)
     }
 }
 
-/// What a machine found, as the ledger says it.
+/// The ledger's verdict for what a machine found.
 fn verdict_from(found: Found) -> Verdict
     ensures { result ≡ verdict_as found }
 {
@@ -852,7 +852,7 @@ fn verdict_from(found: Found) -> Verdict
     }
 }
 
-/// What enters the journal with the verdict on it.
+/// An envelope that enters the journal with its verdict.
 #[derive(Drop)]
 pub struct Entering {
     pub conn: ConnId,

@@ -12,20 +12,20 @@ use std::marker::Model;
 pub enum Onward {
     /// A slot was decided.
     Decided(SharedDecision),
-    /// The sender of this link asks for the slot's record. The number of peers stands for a sender that is none.
+    /// The sender of this link asks for the slot's record. A sender that is no peer is given as the number of peers.
     Asked { link: u8, slot: Slot },
 }
 
 /// What goes out to peers.
 #[derive(Debug, Drop)]
 pub enum Outgoing {
-    /// An own statement, for each of them.
+    /// An own statement, for each peer.
     ToAll(SharedEnvelope),
     /// A message for the link of this number.
     To(u8, Message),
 }
 
-/// What goes out, in its order: each message fits a link. Contracts see the list.
+/// What goes out, in order. Each message fits a link. Contracts see the list.
 #[derive(Debug, Drop)]
 pub struct OutgoingList(Vec<Outgoing>);
 
@@ -59,7 +59,7 @@ impl OutgoingList {
         OutgoingList(outgoing)
     }
 
-    /// Gives them back. Takes no memory.
+    /// Gives the list back. Takes no memory.
     pub fn into_vec(self) -> Vec<Outgoing>
         ensures same { result.items ≡ self }
         ensures fits { All FitsOut self }
@@ -84,7 +84,7 @@ pub enum CommandFate {
     OldSlot,
     /// Its slot is above 4,294,967,295, or 16 or more above the lowest undecided one.
     FarSlot,
-    /// Its slot has a decision; of an ask also: it is below the lowest undecided one.
+    /// Its slot has a decision. For an ask also: it is below the lowest undecided one.
     Decided,
     /// The proposal isn't fully validated.
     BadValue,
@@ -92,13 +92,13 @@ pub enum CommandFate {
     ProposedBefore,
     /// The proposal is kept.
     Proposed,
-    /// All rounds of nomination are used.
+    /// All rounds of nomination are used up.
     NoRoundLeft,
     /// A round of nomination was added.
     RoundAdded,
     /// The timer ran out, and there is no ballot yet.
     NoBallot,
-    /// The timer ran out, and no own ballot statement goes out though there is a ballot, as with its counter at its greatest.
+    /// The timer ran out and no own ballot statement goes out, though there is a ballot; for instance, its counter is at the maximum.
     BallotStays,
     /// The timer ran out, and an own ballot statement goes out.
     BallotMoved,
@@ -111,12 +111,12 @@ pub enum CommandFate {
 /// What came of a thing that was taken.
 #[derive(Debug, Drop)]
 pub struct Took {
-    /// What was found of a message or a command; none of what is neither, and of a Tick.
+    /// The verdict on a message or a command. A Tick has none, and nothing else has one.
     pub verdict: Option<Verdict>,
-    /// What became of a command; none of what is no command, and of a Tick.
+    /// What became of a command. A Tick has none, and nothing else has one.
     pub command: Option<CommandFate>,
     /// What goes on to the applier, if anything does.
     pub onward: Option<Onward>,
-    /// What goes out to peers: own statements, for all of them, and the request of a fresh ask.
+    /// What goes out to peers: own statements for all of them, and a fresh ask's request for its link.
     pub outgoing: OutgoingList,
 }

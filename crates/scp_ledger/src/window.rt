@@ -14,8 +14,8 @@ pub const WINDOW: u64 = 16;
 /// The highest slot that can be open (this project's profile).
 pub const LAST_SLOT: u64 = 4_294_967_295;
 
-/// The lowest slot without a decision, and which ones after it have one: at most 15, since one is taken out as soon as the
-/// lowest passes it. Envelopes and records ask the same window.
+/// The lowest slot without a decision, and which slots after it have one: at most 15, since each is removed as soon as the lowest passes it.
+/// Envelopes and records ask the same window.
 #[derive(Drop)]
 pub struct Window {
     pub lowest: u64,
@@ -47,7 +47,7 @@ impl Window {
         slot.0 > LAST_SLOT || slot.0 - self.lowest >= WINDOW
     }
 
-    /// Notes that a slot has a decision from now on.
+    /// Notes that the slot has a decision from now on.
     pub fn decide(&mut self, slot: Slot) -> Result<(), Fault>
         requires bounded { IsBounded self.old }
         requires from { self.old.lowest ≤ slot.0 }
@@ -60,7 +60,7 @@ impl Window {
         Ok(())
     }
 
-    /// Passes the slots that have a decision, up to the first that has none.
+    /// Moves past the slots that have a decision, up to the first that has none.
     fn advance(&mut self)
         requires bounded { IsBounded self.old }
         ensures passes { Passes self.old self.new }

@@ -1,4 +1,4 @@
--- What holds with nobody told.
+-- What holds without a watch.
 use Rattle.std.proofs.Common.{ℕ, Bool, List, Option, Some, None}
 use Rattle.std.specs.Prelude.{Result, Ok, Err, length}
 use Rattle.scp_turn.specs.scp_core.specs.declared.event.Event.{Event}

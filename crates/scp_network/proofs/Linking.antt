@@ -1,4 +1,4 @@
--- The peers of a node are the others: those before it, and those behind it.
+-- The peers of a node are the others: those before it, and those after it.
 use Rattle.std.proofs.Common.{◌≡◌, ◌<◌, ◌+◌, ◌-◌, ℕ, suc, List, ◌++◌, Some, take, drop, length, get_or, refl, sym, ◌∙◌, ap, arith}
 use Rattle.std.specs.Prelude.{remove, slice_get}
 use Rattle.std.proofs.lemmas.Option.{get_or_from_slice_get, slice_get_read}
@@ -38,7 +38,7 @@ behind nodes place peers lt is =
     ∙ ap (λ (n : ℕ). drop n (front ++ back)) (sym (so_many nodes place lt))
     ∙ drop-append_seam front back
 
--- ---- the peers of the node that stands at a place, by the front and the back of them
+-- ---- the peers of the node at a place, by the front and the back of them
 
 own_peers : (nodes : Nodes) (place : ℕ) (node kept : NodeView) (peers : List NodeId) → slice_get nodes place ≡ Some node → kept ≡ get_or nodes place kept → peers ≡ kept.config.peers → peers ≡ node.config.peers
 own_peers nodes place node kept peers at is has = has ∙ ap (λ (v : NodeView). v.config.peers) (is ∙ get_or_from_slice_get nodes place node kept at)

@@ -16,7 +16,7 @@ pub record Heard : Type 0 where
   pub event : Event
   pub reply : Reply
 
--- one node did one step, and the others nothing
+-- one node did one step, and the others did nothing
 pub record IsHeard (old : Nodes) (h : Heard) (new : Nodes) : Type 0 where
   pub place : ℕ
   pub number : h.node ≡ place + 1
@@ -26,15 +26,15 @@ pub record IsHeard (old : Nodes) (h : Heard) (new : Nodes) : Type 0 where
   pub step : Step before h.event h.reply after'
   pub is : new ≡ slice_set old place after'
 
--- the exchange, where it is of the node of this number
+-- the exchange, if it is of the node of this number
 abbrev pub exchange_at : ℕ → Heard → List Exchange
 exchange_at number h = if nat_eq h.node number then (h.event, h.reply) ∷ [] else []
 
--- what the node of a number heard of it
+-- what the node of this number heard
 abbrev pub past_at : ℕ → List Heard → List Exchange
 past_at number heard = flat_map (exchange_at number) heard
 
--- each node has the ledger theorem, for what it heard
+-- the ledger theorem holds of each node, for what it heard
 abbrev pub HaveHeard : List Heard → Nodes → Type 0
 HaveHeard heard nodes = (i : ℕ) → (d : NodeView) → i < length nodes → LedgerTheorem (past_at (i + 1) heard) (get_or nodes i d)
 
@@ -55,7 +55,7 @@ IsNothing old heard new = (heard ≡ []) × (new ≡ old)
 abbrev pub IsOne : Heard → Nodes → List Heard → Nodes → Type 0
 IsOne h old heard new = (heard ≡ h ∷ []) × IsHeard old h new
 
--- this for 1, 2, .. up to a number, one after the other
+-- this holds for 1, 2, .. up to a number, one after the other
 abbrev pub InOrder : (ℕ → Nodes → List Heard → Nodes → Type 0) → ℕ → Nodes → List Heard → Nodes → Type 0
 InOrder Is zero old heard new = IsNothing old heard new
 InOrder Is (suc n) old heard new = Then (InOrder Is n) (Is (suc n)) old heard new
@@ -64,11 +64,11 @@ InOrder Is (suc n) old heard new = Then (InOrder Is n) (Is (suc n)) old heard ne
 abbrev pub With : (Nodes → List Heard → Nodes → Type 0) → (Nodes → List Heard → Nodes → Type 0) → Nodes → List Heard → Nodes → Type 0
 With Also Is old heard new = Is old heard new × Also old heard new
 
--- nothing more is said
+-- nothing more is claimed
 abbrev pub Anything : Nodes → List Heard → Nodes → Type 0
 Anything old heard new = Unit {0}
 
--- a watch noted each step, in order, with the nodes that stood between them
+-- a watch noted each step, in order, with the nodes as they were in between
 abbrev pub Noted : {W : Type 0} → Noting W → W → W → Nodes → List Heard → Nodes → Type 0
 Noted {W} Note w z old [] new = (new ≡ old) × (z ≡ w)
 Noted {W} Note w z old (h ∷ heard) new = (mid : Nodes) × (v : W) × (s : IsHeard old h mid) × Note w h.node h.event h.reply s.before s.after' v × Noted Note v z mid heard new

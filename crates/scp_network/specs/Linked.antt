@@ -1,10 +1,10 @@
--- Whom the nodes of a network are linked to.
+-- What the nodes of a network are linked to.
 use Rattle.std.specs.Prelude.{ℕ, ◌≡◌, ◌≤◌, List, Some, length, map, remove, slice_get}
 use Rattle.scp_types.specs.declared.names.NodeId.{NodeId}
 use Rattle.scp_turn.specs.scp_core.specs.Kv.{NodeView}
 use Rattle.scp_network.specs.Heard.{Nodes}
 
--- who the nodes are
+-- the ids of the nodes
 abbrev pub ids_of : Nodes → List NodeId
 ids_of nodes = map (λ node. node.config.me) nodes
 

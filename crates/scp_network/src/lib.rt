@@ -1,13 +1,13 @@
 //! Nodes that send to each other, each in its turn.
 //!
 //! What it promises:
-//! - a network is of at most eight nodes, and the peers of each are the others, in the order of their numbers;
-//! - an event that a node is offered is one step of that node, and of no other;
-//! - a settle is rounds, in each of which every node, in the order of their numbers, has each of its stages do one step, and
-//!   then drains its outbox for each other node whose link from it is open and has room, unless the caller drives that link;
-//!   what is drained is sent there at once, and accepted: no message is lost between two nodes, doubled or overtaken;
-//! - it ends with a round in which nothing moved and nothing was sent, after 100,000 rounds, or where a node failed;
-//! - the ledger theorem holds of each node, for all that it heard.
+//! - A network has at most eight nodes. The peers of each are the others, in the order of their numbers.
+//! - An event that a node is offered is one step of that node, and of no other.
+//! - A settle is rounds. In a round, every node, in the order of their numbers, has each of its stages do one step. Then it drains the next
+//!   message for each other node whose link from it is open and has room, unless the caller drives that link. What is drained is sent there
+//!   at once, and accepted. No message is lost between two nodes, doubled or overtaken.
+//! - It ends with a round in which nothing moved and nothing was sent, after 100,000 rounds, or when a node failed.
+//! - The ledger theorem holds of each node, for all that it heard.
 #![tactic(auto)]
 
 mod linked;

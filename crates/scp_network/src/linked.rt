@@ -1,4 +1,4 @@
-//! Whom the nodes of a network are linked to.
+//! What the nodes of a network are linked to.
 ghost use Rattle.std.specs.Prelude.{◌≡◌, ◌<◌, ◌↔◌, ℕ, length, IsTrue};
 ghost use Rattle.scp_network.specs.Rounds.{link_of};
 ghost use Rattle.scp_network.specs.Linked.{ids_of, HasOthers, IsNetwork};
@@ -9,7 +9,7 @@ use scp_types::NodeId;
 /// The most nodes: one, and its seven peers.
 pub const MOST_NODES: usize = 8;
 
-/// Which link of a node comes from another, by their numbers from 1 on: the place of that one among its peers.
+/// The number of a node's link from another, by the nodes' numbers from 1 on: the other's place among the node's peers.
 pub fn link_from(from: u8, to: u8) -> u8
     ensures { result ≡ link_of from to }
 {
@@ -31,7 +31,7 @@ fn are_ids(nodes: &[Node], ids: &[NodeId]) -> bool
     }
 }
 
-/// Whether the peers of the node at a place are the others, in their order.
+/// Whether the peers of the node at a place are the others, in order.
 fn has_others(nodes: &[Node], place: usize) -> bool
     requires place { place < length nodes.now }
     ensures { IsTrue result ↔ HasOthers nodes.now place }
@@ -56,7 +56,7 @@ fn are_linked(nodes: &[Node]) -> bool
     true
 }
 
-/// Whether they are at most eight, and the peers of each are the others.
+/// Whether there are at most eight nodes, and the peers of each are the others.
 pub fn is_network(nodes: &[Node]) -> bool
     ensures { IsTrue result ↔ IsNetwork nodes.now }
 {

@@ -14,8 +14,7 @@ use scp_types::Fault;
 use std::alloc::Global;
 use std::marker::Model;
 
-/// Nodes that send to each other. They are numbered from 1 on, and the peers of each are the others, in the order of their
-/// numbers.
+/// Nodes that send to each other. They are numbered from 1 on, and the peers of each are the others, in the order of their numbers.
 #[derive(Drop)]
 pub struct Network {
     nodes: Vec<Node>,
@@ -42,7 +41,7 @@ impl Model for Network {
 }
 
 impl Network {
-    /// These nodes, of which no link is driven by the caller. Refused by `BadConfig` where they are more than eight, or where the peers of
+    /// A network of these nodes; the caller drives none of its links. Refused by `BadConfig` if there are more than eight, or if the peers of
     /// one aren't the others, in the order of their numbers; else by `NoMemory`.
     pub fn new(alloc: Global, nodes: Vec<Node>) -> Result<Network, Fault>
         ensures nodes { IfOk result (λ network. network.nodes ≡ nodes.items) }
@@ -68,7 +67,7 @@ impl Network {
         self.nodes.as_slice()
     }
 
-    /// From now on only the caller sends on the link from a node to another; where one of them isn't there, nothing changes.
+    /// From now on only the caller sends on the link from one node to another. If one of them can't be there, nothing changes.
     pub fn drive(&mut self, from: u8, to: u8)
         ensures { Drives self.old from to self.new }
     {
@@ -81,8 +80,8 @@ impl Network {
         }
     }
 
-    /// Offers an event to the node of a number, of which the watch is told, and answers its reply; `None` where it isn't there,
-    /// and then the watch is told of nothing.
+    /// Offers an event to the node of this number, shows it to the watch, and returns the node's reply.
+    /// `None` if the node isn't there; then the watch is shown nothing.
     pub fn offer_with<W: Watch<KvDriver>>(
         &mut self,
         watch: &mut W,
@@ -99,15 +98,15 @@ impl Network {
         Some(hear(&mut self.nodes, watch, index, event))
     }
 
-    /// Offers an event to the node of a number, and answers its reply; `None` where it isn't there.
+    /// Offers an event to the node of this number, and returns its reply; `None` if it isn't there.
     pub fn offer(&mut self, number: u8, event: Event) -> Option<Reply>
         ensures { Offered Anything self.old number event result self.new }
     {
         self.offer_with(&mut NoWatch, number, event)
     }
 
-    /// Brings the nodes to rest: rounds, until one moves nothing and sends nothing, or 100,000; the watch is told of each step.
-    /// Answers whether they came to rest. Refused by the number of the first node that failed.
+    /// Brings the nodes to rest: rounds, until one moves nothing and sends nothing, or 100,000; the watch is shown each step. Returns whether
+    /// they came to rest. Refused by the number of the first node that failed.
     pub fn settle_with<W: Watch<KvDriver>>(&mut self, watch: &mut W) -> Result<bool, u8>
         ensures settled { Settled (Noted (notes W.notes_before W.notes_after) watch.old watch.new) self.old.driven self.old.nodes result self.new.nodes }
         ensures same { self.new.driven ≡ self.old.driven }
@@ -115,8 +114,8 @@ impl Network {
         rounds::settle(&mut self.nodes, watch, self.driven.as_slice())
     }
 
-    /// Brings the nodes to rest: rounds, until one moves nothing and sends nothing, or 100,000. Answers whether they came to
-    /// rest. Refused by the number of the first node that failed.
+    /// Brings the nodes to rest: rounds, until one moves nothing and sends nothing, or 100,000. Returns whether they came to rest. Refused by
+    /// the number of the first node that failed.
     pub fn settle(&mut self) -> Result<bool, u8>
         ensures settled { Settled Anything self.old.driven self.old.nodes result self.new.nodes }
         ensures same { self.new.driven ≡ self.old.driven }

@@ -1,4 +1,4 @@
-//! Rounds of all nodes: each one's stages do their steps, and then its messages go out.
+//! Rounds of all nodes: the stages of each do their steps, and then its next messages go out.
 ghost use Rattle.std.specs.Prelude.{◌≡◌, ◌≢◌, ◌<◌, ◌≤◌, ◌+◌, length, IfSome, None};
 ghost use Rattle.scp_turn.specs.Watch.{notes};
 ghost use Rattle.scp_network.specs.Rounds.{link_of, is_driven, Carries, IsTurn, IsRound, HasFailed, AllRun};
@@ -13,7 +13,7 @@ use scp_turn::{Event, KvDriver, Node, Reply, Watch};
 /// The most rounds of one settle.
 const MOST_ROUNDS: u32 = 100_000;
 
-/// Which link of a node comes from another, by the places of both.
+/// The number of a node's link from another, by the places of both.
 fn link_at(from: usize, to: usize) -> u8
     requires from { from < 8 }
     requires to { to < 8 }
@@ -26,7 +26,7 @@ fn link_at(from: usize, to: usize) -> u8
     }
 }
 
-/// Whether the caller alone sends on the link from a node to another, by the places of both.
+/// Whether only the caller sends on the link from one node to another, by the places of both.
 fn drives(driven: &[bool], from: usize, to: usize) -> bool
     requires from { from < 8 }
     requires to { to < 8 }
@@ -38,7 +38,7 @@ fn drives(driven: &[bool], from: usize, to: usize) -> bool
     }
 }
 
-/// What a node sends is drained, and sent where the link goes. Whether anything was sent.
+/// Drains the next message from a node to another, and sends it there. Returns whether anything was sent.
 fn transmit<W: Watch<KvDriver>>(
     nodes: &mut Vec<Node>,
     watch: &mut W,
@@ -61,7 +61,7 @@ fn transmit<W: Watch<KvDriver>>(
     }
 }
 
-/// What goes over the link from a node to another in a turn. Whether anything was sent.
+/// What goes over the link from one node to another in a turn. Returns whether anything was sent.
 fn carry<W: Watch<KvDriver>>(
     nodes: &mut Vec<Node>,
     watch: &mut W,
@@ -80,7 +80,7 @@ fn carry<W: Watch<KvDriver>>(
     transmit(nodes, watch, from, to)
 }
 
-/// What a node sends in its turn, to each other node in the order of their numbers. Whether anything was sent.
+/// What a node sends in its turn, to each other node in the order of their numbers. Returns whether anything was sent.
 fn carry_all<W: Watch<KvDriver>>(
     nodes: &mut Vec<Node>,
     watch: &mut W,
@@ -99,7 +99,7 @@ fn carry_all<W: Watch<KvDriver>>(
     sent
 }
 
-/// A node's turn. Whether anything moved or was sent.
+/// A node's turn. Returns whether anything moved or was sent.
 fn turn<W: Watch<KvDriver>>(
     nodes: &mut Vec<Node>,
     watch: &mut W,
@@ -116,7 +116,7 @@ fn turn<W: Watch<KvDriver>>(
     either(moved, sent)
 }
 
-/// A round of all nodes. Whether anything moved or was sent.
+/// A round of all nodes. Returns whether anything moved or was sent.
 fn round<W: Watch<KvDriver>>(nodes: &mut Vec<Node>, watch: &mut W, driven: &[bool]) -> bool
     requires few { length nodes.old.items ≤ 8 }
     ensures { Acts (Noted (notes W.notes_before W.notes_after) watch.old watch.new) nodes.old.items nodes.new.items (IsRound driven.now (length nodes.old.items)) result }
@@ -143,8 +143,8 @@ fn failed(nodes: &[Node]) -> Option<u8>
     None
 }
 
-/// Brings the nodes to rest: rounds, until one moves nothing and sends nothing, or 100,000. Whether they came to rest. Refused
-/// by the number of a node that failed.
+/// Brings the nodes to rest: rounds, until one moves nothing and sends nothing, or 100,000. Returns whether they came to rest. Refused by the
+/// number of the first node that failed.
 pub fn settle<W: Watch<KvDriver>>(
     nodes: &mut Vec<Node>,
     watch: &mut W,

@@ -9,7 +9,7 @@ ghost use Rattle.scp_network.specs.inside.Acting.{Acts};
 
 use scp_turn::{Event, KvDriver, Node, Reply, Watch, step_with};
 
-/// One event: the node heard one exchange more, and the watch was told of it.
+/// One event: the node heard one more exchange, and the watch was shown it.
 pub fn hear<W: Watch<KvDriver>>(
     nodes: &mut Vec<Node>,
     watch: &mut W,
@@ -23,14 +23,14 @@ pub fn hear<W: Watch<KvDriver>>(
     step_with(&mut nodes[index], index as u8 + 1, watch, event)
 }
 
-/// Whether one of both moved something.
+/// Whether one of the two moved something.
 pub fn either(first: bool, second: bool) -> bool
     ensures { result ≡ (first || second) }
 {
     first || second
 }
 
-/// What the stages of a node with so many links do in its turn. Whether anything moved.
+/// What the stages of a node with this many links do in its turn. Returns whether anything moved.
 pub fn work<W: Watch<KvDriver>>(
     nodes: &mut Vec<Node>,
     watch: &mut W,

@@ -45,7 +45,7 @@ twice : {A : Type 0} (t : Bool) (x y z : A) → cond t x (cond t y z) ≡ cond t
 twice true x y z = refl
 twice false x y z = refl
 
--- the licence speaks of the others' part of the board alone
+-- the licence speaks only of the others' part of the board
 module _ (others now : Seen) (own : Option Pledges) (same : IsSame (with_own others own) now) where
   with_now : (p : Option Pledges) → IsSame (with_own others p) (with_own now p)
   with_now p = record {
@@ -82,7 +82,7 @@ contains_self xs k d lt = Contains-get_or xs k d lt
 not_newer : (hash : Hash) (s : Lists) → ArePledgesNewer (own_of hash s) (own_of hash s) → ⊥
 not_newer hash s newer = elim newer.larger [ inl not ↦ not (contains_self s.votes.values.items) | inr not ↦ not (contains_self s.accepted.values.items) ]
 
--- the same statement is worth nothing
+-- a repeated statement isn't worth emitting
 worthless : (before now : Option Pledges) (hash : Hash) (s : Lists) → StandsFor now hash s → now ≡ before → IsWorth before now → ⊥
 worthless before now hash s (inl e) same worth =
     let q = own_of hash s in

@@ -1,4 +1,4 @@
--- By one rule, over one board, the steps of nomination lead one state to one board and one state.
+-- By one rule, over one board, the steps of nomination lead from one state to exactly one board and one state.
 use Rattle.std.proofs.Common.{◌≡◌, ◌+◌, ◌≤◌, ℕ, zero, suc, Bool, true, false, cond, List, [], ◌∷◌, length, count_by, Option, Some, None, IsSomeAnd, refl, sym, ◌∙◌, ap, subst, ◌⊎◌, inl, inr, arith, Contains}
 use Rattle.std.proofs.lemmas.List.Sums.{sum_by-cons}
 use Rattle.std.proofs.lemmas.Bool.Decides.{nat_tests}
@@ -36,7 +36,7 @@ use Rattle.scp_nominate.specs.Laws.{rule_by, StepsAreAFunction, GoAlike, HoldAli
 use Rattle.scp_nominate.proofs.Turning.{node_cmp_total, same_node}
 use Rattle.scp_nominate.proofs.Merging.{one_list, in_turn_one, merged}
 
--- No nodes at all don't block a quorum set in range.
+-- The empty set of nodes blocks no quorum set that is in range.
 abbrev every : NodeId → Bool
 every v = true
 
@@ -60,7 +60,7 @@ none_block q range nodes none blocks = blocks every (λ v h. at v (nodes v) refl
     at v true e = absurd (none v e)
     at v false e = e
 
--- What no node names isn't Accepted.
+-- The board accepts nothing that no node names.
 accepts_names : (p : Option Pledges) (v : List ℕ) → IsSomeAnd p (Stands Accepts (Nominated v)) → IsSomeAnd p (Stands VotesOrAccepts (Nominated v))
 accepts_names None v h = h
 accepts_names (Some p) v h = inr h

@@ -1,4 +1,4 @@
--- Lists that ascend: those with the same elements are one list, and in turn those that differ in what does nothing do the same.
+-- Lists that ascend. Those with the same elements are one list, and those that differ only in what does nothing do the same in turn.
 use Rattle.std.proofs.Common.{◌≡◌, ◌+◌, ◌≤◌, ℕ, zero, suc, List, [], ◌∷◌, length, refl, sym, ◌∙◌, ap, subst, ◌⊎◌, inl, inr, arith, Contains}
 use Rattle.std.specs.Ordering.{ordering_reverse}
 use Rattle.std.specs.declared.cmp.Ordering.{Ordering}
@@ -84,7 +84,7 @@ module _ {A S : Type 0} (R : A → S → S → Type 0) where
   idle_turn [] idle s t h = h
   idle_turn (x ∷ xs) idle s t h = idle_turn xs (λ y m. idle y (behind x xs y m)) h.0 t h.2 ∙ idle x (here x xs) s h.0 h.1
 
--- Two lists that ascend, where what only one of them has does nothing, do the same in turn.
+-- Two ascending lists do the same in turn if what only one of them has does nothing.
 module _ {A S : Type 0} (cmp : A → A → Ordering) (total : IsTotalOrder cmp) (exact : (x y : A) → cmp x y ≡ Equal → x ≡ y) (R : A → S → S → Type 0) (one : IsSingle R) where
   abbrev IsSpare : List A → List A → Type 0
   IsSpare xs ys = (x : A) → Contains xs x → ¬ (Contains ys x) → IsIdle R x

@@ -54,7 +54,7 @@ newer_trans (Nominating p) q r h k = newer_nominate-trans p q r h k
 some_votes : (s : Lists) → AreVoted s → 0 < size s → s.votes.values.items ≡ [] → ⊥
 some_votes s voted lt none = let l : length s.votes.values.items ≡ 0 = ap length none in omega (arith, lt, within s.accepted s.votes voted)
 
--- the own statement, put on the board, names votes alone
+-- the own statement, put on the board, names only votes
 known_renewed : (full : List ℕ → Type 0) (b new : Seen) (hash : Hash) (t : Lists) (x y : ValueSet) → IsKnown full b x → AreVoted t → Puts b new b.me (own_of hash t) b.local → Learns full (λ v. Has t.votes v) x y → IsKnown full new y
 known_renewed full b new hash t x y known voted puts learns = record {
   sound = λ v has. elim (learns.only v has) [ inl had ↦ known.sound v had | inr f ↦ f ];

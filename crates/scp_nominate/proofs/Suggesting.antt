@@ -28,7 +28,7 @@ decided false = inr refl
 pub apart : (v w : NodeId) → v ≢ w → is_at (node_cmp v) w ≡ false
 apart v w differ = elim (decided (is_at (node_cmp v) w)) [ inl here ↦ absurd (differ (same_at v w here)) | inr e ↦ e ]
 
--- one more of a list gives new values
+-- one more item of a list gives new values
 pub one_more : {A : Type 0} (vs : List A) (i : ℕ) (v : A) → i < length vs → v ≡ get_or vs i v → (G : A → List ℕ → Type 0) (x y z : ValueSet)
     → ((u : List ℕ) → Has y u → Has x u ⊎ ((w : A) × Contains vs w × G w u)) → ((u : List ℕ) → Has z u → Has y u ⊎ G v u)
     → (u : List ℕ) → Has z u → Has x u ⊎ ((w : A) × Contains vs w × G w u)

@@ -7,11 +7,11 @@ use Rattle.scp_envelope.specs.Newer.{ArePledgesNewer}
 use Rattle.scp_envelope.specs.Sane.{IsSane}
 use Rattle.scp_envelope.specs.declared.statement.Pledges.{Pledges}
 
--- the statement now is there, sane, and newer than the one before, if there was one
+-- there is a statement now, it is sane, and it is newer than the one before, if there was one
 abbrev pub IsWorth : Option Pledges → Option Pledges → Type 0
 IsWorth before now = IsSomeAnd now (λ q. IsSane q × ForSome before (λ p. ArePledgesNewer p q))
 
--- The composite is there exactly where the candidates grew, and is what all of them, ascending, are combined to.
+-- There is a composite exactly where the candidates grew, and it is what all of them, ascending, are combined to.
 pub record GivesComposite (combined : List (List ℕ) → List ℕ) (old new : List (List ℕ)) (composite : Option (List ℕ)) : Type 0 where
   pub grew : IsSome composite ↔ (length old < length new)
   pub all : ForSome composite (λ v. v ≡ combined new)

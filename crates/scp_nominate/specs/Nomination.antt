@@ -29,8 +29,8 @@ use Rattle.scp_nominate.specs.Given.{IsWorth, GivesComposite}
 use Rattle.scp_nominate.specs.Repeating.{Rule, LeadsTo}
 use Rattle.std.specs.List.Sorted.{IsStrictlySortedBy}
 
--- What a nominator knows: its slot, the hash of its set, the board, its lists, its proposal, the nodes that lead in turn, how
--- many rounds there were, and whether it failed.
+-- What a nominator knows: its slot, its set's hash, the board, its lists, its proposal, the nodes that lead in turn, how many
+-- rounds there were, and whether it failed.
 pub record Nomination : Type 0 where
   pub slot : ℕ
   pub hash : Hash
@@ -41,7 +41,7 @@ pub record Nomination : Type 0 where
   pub rounds : ℕ
   pub failed : Bool
 
--- what contracts see of nomination, of its state and what it is guided by
+-- what contracts see of nomination, from its state and what it goes by
 abbrev pub nomination_of : State → ℕ → Option (List ℕ) → List NodeId → ℕ → Bool → Nomination
 nomination_of m slot proposal nodes rounds failed =
     record { slot = slot; hash = m.hash; board = heard m.board; lists = own_lists m.lists; proposal = proposal; nodes = nodes; rounds = rounds; failed = failed }
@@ -50,7 +50,7 @@ nomination_of m slot proposal nodes rounds failed =
 abbrev pub nomination : {D : Type 0} → Nominator D → Nomination
 nomination m = nomination_of m.state m.guide.slot.0 m.guide.proposal m.nodes.items m.rounds m.failed
 
--- its driver
+-- the nominator's driver
 abbrev pub driver_of : {D : Type 0} → Nominator D → D
 driver_of m = m.guide.driver
 
@@ -62,7 +62,7 @@ board_of m = m.state.board
 abbrev pub own : Nomination → Option Pledges
 own n = n.board.statement n.board.me
 
--- The own statement, as it is emitted: of this node and slot, a NOMINATE of the own lists with the hash of the local set, without a signature.
+-- The own statement as it is emitted: for this node and slot, a NOMINATE of the own lists with the local set's hash, without a signature.
 pub record IsOwnEnvelope (n : Nomination) (e : Envelope) : Type 0 where
   pub node : e.statement.node ≡ n.board.me
   pub slot : e.statement.slot.0 ≡ n.slot
@@ -70,26 +70,26 @@ pub record IsOwnEnvelope (n : Nomination) (e : Envelope) : Type 0 where
   pub stands : own n ≡ Some e.statement.pledges
   pub unsigned : e.signature ≡ []
 
--- Nothing leaves the lists.
+-- Nothing is removed from the lists.
 pub record KeepsLists (old new : OwnLists) : Type 0 where
   pub votes : (v : List ℕ) → Contains old.votes v → Contains new.votes v
   pub accepted : (v : List ℕ) → Contains old.accepted v → Contains new.accepted v
   pub candidates : (v : List ℕ) → Contains old.candidates v → Contains new.candidates v
 
--- What an input gives, from the own statement and the lists before it: the own statement is licensed, with the others' part of
--- the board as after the input, and is emitted exactly where it is sane and newer than the one before; new candidates are
--- Confirmed.
+-- What an input gives, from the own statement and the lists before it. The own statement is licensed, with the others' part of
+-- the board as it is after the input. It is emitted exactly where it is sane and newer than the one before. New candidates are
+-- confirmed on the board.
 pub record Advances (combined : List (List ℕ) → List ℕ) (before : Option Pledges) (lists : OwnLists) (new : Nomination) (given : Nominated) : Type 0 where
   pub licensed : Licensed new.board before (own new)
   pub emitted : IsSome given.statement ↔ IsWorth before (own new)
   pub statement : ForSome given.statement (λ e. IsOwnEnvelope new e)
-  -- where nothing is emitted the own statement stays
+  -- if nothing is emitted, the own statement stays as it was
   pub still : given.statement ≡ None → own new ≡ before
   pub keeps : KeepsLists lists new.lists
   pub confirmed : (v : List ℕ) → Contains new.lists.candidates v → Contains lists.candidates v ⊎ Confirmed new.board (IsNominated v)
   pub composite : GivesComposite combined lists.candidates new.lists.candidates given.composite
 
--- The slot, the hash, the nodes, this node and its set are as before.
+-- The slot, the hash, the nodes in turn, this node and its set are as before.
 pub record KeepsMaking (old new : Nomination) : Type 0 where
   pub slot : new.slot ≡ old.slot
   pub hash : new.hash ≡ old.hash
@@ -97,12 +97,12 @@ pub record KeepsMaking (old new : Nomination) : Type 0 where
   pub me : new.board.me ≡ old.board.me
   pub local : new.board.local ≡ old.board.local
 
--- The other nodes have the same statements and sets.
+-- The other nodes have the same statements and sets as before.
 pub record KeepsOthers (old new : Seen) : Type 0 where
   pub statements : (v : NodeId) → v ≢ old.me → new.statement v ≡ old.statement v
   pub sets : (v : NodeId) → v ≢ old.me → new.counted v ≡ old.counted v
 
--- Of the other nodes, this one has the given statement and set, and all else is as before.
+-- Among the other nodes, this one has the given statement and set, and all others are as before.
 pub record Hears (old new : Seen) (node : NodeId) (statement : Pledges) (set : QuorumTree) : Type 0 where
   pub statements : (v : NodeId) → v ≢ old.me → new.statement v ≡ cond (is_at (node_cmp node) v) (Some statement) (old.statement v)
   pub sets : (v : NodeId) → v ≢ old.me → new.counted v ≡ cond (is_at (node_cmp node) v) (Some set) (old.counted v)
@@ -112,15 +112,15 @@ abbrev pub first_of : Option (List ℕ) → List ℕ → Option (List ℕ)
 first_of None v = Some v
 first_of (Some first) v = Some first
 
--- The own statement is the NOMINATE of the lists with the hash of the local set, and absent while there is no vote.
+-- The own statement is the NOMINATE of the lists with the local set's hash; or it is absent, and there is no vote.
 abbrev pub SaysItsLists : Nomination → Type 0
 SaysItsLists n = (own n ≡ Some (Nominating (record { set_hash = n.hash; votes = n.lists.votes; accepted = n.lists.accepted }))) ⊎ ((own n ≡ None) × (n.lists.votes ≡ []))
 
--- the lists are what they always are, by its driver's levels
+-- the nominator's lists are as they always are, by its driver's levels
 abbrev pub HasOwnLists : {D : Type 0} → (D → ℕ → List ℕ → Level) → Nominator D → Type 0
 HasOwnLists level m = AreOwn (IsFull (level m.guide.driver) m.guide.slot.0) (own_lists m.state.lists)
 
--- since these lists it voted for nothing but what it may, by its driver's levels, what that extracts, and its places
+-- what is new in its votes since these lists is accepted too, or could be voted for, by its driver's answers
 abbrev pub VotesWell : {D : Type 0} → (D → ℕ → List ℕ → Level) → (D → ℕ → List ℕ → Option (List ℕ)) → (D → ℕ → ℕ → ℕ → ℕ) → OwnLists → Nominator D → Type 0
 VotesWell level extracted place lists m =
     VotesFor
@@ -128,13 +128,13 @@ VotesWell level extracted place lists m =
     lists
     (own_lists m.state.lists)
 
--- what a nominator owes by its driver's levels and places: nothing
+-- the nominator owes nothing, by its driver's levels and places
 abbrev pub IsPaid : {D : Type 0} → (D → ℕ → List ℕ → Level) → (D → ℕ → ℕ → ℕ → ℕ) → Nominator D → Type 0
 IsPaid level place m =
     OwesNothing (IsFull (level m.guide.driver) m.guide.slot.0) (Leads (place m.guide.driver m.guide.slot.0) m.nodes.items m.rounds) m.guide.proposal (heard m.state.board) (own_lists m.state.lists)
 
--- What holds of a nominator between its inputs while it hasn't failed: nothing is owed, the lists are on the board, and the
--- leaders are those of the rounds so far.
+-- What holds of a nominator between its inputs while it hasn't failed. Nothing is owed, the own statement on the board is
+-- that of the lists, and the leaders are those of the rounds so far.
 pub record IsWorking {D : Type 0} (level : D → ℕ → List ℕ → Level) (place : D → ℕ → ℕ → ℕ → ℕ) (m : Nominator D) : Type 0 where
   pub paid : IsPaid level place m
   pub rest : IsAtRest (IsFull (level m.guide.driver) m.guide.slot.0) m.state
@@ -143,20 +143,20 @@ pub record IsWorking {D : Type 0} (level : D → ℕ → List ℕ → Level) (pl
   pub nodes : AreInTurn (heard m.state.board).me (heard m.state.board).local m.nodes.items
   pub rounds : m.rounds ≤ length m.nodes.items
 
--- each nominator is so, from the one that `new` makes on
+-- what always holds of a nominator, from `new` on
 abbrev pub IsSound : {D : Type 0} → (D → ℕ → List ℕ → Level) → (D → ℕ → ℕ → ℕ → ℕ) → Nominator D → Type 0
 IsSound level place m = m.failed ≡ false → IsWorking level place m
 
--- what the steps go by: its driver's levels and what that extracts, the leaders of its rounds, and its proposal
+-- what the steps go by: its driver's levels, what the driver extracts, the leaders of its rounds, and its proposal
 abbrev pub rule_of : {D : Type 0} → (D → ℕ → List ℕ → Level) → (D → ℕ → List ℕ → Option (List ℕ)) → (D → ℕ → ℕ → ℕ → ℕ) → Nominator D → Rule
 rule_of level extracted place m =
     record { full = IsFull (level m.guide.driver) m.guide.slot.0; extracted = extracted m.guide.driver m.guide.slot.0; leads = Leads (place m.guide.driver m.guide.slot.0) m.nodes.items m.rounds; proposal = m.guide.proposal }
 
--- the steps lead to its board and its lists from this board and the lists that it had
+-- the steps lead from this board and the lists that it had to its board and its lists
 abbrev pub ComesFrom : {D : Type 0} → (D → ℕ → List ℕ → Level) → (D → ℕ → List ℕ → Option (List ℕ)) → (D → ℕ → ℕ → ℕ → ℕ) → Nomination → Seen → Nominator D → Type 0
 ComesFrom level extracted place old b m = LeadsTo (rule_of level extracted place m) old.hash b old.lists (heard m.state.board) (own_lists m.state.lists)
 
--- so they do from the board with another node's statement
+-- the same from the board with another node's statement
 pub record ComesFromHearing {D : Type 0} (level : D → ℕ → List ℕ → Level) (extracted : D → ℕ → List ℕ → Option (List ℕ)) (place : D → ℕ → ℕ → ℕ → ℕ) (old : Nomination) (e : Envelope) (delivered : QuorumTree) (m : Nominator D) : Type 0 where
   pub board : Seen
   pub puts : PutsCounted old.board board e.statement.node e.statement.pledges delivered

@@ -1,4 +1,4 @@
--- What a node's lists are in nomination, what it may vote for, and what it owes (the SCP draft, in this project's profile).
+-- How a node's lists are in nomination, what it may vote for, and what it owes (the SCP draft, in this project's profile).
 use Rattle.std.specs.Prelude.{◌≡◌, ◌≢◌, ◌≤◌, ℕ, ◌⊎◌, List, [], length, Option, Some, Contains}
 use Rattle.std.specs.Option.{ForSome}
 use Rattle.std.specs.List.Sorted.{IsStrictlySortedBy}
@@ -15,8 +15,8 @@ pub record OwnLists : Type 0 where
   pub accepted : List (List ℕ)
   pub candidates : List (List ℕ)
 
--- What always holds of them: they ascend by bytes, votes and accepted are at most 7 each, what is accepted is voted for and fully
--- validated, and candidates are accepted.
+-- What always holds of the lists: they ascend by bytes, votes and accepted have at most 7 values each, what is accepted is voted
+-- for and fully validated, and candidates are accepted.
 pub record AreOwn (full : List ℕ → Type 0) (s : OwnLists) : Type 0 where
   pub few_votes : length s.votes ≤ 7
   pub few_accepted : length s.accepted ≤ 7
@@ -27,7 +27,7 @@ pub record AreOwn (full : List ℕ → Type 0) (s : OwnLists) : Type 0 where
   pub valid : (v : List ℕ) → Contains s.accepted v → full v
   pub candidates : (v : List ℕ) → Contains s.candidates v → Contains s.accepted v
 
--- the votes have 7 others
+-- the votes have at least 7 values, and this isn't one of them
 abbrev pub HasSevenOthers : List (List ℕ) → List ℕ → Type 0
 HasSevenOthers votes v = (¬ (Contains votes v)) × (7 ≤ length votes)
 
@@ -35,16 +35,16 @@ HasSevenOthers votes v = (¬ (Contains votes v)) × (7 ≤ length votes)
 abbrev pub Names : Seen → NodeId → List ℕ → Type 0
 Names b node v = Has b (Stands VotesOrAccepts (Nominated v)) node
 
--- `full` says which values are fully validated, `leads` who leads. Each fully validated value on the board that is Accepted is
--- in accepted, and each in accepted that is Confirmed is a candidate; while there is no candidate, the proposal, if this node
--- leads, and each fully validated value of another leader are voted for: except values for which the votes have 7 others.
+-- `full` says which values are fully validated, `leads` who leads. Of the fully validated values on the board, those accepted there are
+-- in accepted; those of accepted that are confirmed there are candidates. While there is no candidate, the votes have the proposal, if
+-- this node leads, and each fully validated value of another leader. A vote, or an accepted value, isn't owed if the votes have 7 others.
 pub record OwesNothing (full : List ℕ → Type 0) (leads : NodeId → Type 0) (proposal : Option (List ℕ)) (b : Seen) (s : OwnLists) : Type 0 where
   pub accepted : (node : NodeId) (v : List ℕ) → full v → Names b node v → Accepted b (Nominated v) → Contains s.accepted v ⊎ HasSevenOthers s.votes v
   pub candidates : (v : List ℕ) → Contains s.accepted v → Confirmed b (Nominated v) → Contains s.candidates v
   pub proposed : s.candidates ≡ [] → leads b.me → ForSome proposal (λ v. Contains s.votes v ⊎ HasSevenOthers s.votes v)
   pub led : s.candidates ≡ [] → (node : NodeId) → node ≢ b.me → leads node → (v : List ℕ) → full v → Names b node v → Contains s.votes v ⊎ HasSevenOthers s.votes v
 
--- A value that is named gives itself where it is fully validated, else what is extracted of it, if anything.
+-- A named value gives itself if it is fully validated, else what is extracted from it, if anything.
 abbrev pub Gives : (List ℕ → Type 0) → (List ℕ → Option (List ℕ)) → List ℕ → List ℕ → Type 0
 Gives full extracted named v = (full named × (named ≡ v)) ⊎ ((¬ (full named)) × (extracted named ≡ Some v))
 
@@ -52,7 +52,7 @@ Gives full extracted named v = (full named × (named ≡ v)) ⊎ ((¬ (full name
 abbrev pub IsProposed : (NodeId → Type 0) → Option (List ℕ) → Seen → List ℕ → Type 0
 IsProposed leads proposal b v = leads b.me × (proposal ≡ Some v)
 
--- the node, another than this one, names what gives the value
+-- the node isn't this one, and names a value that gives v
 abbrev pub Suggests : (List ℕ → Type 0) → (List ℕ → Option (List ℕ)) → Seen → NodeId → List ℕ → Type 0
 Suggests full extracted b node v = (node ≢ b.me) × ((named : List ℕ) × Names b node named × Gives full extracted named v)
 
@@ -60,6 +60,6 @@ Suggests full extracted b node v = (node ≢ b.me) × ((named : List ℕ) × Nam
 abbrev pub MayVote : (List ℕ → Type 0) → (List ℕ → Option (List ℕ)) → (NodeId → Type 0) → Option (List ℕ) → Seen → List ℕ → Type 0
 MayVote full extracted leads proposal b v = IsProposed leads proposal b v ⊎ ((node : NodeId) × leads node × Suggests full extracted b node v)
 
--- What is new in votes is in accepted too, or may be voted for, and then there was no candidate.
+-- A new vote is in accepted too; or it may be voted for, and there was no candidate.
 abbrev pub VotesFor : (List ℕ → Type 0) → OwnLists → OwnLists → Type 0
 VotesFor may old new = (v : List ℕ) → Contains new.votes v → Contains old.votes v ⊎ Contains new.accepted v ⊎ ((old.candidates ≡ []) × may v)

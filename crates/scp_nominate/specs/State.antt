@@ -10,7 +10,7 @@ use Rattle.scp_nominate.specs.Own.{StandsFor, IsReady, IsKnown}
 abbrev pub own_at : State → Option Pledges
 own_at m = (heard m.board).statement (heard m.board).me
 
--- Between inputs: the own statement is that of the lists, which are ready, and the fully validated values are known.
+-- Between inputs: the own statement is that of the lists, which are as they must be, and the fully validated values are known.
 pub record IsAtRest (full : List ℕ → Type 0) (m : State) : Type 0 where
   pub keeps : KeepsOwn (heard m.board)
   pub stands : StandsFor (own_at m) m.hash m.lists

@@ -1,4 +1,4 @@
--- The steps of nomination (the SCP draft's, in this project's profile), on what the board shows while they are taken.
+-- The steps of nomination (the SCP draft, in this project's profile), on what the board shows meanwhile.
 use Rattle.std.specs.Prelude.{ℕ, List}
 use Rattle.scp_nominate.specs.declared.lists.Lists.{Lists}
 use Rattle.scp_nominate.specs.Values.{Has}

@@ -6,7 +6,7 @@ use Rattle.scp_quorum.specs.NodeSet.{node_cmp}
 use Rattle.scp_quorum.specs.QuorumTree.{QuorumTree}
 use Rattle.scp_quorum.specs.Sane.{all_nodes}
 
--- the node leads one of the rounds so far: it stands at the place of that round's leader
+-- the node leads one of the rounds so far: it is at the place of that round's leader
 abbrev pub Leads : (ℕ → ℕ → ℕ) → List NodeId → ℕ → NodeId → Type 0
 Leads place nodes rounds node = (r : ℕ) × (1 ≤ r) × (r ≤ rounds) × (slice_get nodes (place r (length nodes)) ≡ Some node)
 

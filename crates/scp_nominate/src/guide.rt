@@ -25,7 +25,7 @@ use scp_types::{Fault, NodeId, Slot, Value};
 use scp_vote::Board;
 use std::alloc::Global;
 
-/// What the steps read: the driver, the slot, the leaders so far, ascending, and what this node proposes.
+/// What the steps read: the driver, the slot, the leaders so far, ascending, and this node's proposal.
 #[derive(Drop)]
 pub(crate) struct Guide<D: Driver> {
     pub(crate) driver: D,
@@ -61,7 +61,7 @@ impl<D: Driver> Guide<D> {
         Ok(())
     }
 
-    /// Step 1: where there is no candidate, votes for the proposal and for what other leaders name.
+    /// Step 1: if there is no candidate, votes for the proposal and for what other leaders name.
     fn vote_first(&self, alloc: Global, board: &Board, lists: &mut Lists) -> Result<(), Fault>
         requires ascending { IsStrictlySortedBy node_cmp self.now.leaders.items }
         ensures voting { OnOk result (IsVoting lists.old lists.new) }
@@ -86,7 +86,7 @@ impl<D: Driver> Guide<D> {
         Ok(())
     }
 
-    /// Steps 1 to 3 on the board as it stands: votes, then accepts, then finds candidates. `known` are the fully validated
+    /// Steps 1 to 3 on the board as it is: votes, then accepts, then finds candidates. `known` are the fully validated
     /// values on the board.
     pub(crate) fn pass(
         &self,

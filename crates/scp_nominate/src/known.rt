@@ -9,7 +9,7 @@ use crate::values::ValueSet;
 use scp_driver::{Driver, Level};
 use scp_types::{Fault, Slot, Value};
 
-/// Adds the value where it is fully validated.
+/// Adds the value if it is fully validated.
 #[tactic(auto, using(crate::proofs::Knowing::learns_none, crate::proofs::Knowing::learns_one))]
 fn know_one<D: Driver>(
     driver: &D,

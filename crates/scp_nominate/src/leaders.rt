@@ -44,7 +44,7 @@ fn add_all(set: &mut ValueSet, values: &[Value]) -> Result<(), Fault>
     Ok(())
 }
 
-/// Votes for the value where it is fully validated, else for what the driver takes of it.
+/// Votes for the value if it is fully validated, else for what the driver takes from it, if anything.
 fn vote_of<D: Driver>(
     driver: &D,
     alloc: Global,
@@ -67,7 +67,7 @@ fn vote_of<D: Driver>(
     }
 }
 
-/// `vote_of` each value, in order.
+/// Votes for each value as `vote_of` does, in order.
 pub(crate) fn vote_all<D: Driver>(
     driver: &D,
     alloc: Global,
@@ -139,7 +139,7 @@ pub(crate) fn vote_leader<D: Driver>(
     }
 }
 
-/// `vote_leader` of another node.
+/// Votes for what the leader's statement names, unless the leader is this node.
 fn vote_other<D: Driver>(
     driver: &D,
     alloc: Global,
@@ -160,7 +160,7 @@ fn vote_other<D: Driver>(
     vote_leader(driver, alloc, slot, board, leader, votes)
 }
 
-/// Votes for what the statements of the leaders other than this node name, in their order.
+/// Votes for what the statements of the leaders name, in their order, leaving out this node.
 pub(crate) fn vote_leaders<D: Driver>(
     driver: &D,
     alloc: Global,

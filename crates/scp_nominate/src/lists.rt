@@ -42,7 +42,7 @@ pub(crate) fn vote(votes: &mut ValueSet, value: &Value) -> Result<(), Fault>
     votes.insert(value.copy()?)
 }
 
-/// Whether the value is voted for, or one more can be.
+/// Whether the value is voted for, or there is room for one more vote.
 fn has_room(votes: &ValueSet, value: &Value) -> bool
     ensures { IsTrue result ↔ HasRoom votes.now value.now }
 {
@@ -67,7 +67,7 @@ fn is_confirmed(board: &Board, value: &Value) -> Result<bool, Fault>
     board.confirmed(&claim)
 }
 
-/// Accepts the value where it is accepted on the board and there is room for it.
+/// Accepts the value if it is accepted on the board and there is room for it.
 #[tactic(auto, using(crate::proofs::Growing::accepts_none, crate::proofs::Growing::no_room, crate::proofs::Growing::accepts_one))]
 fn accept_one(board: &Board, value: &Value, lists: &mut Lists) -> Result<(), Fault>
     ensures accepts { OnOk result (Accepts (λ v. value.now ≡ v) (heard board.now) lists.old lists.new) }
@@ -89,7 +89,7 @@ fn accept_one(board: &Board, value: &Value, lists: &mut Lists) -> Result<(), Fau
     Ok(())
 }
 
-/// Accepts each known value that is accepted on the board, in order, where there is room for it.
+/// Accepts each known value that is accepted on the board, in order, while there is room for it.
 pub(crate) fn accept(board: &Board, known: &ValueSet, lists: &mut Lists) -> Result<(), Fault>
     ensures accepts { OnOk result (Accepts (λ v. Has known.now v) (heard board.now) lists.old lists.new) }
     ensures taken { OnOk result ((v : List ℕ) → Has known.now v → Accepted (heard board.now) (Nominated v) → IsTaken lists.new v) }
@@ -103,7 +103,7 @@ pub(crate) fn accept(board: &Board, known: &ValueSet, lists: &mut Lists) -> Resu
 }
 
 #[tactic(auto, using(crate::proofs::Growing::confirms_none, crate::proofs::Growing::confirms_one))]
-/// Makes the value a candidate where it is confirmed on the board.
+/// Makes the value a candidate if it is confirmed on the board.
 fn confirm_one(board: &Board, value: &Value, candidates: &mut ValueSet) -> Result<(), Fault>
     ensures confirms { OnOk result (Confirms (λ v. value.now ≡ v) (heard board.now) candidates.old candidates.new) }
     ensures done { OnOk result (Confirmed (heard board.now) (Nominated value.now) → Has candidates.new value.now) }

@@ -10,7 +10,7 @@ use scp_driver::Driver;
 use scp_quorum::QuorumSet;
 use scp_types::{Fault, NodeId, Slot};
 
-/// This node and the nodes of its set, ascending, each once.
+/// This node and the nodes of its set, ascending, each once. The only refusal is `NoMemory`.
 pub fn nodes_with(me: NodeId, set: &QuorumSet) -> Result<Vec<NodeId>, Fault>
     ensures nodes { IfOk result (λ nodes. AreInTurn me set.now nodes.items) }
     ensures only_memory { IsOkUnless result Fault.NoMemory }
@@ -22,7 +22,7 @@ pub fn nodes_with(me: NodeId, set: &QuorumSet) -> Result<Vec<NodeId>, Fault>
     Ok(nodes)
 }
 
-/// Where the node is, or where it would go.
+/// The place of the node, or else the place where it would go.
 fn place_in(nodes: &[NodeId], node: &NodeId) -> Result<usize, usize>
     requires ascending { IsStrictlySortedBy node_cmp nodes.now }
     ensures found { IfOk result (λ at. Contains nodes.now node.now) }

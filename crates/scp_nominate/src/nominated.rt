@@ -2,7 +2,7 @@
 use scp_envelope::SharedEnvelope;
 use scp_types::Value;
 
-/// What an input gives: the own statement where it is to be emitted, and the composite where the candidates grew.
+/// What an input gives: the own statement if it is to be emitted, and the composite if the candidates grew.
 #[derive(Debug, Drop)]
 pub struct Nominated {
     pub statement: Option<SharedEnvelope>,

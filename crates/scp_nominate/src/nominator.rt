@@ -20,8 +20,8 @@ use scp_vote::Board;
 use std::alloc::Global;
 use std::sync::Arc;
 
-/// What one node votes for, accepts and finds confirmed in one slot, by its driver. After a refusal it is failed, and answers
-/// `Fault::Failed` from then on.
+/// What one node votes for, accepts and finds confirmed in one slot, with its driver. After a refusal it has failed, and
+/// answers `Fault::Failed` from then on.
 #[derive(Drop)]
 pub struct Nominator<D: Driver + Drop> {
     guide: Guide<D>,
@@ -40,7 +40,7 @@ impl<D: Driver + Drop> Nominator<D> {
     ghost use Rattle.scp_nominate.specs.inside.State.{IsSettling, IsOwnOf};
     ghost use Rattle.scp_nominate.specs.Nomination.{nomination, driver_of, board_of, own, Advances, HasOwnLists, SaysItsLists, VotesWell, KeepsMaking, KeepsOthers, Hears, IsSound, IsPaid, Begins, first_of, ComesFrom, ComesFromHearing};
 
-    /// A nominator that has heard nothing, in round 1. The one refusal is `Fault::NoMemory`.
+    /// A nominator that has heard nothing, in round 1. The only refusal is `Fault::NoMemory`.
     pub fn new(
         alloc: Global,
         me: NodeId,
@@ -86,7 +86,7 @@ impl<D: Driver + Drop> Nominator<D> {
         &self.state.board
     }
 
-    /// The leaders of the rounds so far, ascending. Of a nominator that failed no clause says them.
+    /// The leaders of the rounds so far, ascending. No clause speaks of them once the nominator has failed.
     pub fn leaders(&self) -> &[NodeId]
         ensures leaders { IsSound D.says.level D.says.place self.now → (nomination self.now).failed ≡ false → (node : NodeId) → Contains result.now node ↔ Leads (D.says.place (driver_of self.now) (nomination self.now).slot) (nomination self.now).nodes (nomination self.now).rounds node }
         ensures ascending { IsSound D.says.level D.says.place self.now → (nomination self.now).failed ≡ false → IsStrictlySortedBy node_cmp result.now }
@@ -108,7 +108,7 @@ impl<D: Driver + Drop> Nominator<D> {
         self.guide.proposal.as_ref()
     }
 
-    /// The values that are found confirmed, ascending by bytes.
+    /// The values that were found confirmed, ascending by bytes.
     pub fn candidates(&self) -> &[Value]
         ensures { result.now ≡ (nomination self.now).lists.candidates }
     {
@@ -122,15 +122,15 @@ impl<D: Driver + Drop> Nominator<D> {
         self.guide.proposal.is_some()
     }
 
-    /// Whether there were as many rounds as there are nodes that lead in turn, so that no more is added.
+    /// Whether there were as many rounds as there are nodes that lead in turn, so that no more rounds are added.
     pub fn is_last_round(&self) -> bool
         ensures exact { IsTrue result ↔ (length (nomination self.now).nodes ≤ (nomination self.now).rounds) }
     {
         self.rounds >= self.nodes.len() as u64
     }
 
-    /// This node proposes the value; the first proposal is kept, and a later one changes nothing. Refused by `Failed` once a
-    /// call was refused, else by `NoMemory`.
+    /// This node proposes the value. The first proposal is kept, and a later one changes nothing. Refused by `Failed` if an
+    /// earlier call was refused, else by `NoMemory`.
     pub fn propose(&mut self, value: Value) -> Result<Nominated, Fault>
         requires sound { IsSound D.says.level D.says.place self.old }
         ensures advances { IfOk result (λ given. Advances (D.says.combined (driver_of self.old) (nomination self.old).slot) (own (nomination self.old)) (nomination self.old).lists (nomination self.new) given) }
@@ -165,8 +165,8 @@ impl<D: Driver + Drop> Nominator<D> {
         Ok(given)
     }
 
-    /// Another node's fresh NOMINATE, with the quorum set that was delivered with it. Refused by `Failed` once a call was
-    /// refused, else by `NoMemory`.
+    /// Takes another node's NOMINATE, with the quorum set that was delivered with it; that it is newer is for the caller
+    /// to test. Refused by `Failed` if an earlier call was refused, else by `NoMemory`.
     pub fn take(
         &mut self,
         envelope: SharedEnvelope,
@@ -203,8 +203,8 @@ impl<D: Driver + Drop> Nominator<D> {
         Ok(given)
     }
 
-    /// Adds one round and its leader, up to as many rounds as there are nodes that lead in turn; beyond that nothing changes.
-    /// Refused by `Failed` once a call was refused, else by `NoMemory`.
+    /// Adds one round and its leader, up to as many rounds as there are nodes that lead in turn; after that nothing changes.
+    /// Refused by `Failed` if an earlier call was refused, else by `NoMemory`.
     pub fn round(&mut self) -> Result<Nominated, Fault>
         requires sound { IsSound D.says.level D.says.place self.old }
         ensures advances { IfOk result (λ given. Advances (D.says.combined (driver_of self.old) (nomination self.old).slot) (own (nomination self.old)) (nomination self.old).lists (nomination self.new) given) }

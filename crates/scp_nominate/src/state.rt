@@ -41,7 +41,7 @@ impl State {
     ghost use Rattle.scp_nominate.specs.State.{IsAtRest};
     ghost use Rattle.scp_nominate.specs.inside.State.{IsSettling, IsOwnOf, Renews, HearsOne, StateBegins};
 
-    /// An empty board of this node and its set, and empty lists.
+    /// An empty board for this node and its set, and empty lists.
     pub(crate) fn new(alloc: Global, me: NodeId, local: Arc<SaneSet>) -> Result<State, Fault>
         ensures begins { IfOk result (λ made. StateBegins me local.value made) }
         ensures only_memory { IsOkUnless result Fault.NoMemory }
@@ -61,7 +61,7 @@ impl State {
         })
     }
 
-    /// How much the own lists hold.
+    /// How many values the votes and the accepted values are together.
     fn size(&self) -> usize
         requires few { length self.now.lists.votes.values.items + length self.now.lists.accepted.values.items ≤ 14 }
         ensures { result ≡ length self.now.lists.votes.values.items + length self.now.lists.accepted.values.items }
@@ -103,7 +103,7 @@ impl State {
         Ok(())
     }
 
-    /// Repeats the steps until none changes the own lists, which then are on the board. Whether the own statement changed.
+    /// Repeats the steps until they leave the own lists as they are; these are then on the board. Returns whether the own statement changed.
     fn settle<D: Driver>(&mut self, guide: &Guide<D>) -> Result<bool, Fault>
         requires rest { IsAtRest (IsFull (D.says.level guide.now.driver) guide.now.slot.0) self.old }
         requires ascending { IsStrictlySortedBy node_cmp guide.now.leaders.items }
@@ -139,7 +139,7 @@ impl State {
         }
     }
 
-    /// What all candidates are combined to, where there are more than so many.
+    /// The composite of all candidates, if there are more than `before`.
     fn composite<D: Driver>(&self, guide: &Guide<D>, before: usize) -> Result<Option<Value>, Fault>
         ensures more { IfOk result (λ found. IsSome found ↔ (before < length self.now.lists.candidates.values.items)) }
         ensures all { IfOk result (λ found. ForSome found (λ v. v ≡ D.says.combined guide.now.driver guide.now.slot.0 self.now.lists.candidates.values.items)) }
@@ -153,7 +153,7 @@ impl State {
         Ok(Some(all))
     }
 
-    /// Repeats the steps after an input, and what it gives.
+    /// Repeats the steps after an input. Returns what the input gives.
     pub(crate) fn advance<D: Driver>(&mut self, guide: &Guide<D>) -> Result<Nominated, Fault>
         requires rest { IsAtRest (IsFull (D.says.level guide.now.driver) guide.now.slot.0) self.old }
         requires ascending { IsStrictlySortedBy node_cmp guide.now.leaders.items }

@@ -42,7 +42,7 @@ impl ValueSet {
         self.values.as_slice()
     }
 
-    /// Where the value is, or where it would go.
+    /// The place of the value, or else the place where it would go.
     fn search(&self, value: &Value) -> Result<usize, usize>
         ensures found { IfOk result (λ at. Has self.now value.now) }
         ensures gap { IfErr result (λ at. IsGap self.now value.now at) }

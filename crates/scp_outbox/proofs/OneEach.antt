@@ -23,7 +23,7 @@ alike_is s t h =
     let p = and_parts (nat_eq s.slot.0 t.slot.0) (same_bool (is_nomination s.pledges) (is_nomination t.pledges)) h in
     (eqb-true s.slot.0 t.slot.0 p.0, same_bool_is (is_nomination s.pledges) (is_nomination t.pledges) p.1)
 
--- so others are alike to both or to neither
+-- so any other statement is alike to both or to neither
 alike_left : (s t u : Statement) → are_alike s t ≡ true → are_alike s u ≡ are_alike t u
 alike_left s t u h =
     let is = alike_is s t h in
@@ -45,7 +45,7 @@ pairs_drop : {X : Type 0} (R : X → X → Type 0) (n : ℕ) (xs : List X) → A
 pairs_drop R n xs h i j d lt below =
     rw (get_or-drop n xs i d, get_or-drop n xs j d) (h (n + i) (n + j) d (omega arith) (omega (arith, length-drop n xs)))
 
--- where one makes way for another to which the others stand as to it, all pairs stand as before
+-- if one makes way for another to which the others are related as to it, all pairs are related as before
 pairs_set : {X : Type 0} (R : X → X → Type 0) (xs : List X) (i : ℕ) (held e : X) → slice_get xs i ≡ Some held → ((x : X) → R held x → R e x) → ((x : X) → R x held → R x e) → AllPairs R xs → AllPairs R (set xs i e)
 pairs_set {X} R xs i held e at to from h j k d lt below =
     let long : length (set xs i e) ≡ length xs = length-set xs i e in

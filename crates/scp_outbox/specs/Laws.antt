@@ -32,7 +32,7 @@ StatementsKeepOneEach = (old : List Boxed) (e : Boxed) (new : List Boxed) (lost 
 abbrev pub PutsKeepOneEach : Type 0
 PutsKeepOneEach = (old : OutboxView) (put : Message) (new : OutboxView) → IsOutbox old → IsFitting put → Puts old put new → IsOutbox new
 
--- so does what is given, which fits
+-- so does giving, and a message that is given fits
 abbrev pub GivesKeepOneEach : Type 0
 GivesKeepOneEach = (old : OutboxView) (result : Out) (new : OutboxView) → IsOutbox old → Gives old result new → IsOutbox new × IfMessage result IsFitting
 
@@ -40,10 +40,10 @@ GivesKeepOneEach = (old : OutboxView) (result : Out) (new : OutboxView) → IsOu
 abbrev pub waiting : OutboxView → ℕ
 waiting v = length v.marks + (length v.ring + length v.statements)
 
--- one less waits than before, or nothing was given and nothing changed
+-- one item less waits than before; or nothing was given, and nothing changed
 abbrev pub GivesTakeOne : Type 0
 GivesTakeOne = (old : OutboxView) (result : Out) (new : OutboxView) → Gives old result new → (waiting old ≡ waiting new + 1) ⊎ ((result ≡ Nothing) × (new ≡ old))
 
--- a message is given of a live link only, and where no mark waits
+-- a message is given only if the link is live and no mark waits
 abbrev pub GivesMessagesWhileLive : Type 0
 GivesMessagesWhileLive = (old : OutboxView) (result : Out) (new : OutboxView) → Gives old result new → IfMessage result (λ _. (old.live ≡ true) × (old.marks ≡ []))

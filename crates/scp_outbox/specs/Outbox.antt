@@ -23,43 +23,43 @@ pub record OutboxView : Type 0 where
   pub statements : List Boxed
   pub overwritten : ℕ  -- how many statements were lost before they were given
 
--- a nomination, and not a ballot statement
+-- whether it is a nomination, and not a ballot statement
 abbrev pub is_nomination : Pledges → Bool
 is_nomination (Prepare p) = false
 is_nomination (Confirm p) = false
 is_nomination (Externalize p) = false
 is_nomination (Nominate p) = true
 
--- both or neither
+-- both are true, or both are false
 abbrev pub same_bool : Bool → Bool → Bool
 same_bool a b = if a then b else not b
 
--- of one slot and one kind
+-- both are about one slot and of one kind
 abbrev pub are_alike : Statement → Statement → Bool
 are_alike s t = nat_eq s.slot.0 t.slot.0 && same_bool (is_nomination s.pledges) (is_nomination t.pledges)
 
--- the statement of that place is replaced, and so lost, where the one that comes is newer; else nothing is lost
+-- the statement at this place is replaced, and so lost, if the one that comes is newer; else nothing is lost
 abbrev pub Replaces : List Boxed → ℕ → Boxed → List Boxed → ℕ → Type 0
 Replaces old place came new lost = (held : Boxed) × (slice_get old place ≡ Some held)
     × ((IsNewer held.value.statement came.value.statement × (new ≡ slice_set old place came) × (lost ≡ 1))
     ⊎ ((¬ (IsNewer held.value.statement came.value.statement)) × (new ≡ old) × (lost ≡ 0)))
 
--- it goes last, and what is over 64 is lost: the first
+-- the statement goes last; if there are then over 64, the first is lost
 abbrev pub GoesLast : List Boxed → Boxed → List Boxed → ℕ → Type 0
 GoesLast old came new lost = (new ≡ keep_last WAITING_LIMIT (old ++ came ∷ [])) × (lost ≡ length (old ++ came ∷ []) - WAITING_LIMIT)
 
--- a statement comes: one of a slot and kind that is there keeps its place, another goes last, and over 64 the first goes; and
--- how many of those that waited are lost, one or none
+-- A statement comes. If one of its slot and kind waits, it keeps the place; else the new one goes last, and over 64 the first
+-- is lost. Also how many of those that waited are lost: one or none.
 abbrev pub Takes : List Boxed → Boxed → List Boxed → ℕ → Type 0
 Takes old came new lost = MatchOption (position (λ held. are_alike held.value.statement came.value.statement) old)
     (GoesLast old came new lost)
     (λ place. Replaces old place came new lost)
 
--- so many more are lost; the count stays at the greatest 64-bit number
+-- the count with this many more lost; it stays at the greatest 64-bit number
 abbrev pub counted : ℕ → ℕ → ℕ
 counted overwritten lost = min (overwritten + lost) (2 ^ 64 - 1)
 
--- another message goes last in the ring, and over 64 the first goes
+-- another message goes last in the ring, and over 64 the first is overwritten
 abbrev pub RingTakes : OutboxView → Message → OutboxView → Type 0
 RingTakes old message new = new ≡ record old { ring = keep_last WAITING_LIMIT (old.ring ++ message ∷ []) }
 
@@ -84,22 +84,22 @@ live_after Opened live = true
 live_after Closed live = false
 live_after Stop live = live
 
--- what is given, and what is left, where no mark waits, the link is live and no request or answer waits: the first statement
+-- what is given and what is left, if no mark and no request or answer waits and the link is live: the first statement is given
 abbrev pub given_statements : OutboxView → List Boxed → Out × OutboxView
 given_statements v [] = (out.Nothing, v)
 given_statements v (envelope ∷ rest) = (out.Message (Envelope envelope), record v { statements = rest })
 
--- where no mark waits and the link is live: the oldest request or answer first
+-- the same if no mark waits and the link is live: the oldest request or answer is given first
 abbrev pub given_messages : OutboxView → List Message → Out × OutboxView
 given_messages v [] = given_statements v v.statements
 given_messages v (message ∷ rest) = (out.Message message, record v { ring = rest })
 
--- where no mark waits: messages only of a live link
+-- the same if no mark waits: messages are given only if the link is live
 abbrev pub given_live : OutboxView → Bool → Out × OutboxView
 given_live v true = given_messages v v.ring
 given_live v false = (out.Nothing, v)
 
--- marks before all else
+-- the same in any case: marks are given before all else
 abbrev pub given_from : OutboxView → List Mark → Out × OutboxView
 given_from v [] = given_live v v.live
 given_from v (mark ∷ rest) = (out.Mark mark, record v { marks = rest; live = live_after mark v.live })
@@ -112,11 +112,11 @@ given v = given_from v v.marks
 abbrev pub Gives : OutboxView → Out → OutboxView → Type 0
 Gives old result new = (result, new) ≡ given old
 
--- at most one statement of each slot and kind
+-- there is at most one statement of each slot and kind
 abbrev pub AreOneEach : List Boxed → Type 0
 AreOneEach statements = AllPairs (λ (a b : Boxed). are_alike a.value.statement b.value.statement ≡ false) statements
 
--- the limits, one statement of each slot and kind, and each message fits a link
+-- the limits hold, there is at most one statement of each slot and kind, and each message fits a link
 pub record IsOutbox (v : OutboxView) : Type 0 where
   pub marks : length v.marks ≤ MARK_LIMIT
   pub ring : length v.ring ≤ WAITING_LIMIT
@@ -125,7 +125,7 @@ pub record IsOutbox (v : OutboxView) : Type 0 where
   pub ring_fits : All IsFitting v.ring
   pub statements_fit : All (λ (held : Boxed). IsFitting (Envelope held)) v.statements
 
--- what is given is a message with the property, or no message
+-- if a message is given, it has the property
 abbrev pub IfMessage : Out → (Message → Type 0) → Type 0
 IfMessage (out.Mark mark) P = Unit {0}
 IfMessage (out.Message message) P = P message

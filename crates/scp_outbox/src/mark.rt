@@ -1,4 +1,4 @@
-//! What an outbox is told and tells of the link, and what it gives.
+//! What an outbox learns and says about the link, and what it gives.
 
 use scp_wire::Message;
 

@@ -1,4 +1,4 @@
-//! What waits to go to one peer.
+//! What waits for one peer.
 ghost use Rattle.std.specs.Prelude.{◌≡◌, ◌≢◌, ◌∷◌, ◌++◌, [], ◌<◌, ◌↔◌, ◌==◌, ◌≤◌, length, IfOk, OnOk, OnErr, IsOk, IsTrue, IsOkUnless, Ok, Err, position, Some, None, slice_get, slice_set, MatchOption, false, ◌+◌};
 ghost use Rattle.scp_envelope.specs.Newer.{IsNewer};
 ghost use Rattle.scp_wire.specs.Boxed.{Boxed};
@@ -20,8 +20,8 @@ pub const MARK_LIMIT: usize = 16;
 /// The most requests and answers that wait, and the most statements (this project's profile).
 pub const WAITING_LIMIT: usize = 64;
 
-/// What waits to go to one peer. Contracts see whether the link is live, three lists, the marks, the requests and answers,
-/// and the statements, and how many statements were lost.
+/// What waits for one peer. Contracts see whether the link is live; the marks, the requests and answers, and the
+/// statements, each as a list; and how many statements were lost.
 #[derive(Drop)]
 pub struct Outbox {
     live: bool,
@@ -50,12 +50,12 @@ impl Model for Outbox {
 }
 
 impl Outbox {
-    /// An outbox in which nothing waits, of a link that is live or isn't: only of a live link messages are given. It takes
-    /// all the memory that it ever needs, and the one refusal is `Fault::NoMemory`.
+    /// An outbox in which nothing waits, for a link that is live or isn't: messages are given only while it is live. Takes
+    /// all the memory that it ever needs. The only refusal is `Fault::NoMemory`.
     pub fn new(alloc: Global, live: bool) -> Result<Outbox, Fault>
         // Nothing waits, and nothing was lost.
         ensures made { IfOk result (λ o. o ≡ record { live = live; marks = []; ring = []; statements = []; overwritten = 0 }) }
-        // Only want of memory is a reason to refuse.
+        // The only refusal is `NoMemory`.
         ensures only_memory { IsOkUnless result Fault.NoMemory }
     {
         Ok(Outbox {
@@ -74,22 +74,21 @@ impl Outbox {
         self.ring.len() + self.statements.len()
     }
 
-    /// How many own statements were lost since the outbox was made, before they were given: those that a newer one of their
-    /// slot and kind replaced, and those that were dropped where 64 others waited. A statement that comes and isn't newer
-    /// than the one that waits counts as none, and so do requests and answers.
+    /// How many own statements were lost, before they were given, since the outbox was made: those that a newer one of
+    /// their slot and kind replaced, and those that were dropped because 64 others waited. A statement that comes and isn't
+    /// newer than the one that waits isn't counted, nor are requests and answers.
     pub fn overwritten(&self) -> u64
         ensures { result ≡ self.now.overwritten }
     {
         self.overwritten
     }
 
-    /// Lets a message wait. It is never refused, takes no memory and waits for nobody, whether the link is live or not.
+    /// Lets a message wait. Is never refused, takes no memory and waits for nobody, whether the link is live or not.
     ///
-    /// A request or an answer goes last among these; where 64 wait, the oldest is overwritten. A statement replaces the one
-    /// of its slot and kind (nomination or ballot) that waits, in its place, where it is newer, and is dropped where it isn't;
-    /// where none of its slot and kind waits it goes last, and over 64 the first is dropped. A statement that is replaced and
-    /// one that is dropped as the first of over 64 count as overwritten. A statement is compared with at most 64 others by
-    /// slot and kind, and with one by content.
+    /// A request or an answer goes last among these; if 64 wait, the oldest is overwritten. If a statement of the same slot and kind
+    /// (nomination or ballot) waits, a newer statement takes its place, and one that isn't newer is dropped. If none waits, it goes last,
+    /// and over 64 the first is dropped. What is replaced, and what is dropped as the first of over 64, counts as overwritten. A statement
+    /// is compared with at most 64 others by slot and kind, and with one by content.
     pub fn put(&mut self, message: FittingMessage)
         // How the lists change, and what is lost.
         ensures puts { Puts self.old message self.new }
@@ -102,16 +101,16 @@ impl Outbox {
         }
     }
 
-    /// Lets a mark wait, which takes effect when it is given. `Fault::Full` just where 16 marks wait; nothing changes then.
-    /// Takes no memory.
+    /// Lets a mark wait; it takes effect when it is given. `Fault::Full` exactly where 16 marks wait, and then nothing
+    /// changes. Takes no memory.
     pub fn mark(&mut self, mark: Mark) -> Result<(), Fault>
-        // It waits where there is room.
+        // It waits if there is room.
         ensures room { IsOk result ↔ (length self.old.marks < MARK_LIMIT) }
         // It goes last.
         ensures ok { OnOk result (self.new ≡ record self.old { marks = self.old.marks ++ mark ∷ [] }) }
         // A refusal leaves all as it was.
         ensures err { OnErr result (self.new ≡ self.old) }
-        // There is one reason to refuse.
+        // The only refusal is `Full`.
         ensures only { IsOkUnless result Fault.Full }
         // The limits, and one statement of each slot and kind.
         ensures known { IsOutbox self.new }
@@ -122,9 +121,9 @@ impl Outbox {
         }
     }
 
-    /// What is to be sent next: the first mark; where none waits and the link is live, the oldest request or answer; where
-    /// none of these waits either, the first statement; else `Out::Nothing`. What was given is gone. The mark Opened makes
-    /// the link live, and Closed makes it not live. Takes no memory.
+    /// What is to be sent next: the first mark; if none waits and the link is live, the oldest request or answer; if none
+    /// of these waits either, the first statement; else `Out::Nothing`. What was given is gone. The mark Opened makes the
+    /// link live, and Closed makes it not live. Takes no memory.
     pub fn next(&mut self) -> Out
         // What is given, and what is left.
         ensures gives { Gives self.old result self.new }
@@ -149,9 +148,9 @@ impl Outbox {
         Out::Nothing
     }
 
-    /// A law of every outbox, wherever it stands and at each turn of a lock that it stands behind: at most 16 marks, 64
-    /// requests and answers and 64 statements wait, at most one statement of each slot and kind, and each message fits a
-    /// link. Does nothing.
+    /// A law of every outbox, wherever it is, also behind a lock between any two turns. At most 16 marks, 64 requests
+    /// and answers and 64 statements wait, at most one statement of each slot and kind, and each message fits a link.
+    /// Does nothing.
     pub fn keeps_its_limits(&self)
         ensures known { IsOutbox self.now }
     {
@@ -198,7 +197,7 @@ fn is_live_after(mark: Mark, live: bool) -> bool
     }
 }
 
-/// Whether both are of one slot, and both nominations or both ballot statements.
+/// Whether both are about one slot, and both are nominations or both ballot statements.
 fn is_alike(left: &Statement, right: &Statement) -> bool
     ensures { result ≡ are_alike left.now right.now }
 {
@@ -212,7 +211,7 @@ fn is_nomination(pledges: &Pledges) -> bool
     matches!(pledges, Pledges::Nominate(_))
 }
 
-/// The place of the statement of the envelope's slot and kind.
+/// The place of the statement with the envelope's slot and kind, if one waits.
 fn place_of(
     statements: &HeapCircularBuffer<BoxedEnvelope>,
     envelope: &BoxedEnvelope,
@@ -222,7 +221,7 @@ fn place_of(
     statements.iter().position(|held| is_alike(&held.get().statement, &envelope.get().statement))
 }
 
-/// Lets a statement wait among these. Gives how many were lost.
+/// Lets a statement wait among these. Returns how many were lost.
 fn take_statement(
     statements: &mut HeapCircularBuffer<BoxedEnvelope>,
     envelope: BoxedEnvelope,
@@ -238,7 +237,7 @@ fn take_statement(
     }
 }
 
-/// Puts a statement last. Gives how many were lost.
+/// Puts a statement last. Returns how many were lost.
 fn push_last(statements: &mut HeapCircularBuffer<BoxedEnvelope>, envelope: BoxedEnvelope) -> u64
     requires room { statements.old.capacity ≡ WAITING_LIMIT }
     requires few { length statements.old.items ≤ WAITING_LIMIT }
@@ -254,7 +253,7 @@ fn push_last(statements: &mut HeapCircularBuffer<BoxedEnvelope>, envelope: Boxed
     lost
 }
 
-/// Whether the statement is newer than the one at that place.
+/// Whether the statement is newer than the one at this place.
 fn is_newer_there(
     statements: &HeapCircularBuffer<BoxedEnvelope>,
     place: usize,
@@ -269,7 +268,7 @@ fn is_newer_there(
     }
 }
 
-/// Puts the envelope in that place.
+/// Puts the envelope at this place.
 fn write_there(
     statements: &mut HeapCircularBuffer<BoxedEnvelope>,
     place: usize,
@@ -284,7 +283,7 @@ fn write_there(
     }
 }
 
-/// Puts the envelope in that place where its statement is newer. Gives how many were lost.
+/// Puts the envelope at this place if its statement is newer. Returns how many were lost.
 fn replace(
     statements: &mut HeapCircularBuffer<BoxedEnvelope>,
     place: usize,

@@ -32,7 +32,7 @@ takes_by P old e new lost (Some i) all one h =
       | inr w ↦ subst (All P) (sym w.1) all
     ]
 
--- what holds of all that is held and of what comes holds of all that is held then
+-- what holds of all statements that waited, and of the one that comes, holds of all that wait then
 all_takes : (P : Boxed → Type 0) (old : List Boxed) (e : Boxed) (new : List Boxed) (lost : ℕ) → All P old → P e → Takes old e new lost → All P new
 all_takes P old e new lost all one h = takes_by P old e new lost (position (λ (held : Boxed). are_alike held.value.statement e.value.statement) old) all one h
 

@@ -18,7 +18,7 @@ statement_of (GetRecord slot) = None
 statement_of (Record slot value) = None
 statement_of (Records first values) = None
 
--- of two statements of one slot and kind the later is newer
+-- if the two statements are of one slot and kind, the second is newer
 abbrev pub IsStep : Option Statement → Option Statement → Type 0
 IsStep (Some s) (Some t) = are_alike s t ≡ true → IsNewer s t
 IsStep (Some s) None = Unit {0}
@@ -28,7 +28,7 @@ IsStep None t = Unit {0}
 abbrev pub AreNewer : List Message → Type 0
 AreNewer messages = AllPairs (λ m n. IsStep (statement_of m) (statement_of n)) messages
 
--- what was sent spells messages that were handed out, and each statement is newer than all of its slot and kind sent before
+-- what was sent encodes messages that were handed out, and each statement is newer than all of its slot and kind sent before
 pub record AreSent (handed : List Message) (sent : List (List ℕ)) : Type 0 where
   pub messages : List Message
   pub spelt : AllZip (λ bytes m. SpellsMessage bytes (message_value m)) sent messages

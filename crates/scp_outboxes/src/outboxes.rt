@@ -64,7 +64,7 @@ impl LiveOutbox {
     }
 }
 
-/// An outbox for each link of a node, all of live links. Contracts see the list of what waits in each.
+/// An outbox for each link of a node; all links are live. Contracts see the list of what waits in each.
 #[derive(Drop)]
 pub struct Outboxes(Vec<LiveOutbox>);
 
@@ -84,12 +84,12 @@ impl Model for Outboxes {
 }
 
 impl Outboxes {
-    /// So many outboxes, in which nothing waits. They take all the memory that they ever need, and the one refusal is
+    /// `count` outboxes, in which nothing waits. They take all the memory that they ever need. The only refusal is
     /// `Fault::NoMemory`.
     pub fn new(alloc: Global, count: usize) -> Result<Outboxes, Fault>
         // Nothing waits.
         ensures made { IfOk result (λ outboxes. outboxes ≡ replicate count empty_outbox) }
-        // Only want of memory is a reason to refuse.
+        // The only refusal is `NoMemory`.
         ensures only_memory { IsOkUnless result Fault.NoMemory }
     {
         Ok(Outboxes(new_outboxes(alloc, count)?))
@@ -123,8 +123,8 @@ impl Outboxes {
         }
     }
 
-    /// Puts a message for one link into that link's outbox; where there is no such link it is given up. It is never refused,
-    /// takes no memory and waits for nobody, and costs what `Outbox::put` costs.
+    /// Puts a message for one link into that link's outbox; if there is no such link, the message is dropped. Is never
+    /// refused, takes no memory and waits for nobody. Costs what `Outbox::put` costs.
     pub fn put(&mut self, link: u8, message: FittingMessage)
         // It is put there, and the other outboxes stay.
         ensures puts { HandsOut self.old (to_link link message) self.new }
@@ -134,19 +134,19 @@ impl Outboxes {
         put_at(&mut self.0, link, message);
     }
 
-    /// Puts copies of a message for all links. The one refusal is `Fault::NoMemory`, of a copy; then some outboxes have the
-    /// message, and others haven't.
+    /// Puts copies of a message for all links. The only refusal is `Fault::NoMemory`, of a copy; then some outboxes have
+    /// the message, and others don't.
     pub fn put_all(&mut self, message: &FittingMessage) -> Result<(), Fault>
         // It is put into each outbox.
         ensures puts { OnOk result (HandsOut self.old (to_each message.now) self.new) }
-        // Only want of memory is a reason to refuse.
+        // The only refusal is `NoMemory`.
         ensures only_memory { IsOkUnless result Fault.NoMemory }
     {
         put_each(&mut self.0, message)
     }
 
-    /// What is next at the link, out of its outbox: a message that fits a link, or none, as of a link that isn't there. Takes no
-    /// memory.
+    /// What is next at the link, out of its outbox: a message that fits a link, or none; a link that isn't there gives none.
+    /// Takes no memory.
     pub fn next(&mut self, link: u8) -> Option<Message>
         // It is what that outbox gives.
         ensures gives { GivesAt self.old link result self.new }

@@ -1,4 +1,4 @@
--- What is parked ascends, once its queues stand in the order of their connections.
+-- What is parked ascends, once its queues are in the order of their connections.
 use Rattle.std.proofs.Common.{◌≡◌, ℕ, zero, suc, ◌+◌, ◌≤◌, ◌<◌, Bool, true, false, List, [], ◌∷◌, ◌++◌, length, refl, sym, ◌∙◌, ap, subst, arith, map, get_or, nat_eq}
 use Rattle.std.specs.Prelude.{◌&&◌, All, slice_index_or, slice_get, Some}
 use Rattle.std.specs.Cmp.{IsTotalOrder, unsigned_ties, nat_cmp_is}
@@ -77,14 +77,14 @@ by_orders Equal Equal Greater a' c' to from life lt ne = rw (from, life) refl
 by_orders Equal Greater c a' c' to from life lt ne = absurd cc
 by_orders Greater b c a' c' to from life lt ne = rw from refl
 
--- of two connections to one node, which aren't the same, one that stands behind is behind by its sender and its life
+-- of two different connections to one node, the later one is later by its sender and its life
 before_it : (me : NodeId) (c d : ConnId) → c.to ≡ me → d.to ≡ me → is_lt (conn_cmp d c) ≡ false → same_conn d c ≡ false → by_life c d ≡ Less
 before_it me c d to to' lt ne =
     by_orders (slice_cmp nat_cmp d.from.0 c.from.0) (slice_cmp nat_cmp d.to.0 c.to.0) (nat_cmp d.life c.life) (slice_cmp nat_cmp c.from.0 d.from.0) (nat_cmp c.life d.life)
     (ap (λ (n : NodeId). slice_cmp nat_cmp n.0 c.to.0) (to' ∙ sym to) ∙ tied_itself nat_list_cmp_total c.to.0)
     (nat_list_cmp_total.antisymm c.from.0 d.from.0) (nat_cmp_total.antisymm c.life d.life) lt (ties d c ∙ ne)
 
--- ---- the queues stand in the order of their connections
+-- ---- the queues are in the order of their connections
 
 abbrev NotBefore : QueueView → QueueView → Type 0
 NotBefore q r = is_lt (conn_cmp r.conn q.conn) ≡ false

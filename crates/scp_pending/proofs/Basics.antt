@@ -129,7 +129,7 @@ pub all_both : {X : Type 0} (P Q R : X → Type 0) (xs : List X) → ((x : X) �
 all_both P Q R [] h a b = tt
 all_both P Q R (x ∷ xs) h a b = (h x a.0 b.0, all_both P Q R xs h a.1 b.1)
 
--- of those that are kept, what the test tells too
+-- of those that are kept, what the test says too
 pub all_kept : {X : Type 0} (P Q : X → Type 0) (keep : X → Bool) (xs : List X) → ((x : X) → P x → keep x ≡ true → Q x) → AllByRecursion P xs → AllByRecursion Q (filter keep xs)
 all_kept P Q keep [] h a = tt
 all_kept P Q keep (x ∷ xs) h a = by_test (keep x) refl (all_kept P Q keep xs h a.1)

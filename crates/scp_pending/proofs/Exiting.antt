@@ -211,7 +211,7 @@ first_push start taken c y [] more (inl e) own f = rw e tt
 first_push start taken c y [] more (inr e) own f = (let k = own refl e in rw e (y, k.0, refl, k.1))
 first_push start taken c y (seq ∷ seqs) more o own f = (f.0, f.1, f.2, waits_push start taken f.0 y f.3)
 
--- a message that waits just now
+-- a message that waits right now
 waits_now : (start : Settled) (taken : List Inbound) (s : Settled) (y : Carried) → s ≡ settled_by start taken → is_open y.conn s.queues ≡ true → waits (entering s.store y) ≡ true → IsWaiting start (taken ++ inbound.Carried y ∷ []) y
 waits_now start taken s y e live w = by_named (named y.message) refl w
   where

@@ -32,7 +32,7 @@ use Rattle.scp_pending.proofs.Strangers.{who_it_is, no_stranger}
 
 -- ---- one item more, by what it brings
 
--- what holds where nothing is brought, and where a set is and is stored behind the others, holds after each item
+-- what holds if nothing is brought, and if a set is brought and stored after the others, holds after each item
 set_step : (P : List QuorumTree → StoreView → Type 0) (s : Settled) (item : Inbound) → P [] s.store → ((set : QuorumTree) → P (set ∷ []) (record s.store { others = pushed set s.store.others })) → P (set_brought s item) (rules s item).store
 set_step P s (inbound.Opened d) k more = elim (opens d s) as (λ b. P [] (cond b (opened d s) s).store) [ true ↦ k | false ↦ k ]
 set_step P s (inbound.Carried x) k more = by_tests (is_open x.conn s.queues) (overflows x.conn (entering s.store x) s.queues) (goes_through x.conn (entering s.store x) s.queues)

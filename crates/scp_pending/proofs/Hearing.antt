@@ -33,7 +33,7 @@ hash_is h set e = (let at : List ℕ → Hash = λ bytes. record { 0 = bytes } i
 abbrev pub heard_in : PendingView → QuorumTree → PendingView
 heard_in v set = record v { settled = hears (Set set) v.settled; leaving = v.leaving ++ heard_out (Set set) v.settled }
 
--- of one that is no answer, nothing
+-- a set that is no answer changes nothing
 ignored : (v : PendingView) (set : QuorumTree) → is_answer set v.settled ≡ false → v ≡ heard_in v set
 ignored v set e = rw (e, append_nil v.leaving) refl
 

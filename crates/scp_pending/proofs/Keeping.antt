@@ -1,4 +1,4 @@
--- What stands in the stage between two takes stands after one more; and where nothing waits, nothing is to be looked at.
+-- What holds in the stage between two takes holds after one more; and if nothing waits, nothing needs to be looked at.
 use Rattle.std.proofs.Common.{◌≡◌, ℕ, ◌+◌, ◌<◌, ◌≤◌, Bool, true, false, cond, List, [], ◌∷◌, ◌++◌, length, refl, sym, ◌∙◌, ap, subst, arith, append_assoc, map, take, get_or, set, zero, suc}
 use Rattle.std.specs.Prelude.{◌&&◌, ◌||◌, nat_lt, filter, flat_map, Option, Some, None}
 use Rattle.std.specs.List.{list_any, AllByRecursion}
@@ -105,7 +105,7 @@ held_step s (inbound.Local (Ask link slot)) a = a
 
 -- ---- nothing waits for a hash that isn't wanted
 
--- what stands where the other doesn't
+-- if one flag implies another that is false, it is false
 unless : (a b : Bool) → (a ≡ true → b ≡ true) → b ≡ false → a ≡ false
 unless true b f e = clash b (f refl) e
 unless false b f e = refl
@@ -275,14 +275,14 @@ as_waited : (hash : Hash) (ps : List Parked) → list_any (λ p. is_hash hash (w
 as_waited hash [] = refl
 as_waited hash (p ∷ ps) = rw (waits_as hash p, as_waited hash ps) refl
 
--- the connections that don't stand in the hash's list
+-- the connections that aren't in the hash's list
 pub quiet_but : (hash : Hash) (qs : List QueueView) (ws : List Want) → IsKept qs ws → AllByRecursion (λ q. has_conn q.conn (waiting_for hash ws) ≡ false → IsQuiet (is_hash hash) q) qs
 quiet_but hash qs ws k = all_both (λ (q : QueueView). AreHeld [] q.parked) (λ (q : QueueView). parked_of q.conn qs ≡ q.parked) (λ (q : QueueView). has_conn q.conn (waiting_for hash ws) ≡ false → IsQuiet (is_hash hash) q) qs one k.held (own_from [] qs k.single)
   where
     one : (q : QueueView) → AreHeld [] q.parked → parked_of q.conn qs ≡ q.parked → has_conn q.conn (waiting_for hash ws) ≡ false → IsQuiet (is_hash hash) q
     one q h own e = record { held = h; none = as_waited hash q.parked ∙ sym (ap (list_any (waits_for hash)) own) ∙ sym (waiting_is hash qs ws k.listed.each (λ un c. k.waits hash c un) q.conn) ∙ e }
 
--- the connection stands in the list of a hash that one miss more gives up
+-- the connection is in the list of a hash that one more miss gives up
 abbrev pub stands_in_last : List Want → ConnId → Bool
 stands_in_last ws c = list_any (λ hash. has_conn c (waiting_for hash ws)) (last_missed ws)
 
@@ -358,7 +358,7 @@ went_on r i old now given leaving more q new w h read stays left =
         next : suc i ≡ i + 1
         next = omega arith
 
--- what stands at the next place is as it was
+-- the queue at the next place is as it was
 pub went_at : (P : QueueView → Type 0) (r : QueueView → QueueView) (i : ℕ) (old now : List QueueView) (given leaving : List Ready) (q : QueueView) → Went r i old now given leaving → i < length old → q ≡ get_or now i q → AllByRecursion P old → P q
 went_at P r i old now given leaving q w h read a = subst P (sym (read ∙ ap (λ (zs : List QueueView). get_or zs i q) w.stay ∙ walked-at (λ q. stays_in (r q)) old i q h)) (all_at P old i q a h)
 

@@ -153,7 +153,7 @@ none_in : (slots : ℕ → ℕ) (c : ConnId) (n : ℕ) (ps : List Parked) → Al
 none_in slots c n [] l e = refl
 none_in slots c n (p ∷ ps) l e = (let both = or_none (is_at n p) (list_any (is_at n) ps) e in marks-one slots c n p ps false l.0 both.0 ∙ none_in slots c n ps l.1 both.1)
 
--- in its lane it stands behind what is parked there, which is nothing
+-- in its lane it comes after what is parked there, which is nothing
 passes_others : (slots : ℕ → ℕ) (c : ConnId) (n : ℕ) (p : Parked) (ps : List Parked) → HasLane slots p → AllByRecursion (HasLane slots) ps → list_any (is_at (lane_of p)) ps ≡ false → in_lane slots n (parked_mark p ∷ map parked_mark ps) ≡ in_lane slots n (map parked_mark ps ++ parked_mark p ∷ [])
 passes_others slots c n p ps l a none = by_test (is_at n p) refl
   where

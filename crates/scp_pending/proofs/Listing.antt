@@ -1,4 +1,4 @@
--- The connections that stand in a want's list are those of which something that is parked waits for its hash.
+-- The connections in a want's list are those of which something that is parked waits for its hash.
 use Rattle.std.proofs.Common.{◌≡◌, ℕ, ◌+◌, Bool, true, false, cond, not, List, [], ◌∷◌, ◌++◌, refl, sym, ◌∙◌, ap, subst, arith, append_assoc, map}
 use Rattle.std.specs.Prelude.{◌&&◌, ◌||◌, filter, slice_set, Option, Some, None}
 use Rattle.std.specs.List.{list_any, AllByRecursion}
@@ -217,13 +217,13 @@ answer_waits set hash x = by_test (is_sane set)
     by_test true = refl
     by_test false = refl
 
--- the wants of which the test says no stand as before
+-- the wants for which the test says no are as before
 served_listed : (test : Option Hash → Bool) (f : Carried → Parked) (qs : List QueueView) (ws : List Want) → ((hash : Hash) (x : Carried) → waits_for hash (f x) ≡ false) → AreSingle qs → AllByRecursion (λ (w : Want). IsListed qs w × (test (Some w.hash) ≡ false)) ws → AllByRecursion (IsListed (served (resolved test f qs))) ws
 served_listed test f qs ws none single a = all_weaker (λ (w : Want). IsListed qs w × (test (Some w.hash) ≡ false)) (IsListed (served (resolved test f qs))) ws (λ w h c. h.0 c ∙ sym (served_same test f w.hash qs (none w.hash) h.1 single c)) a
 
 -- ---- misses
 
--- of wants that stand apart each is given up where its own miss is the last
+-- if no hash is wanted twice, each want is given up where its own miss is the last
 given_each : (miss : Miss) (ws : List Want) → AreApart ws → AllByRecursion (λ (w : Want). gives_up miss ws w.hash ≡ is_last miss w) ws
 given_each miss [] a = tt
 given_each miss (v ∷ vs) a = (

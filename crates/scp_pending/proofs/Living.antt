@@ -1,4 +1,4 @@
--- A connection is open in what is parked exactly where it stands by what was taken and wasn't cut off.
+-- A connection is open in what is parked exactly if what was taken leaves it open, and it wasn't cut off.
 use Rattle.std.proofs.Common.{◌≡◌, ℕ, Bool, true, false, cond, not, List, [], ◌∷◌, ◌++◌, refl, sym, ◌∙◌, ap, subst, nat_eq}
 use Rattle.std.specs.Prelude.{◌&&◌, ◌||◌, map}
 use Rattle.std.specs.List.{list_any}
@@ -96,7 +96,7 @@ cut_short (x ∷ xs) = by_test (is_full_mark x) (cut_short xs)
     by_test true e = refl
     by_test false e = e
 
--- its line has such an end exactly where what was given, and what is on its way, has it
+-- its line has such an end exactly if what was given, and what is on its way, has it
 line_full : (c : ConnId) (rs : List Ready) (qs : List QueueView) → has_full (marks_of c rs ++ marks_parked c qs) ≡ is_cut_off c rs
 line_full c rs qs = full-append (marks_of c rs) (marks_parked c qs) ∙ two (full_marks c rs) (none_parked (parked_of c qs)) ∙ or_false (is_cut_off c rs)
   where

@@ -156,7 +156,7 @@ queues_on c (q ∷ qs) ys m a =
     (queue_on c q.conn q.parked k.first (is_of c q) refl m.0 k.firsts)
     (queues_on c qs k.later m.1 k.laters))
 
--- ---- a connection has one queue, wherever that stands
+-- ---- a connection has one queue, wherever that is
 
 none_spread : (c : ConnId) (qs : List QueueView) → how_many c qs ≡ 0 → flat_map (of_queue c) qs ≡ []
 none_spread c [] h = refl
@@ -237,7 +237,7 @@ all_mine me peers taken given v p =
     let start = start_of me peers v in
     all_weaker (AllStand start taken v.settled.wanted) AreMine v.settled.queues (λ q w. all_weaker (Stands start taken v.settled.wanted q.conn) (IsParkedOf q.conn) q.parked (λ r s. mine_of start taken v.settled.wanted q.conn r s) w) (all_stand me peers taken given v p)
 
--- the messages of the queues, in whatever order these stand
+-- the messages of the queues, in whatever order these are
 pub are_parked : (me : NodeId) (peers : List NodeId) (taken : List Inbound) (given : List Ready) (v : PendingView) (queues : List QueueView) (messages : List Carried) → IsPermutation v.settled.queues queues → AllZip IsParkedAs (parked_in_all queues) messages → Pends me peers taken given v → AreParked v messages
 are_parked me peers taken given v queues messages same are p c =
     let single = (sound_of me peers taken given v p).single in

@@ -1,4 +1,4 @@
--- What came of a link in its shape has each message under its number.
+-- What came of a link in its shape has each message with its number.
 use Rattle.std.proofs.Common.{◌≡◌, ℕ, ◌+◌, ◌<◌, Bool, true, false, cond, List, [], ◌∷◌, ◌++◌, refl, sym, ◌∙◌, ap, subst, nat_eq, arith, append_assoc, length, length-append}
 use Rattle.std.specs.Prelude.{Some, filter, flat_map, slice_get, ◌&&◌}
 use Rattle.std.specs.List.{AllByRecursion}

@@ -1,4 +1,4 @@
--- Who waits for a hash, in which order, by what was taken; and that a hash is wanted just while something waits for it.
+-- Which connections wait for a hash, and in which order, by what was taken; and that a hash is wanted exactly while something waits for it.
 use Rattle.std.proofs.Common.{◌≡◌, ℕ, Bool, true, false, cond, not, List, [], ◌∷◌, ◌++◌, refl, sym, ◌∙◌, ap, subst, append_assoc, nat_eq, map}
 use Rattle.std.specs.Prelude.{◌&&◌, ◌||◌, slice_set, filter, Option, Some, None, is_some, position}
 use Rattle.std.specs.List.{list_any, AllByRecursion}
@@ -419,7 +419,7 @@ some_step s (inbound.Local (Round slot)) a = a
 some_step s (inbound.Local (Timer slot)) a = a
 some_step s (inbound.Local (Ask link slot)) a = a
 
--- ---- wanted just while something waits
+-- ---- wanted exactly while something waits
 
 waiting_waited : (hash : Hash) (c : ConnId) (qs : List QueueView) → is_waiting c hash qs ≡ true → is_waited hash qs ≡ true
 waiting_waited hash c [] e = absurd cc

@@ -1,4 +1,4 @@
--- A local command stands where it came.
+-- A local command is given in the place where it came.
 use Rattle.std.proofs.Common.{◌≡◌, List, [], ◌∷◌, ◌++◌, refl, ◌∙◌, ap, map}
 use Rattle.scp_wire.specs.declared.link.Command.{Command}
 use Rattle.scp_wire.specs.declared.link.Command.TheVariants.{Tick, Propose, Round, Timer, Ask}
@@ -12,7 +12,7 @@ use Rattle.scp_pending.proofs.Ending.{passed_along}
 use Rattle.scp_pending.proofs.Passing.{released-append}
 use Rattle.scp_pending.proofs.Sound.{sound_start, sound_along}
 
--- it leaves first, but for Tick
+-- it leaves first, unless it is a Tick
 leaves_first : (s : Settled) (command : Command) (later : List Ready) → (rest : List Ready) × (releases s (inbound.Local command) ++ later ≡ map as_given (passing_command command) ++ rest)
 leaves_first s Tick later = (releases s (inbound.Local Tick) ++ later, refl)
 leaves_first s (Propose slot value) later = (later, refl)

@@ -28,7 +28,7 @@ use Rattle.scp_pending.proofs.Serving.{AreSingle, parked-opened, parked-others_m
 abbrev pub seqs_of : ConnId → List QueueView → List Seq
 seqs_of c qs = map seq_of (parked_of c qs)
 
--- from n on, ascending, below m
+-- the numbers ascend, from n on and below m
 abbrev pub Rises : ℕ → ℕ → List Seq → Type 0
 Rises n m [] = n ≤ m
 Rises n m (seq ∷ seqs) = (n ≤ seq.0) × Rises (seq.0 + 1) m seqs
@@ -53,7 +53,7 @@ pub rises_ascend : (n m : ℕ) (seqs : List Seq) → Rises n m seqs → Ascend n
 rises_ascend n m [] r = tt
 rises_ascend n m (seq ∷ seqs) r = (r.0, rises_ascend (seq.0 + 1) m seqs r.1)
 
--- whatever rises of the one rises of the other
+-- whatever bounds the numbers of the second list bounds those of the first
 abbrev pub IsPart : List Seq → List Seq → Type 0
 IsPart xs ys = (n m : ℕ) → Rises n m ys → Rises n m xs
 

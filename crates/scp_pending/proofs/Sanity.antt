@@ -1,4 +1,4 @@
--- The tests of sanity and of spelling tell just that.
+-- The tests of sanity and of encoding decide exactly that.
 use Rattle.std.specs.Prelude.{◌≡◌, ◌↔◌, refl, true}
 use Rattle.scp_xdr.specs.Kind.{Fits}
 use Rattle.scp_quorum.specs.QuorumTree.{QuorumTree}

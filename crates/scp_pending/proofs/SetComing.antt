@@ -16,7 +16,7 @@ use Rattle.scp_pending.specs.Becoming.{set_becomes}
 use Rattle.scp_pending.proofs.Sanity.{test_of_sane, test_of_fits, fits_of_test}
 use Rattle.scp_pending.proofs.Hearing.{hash_is, not_sane}
 
--- of one that has no spelling, nothing
+-- nothing comes of a set that has no encoding
 pub unspelt_is : (s : Settled) (set : QuorumTree) → (Fits set_kind (set_value set) → ⊥) → Unwanted ≡ set_becomes set s
 unspelt_is s set none = by_test (has_spelling set) refl
   where

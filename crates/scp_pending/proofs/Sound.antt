@@ -1,4 +1,4 @@
--- One item more: what is stored is sane, each connection has one queue, what is parked stands, and what leaves has its cause.
+-- One more item: what is stored is sane, each connection has one queue, what is parked is as what was taken says, and what leaves has its cause.
 use Rattle.std.proofs.Common.{◌≡◌, ℕ, ◌≤◌, Bool, true, false, cond, not, List, [], ◌∷◌, ◌++◌, length, refl, sym, ◌∙◌, ap, subst, arith, append_assoc, map, drop}
 use Rattle.std.specs.Prelude.{◌&&◌, nat_lt, nat_le, filter, Option, Some, None, is_some}
 use Rattle.std.specs.List.{list_any, AllByRecursion}
@@ -187,7 +187,7 @@ closed_fit start taken s c item e single listed k a = all_both (Fits start taken
       stands = all_both (Stands start taken s.wanted q.conn) (λ (p : Parked). (test : Parked → Bool) → test p ≡ true → list_any test q.parked ≡ true) (Stands start (taken ++ item ∷ []) wanted' q.conn) q.parked (λ p w h. stays start taken s s.wanted wanted' item q.conn p e (λ hash waits is. kept q else' hash (h (waits_for hash) waits) is) w) f.stands (all_any [] q.parked);
     }
 
--- a message is parked behind others
+-- a message is parked after others
 changed_fit : (start : Settled) (taken : List Inbound) (wanted : List Want) (c : ConnId) (p : Parked) (qs : List QueueView) → is_held (parked_of c qs) p ≡ true → nat_le PARKED_LIMIT (length (parked_of c qs)) ≡ false → Stands start taken wanted c p → AllByRecursion (Fits start taken wanted) qs → AllByRecursion (Fits start taken wanted) (changed c (with_parked p) qs)
 changed_fit start taken wanted c p [] held few w a = tt
 changed_fit start taken wanted c p (q ∷ qs) held few w a = by_test (is_of c q) refl held few (λ e f. changed_fit start taken wanted c p qs e f w a.1)

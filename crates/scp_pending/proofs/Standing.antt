@@ -1,4 +1,4 @@
--- What is parked stands by what was taken.
+-- What is parked is as what was taken says.
 use Rattle.std.proofs.Common.{◌≡◌, ℕ, ◌<◌, ◌≤◌, Bool, true, false, cond, not, List, [], ◌∷◌, ◌++◌, length, refl, sym, ◌∙◌, ap, subst, arith, map, inl, inr}
 use Rattle.std.specs.Prelude.{◌&&◌, ◌||◌, nat_lt, find, Option, Some, None}
 use Rattle.std.specs.List.{AllByRecursion}
@@ -202,7 +202,7 @@ set_some (message.GetRecord slot) set e sane = absurd cc
 set_some (message.Record slot value) set e sane = absurd cc
 set_some (message.Records first values) set e sane = absurd cc
 
--- a message that comes just now
+-- a message that comes right now
 pub new_stands : (start : Settled) (taken : List Inbound) (s : Settled) (link : ℕ) (y : Carried) → s ≡ settled_by start taken → IsSane s.store.local → AllByRecursion IsSane s.store.others → is_open y.conn s.queues ≡ true → Stands start (taken ++ inbound.Carried y ∷ []) (wanted_with link y.conn (entering s.store y) s.wanted) y.conn (entering s.store y)
 new_stands start taken s link y e local sets live = by_named (named y.message) refl
   where

@@ -1,4 +1,4 @@
--- What is stored: a set that came stands in the store, and the set of an envelope that waits doesn't.
+-- What is stored: a set that came is in the store, and the set of an envelope that waits isn't.
 use Rattle.std.proofs.Common.{◌≡◌, Bool, true, false, cond, List, [], ◌∷◌, ◌++◌, length, refl, ◌∙◌, ap, subst, drop}
 use Rattle.std.specs.Prelude.{◌&&◌, nat_lt, find, Some, None, is_some}
 use Rattle.scp_types.specs.declared.names.Hash.{Hash}

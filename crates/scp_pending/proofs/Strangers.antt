@@ -1,4 +1,4 @@
--- Who a stage is stays, and all that it knows is of its links.
+-- A stage's identity stays, and all that it holds belongs to its links.
 use Rattle.std.proofs.Common.{◌≡◌, ℕ, Bool, true, false, cond, not, List, [], ◌∷◌, ◌++◌, length, refl, sym, ◌∙◌, ap, subst, arith, map}
 use Rattle.std.specs.Prelude.{◌&&◌, nat_lt, Option, Some, None, is_some, position}
 use Rattle.std.specs.List.{list_any, position_or_len, AllByRecursion}
@@ -34,7 +34,7 @@ use Rattle.scp_pending.proofs.Lines.{resolved_mine, entering_mine}
 use Rattle.scp_pending.proofs.Following.{AllConns, open_conn, frame_step}
 use Rattle.scp_pending.proofs.Sound.{all_others, local_step}
 
--- ---- who it is
+-- ---- the stage's identity
 
 who_step : (s : Settled) (item : Inbound) → IsSameNode s (rules s item)
 who_step s item = record {
@@ -95,7 +95,7 @@ by_answer_mine set false k x e = e
 -- ---- the queues
 
 module _ (P : ConnId → Type 0) where
-  -- the queue is of such a connection, and what is parked there is its own
+  -- the queue is of such a connection, and what is parked there belongs to it
   abbrev IsRight : QueueView → Type 0
   IsRight q = P q.conn × AllByRecursion (IsParkedOf q.conn) q.parked
 

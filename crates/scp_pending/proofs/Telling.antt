@@ -1,4 +1,4 @@
--- How a connection's line stands to what came of it, one item after another.
+-- How a connection's line is related to what came of it, one item after another.
 use Rattle.std.proofs.Common.{◌≡◌, ◌≢◌, ℕ, ◌+◌, ◌<◌, Bool, true, false, List, [], ◌∷◌, ◌++◌, refl, sym, ◌∙◌, ap, arith, append_assoc, nat_eq, inl, inr, ◌⊎◌}
 use Rattle.std.proofs.lemmas.Bool.{eqb-true, eqb-false}
 use Rattle.scp_wire.specs.declared.link.Cause.{Cause}

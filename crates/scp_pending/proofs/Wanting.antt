@@ -66,7 +66,7 @@ wanted_by-own hash link c ws = by_test (is_wanted hash ws) refl
     by_test true e = wanted-map (ask hash link c) (ask-hash hash link c) hash ws ∙ e
     by_test false e = any-last hash ws (new_want hash link c) (same_hash-refl hash)
 
--- where all of this hash are kept, by what is known of each
+-- if all wants of this hash are kept, by what is known of each, it is still wanted
 pub wanted-filter_of : (P : Want → Type 0) (keep : Want → Bool) (hash : Hash) (ws : List Want) → ((w : Want) → P w → is_for hash w ≡ true → keep w ≡ true) → AllByRecursion P ws → is_wanted hash ws ≡ true → is_wanted hash (filter keep ws) ≡ true
 wanted-filter_of P keep hash [] k a e = e
 wanted-filter_of P keep hash (w ∷ ws) k a e = by_test (keep w) refl (wanted-filter_of P keep hash ws k a.1)
@@ -75,7 +75,7 @@ wanted-filter_of P keep hash (w ∷ ws) k a e = by_test (keep w) refl (wanted-fi
     by_test true kept rest = elim (if_any (is_for hash w) (is_wanted hash ws) e) as (λ _. (is_for hash w || is_wanted hash (filter keep ws)) ≡ true) [ inl l ↦ or_left (is_for hash w) (is_wanted hash (filter keep ws)) l | inr r ↦ or_right (is_for hash w) (is_wanted hash (filter keep ws)) (rest r) ]
     by_test false gone rest = elim (if_any (is_for hash w) (is_wanted hash ws) e) as (λ _. is_wanted hash (filter keep ws) ≡ true) [ inl l ↦ clash (keep w) (k w a.0 l) gone | inr r ↦ rest r ]
 
--- where all of this hash are kept
+-- if all wants of this hash are kept, it is still wanted
 pub wanted-filter : (keep : Want → Bool) (hash : Hash) (ws : List Want) → ((w : Want) → is_for hash w ≡ true → keep w ≡ true) → is_wanted hash ws ≡ true → is_wanted hash (filter keep ws) ≡ true
 wanted-filter keep hash [] k e = e
 wanted-filter keep hash (w ∷ ws) k e = by_test (keep w) refl (wanted-filter keep hash ws k)

@@ -1,4 +1,4 @@
--- What becomes of an item that the pending stage takes, by its rules (this project's profile).
+-- What would become of an item that the pending stage takes, by its rules (this project's profile).
 use Rattle.std.specs.Prelude.{ℕ, Option, Some, None, if◌then◌else◌}
 use Rattle.scp_types.specs.declared.names.Hash.{Hash}
 use Rattle.scp_quorum.specs.QuorumTree.{QuorumTree}
@@ -20,18 +20,18 @@ use Rattle.scp_pending.specs.declared.becoming.Becoming.TheVariants.{Nothing, Di
 use Rattle.scp_pending.specs.declared.becoming.Why.{Why}
 use Rattle.scp_pending.specs.declared.becoming.Why.TheVariants.{Asks, Waits, Behind, Over}
 
--- why a message is parked, by the hash that it waits for and the request that is made for it: where it waits for none, what is before it in
--- its lane waits
+-- Why a message is parked, by the hash that it waits for and the request that is made for it. If it waits for none, it is behind one of its
+-- lane that waits.
 abbrev pub why_by : Option Hash → Option (ℕ × Message) → Why
 why_by None asked = Behind
 why_by (Some hash) None = Waits
 why_by (Some hash) (Some asked) = Asks
 
--- why a message is parked that entered so
+-- why a message is parked that enters like this
 abbrev pub why_parked : Carried → Parked → Settled → Why
 why_parked x p s = why_by (waited_by p) (asks (link_number x.conn.from s) p s.wanted)
 
--- what becomes of a live carried message that enters so: it is one too many, or goes through, or is parked
+-- what becomes of a live carried message that enters like this: it is one too many, or passes through, or is parked
 abbrev pub enters_as : Carried → Parked → Settled → Becoming
 enters_as x p s = if overflows x.conn p s.queues then Parks Over else (if goes_through x.conn p s.queues then Goes else Parks (why_parked x p s))
 
@@ -53,7 +53,7 @@ command_becomes (Round slot) = Nothing
 command_becomes (Timer slot) = Nothing
 command_becomes (Ask link slot) = Nothing
 
--- what becomes of an item that is taken next
+-- what would become of an item if it were taken next
 abbrev pub becoming : Settled → Inbound → Becoming
 becoming s (inbound.Opened c) = if opens c s then Opens else Nothing
 becoming s (inbound.Carried x) = if is_open x.conn s.queues then enters_as x (entering s.store x) s else Discarded

@@ -5,7 +5,7 @@ use Rattle.scp_types.specs.declared.names.Seq.{Seq}
 use Rattle.scp_quorum.specs.QuorumTree.{QuorumTree}
 use Rattle.scp_wire.specs.declared.message.Message.{Message}
 
--- what contracts see of a delivered message: its connection, number, content, and the set beside it
+-- what contracts see of a delivered message: its connection, number and content, and the set that comes with it
 pub record DeliveryView : Type 0 where
   pub conn : ConnId
   pub seq : Seq

@@ -29,14 +29,14 @@ pub data Way : Type 0 where
   by_full : Seq → Way
   over : Cause → Way
 
--- how a dropped message left, by the cause
+-- how a dropped message left, by its cause
 abbrev pub way_by : DropCause → Seq → Way
 way_by BadSet seq = went seq
 way_by GaveUp seq = went seq
 way_by ByClose seq = by_close seq
 way_by ByFull seq = by_full seq
 
--- what one thing says of it
+-- how one thing left, if it belongs to the connection
 abbrev pub way : ConnId → Ready → List Way
 way c (Deliver delivery) = one_if (same_conn delivery.conn c) (went delivery.seq)
 way c (Dropped conn seq cause) = one_if (same_conn conn c) (way_by cause seq)
@@ -47,14 +47,14 @@ way c (Local command) = []
 abbrev pub ways : ConnId → List Ready → List Way
 ways c readies = flat_map (way c) readies
 
--- the numbers of the messages that left
+-- the number of the message that left; none for an end
 abbrev pub number_of : Way → List ℕ
 number_of (went seq) = seq.0 ∷ []
 number_of (by_close seq) = seq.0 ∷ []
 number_of (by_full seq) = seq.0 ∷ []
 number_of (over cause) = []
 
--- those of a list of them
+-- the numbers of the messages that left
 abbrev pub numbers_of : List Way → List ℕ
 numbers_of ws = flat_map number_of ws
 
@@ -65,26 +65,26 @@ HasWent (by_close seq) = ⊥
 HasWent (by_full seq) = ⊥
 HasWent (over cause) = ⊥
 
--- each left by its own fate
+-- each of them left by its own fate
 abbrev pub AllWent : List Way → Type 0
 AllWent ws = AllByRecursion HasWent ws
 
--- of these numbers, those of the messages that name the slot
+-- those of these numbers whose messages name the slot
 abbrev pub seqs_at : (ℕ → ℕ) → ℕ → List Seq → List Seq
 seqs_at slots s seqs = filter (λ seq. nat_eq (slots seq.0) s) seqs
 
--- numbers from n on, ascending
+-- the numbers ascend, from n on
 abbrev pub Ascend : ℕ → List Seq → Type 0
 Ascend n [] = Unit {0}
 Ascend n (seq ∷ seqs) = (n ≤ seq.0) × Ascend (seq.0 + 1) seqs
 
--- the first of these numbers is of an envelope of the connection that waits
+-- the first of these numbers, if there is one, is that of an envelope of the connection that waits
 abbrev pub FirstWaits : Settled → List Inbound → ConnId → List Seq → Type 0
 FirstWaits start taken c [] = Unit {0}
 FirstWaits start taken c (seq ∷ seqs) = (x : Carried) × (x.conn ≡ c) × (x.seq ≡ seq) × IsWaiting start taken x
 
--- it was closed from outside: after those that had their own fates, what was parked then is dropped, by ascending numbers, and
--- then comes the end; the first of each lane was waiting
+-- The connection was closed from outside. After the messages that had their own fates, what was parked is dropped, by
+-- ascending numbers, and then comes the end. The first of each lane was waiting.
 pub record IsClosedOff (start : Settled) (slots : ℕ → ℕ) (taken : List Inbound) (c : ConnId) (ws : List Way) : Type 0 where
   pub front : List Way
   pub seqs : List Seq
@@ -98,9 +98,9 @@ pub record IsClosedOff (start : Settled) (slots : ℕ → ℕ) (taken : List Inb
   pub ascend : Ascend 0 seqs
   pub first : (s : ℕ) → FirstWaits start before c (seqs_at slots s seqs)
 
--- it was cut off by one message too many: 65 are dropped, by ascending numbers, of which the last came then, and then comes
--- the end; the first of each lane was waiting; and nothing that came before is lost: those that left are, by their numbers, all
--- from 0 to that last one
+-- The connection was cut off by one message too many. 65 messages are dropped, by ascending numbers, the last of which came
+-- then, and then comes the end. The first of each lane was waiting. Nothing that came before is lost: the numbers of those that
+-- left are all from 0 to that last one.
 pub record IsCutOff (start : Settled) (slots : ℕ → ℕ) (taken : List Inbound) (c : ConnId) (ws : List Way) : Type 0 where
   pub front : List Way
   pub seqs : List Seq
@@ -117,12 +117,12 @@ pub record IsCutOff (start : Settled) (slots : ℕ → ℕ) (taken : List Inboun
   pub all : IsPermutation (range_with_len 0 (last.seq.0 + 1)) (numbers_of ws)
   pub first : (s : ℕ) → FirstWaits start (before ++ inbound.Carried last ∷ []) c (seqs_at slots s (seqs ++ last.seq ∷ []))
 
--- while it is open, all that left had their own fates; afterwards too, or it was closed off or cut off
+-- while it is open, all that left had their own fates; later this still holds, or it was closed off or cut off
 pub record Exits (start : Settled) (slots : ℕ → ℕ) (taken : List Inbound) (c : ConnId) (open' : Bool) (ws : List Way) : Type 0 where
   pub running : open' ≡ true → AllWent ws
   pub ended : AllWent ws ⊎ (IsClosedOff start slots taken c ws ⊎ IsCutOff start slots taken c ws)
 
--- the local commands that pass: all but Tick
+-- the local command, if it passes: all pass except Tick
 abbrev pub passing_command : Command → List Command
 passing_command Tick = []
 passing_command (Propose slot value) = (Propose slot value) ∷ []
@@ -130,7 +130,7 @@ passing_command (Round slot) = (Round slot) ∷ []
 passing_command (Timer slot) = (Timer slot) ∷ []
 passing_command (Ask link slot) = (Ask link slot) ∷ []
 
--- the command that passes, if it is one
+-- the command of an item, if it passes
 abbrev pub passing : Inbound → List Command
 passing (inbound.Opened c) = []
 passing (inbound.Carried x) = []
@@ -142,7 +142,7 @@ passing (inbound.Local command) = passing_command command
 abbrev pub commands_in : List Inbound → List Command
 commands_in items = flat_map passing items
 
--- the command that was given, if it is one
+-- the command that was given, if a command was
 abbrev pub passed : Ready → List Command
 passed (Deliver delivery) = []
 passed (Dropped c seq cause) = []

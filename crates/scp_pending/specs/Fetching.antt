@@ -20,7 +20,7 @@ use Rattle.scp_pending.specs.Rules.{Settled, fresh, rules, settled_by, is_answer
 
 -- ---- what is stored
 
--- the quorum set that an item brings: it came live and was wanted, it is sane, and none with its hash stands there
+-- the quorum set that an item brings: it came live and was wanted, it is sane, and none with its hash is stored
 abbrev pub set_brought : Settled → Inbound → List QuorumTree
 set_brought s (inbound.Opened c) = []
 set_brought s (inbound.Carried x) = []
@@ -30,17 +30,17 @@ set_brought s (inbound.Side c (NoSet hash)) = []
 set_brought s (inbound.Closed c cause) = []
 set_brought s (inbound.Local command) = []
 
--- those that a list of items brings, in order
+-- the sets that a list of items brings, in order
 abbrev pub sets_brought : Settled → List Inbound → List QuorumTree
 sets_brought s [] = []
 sets_brought s (item ∷ items) = set_brought s item ++ sets_brought (rules s item) items
 
--- the last so many
+-- the last n of a list
 abbrev pub last_of : {X : Type 0} → ℕ → List X → List X
 last_of n xs = drop (length xs - n) xs
 
--- besides the local set just the last 256 that were brought are stored, so that of 257 the first leaves; each is sane, and is
--- found under its own hash alone
+-- Besides the local set, exactly the last 256 sets that were brought are stored, so that of 257 the first is removed. Each is
+-- sane, and is found only by its own hash.
 pub record AreStored (brought : List QuorumTree) (store : StoreView) : Type 0 where
   pub last : store.others ≡ last_of 256 brought
   pub few : length store.others ≤ 256
@@ -48,13 +48,13 @@ pub record AreStored (brought : List QuorumTree) (store : StoreView) : Type 0 wh
   pub others_are_sane : AllByRecursion IsSane store.others
   pub found : (hash : Hash) (set : QuorumTree) → lookup hash store ≡ Some set → IsSane set × (hash_of set ≡ hash)
 
--- besides its own set a stage stores just the last 256 of the sane sets that came live, were wanted, and had a hash under which none stood
+-- besides its own set, a stage stores exactly the last 256 of the sane sets that came live, were wanted, and had a hash under which none was stored
 abbrev pub TheLastAreStored : Type 0
 TheLastAreStored = (me : NodeId) (peers : List NodeId) (local : QuorumTree) (taken : List Inbound) → IsSane local → AreStored (sets_brought (fresh me peers local) taken) (settled_by (fresh me peers local) taken).store
 
 -- ---- what is replied
 
--- an envelope came live over the link that names the hash; its set isn't stored, and the link wasn't asked for it yet
+-- an envelope that names the hash came live over the link; its set isn't stored, and the link wasn't asked for it yet
 pub record IsToBeAsked (s : Settled) (item : Inbound) (link : ℕ) (hash : Hash) : Type 0 where
   pub x : Carried
   pub came : item ≡ inbound.Carried x
@@ -71,7 +71,7 @@ pub record IsAskedFor (s : Settled) (item : Inbound) (link : ℕ) (hash : Hash) 
   pub live : is_open conn s.queues ≡ true
   pub over : slice_get s.peers link ≡ Some conn.from
 
--- a request for a set that is to be asked for; or, to who asked for it, the set where it is stored, and else that it isn't
+-- a request for a set that is to be asked for; or, to whoever asked for it, the set if it is stored, and else that there is none
 abbrev pub IsReplied : Settled → Inbound → ℕ → Message → Type 0
 IsReplied s item link (message.Envelope envelope) = ⊥
 IsReplied s item link (message.GetSet hash) = IsToBeAsked s item link hash
@@ -81,11 +81,11 @@ IsReplied s item link (message.GetRecord slot) = ⊥
 IsReplied s item link (message.Record slot value) = ⊥
 IsReplied s item link (message.Records first values) = ⊥
 
--- a reply, where there is one, was asked for
+-- if there is a reply, it was asked for
 abbrev pub IfReplied : Settled → Inbound → Option (ℕ × Message) → Type 0
 IfReplied s item None = Unit {0}
 IfReplied s item (Some reply) = IsReplied s item reply.0 reply.1
 
--- after any items, what an item is answered by was asked for
+-- after any items, the reply to an item was asked for
 abbrev pub RepliesAreAskedFor : Type 0
 RepliesAreAskedFor = (me : NodeId) (peers : List NodeId) (local : QuorumTree) (taken : List Inbound) (item : Inbound) → IfReplied (settled_by (fresh me peers local) taken) item (reply (settled_by (fresh me peers local) taken) item)

@@ -16,34 +16,34 @@ use Rattle.scp_pending.specs.Queues.{is_open}
 use Rattle.scp_pending.specs.Rules.{PendingView, fresh, settled_by, released_by}
 use Rattle.scp_pending.specs.Pends.{Pends}
 
--- of what came of a link: its last life is this one, and is open
+-- the last life that came of the link is this one, and it is open
 abbrev pub stands : ℕ → Come → Bool
 stands life came = came.is_open && nat_eq came.life life
 
--- the end of a connection of which one message too many came; it stands just after the 65 that were dropped
+-- whether a connection ended with this cause because one message too many came; that end comes right after the 65 that were dropped
 abbrev pub is_too_many : Cause → Bool
 is_too_many Malformed = false
 is_too_many Spent = false
 is_too_many Link = false
 is_too_many ParkedFull = true
 
--- it is the end of the connection for want of room
+-- it is the end of the connection because one message too many came
 abbrev pub cuts_off : ConnId → Ready → Bool
 cuts_off c (Deliver delivery) = false
 cuts_off c (Dropped conn seq cause) = false
 cuts_off c (Closed conn cause) = same_conn conn c && is_too_many cause
 cuts_off c (Local command) = false
 
--- one of them is its end for want of room
+-- one of these is that end of the connection
 abbrev pub is_cut_off : ConnId → List Ready → Bool
 is_cut_off c readies = list_any (cuts_off c) readies
 
--- A connection is open in what is parked, so that its items are live, exactly where it was opened and not closed in what
--- was taken, and wasn't cut off in what was given or is on its way.
+-- A connection is open in what is parked, so that its items are live, exactly if three things hold: it was opened in
+-- what was taken, not closed there, and not cut off in what was given or is on its way.
 abbrev pub OpenByPlace : Type 0
 OpenByPlace = (me : NodeId) (peers : List NodeId) (taken : List Inbound) (given : List Ready) (v : PendingView) → Pends me peers taken given v → HasShape me peers taken → (link : ℕ) (peer : NodeId) → slice_get peers link ≡ Some peer → (life : ℕ) → is_open (conn_at peer me life) v.settled.queues ≡ (stands life (fold comes nothing_came (of_peer peer taken)) && not (is_cut_off (conn_at peer me life) (given ++ v.leaving)))
 
--- The same at each place of what was taken: the connection is open, so that what comes next of it is live, exactly where what
--- came before opened it and didn't close it, and it wasn't cut off in what left by then.
+-- The same at each place of what was taken. The connection is open, so that its next item is live, exactly if what came
+-- before opened it and didn't close it, and what had left didn't cut it off.
 abbrev pub OpenAtEachPlace : Type 0
 OpenAtEachPlace = (me : NodeId) (peers : List NodeId) (local : QuorumTree) (before rest : List Inbound) → IsSane local → HasShape me peers (before ++ rest) → (link : ℕ) (peer : NodeId) → slice_get peers link ≡ Some peer → (life : ℕ) → is_open (conn_at peer me life) (settled_by (fresh me peers local) before).queues ≡ (stands life (fold comes nothing_came (of_peer peer before)) && not (is_cut_off (conn_at peer me life) (released_by (fresh me peers local) before)))

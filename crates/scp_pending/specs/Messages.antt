@@ -25,7 +25,7 @@ IsParkedAs (Waits x) y = y ≡ x
 IsParkedAs (Free delivery) y = (y.conn ≡ delivery.conn) × (y.seq ≡ delivery.seq) × (y.message ≡ delivery.message)
 IsParkedAs (Lost x cause) y = y ≡ x
 
--- the message is of the connection
+-- the message belongs to the connection
 abbrev pub is_on : ConnId → Carried → Bool
 is_on c x = same_conn x.conn c
 
@@ -33,11 +33,11 @@ is_on c x = same_conn x.conn c
 abbrev pub messages_on : ConnId → List Carried → List Carried
 messages_on c messages = filter (is_on c) messages
 
--- of each connection they are those that are parked of it, in order
+-- for each connection, these messages are what is parked of it, in order
 abbrev pub AreParked : PendingView → List Carried → Type 0
 AreParked v messages = (c : ConnId) → AllZip IsParkedAs (parked_of c v.settled.queues) (messages_on c messages)
 
--- messages by their senders, then by their lives, then by their numbers
+-- messages are compared by their senders, then by their lives, then by their numbers
 abbrev pub message_cmp : Carried → Carried → Ordering
 message_cmp x y = ordering_then (slice_cmp nat_cmp x.conn.from.0 y.conn.from.0) (ordering_then (nat_cmp x.conn.life y.conn.life) (nat_cmp x.seq.0 y.seq.0))
 
@@ -49,12 +49,12 @@ message_mark x = number x.seq.0
 abbrev pub marks_of_messages : ConnId → List Carried → List Mark
 marks_of_messages c messages = map message_mark (messages_on c messages)
 
--- each came live on its connection, with its number and its content, and of each connection they have the numbers of its
--- queue, in order
+-- Each message came live on its connection, with its number and its content. For each connection they have the numbers
+-- of its queue, in order.
 pub record StandFor (start : Settled) (taken : List Inbound) (v : PendingView) (messages : List Carried) : Type 0 where
   pub came : AllByRecursion (Place start taken) messages
   pub numbers : (c : ConnId) → marks_of_messages c messages ≡ marks_parked c v.settled.queues
 
--- what is parked came
+-- the parked messages came
 abbrev pub ParkedStandFor : Type 0
 ParkedStandFor = (me : NodeId) (peers : List NodeId) (taken : List Inbound) (given : List Ready) (v : PendingView) (messages : List Carried) → Pends me peers taken given v → AreParked v messages → StandFor (start_of me peers v) taken v messages

@@ -26,15 +26,15 @@ pub record QueueView : Type 0 where
   pub conn : ConnId
   pub parked : List Parked
 
--- it is the queue of the connection
+-- whether it is the queue of the connection
 abbrev pub is_of : ConnId → QueueView → Bool
 is_of c q = same_conn q.conn c
 
--- a connection is open where it has a queue
+-- a connection is open if it has a queue
 abbrev pub is_open : ConnId → List QueueView → Bool
 is_open c queues = list_any (is_of c) queues
 
--- some connection of the node is open
+-- whether some connection from the node is open
 abbrev pub is_link_open : NodeId → List QueueView → Bool
 is_link_open peer queues = list_any (λ q. same_node q.conn.from peer) queues
 
@@ -53,7 +53,7 @@ abbrev pub changed : ConnId → (QueueView → QueueView) → List QueueView →
 changed c f [] = []
 changed c f (q ∷ qs) = if is_of c q then f q ∷ qs else q ∷ changed c f qs
 
--- the hash of the quorum set that an envelope names; nothing else names one
+-- the hash of the quorum set that an envelope names; no other message names one
 abbrev pub named : Message → Option Hash
 named (Envelope envelope) = Some (set_hash_of envelope.value.statement.pledges)
 named (GetSet hash) = None
@@ -63,52 +63,52 @@ named (GetRecord slot) = None
 named (Record slot value) = None
 named (Records first values) = None
 
--- the hash that names the set: the SHA-256 (FIPS 180-4) of its spelling
+-- the hash that names the set: the SHA-256 (FIPS 180-4) of its encoding
 abbrev pub hash_of : QuorumTree → Hash
 hash_of set = record { 0 = set_hash set }
 
--- it is this hash
+-- whether there is a hash, and it is this one
 abbrev pub is_hash : Hash → Option Hash → Bool
 is_hash hash None = false
 is_hash hash (Some other) = same_hash hash other
 
--- what is parked waits for this hash
+-- whether the parked message waits for this hash
 abbrev pub waits_for : Hash → Parked → Bool
 waits_for hash (Waits x) = is_hash hash (named x.message)
 waits_for hash (Free delivery) = false
 waits_for hash (Lost x cause) = false
 
--- the hash that it waits for
+-- the hash that the parked message waits for, if it waits
 abbrev pub waited_by : Parked → Option Hash
 waited_by (Waits x) = named x.message
 waited_by (Free delivery) = None
 waited_by (Lost x cause) = None
 
--- something that is parked of the connection waits for the hash
+-- whether some parked message of the connection waits for the hash
 abbrev pub is_waiting : ConnId → Hash → List QueueView → Bool
 is_waiting c hash queues = list_any (waits_for hash) (parked_of c queues)
 
--- the slot that a parked message names: with its connection this is its lane (this project's profile)
+-- the slot that a parked message names, which with its connection is its lane (this project's profile)
 abbrev pub lane_of : Parked → ℕ
 lane_of (Waits x) = slot_of x.message
 lane_of (Free delivery) = slot_of delivery.message
 lane_of (Lost x cause) = slot_of x.message
 
--- what is parked names the slot
+-- whether the parked message names the slot
 abbrev pub is_at : ℕ → Parked → Bool
 is_at s p = nat_eq (lane_of p) s
 
--- what is parked in the lane of this slot, in order
+-- what is parked in this slot's lane, in order
 abbrev pub at_slot : ℕ → List Parked → List Parked
 at_slot s ps = filter (is_at s) ps
 
--- what is parked waits for its quorum set
+-- whether the parked message waits for its quorum set
 abbrev pub waits : Parked → Bool
 waits (Waits x) = true
 waits (Free delivery) = false
 waits (Lost x cause) = false
 
--- behind those that stay, one stays where it waits, and where one of its lane stays before it
+-- whether a message stays after those that stay: it waits, or one of its lane stays before it
 abbrev pub is_held : List Parked → Parked → Bool
 is_held kept p = waits p || list_any (is_at (lane_of p)) kept
 
@@ -117,31 +117,31 @@ abbrev pub is_empty : List Parked → Bool
 is_empty [] = true
 is_empty (p ∷ ps) = false
 
--- what becomes of one that leaves
+-- what is given for a message that leaves
 abbrev pub fate : ConnId → Parked → List Ready
 fate c (Waits x) = []
 fate c (Free delivery) = Deliver delivery ∷ []
 fate c (Lost x cause) = Dropped c x.seq cause ∷ []
 
--- what leaves, behind those that stay
+-- what leaves, after those that stay
 abbrev pub leaves_behind : ConnId → List Parked → List Parked → List Ready
 leaves_behind c kept [] = []
 leaves_behind c kept (p ∷ ps) = if is_held kept p then leaves_behind c (kept ++ p ∷ []) ps else fate c p ++ leaves_behind c kept ps
 
--- and what stays
+-- what stays, after those that stay
 abbrev pub stays_behind : List Parked → List Parked → List Parked
 stays_behind kept [] = []
 stays_behind kept (p ∷ ps) = if is_held kept p then p ∷ stays_behind (kept ++ p ∷ []) ps else stays_behind kept ps
 
--- what leaves a queue: of each lane all before the first that waits
+-- what leaves a queue: of each lane, all before the first that waits
 abbrev pub leaves_of : ConnId → List Parked → List Ready
 leaves_of c ps = leaves_behind c [] ps
 
--- and what stays: of each lane from the first that waits on
+-- what stays in a queue: each lane from the first that waits on
 abbrev pub stays_of : List Parked → List Parked
 stays_of ps = stays_behind [] ps
 
--- the queues are served in their order
+-- the queue with what stays
 abbrev pub stays_in : QueueView → QueueView
 stays_in q = record q { parked = stays_of q.parked }
 
@@ -153,11 +153,11 @@ served queues = map stays_in queues
 abbrev pub leaves_in : QueueView → List Ready
 leaves_in q = leaves_of q.conn q.parked
 
--- what leaves when they are served, in this order
+-- what leaves when the queues are served, in this order
 abbrev pub leaving_of : List QueueView → List Ready
 leaving_of queues = flat_map leaves_in queues
 
--- the head of a queue waits for the hash
+-- whether the head of a queue waits for the hash
 abbrev pub is_head_waiting : Hash → List Parked → Bool
 is_head_waiting hash [] = false
 is_head_waiting hash (p ∷ ps) = waits_for hash p
@@ -166,12 +166,12 @@ is_head_waiting hash (p ∷ ps) = waits_for hash p
 abbrev pub with_first : Hash → List QueueView → List QueueView
 with_first hash queues = filter (λ q. is_head_waiting hash q.parked) queues ++ filter (λ q. not (is_head_waiting hash q.parked)) queues
 
--- of several hashes, the queues whose heads wait for the first one come first (this project's profile)
+-- the queues whose heads wait for the first of several hashes come first (this project's profile)
 abbrev pub in_order_of : List Hash → List QueueView → List QueueView
 in_order_of [] queues = queues
 in_order_of (hash ∷ hashes) queues = with_first hash (in_order_of hashes queues)
 
--- what waits for a hash at which the test is true becomes what f says
+-- a parked message that waits, if the test holds for its hash, becomes what f says
 abbrev pub resolved_one : (Option Hash → Bool) → (Carried → Parked) → Parked → Parked
 resolved_one test f (Waits x) = if test (named x.message) then f x else Waits x
 resolved_one test f (Free delivery) = Free delivery
@@ -185,7 +185,7 @@ resolved_in test f q = record q { parked = map (resolved_one test f) q.parked }
 abbrev pub resolved : (Option Hash → Bool) → (Carried → Parked) → List QueueView → List QueueView
 resolved test f queues = map (resolved_in test f) queues
 
--- the envelope has its quorum set, or is lost
+-- the message waits for nothing, and has this set
 abbrev pub with_set : Option QuorumTree → Carried → Parked
 with_set set x = Free (record { conn = x.conn; seq = x.seq; message = x.message; set = set })
 
@@ -193,25 +193,25 @@ with_set set x = Free (record { conn = x.conn; seq = x.seq; message = x.message;
 abbrev pub lost_by : DropCause → Carried → Parked
 lost_by cause x = Lost x cause
 
--- a message is parked: at the end of its queue, and where it is the first there, its queue stands behind the others
+-- the queue with one more message at its end
 abbrev pub with_parked : Parked → QueueView → QueueView
 with_parked p q = record q { parked = q.parked ++ p ∷ [] }
 
--- the message is parked behind what is parked of its connection
+-- the message is parked at the end of its connection's queue; if it is the first there, that queue goes after the others
 abbrev pub parked_in : ConnId → Parked → List QueueView → List QueueView
 parked_in c p queues = if is_empty (parked_of c queues) then others c queues ++ record { conn = c; parked = p ∷ [] } ∷ [] else changed c (with_parked p) queues
 
--- the number of what is parked
+-- the number of a parked message
 abbrev pub seq_of : Parked → Seq
 seq_of (Waits x) = x.seq
 seq_of (Free delivery) = delivery.seq
 seq_of (Lost x cause) = x.seq
 
--- the first of what is parked that waits for a hash: its number, and the hash
+-- the first parked message that waits for a hash: its number, and the hash
 abbrev pub first_waiting : List Parked → Option (Seq × Hash)
 first_waiting [] = None
 first_waiting (p ∷ ps) = option_or (option_map (λ hash. (seq_of p, hash)) (waited_by p)) (first_waiting ps)
 
--- what is parked, dropped
+-- a parked message, dropped
 abbrev pub dropped : ConnId → DropCause → Parked → Ready
 dropped c cause p = Dropped c (seq_of p) cause

@@ -1,4 +1,4 @@
--- The tests that the rules make of a quorum set: whether it is sane, and whether it has a spelling. Their laws stand at the end; the terms
+-- The tests that the rules make of a quorum set: whether it is sane, and whether it has an encoding. Their laws are at the end; the terms
 -- above only decide what the laws say.
 use Rattle.std.specs.Prelude.{ℕ, zero, suc, ◌+◌, ◌-◌, ◌≤◌, ◌^◌, ◌≡◌, ◌↔◌, refl, Bool, true, false, List, [], ◌∷◌, Some, None, length}
 use Rattle.std.proofs.Common.{inl, inr}
@@ -12,20 +12,20 @@ use Rattle.scp_quorum.specs.QuorumTree.{Level, QuorumTree}
 use Rattle.scp_quorum.specs.QuorumKind.{set_kind, set_value, set_spelling}
 use Rattle.scp_quorum.specs.Sane.{IsSane, IsInRange, AreInRange, all_nodes, levels}
 
--- where each of two can be decided, both together can
+-- if each of two facts can be decided, so can both together
 decide_both : {A B : Type 0} → Dec A → Dec B → Dec (A × B)
 decide_both (yes a) (yes b) = yes (a, b)
 decide_both (yes a) (no n) = no (λ p. n p.1)
 decide_both (no n) d = no (λ p. n p.0)
 
--- so of three
+-- so can three
 decide_three : {A B C : Type 0} → Dec A → Dec B → Dec C → Dec (A × B × C)
 decide_three (yes a) (yes b) (yes c) = yes (a, b, c)
 decide_three (yes a) (yes b) (no n) = no (λ p. n p.2)
 decide_three (yes a) (no n) d = no (λ p. n p.1)
 decide_three (no n) d e = no (λ p. n p.0)
 
--- so of four
+-- so can four
 decide_four : {A B C D : Type 0} → Dec A → Dec B → Dec C → Dec D → Dec (A × B × C × D)
 decide_four (yes a) (yes b) (yes c) (yes d) = yes (a, b, c, d)
 decide_four (yes a) (yes b) (yes c) (no n) = no (λ p. n p.3)
@@ -33,14 +33,14 @@ decide_four (yes a) (yes b) (no n) e = no (λ p. n p.2)
 decide_four (yes a) (no n) d e = no (λ p. n p.1)
 decide_four (no n) c d e = no (λ p. n p.0)
 
--- so of six
+-- so can six
 decide_six : {A B C D E F : Type 0} → Dec A → Dec B → Dec C → Dec D → Dec E → Dec F → Dec (A × B × C × D × E × F)
 decide_six {A} {B} {C} {D} {E} {F} a b c d e f = map_dec
     (λ (k : (A × B × C) × (D × E × F)). (k.0.0, k.0.1, k.0.2, k.1.0, k.1.1, k.1.2))
     (λ (k : A × B × C × D × E × F). ((k.0, k.1, k.2), (k.3, k.4, k.5)))
     (decide_both (decide_three a b c) (decide_three d e f))
 
--- so of what holds of each element of a list
+-- so can what holds of each element of a list
 decide_all : {X : Type 0} (P : X → Type 0) → ((x : X) → Dec (P x)) → (xs : List X) → Dec (AllByRecursion P xs)
 decide_all P d [] = yes tt
 decide_all P d (x ∷ xs) = decide_both (d x) (decide_all P d xs)
@@ -57,7 +57,7 @@ decide_number zero (suc n) = no (λ e. cc)
 decide_number (suc m) zero = no (λ e. cc)
 decide_number (suc m) (suc n) = map_dec (λ e. cc) (λ e. cc) (decide_number m n)
 
--- where something can be decided, that it isn't so can
+-- if a fact can be decided, so can its negation
 decide_not : {A : Type 0} → Dec A → Dec (A → ⊥)
 decide_not (yes a) = no (λ n. n a)
 decide_not (no n) = yes n
@@ -112,11 +112,11 @@ sane_or_not q = map_dec
     (decide_three (decide_three (dec_le 1 q.head.threshold) (dec_le q.head.threshold (length q.head.validators + row_len q.inner)) (decide_ranges q.inner)) (decide_distinct (eq_by_cmp node_cmp) (all_nodes q)) (dec_le (length (all_nodes q)) 1000))
     (decide_three (dec_le (levels q.inner) 4) (decide_fits set_kind (set_value q)) (dec_le (length (set_spelling q)) 65532)))
 
--- a quorum set has a spelling or not
+-- a quorum set has an encoding or not
 pub spelt_or_not : (q : QuorumTree) → Dec (Fits set_kind (set_value q))
 spelt_or_not q = decide_fits set_kind (set_value q)
 
--- it was decided that it is so
+-- it was decided that the fact holds
 abbrev pub is_yes : {A : Type 0} → Dec A → Bool
 is_yes (yes a) = true
 is_yes (no n) = false
@@ -125,14 +125,14 @@ is_yes (no n) = false
 unfoldable pub is_sane : QuorumTree → Bool
 is_sane q = is_yes (sane_or_not q)
 
--- the quorum set has a spelling
+-- the quorum set has an encoding
 unfoldable pub has_spelling : QuorumTree → Bool
 has_spelling q = is_yes (spelt_or_not q)
 
--- the test of sanity passes just the sane quorum sets
+-- the test of sanity passes exactly the sane quorum sets
 abbrev pub SanityIsTold : Type 0
 SanityIsTold = (q : QuorumTree) → (is_sane q ≡ true) ↔ IsSane q
 
--- the test of spelling passes just the quorum sets that fit the XDR kind
+-- the test of encoding passes exactly the quorum sets that fit the XDR kind
 abbrev pub SpellingIsTold : Type 0
 SpellingIsTold = (q : QuorumTree) → (has_spelling q ≡ true) ↔ Fits set_kind (set_value q)

@@ -1,4 +1,4 @@
-//! What follows of the rules, for every list of takes: each law is the contract of a function that does nothing.
+//! What follows from the rules, for every list of takes. Each law is the contract of a function that does nothing.
 ghost use Rattle.scp_pending.specs.Fetching.{RepliesAreAskedFor, TheLastAreStored};
 ghost use Rattle.scp_pending.specs.Independence.{LanesAreLed, PassesInPlace, WhatMayPassPasses};
 ghost use Rattle.scp_pending.specs.Linked.{NothingIsOfAStranger, WhoItIsStays};
@@ -11,13 +11,13 @@ ghost use Rattle.scp_pending.specs.Laws.{AllAccounts, AllExits, AllHaveCauses, C
 
 use scp_wire::a_beginning_keeps_the_shape;
 
-/// The tests that the rules make of a quorum set pass just the sane ones, and just those that have a spelling.
+/// The tests that the rules make of a quorum set pass exactly the sane ones, and exactly those that have an encoding.
 pub fn the_tests_of_a_set_tell()
     ensures sane { SanityIsTold }
     ensures spelt { SpellingIsTold }
 {}
 
-/// All that was given, and all that is ready, has its cause among what was taken.
+/// All that was given, and all that is ready, has its cause in what was taken.
 pub fn each_fate_has_its_cause()
     ensures causes { AllHaveCauses }
 {}
@@ -27,45 +27,45 @@ pub fn few_are_parked()
     ensures few { FewAreParked }
 {}
 
-/// The connections that stand in a hash's list are those of which an envelope waits for it.
+/// The connections in a hash's list are those on which an envelope waits for it.
 pub fn who_waits_is_listed()
     ensures listed { WaitersWait }
 {}
 
-/// Where the items of each link have the shape that its reader gives them: the connections that stand in a hash's list are
-/// those of the messages that were taken and wait for it still, each once, in the order of their first such message.
+/// If the items of each link have the shape that its reader gives them: the connections in a hash's list are those of the
+/// messages that were taken and still wait for it. Each is there once, in the order of their first such message.
 pub fn who_waits_stands_in_order()
     ensures order { WaitersInOrder }
 {}
 
-/// A hash is wanted just while something that is parked waits for it.
+/// A hash is wanted exactly while something that is parked waits for it.
 pub fn a_hash_is_wanted_while_something_waits()
     ensures wanted { WantedWhileWaited }
 {}
 
-/// Where the items of each link have the shape that its reader gives them: in each lane of a connection, what was given and
-/// then what is held is what came, whole up to the first end, or a prefix where that end is parked-full; in order; and each
-/// delivered message is that of its number.
+/// If the items of each link have the shape that its reader gives them: in each lane of a connection, what was given and
+/// then what is held is what came, in order. It is whole up to the first end, or a front if that end is parked-full. Each
+/// delivered message is the one of its number.
 pub fn no_message_is_lost_or_overtaken()
     ensures accounts { AllAccounts }
 {}
 
-/// Where the items of each link have that shape: while a connection is open, what left of it had its own fate: delivered, or
-/// lost by its set. Where it was closed from outside, what was parked then was dropped, the first of each lane waiting still,
-/// and then came its end with the cause that it was closed with. Where one message too many came, it and the 64 that were
-/// parked were dropped, with ascending numbers, the first of each lane waiting still, and then came its end as parked-full.
+/// If the items of each link have that shape: while a connection is open, each message that left it had its own fate:
+/// delivered, or lost by its set. If it was closed from outside, what was parked was dropped, with the first of each lane
+/// still waiting, and then came the end, with the cause of the close. If one message too many came, it and the 64 parked ones
+/// were dropped, with ascending numbers and the first of each lane still waiting; then came the end as parked-full.
 pub fn each_connection_ends_by_its_cause()
     ensures exits { AllExits }
 {}
 
-/// Each local command other than Tick is given once, in order, and no other.
+/// Each local command other than Tick is given once, in order, and nothing else is given as a command.
 pub fn each_command_passes_once()
     ensures commands { CommandsPass }
 {}
 
-/// Where the items of each link have that shape: a connection is open in what is parked, so that its items are live, exactly
-/// where it was opened and not closed in what was taken, and wasn't cut off by one message too many in what was given or is
-/// on its way. This holds at each place of what was taken, by what came before it and what left by then.
+/// If the items of each link have that shape: a connection is open in what is parked, so that its items are live, exactly if
+/// three things hold. It was opened in what was taken, not closed there, and not cut off in what was given or is on its way.
+/// This holds at each place of what was taken, by what came before it and what had left by then.
 pub fn what_is_live_is_so_by_its_place()
     ensures live { OpenByPlace }
     ensures places { OpenAtEachPlace }
@@ -73,56 +73,56 @@ pub fn what_is_live_is_so_by_its_place()
     a_beginning_keeps_the_shape();
 }
 
-/// The messages that are parked came live, each with its connection, its number and its content; and of each connection they
-/// have the numbers of what is parked of it, in order.
+/// The parked messages came live, each with its connection, its number and its content. For each connection they have the
+/// numbers of what is parked of it, in order.
 pub fn what_is_parked_came()
     ensures parked { ParkedStandFor }
 {}
 
-/// What holds of all that a stage took, gave and is, for the node and the peers that it was made for, holds with one call more.
+/// What holds of all that a stage took, gave and is, for the node and peers that it was made for, holds with one more call.
 pub fn what_holds_of_a_stage_holds_with_one_call_more()
     ensures nothing { HereFromNothing }
     ensures more { HerePasses }
 {}
 
-/// Each local command stands among what is given where it came: behind just what left by what came before it, each with its
-/// cause among that.
+/// Each local command is given in its place: after exactly what left because of what came before the command, each with its
+/// cause in that.
 pub fn each_command_keeps_its_place()
     ensures place { CommandsKeepPlace }
 {}
 
-/// Who a stage is never changes: its node, its peers, its quorum set.
+/// A stage's identity never changes: its node, its peers, its quorum set.
 pub fn who_it_is_stays()
     ensures config { WhoItIsStays }
 {}
 
-/// Only connections from a peer to the node are ever open, what is parked of a connection is its own, and all that was given or
-/// is ready is of such a connection.
+/// Only connections from a peer to the node are ever open. What is parked of a connection belongs to it, and all that was given
+/// or is ready belongs to such a connection.
 pub fn nothing_is_of_a_stranger()
     ensures links { NothingIsOfAStranger }
 {}
 
-/// Besides the local quorum set just the last 256 are stored of those that came live, wanted, sane and unknown, in order; each
-/// is sane, and is found under its own hash.
+/// Besides the local quorum set, exactly the last 256 sets are stored that came live, wanted, sane and unknown, in order. Each
+/// is sane, and is found by its own hash.
 pub fn the_last_sets_are_stored()
     ensures sets { TheLastAreStored }
 {}
 
-/// What is replied was asked for: a request goes over the link of a live envelope that names a set that isn't stored, where that
-/// link wasn't asked yet; a set that is stored, or that it isn't, goes over the link of a live request for it.
+/// What is replied was asked for. A request goes over the link of a live envelope that names a set which isn't stored, if that
+/// link wasn't asked yet. A stored set, or the answer that there is none, goes over the link of a live request for it.
 pub fn what_is_replied_was_asked_for()
     ensures replies { RepliesAreAskedFor }
 {}
 
-/// A stage that has nothing ready is settled: the head of each lane is an envelope that waits for its quorum set.
+/// A stage with nothing ready is settled: the head of each lane is an envelope that waits for its quorum set.
 pub fn what_has_nothing_ready_is_settled()
     ensures settled { RestIsSettled }
 {}
 
-/// A lane that waits delays no other, though its quorum set is never found. What comes live and is no envelope, or has its set in
-/// the store, and finds nothing of its own slot parked on its connection, is given by that same step, with its set, whatever is
-/// parked in other lanes; so it stands among what was given just behind what left by what came before it. And where something is
-/// parked in a lane, its head is an envelope of that lane whose own quorum set isn't stored.
+/// A lane that waits delays no other, even if its quorum set is never found. Take a live message that is no envelope, or whose
+/// set is stored, and that finds nothing of its own slot parked on its connection. It is given by that same step, with its set,
+/// whatever is parked in other lanes; so it comes right after what left because of what came before it. If something is parked in
+/// a lane, the lane's head is an envelope whose own quorum set isn't stored.
 pub fn no_lane_delays_another()
     ensures passes { WhatMayPassPasses }
     ensures place { PassesInPlace }

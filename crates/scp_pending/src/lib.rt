@@ -1,18 +1,18 @@
 //! Messages that wait for their quorum sets.
 //!
 //! What it promises:
-//! - In each lane of a connection, what was given and then what is held is what came, in order, whole up to the first end, or a
-//!   prefix where too much waited. An envelope is given with the sane set that has the hash which it names.
+//! - In each lane of a connection, what was given and then what is held is what came, in order: whole up to the first end, or a
+//!   front if too much waited. An envelope is given with the sane set whose hash it names.
 //! - A lane that waits delays no other: what waits for nothing, and finds nothing of its lane parked, is given at once.
-//! - A message is lost by its set alone, which isn't sane or was missed twelve times, or by the end of its connection.
-//! - A hash is wanted just while something that is parked waits for it, and `waiting` tells the connections that wait, each once,
-//!   in the order of their first message that waits.
-//! - Only connections of its links are ever open, given or held. Besides the local set the last 256 that were wanted and came are
-//!   stored, each sane; and what is replied was asked for.
-//! - Where memory is refused the stage is failed: it answers that, and gives nothing more.
-//! - `becoming` tells what would become of an item that is taken next, by the same rules, and changes nothing.
+//! - A message is lost only by its set, which isn't sane or was missed twelve times, or by the end of its connection.
+//! - A hash is wanted exactly while something that is parked waits for it. `waiting` returns the connections that wait, each
+//!   once, in the order of their first message that waits.
+//! - Only connections of its links are ever open, given or held. Besides the local set, the last 256 sets that were wanted and
+//!   came are stored, each sane. What is replied was asked for.
+//! - If memory is refused, the stage has failed: it answers that, and gives nothing more.
+//! - `becoming` says what would become of an item that is taken next, by the same rules, and changes nothing.
 //!
-//! A set, a twelfth miss and a Tick look into the queues of those connections alone that wait for the hash.
+//! A set, a twelfth miss and a Tick look only into the queues of those connections that wait for the hash.
 #![tactic(auto)]
 
 mod becoming;

@@ -14,8 +14,8 @@ use scp_types::{ConnId, Fault, Hash, NodeId, Seq, Slot};
 use scp_wire::{Carried, FittingMessage, Message};
 use std::sync::Arc;
 
-/// A parked message. It leaves once it waits for nothing and nothing of its lane stays before it, or with all that is parked of
-/// its connection where that ends.
+/// A parked message. It leaves once it waits for nothing and nothing of its lane stays before it; or with all that is parked of
+/// its connection, when that ends.
 #[derive(Debug, Drop)]
 pub(crate) enum Parked {
     /// An envelope whose quorum set is unknown.
@@ -35,7 +35,7 @@ pub(crate) enum Outcome {
     Lost(DropCause),
 }
 
-/// The hash of the quorum set that an envelope names; nothing else names one.
+/// The hash of the quorum set that an envelope names; no other message names one.
 pub(crate) fn named(message: &Message) -> Option<Hash>
     ensures { result ≡ named_by message.now }
 {
@@ -45,7 +45,7 @@ pub(crate) fn named(message: &Message) -> Option<Hash>
     }
 }
 
-/// Whether the message names a quorum set of this hash.
+/// Whether the message names a quorum set with this hash.
 fn names(message: &Message, hash: &Hash) -> bool
     ensures { result ≡ is_hash hash.now (named_by message.now) }
 {
@@ -70,7 +70,7 @@ pub(crate) fn slot_in(message: &Message) -> Slot
 }
 
 impl Parked {
-    /// Stands where another was taken out. Takes no memory.
+    /// A filler, for the place from which a message was taken out. Takes no memory.
     pub(crate) fn nothing() -> Parked {
         let nobody = NodeId([0; 32]);
         Parked::Lost(
@@ -98,7 +98,7 @@ impl Parked {
         }
     }
 
-    /// The slot that it names: with its connection this is its lane.
+    /// The slot that it names, which with its connection is its lane.
     pub(crate) fn slot(&self) -> Slot
         ensures { result.0 ≡ lane_of self.now }
     {
@@ -145,7 +145,7 @@ impl Parked {
         }
     }
 
-    /// Whether it waits for a quorum set of this hash.
+    /// Whether it waits for a quorum set with this hash.
     pub(crate) fn waits_for(&self, hash: &Hash) -> bool
         ensures { result ≡ waits hash.now self.now }
     {
@@ -157,7 +157,7 @@ impl Parked {
 }
 
 impl Parked {
-    /// What it is once those that wait for the hash have their outcome.
+    /// What it becomes when those that wait for the hash have their outcome. The only refusal is `NoMemory`.
     pub(crate) fn settled(self, hash: &Hash, outcome: &Outcome) -> Result<Parked, Fault>
         requires hash { HasHash (Some hash.now) outcome.now }
         ensures { IfOk result (λ parked. parked ≡ resolved_one (is_hash hash.now) (outcome_of outcome.now) self) }
@@ -172,7 +172,7 @@ impl Parked {
         }
     }
 
-    /// What it is once those whose hashes one more miss gives up are lost.
+    /// What it becomes when those are lost whose hashes one more miss gives up.
     pub(crate) fn given_up(self, fetcher: &Fetcher) -> Parked
         ensures { result ≡ resolved_one (is_given_up fetcher.now) (lost_by DropCause.GaveUp) self }
     {

@@ -45,8 +45,8 @@ pub const PARKED_LIMIT: usize = 64;
 /// The most peers that a node has (this project's profile).
 pub const PEER_LIMIT: usize = 7;
 
-/// Messages that wait for their quorum sets, and what is on its way out. Where it didn't fail, the connections that stand in
-/// a hash's list are those on which something waits for it, so that only there anything is looked at.
+/// Messages that wait for their quorum sets, and what is on its way out. Unless it failed, the connections in a hash's list
+/// are those on which something waits for it, so that nothing needs to be looked at elsewhere.
 #[derive(Drop)]
 pub struct Pending {
     failed: bool,
@@ -103,8 +103,8 @@ impl Model for Parking {
 }
 
 impl Pending {
-    /// A stage of this node that took nothing. `peers[l]` is the sender of link l; `local` is the node's own quorum set.
-    /// Takes no memory.
+    /// A stage of this node that has taken nothing. `peers[l]` is the sender of link l, and `local` is the node's own
+    /// quorum set. Takes no memory.
     pub fn new(alloc: Global, me: NodeId, peers: Vec<NodeId>, local: Arc<SaneSet>) -> Pending
         requires few { length peers.items ≤ PEER_LIMIT }
         ensures settled { result.settled ≡ fresh me peers.items local.value }
@@ -127,16 +127,15 @@ impl Pending {
         }
     }
 
-    /// Takes one item more, where `next_ready` gives nothing, and gives the message for one link, if there is one: a GetSet where
-    /// that link is to be asked for the set of an envelope, and the answer to a GetSet. `Fault::NoMemory` leaves the stage
-    /// failed, and a failed one answers `Fault::Failed` and stays as it is.
+    /// Takes one more item, when `next_ready` gives nothing. Returns the message for one link, if there is one: a GetSet if that
+    /// link is to be asked for an envelope's set, or the answer to a GetSet. `Fault::NoMemory` leaves the stage failed; a failed
+    /// one answers `Fault::Failed` and stays as it is.
     ///
-    /// What is parked of one connection, 64 messages at most, is walked at a carried message of it and at its end; at a Set that
-    /// is wanted and the twelfth miss of a hash where it waits for that hash, and at a Tick where it waits for a hash that is
-    /// given up: there each is compared with those of its connection that stay before it. Of every other connection no more is
-    /// read than which it is. Of what is wanted, a Tick, an Opened and a connection's end walk all, and the end of a want moves
-    /// those behind it. Beyond that a Set is checked and hashed, the answer to a GetSet copies its set, and the rest are look-ups
-    /// by hash tables.
+    /// A connection has at most 64 parked messages. They are walked at a carried message of it, and at its end. They are also walked at a
+    /// wanted Set or the twelfth miss of a hash that it waits for, and at a Tick that gives such a hash up. There each is compared with
+    /// those of its connection that stay before it. Of every other connection only its name is read. A Tick, an Opened and a connection's
+    /// end walk all wants, and the end of a want moves those after it. Besides, a Set is checked and hashed, the answer to a GetSet copies
+    /// its set, and the rest are look-ups in hash tables.
     pub fn take(&mut self, item: Inbound) -> Result<Option<(u8, Message)>, Fault>
         requires nothing_ready { self.old.failed ≡ false → self.old.leaving ≡ [] }
         ensures reply { IfOk result (λ answer. answer ≡ reply self.old.settled item) }
@@ -184,8 +183,8 @@ impl Pending {
         !self.parking.leaving.is_empty()
     }
 
-    /// How many messages of the connection it holds: those that are ready, and those that are parked. At most 64 where
-    /// nothing is ready, and 65 just after the take that cut the connection off.
+    /// How many messages of the connection the stage holds: those that are ready, and those that are parked. At most
+    /// 64 if nothing is ready, and 65 right after the take that cut the connection off.
     pub fn parked(&self, conn: &ConnId) -> usize
         ensures { result ≡ count_held conn.now self.now }
     {
@@ -206,9 +205,9 @@ impl Pending {
         true
     }
 
-    /// What becomes of an item where it is taken next, by what is parked, stored and wanted; of a failed stage, which takes nothing, what
-    /// would become of it. Costs what a look at the item's connection, lane and hash costs; a quorum set is hashed, which takes the memory of
-    /// its spelling, and nothing else takes memory. The one refusal is `Fault::NoMemory`.
+    /// What would become of an item if it were taken next, by what is parked, stored and wanted. A failed stage, which takes nothing, answers
+    /// what would become of it. Costs a look at the item's connection, lane and hash. A quorum set is hashed, which takes the memory of its
+    /// encoding; nothing else takes memory. The only refusal is `Fault::NoMemory`.
     pub fn becoming(&self, item: &Inbound) -> Result<Becoming, Fault>
         ensures is { IfOk result (λ found. found ≡ becoming self.now.settled item.now) }
         ensures only_memory { IsOkUnless result Fault.NoMemory }
@@ -216,14 +215,14 @@ impl Pending {
         self.parking.becoming(item)
     }
 
-    /// The hashes that are wanted, in the order in which they became so.
+    /// The wants, in the order in which their hashes became wanted. The only refusal is `AllocError`.
     pub fn wants(&self) -> Result<Vec<&Want>, AllocError>
         ensures { IfOk result (λ wants. map (λ want. want.now) wants.items ≡ self.now.settled.wanted) }
     {
         self.parking.fetcher.wants()
     }
 
-    /// The first message of the connection that waits for a quorum set: its number, and the hash that it waits for.
+    /// The connection's first message that waits for a quorum set: its number, and the hash that it waits for.
     #[tactic(auto, using(crate::proofs::Serving::parked_shut))]
     pub fn first_waiting(&self, conn: &ConnId) -> Option<(Seq, Hash)>
         ensures { result ≡ first_that_waits (parked_of conn.now self.now.settled.queues) }
@@ -233,16 +232,16 @@ impl Pending {
     }
 
     /// The connections with an envelope that waits for this hash, each once, in the order of their first wait among those; none
-    /// where the hash isn't wanted. Takes no memory, and costs one look-up by a hash table.
+    /// if the hash isn't wanted. Takes no memory, and costs one look-up in a hash table.
     pub fn waiting(&self, hash: &Hash) -> &[ConnId]
         ensures { result.now ≡ waiting_for hash.now self.now.settled.wanted }
     {
         self.parking.fetcher.waiting(hash)
     }
 
-    /// The messages that are parked, once nothing more is taken: ascending by the senders and the lives of their connections,
-    /// and by their numbers; of each connection those that are parked of it. No message is copied. It fails for want of
-    /// memory alone.
+    /// The parked messages, once nothing more is taken. They ascend by the senders and the lives of their connections, and by
+    /// their numbers. For each connection they are those that are parked of it. No message is copied. The only refusal is
+    /// `Fault::NoMemory`.
     pub fn into_parked(self) -> Result<Vec<Carried>, Fault>
         ensures parked { IfOk result (λ messages. (me : NodeId) → (peers : List NodeId) → (taken : List Inbound) → (given : List Ready) → Pends me peers taken given self → AreParked self messages.items) }
         ensures ascending { IfOk result (λ messages. (me : NodeId) → (peers : List NodeId) → (taken : List Inbound) → (given : List Ready) → Pends me peers taken given self → HasShape me peers taken → IsStrictlySortedBy message_cmp messages.items) }
@@ -261,7 +260,7 @@ impl Parking {
         self.queues
     }
 
-    /// What an item does, and the message for one link.
+    /// What an item does. Returns the message for one link, if there is one.
     fn settle(&mut self, item: Inbound) -> Result<Option<(u8, Message)>, Fault>
         requires kept { IsKept self.old.settled.queues self.old.settled.wanted }
         ensures reply { IfOk result (λ answer. answer ≡ reply self.old.settled item) }
@@ -286,7 +285,7 @@ impl Parking {
         }
     }
 
-    /// The number of the link from this node; 0 where it is no peer.
+    /// The number of the link from this node; 0 if it is no peer.
     fn link_number(&self, node: &NodeId) -> u8
         ensures number { result ≡ link_number node.now self.now.settled }
         ensures few { result < 8 }
@@ -297,7 +296,7 @@ impl Parking {
         }
     }
 
-    /// Whether the connection would begin: it is of a peer's link to this node, and none is open there.
+    /// Whether the connection would begin: it is from a peer's link to this node, and none is open there.
     fn opens(&self, conn: &ConnId) -> bool
         ensures { result ≡ opens conn.now self.now.settled }
     {
@@ -306,7 +305,7 @@ impl Parking {
             && !is_link_open_in(&self.queues, &conn.from)
     }
 
-    /// The connection begins, unless one is open on its link, or it is of no peer or to another node.
+    /// The connection begins, unless one is open on its link, or it is from no peer, or to another node.
     fn open(&mut self, conn: ConnId) -> Result<(), Fault>
         ensures { OnOk result (self.new ≡ taken_in self.old (Inbound.Opened conn)) }
     {
@@ -341,7 +340,7 @@ impl Parking {
         self.park(place, conn, parked)
     }
 
-    /// Whether the message would be parked: its quorum set is unknown, or something of its lane is parked. Its connection's queue
+    /// Whether the message would be parked: its quorum set is unknown, or something of its lane is parked. Its connection's queue is at this place.
     /// has this place.
     #[tactic(auto, using(crate::proofs::Hearing::held_entering))]
     fn is_held_back(&self, place: usize, carried: &Carried) -> bool
@@ -352,7 +351,7 @@ impl Parking {
             || has_lane_at(&self.queues, place, slot_in(carried.message.get()))
     }
 
-    /// One too many would be parked: all that is parked of the connection is dropped with it, and the connection is cut off.
+    /// One message too many would be parked: all that is parked of the connection is dropped, and this too, and the connection is cut off.
     fn cut_off(&mut self, carried: Carried) -> Result<(), Fault>
         requires open { is_open carried.conn self.old.settled.queues ≡ true }
         requires full { is_full carried.conn self.old.settled.queues ≡ true }
@@ -396,8 +395,8 @@ impl Parking {
         Ok(())
     }
 
-    /// Parks a message at the end of its connection's queue, which has this place. Where it waits, its quorum set is wanted, and
-    /// its link is asked for it if it wasn't yet.
+    /// Parks a message at the end of its connection's queue, which is at this place. If it waits, its quorum set is wanted, and
+    /// its link is asked for the set if it wasn't yet.
     fn park(
         &mut self,
         place: usize,
@@ -415,7 +414,7 @@ impl Parking {
         Ok(answer)
     }
 
-    /// The quorum set of the hash is wanted, and the link is asked for it if it wasn't yet.
+    /// The quorum set with this hash, if there is one, is wanted, and the link is asked for it if it wasn't yet.
     fn ask(&mut self, hash: Option<Hash>, conn: ConnId) -> Result<Option<(u8, Message)>, Fault>
         ensures reply { IfOk result (λ answer. answer ≡ asks_named (link_number conn.from self.old.settled) hash self.old.settled.wanted) }
         ensures fits { IfOk result (λ answer. IfSome answer (λ sent. IsFitting sent.1)) }
@@ -523,8 +522,8 @@ impl Parking {
         Ok(())
     }
 
-    /// The twelfth miss of the hash: what waits for it is lost, and what may leave is given. Looks at the connections that wait
-    /// for it alone.
+    /// The twelfth miss of the hash: what waits for it is lost, and what may leave is given. Looks only at the connections that
+    /// wait for it.
     fn lose(&mut self, hash: &Hash) -> Result<(), Fault>
         requires kept { IsKept self.old.settled.queues self.old.settled.wanted }
         requires last { gives_up Miss.All self.old.settled.wanted hash.now ≡ true }
@@ -542,8 +541,8 @@ impl Parking {
         Ok(())
     }
 
-    /// A set came: its hash isn't wanted any more, what waits for it has its outcome, and what may leave is given. Looks at the
-    /// connections that wait for it alone.
+    /// A set came: its hash isn't wanted anymore, what waits for it has its outcome, and what may leave is given. Looks only at
+    /// the connections that wait for it.
     fn resolve(&mut self, hash: &Hash, outcome: Outcome) -> Result<(), Fault>
         requires kept { IsKept self.old.settled.queues self.old.settled.wanted }
         requires hash { HasHash (Some hash.now) outcome }
@@ -557,7 +556,7 @@ impl Parking {
             &outcome,
             &mut self.leaving,
         )?;
-        // sane or not, the want ends
+        // whether the set is sane or not, the want ends
         let _ = self.fetcher.answer(hash, true);
         Ok(())
     }
@@ -598,7 +597,7 @@ impl Parking {
     }
 }
 
-/// The answer that has a set.
+/// The answer with this set.
 fn set_answer(set: &SaneSet) -> Result<Message, Fault>
     ensures same { IfOk result (λ message. message ≡ Message.Set set.now) }
     ensures fits { IfOk result IsFitting }
@@ -607,7 +606,7 @@ fn set_answer(set: &SaneSet) -> Result<Message, Fault>
     Ok(Message::Set(set.set().copy()?))
 }
 
-/// A message that came: an envelope waits for its quorum set, or has it; nothing else waits.
+/// A message that came, as it would be parked: an envelope waits for its quorum set, or has it; nothing else waits.
 fn entering(store: &SetStore, carried: Carried) -> Result<Parked, Fault>
     ensures { IfOk result (λ parked. parked ≡ entering_with store.now carried) }
 {

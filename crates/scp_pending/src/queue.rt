@@ -43,7 +43,7 @@ impl Model for Queue {
 }
 
 impl Queue {
-    /// Adds its messages, in order.
+    /// Adds the queue's messages, in order.
     pub(crate) fn add_messages(self, messages: &mut Vec<Carried>) -> Result<(), Fault>
         ensures added { OnOk result (Adds self.parked messages.old.items messages.new.items) }
         ensures only_memory { IsOkUnless result Fault.NoMemory }
@@ -61,7 +61,7 @@ impl Queue {
         }
     }
 
-    /// The first that waits for a quorum set: its number, and the hash.
+    /// The first message that waits for a quorum set: its number, and the hash.
     #[tactic(auto, using(crate::proofs::Foremost::first_passes, crate::proofs::Foremost::first_stands, crate::proofs::Foremost::first_of_none))]
     pub(crate) fn first_waiting(&self) -> Option<(Seq, Hash)>
         ensures { result ≡ first_that_waits self.now.parked }
@@ -117,7 +117,7 @@ impl Queue {
         }
     }
 
-    /// Gives of each lane all that stands before the first that waits.
+    /// Gives, of each lane, all messages before the first that waits.
     pub(crate) fn serve(
         &mut self,
         alloc: Global,
@@ -129,7 +129,7 @@ impl Queue {
         serve_from(alloc, self.conn, &mut self.parked, leaving)
     }
 
-    /// Gives all of it as dropped.
+    /// Gives all of its messages as dropped.
     pub(crate) fn drop_all(
         &self,
         cause: DropCause,
@@ -197,7 +197,7 @@ pub(crate) fn messages_of(alloc: Global, queues: Vec<Queue>) -> Result<Vec<Carri
     Ok(messages)
 }
 
-/// The queues in the order of their connections.
+/// The queues in the order of their connections. The only refusal is `NoMemory`.
 pub(crate) fn in_order(mut queues: Vec<Queue>) -> Result<Vec<Queue>, Fault>
     ensures same { IfOk result (λ sorted. IsPermutation queues.items sorted.items) }
     ensures sorted { IfOk result (λ sorted. IsSortedByKey (λ q. q.conn) conn_cmp sorted.items) }
@@ -256,7 +256,7 @@ fn settle_each(parked: &mut VecDeque<Parked>, hash: &Hash, outcome: &Outcome) ->
     Ok(())
 }
 
-/// What stands at a place has its outcome, where it waits for the hash; the others aren't moved.
+/// The message at this place has its outcome, if it waits for the hash; the others aren't moved.
 fn settle_at(
     parked: &mut VecDeque<Parked>,
     place: usize,
@@ -314,7 +314,7 @@ fn position_of(queues: &[Queue], conn: &ConnId) -> Option<usize>
     queues.iter().position(|queue| queue.is_of(conn))
 }
 
-/// How many messages of the connection are parked, where it is open.
+/// How many messages of the connection are parked, if it is open.
 #[tactic(auto, using(crate::proofs::Serving::parked_shut))]
 pub(crate) fn count_of(queues: &[Queue], conn: &ConnId) -> Option<usize>
     ensures open { is_some result ≡ is_open conn.now queues.now }
@@ -326,7 +326,7 @@ pub(crate) fn count_of(queues: &[Queue], conn: &ConnId) -> Option<usize>
     Some(queues[place].len())
 }
 
-/// Whether a connection of the node is open.
+/// Whether a connection from the node is open.
 pub(crate) fn is_link_open(queues: &[Queue], node: &NodeId) -> bool
     ensures { result ≡ link_open node.now queues.now }
 {
@@ -343,7 +343,7 @@ pub(crate) fn take_queue(queues: &mut Vec<Queue>, conn: &ConnId) -> Option<Queue
     Some(queues.remove(place))
 }
 
-/// Parks a message at the end of the queue at a place; a queue in which it is the first stands behind the others from then on.
+/// Parks a message at the end of the queue at a place. A queue in which it is the first goes after all others.
 pub(crate) fn push_at(queues: &mut Vec<Queue>, place: usize, parked: Parked) -> Result<(), Fault>
     requires place { place < length queues.old.items }
     ensures { OnOk result ((c : ConnId) → IsPlace c queues.old.items place → queues.new.items ≡ parked_in c parked queues.old.items) }
@@ -363,8 +363,8 @@ fn is_among(conns: &[ConnId], conn: &ConnId) -> bool
     conns.iter().any(|other| *conn == *other)
 }
 
-/// What waits for the hash has its outcome, and what may leave is given, where the queue's connection is one of these: on
-/// every other one nothing waits for it.
+/// If the queue's connection is one of these, what waits for the hash has its outcome, and what may leave is given. On
+/// every other connection nothing waits for it.
 fn resolve_on(
     alloc: Global,
     queue: &mut Queue,
@@ -385,7 +385,7 @@ fn resolve_on(
     queue.serve(alloc, leaving)
 }
 
-/// What waits for the hash, on these connections alone, has its outcome, and what may leave is given, queue after queue.
+/// On these connections only, what waits for the hash has its outcome, and what may leave is given, queue after queue.
 #[tactic(auto, using(crate::proofs::Keeping::went_begins, crate::proofs::Keeping::went_at))]
 pub(crate) fn resolve_all(
     alloc: Global,
@@ -406,8 +406,8 @@ pub(crate) fn resolve_all(
     Ok(())
 }
 
-/// What waits for hashes that one more miss gives up is lost, and what may leave is given; of several such hashes, the queues
-/// whose heads wait for the first wanted one come first. Looks into the queues of the connections that wait for them alone: of
+/// What waits for hashes that one more miss gives up is lost, and what may leave is given. Of several such hashes, the queues
+/// whose heads wait for the first wanted one come first. Looks only into the queues of the connections that wait for them; of
 /// every other one it reads the connection, and nothing that is parked.
 pub(crate) fn give_up_in_order(
     alloc: Global,
@@ -434,8 +434,8 @@ fn waits_for_any(fetcher: &Fetcher, hashes: &[Hash], conn: &ConnId) -> bool
         .any(|hash| is_among(fetcher.waiting(hash), conn))
 }
 
-/// What waits for a hash that one more miss gives up is lost, and what may leave is given, where the queue's connection waits
-/// for one of them: on every other one nothing does.
+/// If the queue's connection waits for a hash that one more miss gives up, what waits for it is lost, and what may leave is
+/// given. On every other connection nothing waits for one.
 fn give_up_on(
     alloc: Global,
     queue: &mut Queue,
@@ -472,7 +472,7 @@ fn give_up_all(
     Ok(())
 }
 
-/// Whether the queue's head waits for the hash, where its connection is one of these: on every other one nothing waits for it.
+/// Whether the queue's head waits for the hash, if its connection is one of these; on every other one nothing waits for it.
 fn comes_first(queue: &Queue, conns: &[ConnId], hash: &Hash) -> bool
     requires quiet { has_conn queue.now.conn conns.now ≡ false → IsQuiet (is_hash hash.now) queue.now }
     ensures { result ≡ has_waiting_head hash.now queue.now.parked }
@@ -480,7 +480,7 @@ fn comes_first(queue: &Queue, conns: &[ConnId], hash: &Hash) -> bool
     is_among(conns, &queue.conn()) && queue.is_head_waiting(hash)
 }
 
-/// The queues whose heads wait for the hash come before the others. Looks into the queues of these connections alone.
+/// Puts the queues whose heads wait for the hash before the others. Looks only into the queues of these connections.
 #[tactic(auto, using(crate::proofs::Freeing::with_waiting, crate::proofs::Freeing::with_other))]
 fn put_first(
     alloc: Global,
@@ -505,7 +505,7 @@ fn put_first(
     Ok(())
 }
 
-/// Of several hashes, the queues whose heads wait for the first one come first.
+/// Puts the queues whose heads wait for the first of several hashes first, then those for the second, and so on.
 fn put_in_order(
     alloc: Global,
     queues: &mut Vec<Queue>,

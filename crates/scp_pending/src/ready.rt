@@ -21,12 +21,12 @@ pub enum DropCause {
     GaveUp,
     /// Its connection was closed while it was parked.
     Closed,
-    /// It was one of 65 messages of its connection, of which 64 may be parked.
+    /// It was one of 65 messages of its connection, and only 64 may be parked.
     ParkedFull,
 }
 
-/// A carried message on its way to the slot stage, which breaks no limit. Beside an envelope there is a sane quorum set that has the hash which
-/// the envelope names; beside another message there is none.
+/// A carried message on its way to the slot stage, which breaks no limit. With an envelope there is a sane quorum set whose hash the envelope
+/// names; with any other message there is none.
 #[derive(Debug, Drop)]
 pub struct Delivery {
     conn: ConnId,
@@ -107,7 +107,7 @@ impl Delivery {
         self.message.get()
     }
 
-    /// The quorum set beside an envelope: it is sane, and has the hash that the envelope names. None beside another
+    /// The quorum set that comes with an envelope: it is sane, and the envelope names its hash. None with any other
     /// message.
     pub fn set(&self) -> Option<&Arc<SaneSet>>
         ensures same { option_map (λ set. set.now.value) result ≡ self.now.set }
@@ -156,7 +156,7 @@ impl Delivery {
 pub enum Ready {
     /// A message is taken.
     Deliver(Delivery),
-    /// The message of this number on its connection is dropped.
+    /// The message with this number on its connection is dropped.
     Dropped {
         conn: ConnId,
         seq: Seq,

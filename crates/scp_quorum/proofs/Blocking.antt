@@ -21,7 +21,7 @@ count_by-le-within us ws within (v ∷ vs) =
     let rest = count_by-le-within us ws within vs in
     rw (sum_by-cons (λ x. cond (us x) 1 0) v vs, sum_by-cons (λ x. cond (ws x) 1 0) v vs) (cond_mono (us v) (ws v) _ _ (within v) rest)
 
--- more nodes satisfy no less
+-- if nodes satisfy a quorum set, more nodes do too
 pub satisfied_count-le-within : (us ws : NodeId → Bool) → IsWithin us ws → (qs : Trees Level) → satisfied_count us qs ≤ satisfied_count ws qs
 satisfied_count-le-within us ws within no_trees = omega arith
 satisfied_count-le-within us ws within (tree_then level inner others) =

@@ -1,4 +1,4 @@
--- What is left of sanity once the parts are tested: the length of the spelling.
+-- What is left of sanity once the parts are tested: the length of the encoding.
 use Rattle.std.proofs.Common.{◌≡◌, ℕ, ◌≤◌, Bool, true, false, Option, Some, None, length, is_some, sym, ◌∙◌, arith}
 use Rattle.std.specs.Prelude.{IsTrue, ◌↔◌}
 use Rattle.std.specs.List.{IsDistinct}

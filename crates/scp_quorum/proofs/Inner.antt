@@ -1,4 +1,4 @@
--- Inner sets behind their count, where so many levels may follow.
+-- Inner sets after their count, if this many levels may follow.
 use Rattle.std.proofs.Common.{◌≡◌, ℕ, zero, suc, ◌-◌, ◌<◌, List, [], Result, Ok, Err, arith, refl}
 use Rattle.scp_types.specs.declared.fault.Fault.{Fault}
 use Rattle.scp_xdr.specs.Tree.{Tree, tree_of}

@@ -38,6 +38,6 @@ module _ (m : BTreeMap NodeId (Arc SaneSet Global)) (nodes : BTreeSet NodeId) (m
   pub all_within : (others : NodeId → Bool) → SatisfyThemselves (set_of m) others → IsWithin others (is_in nodes)
   all_within others closed v has = is_in-known v ∙ found (Satisfies others) (set_of m v) (closed v has)
 
--- the greatest quorum has just the nodes that some quorum has
+-- the greatest quorum has exactly the nodes that some quorum has
 pub union_of : (sets : NodeId → Option QuorumTree) (at : NodeId) (nodes : NodeId → Bool) → IsGreatestQuorum sets at nodes → (v : NodeId) → IsTrue (nodes v) ↔ IsInSomeQuorum sets at v
 union_of sets at nodes greatest v = (λ t. (nodes, greatest.quorum, t), λ some. greatest.others some.0 some.1 v some.2)

@@ -55,7 +55,7 @@ same_now (u ∷ us) (v ∷ vs) [] k l none = absurd (omega (arith, l))
 abbrev pub no_node : NodeId
 no_node = record { 0 = [] }
 
--- no byte of the first nodes is unequal unless it stands in these bytes
+-- no byte of the first nodes is unequal unless it shows in these bytes
 abbrev pub SameBefore : List ℕ → List NodeId → List NodeId → ℕ → Type 0
 SameBefore us mine theirs i = AreZeros us → take i mine ≡ take i theirs
 

@@ -1,4 +1,4 @@
--- A quorum set's limits, spelling and length, from those of its parts.
+-- A quorum set's limits, encoding and length, from those of its parts.
 use Rattle.std.proofs.Common.{◌≡◌, ℕ, zero, suc, ◌+◌, ◌-◌, ◌<◌, ◌≤◌, ◌^◌, List, [], ◌∷◌, ◌++◌, length, arith, sym, ◌∙◌, ap, subst, append_assoc}
 use Rattle.std.specs.Prelude.{map}
 use Rattle.std.specs.List.{flat_map, sum_by, AllByRecursion}
@@ -80,7 +80,7 @@ made_text k vs qs =
 abbrev pub set_len : QuorumTree → ℕ
 set_len q = spelled_len set_kind (set_value q)
 
--- how many bytes the spellings of nodes have
+-- how many bytes the encodings of nodes have
 abbrev pub nodes_len : List NodeId → ℕ
 nodes_len vs = sum_by (λ v. spelled_len node_kind v) (map node_value vs)
 
@@ -92,7 +92,7 @@ made_len k vs qs =
     in
     omega (arith, rows)
 
--- four parts that are put behind one another
+-- four parts, one after the other
 pub put_behind : (o a b c d w t n r : List ℕ) → a ≡ o ++ w → b ≡ a ++ t → c ≡ b ++ n → d ≡ c ++ r → d ≡ o ++ ((w ++ t) ++ (n ++ r))
 put_behind o a b c d w t n r e1 e2 e3 e4 = rw (e4, e3, e2, e1) (simp append_assoc)
 

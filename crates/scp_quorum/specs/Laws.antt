@@ -7,18 +7,18 @@ use Rattle.scp_quorum.specs.Sane.{IsSane}
 use Rattle.scp_quorum.specs.Quorum.{IsQuorum, IsWithin}
 use Rattle.scp_quorum.specs.Places.{only}
 
--- More nodes satisfy no less.
+-- If nodes satisfy a quorum set, more nodes do too.
 abbrev pub SatisfyingIsMonotone : Type 0
 SatisfyingIsMonotone = (us ws : NodeId → Bool) → IsWithin us ws → (q : QuorumTree) → Satisfies us q → Satisfies ws q
 
--- More nodes block no less.
+-- If nodes block a quorum set, more nodes do too.
 abbrev pub BlockingIsMonotone : Type 0
 BlockingIsMonotone = (us ws : NodeId → Bool) → IsWithin us ws → (q : QuorumTree) → Blocks us q → Blocks ws q
 
--- The quorums over the sets of some nodes alone are the quorums over all sets that are inside these nodes.
+-- If only the sets of some nodes are known, the quorums are those over all sets that lie inside these nodes.
 abbrev pub QuorumsOfAPart : Type 0
 QuorumsOfAPart = (sets : NodeId → Option QuorumTree) (part : NodeId → Bool) (at : NodeId) (us : NodeId → Bool) → IsQuorum (only part sets) at us ↔ (IsQuorum sets at us × IsWithin us part)
 
--- No nodes at all don't block a sane quorum set.
+-- The empty set of nodes blocks no sane quorum set.
 abbrev pub NoneBlocksNone : Type 0
 NoneBlocksNone = (q : QuorumTree) → IsSane q → Blocks (λ v. false) q → ⊥

@@ -28,12 +28,12 @@ pub record IsQuorum (sets : NodeId → Option QuorumTree) (at : NodeId) (nodes :
 abbrev pub IsWithin : (NodeId → Bool) → (NodeId → Bool) → Type 0
 IsWithin us ws = (v : NodeId) → us v ≡ true → ws v ≡ true
 
--- The quorum at a node that has every other quorum there inside it.
+-- The quorum at a node that contains every other quorum there.
 pub record IsGreatestQuorum (sets : NodeId → Option QuorumTree) (at : NodeId) (nodes : NodeId → Bool) : Type 0 where
   pub quorum : IsQuorum sets at nodes
   pub others : (others : NodeId → Bool) → IsQuorum sets at others → IsWithin others nodes
 
--- some quorum at a node has this one
+-- some quorum at the first node has the second
 abbrev pub IsInSomeQuorum : (NodeId → Option QuorumTree) → NodeId → NodeId → Type 0
 IsInSomeQuorum sets at v = (nodes : NodeId → Bool) × IsQuorum sets at nodes × (nodes v ≡ true)
 

@@ -14,15 +14,15 @@ level_kind = both uint32 (array 1000 node_kind)
 abbrev pub set_kind : Kind
 set_kind = tree 4 1000 level_kind
 
--- what stands for one level of it
+-- one level of it as a value of its kind
 abbrev pub level_value : Level → Values level_kind
 level_value l = (l.threshold, map node_value l.validators)
 
--- what stands for a quorum set as a value of its kind
+-- a quorum set as a value of its kind
 abbrev pub set_value : QuorumTree → Values set_kind
 set_value q = tree_map level_value q
 
--- back from the values of the kinds
+-- back from a value of the kind to its level
 abbrev pub level_of : Values level_kind → Level
 level_of v = record { threshold = v.0; validators = map node_of v.1 }
 
@@ -30,7 +30,7 @@ level_of v = record { threshold = v.0; validators = map node_of v.1 }
 abbrev pub quorum_set_of : Values set_kind → QuorumTree
 quorum_set_of v = tree_map level_of v
 
--- a quorum set is what its value says, and each value of the kind is that of a quorum set
+-- each quorum set is the one that its value is read back as
 abbrev pub SetIsItsValue : Type 0
 SetIsItsValue = (q : QuorumTree) → quorum_set_of (set_value q) ≡ q
 
@@ -38,10 +38,10 @@ SetIsItsValue = (q : QuorumTree) → quorum_set_of (set_value q) ≡ q
 abbrev pub ValueIsASets : Type 0
 ValueIsASets = (v : Values set_kind) → set_value (quorum_set_of v) ≡ v
 
--- the one spelling of a quorum set
+-- the one encoding of a quorum set
 abbrev pub set_spelling : QuorumTree → List ℕ
 set_spelling q = spelling set_kind (set_value q)
 
--- the name of a quorum set: the SHA-256 (FIPS 180-4) of its spelling
+-- the name of a quorum set: the SHA-256 (FIPS 180-4) of its encoding
 abbrev pub set_hash : QuorumTree → List ℕ
 set_hash q = sha256 (set_spelling q)

@@ -9,16 +9,16 @@ use Rattle.scp_quorum.specs.NodeSet.{node_cmp}
 use Rattle.scp_quorum.specs.QuorumTree.{Level, QuorumTree}
 use Rattle.scp_quorum.specs.QuorumKind.{set_kind, set_value, set_spelling}
 
--- the nodes of a row, inner ones too
+-- the nodes of a row, with those of inner sets
 abbrev pub row_nodes : Trees Level → List NodeId
 row_nodes no_trees = []
 row_nodes (tree_then level inner others) = (level.validators ++ row_nodes inner) ++ row_nodes others
 
--- all nodes of a quorum set
+-- all nodes of a quorum set, with those of inner sets
 abbrev pub all_nodes : QuorumTree → List NodeId
 all_nodes q = q.head.validators ++ row_nodes q.inner
 
--- each threshold of a row, inner ones too, is from 1 to the number of entries
+-- each threshold of a row, with those of inner sets, is from 1 to the number of entries
 abbrev pub AreInRange : Trees Level → Type 0
 AreInRange no_trees = Unit {0}
 AreInRange (tree_then level inner others) =
@@ -33,10 +33,10 @@ abbrev pub levels : Trees Level → ℕ
 levels no_trees = 0
 levels (tree_then level inner others) = max (1 + levels inner) (levels others)
 
--- At every level the threshold is from 1 to the number of entries; no node stands twice in the whole;
--- there are at most 1,000 nodes in the whole and at most 4 levels of inner sets; the set keeps the
--- limits of its kind, and its spelling has at most 65,532 bytes, so that a message of 65,536 can hold
--- it.
+-- At every level the threshold is from 1 to the number of entries. No node occurs twice, and there
+-- are at most 1,000 nodes in all and at most 4 levels of inner sets. The set keeps the limits of its
+-- kind. Its encoding has at most 65,532 bytes, so that a message of 65,536 can hold it after its
+-- discriminant.
 pub record IsSane (q : QuorumTree) : Type 0 where
   pub in_range : IsInRange q
   pub distinct : IsDistinct (eq_by_cmp node_cmp) (all_nodes q)

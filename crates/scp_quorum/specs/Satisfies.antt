@@ -12,8 +12,8 @@ satisfied_count nodes (tree_then level inner others) =
     then 1 + satisfied_count nodes others
     else satisfied_count nodes others
 
--- At least as many entries as the threshold says are satisfied: a validator that is among the nodes,
--- an inner set that the nodes satisfy.
+-- At least as many entries are satisfied as the threshold says. A validator is satisfied if it is
+-- among the nodes, an inner set if the nodes satisfy it.
 abbrev pub Satisfies : (NodeId → Bool) → QuorumTree → Type 0
 Satisfies nodes q = q.head.threshold ≤ count_by nodes q.head.validators + satisfied_count nodes q.inner
 

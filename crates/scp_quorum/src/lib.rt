@@ -1,13 +1,13 @@
-//! Quorum sets: their spelling, their sanity, which nodes satisfy and block them, and quorums.
+//! Quorum sets: how they are encoded, when they are sane, which nodes satisfy and block them; and quorums.
 //!
 //! What it promises:
-//! - a quorum set is read and written as its XDR says (RFC 4506), at most 4 levels of inner sets deep,
-//!   and is named by the SHA-256 (FIPS 180-4) of its spelling;
+//! - a quorum set is read and written as its XDR says (RFC 4506), with at most 4 levels of inner sets.
+//!   It is named by the SHA-256 (FIPS 180-4) of its encoding;
 //! - sanity is decided exactly, without memory, and a set that is refused is handed back;
-//! - nodes satisfy a set where they satisfy as many entries as its threshold says, and block it where
-//!   no set of nodes disjoint from them satisfies it;
-//! - the greatest quorum at a node inside given nodes is the union of all quorums there, and none is
-//!   answered exactly where there is none.
+//! - nodes satisfy a set if they satisfy as many entries as its threshold says. They block it if no
+//!   set of nodes disjoint from them satisfies it;
+//! - the greatest quorum at a node inside given nodes is the union of all quorums there. `None` is
+//!   answered exactly where there is no quorum.
 #![tactic(auto)]
 
 mod laws;

@@ -29,11 +29,11 @@ use std::collections::{BTreeMap, BTreeSet};
 use std::sync::Arc;
 use table::KnownNodes;
 
-/// The union of the quorums at `me` inside the nodes that have a set here, which is one of them (the
-/// SCP draft); None exactly where there is none. Takes memory for these nodes and for what names them,
-/// and the one refusal is `Fault::NoMemory`. Costs at most one look into a table for each node of each
-/// set, and a few look-ups for each node and for each node of each distinct set, however many nodes
-/// share it and however long the fall of one after another is.
+/// The union of the quorums at `me` inside the nodes that have a set here (the SCP draft), itself a
+/// quorum. `None` exactly where there is none. Takes memory for these nodes and for what names them;
+/// the only refusal is `Fault::NoMemory`. Costs at most one table look-up for each node of each set.
+/// If a set isn't satisfied, it adds a few look-ups for each node, and for each node of each distinct
+/// set. No more are made where many nodes share a set, or one removal leads to the next.
 pub fn greatest_quorum(
     alloc: Global,
     me: NodeId,
@@ -53,7 +53,7 @@ pub fn greatest_quorum(
     }
 }
 
-/// Removes nodes that no quorum has, until those that remain satisfy each other's sets.
+/// Removes nodes that are in no quorum, until those that remain satisfy each other's sets.
 fn settle(
     alloc: Global,
     sets: &BTreeMap<NodeId, Arc<SaneSet>>,
@@ -75,8 +75,8 @@ fn settle(
     Ok(())
 }
 
-/// Whether these nodes satisfy each set, so that nothing has to be grouped or removed; a false says
-/// nothing. A set's nodes aren't looked up where it begins with those that were enough for one before.
+/// Whether these nodes satisfy each set, so that nothing has to be grouped or removed; false means nothing.
+/// The nodes of a set aren't looked up if it begins with nodes that were enough for an earlier one.
 fn are_all_satisfied(sets: &BTreeMap<NodeId, Arc<SaneSet>>, nodes: &KnownNodes<'_>) -> bool
     requires { AllHaveSets (set_of sets.now) (is_in nodes.now) }
     ensures { OnTrue result (SatisfyThemselves (set_of sets.now) (is_in nodes.now)) }
@@ -98,8 +98,8 @@ fn are_all_satisfied(sets: &BTreeMap<NodeId, Arc<SaneSet>>, nodes: &KnownNodes<'
     true
 }
 
-/// Goes over the groups once, and removes the members of each whose set those that remain don't
-/// satisfy. Whether any was removed.
+/// Goes over the groups once, and removes the members of each whose set the remaining nodes don't
+/// satisfy. Returns whether any was removed.
 fn remove_unsatisfied(groups: &[Group<'_>], remaining: &mut BTreeSet<NodeId>) -> bool
     ensures within { IsWithin (is_in remaining.new) (is_in remaining.old) }
     ensures kept { (sets : NodeId → Option QuorumTree) → All (HasOneSet sets) groups.now → KeepsQuorums sets (is_in remaining.old) (is_in remaining.new) }
@@ -115,7 +115,7 @@ fn remove_unsatisfied(groups: &[Group<'_>], remaining: &mut BTreeSet<NodeId>) ->
     removed
 }
 
-/// Removes the members of a group whose set those that remain don't satisfy. Whether any was removed.
+/// Removes the members of a group whose set the remaining nodes don't satisfy. Returns whether any was removed.
 fn remove_if_unsatisfied(group: &Group<'_>, remaining: &mut BTreeSet<NodeId>) -> bool
     ensures within { IsWithin (is_in remaining.new) (is_in remaining.old) }
     ensures kept { (sets : NodeId → Option QuorumTree) → HasOneSet sets group.now → KeepsQuorums sets (is_in remaining.old) (is_in remaining.new) }
@@ -129,7 +129,7 @@ fn remove_if_unsatisfied(group: &Group<'_>, remaining: &mut BTreeSet<NodeId>) ->
     remove_members(group, remaining)
 }
 
-/// Removes one group after another, as the counts say which set isn't satisfied any more.
+/// Removes one group after another, as the counts show whose set isn't satisfied any more.
 fn follow_counts(
     alloc: Global,
     groups: &[Group<'_>],
@@ -149,7 +149,7 @@ fn follow_counts(
     Ok(())
 }
 
-/// Removes the members of the group at this place, if the nodes that remain don't satisfy its set:
+/// Removes the members of the group at this place, if the remaining nodes don't satisfy its set:
 /// what a count says is tested.
 fn follow_one(
     index: usize,

@@ -18,8 +18,8 @@ pub use slices::{Nodes, blocked, satisfied};
 use std::alloc::{AllocError, Global};
 use std::marker::Model;
 
-/// How many levels of inner sets a quorum set may have, one more than a spelling has, so that what is
-/// too long to be spelt can still be made and is refused where it is written (this project's profile).
+/// How many levels of inner sets a quorum set may have: one more than can be encoded. So a set that is
+/// too deep to be encoded can still be made, and is refused where it is written (this project's profile).
 const MAX_LEVELS: u32 = 5;
 
 /// A threshold over nodes and further quorum sets, which together are its entries.
@@ -49,10 +49,10 @@ impl Model for QuorumSet {
 }
 
 impl QuorumSet {
-    /// The quorum set of these parts, whether it is sane or not: `Fault::TooLong` exactly where it had
-    /// more than 5 levels of inner sets, so that whatever goes over a set ends within a small stack.
-    /// That is one level more than any spelling has (this project's profile). Moves the parts and takes
-    /// no memory; looks at each inner set, not at the nodes.
+    /// The quorum set of these parts, whether it is sane or not. `Fault::TooLong` exactly where it
+    /// would have more than 5 levels of inner sets, so that whatever goes over a set needs only a small
+    /// stack. That is one level more than any encoding has (this project's profile). Moves the parts
+    /// and takes no memory; looks at each inner set, not at the nodes.
     pub fn new(
         threshold: u32,
         validators: Vec<NodeId>,
@@ -84,7 +84,7 @@ impl QuorumSet {
         }
     }
 
-    /// How many entries have to be satisfied.
+    /// How many entries must be satisfied.
     pub fn threshold(&self) -> u32
         ensures { result ≡ self.now.head.threshold }
     {
@@ -105,7 +105,7 @@ impl QuorumSet {
         self.inner_sets.as_slice()
     }
 
-    /// An equal quorum set, in the same allocator. The one refusal is `Fault::NoMemory`.
+    /// An equal quorum set, in the same allocator. The only refusal is `Fault::NoMemory`.
     pub fn copy(&self) -> Result<QuorumSet, Fault>
         ensures same { IfOk result (λ copied. copied ≡ self.now) }
         ensures only_memory { IsOkUnless result Fault.NoMemory }
@@ -123,8 +123,8 @@ impl QuorumSet {
         })
     }
 
-    /// All nodes, those of the inner sets too: first the set's own, then those of each inner set in
-    /// turn. The one refusal is `Fault::NoMemory`.
+    /// All nodes, with those of the inner sets: first the set's own, then those of each inner set
+    /// in turn. The only refusal is `Fault::NoMemory`.
     pub fn nodes(&self) -> Result<Vec<NodeId>, Fault>
         ensures all { IfOk result (λ nodes. nodes.items ≡ all_nodes self.now) }
         ensures only_memory { IsOkUnless result Fault.NoMemory }
@@ -144,9 +144,9 @@ impl QuorumSet {
         Ok(())
     }
 
-    /// The quorum set that the bytes spell, all of the bytes (RFC 4506; at most 1,000 validators and
-    /// 1,000 inner sets of each set and at most 4 levels of inner sets, this project's profile). The
-    /// first fault is found before memory is taken: `Fault::Malformed` with its place, or
+    /// The quorum set that all of the bytes encode (RFC 4506). A set has at most 1,000 validators
+    /// and 1,000 inner sets, and there are at most 4 levels of inner sets (this project's profile).
+    /// The first fault is found before memory is taken: `Fault::Malformed` with its place, or
     /// `Fault::TooLong` for a count over its limit and for a fifth level.
     pub fn decode(alloc: Global, bytes: &[u8]) -> Result<QuorumSet, Fault>
         ensures found { IfOk result (λ set. Spells set_kind bytes.now (set_value set)) }
@@ -157,8 +157,8 @@ impl QuorumSet {
         scp_xdr::decode(alloc, bytes)
     }
 
-    /// The one spelling of the quorum set (RFC 4506). `Fault::TooLong` exactly where a count or the
-    /// depth is over its limit, else `Fault::NoMemory`.
+    /// The one encoding of the quorum set (RFC 4506). `Fault::TooLong` exactly where a count or the
+    /// depth is over its limit; the only other refusal is `Fault::NoMemory`.
     pub fn encode(&self) -> Result<Vec<u8>, Fault>
         ensures spells { IfOk result (λ bytes. Spells set_kind bytes.items (set_value self.now)) }
         ensures too_long { IsErrOf result Fault.TooLong ↔ ¬ (Fits set_kind (set_value self.now)) }
@@ -168,8 +168,8 @@ impl QuorumSet {
         scp_xdr::encode(alloc, self)
     }
 
-    /// The SHA-256 (FIPS 180-4) of the spelling, by which the quorum set is named. Takes the memory of
-    /// the spelling. `Fault::TooLong` exactly where there is no spelling, else `Fault::NoMemory`.
+    /// The SHA-256 (FIPS 180-4) of the encoding, by which the quorum set is named. Takes the memory of the
+    /// encoding. `Fault::TooLong` exactly where there is no encoding; the only other refusal is `Fault::NoMemory`.
     pub fn hash(&self) -> Result<Hash, Fault>
         ensures digest { IfOk result (λ hash. hash.0 ≡ sha256 (set_spelling self.now)) }
         ensures too_long { IsErrOf result Fault.TooLong ↔ ¬ (Fits set_kind (set_value self.now)) }
@@ -180,7 +180,7 @@ impl QuorumSet {
     }
 }
 
-/// Whether the sets are at most so many levels deep, themselves counted.
+/// Whether the sets are at most `most` levels deep, counting themselves.
 fn are_within(most: u32, sets: &[QuorumSet]) -> bool
     ensures { IsTrue result ↔ levels (in_a_row sets.now) ≤ most }
 {

@@ -37,7 +37,7 @@ impl Model for SaneSet {
 
 impl QuorumSet {
     /// The quorum set as a sane one, with its hash. A refusal hands it back: `Fault::Insane` exactly
-    /// where it isn't sane, and `Fault::NoMemory` where the hash had no memory.
+    /// where it isn't sane, and `Fault::NoMemory` if there was no memory for the hash.
     pub fn into_sane(self) -> Result<SaneSet, (Fault, QuorumSet)>
         ensures same { IfOk result (λ sane. sane ≡ self) }
         ensures sane { IfOk result (λ _. IsSane self) }
@@ -55,7 +55,7 @@ impl QuorumSet {
 }
 
 impl SaneSet {
-    /// The quorum set of threshold 1 whose one entry is this node. The one refusal is `Fault::NoMemory`.
+    /// The quorum set of threshold 1 whose only entry is this node. The only refusal is `Fault::NoMemory`.
     pub fn alone(alloc: Global, node: NodeId) -> Result<SaneSet, Fault>
         ensures value { IfOk result (λ alone. alone ≡ record { head = record { threshold = 1; validators = node ∷ [] }; inner = no_trees }) }
         ensures only_memory { IsOkUnless result Fault.NoMemory }
@@ -69,7 +69,7 @@ impl SaneSet {
         }
     }
 
-    /// The SHA-256 (FIPS 180-4) of the spelling. It is kept, and isn't computed again.
+    /// The SHA-256 (FIPS 180-4) of the encoding. It is kept, and not computed again.
     pub fn hash(&self) -> Hash
         ensures { result.0 ≡ sha256 (set_spelling self.now) }
     {
@@ -77,7 +77,7 @@ impl SaneSet {
     }
 
     /// Whether the sets are equal: the same thresholds, and the same entries in the same order. The hashes are compared
-    /// first, and where they are equal the whole of both, since one hash alone doesn't show it.
+    /// first. If they are equal, all of both sets is compared, since equal hashes alone don't show it.
     pub fn is_same(&self, other: &SaneSet) -> bool
         ensures equal { OnTrue result (self.now ≡ other.now) }
         ensures different { OnFalse result (self.now ≡ other.now → ⊥) }

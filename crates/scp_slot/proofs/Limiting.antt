@@ -106,7 +106,7 @@ value_short (Confirm p) d says is = absurd is
 value_short (Externalize p) d says is = subst (λ (v : List ℕ). IsShortValue v) is.0 says
 value_short (Nominate p) d says is = absurd is
 
--- What is short of the ballots and of what they give.
+-- What is short in the ballots and in what they give.
 record Part (out : SlotOutput) (new : SlotView) : Type 0 where
   pub are : AreShort new.ballots
   pub ballot : ForSome out.emitted.ballot IsShort
@@ -146,8 +146,8 @@ says_valid level valid (Nominate p) kind not = absurd cc
 
 -- ---- nomination
 
--- What its driver and its lists say of a machine after an input: what isn't invalid is short; the votes are few, those that are
--- accepted are among them, and they are short where the proposal is; what the candidates are combined to is short.
+-- What the driver and the lists say of a machine after an input. What isn't invalid is short. The votes are few, the accepted
+-- values are among them, and they are short if the proposal is. What the candidates are combined to is short.
 pub record Given (level : List ℕ → Level) (combined : List (List ℕ) → List ℕ) (old new : nominate.Nomination) : Type 0 where
   pub valid : (v : List ℕ) → level v ≢ Invalid → IsShortValue v
   pub few : length new.lists.votes ≤ 7
@@ -163,7 +163,7 @@ contains_each : (new old : List (List ℕ)) → ((v : List ℕ) → Contains old
 unfolding ContainsAll
 contains_each new old all = All-weaker (λ v. Contains old v) (λ v. Contains new v) all old (All-contains_itself old)
 
--- of lists that ascend, one within another is no longer
+-- of ascending lists, one that is within another isn't longer
 no_longer : (old new : List (List ℕ)) → IsStrictlySortedBy value_cmp old → IsStrictlySortedBy value_cmp new → ((v : List ℕ) → Contains old v → Contains new v) → length old ≤ length new
 no_longer old new first second all = elim (cases_lt (length new) (length old)) [
   | inl lt ↦
@@ -253,7 +253,7 @@ short_envelope level combined e set old out new given holds takes = elim takes [
   ]
 ]
 
--- a value that is fully validated, not otherwise
+-- a value that is fully validated, or one that isn't
 not_invalid : (l : Level) → ¬ (l ≢ FullyValidated) → l ≢ Invalid
 not_invalid l full bad = full (λ e. let t : Invalid ≡ FullyValidated = sym bad ∙ e in cc)
 

@@ -55,7 +55,7 @@ exact_by P b new out given gives is h = subst (λ (x : ballot.Ballots). P x (bal
 pub kept_by : (old new b : ballot.Ballots) → new ≡ b → ballot.KeepsOthers old.board b.board → ballot.KeepsOthers old.board new.board
 kept_by old new b is others = subst (λ (x : ballot.Ballots). ballot.KeepsOthers old.board x.board) (sym is) others
 
--- what was passed on beside a new nomination is so beside the old one
+-- what was passed on with a new nomination is passed on with the old one
 pub passes_as : (composite : Option (List ℕ)) (old mid : SlotView) (out : SlotOutput) (new : SlotView) → mid.ballots ≡ old.ballots → mid.more ≡ old.more → mid.decided ≡ old.decided → PassesOn composite mid out new → PassesOn composite old out new
 passes_as None old mid out new b m d passes = record { ballots = passes.ballots ∙ b; emitted = passes.emitted; decided = passes.decided; more = passes.more ∙ m; still = passes.still ∙ m; settled = passes.settled ∙ d }
 passes_as (Some v) old mid out new b m d passes = record {

@@ -1,4 +1,4 @@
--- What is judged of an envelope's values, and of its place behind the newest one.
+-- How an envelope is judged by its values, and compared with the newest one.
 use Rattle.std.specs.Prelude.{◌≡◌, ◌⊎◌, ℕ, List, Option, IsSomeAnd}
 use Rattle.scp_envelope.specs.declared.statement.Pledges.{Pledges}
 use Rattle.scp_envelope.specs.declared.statement.Pledges.TheVariants.{Prepare, Confirm, Externalize, Nominate}
@@ -12,7 +12,7 @@ use Rattle.scp_slot.specs.declared.newest.Heard.{Heard}
 abbrev pub IsInvalid : (List ℕ → Level) → List ℕ → Type 0
 IsInvalid level value = level value ≡ Invalid
 
--- it is a ballot statement with an invalid value
+-- the pledges are a ballot statement's, with an invalid value
 abbrev pub HasInvalid : (List ℕ → Level) → Pledges → Type 0
 HasInvalid level (Prepare p) = IsInvalid level p.ballot.value ⊎ IsSomeAnd p.prepared (λ b. IsInvalid level b.value) ⊎ IsSomeAnd p.prepared_prime (λ b. IsInvalid level b.value)
 HasInvalid level (Confirm p) = IsInvalid level p.ballot.value

@@ -3,7 +3,7 @@ use Rattle.std.specs.Option.{ForSome}
 use Rattle.scp_envelope.specs.Short.{IsShortValue, IsShort}
 use Rattle.scp_slot.specs.declared.output.SlotOutput.{SlotOutput}
 
--- Each statement that is emitted is short, and so is the own EXTERNALIZE of a decision, whose value has at most 4,096 bytes.
+-- Each statement that is emitted is short; so is the own EXTERNALIZE of a decision, whose value has at most 4,096 bytes.
 pub record KeepsLimits (out : SlotOutput) : Type 0 where
   pub nomination : ForSome out.emitted.nomination IsShort
   pub ballot : ForSome out.emitted.ballot IsShort

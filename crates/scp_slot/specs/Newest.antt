@@ -10,12 +10,12 @@ use Rattle.scp_vote.specs.declared.claim.StatementKind.TheVariants.{Nomination, 
 use Rattle.scp_slot.specs.declared.newest.Heard.{Heard}
 use Rattle.scp_slot.specs.declared.newest.Newest.{Newest}
 
--- the newest statement of the kind that was heard of a node
+-- the newest statement of the kind that was heard from a node
 abbrev pub newest_of : Newest → StatementKind → NodeId → Option Heard
 newest_of n Nomination v = node_map.get node_cmp n.nominations v
 newest_of n Balloting v = node_map.get node_cmp n.ballots v
 
--- it stands in the place of the newest of its node and kind, and all others stay
+-- the statement is now the newest of its node and kind, and all others stay
 pub record Puts (old new : StatementKind → NodeId → Option Heard) (h : Heard) : Type 0 where
   pub its_kind : (v : NodeId) → new (kind_of_pledges h.statement.pledges) v ≡ cond (is_at (node_cmp h.statement.node) v) (Some h) (old (kind_of_pledges h.statement.pledges) v)
   pub other_kind : (kind : StatementKind) → kind ≢ kind_of_pledges h.statement.pledges → (v : NodeId) → new kind v ≡ old kind v

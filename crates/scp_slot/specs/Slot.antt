@@ -22,9 +22,9 @@ use Rattle.scp_slot.specs.declared.state.State.{State}
 use Rattle.scp_slot.specs.declared.machine.SlotMachine.{SlotMachine}
 use Rattle.scp_slot.specs.Newest.{newest_of}
 
--- What a slot's machine knows: this node and the slot, what nomination and ballots know, with the board of each, the newest
--- fresh statement of each other node and kind with its set, whether it decided, what `more` the ballots gave last, and whether
--- it failed.
+-- What a slot's machine knows: this node and the slot, what nomination and ballots know, and the newest fresh statement of
+-- each other node and kind with its set. Also whether it decided, which `more` the ballots gave last, and whether it failed.
+-- Nomination and ballots each have their board.
 pub record SlotView : Type 0 where
   pub me : NodeId
   pub slot : ℕ
@@ -35,7 +35,7 @@ pub record SlotView : Type 0 where
   pub more : Bool
   pub failed : Bool
 
--- what contracts see of a slot's machine, of its state
+-- what contracts see of a slot's machine, from its state
 abbrev pub view_of : {D : Type 0} → State D → Bool → SlotView
 view_of s failed =
     record { me = s.me; slot = s.slot.0; nomination = nomination s.nominator; ballots = ballots s.balloter; newest = newest_of s.newest; decided = s.decided; more = s.more; failed = failed }
@@ -56,16 +56,16 @@ nominator_of m = m.state.value.nominator
 abbrev pub balloter_of : {D : Type 0} → SlotMachine D → BalloterView
 balloter_of m = m.state.value.balloter
 
--- the board has the newest fresh statement of each other node, and counts the set that came with it; of an EXTERNALIZE that node
--- alone is counted
+-- the board has the newest fresh statement of each other node, and counts the set that came with it; for an EXTERNALIZE it
+-- counts that node alone
 pub record Shows (b : Seen) (newest : NodeId → Option Heard) : Type 0 where
   pub statements : (v : NodeId) → v ≢ b.me → b.statement v ≡ option_map (λ (h : Heard). h.statement.pledges) (newest v)
   pub sets : (v : NodeId) → v ≢ b.me → b.counted v ≡ option_map (λ (h : Heard). counted_of_other v h.statement.pledges h.set.value) (newest v)
 
--- What holds of a machine that hasn't failed: nomination and ballots are those of this node and slot, with one quorum set; their
--- boards have the newest fresh statements of the others; it decided where the own ballot statement is an EXTERNALIZE; where there
--- is a candidate the own ballot statement is no PREPARE of counter 0; and the ballots owe nothing, unless they left their rules at
--- the limit.
+-- What holds of a machine that hasn't failed. Nomination and ballots haven't failed either, and are of this node and slot,
+-- with one quorum set. Their boards have the newest fresh statements of the others. The machine has decided exactly if the own
+-- ballot statement is an EXTERNALIZE. If there is a candidate, there is an own ballot. The ballots owe nothing, unless they
+-- stopped their rules at the limit, and then there is more.
 pub record IsRunning (v : SlotView) : Type 0 where
   pub nominating : v.nomination.failed ≡ false
   pub balloting : v.ballots.failed ≡ false
@@ -80,29 +80,29 @@ pub record IsRunning (v : SlotView) : Type 0 where
   pub ballot : v.nomination.lists.candidates ≢ [] → HasBallot v.ballots
   pub owed : v.more ≡ false → OwesNothing v.ballots.hash v.ballots.board
 
--- by its driver's levels and places, nomination owes nothing
+-- nomination owes nothing, by its driver's levels and places
 abbrev pub OwesNoVote : {D : Type 0} → (D → ℕ → List ℕ → Level) → (D → ℕ → ℕ → ℕ → ℕ) → SlotMachine D → Type 0
 OwesNoVote level place m = nominate.IsPaid level place m.state.value.nominator
 
--- By its driver's levels, what that extracts, and its places, each vote that is new since the old view has its reason: it is
--- accepted too, or there was no candidate and it is the proposal of this node, where it leads, or named by another leader.
+-- Each vote that is new since the old view has its reason, by its driver's answers: it is accepted too; or there was no
+-- candidate, and it is this node's proposal, which leads, or another leader suggests it.
 abbrev pub VotesWell : {D : Type 0} → (D → ℕ → List ℕ → Level) → (D → ℕ → List ℕ → Option (List ℕ)) → (D → ℕ → ℕ → ℕ → ℕ) → SlotView → SlotMachine D → Type 0
 VotesWell level extracted place old m = nominate.VotesWell level extracted place old.nomination.lists m.state.value.nominator
 
--- Between inputs, while it hasn't failed.
+-- What holds between inputs, while the machine hasn't failed.
 pub record IsWorking {D : Type 0} (level : D → ℕ → List ℕ → Level) (place : D → ℕ → ℕ → ℕ → ℕ) (s : State D) : Type 0 where
   pub running : IsRunning (view_of s false)
   pub nominator : nominate.IsSound level place s.nominator
 
--- All that it may say has at most 4,096 bytes: its proposal, its votes, and the values of the ballots on the board and in the state.
+-- All that the machine may say has at most 4,096 bytes: its proposal, its votes, and the values of ballots on the board and in the state.
 pub record HoldsShort (v : SlotView) : Type 0 where
   pub proposal : ForSome v.nomination.proposal IsShortValue
   pub votes : (w : List ℕ) → Contains v.nomination.lists.votes w → IsShortValue w
   pub board : BoardSaysOnly IsShortValue v.ballots.board
   pub state : StateSaysOnly IsShortValue v.ballots.state
 
--- of a machine that hasn't failed, by the driver's levels and places: what holds of it between inputs, and that its values have at most
--- 4,096 bytes each
+-- if the machine hasn't failed, what holds between inputs holds by its driver's levels and places, and its values have at most 4,096
+-- bytes each
 abbrev pub IsSound : {D : Type 0} → (D → ℕ → List ℕ → Level) → (D → ℕ → ℕ → ℕ → ℕ) → SlotMachine D → Type 0
 IsSound level place m = m.failed ≡ false → IsWorking level place m.state.value × HoldsShort (slot_view m)
 

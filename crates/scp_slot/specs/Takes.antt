@@ -28,24 +28,24 @@ use Rattle.scp_slot.specs.declared.machine.SlotMachine.{SlotMachine}
 use Rattle.scp_slot.specs.Newest.{Puts}
 use Rattle.scp_slot.specs.Slot.{SlotView}
 
--- nothing but the verdict
+-- only the verdict, and nothing else
 abbrev pub quiet : Verdict → Bool → SlotOutput
 quiet verdict more = record { verdict = verdict; emitted = record { nomination = None; ballot = None }; decided = None; more = more }
 
--- Nothing changes, and nothing is given but the verdict.
+-- Nothing changes, and only the verdict is given.
 pub record Rests (verdict : Verdict) (old : SlotView) (out : SlotOutput) (new : SlotView) : Type 0 where
   pub same : new ≡ old
   pub quiet : out ≡ quiet verdict old.more
 
--- A where P holds, else B
+-- A if P holds, else B
 abbrev pub Cases : Type 0 → Type 0 → Type 0 → Type 0
 Cases P A B = (P × A) ⊎ ((¬ P) × B)
 
--- what the ballots gave of an output
+-- the part of an output that the ballots gave
 abbrev pub ballots_given : SlotOutput → Balloted
 ballots_given out = record { statement = out.emitted.ballot; decided = out.decided; more = out.more }
 
--- The ballots take an input: what they give is given.
+-- The ballots take an input, and what they give is given.
 pub record Ballots (old : SlotView) (out : SlotOutput) (new : SlotView) : Type 0 where
   pub advances : ballot.Advances old.ballots new.ballots (ballots_given out)
   pub has_ballot : ballot.HasBallot old.ballots → ballot.HasBallot new.ballots
@@ -76,11 +76,11 @@ abbrev pub PassesOn : Option (List ℕ) → SlotView → SlotOutput → SlotView
 PassesOn None old out new = BallotsRest old out new
 PassesOn (Some composite) old out new = Candidate composite old out new
 
--- what the nomination gave of an output, beside a composite
+-- the part of an output that nomination gave, with a composite
 abbrev pub nomination_given : SlotOutput → Option (List ℕ) → Nominated
 nomination_given out composite = record { statement = out.emitted.nomination; composite = composite }
 
--- The nomination takes an input: what it gives is given, and the composite that it gives is passed on.
+-- Nomination takes an input: what it gives is given, and its composite, if there is one, is passed on.
 pub record Nominates (combined : List (List ℕ) → List ℕ) (old : SlotView) (out : SlotOutput) (new : SlotView) : Type 0 where
   pub composite : Option (List ℕ)
   pub advances : nominate.Advances combined (nominate.own old.nomination) old.nomination.lists new.nomination (nomination_given out composite)
@@ -89,7 +89,7 @@ pub record Nominates (combined : List (List ℕ) → List ℕ) (old : SlotView) 
   pub passed : PassesOn composite old out new
   pub verdict : out.verdict ≡ Fresh
 
--- Who the machine is stays.
+-- The machine is of the same node and slot as before.
 pub record IsSameMachine (old new : SlotView) : Type 0 where
   pub me : new.me ≡ old.me
   pub slot : new.slot ≡ old.slot
@@ -112,7 +112,7 @@ pub record AddsRound (combined : List (List ℕ) → List ℕ) (old : SlotView) 
   pub others : nominate.KeepsOthers old.nomination.board new.nomination.board
   pub newest : new.newest ≡ old.newest
 
--- A timer. It is fresh where an own ballot statement is emitted.
+-- A timer went off. The verdict is fresh exactly if an own ballot statement is emitted.
 pub record Times (old : SlotView) (out : SlotOutput) (new : SlotView) : Type 0 where
   pub machine : IsSameMachine old new
   pub ballots : Ballots old out new
@@ -125,7 +125,7 @@ pub record Times (old : SlotView) (out : SlotOutput) (new : SlotView) : Type 0 w
   pub newest : new.newest ≡ old.newest
   pub verdict : Cases (IsSome out.emitted.ballot) (out.verdict ≡ Fresh) (out.verdict ≡ Idle)
 
--- the statement with its set stands in the place of the newest of its node and kind
+-- the statement, with its set, is now the newest of its node and kind
 pub record Enters (e : Enveloped) (set : SharedSet) (old new : SlotView) : Type 0 where
   pub heard : Heard
   pub statement : heard.statement ≡ e.statement
@@ -153,7 +153,7 @@ pub record HearsBallot (e : Enveloped) (set : SharedSet) (old : SlotView) (out :
   pub enters : Enters e set old new
   pub verdict : out.verdict ≡ Fresh
 
--- of a nomination, or of a ballot statement
+-- what a fresh NOMINATE, or a fresh ballot statement, makes of the machine
 abbrev pub HearsKind : StatementKind → (List (List ℕ) → List ℕ) → Enveloped → SharedSet → SlotView → SlotOutput → SlotView → Type 0
 HearsKind Nominating combined e set old out new = HearsNomination combined e set old out new
 HearsKind Balloting combined e set old out new = HearsBallot e set old out new
@@ -187,19 +187,19 @@ TakesInput level combined (Envelope e set) old out new = TakesEnvelope level com
 abbrev pub Takes : (List ℕ → Level) → (List (List ℕ) → List ℕ) → SlotInput → SlotView → SlotOutput → SlotView → Type 0
 Takes level combined input old out new = Cases (old.decided ≡ true) (Rests Idle old out new) (TakesInput level combined input old out new)
 
--- By its driver's levels, what that extracts, and its places, the nomination is as it was, or its steps lead to it: from the board
--- and the lists that it had, and by an envelope from that board with the envelope's statement.
+-- By its driver's answers, nomination is as it was, or its steps lead to it: from the board and the lists that it had, and at an
+-- envelope from that board with the envelope's statement.
 abbrev pub NominatesBy : {D : Type 0} → (D → ℕ → List ℕ → Level) → (D → ℕ → List ℕ → Option (List ℕ)) → (D → ℕ → ℕ → ℕ → ℕ) → Nomination → SlotInput → Nominator D → Type 0
 NominatesBy level extracted place old (Propose value) m = (nominate.nomination m ≡ old) ⊎ nominate.ComesFrom level extracted place old old.board m
 NominatesBy level extracted place old Round m = (nominate.nomination m ≡ old) ⊎ nominate.ComesFrom level extracted place old old.board m
 NominatesBy level extracted place old Timer m = nominate.nomination m ≡ old
 NominatesBy level extracted place old (Envelope e set) m = (nominate.nomination m ≡ old) ⊎ nominate.ComesFromHearing level extracted place old e set.value m
 
--- the nomination is as it was, or the steps of nomination lead to it from the board and the lists that it had
+-- nomination is as it was, or its steps lead to it from the board and the lists that it had
 abbrev pub NominatesExactly : {D : Type 0} → (D → ℕ → List ℕ → Level) → (D → ℕ → List ℕ → Option (List ℕ)) → (D → ℕ → ℕ → ℕ → ℕ) → SlotView → SlotInput → SlotMachine D → Type 0
 NominatesExactly level extracted place old input m = NominatesBy level extracted place old.nomination input m.state.value.nominator
 
--- an envelope is given to the machine of its slot
+-- an envelope goes to the machine of its slot
 abbrev pub IsOfSlot : ℕ → SlotInput → Type 0
 IsOfSlot slot (Propose value) = Unit {0}
 IsOfSlot slot Round = Unit {0}
@@ -207,7 +207,7 @@ IsOfSlot slot Timer = Unit {0}
 IsOfSlot slot (Envelope e set) = e.statement.slot.0 ≡ slot
 
 -- A decision is given exactly at the input that makes the own ballot statement an EXTERNALIZE, with its certificate on the board
--- as it is then.
+-- after the input.
 pub record Decides (old : SlotView) (out : SlotOutput) (new : SlotView) : Type 0 where
   pub exactly : IsSome out.decided ↔ ((ballot.IsDecided old.ballots → ⊥) × ballot.IsDecided new.ballots)
   pub certified : ForSome out.decided (λ d. ballot.IsCertified new.ballots d)

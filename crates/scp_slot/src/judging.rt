@@ -14,7 +14,7 @@ fn is_invalid<D: Driver>(driver: &D, slot: Slot, value: &Value) -> bool
     driver.validate(slot, value) == Level::Invalid
 }
 
-/// Whether the ballot, if there is one, has an invalid value.
+/// Whether there is a ballot, and its value is invalid.
 fn has_invalid_value<D: Driver>(driver: &D, slot: Slot, ballot: &Option<Ballot>) -> bool
     ensures { IsTrue result ↔ IsSomeAnd ballot.now (λ b. IsInvalid (D.says.level driver.now slot.0) b.value) }
 {
@@ -33,7 +33,7 @@ fn is_bad_prepare<D: Driver>(driver: &D, slot: Slot, prepare: &Prepare) -> bool
         || has_invalid_value(driver, slot, &prepare.prepared_prime)
 }
 
-/// Whether they are of a ballot statement that has an invalid value.
+/// Whether the pledges are a ballot statement's, with an invalid value.
 pub(crate) fn has_invalid<D: Driver>(driver: &D, slot: Slot, pledges: &Pledges) -> bool
     ensures { IsTrue result ↔ HasInvalid (D.says.level driver.now slot.0) pledges.now }
 {

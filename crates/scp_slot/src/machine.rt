@@ -11,8 +11,8 @@ use scp_types::{Fault, NodeId, Slot};
 use std::alloc::Global;
 use std::sync::Arc;
 
-/// What a node knows and says of one slot, by its driver. After a refusal it is failed, and answers `Fault::Failed` from then on.
-/// Its state lies on the heap, so that a map of machines moves handles.
+/// What a node knows and says of one slot, with its driver. After a refusal it has failed, and answers `Fault::Failed` from then
+/// on. Its state is on the heap, so that a map of machines moves only handles.
 #[derive(Drop)]
 pub struct SlotMachine<D: Driver + Drop> {
     state: Box<State<D>>,
@@ -26,7 +26,7 @@ impl<D: Driver + Drop> SlotMachine<D> {
     ghost use Rattle.scp_slot.specs.Takes.{Takes, Decides, IsOfSlot, NominatesExactly};
     ghost use Rattle.scp_slot.specs.Limits.{KeepsLimits};
 
-    /// The machine of a slot of which nothing was heard or said. The one refusal is `Fault::NoMemory`.
+    /// The machine of a slot of which nothing was heard or said. The only refusal is `Fault::NoMemory`.
     pub fn new(
         alloc: Global,
         me: NodeId,
@@ -55,7 +55,7 @@ impl<D: Driver + Drop> SlotMachine<D> {
         self.state.slot
     }
 
-    /// What is nominated.
+    /// The nomination of the slot.
     pub fn nominator(&self) -> &Nominator<D>
         ensures same { result.now ≡ nominator_of self.now }
         ensures view { nomination result.now ≡ (slot_view self.now).nomination }
@@ -64,7 +64,7 @@ impl<D: Driver + Drop> SlotMachine<D> {
         &self.state.nominator
     }
 
-    /// What is balloted.
+    /// The ballots of the slot.
     pub fn balloter(&self) -> &Balloter
         ensures same { result.now ≡ balloter_of self.now }
         ensures view { ballots result.now ≡ (slot_view self.now).ballots }
@@ -72,16 +72,16 @@ impl<D: Driver + Drop> SlotMachine<D> {
         &self.state.balloter
     }
 
-    /// Whether the slot is decided by this machine.
+    /// Whether this machine has decided the slot.
     pub fn is_decided(&self) -> bool
         ensures same { result ≡ (slot_view self.now).decided }
     {
         self.state.decided
     }
 
-    /// Takes one input: an envelope is one of this slot, with the quorum set that it names. Its verdict is the first that fits of
-    /// those that `Verdict` lists for it; only what is fresh, and a timer, is taken in; after the decision nothing changes any
-    /// more. Refused by `Failed` once a call was refused, else by `NoMemory`.
+    /// Takes one input; an envelope is of this slot, and comes with the quorum set that it names. An envelope's verdict is the
+    /// first that fits: own, bad statement, bad value, stale, else fresh. Only fresh inputs and timers are taken in, and after
+    /// the decision nothing changes. Refused by `Failed` if an earlier call was refused, else by `NoMemory`.
     pub fn input(&mut self, input: SlotInput) -> Result<SlotOutput, Fault>
         requires sound { IsSound D.says.level D.says.place self.old }
         requires of_slot { IsOfSlot (slot_view self.old).slot input }
@@ -89,13 +89,13 @@ impl<D: Driver + Drop> SlotMachine<D> {
         ensures takes { IfOk result (λ out. Takes (D.says.level (driver_of self.old) (slot_view self.old).slot) (D.says.combined (driver_of self.old) (slot_view self.old).nomination.slot) input (slot_view self.old) out (slot_view self.new)) }
         // A decision comes once, with its certificate.
         ensures decides { IfOk result (λ out. Decides (slot_view self.old) out (slot_view self.new)) }
-        // The boards are those of the newest fresh envelopes, and the ballots owe nothing on them.
+        // The boards show the newest fresh envelopes, and the ballots owe nothing on them, unless there is more.
         ensures running { OnOk result (IsRunning (slot_view self.new)) }
-        // What is emitted, and what a decision has, keeps the limits of a link.
+        // What is emitted, and what is in a decision, keeps the limits of a link.
         ensures fits { IfOk result (λ out. KeepsLimits out) }
         // Each new vote has its reason.
         ensures votes { OnOk result (VotesWell D.says.level D.says.extracted D.says.place (slot_view self.old) self.new) }
-        // The votes, the accepted values and the candidates are those that the steps of nomination come to.
+        // The votes, the accepted values and the candidates are those that the steps of nomination lead to.
         ensures nominates { OnOk result (NominatesExactly D.says.level D.says.extracted D.says.place (slot_view self.old) input self.new) }
         // Nomination owes nothing.
         ensures owed { OnOk result (OwesNoVote D.says.level D.says.place self.new) }

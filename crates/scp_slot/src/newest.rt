@@ -21,8 +21,8 @@ pub struct Heard {
     pub set: Arc<SaneSet>,
 }
 
-/// Of each other node the newest fresh statement of each kind, beside the boards: for the verdict on a later one, and for the
-/// set that came with it. Both share the envelope.
+/// For each other node the newest fresh statement of each kind, kept besides the boards: for the verdict on a later one, and
+/// for the set that came with it. Both share the envelope.
 #[derive(Drop)]
 pub(crate) struct Newest {
     nominations: BTreeMap<NodeId, Heard>,
@@ -66,7 +66,7 @@ impl Newest {
     }
 }
 
-/// The newest statement of this node from now on.
+/// Makes the statement the node's newest.
 fn put_at(map: &mut BTreeMap<NodeId, Heard>, node: NodeId, heard: Heard) -> Result<(), Fault>
     ensures put { OnOk result (node_map.Updates node_cmp map.old map.new node (Some heard)) }
     ensures only_memory { IsOkUnless result Fault.NoMemory }

@@ -21,7 +21,7 @@ pub enum SlotInput {
     Envelope(SharedEnvelope, Arc<SaneSet>),
 }
 
-/// What was found of an input.
+/// What was found about an input.
 #[derive(Clone, Copy, Debug, PartialEq, Eq)]
 pub enum Verdict {
     /// It was taken in.
@@ -34,30 +34,30 @@ pub enum Verdict {
     BadStatement,
     /// A ballot statement with an invalid value, or a proposal that isn't fully validated.
     BadValue,
-    /// A command that changed nothing, or an input after the decision.
+    /// A proposal or a round that changed nothing, a timer after which nothing is emitted, or an input after the decision.
     Idle,
 }
 
-/// The own statements that changed, without signatures: the newest nomination statement comes first.
+/// The own statements that changed, without signatures; the nomination statement comes first.
 #[derive(Drop)]
 pub struct Emitted {
     pub nomination: Option<SharedEnvelope>,
     pub ballot: Option<SharedEnvelope>,
 }
 
-/// What comes of an input.
+/// What comes out of an input.
 #[derive(Drop)]
 pub struct SlotOutput {
     pub verdict: Verdict,
     pub emitted: Emitted,
     /// The decision, at the input that makes the own ballot statement an EXTERNALIZE.
     pub decided: Option<Certified>,
-    /// Whether the last call of the ballots left its rules at their limit; false before one.
+    /// Whether the last call of the ballots stopped its rules at their limit; false before the first call.
     pub more: bool,
 }
 
 impl SlotOutput {
-    /// Nothing but the verdict.
+    /// Only the verdict, and nothing else.
     pub(crate) fn quiet(verdict: Verdict, more: bool) -> SlotOutput
         ensures { result ≡ quiet verdict more }
     {

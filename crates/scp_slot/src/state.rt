@@ -38,7 +38,7 @@ pub(crate) struct State<D: Driver + Drop> {
     pub(crate) newest: Newest,
     /// Whether the own ballot statement is an EXTERNALIZE.
     pub(crate) decided: bool,
-    /// Whether the last call of the ballots left its rules at their limit.
+    /// Whether the last call of the ballots stopped its rules at their limit.
     pub(crate) more: bool,
 }
 
@@ -46,7 +46,7 @@ impl<D: Driver + Drop> State<D> {
     ghost use Rattle.scp_slot.specs.Slot.{view_of, Begins, IsWorking};
     ghost use Rattle.scp_slot.specs.Takes.{PassesOn, Candidate, Enters, TakesInput, Takes, HearsFresh, HearsNomination, HearsBallot, IsOfSlot, NominatesBy};
 
-    /// Nothing was heard or said.
+    /// The parts of a machine that has heard and said nothing.
     pub(crate) fn new(
         alloc: Global,
         me: NodeId,
@@ -74,7 +74,7 @@ impl<D: Driver + Drop> State<D> {
         })
     }
 
-    /// Nothing but the verdict.
+    /// Only the verdict, and nothing else.
     fn quiet(&self, verdict: Verdict) -> SlotOutput
         ensures { result ≡ quiet verdict self.now.more }
     {
@@ -95,14 +95,14 @@ impl<D: Driver + Drop> State<D> {
         self.nominator.driver().validate(self.slot, value) == Level::FullyValidated
     }
 
-    /// Whether they are of a ballot statement with an invalid value.
+    /// Whether the pledges are a ballot statement's, with an invalid value.
     fn has_invalid(&self, pledges: &Pledges) -> bool
         ensures { IsTrue result ↔ HasInvalid (D.says.level (nominate.driver_of self.now.nominator) self.now.slot.0) pledges.now }
     {
         has_invalid(self.nominator.driver(), self.slot, pledges)
     }
 
-    /// Whether there is a newest one of the node and kind of this statement, and this one isn't newer.
+    /// Whether there is a newest statement of the same node and kind, and this one isn't newer.
     fn is_behind(&self, statement: &Statement) -> bool
         ensures { IsTrue result ↔ IsBehind (newest_of self.now.newest (kind_of_pledges statement.now.pledges) statement.now.node) statement.now }
     {
@@ -129,7 +129,7 @@ impl<D: Driver + Drop> State<D> {
         }
     }
 
-    /// What the ballots give, beside what the nomination emits.
+    /// What the ballots give, with what nomination emits.
     fn balloted(
         &mut self,
         verdict: Verdict,
@@ -152,7 +152,7 @@ impl<D: Driver + Drop> State<D> {
         }
     }
 
-    /// Gives a composite to the ballots.
+    /// Gives a composite to the ballots as their candidate.
     fn offer(
         &mut self,
         nomination: Option<SharedEnvelope>,
@@ -169,7 +169,7 @@ impl<D: Driver + Drop> State<D> {
         Ok(self.balloted(Verdict::Fresh, nomination, given))
     }
 
-    /// Hands a composite of the nomination to the ballots.
+    /// Passes the composite of nomination on to the ballots, if there is one.
     fn pass_on(&mut self, given: Nominated) -> Result<SlotOutput, Fault>
         requires working { (ballot.ballots self.old.balloter).failed ≡ false }
         ensures passes { IfOk result (λ out. PassesOn given.composite (view_of self.old false) out (view_of self.new false)) }
@@ -268,7 +268,7 @@ impl<D: Driver + Drop> State<D> {
         Ok(())
     }
 
-    /// A fresh NOMINATE.
+    /// Takes a fresh NOMINATE.
     fn take_nomination(
         &mut self,
         envelope: SharedEnvelope,
@@ -290,7 +290,7 @@ impl<D: Driver + Drop> State<D> {
         Ok(out)
     }
 
-    /// A fresh ballot statement.
+    /// Takes a fresh ballot statement.
     fn take_ballot(
         &mut self,
         envelope: SharedEnvelope,
@@ -313,7 +313,7 @@ impl<D: Driver + Drop> State<D> {
         Ok(self.balloted(Verdict::Fresh, None, given))
     }
 
-    /// A fresh envelope.
+    /// Takes a fresh envelope.
     fn take(&mut self, envelope: SharedEnvelope, set: Arc<SaneSet>) -> Result<SlotOutput, Fault>
         requires other { envelope.statement.node ≢ self.old.me }
         requires of_slot { envelope.statement.slot.0 ≡ self.old.slot.0 }
@@ -338,7 +338,7 @@ impl<D: Driver + Drop> State<D> {
         }
     }
 
-    /// An envelope of the slot.
+    /// Takes an envelope of the slot, if it is fresh.
     fn hear(&mut self, envelope: SharedEnvelope, set: Arc<SaneSet>) -> Result<SlotOutput, Fault>
         requires of_slot { envelope.statement.slot.0 ≡ self.old.slot.0 }
         requires undecided { self.old.decided ≡ false }
@@ -358,7 +358,7 @@ impl<D: Driver + Drop> State<D> {
         Ok(out)
     }
 
-    /// One input before the decision.
+    /// Takes one input before the decision.
     fn enter_undecided(&mut self, input: SlotInput) -> Result<SlotOutput, Fault>
         requires undecided { self.old.decided ≡ false }
         requires of_slot { IsOfSlot self.old.slot.0 input }
@@ -378,7 +378,7 @@ impl<D: Driver + Drop> State<D> {
         }
     }
 
-    /// One input; after the decision nothing changes any more.
+    /// Takes one input; after the decision nothing changes.
     pub(crate) fn enter(&mut self, input: SlotInput) -> Result<SlotOutput, Fault>
         requires of_slot { IsOfSlot self.old.slot.0 input }
         requires working { IsWorking D.says.level D.says.place self.old }
@@ -397,14 +397,14 @@ impl<D: Driver + Drop> State<D> {
     }
 }
 
-/// Whether it is fresh.
+/// Whether the verdict is fresh.
 fn is_fresh(verdict: Verdict) -> bool
     ensures { IsTrue result ↔ (verdict ≡ Verdict.Fresh) }
 {
     verdict == Verdict::Fresh
 }
 
-/// Fresh where there is a statement, else idle.
+/// Fresh if there is a statement, else idle.
 fn changed(statement: &Option<SharedEnvelope>) -> Verdict
     ensures { Cases (IsSome statement.now) (result ≡ Verdict.Fresh) (result ≡ Verdict.Idle) }
 {

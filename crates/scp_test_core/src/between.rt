@@ -1,5 +1,5 @@
-//! A close put between any two events, the steps of each stage among them: the journal follows what was sent before it, and
-//! accounts for all of it, by a check that knows only what was accepted and what the journal shows.
+//! A close is put between any two events, the steps of each stage among them. The journal follows what was sent before it, and accounts for
+//! all of it. The check knows only what was accepted and what the journal shows.
 use crate::parts::Act::*;
 use crate::parts::Seen::*;
 use crate::parts::{Act, CONN, MANY, ONE, STAGES, Said, is_so, outcome, reply, settle};
@@ -20,7 +20,7 @@ struct Sending {
     is_shown: bool,
 }
 
-/// What was accepted on link 0: its messages, and the lives that were closed. And the lives that ended by the journal.
+/// What was accepted on link 0: its messages, and the lives that were closed; and the lives that have ended in the journal.
 #[derive(Drop)]
 struct Heard {
     sent: Vec<Sending>,
@@ -42,7 +42,7 @@ const LANES: [Act; 7] = [
     Set(2),
 ];
 
-/// Each act, with three steps of each stage behind it.
+/// Each act, with three steps of each stage after it.
 fn step_by_step(alloc: Global, acts: &[Act]) -> Result<Vec<Act>, Fault> {
     let mut events = Vec::new(alloc);
     for act in acts {
@@ -78,7 +78,7 @@ fn note(heard: &mut Heard, life: u32, act: Act) -> Result<(), Fault> {
     Ok(())
 }
 
-/// The acts happen, and each is noted where it is accepted.
+/// The acts happen, and each is noted if it is accepted.
 fn happen(alloc: Global, node: &mut Node, heard: &mut Heard, acts: &[Act]) -> Result<(), Fault> {
     for act in acts {
         match reply(alloc, node, *act)? {
@@ -99,7 +99,7 @@ fn life_of(fate: &Fate) -> u32 {
     }
 }
 
-/// Marks a message's fate as shown, and gives what was sent. None if it isn't the first of its lane whose fate is missing.
+/// Marks a message's fate as shown, and gives what was sent; `None` if it isn't the first of its lane whose fate is missing.
 fn tell(sent: &mut [Sending], life: u32, seq: u64) -> Option<Act> {
     let place = sent.iter().position(|it| it.life == life && it.seq == seq)?;
     let slot = sent.get(place)?.slot;
@@ -124,8 +124,8 @@ fn is_what_was_sent(alloc: Global, fate: &Fate, act: Act) -> Result<bool, Fault>
     }
 }
 
-/// Whether the journal follows what was sent. In each lane its fates are those of the first messages, each once and in order; each taken
-/// message is the one that was sent; and a connection ends by its link, with nothing behind its end.
+/// Whether the journal follows what was sent. In each lane its fates are those of the first messages, each once and in order. Each taken
+/// message is the one that was sent. A connection ends by its link, with nothing after its end.
 fn follows(alloc: Global, journal: &[Fate], heard: &mut Heard) -> Result<bool, Fault> {
     for fate in journal {
         let life = life_of(fate);
@@ -189,7 +189,7 @@ fn is_followed(alloc: Global, node: &mut Node, parts: &[&[Act]]) -> Result<bool,
     )
 }
 
-/// Whether a new node's journal does, wherever the others happen.
+/// Whether a new node's journal does so, wherever the others happen.
 fn are_followed(
     alloc: Global,
     capacities: Capacities,

@@ -1,5 +1,5 @@
-//! Tests of `scp_core`, for what only the caller of a node sees. What becomes of messages and what is sent is shown by
-//! examples/stages.calls, examples/node.calls and the scripts of examples/.
+//! Tests of `scp_core`, for what only a node's caller sees. The calls in examples/stages.calls and examples/node.calls, and the scripts of
+//! examples/, show what becomes of messages and what is sent.
 #![tactic(auto)]
 
 #[cfg(test)]

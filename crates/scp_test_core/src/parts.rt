@@ -11,8 +11,8 @@ use scp_types::{Ballot, ConnId, Fault, NodeId, SharedValue, Slot, Value};
 use scp_wire::{BoxedEnvelope, Message, encode};
 use std::alloc::Global;
 
-/// What happens at node 1, whose link 0 is from node 2. A quorum set goes by its number: 1 is the node's own, 2 of both nodes;
-/// 2 is 1 of node 2; 3 is the node alone; and 0 isn't sane, 0 of node 2.
+/// What happens at node 1, whose link 0 is from node 2. A quorum set goes by its number: 1 is the node's own, 2 of both nodes; 2 is 1 of node
+/// 2; 3 is the node alone; and 0, which isn't sane, is 0 of node 2.
 #[derive(Clone, Copy)]
 pub enum Act {
     Open(u8),
@@ -156,7 +156,7 @@ fn value(alloc: Global) -> Result<Value, Fault> {
     Ok(Value::new(Vec::from_slice(alloc, &PUT_A)?))
 }
 
-/// So many such values.
+/// This many such values.
 fn values(alloc: Global, count: usize) -> Result<ValueList, Fault> {
     let mut values = Vec::new(alloc);
     for _ in 0..count {
@@ -260,7 +260,7 @@ pub fn reply(alloc: Global, node: &mut Node, act: Act) -> Result<Said, Fault> {
     Ok(kind_of(&node.step(event)))
 }
 
-/// Each stage once. The reply of a failed one, else whether something moved.
+/// Each stage once. Returns the reply of a failed one, else whether something moved.
 pub fn round(alloc: Global, node: &mut Node) -> Result<Said, Fault> {
     let mut last = Said::Idle;
     for act in STAGES {
@@ -284,7 +284,7 @@ pub fn settle(alloc: Global, node: &mut Node) -> Result<Said, Fault> {
     Ok(Said::Moved)
 }
 
-/// All these, each so many times, and after each the stages until nothing moves; `Idle` where each was accepted and came to rest.
+/// All of these, each this many times, and after each the stages until nothing moves. `Idle` if each was accepted and the node came to rest.
 pub fn play(alloc: Global, node: &mut Node, acts: &[(u32, Act)]) -> Result<Said, Fault> {
     for (times, act) in acts {
         for _ in 0..*times {
@@ -301,7 +301,7 @@ pub fn play(alloc: Global, node: &mut Node, acts: &[(u32, Act)]) -> Result<Said,
     Ok(Said::Idle)
 }
 
-/// All these happen, each is accepted, and the node comes to rest after it. `NoMemory` where a step lacked it.
+/// All of these happen, each is accepted, and the node comes to rest after it. `NoMemory` if a step ran out of memory.
 pub fn bring(alloc: Global, node: &mut Node, acts: &[(u32, Act)]) -> Result<(), Fault> {
     match play(alloc, node, acts)? {
         Said::Idle => Ok(()),
@@ -318,7 +318,7 @@ pub fn outcome(fate: &Fate) -> Seen {
     }
 }
 
-/// Whether the node is failed: it answers so whatever comes, and has no state.
+/// Whether the node has failed: it answers so whatever comes, and has no state.
 pub fn is_failed(node: &mut Node) -> bool {
     let first = kind_of(&node.step(Event::Close(0)));
     let second = kind_of(&node.step(Event::Open(7)));

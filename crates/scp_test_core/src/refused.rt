@@ -43,7 +43,7 @@ fn is_part(node: &mut Node, story: &Story<'_>) -> bool {
         && is_failed(node)
 }
 
-/// Whether the node shows what it should after these acts. If a step runs out of memory, it shows a beginning of that, and is failed.
+/// Whether the node shows what it should after these acts; if a step runs out of memory, it shows a beginning of that, and has failed.
 fn tells(alloc: Global, node: &mut Node, story: &Story<'_>) -> Result<bool, Fault> {
     match play(alloc, node, story.acts)? {
         Said::Idle => Ok(is_whole(node, story)),
@@ -52,7 +52,7 @@ fn tells(alloc: Global, node: &mut Node, story: &Story<'_>) -> Result<bool, Faul
     }
 }
 
-/// Whether a new node does.
+/// Whether a new node does so.
 fn is_right(alloc: Global, story: &Story<'_>) -> Result<bool, Fault> {
     is_so(alloc, story.set, MANY, |node| tells(alloc, node, story))
 }

@@ -130,7 +130,7 @@ fn each_event_has_its_reply(rt: HostRuntime) -> Result<(), Fail> {
     Ok(())
 }
 
-/// The events of these rows, so many times.
+/// The events of these rows, this many times.
 fn events(alloc: Global, times: usize, rows: &[Row]) -> Result<Vec<Event>, Fault> {
     let mut events = Vec::new(alloc);
     for _ in 0..times {
@@ -154,7 +154,7 @@ fn are_those(replies: &[Reply], rows: &[Row]) -> Result<bool, Fault> {
     Ok(true)
 }
 
-/// Whether a run of these events, so many times over, gets these replies and leaves so many entries.
+/// Whether a run of these events, this many times over, gets these replies and leaves this many entries.
 fn runs(alloc: Global, times: usize, rows: &[Row], entries: usize) -> Result<bool, Fault> {
     let events = events(alloc, times, rows)?;
     let config = config(alloc, 1, &[PEER], ONE)?;
@@ -211,7 +211,7 @@ const OTHERS: [NodeId; 8] = [
     NodeId([9; 32]),
 ];
 
-/// Whether the node is refused, for its configuration.
+/// Whether the node is refused because of its configuration.
 fn is_refused(
     alloc: Global,
     number: u8,
@@ -266,7 +266,7 @@ fn configurations_are_refused(rt: HostRuntime) -> Result<(), Fail> {
     Ok(())
 }
 
-/// Sends so many requests, each of which goes through every stage.
+/// Sends this many requests, each of which goes through every stage.
 fn fill(alloc: Global, node: &mut Node, count: u32) -> Result<(), Fault> {
     for _ in 0..count {
         let _ = reply(alloc, node, GetRecord)?;
@@ -279,7 +279,7 @@ fn fill(alloc: Global, node: &mut Node, count: u32) -> Result<(), Fault> {
     Ok(())
 }
 
-/// Whether the next entry is refused, and the node is failed from then on.
+/// Whether the next entry is refused, and the node has failed from then on.
 fn is_full(alloc: Global, node: &mut Node, entries: usize) -> Result<bool, Fault> {
     match play(alloc, node, &[(1, GetRecord)])? {
         Said::JournalFull => Ok(node.journal().len() == entries && is_failed(node)),

@@ -25,7 +25,7 @@ const TOLD: [(Act, Option<CommandFate>, u64); 10] = [
     (Names(1), None, 1),
 ];
 
-/// Whether a node reports this after each, and nothing before the first, nor of a link that isn't there.
+/// Whether a node reports this after each act, and nothing before the first, nor of a link that isn't there.
 fn reports(alloc: Global, node: &mut Node) -> Result<bool, Fault> {
     let mut is_so = node.last_command().is_none();
     for (act, command, replaced) in TOLD {

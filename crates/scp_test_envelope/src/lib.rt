@@ -1,5 +1,5 @@
-//! The tests of `scp_envelope`, by its public calls: what only a caller sees. The bytes of envelopes, and where they are wrong,
-//! are shown by examples/bytes_of_envelopes.calls.
+//! The tests of `scp_envelope`, by its public calls: what only a caller sees. The calls in examples/bytes_of_envelopes.calls show the bytes
+//! of envelopes, and where they are wrong.
 #![tactic(auto)]
 
 #[cfg(test)]

@@ -1,5 +1,4 @@
-//! Statements that the tests share, in short: a ballot is its counter and its value's one byte, a list is a byte for each
-//! of its values.
+//! Statements that the tests share, in short. A ballot is its counter and the one byte of its value; a list is one byte for each of its values.
 mod claimed;
 mod copied;
 mod ordered;
@@ -53,7 +52,7 @@ fn list(alloc: Global, bytes: &[u8]) -> Result<ValueList, Fault> {
     Ok(ValueList::new(values))
 }
 
-/// What the statement says, in full; it names this quorum set.
+/// What the statement says, in full. It names this quorum set.
 fn pledges(alloc: Global, said: Said, set_hash: Hash) -> Result<Pledges, Fault> {
     match said {
         Said::Prepare(short, prepared, prime, n_commit, n_high) => Ok(Pledges::Prepare(Prepare {

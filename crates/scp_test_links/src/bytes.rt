@@ -29,13 +29,13 @@ pub const PREPARE: [u8; 144] = [
     0, 0, 0, 1, 7, 0, 0, 0, // the signature
 ];
 
-/// What asks for the set of a hash.
+/// Asks for the set of a hash.
 pub const GET_SET: [u8; 36] = [
     0, 0, 0, 2, 0, 1, 2, 3, 4, 5, 6, 7, 8, 9, 10, 11, 12, 13, 14, 15, // the kind, the hash
     16, 17, 18, 19, 20, 21, 22, 23, 24, 25, 26, 27, 28, 29, 30, 31, //
 ];
 
-/// What answers that there is none.
+/// Answers that there is no such set.
 pub const NO_SET: [u8; 36] = [
     0, 0, 0, 4, 7, 7, 7, 7, 7, 7, 7, 7, 7, 7, 7, 7, 7, 7, 7, 7, // the kind, the hash
     7, 7, 7, 7, 7, 7, 7, 7, 7, 7, 7, 7, 7, 7, 7, 7, //
@@ -84,7 +84,7 @@ pub const FIVE_INNER_LEVELS: [u8; 76] = [
     0, 0, 0, 0, 0, 0, 0, 0, 0, 0, 0, 0, // the fifth
 ];
 
-/// What asks for the record of slot 72,623,859,790,382,856.
+/// Asks for the record of slot 72,623,859,790,382,856.
 pub const GET_RECORD: [u8; 12] = [0, 0, 0, 5, 1, 2, 3, 4, 5, 6, 7, 8];
 
 /// The record of slot 1 whose value is the operation list "put a 1".

@@ -1,7 +1,7 @@
 //! The tests of `scp_wire`, `scp_outbox` and `scp_outboxes`, by their public calls.
 //!
-//! What bytes are read as, where they are wrong, and the limits of what is read, are shown by the calls of `examples/`. Here stands what only
-//! a caller sees.
+//! The calls in `examples/` show what bytes are read as, where they are wrong, and the limits of
+//! what is read. Here are the tests of what only a caller sees.
 #![tactic(auto)]
 
 #[cfg(test)]

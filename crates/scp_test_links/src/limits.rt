@@ -1,4 +1,4 @@
-//! What fits a link is what is written.
+//! Exactly what fits a link is written.
 use crate::short::{Short, message};
 use scp_types::Fault;
 use scp_wire::{FittingMessage, encode};
@@ -6,7 +6,7 @@ use std::alloc::Global;
 use std::process::Abort;
 use std::test::*;
 
-/// Whether the message is written, or is too long to be; and fits just where it is written.
+/// Whether the message is written, or is too long for that; it fits exactly if it is written.
 fn is_so(alloc: Global, short: Short, fits: bool) -> Result<bool, Fault> {
     let message = message(alloc, short)?;
     let written = match encode(alloc, &message) {

@@ -9,8 +9,8 @@ use std::alloc::Global;
 use std::process::Abort;
 use std::test::*;
 
-/// What is given, in short: a mark, the first byte of a hash that is asked for, the first slot and the count of a batch, or
-/// the slot and the count of votes or the ballot's counter of a statement.
+/// What is given, in short. A mark; the first byte of a hash that is asked for; or the first slot and the count of a batch. Of a statement,
+/// its slot with its count of votes or its ballot's counter.
 #[derive(Clone, Copy, Debug, PartialEq, Eq)]
 enum Given {
     Mark(Mark),
@@ -22,7 +22,7 @@ enum Given {
     Nothing,
 }
 
-/// What is done, or is seen then.
+/// What is done, or what is seen then.
 #[derive(Clone, Copy, Debug)]
 enum Step {
     Puts(Short),
@@ -30,7 +30,7 @@ enum Step {
     /// A mark is refused.
     IsFull,
     Gives(Given),
-    /// So many statements were lost.
+    /// This many statements were lost.
     Lost(u64),
 }
 
@@ -58,7 +58,7 @@ fn in_short(out: &Out) -> Given {
     }
 }
 
-/// Puts a message; whether it fits.
+/// Puts a message. Returns whether it fits.
 fn put(outbox: &mut Outbox, message: Message) -> bool {
     match FittingMessage::new(message) {
         Ok(fitting) => {
@@ -69,7 +69,7 @@ fn put(outbox: &mut Outbox, message: Message) -> bool {
     }
 }
 
-/// Does the step. Whether it is as is said.
+/// Does the step. Returns whether it goes as the step says.
 fn does(outbox: &mut Outbox, alloc: Global, step: Step) -> Result<bool, Fault> {
     match step {
         Step::Puts(short) => Ok(put(outbox, message(alloc, short)?)),
@@ -80,7 +80,7 @@ fn does(outbox: &mut Outbox, alloc: Global, step: Step) -> Result<bool, Fault> {
     }
 }
 
-/// The first step of a new outbox that isn't as is said.
+/// The first step of a new outbox that doesn't go as the step says.
 fn first_wrong(alloc: Global, live: bool, steps: &[Step]) -> Result<Option<usize>, Fault> {
     let mut outbox = Outbox::new(alloc, live)?;
     for (place, next) in steps.iter().enumerate() {
@@ -123,7 +123,7 @@ const NOT_LIVE: [Step; 10] = [
     Step::Gives(Given::Nothing),
 ];
 
-/// A statement whose slot and kind are there takes their place, where it is newer.
+/// A statement takes the place of one with its slot and kind, if it is newer.
 const KEEPS_ITS_PLACE: [Step; 11] = [
     Step::Puts(Short::Votes(1, 1, 1)),
     Step::Puts(Short::Prepares(1, 4)),
@@ -180,7 +180,7 @@ fn of_65_the_first_is_lost_and_of_17_marks_the_last_is_refused(
     Ok(())
 }
 
-/// Asks the link for the set whose hash has 32 such bytes.
+/// Asks the link for the set whose hash is 32 times this byte.
 fn ask(outboxes: &mut Outboxes, link: u8, byte: u8) {
     outboxes.put(link, FittingMessage::of(Message::GetSet(Hash([byte; 32]))));
 }

@@ -6,7 +6,7 @@ use std::alloc::Global;
 use std::process::Abort;
 use std::test::*;
 
-/// What comes over the link: the opening of a life, bytes on it, its close. Or nothing, where the rest of a batch is asked for.
+/// What comes over the link: the opening of a life, bytes on it, or its close; or nothing, when the rest of a batch is asked for.
 #[derive(Clone, Copy, Debug)]
 enum Comes {
     Opened(u32),
@@ -15,7 +15,7 @@ enum Comes {
     Nothing,
 }
 
-/// What was read, in short: the connection's life, and of a carried message its number, and the slot of a record.
+/// What was read, in short: the connection's life; for a carried message its number, and for a record its slot.
 #[derive(Clone, Copy, Debug, PartialEq, Eq)]
 enum Read {
     Opened(u32),
@@ -73,7 +73,7 @@ fn reads(reader: &mut LinkReader, alloc: Global, comes: Comes) -> Result<Read, F
     Ok(in_short(reader.take(alloc, item)?))
 }
 
-/// The first row that is read as something else.
+/// The first row that isn't read as it says.
 fn first_wrong(
     reader: &mut LinkReader,
     alloc: Global,
@@ -88,7 +88,7 @@ fn first_wrong(
     Ok(None)
 }
 
-/// A life on which the batch is read and then a request, and a second life.
+/// A life on which a batch and then a request are read, and a second life.
 const LIVES: [(Comes, Read); 14] = [
     (Comes::Opened(1), Read::Opened(1)),
     (Comes::Bytes(1, &BATCH), Read::Record(1, 0, 1)),
@@ -107,7 +107,7 @@ const LIVES: [(Comes, Read); 14] = [
     (Comes::Closed(2), Read::Closed(2, Cause::Link)),
 ];
 
-/// Side messages stand between the carried ones; and a batch without a reading gives no record, and ends its life.
+/// Side messages come between the carried ones. A batch without a reading gives no record, and ends its life.
 const BETWEEN: [(Comes, Read); 9] = [
     (Comes::Opened(1), Read::Opened(1)),
     (Comes::Bytes(1, &GET_SET), Read::Side(1)),
@@ -133,7 +133,7 @@ fn items_are_read_in_turn(rt: HostRuntime) -> Result<(), Fail> {
     Ok(())
 }
 
-/// With one number left the first record of a batch has it, and the second ends the connection.
+/// With one number left, the first record of a batch has it, and the second ends the connection.
 const ONE_LEFT: [(Comes, Read); 5] = [
     (Comes::Bytes(1, &BATCH), Read::Record(1, 999_999, 1)),
     (Comes::Nothing, Read::Closed(1, Cause::Spent)),
@@ -142,7 +142,7 @@ const ONE_LEFT: [(Comes, Read); 5] = [
     (Comes::Opened(2), Read::Opened(2)),
 ];
 
-/// With none left a side message may follow, and a batch ends the connection.
+/// With none left, a side message may follow, and a batch ends the connection.
 const A_BATCH_BEHIND: [(Comes, Read); 4] = [
     (Comes::Bytes(1, &GET_SET), Read::Side(1)),
     (Comes::Bytes(1, &BATCH), Read::Closed(1, Cause::Spent)),
@@ -150,14 +150,14 @@ const A_BATCH_BEHIND: [(Comes, Read); 4] = [
     (Comes::Opened(2), Read::Opened(2)),
 ];
 
-/// So does a request.
+/// A request ends the connection too.
 const A_REQUEST_BEHIND: [(Comes, Read); 3] = [
     (Comes::Bytes(1, &GET_RECORD), Read::Closed(1, Cause::Spent)),
     (Comes::Bytes(1, &GET_RECORD), Read::Nothing),
     (Comes::Opened(2), Read::Opened(2)),
 ];
 
-/// A reader of a link on whose first life so many requests came; nothing, where one isn't read under its number.
+/// A reader of a link on whose first life this many requests came; `None` if one of them isn't read under its number.
 fn asked(alloc: Global, count: u64) -> Result<Option<LinkReader>, Fault> {
     let mut reader = LinkReader::new(alloc);
     reads(&mut reader, alloc, Comes::Opened(1))?;
@@ -170,7 +170,7 @@ fn asked(alloc: Global, count: u64) -> Result<Option<LinkReader>, Fault> {
     Ok(Some(reader))
 }
 
-/// Behind so many requests the rows are read, and then a second life.
+/// After this many requests the rows are read, and then a second life.
 fn expect_end(
     rt: &impl Abort,
     alloc: Global,

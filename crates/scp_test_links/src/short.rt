@@ -5,30 +5,30 @@ use scp_types::{Ballot, Fault, Hash, NodeId, SharedValue, Slot, Value};
 use scp_wire::{BoxedEnvelope, Message};
 use std::alloc::Global;
 
-/// A message. Slots are told by their numbers, and values by how many bytes they have.
+/// A message. Slots are given by their numbers, and values by their number of bytes.
 #[derive(Clone, Copy, Debug)]
 pub enum Short {
-    /// Asks for the set whose hash has 32 such bytes.
+    /// Asks for the set whose hash is 32 times this byte.
     AsksSet(u8),
-    /// A set of so many nodes.
+    /// A set of this many nodes.
     Set(usize),
     AsksRecord(u64),
     /// The record of a slot, with its value.
     Record(u64, usize),
-    /// From a slot on, so many values of so many bytes.
+    /// From a slot on, this many values, each of this many bytes.
     Batch(u64, usize, usize),
-    /// On a slot, votes for so many values: of so many bytes, of one more, and so on.
+    /// On a slot, votes for this many values: one of this many bytes, one of one more, and so on.
     Votes(u64, usize, usize),
-    /// On a slot, the ballot of a counter.
+    /// On a slot, a ballot with this counter.
     Prepares(u64, u32),
 }
 
-/// A value of so many bytes.
+/// A value of this many bytes.
 fn value(alloc: Global, len: usize) -> Result<Value, Fault> {
     Ok(Value::new(vec![in alloc; 7; len]?))
 }
 
-/// So many values: of so many bytes, and each of so many more than the one before.
+/// This many values: the first of this many bytes, and each with so many more than the one before.
 fn values(alloc: Global, count: usize, len: usize, more: usize) -> Result<ValueList, Fault> {
     let mut values = Vec::new(alloc);
     let mut next = len;

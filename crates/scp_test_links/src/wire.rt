@@ -1,4 +1,4 @@
-//! Messages as bytes and back: calls that are refused and made again, what is carried, what is a side message, and what holds a message.
+//! Messages as bytes and back: calls that are refused and made again, what is carried, what is a side message, and what fills a message.
 use crate::bytes::*;
 use scp_envelope::{Envelope, Pledges};
 use scp_types::{Fault, Hash, NodeId, Slot};
@@ -7,15 +7,15 @@ use std::alloc::Global;
 use std::process::Abort;
 use std::test::*;
 
-/// Whether the message and a copy of it are written in these bytes.
+/// Whether the message and a copy of it are written as these bytes.
 fn is_written(alloc: Global, message: &Message, bytes: &[u8]) -> Result<bool, Fault> {
     let copy = message.copy()?;
     let is_copied = encode(alloc, &copy)?.as_slice() == bytes;
     Ok(is_copied && encode(alloc, message)?.as_slice() == bytes)
 }
 
-/// Whether the bytes are read, and what they spell is written and copied as it was read. A call that lacks memory is made
-/// again: so any allocation may be refused, alone or with all later ones, and no assertion stops a test.
+/// Whether the bytes are read, and the message that they encode is written and copied as it was read. A call that runs out of memory is made
+/// again. So any allocation may be refused, alone or with all later ones, and no assertion stops a test.
 fn is_kept(alloc: Global, bytes: &[u8]) -> Result<bool, Fault> {
     let message = match decode(alloc, bytes) {
         Err(Fault::NoMemory) => decode(alloc, bytes)?,
@@ -47,8 +47,7 @@ fn refused_messages_are_read_written_and_copied_again(rt: HostRuntime) -> Result
     Ok(())
 }
 
-/// Whether the bytes spell a message that is carried, or a side message, as is said; none of their beginnings is a side
-/// message.
+/// Whether the bytes encode a message that is carried, or a side message, as the arguments say. No beginning of them is a side message.
 fn is_so(alloc: Global, bytes: &[u8], carried: bool, side: bool) -> Result<bool, Fault> {
     for len in 0..bytes.len() {
         if is_side_message(&bytes[..len]) {
@@ -75,12 +74,12 @@ fn a_message_is_carried_or_aside_or_a_batch(rt: HostRuntime) -> Result<(), Fail>
     Ok(())
 }
 
-/// Whether so many of the bytes as fill a message spell a side message.
+/// Whether the first 65,536 bytes, which fill a message, encode a side message.
 fn is_whole(bytes: &[u8; 65_548]) -> bool {
     is_side_message(&bytes[..65_536])
 }
 
-/// Whether all of the bytes spell a side message.
+/// Whether all of the bytes encode a side message.
 fn is_longer(bytes: &[u8; 65_548]) -> bool {
     is_side_message(bytes.as_slice())
 }
@@ -97,7 +96,7 @@ fn bytes_that_spell_no_side_message(rt: HostRuntime) {
     wrong[51] = 1;
     assert!(rt; !is_side_message(&wrong));
     assert!(rt; !is_side_message(&FIVE_INNER_LEVELS));
-    // a set around sets of 1,000, 800 and 19 nodes fills a message; with one of no node it is too long
+    // a set around sets of 1,000, 800 and 19 nodes fills a message; with one more set of no node it is too long
     let mut set = [0; 65_548];
     set[3] = 3;
     set[15] = 3;

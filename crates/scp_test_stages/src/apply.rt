@@ -70,7 +70,7 @@ fn has_applied(applier: &Applier<KvDriver>, last: u64) -> bool {
     applier.applied().len() as u64 == last
 }
 
-/// Whether two slots are applied, or the applier runs out of memory, is failed, and keeps what it applied before.
+/// Whether two slots are applied; or the applier runs out of memory, has failed, and keeps what it applied before.
 fn applies_or_fails(alloc: Global) -> Result<bool, Fault> {
     let second = decision(alloc, 2)?;
     let mut applier = Applier::<KvDriver>::new(alloc);

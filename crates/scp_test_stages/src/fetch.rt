@@ -6,14 +6,14 @@ use std::alloc::Global;
 use std::process::Abort;
 use std::test::*;
 
-/// A call and its answer. The first number is the hash, of 32 such bytes.
+/// A call and its answer. The first number gives the hash, which is 32 times that byte.
 #[derive(Clone, Copy)]
 enum Ask<'a> {
     /// The connection of this link wants the hash. True if the link is to be asked.
     Want(u8, u8, bool),
     /// Whether the link was asked.
     WasAsked(u8, u8, bool),
-    /// So many misses, each with this answer.
+    /// This many misses, each with this answer.
     Misses(u8, u8, Missed),
     MissesAll,
     /// Whether one more miss is the last.
@@ -55,7 +55,7 @@ fn conn(link: u8) -> ConnId {
     }
 }
 
-/// Whether each of so many misses has this answer.
+/// Whether each of this many misses has this answer.
 fn miss(fetcher: &mut Fetcher, hash: &Hash, count: u8, answer: Missed) -> bool {
     for _ in 0..count {
         if fetcher.miss(hash) != answer {
@@ -106,7 +106,7 @@ fn are_so(alloc: Global, asks: &[Ask<'_>]) -> Result<bool, Fault> {
     Ok(true)
 }
 
-/// The twelfth miss gives up.
+/// The twelfth miss ends the want.
 const TWELVE: [Ask<'static>; 6] = [
     Misses(7, 1, Missed::Unwanted),
     Want(7, 0, true),
@@ -116,7 +116,7 @@ const TWELVE: [Ask<'static>; 6] = [
     Misses(7, 1, Missed::Unwanted),
 ];
 
-/// Time misses each wanted hash.
+/// Each wanted hash is missed as time passes.
 const TIME: [Ask<'static>; 7] = [
     Want(1, 0, true),
     Misses(1, 11, Missed::Waiting),

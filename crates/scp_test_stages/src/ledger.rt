@@ -34,7 +34,7 @@ enum On {
     Asks(u8, u64),
 }
 
-/// What is taken, so many times, and the answer each time.
+/// What is taken, this many times, and the answer each time.
 type Row = (u32, Act, Option<Verdict>, Option<CommandFate>, On);
 
 fn externalize(alloc: Global, slot: u64) -> Result<Message, Fault> {
@@ -172,7 +172,7 @@ const EACH_KIND: [Row; 11] = [
     (1, Externalizes(1), Some(Fresh), None, On::Slot(1)),
 ];
 
-/// Whether all that is answered so, and the decisions are in the order in which they came.
+/// Whether all of that is answered so, and the decisions are in the order in which they came.
 fn answers(alloc: Global, ledger: &mut Ledger<KvDriver>) -> Result<bool, Fault> {
     if !takes_all(alloc, ledger, &EACH_KIND)? {
         return Ok(false);
@@ -184,7 +184,7 @@ fn answers(alloc: Global, ledger: &mut Ledger<KvDriver>) -> Result<bool, Fault> 
     Ok(is_it && ledger.lowest() == 3 && ledger.journal().len() == 8)
 }
 
-/// Whether it decides slot 1 by the votes of nodes 1 and 2, for the commit with counter 1.
+/// Whether the decision is for slot 1, by the votes of nodes 1 and 2, for the commit with counter 1.
 fn is_by_both(alloc: Global, decision: &SharedDecision) -> Result<bool, Fault> {
     let Origin::Machine { n, quorum, own } = &decision.origin else {
         return Ok(false);
@@ -217,7 +217,7 @@ const ASK: Row = (1, Ask(0, 1), Some(Fresh), Some(CommandFate::Asked), Nothing);
 
 const TICK: Row = (1, Tick, None, None, Nothing);
 
-/// Whether a record is taken, or the ledger runs out of memory, is failed, and keeps its entries.
+/// Whether a record is taken; or the ledger runs out of memory, has failed, and keeps its entries.
 fn is_taken_or_fails(alloc: Global, ledger: &mut Ledger<KvDriver>) -> Result<bool, Fault> {
     let entered = takes_all(alloc, ledger, &[END, ASK])?;
     let Some(record) = ready(alloc, Record(TWO, 1))? else {

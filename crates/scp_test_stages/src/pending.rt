@@ -29,8 +29,8 @@ struct Seen {
     most: usize,
 }
 
-/// Events, each so many times, and what they lead to. At the end, how many messages of node 2's first connection are held, and which
-/// connections wait for set 2.
+/// Events, each this many times, and what they lead to. At the end, how many messages of node 2's
+/// first connection are held, and which connections wait for set 2.
 #[derive(Clone, Copy)]
 struct Case<'a> {
     events: &'a [(u64, Event)],
@@ -77,7 +77,7 @@ fn nomination(alloc: Global, slot: u64, number: u8) -> Result<Message, Fault> {
     says(alloc, TWO, slot, Pledges::Nominate(nominate))
 }
 
-/// The item of an event that came so often before.
+/// The item of an event that came this often before.
 fn item(alloc: Global, event: &Event, before: u64) -> Result<Inbound, Fault> {
     match event {
         Opened(conn) => Ok(Inbound::Opened(*conn)),
@@ -206,7 +206,7 @@ const THE_SET_COMES: Case<'static> = Case {
     waiting: &[],
 };
 
-/// The same, and then the set is given up.
+/// The same, and then the set is abandoned.
 const IT_IS_GIVEN_UP: Case<'static> = Case {
     events: &[
         (1, Names(FIRST, 0, 1, 2)),
@@ -253,7 +253,7 @@ const SIXTY_FIVE: Case<'static> = Case {
     waiting: &[],
 };
 
-/// Nothing is given of connections that aren't open: a second one of an open link, and a stranger's.
+/// Nothing is given for connections that aren't open: a second one of an open link, and a stranger's.
 const NOT_OPEN: Case<'static> = Case {
     events: &[
         (1, Opened(AGAIN)),

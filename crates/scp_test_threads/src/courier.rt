@@ -17,7 +17,7 @@ const ME: NodeId = NodeId([1; 32]);
 
 const PEER: NodeId = NodeId([2; 32]);
 
-/// The message that asks for the set whose hash has 32 such bytes.
+/// The message that asks for the set whose hash is 32 times this byte.
 fn request(byte: u8) -> [u8; 36] {
     let mut bytes = [byte; 36];
     bytes[..4].copy_from_slice(&[0, 0, 0, 2]);
@@ -48,7 +48,7 @@ fn fill<R: Wait>(rt: &R, alloc: Global, putter: &mut Putter) -> Result<(), Fault
     Ok(())
 }
 
-/// The ends of an outbox that holds the mark Opened and what `fill` puts, 67 things, and of which nothing was given.
+/// The ends of an outbox that holds the mark Opened and what `fill` puts, 67 things, and that has given nothing.
 fn filled<R: Wait>(rt: &R, alloc: Global) -> Result<(Marker, Taker), Fault>
     ensures { IfOk result (λ ends. ends.1.gave ≡ []) }
 {
@@ -61,7 +61,7 @@ fn filled<R: Wait>(rt: &R, alloc: Global) -> Result<(Marker, Taker), Fault>
     Ok((marker, taker))
 }
 
-/// Where 67 things were taken, marks that the link closes and the courier stops. Neither mark is refused, since no other one waits.
+/// When 67 things were taken, marks that the link closes and the courier stops. Neither mark is refused, since no other one waits.
 #[derive(Drop)]
 struct StopsBehind<R: Wait> {
     rt: R,
@@ -83,7 +83,7 @@ fn comes<R: Wait>(rt: &R, rx: &mut LinkRx, wanted: &[u8]) -> bool {
     matches!(rx.recv_as(rt), Ok(Item::One(_, LinkItem::Bytes(_, bytes))) if bytes.as_slice() == wanted)
 }
 
-/// Whether all comes that `filled` holds, in order, between an open and a close, and then the end.
+/// Whether all that `filled` holds comes, in order, between an open and a close, and then the end.
 fn comes_whole<R: Wait>(rt: &R, mut rx: LinkRx) -> bool {
     let mut all = matches!(rx.recv_as(rt), Ok(Item::One(_, LinkItem::Opened(_))));
     for byte in 5..7u8 {

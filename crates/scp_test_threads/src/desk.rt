@@ -10,7 +10,7 @@ use std::test::*;
 use std::thread;
 use std::thread::Threads;
 
-/// Asks for the sets of the hashes of 32 equal bytes, from `first` on, below `end`.
+/// Asks for the sets whose hashes are 32 equal bytes, from `first` on, below `end`.
 fn ask_all<R: Wait>(rt: &R, mut putter: Putter, first: u8, end: u8) -> Putter
     ensures { (result.desk ≡ putter.desk) × (result.number ≡ putter.number) }
 {
@@ -92,7 +92,7 @@ fn both(alloc: Global, first: Putter, second: Putter) -> Result<Vec<Putter>, All
     Ok(all)
 }
 
-/// Whether what two threads put is given whole; then all ends are taken back, and what was given is out of what they put.
+/// Whether what two threads put is given whole. Then all ends are taken back, and what was given comes from what they put.
 fn is_taken_back<R: Threads + Wait + Sync>(
     rt: &R,
     alloc: Global,

@@ -23,7 +23,7 @@ fn end_of(life: u32) -> Inbound {
     }
 }
 
-/// The end of the one producer of an inbox of so much room, and the inbox.
+/// The end of the only producer of an inbox with this much room, and the inbox.
 fn lone(alloc: Global, room: usize) -> Result<(InboxTx, InboxRx), Fault> {
     let (mut ends, rx) = inbox(alloc, 1, room)?;
     match ends.pop() {
@@ -32,7 +32,7 @@ fn lone(alloc: Global, room: usize) -> Result<(InboxTx, InboxRx), Fault> {
     }
 }
 
-/// Puts the lives 0 to 999, and ends. Whether all went.
+/// Puts the lives 0 to 999, and ends. Returns whether all were sent.
 fn put_all<R: Wait>(rt: &R, mut end: InboxTx) -> bool {
     for life in 0..1000u32 {
         if end.send_as(rt, end_of(life)).is_err() {
@@ -59,7 +59,7 @@ fn next<R: Wait>(rt: &R, rx: &mut InboxRx) -> Option<(u8, Option<u32>)> {
     }
 }
 
-/// Hands on what comes, and ends behind its producer. Whether all went.
+/// Hands on what comes, and ends after its producer. Returns whether all were sent.
 fn hand_on<R: Wait>(rt: &R, mut rx: InboxRx, mut end: InboxTx) -> bool {
     for _ in rt.forever() {
         match rx.recv_before(rt, &mut end) {
@@ -84,7 +84,7 @@ fn handing<R: Threads + Wait + Copy + Send + 'static>(
     Ok(thread::spawn(&rt, move || hand_on(&rt, between, onward))?)
 }
 
-/// Puts three lives and tells of them, and receives each. Whoever hands them on has gone to sleep then, and has told of them before.
+/// Sends three lives, wakes their receiver, and receives each. The thread that hands them on then sleeps, and wakes this one before that.
 fn send_three<R: Wait>(rt: &R, end: &mut InboxTx, rx: &mut InboxRx) -> bool {
     for life in 0..3u32 {
         if end.send_as(rt, end_of(life)).is_err() {
@@ -100,7 +100,7 @@ fn send_three<R: Wait>(rt: &R, end: &mut InboxTx, rx: &mut InboxRx) -> bool {
     true
 }
 
-/// Does that so often, and ends. Whether each came, and the end.
+/// Does that 200 times, and ends. Returns whether each life came, and then the end.
 fn send_and_wait<R: Wait>(rt: &R, mut end: InboxTx, rx: &mut InboxRx) -> bool {
     for _ in 0..200u32 {
         if !send_three(rt, &mut end, rx) {
@@ -131,7 +131,7 @@ fn two_to_one(alloc: Global) -> Result<(InboxTx, InboxTx, InboxRx), Fault> {
     }
 }
 
-/// Whether the lives 0 to 999 of each of two producers come in their order, and then its end.
+/// Whether the lives 0 to 999 of each of two producers come in order, and then the producer's end.
 fn come_in_order<R: Wait>(rt: &R, rx: &mut InboxRx) -> bool {
     let mut seen = [0u32; 2];
     let mut stops = [false; 2];
@@ -207,7 +207,7 @@ fn sizes_have_their_limits(rt: HostRuntime) {
     assert!(rt; inbox(rt.alloc(), 8, 1024).is_ok());
 }
 
-/// Receives one item, and ends. Whether it was an opening.
+/// Receives one item, and ends. Returns whether it was an opening.
 fn take_one<R: Wait>(rt: &R, mut rx: LinkRx) -> bool {
     matches!(rx.recv_as(rt), Ok(Item::One(0, LinkItem::Opened(_))))
 }

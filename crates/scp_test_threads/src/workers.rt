@@ -13,7 +13,7 @@ const ME: NodeId = NodeId([1; 32]);
 
 const PEER: NodeId = NodeId([2; 32]);
 
-/// Counts the calls of each moment, and finds whether each says its count.
+/// Counts the calls of each moment, and checks that each gives its count.
 #[derive(Drop)]
 struct Counting {
     taken: AtomicU64,
@@ -34,7 +34,7 @@ impl Gate for Counting {
     }
 }
 
-/// A reader's worker of link 0 between a link and an inbox that hold all, with the ends outside.
+/// The worker of link 0's reader, between a link and an inbox that hold everything, with the ends outside.
 fn between(alloc: Global) -> Result<(LinkTx, ReaderWorker, InboxRx), Fault> {
     let (tx, rx) = link(alloc, PEER, ME, 8)?;
     let (mut ends, out) = inbox(alloc, 1, 8)?;
@@ -50,7 +50,7 @@ const BATCH: [u8; 40] = [
     0, 0, 0, 1, 9, 0, 0, 0, 0, 0, 0, 1, 9, 0, 0, 0, 0, 0, 0, 1, 9, 0, 0, 0,
 ];
 
-/// Opens the link, sends the batch and then a byte that spells nothing, closes the link and ends it. Says whether all went.
+/// Opens the link, sends the batch and then a byte that encodes nothing, closes the link and ends it. Returns whether all were sent.
 fn send_all<R: Wait>(rt: &R, alloc: Global, mut tx: LinkTx) -> Result<bool, Fault> {
     let batch = Bytes::new(BATCH.to_vec(alloc)?);
     let bad = Bytes::new([9].to_vec(alloc)?);
@@ -63,8 +63,8 @@ fn send_all<R: Wait>(rt: &R, alloc: Global, mut tx: LinkTx) -> Result<bool, Faul
     )
 }
 
-/// What comes next: 1 opened, 2 closed as malformed, 3 the end, 100 and more the record of this number, where that is the record of slot 5 or
-/// so many after it.
+/// What comes next: 1 is an opening, 2 a close as malformed, 3 the end. 100 plus a number from 0 to 2 is
+/// the record with that number, if its slot is 5 plus the number.
 fn next<R: Wait>(rt: &R, rx: &mut InboxRx) -> u64 {
     match rx.recv_as(rt) {
         Ok(Item::One(0, Inbound::Opened(_))) => 1,

@@ -5,7 +5,7 @@ use std::alloc::Global;
 use std::process::Abort;
 use std::test::*;
 
-/// Puts the number at itself. The bytes of numbers ascend as they do.
+/// Puts the number at itself. The bytes of numbers are in the numbers' own order.
 fn put(alloc: Global, state: &mut KvState, number: u32) -> Result<(), Fault> {
     let key = value_of(alloc, &number.to_be_bytes())?;
     let entry = value_of(alloc, &number.to_be_bytes())?;
@@ -29,7 +29,7 @@ fn has_those_below(state: &KvState, bound: u32) -> bool {
     true
 }
 
-/// Puts the number, once more where it is refused: a refusal leaves the state.
+/// Puts the number, and once more if it is refused: a refusal leaves the state as it was.
 fn put_again(
     rt: &impl Abort,
     alloc: Global,
@@ -54,7 +54,7 @@ fn a_refused_put_leaves_the_state_and_is_made_again(rt: HostRuntime) -> Result<(
     Ok(())
 }
 
-/// Whether the state has the key, with the key itself as its value, or doesn't have it.
+/// Whether the state has the key, with the key itself as its value; or lacks the key, if `is_there` isn't set.
 fn is_got(state: &KvState, key: &Value, is_there: bool) -> bool {
     match state.get(key) {
         Some(entry) => is_there && entry == key,
@@ -65,7 +65,7 @@ fn is_got(state: &KvState, key: &Value, is_there: bool) -> bool {
 /// How many keys a large state has.
 const KEYS: u32 = 1_500;
 
-/// They are put in another order than theirs.
+/// They are put in another order than that of the keys.
 #[test]
 fn each_key_of_a_large_state_is_got(rt: HostRuntime) -> Result<(), Fail> {
     let mut state = KvState::new(rt.alloc());
@@ -88,14 +88,14 @@ const THREE: [u8; 60] = [
     0, 0, 1, b'k', 0, 0, 0,
 ];
 
-/// Whether a state to which the list is applied has the key at itself, and no other.
+/// Whether the state that the list makes has this key, with the key itself as its value, and no other.
 fn is_applied(alloc: Global, list: &Value, key: &Value) -> Result<bool, Fault> {
     let mut state = KvState::new(alloc);
     apply_value(&mut state, list)?;
     Ok(state.len() == 1 && is_got(&state, key, true))
 }
 
-/// A value that is refused is applied to another state: the first one may be changed.
+/// A value that is refused is applied to another state, since the first one may be changed.
 #[test]
 fn a_refused_value_is_applied_again(rt: HostRuntime) -> Result<(), Fail> {
     let list = value_of(rt.alloc(), &THREE)?;
@@ -105,7 +105,7 @@ fn a_refused_value_is_applied_again(rt: HostRuntime) -> Result<(), Fail> {
     Ok(())
 }
 
-/// A list of 13 puts, each with a key of 64 bytes and an entry of 256. But the last entry has so many bytes, a multiple of 4.
+/// A list of 13 puts, each with a key of 64 bytes and an entry of 256; only the last entry has this many bytes, a multiple of 4.
 fn long_list(alloc: Global, last_len: u8) -> Result<Vec<u8>, Fault> {
     let mut bytes = Vec::from_slice(alloc, &[0, 0, 0, 13])?;
     for number in 0..13 {
@@ -122,7 +122,7 @@ fn long_list(alloc: Global, last_len: u8) -> Result<Vec<u8>, Fault> {
     Ok(bytes)
 }
 
-/// Whether the value is a list of so many operations, or none.
+/// Whether the value is a list of this many operations, or is no list.
 fn has_ops(alloc: Global, list: &Value, want: Option<usize>) -> Result<bool, Fault> {
     let ops = ops_of(alloc, list)?;
     let count = match &ops {

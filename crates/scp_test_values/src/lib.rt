@@ -1,5 +1,5 @@
-//! The tests of `scp_types`, `scp_xdr`, `scp_kv` and `scp_quorum`, by their public calls: what only a caller sees. What bytes
-//! say, and where they are wrong, is shown by values.calls and bytes_of_sets.calls under examples/.
+//! The tests of `scp_types`, `scp_xdr`, `scp_kv` and `scp_quorum`, by their public calls: what only a caller sees. The calls in
+//! examples/values.calls and examples/bytes_of_sets.calls show what bytes say, and where they are wrong.
 #![tactic(auto)]
 
 #[cfg(test)]

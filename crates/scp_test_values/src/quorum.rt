@@ -50,7 +50,7 @@ fn set_of(alloc: Global, shape: Shape) -> Result<QuorumSet, Fault> {
     QuorumSet::new(threshold, validators, inner_sets)
 }
 
-/// The set, in so many sets around it.
+/// The set, with this many sets around it.
 fn deep_set(alloc: Global, inner: QuorumSet, levels: u32) -> Result<QuorumSet, Fault> {
     let mut set = inner;
     for _ in 0..levels {
@@ -123,7 +123,7 @@ fn are_nodes(nodes: &[NodeId], numbers: &[u32]) -> bool {
             .all(|(found, number)| *found == node(*number))
 }
 
-/// Whether the set has the threshold, the nodes and so many inner sets.
+/// Whether the set has the threshold, the nodes and this many inner sets.
 fn has_parts(set: &QuorumSet, shape: Shape) -> bool {
     let Shape(threshold, numbers, inner) = shape;
     set.threshold() == threshold
@@ -179,7 +179,7 @@ fn sets_of_each_shape_are_copied(rt: HostRuntime) -> Result<(), Fail> {
     Ok(())
 }
 
-/// Whether the set is refused as insane, and the one that is handed back has these bytes.
+/// Whether the set is refused as insane, and the set that is handed back has these bytes.
 fn is_handed_back(set: QuorumSet, bytes: &[u8]) -> Result<bool, Fault> {
     match set.into_sane() {
         Ok(_taken) => Ok(false),
@@ -220,7 +220,7 @@ fn is_worked(set: &QuorumSet) -> Result<bool, Fault> {
     Ok(has_parts(set, WORKED) && set.hash()? == Hash(WORKED_HASH))
 }
 
-/// Where memory runs out, the set is handed back, and handed in again.
+/// If memory runs out, the set is handed back, and is handed in again.
 #[test]
 fn a_refused_sane_set_is_handed_in_again(rt: HostRuntime) -> Result<(), Fail> {
     let back = match set_of(rt.alloc(), WORKED)?.into_sane() {
@@ -255,7 +255,7 @@ fn is_alone(alloc: Global, node: NodeId) -> Result<bool, Fault> {
     )
 }
 
-/// Each node is as good as another. A set that is refused is made again.
+/// Each node is as good as any other. A set that is refused is made again.
 #[test]
 fn any_node_is_alone(rt: HostRuntime) -> Result<(), Fail> {
     for node in [node(7), NodeId([0; 32]), NodeId([255; 32])] {
@@ -303,7 +303,7 @@ fn the_deepest_inner_set_counts(rt: HostRuntime) -> Result<(), Fail> {
     Ok(())
 }
 
-/// Whether 1 of so many nodes is sane.
+/// Whether 1 of this many nodes is sane.
 fn is_one_of_sane(alloc: Global, count: u32) -> Result<bool, Fault> {
     let mut validators = Vec::new(alloc);
     for number in 0..count {
@@ -312,7 +312,7 @@ fn is_one_of_sane(alloc: Global, count: u32) -> Result<bool, Fault> {
     Ok(QuorumSet::of_nodes(1, validators).is_sane())
 }
 
-/// At one level more can be made than can be read.
+/// More nodes at one level can be made than can be read.
 #[test]
 fn a_sane_set_has_at_most_1_000_nodes(rt: HostRuntime) -> Result<(), Fail> {
     assert!(rt; is_one_of_sane(rt.alloc(), 1_000)?);

@@ -1,9 +1,9 @@
-//! What the tests share: values and ballots, and calls that are made twice. The first of these is right or out of memory, and
-//! the second is right as if there had been no first. Where the second is out of memory, the test ends with that.
+//! What the tests share: values and ballots, and calls that are made twice. The first call is right or out of memory; the second is right as
+//! if there had been no first. If the second is out of memory, the test ends with that.
 use scp_types::{Ballot, Fault, SharedValue, Value};
 use std::alloc::Global;
 
-/// Whether a first answer is right, or that memory ran out.
+/// Whether a first answer is right, or memory ran out.
 pub(super) fn is_right_or_out_of_memory(answer: Result<bool, Fault>) -> bool {
     matches!(answer, Ok(true) | Err(Fault::NoMemory))
 }

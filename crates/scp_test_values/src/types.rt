@@ -5,7 +5,7 @@ use std::cmp::Ordering;
 use std::collections::BTreeSet;
 use std::test::*;
 
-/// Whether the one is less than the other, by each way to ask.
+/// Whether the first is less than the second, by each way to ask.
 fn is_less<T: Ord>(low: &T, high: &T) -> bool {
     low < high
         && low != high
@@ -16,7 +16,7 @@ fn is_less<T: Ord>(low: &T, high: &T) -> bool {
 /// A counter, and the bytes of a value.
 type Short = (u32, &'static [u8]);
 
-/// Whether the ballot is less than the other one, and where their counters are equal its value than the other's.
+/// Whether the ballot is less than the other one; and, if their counters are equal, its value than the other's.
 fn is_below(alloc: Global, low: &Ballot, high: Short) -> Result<bool, Fault> {
     let (counter, bytes) = high;
     let high = ballot_of(alloc, counter, bytes)?;
@@ -24,7 +24,7 @@ fn is_below(alloc: Global, low: &Ballot, high: Short) -> Result<bool, Fault> {
     Ok(is_value_less && is_less(low, &high))
 }
 
-/// Each is less than the next: a ballot by its counter first, and a value that begins another one.
+/// Each is less than the next: a ballot by its counter first; a value that another one begins with is less than that one.
 const ASCENDING: [Short; 6] = [
     (1, &[9, 9]),
     (2, &[]),
@@ -64,7 +64,7 @@ fn names_are_ordered_by_their_parts(rt: HostRuntime) {
     assert!(rt; life(low, high, 1) < life(low, high, 2));
 }
 
-/// So many bytes that aren't all alike.
+/// This many bytes that aren't all alike.
 fn counted(alloc: Global, len: u32) -> Result<Vec<u8>, Fault> {
     let mut bytes = Vec::new(alloc);
     for number in 0..len {
@@ -81,7 +81,7 @@ fn is_copied(ballot: &Ballot, bytes: &[u8]) -> Result<bool, Fault> {
     Ok(ballot.copy()? == *ballot && is_value && value.into_vec().as_slice() == bytes)
 }
 
-/// Of values of each length, and ballots of each counter. A copy that is refused is made again.
+/// For values of each length, and ballots of each counter. A copy that is refused is made again.
 #[test]
 fn copies_are_the_same(rt: HostRuntime) -> Result<(), Fail> {
     for (counter, len) in [

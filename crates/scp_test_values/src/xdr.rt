@@ -16,8 +16,8 @@ fn is_over<T: Xdr>(alloc: Global, limit: usize, value: &T) -> bool {
     matches!(encode_within(alloc, limit, value), Err(Fault::TooLong))
 }
 
-/// Whether the value is encoded as these bytes, within their length too and no smaller limit, and is read from them as a whole
-/// and as a part.
+/// Whether the value is encoded as these bytes, and within a limit of their length but no smaller one.
+/// Also whether it is read from them as a whole and as a part.
 fn is_kept<T: Xdr + PartialEq>(alloc: Global, value: &T, bytes: &[u8]) -> Result<bool, Fault> {
     if !is_over(alloc, 0, value) || !is_over(alloc, bytes.len().saturating_sub(1), value) {
         return Ok(false);
@@ -44,7 +44,7 @@ const BALLOT: [u8; 16] = [
     0, 0, 0, 3, 0, 0, 0, 5, b'a', b'b', b'c', b'd', b'e', 0, 0, 0,
 ];
 
-/// Where memory runs out, it is written and read again.
+/// If memory runs out, it is written and read again.
 #[test]
 fn names_and_ballots_are_written_and_read(rt: HostRuntime) -> Result<(), Fail> {
     let alloc = rt.alloc();
@@ -75,7 +75,7 @@ fn flagged(alloc: Global) -> Result<Writer, Fault> {
     Ok(writer)
 }
 
-/// Whether these bytes were written behind a flag. A refusal may leave a part of them, but the flag is still there.
+/// Whether these bytes were written after a flag. A refusal may leave a part of them, but the flag is still there.
 fn is_behind_flag(writer: Writer, written: Result<(), Fault>, bytes: &[u8]) -> Result<bool, Fault> {
     let found = writer.into_vec();
     if !found.starts_with(&FLAG) {
@@ -88,7 +88,7 @@ fn is_behind_flag(writer: Writer, written: Result<(), Fault>, bytes: &[u8]) -> R
 /// A value of one byte and one of none, as an array.
 const TWO_VALUES: [u8; 16] = [0, 0, 0, 2, 0, 0, 0, 1, 1, 0, 0, 0, 0, 0, 0, 0];
 
-/// Whether the values fit an array of two and 16 bytes, and no less, and are written so.
+/// Whether the values fit an array of exactly two and 16 bytes, and are written so.
 fn is_array_written(alloc: Global, values: &[Value]) -> Result<bool, Fault> {
     if !array_fits(2, values) || array_fits(1, values) {
         return Ok(false);
@@ -112,7 +112,7 @@ fn is_array_read(alloc: Global, values: &Vec<Value>) -> Result<bool, Fault> {
     Ok(read == *values && reader.end().is_ok())
 }
 
-/// Where memory runs out, the array is written by another writer, and read again.
+/// If memory runs out, the array is written by another writer, and read again.
 #[test]
 fn arrays_are_written_and_read(rt: HostRuntime) -> Result<(), Fail> {
     let alloc = rt.alloc();
@@ -126,7 +126,7 @@ fn arrays_are_written_and_read(rt: HostRuntime) -> Result<(), Fail> {
     Ok(())
 }
 
-/// Whether the optional fits the length of these bytes, and no less, and is written so.
+/// Whether the optional fits exactly the length of these bytes, and is written so.
 fn is_optional_written<T: Xdr>(
     alloc: Global,
     item: &Option<T>,
@@ -168,12 +168,12 @@ fn is_optional<T: Xdr + PartialEq>(
     Ok(is_optional_written(alloc, item, bytes)? && is_optional_read(alloc, item, bytes)?)
 }
 
-/// A ballot that is there.
+/// A ballot as an optional that is there.
 const SOME_BALLOT: [u8; 20] = [
     0, 0, 0, 1, 0, 0, 0, 3, 0, 0, 0, 5, b'a', b'b', b'c', b'd', b'e', 0, 0, 0,
 ];
 
-/// Where memory runs out, the optional is written by another writer, and read again.
+/// If memory runs out, the optional is written by another writer, and read again.
 #[test]
 fn optionals_are_written_and_read(rt: HostRuntime) -> Result<(), Fail> {
     let alloc = rt.alloc();
@@ -192,8 +192,8 @@ fn optionals_are_written_and_read(rt: HostRuntime) -> Result<(), Fail> {
 /// 4,294,967,295 items are announced; one value of one byte follows.
 const ANNOUNCED: [u8; 12] = [255, 255, 255, 255, 0, 0, 0, 1, 9, 0, 0, 0];
 
-/// Whether an array of at most so many items is refused by the fault when it is read, and when it is passed over. That memory
-/// ran out is handed on.
+/// Whether an array of at most this many items is refused with the fault when it is read,
+/// and when it is passed over. Being out of memory is handed on.
 fn is_refused<T: Xdr>(alloc: Global, max: u32, bytes: &[u8], fault: Fault) -> Result<bool, Fault> {
     if pass_array::<T>(max, &mut Reader::new(bytes)) != Err(fault) {
         return Ok(false);

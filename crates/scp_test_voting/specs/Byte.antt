@@ -5,12 +5,12 @@ use Rattle.std.proofs.lemmas.List.Elements.{All-head}
 use Rattle.scp_driver.specs.declared.driver.Level.{Level}
 use Rattle.scp_driver.specs.declared.driver.Level.TheVariants.{FullyValidated, MaybeValid, Invalid}
 
--- it may be valid where it is within the limit
+-- it may be valid if it is within the limit
 abbrev pub level_within : Bool → Level
 level_within true = MaybeValid
 level_within false = Invalid
 
--- one byte is fully validated, more may be valid up to 4,096, none and more than those are invalid
+-- one byte is fully validated; more may be valid, up to 4,096; none, and more than 4,096, are invalid
 abbrev pub byte_level : List ℕ → Level
 byte_level [] = Invalid
 byte_level (b ∷ []) = FullyValidated

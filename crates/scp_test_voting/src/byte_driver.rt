@@ -1,4 +1,4 @@
-//! A driver whose values are one byte: it knows values that may be valid, and takes something of them.
+//! A driver whose values are one byte. It knows values that may be valid, and extracts something from them.
 ghost use Rattle.scp_test_voting.specs.Byte.{byte_level, first_byte, first_value, turn, first_byte_full, first_value_full, byte_is_short};
 
 use scp_driver::{Driver, Level};
@@ -8,8 +8,8 @@ use std::alloc::Global;
 /// The most bytes of a value.
 const LIMIT: usize = 4_096;
 
-/// One byte is fully validated, more bytes may be valid up to the limit, and no bytes and bytes over it are invalid. Of a value its first byte is taken, the first
-/// candidate is the composite, and rounds lead in turn, whatever the slot.
+/// One byte is fully validated; more bytes may be valid up to the limit; no bytes, and bytes over the limit, are invalid. The first byte is
+/// what is extracted from a value. The first candidate is the composite, and rounds lead in turn, whatever the slot.
 #[derive(Clone, Copy, Debug)]
 pub struct ByteDriver;
 

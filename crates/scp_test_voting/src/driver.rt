@@ -36,7 +36,7 @@ fn leaders_in_turn(rt: HostRuntime) {
     }
 }
 
-/// Any driver's answers, through the trait alone: how far the value is checked, whether something is taken of it, whether it is the
+/// Any driver's answers, through the trait alone: how far the value is checked, whether something is extracted from it, whether it is the
 /// composite of two values, and the place of a leader.
 fn asked<D: Driver>(
     driver: &D,

@@ -1,7 +1,7 @@
 //! The tests of `scp_vote`, `scp_driver`, `scp_nominate` and `scp_ballot`, by their public calls, and a second driver that keeps the
 //! trait's laws.
 //!
-//! What the machine of a slot says is shown by the scripts of `examples/slots/`. Here stands what only a caller sees.
+//! The scripts of `examples/slots/` show what the machine of a slot says. Here are the tests of what only a caller sees.
 #![tactic(auto)]
 
 #[cfg(test)]

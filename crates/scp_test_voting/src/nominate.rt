@@ -50,7 +50,7 @@ fn says(envelope: &Envelope, number: u8, set_hash: Hash, want: (Values, Values))
     }
 }
 
-/// Whether no composite was given, and the node's statement is as is wanted.
+/// Whether no composite was given, and the node's statement is the wanted one.
 fn is_wanted(
     given: &Nominated,
     number: u8,
@@ -68,7 +68,7 @@ fn is_wanted(
 /// Both of nodes 1 and 2.
 const BOTH: ShortSet = (2, &[1, 2]);
 
-/// One input to this node's nominator. Refused where it hears itself.
+/// One input to this node's nominator. Refused if it hears itself.
 fn put<D: Driver + Drop>(
     alloc: Global,
     nominator: &mut Nominator<D>,
@@ -116,7 +116,7 @@ fn gives<D: Driver + Drop>(
     Ok(all)
 }
 
-/// Of a value that may be valid what is taken of it is voted for, and accepted once it is named itself.
+/// What is extracted from a value that may be valid is voted for, and accepted once it is named itself.
 const TAKEN: [Row; 2] = [
     (Input::Hears(1, &[&[], &[8, 9]], &[]), Some((&[&[8]], &[]))),
     (
@@ -125,7 +125,7 @@ const TAKEN: [Row; 2] = [
     ),
 ];
 
-/// A value that may be valid is voted for where this node proposed it, and not accepted.
+/// A value that may be valid is voted for if this node proposed it, and not accepted.
 const NOT_ACCEPTED: [Row; 2] = [
     (Input::Proposes(&[8, 9]), Some((&[&[8, 9]], &[]))),
     (Input::Hears(2, &[&[8, 9]], &[&[8, 9]]), None),

@@ -1,5 +1,5 @@
-//! Statements in short, all of slot 7: a node is one byte, a ballot is its counter and its value of one byte, a quorum set its threshold and
-//! its nodes.
+//! Statements in short, all of slot 7. A node is one byte; a ballot is its counter and its
+//! value of one byte; a quorum set is its threshold and its nodes.
 use scp_envelope::*;
 use scp_quorum::{QuorumSet, SaneSet};
 use scp_types::{Ballot, Fault, Hash, NodeId, SharedValue, Slot, Value};

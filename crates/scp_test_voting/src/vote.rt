@@ -1,4 +1,4 @@
-//! How statements stand by claims; whose statements count on a board, and which claims are accepted and confirmed.
+//! What statements claim; whose statements count on a board; and which claims are accepted and confirmed.
 use crate::short::{Said, ShortSet, ballot, envelope, set, value};
 use scp_types::{Fault, NodeId, SharedValue, Slot};
 use scp_vote::*;
@@ -76,7 +76,7 @@ const COMMITS: Said = Said::Confirm((5, 5), 3, 2, 4);
 
 const DECIDES: Said = Said::Externalize((3, 5), 4);
 
-/// Whether the statement stands by the claim as is said, and is of its kind.
+/// Whether the statement supports and accepts the claim as the case says, and is of the claim's kind.
 fn is_standing(alloc: Global, case: (Said, Claimed, bool, bool)) -> Result<bool, Fault> {
     let (said, claimed, supports, accepts) = case;
     let envelope = envelope(alloc, 1, said)?;
@@ -112,7 +112,7 @@ fn board_of(alloc: Global, local: ShortSet, puts: &[Put]) -> Result<Board, Fault
     Ok(board)
 }
 
-/// Whether these are the nodes and no others, or neither is there.
+/// Whether these are exactly the nodes, or there are none on either side.
 fn are_nodes(found: &Option<BTreeSet<NodeId>>, want: Option<&[u8]>) -> bool {
     match (found, want) {
         (Some(found), Some(want)) => {
@@ -137,7 +137,7 @@ fn is_case(alloc: Global, board: &Board, case: Case) -> Result<bool, Fault> {
     )
 }
 
-/// The first case that the board of these puts answers otherwise.
+/// The first case that the board of these puts doesn't answer as the case says.
 fn first_wrong(
     alloc: Global,
     local: ShortSet,
@@ -172,7 +172,7 @@ const PREPARED: Claimed = Claimed::Prepared(2, 5);
 
 /// Boards of node 1, each with the local set, the puts and the answers.
 const BOARDS: [(ShortSet, &[Put], &[Case]); 14] = [
-    // nobody says a thing
+    // nobody says anything
     (TWO, &[], &[(PREPARED, false, None)]),
     // a quorum that votes accepts, and confirms nothing
     (
@@ -180,7 +180,7 @@ const BOARDS: [(ShortSet, &[Put], &[Case]); 14] = [
         &[(1, VOTES, TWO), (2, VOTES, TWO)],
         &[(PREPARED, true, None)],
     ),
-    // two of three don't wait for the third, who asks for more
+    // two of three don't wait for the third, which needs more
     (
         TWO,
         &[(1, VOTES, TWO), (2, VOTES, ALL)],
@@ -192,16 +192,16 @@ const BOARDS: [(ShortSet, &[Put], &[Case]); 14] = [
         &[(2, VOTES, TWO), (3, VOTES, TWO)],
         &[(PREPARED, false, None)],
     ),
-    // voters that block make nothing accepted, acceptors do, and confirm nothing
+    // voters that block make nothing accepted; acceptors that block do, and they confirm nothing
     (ALL, &[(2, VOTES, ALL)], &[(PREPARED, false, None)]),
     (ALL, &[(2, ACCEPTS, ALL)], &[(PREPARED, true, None)]),
-    // a quorum that accepts confirms; node 3, whose set isn't satisfied, is none of it
+    // a quorum that accepts confirms; node 3, whose set isn't satisfied, isn't in it
     (
         TWO,
         &[(1, ACCEPTS, TWO), (2, ACCEPTS, TWO), (3, ACCEPTS, FAR)],
         &[(PREPARED, true, Some(&[1, 2]))],
     ),
-    // of the own statement the local set counts, whatever is delivered with it
+    // for the own statement the local set counts, whatever is delivered with it
     (
         TWO,
         &[(1, ACCEPTS, FAR), (2, ACCEPTS, TWO)],
@@ -212,7 +212,7 @@ const BOARDS: [(ShortSet, &[Put], &[Case]); 14] = [
         &[(1, VOTES, (1, &[1])), (3, VOTES, FAR)],
         &[(PREPARED, false, None)],
     ),
-    // of another node's EXTERNALIZE that node alone counts
+    // for another node's EXTERNALIZE that node alone counts
     (
         TWO,
         &[(1, ACCEPTS, TWO), (3, Said::Externalize((1, 5), 1), FAR)],
@@ -248,7 +248,7 @@ const BOARDS: [(ShortSet, &[Put], &[Case]); 14] = [
             (Claimed::Committed(6, 4, 8), true, Some(&[1, 2])),
         ],
     ),
-    // no two quorums confirm a range: nodes 1 and 2 accept its low end, nodes 1 and 3 its high end, and all of it nobody but node 1
+    // no two quorums confirm a range: nodes 1 and 2 accept its low end, nodes 1 and 3 its high end, and only node 1 accepts all of it
     (
         TWO,
         &[
@@ -272,7 +272,7 @@ const BOTH_KINDS: [Put; 4] = [
     (2, Said::Confirm((9, 5), 3, 4, 9), TWO),
 ];
 
-/// Node 2 goes from one set to another and back, with node 3 in its first group; none but it is moved.
+/// Node 2 goes from one set to another and back; node 3 is in its first group. Only node 2 is moved.
 const MOVES: [Put; 6] = [
     (1, ACCEPTS, TWO),
     (2, ACCEPTS, ALL),
@@ -282,7 +282,7 @@ const MOVES: [Put; 6] = [
     (2, ACCEPTS, ALL),
 ];
 
-/// What is confirmed after so many of the moves.
+/// What is confirmed after this many of the moves.
 const MOVED: [(usize, Option<&[u8]>); 4] = [(3, None), (4, None), (5, Some(&[1, 2])), (6, None)];
 
 #[test]
@@ -299,7 +299,7 @@ fn boards_answer_as_worked_out(rt: HostRuntime) -> Result<(), Fail> {
     Ok(())
 }
 
-/// Whether the node's envelope of this kind is that of this node, on slot 7 with its signature.
+/// Whether the node's envelope of this kind is by this node, on slot 7, with the node's signature.
 fn is_kept(board: &Board, kind: StatementKind, number: u8) -> bool {
     match board.statement(kind, &NodeId([number; 32])) {
         Some(kept) => {
@@ -330,7 +330,7 @@ fn a_board_tells_what_was_put(rt: HostRuntime) -> Result<(), Fail> {
     Ok(())
 }
 
-/// Puts what node 2 says of its own set; a put that lacks memory leaves nothing, and is made again.
+/// Puts what node 2 says with its own set. A put that runs out of memory leaves nothing, and is made again.
 fn put_again(rt: &impl Abort, alloc: Global, board: &mut Board) -> Result<(), Fault> {
     match put(alloc, board, (2, ACCEPTS, (1, &[2]))) {
         Err(Fault::NoMemory) => {
@@ -341,7 +341,7 @@ fn put_again(rt: &impl Abort, alloc: Global, board: &mut Board) -> Result<(), Fa
     }
 }
 
-/// Whether the board answers as the case says; an answer that lacks memory is asked for again.
+/// Whether the board answers as the case says. An answer that runs out of memory is asked for again.
 fn is_case_again(alloc: Global, board: &Board, case: Case) -> Result<bool, Fault> {
     match is_case(alloc, board, case) {
         Err(Fault::NoMemory) => is_case(alloc, board, case),

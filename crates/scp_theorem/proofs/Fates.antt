@@ -119,7 +119,7 @@ module _ (laws : Laws) {D : Type 0} {level : D → ℕ → List ℕ → Level} {
 
   -- ---- the fates
 
-  -- what is behind the entries, of what was given and is held
+  -- what comes after the entries, of what was given and is held
   abbrev beyond : List Mark
   beyond = marks_of it a.on_way ++ held it a.pending
 

@@ -18,17 +18,17 @@ use Rattle.scp_apply.specs.Applies.{Applies}
 
 -- what was sent to a node, where it is, and what its stages made of it
 pub record Account (D : Type 0) : Type 0 where
-  -- who the node is: its id, its quorum set, and its peers, by the places of their links
+  -- who the node is: its id, its quorum set, and its peers in the order of their links
   pub me : NodeId
   pub set : QuorumTree
   pub peers : List NodeId
   -- what was sent to it over each link
   pub sent : ℕ → List LinkItem
-  -- of that, what isn't in the inbox yet, as it is read
+  -- the part of it that isn't in the inbox yet, as it is read
   pub upcoming : ℕ → List Inbound
   -- what waits in the inbox
   pub inbox : List Inbound
-  -- what came to the pending stage, and what this is
+  -- what came to the pending stage, and what the stage is now
   pub came : List Inbound
   pub pending : PendingView
   -- what is between the pending stage and the slot stage
@@ -40,8 +40,8 @@ pub record Account (D : Type 0) : Type 0 where
   -- the applier: what is applied
   pub applier : ApplierView
 
--- Each link carries what its tail may send; each stage took, in order, what the one before it gave, but for what lies between
--- them; and each stands to what it took and gave as its calls promise.
+-- Each link carries what its tail may send. Each stage took, in order, what the one before it gave, except what is still between them. Each
+-- stage is, for what it took and gave, as its calls promise.
 pub record Ran {D : Type 0} (level : D → ℕ → List ℕ → Level) (extracted : D → ℕ → List ℕ → Option (List ℕ)) (combined : D → ℕ → List (List ℕ) → List ℕ) (place : D → ℕ → ℕ → ℕ → ℕ) (a : Account D) : Type 0 where
   pub links : (l : ℕ) → (peer : NodeId) → slice_get a.peers l ≡ Some peer → AreOfLink peer a.me never_open (a.sent l)
   pub read : (l : ℕ) → (peer : NodeId) → slice_get a.peers l ≡ Some peer → readings unread (a.sent l) ≡ of_peer peer (a.came ++ a.inbox) ++ a.upcoming l

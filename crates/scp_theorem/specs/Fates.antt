@@ -16,13 +16,13 @@ use Rattle.scp_ledger.specs.declared.journal.Fate.{Fate}
 use Rattle.scp_ledger.specs.declared.journal.Fate.TheVariants.{Taken, Dropped, Closed}
 use Rattle.scp_ledger.specs.Marks.{marks_of as marks_on}
 
--- a taken message of the connection is that of its number
+-- a taken message of the connection is the one with its number
 abbrev pub HasItsNumber : ConnId → List Message → Fate → Type 0
 HasItsNumber c messages (Taken conn seq message set verdict) = same_conn conn c ≡ true → slice_get messages seq.0 ≡ Some message
 HasItsNumber c messages (Dropped conn seq cause) = Unit {0}
 HasItsNumber c messages (Closed conn cause) = Unit {0}
 
--- a connection's fates: in each lane the first of its messages, in order, and then at most an end; each message under its number
+-- a connection's fates: in each lane those of its first messages, in order, and then at most an end; a taken message is the one with its number
 pub record Fates (c : ConnId) (messages : List Message) (journal : List Fate) : Type 0 where
   pub follows : (s : ℕ) → FollowsIn (lane_numbers s 0 messages) (in_lane (slots_of messages) s (marks_on c journal))
   pub messages_are : AllByRecursion (HasItsNumber c messages) journal
@@ -37,15 +37,14 @@ conn_of (Closed conn cause) = conn
 
 -- ---- causes
 
--- a taken message was taken live, and beside an envelope stands a sane set with its hash, which stood in the store then; one that
--- is dropped because its set is bad or was given up has that cause; what is dropped by the end of its connection has its cause in
--- what is said of that
+-- A taken message was taken live. An envelope has a sane set with its hash, which was in the store then. A message that was dropped because
+-- its set is bad or was abandoned has that cause. One that was dropped by its connection's end has its cause in what is said of that end.
 abbrev pub FateHasCause : Settled → List Inbound → Fate → Type 0
 FateHasCause start came (Taken conn seq message set verdict) = IsTaken start came (record { conn = conn; seq = seq; message = message; set = option_map (λ s. s.value) set })
 FateHasCause start came (Dropped conn seq cause) = HasCause start came (ready.Dropped conn seq cause)
 FateHasCause start came (Closed conn cause) = HasCause start came (ready.Closed conn cause)
 
--- how the messages of a connection left, by the journal
+-- how a message of a connection left, by an entry of the journal
 abbrev pub way_on : ConnId → Fate → List Way
 way_on c (Taken conn seq message set verdict) = one_if (same_conn conn c) (went seq)
 way_on c (Dropped conn seq cause) = one_if (same_conn conn c) (way_by cause seq)

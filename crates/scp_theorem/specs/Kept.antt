@@ -57,34 +57,34 @@ module _ {D : Type 0} where
   abbrev pub slots_sent : Account D → ℕ → ConnId → ℕ → ℕ
   slots_sent a l c = slots_of (carried_of CARRIED_LIMIT (sent c (a.sent l)))
 
-  -- what was sent on it: the numbers of its messages, and then its end
+  -- what was sent on the connection: the numbers of its messages, and then its end
   abbrev pub line_sent : Account D → ℕ → ConnId → List Mark
   line_sent a l c = line_of_sent 0 CARRIED_LIMIT (sent c (a.sent l)) (is_closed c (a.sent l))
 
-  -- what the node holds of it without a fate: on its way, parked, in the inbox, and on the link
+  -- what the node holds of the connection without a fate: on its way, parked, in the inbox, and on the link
   abbrev pub line_held : Account D → ℕ → ConnId → List Mark
   line_held a l c = marks_of c a.on_way ++ (held c a.pending ++ (marks_in c a.inbox ++ marks_in c (a.upcoming l)))
 
-  -- its messages
+  -- the connection's messages
   abbrev pub messages_sent : Account D → ℕ → ConnId → List Message
   messages_sent a l c = carried_of CARRIED_LIMIT (sent c (a.sent l))
 
-  -- what the node holds of it is messages, and not only numbers: each is the message of its number, on its way with its set, parked,
-  -- in the inbox, and on the link
+  -- What the node holds of a connection is messages, and not only numbers. Each is the message of its number: on its way with its set,
+  -- parked, in the inbox, or on the link.
   pub record HeldAreMessages (a : Account D) (l : ℕ) (c : ConnId) : Type 0 where
     pub on_way : HaveMessages c (messages_sent a l c) (leaving a)
     pub parked : (parked : List Carried) → AreParked a.pending parked → AllByRecursion (λ (x : Carried). IsNumbered c (messages_sent a l c) (inbound.Carried x)) parked
     pub inbox : AllByRecursion (IsNumbered c (messages_sent a l c)) a.inbox
     pub upcoming : AllByRecursion (IsNumbered c (messages_sent a l c)) (a.upcoming l)
 
-  -- at each place of what came it is open, so that what comes of it next is live, exactly where what came before opened it and
-  -- didn't close it, and no end as parked-full left by then
+  -- At each place of what came, what comes of the connection next is live exactly if the connection is open. It is open exactly if what came
+  -- before opened it and didn't close it, and no parked-full end had left by then.
   abbrev pub IsLiveByPlace : Account D → ConnId → Type 0
   IsLiveByPlace a c = (before rest : List Inbound) → a.came ≡ before ++ rest → is_open c (settled_by (start_of a) before).queues ≡ (stands c.life (fold comes nothing_came (of_peer c.from before)) && not (is_cut_off c (released_by (start_of a) before)))
 
-  -- Its messages have one fate each, and within each slot from the first, in the order sent, none after its end, each the message
-  -- of its number. In each slot the fates and then what is held are what was sent, whole, so that nothing is lost; or where it was
-  -- cut off a beginning of that. It ends by its cause, what is held of it is messages, and what is live of it is so by its place.
+  -- Its messages have at most one fate each: within each slot from the first on, in the order sent, none after its end, each the message of
+  -- its number. In each slot the fates, followed by what is held, are all that was sent, so nothing is lost. If it was cut off, what is
+  -- before the cut is a beginning of that. It ends by its cause, what is held of it is messages, and what is live of it is so by its place.
   pub record HasItsFates (a : Account D) (l : ℕ) (c : ConnId) : Type 0 where
     pub fates : Fates c (messages_sent a l c) a.ledger.journal
     pub whole : (s : ℕ) → IsWhole (in_lane (slots_sent a l c) s (line_sent a l c)) (in_lane (slots_sent a l c) s (marks_on c a.ledger.journal ++ line_held a l c))
@@ -94,12 +94,11 @@ module _ {D : Type 0} where
 
   -- ---- verdicts and commands
 
-  -- The slot stage took one thing after another, from a ledger that had taken nothing, and each gave what stands beside it. These
-  -- things, and then what is leaving, are what the pending stage's rules release by what came. The journal's entries tell of them,
-  -- with the verdicts that were given; each verdict is the first that fits over what stood before it. Each command but Tick that
-  -- came is among them once, in its place; each carried message that came live, waited for no quorum set and found nothing of its
-  -- lane parked is there in its place, whatever was parked in other lanes; and each link that was asked for a slot, a command told
-  -- it to.
+  -- The slot stage took one thing after another, from a ledger that had taken nothing, and each gave what is noted with it. These things,
+  -- followed by what is leaving, are what the pending stage's rules release for what came. The journal has their entries, with the verdicts
+  -- that were given. Each verdict is the first that fits by what was there before it. Each command but Tick that came is among them once, in
+  -- its place. So is each carried message that came live, waited for no quorum set and found nothing of its lane parked, whatever was parked
+  -- in other lanes. A link was asked for a slot only where a command said so.
   pub record AreJudgedInTurn (level : D → ℕ → List ℕ → Level) (extracted : D → ℕ → List ℕ → Option (List ℕ)) (combined : D → ℕ → List (List ℕ) → List ℕ) (place : D → ℕ → ℕ → ℕ → ℕ) (a : Account D) : Type 0 where
     pub takes : List Taking
     pub leads : Leads level extracted combined place (nothing_taken a.me a.set a.ledger.driver a.peers) takes a.ledger
@@ -115,10 +114,10 @@ module _ {D : Type 0} where
 
   -- ---- decisions
 
-  -- At most one decision per slot, each in the window where it was made. Each has its certificate: a quorum at this node, whose
-  -- other members' last fresh ballot statements in the journal accept the commit, and the own EXTERNALIZE; or a taken record
-  -- named it, of a link that was asked for the slot. Each entry with the verdict Decided has its decision. Beside each taken
-  -- envelope stands a sane quorum set that has the hash which it names.
+  -- At most one decision per slot, each in the window where it was made. Each has its certificate, or a taken record named it, from a link
+  -- that was asked for the slot. A certificate is the own EXTERNALIZE with a quorum at this node; the last fresh ballot statements of its
+  -- other members in the journal accept the commit. Each entry with the verdict Decided has its decision. Each taken envelope has a sane
+  -- quorum set with the hash that it names.
   pub record AreDecided (a : Account D) : Type 0 where
     pub one : OnePerSlot a.ledger.decisions
     pub placed : AreInWindow [] a.ledger.decisions
@@ -130,8 +129,8 @@ module _ {D : Type 0} where
 
   -- ---- what is applied
 
-  -- Slots 1 to n are applied once each, in order, each with its decision. Every other decision is buffered or on its way to the
-  -- applier, and slot n + 1 isn't buffered.
+  -- Slots 1 to n are applied once each, in order, each with its decision. Every other decision is
+  -- buffered or on its way to the applier. Slot n + 1 isn't buffered.
   pub record AreApplied (a : Account D) : Type 0 where
     pub in_order : AreInOrder 1 a.applier.applied
     pub decided : All (Contains a.ledger.decisions) a.applier.applied
@@ -144,17 +143,17 @@ module _ {D : Type 0} where
   pub record KeepsLedger (level : D → ℕ → List ℕ → Level) (extracted : D → ℕ → List ℕ → Option (List ℕ)) (combined : D → ℕ → List (List ℕ) → List ℕ) (place : D → ℕ → ℕ → ℕ → ℕ) (a : Account D) : Type 0 where
     -- the node's own quorum set is sane
     pub sane : IsSane a.set
-    -- each link carries what its tail may send; what came of it, and then what isn't in the inbox yet, is what that is read as; and
-    -- the pending stage is what its rules make of what came
+    -- Each link carries what its tail may send. What came of it, followed by what isn't in the inbox yet, is what is read of that. The
+    -- pending stage is what its rules make of what came.
     pub links : (l : ℕ) → (peer : NodeId) → slice_get a.peers l ≡ Some peer → AreOfLink peer a.me never_open (a.sent l)
     pub read : (l : ℕ) → (peer : NodeId) → slice_get a.peers l ≡ Some peer → readings unread (a.sent l) ≡ of_peer peer (a.came ++ a.inbox) ++ a.upcoming l
     pub stands : a.pending.settled ≡ settled_by (start_of a) a.came
     -- a slot whose quorum set is never found delays no other slot: the head of what is parked in each lane waits for its own set
     pub led : AreLed a.pending.settled
-    -- each connection's messages have one fate each, in order, and nothing is lost; and no entry is of any other connection
+    -- each connection's messages have at most one fate each, in order, and nothing is lost; no entry is of any other connection
     pub fates : (l : ℕ) → (peer : NodeId) → slice_get a.peers l ≡ Some peer → (life : ℕ) → HasItsFates a l (conn_at peer a.me life)
     pub of_links : AllByRecursion (λ fate. IsOfLink a.me a.peers (conn_of fate)) a.ledger.journal
-    -- each fate has its cause among what came, and each taken envelope its set, which stood in the store
+    -- each fate has its cause among what came; each taken envelope has its set, which was in the store
     pub causes : AllByRecursion (FateHasCause (start_of a) a.came) a.ledger.journal
     -- each thing was taken once, in its place, and each verdict is the first that fits
     pub verdicts : AreJudgedInTurn level extracted combined place a
@@ -163,6 +162,6 @@ module _ {D : Type 0} where
     -- slots 1 to n are applied, in order
     pub applied : AreApplied a
 
--- what ran so keeps the ledger
+-- the ledger theorem follows from `Ran`
 abbrev pub RanKeepsLedger : {D : Type 0} → (D → ℕ → List ℕ → Level) → (D → ℕ → List ℕ → Option (List ℕ)) → (D → ℕ → List (List ℕ) → List ℕ) → (D → ℕ → ℕ → ℕ → ℕ) → Type 0
 RanKeepsLedger {D} level extracted combined place = (a : Account D) → Ran level extracted combined place a → KeepsLedger level extracted combined place a

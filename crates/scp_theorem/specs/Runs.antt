@@ -28,6 +28,6 @@ nothing_sent me set peers pending ledger applier = record {
   applier = applier;
 }
 
--- it ran so, wherever its stages stand so to empty lists
+-- `Ran` holds of it, if its stages are as their calls promise for empty lists
 abbrev pub NothingSentRan : {D : Type 0} → (D → ℕ → List ℕ → Level) → (D → ℕ → List ℕ → Option (List ℕ)) → (D → ℕ → List (List ℕ) → List ℕ) → (D → ℕ → ℕ → ℕ → ℕ) → Type 0
 NothingSentRan {D} level extracted combined place = (me : NodeId) (set : QuorumTree) (peers : List NodeId) (pending : PendingView) (ledger : LedgerView D) (applier : ApplierView) → pending.settled.store.local ≡ set → Pends me peers [] [] pending → Journals level extracted combined place me set peers [] [] ledger → Applies [] applier → Ran level extracted combined place (nothing_sent me set peers pending ledger applier)

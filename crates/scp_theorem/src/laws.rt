@@ -13,8 +13,8 @@ use scp_wire::{
     parts_say_what_the_whole_says, what_is_read_is_what_was_sent, what_is_read_keeps_the_shape,
 };
 
-/// Where each link carries what its tail may send, each stage took in order what the one before it gave, but for what lies between
-/// them, and each stands to what it took and gave as its calls promise: the ledger theorem.
+/// The ledger theorem holds under three conditions. Each link carries what its tail may send. Each stage took in order what the one before it
+/// gave, except what is still between them. Each stage is, for what it took and gave, as its calls promise.
 pub fn what_ran_keeps_the_ledger<D: Driver + Drop + Copy>()
     ensures { RanKeepsLedger D.says.level D.says.extracted D.says.combined D.says.place }
 {
@@ -35,8 +35,8 @@ pub fn what_ran_keeps_the_ledger<D: Driver + Drop + Copy>()
     what_is_parked_came();
 }
 
-/// What is asked of a run can be met: a node to which nothing was sent ran so, whoever it and its peers are, wherever its stages
-/// stand so to having taken and given nothing.
+/// `Ran` can be met. A node to which nothing was sent meets it, whoever the node and its peers are, if its stages
+/// are as their calls promise when they took and gave nothing.
 pub fn there_are_runs<D: Driver + Drop + Copy>()
     ensures { NothingSentRan D.says.level D.says.extracted D.says.combined D.says.place }
 {}

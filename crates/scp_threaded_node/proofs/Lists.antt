@@ -31,7 +31,7 @@ module _ {T : Type 0} where
   push_cases (z ∷ xs) y x (suc i) h = ⊎_elim inl (λ e. inr (ap suc e.0, e.1)) (push_cases xs y x i h)
 
 module _ {T : Type 0} where
-  -- what stands at a place of a list
+  -- what is at a place of a list
   pub there_is : (xs : List T) (i : ℕ) → i < length xs → (x : T) × (slice_get xs i ≡ Some x)
   there_is [] i lt = absurd (omega (arith, lt))
   there_is (x ∷ xs) zero lt = (x, refl)

@@ -1,4 +1,4 @@
--- A channel whose size is in range is refused for want of memory alone.
+-- A channel whose size is in range is refused only for being out of memory.
 use Rattle.std.proofs.Common.{◌≡◌, ℕ, ap, ◌⊎◌, ⊎_elim, Result, Ok, Err, IfErr, IsOkUnless}
 use Rattle.std.specs.Prelude.{◌↔◌, IsErrOf}
 use Rattle.scp_types.specs.declared.fault.Fault.{Fault}

@@ -1,4 +1,4 @@
--- A node that runs goes on running, whatever is done on its links or told to it.
+-- A node that runs goes on running, whatever is done on its links or sent to it.
 use Rattle.std.proofs.Common.{◌≡◌, ◌∙◌, ℕ, ap, sym, subst, List, length, Some}
 use Rattle.std.specs.Prelude.{slice_get}
 use Rattle.scp_types.specs.declared.names.NodeId.{NodeId}

@@ -1,4 +1,4 @@
--- What the links of a node ended with, one more at a time, and what is told of it.
+-- What the links of a node ended with, one more at a time, and what is reported of it.
 use Rattle.std.proofs.Common.{◌≡◌, ◌∙◌, ℕ, ◌+◌, Bool, true, false, ap, sym, refl, subst, List, [], ◌∷◌, ◌++◌, length, Option, Some, None, ◌⊎◌, inl, inr, ⊎_elim, Result, Ok, Err, IfErr, IsOkUnless, arith}
 use Rattle.std.specs.Prelude.{◌||◌, ◌↔◌, IsErrOf, IfOk, IfSome, MatchResult, slice_get, option_map}
 use Rattle.std.specs.List.{list_any}
@@ -110,9 +110,9 @@ none_ended stood = record {
   why_is = refl;
 }
 
--- ---- what is told
+-- ---- what is reported
 
--- of what was gathered: the first stage that failed, or want of memory
+-- of what was gathered: the first stage that failed, or out of memory
 pub gathered_told : {T : Type 0} (r : Result T Fault) (stage : Option Stage) (later : Option Fault) → later ≡ None
     → ((s : Stage) → IsErrOf r (Refused s) ↔ (stage ≡ Some s)) → IfErr r (λ f. (f ≡ NoMemory) ⊎ ((s : Stage) × (f ≡ Refused s)))
     → MatchResult r (λ _. option_or (option_map Refused stage) later ≡ None) (IsTold (option_or (option_map Refused stage) later))
@@ -136,7 +136,7 @@ driven_end k stood (Err f) same gone = (driven None, tt, ap Some gone)
 same_first : (a a2 b b2 c c2 d d2 : Bool) → a ≡ a2 → b ≡ b2 → c ≡ c2 → d ≡ d2 → first_so a b c d ≡ first_so a2 b2 c2 d2
 same_first a a2 b b2 c c2 d d2 p q r s = ap (λ (x : Bool). first_so x b c d) p ∙ ap (λ (x : Bool). first_so a2 x c d) q ∙ ap (λ (x : Bool). first_so a2 b2 x d) r ∙ ap (λ (x : Bool). first_so a2 b2 c2 x) s
 
--- what is left of a node that was stopped, and what is told of it
+-- what is left of a node that was stopped, and what is reported of it
 pub stopped_told : {A S T : Type 0} (node : Node A S) (stood : List Stood) (failed lost : Bool) (why : Option Fault) (readers : List ReaderEnd) (links : List LinkEnd) (own : Option (Sender Inbound)) (pend : PendEnd) (slot : SlotEnd A) (apply : ApplyEnd) (r : Result (Left A × T) Fault)
     → HaveEnded node.lanes.items stood failed why → IfSome own (λ s. s ≡ node.local) → Holds node.pend.promise.0.value pend → Holds node.slot.promise.0.value slot → Holds node.apply.promise.0.value apply
     → (lost ≡ false → why ≡ None → list_any has_failed readers ≡ failed)

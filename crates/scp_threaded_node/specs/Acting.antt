@@ -26,7 +26,7 @@ act_on Open k = with_item k (item.Opened (conn_next k))
 act_on Close k = with_item k (item.Closed (conn_now k))
 act_on (Send bytes) k = with_item k (item.Bytes (conn_now k) bytes)
 
--- the act is done where the host sends on the link; on a courier's link nothing changes
+-- the act is done if the host sends on the link; on a courier's link nothing changes
 abbrev pub acted : Act → Tail → Tail
 acted act (Host k) = Host (act_on act k)
 acted act (Courier thread) = Courier thread
@@ -64,12 +64,12 @@ cannot Open k = cannot_open (stands k)
 cannot Close k = cannot_send (stands k)
 cannot (Send bytes) k = cannot_send (stands k)
 
--- the fault is the reason why the link can't do it; where it can, its reader is gone
+-- the fault is the reason why the link can't do it; if the link can, its reader is gone
 abbrev pub IsRefusedFor : Option Fault → Fault → Type 0
 IsRefusedFor None fault = fault ≡ Refused Reader
 IsRefusedFor (Some why) fault = fault ≡ why
 
--- The fault of an act on a link where the host sends. On a courier's link nothing is refused.
+-- The fault of an act on a link, if the host sends on it. On a courier's link nothing is refused.
 abbrev pub IsActFault : Act → Tail → Fault → Type 0
 IsActFault act (Host k) fault = IsRefusedFor (cannot act k) fault
 IsActFault act (Courier thread) fault = ⊥

@@ -25,7 +25,7 @@ use Rattle.scp_threaded_node.specs.declared.node.Tail.TheVariants.{Host, Courier
 
 -- ---- what the threads of a node ended with
 
--- How the sending end of a link ended. The host's own end is lost where the reader was gone; a courier's end comes back with the courier.
+-- How the sending end of a link ended. The host's own end is lost if the reader was gone; a courier's end comes back with the courier.
 pub data TailEnd : Type 0 where
   driven : Option LinkEnd → TailEnd
   carried : CourierEnd → TailEnd
@@ -36,7 +36,7 @@ pub record LaneEnd : Type 0 where
   pub tail : TailEnd
   pub stood : Stood
 
--- What all threads of a node ended with, and the sending end of its own commands. That end is lost where the pending stage was gone.
+-- What all threads of a node ended with, and the sending end of its own commands. That end is lost if the pending stage was gone.
 pub record NodeEnd (A : Type 0) : Type 0 where
   pub lanes : List LaneEnd
   pub local : Option (Sender Inbound)

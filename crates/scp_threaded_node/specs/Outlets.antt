@@ -44,8 +44,8 @@ AllKeep keeps lanes = Each (λ i x. keeps_from x ≡ keeps) lanes
 abbrev pub keeps_in : Running → Bool
 keeps_in x = is_keeping x.reader.promise.0.value
 
--- The outbox ends that a node was given: those into which its three stages put, and for each link the end of its courier. And for each link
--- whether its reader keeps what it receives.
+-- The outbox ends that a node was given: those into which its three stages put, and for each link the end of its courier. For each link it
+-- also says whether the reader keeps what it receives.
 pub record GivenEnds : Type 0 where
   pub replies : List PutterView
   pub said : List PutterView
@@ -72,7 +72,7 @@ IsHandedBack (Some given) k back = (taker : TakerView) × (back ≡ Some taker) 
 
 module _ {A : Type 0} (says : Says A) where
   -- What a node that has ended hands back. For each link it is what the link's courier hands back. For its stages it is the ends into which
-  -- they put what they handed out. And the readers kept what they received exactly for the links given so.
+  -- they put what they handed out. The readers kept what they received for exactly the links that were given so.
   pub record AreHandedBack (me : NodeId) (set : QuorumTree) (peers : List NodeId) (given : GivenEnds) (left : Left A) (outlets : Outlets) (takers : List (Option TakerView)) : Type 0 where
     pub takers_count : length takers ≡ length given.takers
     pub takers_are : Each (λ i end. (k : LinkEnd) → slice_get left.links i ≡ Some k → (back : Option TakerView) → slice_get takers i ≡ Some back → IsHandedBack end k back) given.takers

@@ -18,7 +18,7 @@ IsFrom n p = n ≤ counter_in p
 abbrev pub HasQuorumFrom : Seen → ℕ → Type 0
 HasQuorumFrom b n = HasQuorumOf b (IsFrom n)
 
--- the counter of a statement; 0 where there is none
+-- the counter of a statement; 0 if there is none
 abbrev pub counter_or_zero : Option Pledges → ℕ
 counter_or_zero None = 0
 counter_or_zero (Some p) = counter_in p
@@ -31,11 +31,11 @@ own_counter b = counter_or_zero (b.statement b.me)
 abbrev pub RunsRound : SlotView → Type 0
 RunsRound v = (v.nomination.lists.candidates ≡ []) × (v.nomination.rounds < length v.nomination.nodes)
 
--- the timer of a ballot runs: there is one, and a quorum has come to its counter
+-- the timer of a ballot runs: there is a ballot, and a quorum has reached its counter
 abbrev pub RunsBallot : SlotView → Type 0
 RunsBallot v = (0 < own_counter v.ballots.board) × HasQuorumFrom v.ballots.board (own_counter v.ballots.board)
 
--- a timer is added where it runs, and nothing where it doesn't
+-- a timer is added if it runs; otherwise nothing is
 abbrev pub AddsWhere : Type 0 → Timer → List Timer → List Timer → Type 0
 AddsWhere Runs timer old new = (Runs × (new ≡ old ++ timer ∷ [])) ⊎ ((Runs → ⊥) × (new ≡ old))
 
@@ -62,12 +62,12 @@ AreTimersOf slot (Some m) old new = AddsTimers slot (slot_view m) old new
 abbrev pub AreTimersAt : {D : Type 0} → List (ℕ × SlotMachine D) → ℕ → List Timer → List Timer → Type 0
 AreTimersAt machines slot old new = AreTimersOf (record { 0 = slot }) (machine_at machines slot) old new
 
--- a slot's number is below 2 ^ 64: then its timers are added
+-- if the slot's number is below 2 ^ 64, the slot's timers are added; otherwise nothing is
 pub record AreTimersIfSlot {D : Type 0} (machines : List (ℕ × SlotMachine D)) (slot : ℕ) (old new : List Timer) : Type 0 where
   pub there : slot < 2 ^ 64 → AreTimersAt machines slot old new
   pub none : 2 ^ 64 ≤ slot → new ≡ old
 
--- the timers of so many slots from the lowest one on: those of all but the last, and then those of the last
+-- the timers of this many slots from the lowest one on: those of all but the last, and then those of the last
 unfoldable pub AreTimers : {D : Type 0} → List (ℕ × SlotMachine D) → ℕ → ℕ → List Timer → Type 0
 AreTimers machines lowest zero timers = timers ≡ []
 AreTimers machines lowest (suc k) timers = (before : List Timer) × AreTimers machines lowest k before × AreTimersIfSlot machines (lowest + k) before timers

@@ -1,12 +1,11 @@
-//! Which timers the host of a node should run: of each open slot that of its nomination, and that of its ballot.
+//! Which timers the host of a node should run: for each open slot that of its nomination, and that of its ballot.
 //!
 //! What it promises:
-//! - the timer of a round runs exactly while a slot has no candidate and a later round would add a leader;
-//! - the timer of a ballot runs exactly while the nodes whose counter is that of the own ballot or higher contain a quorum at
-//!   this node;
-//! - what is told are these timers and no others, ascending by slot, a slot's round before its ballot.
+//! - The timer of a round runs exactly while a slot has no candidate and a later round would add a leader.
+//! - The timer of a ballot runs exactly while the nodes whose counter is that of the own ballot or higher contain a quorum at this node.
+//! - What is reported are these timers and no others, ascending by slot, a slot's round before its ballot.
 //!
-//! How long a timer runs is the host's.
+//! How long a timer runs is the host's choice.
 #![tactic(auto)]
 
 mod quorum;

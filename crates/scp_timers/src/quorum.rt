@@ -1,4 +1,4 @@
-//! Whether a quorum has come to a counter.
+//! Whether a quorum has reached a counter.
 ghost use Rattle.std.specs.Prelude.{◌≡◌, ◌≤◌, ◌↔◌, IsTrue, IfOk, IsOkUnless};
 ghost use Rattle.scp_quorum.specs.Quorum.{set_of};
 ghost use Rattle.scp_vote.specs.Seen.{seen};
@@ -41,9 +41,9 @@ fn sets_from(
     Ok(sets)
 }
 
-/// Whether the nodes whose ballot statement has this counter or a higher one contain a quorum at this node, each by the set that is
-/// counted for it (the SCP draft: the timer of a ballot runs from then on). The one refusal is `Fault::NoMemory`. Costs a look
-/// for the greatest quorum inside these nodes.
+/// Whether a quorum at this node is among the nodes whose ballot statement has this counter or a higher one. Each node counts by the set that
+/// is counted for it (the SCP draft: the timer of a ballot runs from then on). The only refusal is `Fault::NoMemory`. Costs one search for
+/// the greatest quorum among these nodes.
 pub fn has_quorum_at(alloc: Global, board: &Board, counter: u32) -> Result<bool, Fault>
     ensures exact { IfOk result (λ yes. IsTrue yes ↔ HasQuorumFrom (seen Balloting board.now) counter) }
     ensures only_memory { IsOkUnless result Fault.NoMemory }

@@ -24,7 +24,7 @@ pub enum Timer {
     Ballot(Slot, u32),
 }
 
-/// The counter of the own ballot statement, 0 where there is none.
+/// The counter of the own ballot statement, or 0 if there is none.
 fn counter_of_own(board: &Board) -> u32
     ensures { result ≡ own_counter (seen Balloting board.now) }
 {
@@ -86,7 +86,7 @@ fn add_timers<D: Driver + Drop + Copy>(
     Ok(())
 }
 
-/// Adds the timers of the slot that lies so many ahead of the lowest one; of a number of 2 ^ 64 or more there is no slot.
+/// Adds the timers of the slot this many slots ahead of the lowest one. There is no slot with a number of 2 ^ 64 or more.
 fn add_ahead<D: Driver + Drop + Copy>(
     alloc: Global,
     ledger: &Ledger<D>,
@@ -103,8 +103,8 @@ fn add_ahead<D: Driver + Drop + Copy>(
     }
 }
 
-/// The timers that should run, of the 16 slots from the lowest undecided one on, in their order, a slot's round before its
-/// ballot. The one refusal is `Fault::NoMemory`. Costs a look for a quorum for each slot that has a ballot.
+/// The timers that should run for the 16 slots from the lowest undecided one on, in order, a slot's round before its ballot. The only refusal
+/// is `Fault::NoMemory`. Costs one search for a quorum for each slot that has a ballot.
 pub fn timers<D: Driver + Drop + Copy>(
     alloc: Global,
     ledger: &Ledger<D>,

@@ -1,4 +1,4 @@
--- What is read of a link of which all bytes spell messages.
+-- What is read of a link of which all bytes encode messages.
 use Rattle.std.proofs.Common.{◌≡◌, inl, inr, ℕ, Bool, true, false, cond, List, [], ◌∷◌, ◌++◌, refl, sym, ap, subst}
 use Rattle.std.specs.Prelude.{Option, Some, All, AllPairs}
 use Rattle.std.specs.List.{AllZip}
@@ -78,7 +78,7 @@ one_comes conn n m came messages false h was =
     let itself = comes_as_itself conn n m h in
     (inr (messages_by came, ap (λ l. l ++ messages_by came) itself.0, was.0), All-cons IsWellRead (numbered conn n m) came itself.1 was.1)
 
--- what is read of further items, wherever the reader stands, is of these messages
+-- what is read of further items, wherever the reader is, is of these messages
 abbrev Follow : List LinkItem → List Message → Type 0
 Follow items messages = (r : ReaderView) → AreOf (readings r items) messages
 
@@ -97,7 +97,7 @@ close_comes conn r items messages true follow = follow r
 close_comes conn r items messages false follow =
     let then = record r { ended = true } in quiet (inbound.Closed conn Link) (readings then items) messages refl (λ e. absurd cc) (follow then)
 
--- what is read of items of which all bytes spell these messages is some of the messages, in their order
+-- what is read of items of which all bytes encode these messages is some of the messages, in their order
 all_come : SpellingIsRead → (items : List LinkItem) (messages : List Message) → AllZip (λ bytes m. SpellsMessage bytes (message_value m)) (bytes_among items) messages → All IsSingle messages → Follow items messages
 all_come is_read [] [] spelt one r = (refl, All-nil IsWellRead)
 all_come is_read [] (m ∷ messages) spelt one r = absurd spelt

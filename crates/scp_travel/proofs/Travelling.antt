@@ -43,7 +43,7 @@ may_put g link replies said answers may (suc (suc (suc p))) = All-nil (MaySend g
 abbrev IsOther : Message → Type 0
 IsOther m = statement_of m ≡ None
 
--- no stage but the slot stage put statements
+-- only the slot stage put statements
 others_put : (g : Grounds) (link : ℕ) (replies said answers : List Message) → MayGo g link replies said answers → (p : ℕ) → p ≢ 1 → All IsOther (by_three replies said answers p)
 others_put g link replies said answers may zero other = All-weaker (MayAnswer g link) IsOther (λ m h. h.1) replies may.replies_may
 others_put g link replies said answers may (suc zero) other = absurd (other refl)
@@ -65,7 +65,7 @@ mark_adds_none Opened old new is = one_more old new (item.Opened (conn_next old)
 mark_adds_none Closed old new is = one_more old new (item.Closed (conn_now old)) is ∙ append-nil (bytes_among old.tail.sent)
 mark_adds_none Stop old new is = ap (λ (k : LinkEnd). bytes_among k.tail.sent) is
 
--- the bytes that went over the link from then on spell these messages
+-- the bytes that went over the link from then on encode these messages
 abbrev HasSpelt : List Message → LinkEnd → LinkEnd → Type 0
 HasSpelt messages old new = (bs : List (List ℕ)) × (bytes_among new.tail.sent ≡ bytes_among old.tail.sent ++ bs) × AllZip (λ bytes m. SpellsMessage bytes (message_value m)) bs messages
 

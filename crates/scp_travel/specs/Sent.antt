@@ -20,8 +20,8 @@ bytes_on (item.Closed conn) = []
 abbrev pub bytes_among : List LinkItem → List (List ℕ)
 bytes_among items = flat_map bytes_on items
 
--- Where the stages of a node put into the outbox of a link what may be sent over it, and a courier carried what came out of that outbox, all that
--- went over the link has its ground, and each statement is newer than those of its slot and kind before it.
+-- What a courier carried of what came out of an outbox may be sent over the link, if the stages put into that outbox only what may be sent
+-- there. Each statement that went over the link is newer than those of its slot and kind before it.
 abbrev pub WhatIsCarriedIsSentOut : Type 0
 WhatIsCarriedIsSentOut = (g : Grounds) (link : ℕ) (replies said answers : List Message) (gave : List Out) (k : LinkEnd)
     → MayGo g link replies said answers → CameOut replies said answers gave → HasCarried gave k → IsSentOut g link (bytes_among k.tail.sent)

@@ -19,7 +19,7 @@ as_message (side.GetSet hash) = message.GetSet hash
 as_message (side.Set set) = message.Set set
 as_message (side.NoSet hash) = message.NoSet hash
 
--- the message that came, where one did
+-- the message that came, if one did
 abbrev pub message_by : Inbound → List Message
 message_by (inbound.Opened conn) = []
 message_by (inbound.Carried x) = x.message ∷ []
@@ -39,17 +39,17 @@ IsWellRead (inbound.Side conn message) = Unit {0}
 IsWellRead (inbound.Closed conn cause) = cause ≢ Malformed
 IsWellRead (inbound.Local command) = ⊥
 
--- What came is all of the node with these grounds, over this link of its: each message that came it may send, each statement is newer than those of
--- its slot and kind that came before it, and no bytes came that are no message.
+-- What came is all from the node with these grounds, over this link. It may send each message that came, each statement is newer than those
+-- of its slot and kind that came before it, and no bytes came that are no message.
 pub record AreTheirs (g : Grounds) (link : ℕ) (came : List Inbound) : Type 0 where
   pub allowed : All (MaySend g link) (messages_by came)
   pub newer : AreNewer (messages_by came)
   pub well_read : All IsWellRead came
 
--- what is read of a link's items is its sender's own, where all bytes among the items are what the sender may send
+-- what is read of a link's items is its sender's own, if all bytes among the items are what the sender may send
 abbrev pub WhatIsReadIsTheirs : Type 0
 WhatIsReadIsTheirs = (g : Grounds) (link : ℕ) (items : List LinkItem) → IsSentOut g link (bytes_among items) → AreTheirs g link (readings unread items)
 
--- and so is what came first of it
+-- the same holds of each beginning of what came
 abbrev pub WhatCameFirstIsTheirs : Type 0
 WhatCameFirstIsTheirs = (g : Grounds) (link : ℕ) (came more : List Inbound) → AreTheirs g link (came ++ more) → AreTheirs g link came

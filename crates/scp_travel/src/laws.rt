@@ -13,9 +13,9 @@ pub fn what_is_carried_is_sent_out()
     statements_are_given_in_order();
 }
 
-/// Where all bytes that went over a link are what its sender may send, all that is read of the link is the sender's own: each message it may send,
-/// and each statement is newer than those of its slot and kind before it. No connection of the link ends because of bytes that are no message. So
-/// it is with what came first of it.
+/// If all bytes that went over a link are what its sender may send, all that is read of the link is the sender's own. The sender may send
+/// each message, and each statement is newer than those of its slot and kind before it. No connection of the link ends because of bytes that
+/// are no message. The same holds of each beginning of what is read.
 pub fn what_is_read_is_the_senders_own()
     ensures all { WhatIsReadIsTheirs }
     ensures first { WhatCameFirstIsTheirs }

@@ -18,11 +18,11 @@ Does old heard new = turn.Does kv_says old heard new
 abbrev pub taken_over : (old : NodeView) (heard : List Exchange) (new : NodeView) → Does old heard new → List TakenCommand
 taken_over old heard new does = commands.taken_over kv_says old heard new does
 
--- a node heard more, of which this holds, and the ledger theorem goes on
+-- a node heard more, of which this holds, and the ledger theorem goes on holding
 abbrev pub Goes : NodeView → NodeView → (NodeView → List Exchange → NodeView → Type 0) → Type 0
 Goes old new Is = turn.Goes kv_says old new Is
 
--- so many turns, one after the other, in each of which something moved
+-- this many turns, one after the other, in each of which something moved
 abbrev pub AreMovingTurns : ℕ → NodeView → List Exchange → NodeView → Type 0
 AreMovingTurns n old heard new = rest.AreMovingTurns kv_says n old heard new
 

@@ -1,4 +1,4 @@
--- What a turn tells in which nothing moves: the node has come to rest.
+-- What follows from a turn in which nothing moves: the node has come to rest.
 use Rattle.std.specs.Prelude.{ℕ, ◌≡◌, false, List, [], Some, None, slice_get}
 use Rattle.scp_driver.specs.Driver.{Says}
 use Rattle.scp_pending.specs.Pends.{IsIdle}
@@ -21,7 +21,7 @@ module _ {D : Type 0} where
     pub decided : v.decided ≡ []
 
 module _ {D : Type 0} (says : Says D) where
-  -- A turn in which nothing moved, and which failed no node, changed nothing; and the node was at rest: whatever is blocked waits for what stands
-  -- before it, up to the applier, which waits for nothing.
+  -- A turn in which nothing moved and the node didn't fail changed nothing, and the node was at rest. For whatever is blocked waits for what
+  -- comes after it, up to the applier, which waits for nothing.
   abbrev pub StillIsAtRest : Type 0
   StillIsAtRest = (past : List Exchange) (a b : NodeView D) (heard : List Exchange) → LedgerTheorem says past a → IsConfig a.config → Does says a heard b → IsTurn a heard b → IsStill heard → b.failed ≡ false → IsAtRest a × (b ≡ a)

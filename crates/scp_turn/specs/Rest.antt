@@ -25,12 +25,12 @@ module _ {D : Type 0} where
     pub two : Next mid rest new
 
 module _ {D : Type 0} (says : Says D) where
-  -- so many turns, one after the other, in each of which something moved
+  -- this many turns, one after the other, in each of which something moved
   abbrev pub AreMovingTurns : ℕ → NodeView D → List Exchange → NodeView D → Type 0
   AreMovingTurns zero old heard new = (heard ≡ []) × (new ≡ old)
   AreMovingTurns (suc n) old heard new = Then (AreMovingTurns n) (IsMovingTurn says) old heard new
 
-  -- turns until one moves nothing, fewer than 100,000 before it, where the node came to rest; else 100,000 turns, each of which moved something
+  -- if the node came to rest: fewer than 100,000 turns that moved something, and then one that moved nothing; else 100,000 that moved something
   abbrev pub Rests : Bool → NodeView D → List Exchange → NodeView D → Type 0
   Rests true old heard new = (before : ℕ) × (before < 100000) × Then (AreMovingTurns before) (IsStillTurn says) old heard new
   Rests false old heard new = AreMovingTurns 100000 old heard new

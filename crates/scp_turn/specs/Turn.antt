@@ -17,8 +17,8 @@ module _ {D : Type 0} (says : Says D) where
   Does old [] new = new ≡ old
   Does old (x ∷ heard) new = (mid : NodeView D) × Step says old x.0 x.1 mid × Does mid heard new
 
-  -- A node heard more, of which this holds: steps, one after the other; and what it heard before and this together are what the ledger theorem
-  -- holds for.
+  -- A node heard more, of which this holds: steps, one after the other. The ledger theorem holds
+  -- for what it heard before, followed by this, if it held before.
   pub record Goes (old new : NodeView D) (Is : NodeView D → List Exchange → NodeView D → Type 0) : Type 0 where
     pub heard : List Exchange
     pub is : Is old heard new
@@ -39,12 +39,12 @@ IsStill heard = AllByRecursion (λ x. IsStillReply x.1) heard
 abbrev pub events_of : List Exchange → List Event
 events_of heard = map (λ x. x.0) heard
 
--- what the readers of so many links do in a turn
+-- what the readers of this many links do in a turn
 abbrev pub reader_events : ℕ → List Event
 reader_events zero = []
 reader_events (suc link) = reader_events link ++ event.ReaderTake link ∷ event.ReaderPut link ∷ []
 
--- what the stages of a node with so many links do in a turn: the reader of each link, and those behind them
+-- what the stages of a node with this many links do in a turn: the reader of each link, and the stages after them
 abbrev pub stage_events : ℕ → List Event
 stage_events links = reader_events links ++ event.PendTake ∷ event.PendPut ∷ event.SlotTake ∷ event.SlotPut ∷ event.ApplyTake ∷ []
 

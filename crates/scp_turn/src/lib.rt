@@ -1,12 +1,12 @@
 //! A turn of one node: each of its stages does one step. And its rest: turns, until one moves nothing.
 //!
 //! What it promises:
-//! - a turn is one event for each stage, in their order, and answers whether any of them moved something;
-//! - a settle is turns until one moves nothing, or 100,000, and answers exactly whether it came to the still one;
-//! - a watch is told of each step, before it and after it, in their order, and of nothing else;
-//! - the ledger theorem holds of the node for all that it heard;
-//! - a node in whose turn nothing moved, and which didn't fail in it, is at rest: it holds nothing in any queue or hand;
-//! - the commands that a node's slot stage took in a run are the first of those that the node was given, each once, in order.
+//! - A turn is one event for each stage, in order. It returns whether any of them moved something.
+//! - A settle is turns until one moves nothing, or 100,000. It returns exactly whether it came to the still one.
+//! - A watch is shown each step, before it and after it, in order, and nothing else.
+//! - The ledger theorem holds of the node for all that it heard.
+//! - If nothing moved in a node's turn and the node didn't fail in it, the node is at rest: it holds nothing in any queue or hand.
+//! - The commands that a node's slot stage took in a run are the first of those that the node was given, each once, in order.
 #![tactic(auto)]
 
 mod laws;

@@ -15,7 +15,7 @@ use scp_driver::Application;
 /// The most turns of one settle.
 const MOST_TURNS: u32 = 100_000;
 
-/// One event at a node of this number, of which the watch is told before it and after it.
+/// One event at the node of this number; the watch is shown it before and after.
 pub fn step_with<A: Application + Drop + Copy, W: Watch<A>>(
     node: &mut Node<A>,
     number: u8,
@@ -33,14 +33,14 @@ pub fn step_with<A: Application + Drop + Copy, W: Watch<A>>(
     reply
 }
 
-/// Whether one of both moved something.
+/// Whether one of the two moved something.
 fn either(first: bool, second: bool) -> bool
     ensures { result ≡ (first || second) }
 {
     first || second
 }
 
-/// One step of a stage. Whether it moved anything.
+/// One step of a stage. Returns whether it moved anything.
 fn stage<A: Application + Drop + Copy, W: Watch<A>>(
     node: &mut Node<A>,
     number: u8,
@@ -53,7 +53,7 @@ fn stage<A: Application + Drop + Copy, W: Watch<A>>(
     matches!(step_with(node, number, watch, event), Reply::Moved)
 }
 
-/// A step of a stage that takes, and one that puts. Whether anything moved.
+/// A step of a stage that takes, and a step that puts. Returns whether anything moved.
 fn take_and_put<A: Application + Drop + Copy, W: Watch<A>>(
     node: &mut Node<A>,
     number: u8,
@@ -70,7 +70,7 @@ fn take_and_put<A: Application + Drop + Copy, W: Watch<A>>(
     either(took, put)
 }
 
-/// What each link's reader does in a turn, in the order of the links. Whether anything moved.
+/// What each link's reader does in a turn, in the order of the links. Returns whether anything moved.
 fn read<A: Application + Drop + Copy, W: Watch<A>>(
     node: &mut Node<A>,
     number: u8,
@@ -88,7 +88,7 @@ fn read<A: Application + Drop + Copy, W: Watch<A>>(
     moved
 }
 
-/// What the pending stage and the slot stage do in a turn. Whether anything moved.
+/// What the pending stage and the slot stage do in a turn. Returns whether anything moved.
 fn decide<A: Application + Drop + Copy, W: Watch<A>>(
     node: &mut Node<A>,
     number: u8,
@@ -101,8 +101,7 @@ fn decide<A: Application + Drop + Copy, W: Watch<A>>(
     either(has_pended, has_decided)
 }
 
-/// What the stages behind the readers do in a turn: the pending stage, the slot stage and the applier. Whether anything
-/// moved.
+/// What the stages after the readers do in a turn: the pending stage, the slot stage and the applier. Returns whether anything moved.
 fn pass_on<A: Application + Drop + Copy, W: Watch<A>>(
     node: &mut Node<A>,
     number: u8,
@@ -115,8 +114,8 @@ fn pass_on<A: Application + Drop + Copy, W: Watch<A>>(
     either(has_decided, has_applied)
 }
 
-/// What the stages of a node of this number do in a turn, with a reader for each of so many links: one step each, of which the watch is
-/// told. Whether anything moved.
+/// What the stages of the node of this number do in a turn, with a reader for each of this many links: one step each, which the watch is
+/// shown. Returns whether anything moved.
 pub fn work<A: Application + Drop + Copy, W: Watch<A>>(
     node: &mut Node<A>,
     number: u8,
@@ -130,7 +129,7 @@ pub fn work<A: Application + Drop + Copy, W: Watch<A>>(
     either(has_read, has_passed)
 }
 
-/// A turn of a node of this number: each stage does one step, of which the watch is told. Whether anything moved.
+/// A turn of the node of this number: each stage does one step, which the watch is shown. Returns whether anything moved.
 pub fn turn_with<A: Application + Drop + Copy, W: Watch<A>>(
     node: &mut Node<A>,
     number: u8,
@@ -142,14 +141,14 @@ pub fn turn_with<A: Application + Drop + Copy, W: Watch<A>>(
     work(node, number, watch, links)
 }
 
-/// A turn of a node: each stage does one step. Whether anything moved.
+/// A turn of a node: each stage does one step. Returns whether anything moved.
 pub fn turn<A: Application + Drop + Copy>(node: &mut Node<A>) -> bool
     ensures { Goes A.says node.old node.new (λ a heard b. IsTurn a heard b × ((result ≡ false) ↔ IsStill heard)) }
 {
     turn_with(node, 1, &mut NoWatch)
 }
 
-/// Brings a node to rest: turns, until one moves nothing, or 100,000. Whether it came to rest.
+/// Brings a node to rest: turns, until one moves nothing, or 100,000. Returns whether it came to rest.
 pub fn settle<A: Application + Drop + Copy>(node: &mut Node<A>) -> bool
     ensures { Goes A.says node.old node.new (Rests A.says result) }
 {

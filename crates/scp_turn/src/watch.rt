@@ -1,10 +1,10 @@
-//! Who is told of the steps of nodes.
+//! Whoever is shown the steps of nodes.
 
 use scp_core::{Event, Node, Reply};
 use scp_driver::Application;
 
-/// Who is told of each step of a node: before it of the event, and after it of the reply, each with the node as it then stands. A watch
-/// can't refuse a step: one that lacks memory remembers that, and says so at the end.
+/// Whoever is shown each step of a node: before it the event, and after it the reply, each with the node as it is then. A watch can't refuse
+/// a step. One that runs out of memory remembers that, and says so at the end.
 pub trait Watch<A: Application + Drop + Copy> {
     ghost use Rattle.std.specs.Prelude.{ℕ};
     ghost use Rattle.scp_core.specs.declared.event.Event.{Event};
@@ -21,12 +21,12 @@ pub trait Watch<A: Application + Drop + Copy> {
     fn before(&mut self, number: u8, event: &Event, node: &Node<A>)
         ensures { notes_before self.old number event.now node.now self.new };
 
-    /// The node of this number did what was told last, and answered so.
+    /// The node of this number did what was shown last, and gave this reply.
     fn after(&mut self, number: u8, reply: &Reply, node: &Node<A>)
         ensures { notes_after self.old number reply.now node.now self.new };
 }
 
-/// Nobody: it notes nothing.
+/// A watch that notes nothing.
 #[derive(Debug, Drop)]
 pub struct NoWatch;
 

@@ -14,7 +14,7 @@ module _ (xs ys : List ℕ) where
   abbrev pub AlikeTo : ℕ → Type 0
   AlikeTo i = (k : ℕ) → k < i → slice_index xs k ≡ slice_index ys k
 
-  -- n bytes more, which begin no later than those end that are known
+  -- n bytes more, which begin no later than where the bytes that are known to be the same end
   pub further : (i j n : ℕ) → i ≤ j → AlikeTo j → Alike i n → AlikeTo (i + n)
   further i j n within before here = λ k l. ⊎_elim (before k)
       (λ past.

@@ -9,6 +9,6 @@ use Rattle.scp_types.specs.declared.names.ConnId.{ConnId}
 abbrev pub ballot_cmp : Ballot → Ballot → Ordering
 ballot_cmp a b = ordering_then (nat_cmp a.counter b.counter) (slice_cmp nat_cmp a.value b.value)
 
--- connections by the bytes of the sender, then by those of the receiver, then by the life
+-- connections by the bytes of the sender's id, then by those of the receiver's, then by the life
 abbrev pub conn_cmp : ConnId → ConnId → Ordering
 conn_cmp a b = ordering_then (slice_cmp nat_cmp a.from.0 b.from.0) (ordering_then (slice_cmp nat_cmp a.to.0 b.to.0) (nat_cmp a.life b.life))

@@ -13,8 +13,8 @@ pub struct Ballot {
 }
 
 impl Ballot {
-    /// Another ballot with the same counter, which shares the value: no byte is copied. The one refusal is
-    /// `Fault::NoMemory`.
+    /// Another ballot with the same counter, which shares the value: no byte is copied. The only refusal
+    /// is `Fault::NoMemory`.
     pub fn copy(&self) -> Result<Ballot, Fault>
         ensures same { IfOk result (λ b. b ≡ self.now) }
         ensures only_memory { IsOkUnless result Fault.NoMemory }

@@ -1,10 +1,10 @@
-//! Equality of bytes, eight at a time: the library's comparison of slices was the dearest part of a vote.
+//! Equality of bytes, eight at a time: the library's comparison of slices was the most expensive part of a vote.
 ghost use Rattle.std.specs.Prelude.{◌≡◌, ◌≢◌, ◌+◌, ◌<◌, ◌≤◌, ℕ, length, nat_eq, slice_index};
 ghost use Rattle.std.specs.Bool.{MatchBool};
 ghost use Rattle.std.specs.Slice.Scan.{little_endian};
 ghost use Rattle.std.specs.Cmp.Lexicographic.{pointwise};
 
-/// Whether both are the same bytes. The last word may begin within the one before it.
+/// Whether both are the same bytes. The last word read may overlap the one before it.
 pub(crate) fn same_bytes(a: &[u8], b: &[u8]) -> bool
     ensures { result ≡ pointwise nat_eq a.now b.now }
 {
@@ -40,7 +40,7 @@ fn same_word(a: &[u8], b: &[u8], at: usize) -> bool
     word(a, at) == word(b, at)
 }
 
-/// The number that the eight bytes at this place spell, the least first: one load.
+/// The eight bytes at this place as a number, the least significant byte first: one load.
 fn word(bytes: &[u8], at: usize) -> u64
     requires { at + 8 ≤ length bytes.now }
     ensures { result ≡ little_endian bytes.now at }

@@ -17,19 +17,19 @@ pub enum Stage {
     Apply,
 }
 
-/// Why a call was refused. Each has its number, which programs print, and its text.
+/// Why a call was refused. Each reason has its number, which programs print, and its text.
 #[derive(Clone, Copy, Debug, PartialEq, Eq, Error)]
 pub enum Fault {
-    /// 1: a growth was refused by the allocator.
+    /// 1: out of memory; the allocator refused to allocate.
     #[error("no memory")]
     NoMemory,
-    /// 2: the bytes spell nothing, at this offset from their start.
+    /// 2: the bytes encode nothing; what is wrong is at this offset from their start.
     #[error("malformed at {0}")]
     Malformed(usize),
-    /// 3: a length, a count, a depth or a whole spelling is over its limit.
+    /// 3: a length, a count, a depth or a whole encoding is over its limit.
     #[error("too long")]
     TooLong,
-    /// 4: a quorum set that is well spelt and not sane.
+    /// 4: a quorum set that is encoded well, but isn't sane.
     #[error("insane quorum set")]
     Insane,
     /// 5: the queue or ring has no room.
@@ -44,7 +44,7 @@ pub enum Fault {
     /// 8: the link was opened as often as it can be.
     #[error("lives spent")]
     LivesSpent,
-    /// 9: the node can not be set up so.
+    /// 9: no node can be set up with this configuration.
     #[error("bad configuration")]
     BadConfig,
     /// 10: an earlier refusal left the value failed.

@@ -1,4 +1,4 @@
-//! Laws of the orders, each the contract of a function that does nothing.
+//! Laws of the orders. Each is the contract of a function that does nothing.
 ghost use Rattle.std.specs.Prelude.{◌≡◌};
 ghost use Rattle.scp_types.specs.declared.ballot.Ballot.{Ballot};
 ghost use Rattle.scp_types.specs.declared.names.ConnId.{ConnId};
@@ -7,8 +7,8 @@ ghost use Rattle.scp_types.specs.Order.{ballot_cmp, conn_cmp};
 use crate::ballot::Ballot;
 use crate::names::ConnId;
 
-/// Ballots are ordered by their counters, and by the bytes of their values where these are equal (the
-/// SCP draft).
+/// Ballots are ordered by their counters and, where the counters are equal, by the bytes of their
+/// values (the SCP draft).
 pub fn ballots_are_ordered_by_counter_then_value()
     ensures { (a b : Ballot) → ⟦<Ballot as Ord>⟧.cmp a b ≡ ballot_cmp a b }
 {}

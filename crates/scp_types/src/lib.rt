@@ -1,15 +1,16 @@
 //! The names, values, ballots and faults that all crates share.
 //!
 //! What it promises:
-//! - names, values and ballots are equal and ordered by their numbers and bytes, a proper prefix being
-//!   less than the whole, and a ballot by its counter before its value;
-//! - `Value` is its bytes: what goes in comes out; a `SharedValue` is its value, which ballots share;
-//! - a copy equals the original, and is refused for want of memory alone;
+//! - names, values and ballots are equal by their numbers and bytes. Values are ordered by their bytes, where a proper
+//!   prefix is less than the whole, ballots by counter and then value, connections by sender, receiver and life;
+//! - `Value` is its bytes: what goes in comes out. A `SharedValue` is its value, which ballots share;
+//! - a copy equals the original, and is refused only when memory runs out;
 //! - each fault has its number, 1 to 14.
 //!
-//! The limits that several crates name stand here, once.
+//! The limits that several crates name are here, once.
 //!
-//! Not claimed: nodes, hashes, slots and numbers of messages have derived orders, by their bytes or numbers. No clause says so.
+//! Not claimed: that nodes, hashes, slots and numbers of messages are ordered by their bytes or numbers. They are, by their derived orders,
+//! but no clause says so.
 #![tactic(auto)]
 
 mod ballot;

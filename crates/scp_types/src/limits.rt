@@ -3,10 +3,10 @@
 /// The most bytes of a value.
 pub const VALUE_LIMIT: usize = 4_096;
 
-/// The most messages that one connection carries: they are numbered below it.
+/// The most messages that one connection carries: their numbers are below it.
 pub const CARRIED_LIMIT: u64 = 1_000_000;
 
-/// The most lives of a link: it opens at most so often.
+/// The most lives of a link: it can be opened this often.
 pub const LIFE_LIMIT: u32 = 65_535;
 
 /// The most items that a queue may be made for.

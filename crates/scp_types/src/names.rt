@@ -48,9 +48,9 @@ pub struct Seq(pub u64);
 /// One life of the link from one node to another: a connection. Ordered by sender, receiver and life.
 #[derive(Clone, Copy, Debug, PartialEq, Eq, PartialOrd, Ord)]
 pub struct ConnId {
-    /// Who sends on it.
+    /// The node that sends on it.
     pub from: NodeId,
-    /// Who receives on it.
+    /// The node that receives on it.
     pub to: NodeId,
     /// Which opening of the link this is, from 1 on.
     pub life: u32,

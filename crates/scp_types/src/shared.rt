@@ -24,7 +24,7 @@ impl Model for SharedValue {
 }
 
 impl SharedValue {
-    /// The value, to be shared.
+    /// The value, ready to be shared.
     pub fn new(alloc: Global, value: Value) -> Result<SharedValue, Fault>
         ensures same { IfOk result (λ v. v ≡ value) }
         ensures only_memory { IsOkUnless result Fault.NoMemory }

@@ -7,9 +7,9 @@ use crate::fault::Fault;
 use std::cmp::Ordering;
 use std::marker::Model;
 
-/// What is agreed on: bytes, of any number. Values are ordered by their bytes, so that a proper
-/// prefix is less than the whole. The limit, `VALUE_LIMIT`, is that of the spelling (this
-/// project's profile), and is tested where a value is read or written.
+/// What is agreed on: any number of bytes. Values are ordered by their bytes, so a proper prefix is
+/// less than the whole. The limit `VALUE_LIMIT` is that of the encoding (this project's profile).
+/// It is tested where a value is read or written.
 #[derive(Debug, Drop)]
 pub struct Value(Vec<u8>);
 
@@ -22,7 +22,7 @@ impl Model for Value {
 }
 
 impl Value {
-    /// The value of these bytes. Moves them and takes no memory.
+    /// The value of these bytes. Moves them, and takes no memory.
     pub fn new(bytes: Vec<u8>) -> Value
         ensures { result ≡ bytes.items }
     {
@@ -36,7 +36,7 @@ impl Value {
         self.0.as_slice()
     }
 
-    /// Gives the bytes back. Takes no memory.
+    /// Gives the bytes back, and takes no memory.
     pub fn into_vec(self) -> Vec<u8>
         ensures { result.items ≡ self }
     {
@@ -44,8 +44,8 @@ impl Value {
         inside
     }
 
-    /// Another value of the same bytes, in the same allocator. Copies each byte once; the one refusal
-    /// is `Fault::NoMemory`.
+    /// Another value of the same bytes, in the same allocator. Copies each byte once. The only
+    /// refusal is `Fault::NoMemory`.
     pub fn copy(&self) -> Result<Value, Fault>
         ensures same { IfOk result (λ v. v ≡ self.now) }
         ensures only_memory { IsOkUnless result Fault.NoMemory }

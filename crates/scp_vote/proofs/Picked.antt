@@ -46,7 +46,7 @@ module _ (b : Seen) (P : Pledges → Type 0) (nodes : NodeId → Bool) (picked :
     pub none_picked : HasNoQuorum sets b.me → HasQuorumOf b P → ⊥
     none_picked none (us, quorum, all) = none us (from_quorum us quorum all)
 
-  -- where the nodes don't satisfy the local set, no quorum at this node is among them
+  -- if the nodes don't satisfy the local set, no quorum at this node is among them
   pub refused : ForSome (b.counted b.me) (λ q. q ≡ b.local) → (Satisfies nodes b.local → ⊥) → HasQuorumOf b P → ⊥
   refused own fails (us, quorum, all) =
       let mine = some_of (Satisfies us) (b.counted b.me) (quorum.satisfied b.me quorum.has) in

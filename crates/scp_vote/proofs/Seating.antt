@@ -169,7 +169,7 @@ module _ (entries : BTreeMap NodeId Entry) (seats : List Seat) (sets : List Shar
       let s = seat_of v e at in
       some_and (λ (s : Seat). (s.node ≡ v) × (set_of_group new s.group ≡ Some e.counted.value)) (slice_get seats e.place) s.0 s.1 (s.2.0, keeps e.place s.0 s.1 e.counted.value s.2.1)
 
-  -- a seat was put behind all, and taken away again
+  -- a seat was put after all, and taken away again
   pub seated_again : (new : List Seat) (place : ℕ) (x : Seat) → place ≡ length seats → IsPutAt seats new place x → AreSeated entries (take place new) sets
   seated_again new place x behind put v e at =
       let s = seat_of v e at in

@@ -1,4 +1,4 @@
--- Where all nodes share one set, the marked nodes that satisfy it are the greatest quorum inside them.
+-- If all nodes share one set, the marked nodes that satisfy it are the greatest quorum inside them.
 use Rattle.std.proofs.Common.{◌≡◌, ◌<◌, ℕ, zero, suc, Bool, true, false, cond, List, [], ◌∷◌, length, slice_get, Option, Some, None, IsSomeAnd, refl, sym, subst, ap, arith, ◌∙◌}
 use Rattle.std.specs.Option.{option_map}
 use Rattle.std.specs.BTreeMap as node_map

@@ -1,4 +1,4 @@
--- Who accepts a claim supports it.
+-- Whoever accepts a claim supports it.
 use Rattle.std.proofs.Common.{inl, inr}
 use Rattle.scp_envelope.specs.declared.statement.Pledges.{Pledges}
 use Rattle.scp_vote.specs.declared.claim.Claim.{Claim}

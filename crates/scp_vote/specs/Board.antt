@@ -18,21 +18,21 @@ use Rattle.scp_vote.specs.declared.claim.StatementKind.TheVariants.{Nomination, 
 use Rattle.scp_vote.specs.declared.claim.Support.TheVariants.{VotesOrAccepts, Accepts}
 use Rattle.scp_vote.specs.Claims.{Stands}
 
--- What a node sees of one kind: itself, its set, and of each node the newest statement and the set that is counted for it.
+-- What a node sees of one kind: itself, its set, and for each node the newest statement and the set that counts for it.
 pub record Seen : Type 0 where
   pub me : NodeId
   pub local : QuorumTree
   pub statement : NodeId → Option Pledges
   pub counted : NodeId → Option QuorumTree
 
--- NOMINATE is of the nomination, all others are ballot statements
+-- the kind of a statement: a NOMINATE is of nomination, all others are ballot statements
 abbrev pub kind_of_pledges : Pledges → StatementKind
 kind_of_pledges (Prepare p) = Balloting
 kind_of_pledges (Confirm p) = Balloting
 kind_of_pledges (Externalize p) = Balloting
 kind_of_pledges (Nominate p) = Nomination
 
--- the kind of the statements that stand by a claim
+-- the kind of the statements that can support a claim
 abbrev pub kind_of : Claim → StatementKind
 kind_of (Prepared x) = Balloting
 kind_of (Committed low high v) = Balloting
@@ -46,11 +46,11 @@ Has b P v = IsSomeAnd (b.statement v) P
 abbrev pub AllHave : Seen → (Pledges → Type 0) → (NodeId → Bool) → Type 0
 AllHave b P nodes = (v : NodeId) → nodes v ≡ true → Has b P v
 
--- the nodes whose statement has P contain a quorum at this node
+-- some nodes whose statements all have P are a quorum at this node
 abbrev pub HasQuorumOf : Seen → (Pledges → Type 0) → Type 0
 HasQuorumOf b P = (nodes : NodeId → Bool) × IsQuorum b.counted b.me nodes × AllHave b P nodes
 
--- the nodes whose statement has P block the local set
+-- some nodes whose statements all have P block the local set
 abbrev pub IsBlockedBy : Seen → (Pledges → Type 0) → Type 0
 IsBlockedBy b P = (nodes : NodeId → Bool) × AllHave b P nodes × Blocks nodes b.local
 
@@ -62,7 +62,7 @@ Accepted b c = HasQuorumOf b (Stands VotesOrAccepts c) ⊎ IsBlockedBy b (Stands
 abbrev pub Confirmed : Seen → Claim → Type 0
 Confirmed b c = HasQuorumOf b (Stands Accepts c)
 
--- The union of the quorums at this node among the nodes whose statement has P, which is one of them.
+-- The greatest quorum at this node among the nodes whose statement has P: it contains every other one.
 pub record IsGreatestWhere (b : Seen) (P : Pledges → Type 0) (nodes : NodeId → Bool) : Type 0 where
   pub quorum : IsQuorum b.counted b.me nodes
   pub all_have : AllHave b P nodes
@@ -72,30 +72,30 @@ pub record IsGreatestWhere (b : Seen) (P : Pledges → Type 0) (nodes : NodeId �
 abbrev pub Certificate : Seen → Claim → (NodeId → Bool) → Type 0
 Certificate b c nodes = IsGreatestWhere b (Stands Accepts c) nodes
 
--- threshold 1 of the node alone
+-- the set with threshold 1 over the node alone
 abbrev pub alone : NodeId → QuorumTree
 alone v = record { head = record { threshold = 1; validators = v ∷ [] }; inner = no_trees }
 
--- of another node's EXTERNALIZE that node alone is counted, else the delivered set (this project's profile)
+-- the set that counts for another node: for its EXTERNALIZE the node alone, else the delivered set (this project's profile)
 abbrev pub counted_of_other : NodeId → Pledges → QuorumTree → QuorumTree
 counted_of_other v (Prepare p) delivered = delivered
 counted_of_other v (Confirm p) delivered = delivered
 counted_of_other v (Externalize p) delivered = alone v
 counted_of_other v (Nominate p) delivered = delivered
 
--- The set that is counted for a node: of this node the local one, else as above.
+-- The set that counts for a node: for this node the local one, for another as above.
 pub record IsCounted (b : Seen) (v : NodeId) (p : Pledges) (delivered set : QuorumTree) : Type 0 where
   pub own : v ≡ b.me → set ≡ b.local
   pub other : v ≢ b.me → set ≡ counted_of_other v p delivered
 
--- The node's statement and set are these, and all else is as before.
+-- The node's statement and set are now these, and all else is as before.
 pub record Puts (old new : Seen) (node : NodeId) (statement : Pledges) (set : QuorumTree) : Type 0 where
   pub me : new.me ≡ old.me
   pub local : new.local ≡ old.local
   pub statements : (v : NodeId) → new.statement v ≡ cond (is_at (node_cmp node) v) (Some statement) (old.statement v)
   pub sets : (v : NodeId) → new.counted v ≡ cond (is_at (node_cmp node) v) (Some set) (old.counted v)
 
--- Where the node has a statement of its own, the set counted for it is the local one.
+-- If this node has a statement, the set that counts for it is the local one.
 abbrev pub KeepsOwn : Seen → Type 0
 KeepsOwn b = b.counted b.me ≡ option_map (λ _. b.local) (b.statement b.me)
 
@@ -106,7 +106,7 @@ pub record IsNewBoard (node : NodeId) (set : QuorumTree) (b : Seen) : Type 0 whe
   pub statements : (v : NodeId) → b.statement v ≡ None
   pub sets : (v : NodeId) → b.counted v ≡ None
 
--- The statement of the node is put on the board with its counted set.
+-- The node's statement is put on the board with the set that counts for it.
 pub record PutsCounted (old new : Seen) (v : NodeId) (p : Pledges) (delivered : QuorumTree) : Type 0 where
   pub set : QuorumTree
   pub counted : IsCounted old v p delivered set

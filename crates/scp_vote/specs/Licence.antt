@@ -12,7 +12,7 @@ use Rattle.scp_vote.specs.declared.claim.Claim.TheVariants.{Prepared, Committed,
 use Rattle.scp_vote.specs.Claims.{AcceptsCommits}
 use Rattle.scp_vote.specs.Board.{Seen, Accepted, Confirmed}
 
--- The board with p as this node's statement.
+-- the board with p as this node's statement
 abbrev pub with_own : Seen → Option Pledges → Seen
 with_own b p = record {
   me = b.me;
@@ -21,18 +21,18 @@ with_own b p = record {
   counted = λ v. cond (is_at (node_cmp b.me) v) (option_map (λ _. b.local) p) (b.counted v);
 }
 
--- the ballots that a statement names as accepted prepared
+-- the ballots that a statement names as accepted as prepared
 abbrev pub NamesPrepared : Pledges → Ballot → Type 0
 NamesPrepared (Preparing q) x = (q.prepared ≡ Some x) ⊎ (q.prepared_prime ≡ Some x)
 NamesPrepared (Confirming q) x = (q.n_prepared ≢ 0) × (x ≡ record { counter = q.n_prepared; value = q.ballot.value })
 NamesPrepared (Externalizing q) x = ⊥
 NamesPrepared (Nominating q) x = ⊥
 
--- the ballot whose commit a PREPARE votes for, at its high end
+-- the ballot at the high end of the commits that a PREPARE votes for
 abbrev pub high_end : Prepare → Ballot
 high_end q = record { counter = q.n_high; value = q.ballot.value }
 
--- p is a PREPARE that votes for a commit with q's value and high end.
+-- p is a PREPARE that votes to commit, with q's value and high end
 abbrev pub KeepsVote : Option Pledges → Prepare → Type 0
 KeepsVote None q = ⊥
 KeepsVote (Some (Preparing p)) q = (p.n_commit ≢ 0) × (p.n_high ≡ q.n_high) × (p.ballot.value ≡ q.ballot.value)
@@ -40,14 +40,14 @@ KeepsVote (Some (Confirming p)) q = ⊥
 KeepsVote (Some (Externalizing p)) q = ⊥
 KeepsVote (Some (Nominating p)) q = ⊥
 
--- A vote to commit is for a ballot that the statement itself accepts as prepared, and that is Confirmed so, or was voted for.
+-- A PREPARE that votes to commit accepts its high end as prepared. That ballot is confirmed as prepared, or p already voted for it.
 abbrev pub VotesWell : Seen → Option Pledges → Pledges → Type 0
 VotesWell b p (Preparing q) = q.n_commit ≢ 0 → AcceptsPrepare (Preparing q) (high_end q) × (Confirmed b (Prepared (high_end q)) ⊎ KeepsVote p q)
 VotesWell b p (Confirming q) = Unit {0}
 VotesWell b p (Externalizing q) = Unit {0}
 VotesWell b p (Nominating q) = Unit {0}
 
--- What a CONFIRM accepts as committed was accepted before or is Accepted.
+-- What a CONFIRM accepts as committed was accepted before, or is accepted on this board.
 abbrev pub AcceptsWell : Seen → Option Pledges → Pledges → Type 0
 AcceptsWell b p (Preparing q) = Unit {0}
 AcceptsWell b p (Confirming q) = IsSomeAnd p (λ p. AcceptsCommits p q.n_commit q.n_high q.ballot.value) ⊎ Accepted b (Committed q.n_commit q.n_high q.ballot.value)
@@ -61,14 +61,14 @@ IsExternalize (Confirming p) = ⊥
 IsExternalize (Externalizing p) = Unit {0}
 IsExternalize (Nominating p) = ⊥
 
--- A first EXTERNALIZE is of a commit that is Confirmed.
+-- An EXTERNALIZE follows an EXTERNALIZE, or all its commits up to nH are confirmed.
 abbrev pub ExternalizesWell : Seen → Option Pledges → Pledges → Type 0
 ExternalizesWell b p (Preparing q) = Unit {0}
 ExternalizesWell b p (Confirming q) = Unit {0}
 ExternalizesWell b p (Externalizing q) = IsSomeAnd p IsExternalize ⊎ Confirmed b (Committed q.commit.counter q.n_high q.commit.value)
 ExternalizesWell b p (Nominating q) = Unit {0}
 
--- After the statement p, absent or not, which stands on the board as this node's, the statement q may be made.
+-- The statement q may follow p, which may be absent, on a board that has p as this node's statement.
 pub record Follows (b : Seen) (p : Option Pledges) (q : Pledges) : Type 0 where
   pub values : (v : List ℕ) → AcceptsValue q v → IsSomeAnd p (λ p. AcceptsValue p v) ⊎ Accepted b (Nominated v)
   pub prepared : (x : Ballot) → NamesPrepared q x → IsSomeAnd p (λ p. AcceptsPrepare p x) ⊎ Accepted b (Prepared x)
@@ -76,15 +76,15 @@ pub record Follows (b : Seen) (p : Option Pledges) (q : Pledges) : Type 0 where
   pub accepts : AcceptsWell b p q
   pub externalizes : ExternalizesWell b p q
 
--- the same with p put in this node's place among the others
+-- the same, on the board that has p in this node's place and the others as given
 abbrev pub MayFollow : Seen → Option Pledges → Pledges → Type 0
 MayFollow others p q = Follows (with_own others p) p q
 
--- the statements follow each other from the first to the last
+-- each of the statements may follow the one before it, from the first to the last
 abbrev pub Leads : Seen → Option Pledges → List Pledges → Option Pledges → Type 0
 Leads others p [] last = p ≡ last
 Leads others p (q ∷ qs) last = MayFollow others p q × Leads others (Some q) qs last
 
--- There is a list of own statements from the old one to the new one, each of which may follow the one before it.
+-- There is a list of own statements from the old one to the new one, and each may follow the one before it.
 abbrev pub Licensed : Seen → Option Pledges → Option Pledges → Type 0
 Licensed others old new = (between : List Pledges) × Leads others old between new

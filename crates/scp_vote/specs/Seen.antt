@@ -17,7 +17,7 @@ abbrev pub seen : StatementKind → Board → Seen
 seen Nomination b = seen_in b.me b.local.value b.nominations.entries
 seen Balloting b = seen_in b.me b.local.value b.ballots.entries
 
--- the envelope that is kept of a node
+-- the envelope that the board keeps of a node
 abbrev pub envelope_at : StatementKind → Board → NodeId → Option Envelope
 envelope_at Nomination b v = option_map (λ (e : Entry). e.envelope) (node_map.get node_cmp b.nominations.entries v)
 envelope_at Balloting b v = option_map (λ (e : Entry). e.envelope) (node_map.get node_cmp b.ballots.entries v)

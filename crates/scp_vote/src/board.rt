@@ -18,8 +18,8 @@ use std::alloc::Global;
 use std::collections::{BTreeMap, BTreeSet};
 use std::sync::Arc;
 
-/// Each node's newest statement of each kind, with the quorum set that is counted for it: for this node the local set,
-/// for another node's EXTERNALIZE that node alone, else the set that was delivered with the statement.
+/// Each node's newest statement of each kind, with the quorum set that counts for it. For this node that is the local
+/// set, for another node's EXTERNALIZE that node alone, and else the set that was delivered with the statement.
 #[derive(Drop)]
 pub struct Board {
     alloc: Global,
@@ -36,7 +36,7 @@ impl Board {
     ghost use Rattle.scp_vote.specs.inside.Side.{side};
     ghost use Rattle.scp_vote.specs.Statements.{seen_in};
 
-    /// A board without statements, of this node and its set.
+    /// A board without statements, for this node and its set.
     pub fn new(alloc: Global, me: NodeId, local: Arc<SaneSet>) -> Board
         ensures empty { (kind : StatementKind) → IsNewBoard me local.value (seen kind result) }
         ensures no_envelope { (kind : StatementKind) (v : NodeId) → envelope_at kind result v ≡ None }
@@ -50,9 +50,9 @@ impl Board {
         }
     }
 
-    /// Puts the envelope in the place of its node's last of that kind; all other statements stay. For this node the local
-    /// set is counted, for another node's EXTERNALIZE that node alone, else the delivered set (the SCP draft, in this
-    /// project's profile). A refusal, `Fault::NoMemory`, leaves the board as it was.
+    /// Puts the envelope in the place of its node's last one of that kind; all other statements stay. For this node the
+    /// local set counts, for another node's EXTERNALIZE that node alone, and else the delivered set (the SCP draft, in
+    /// this project's profile). The only refusal is `Fault::NoMemory`, and it leaves the board as it was.
     pub fn put(&mut self, envelope: SharedEnvelope, delivered: Arc<SaneSet>) -> Result<(), Fault>
         ensures put { OnOk result (PutsCounted (seen (kind_of_pledges envelope.statement.pledges) self.old) (seen (kind_of_pledges envelope.statement.pledges) self.new) envelope.statement.node envelope.statement.pledges delivered.value) }
         ensures other_kind { (kind : StatementKind) → kind ≢ kind_of_pledges envelope.statement.pledges → seen kind self.new ≡ seen kind self.old }
@@ -73,7 +73,7 @@ impl Board {
     }
 
     /// Whether the nodes that vote for or accept the claim contain a quorum at this node, or those that accept it block the
-    /// local set (the SCP draft). The one refusal is `Fault::NoMemory`.
+    /// local set (the SCP draft). The only refusal is `Fault::NoMemory`.
     pub fn accepted(&self, claim: &Claim) -> Result<bool, Fault>
         ensures exact { IfOk result (λ yes. IsTrue yes ↔ Accepted (seen (kind_of claim.now) self.now) claim.now) }
         ensures only_memory { IsOkUnless result Fault.NoMemory }
@@ -81,8 +81,8 @@ impl Board {
         self.of(claim.kind()).accepted(claim)
     }
 
-    /// Whether the nodes that accept the claim contain a quorum at this node (the SCP draft). The one refusal is
-    /// `Fault::NoMemory`.
+    /// Whether the nodes that accept the claim contain a quorum at this node (the SCP draft). The only refusal
+    /// is `Fault::NoMemory`.
     pub fn confirmed(&self, claim: &Claim) -> Result<bool, Fault>
         ensures exact { IfOk result (λ yes. IsTrue yes ↔ Confirmed (seen (kind_of claim.now) self.now) claim.now) }
         ensures only_memory { IsOkUnless result Fault.NoMemory }
@@ -90,8 +90,8 @@ impl Board {
         self.of(claim.kind()).confirmed(claim)
     }
 
-    /// The greatest quorum at this node inside the nodes that accept the claim; `None` exactly where it isn't confirmed. The
-    /// one refusal is `Fault::NoMemory`.
+    /// The greatest quorum at this node inside the nodes that accept the claim; `None` exactly where the claim isn't
+    /// confirmed. The only refusal is `Fault::NoMemory`.
     pub fn certificate(&self, claim: &Claim) -> Result<Option<BTreeSet<NodeId>>, Fault>
         ensures found { IfOk result (λ found. IfSome found (λ nodes. Certificate (seen (kind_of claim.now) self.now) claim.now (is_in nodes))) }
         ensures none { IfOk result (λ found. IfNone found (Confirmed (seen (kind_of claim.now) self.now) claim.now → ⊥)) }
@@ -116,7 +116,7 @@ impl Board {
         self.statement(kind, &self.me)
     }
 
-    /// The statements of this kind with their counted sets, ascending by node.
+    /// The statements of this kind, with the sets that count for them, ascending by node.
     pub fn statements(&self, kind: StatementKind) -> &BTreeMap<NodeId, Entry>
         ensures pledges { (v : NodeId) → option_map (λ e. e.envelope.statement.pledges) (node_map.get node_cmp result.now v) ≡ (seen kind self.now).statement v }
         ensures counted { (v : NodeId) → option_map (λ e. e.counted.value) (node_map.get node_cmp result.now v) ≡ (seen kind self.now).counted v }
@@ -143,7 +143,7 @@ impl Board {
         &self.local
     }
 
-    /// What is seen of the statements of this kind.
+    /// What this node sees of the statements of this kind.
     fn of(&self, kind: StatementKind) -> Side<'_>
         ensures same { side result ≡ seen kind self.now }
         ensures own { KeepsOwn (side result) }
@@ -154,7 +154,7 @@ impl Board {
         }
     }
 
-    /// What is seen of these statements.
+    /// What this node sees of these statements.
     fn side<'a>(&'a self, table: &'a Table) -> Side<'a>
         ensures { side result ≡ seen_in self.now.me self.now.local.value table.now.entries }
     {

@@ -1,4 +1,4 @@
-//! Claims, and how a statement stands by them.
+//! Claims, and how a statement supports them.
 ghost use Rattle.std.specs.Prelude.{◌≡◌, ◌↔◌, IsTrue};
 ghost use Rattle.scp_vote.specs.Claims.{Stands};
 ghost use Rattle.scp_vote.specs.declared.claim.Support.TheVariants.{VotesOrAccepts, Accepts};
@@ -28,7 +28,7 @@ pub enum StatementKind {
 impl Claim {
     ghost use Rattle.scp_vote.specs.Board.{kind_of};
 
-    /// The kind of the statements that stand by the claim.
+    /// The kind of the statements that can support the claim.
     pub fn kind(&self) -> StatementKind
         ensures { result ≡ kind_of self.now }
     {
@@ -49,14 +49,14 @@ pub fn kind_of_pledges(pledges: &Pledges) -> StatementKind
     }
 }
 
-/// How a statement stands by a claim: it votes for it or accepts it, or accepts it.
+/// How a statement supports a claim: it votes for it or accepts it, or it accepts it.
 #[derive(Clone, Copy, Debug, PartialEq, Eq)]
 pub enum Support {
     VotesOrAccepts,
     Accepts,
 }
 
-/// Whether the statement stands so by the claim. Takes no memory.
+/// Whether the statement supports the claim in this way. Takes no memory.
 pub fn stands(support: Support, claim: &Claim, statement: &Statement) -> bool
     ensures { IsTrue result ↔ Stands support claim.now statement.now.pledges }
 {
@@ -82,7 +82,7 @@ pub fn stands(support: Support, claim: &Claim, statement: &Statement) -> bool
 
 ghost use Rattle.scp_vote.specs.Claims.{AcceptsCommits, SupportsCommits};
 
-/// Whether the statement votes for the claim or accepts it. Where it accepts it, which is known, its votes aren't looked at.
+/// Whether the statement votes for the claim or accepts it. If it is known to accept it, its votes aren't looked at.
 #[tactic(auto, using(crate::proofs::Supporting::accepts_supports))]
 pub(crate) fn stands_too(claim: &Claim, statement: &Statement, accepts: bool) -> bool
     requires { IsTrue accepts ↔ Stands Accepts claim.now statement.now.pledges }
@@ -94,14 +94,14 @@ pub(crate) fn stands_too(claim: &Claim, statement: &Statement, accepts: bool) ->
     stands(Support::VotesOrAccepts, claim, statement)
 }
 
-/// Whether it accepts each commit of the range: its ends are enough.
+/// Whether the statement accepts each commit of the range. Testing both ends is enough.
 fn accepts_range(statement: &Statement, low: u32, high: u32, value: &Value) -> bool
     ensures { IsTrue result ↔ AcceptsCommits statement.now.pledges low high value.now }
 {
     high < low || (statement.accepts_commit(low, value) && statement.accepts_commit(high, value))
 }
 
-/// Whether for each commit of the range, by itself, it votes for it or accepts it: its ends are enough.
+/// Whether for each commit of the range, by itself, the statement votes for it or accepts it. Testing both ends is enough.
 fn supports_range(statement: &Statement, low: u32, high: u32, value: &Value) -> bool
     ensures { IsTrue result ↔ SupportsCommits statement.now.pledges low high value.now }
 {

@@ -2,12 +2,12 @@
 //!
 //! What it promises:
 //! - a claim is accepted exactly where the nodes that vote for or accept it contain a quorum at this node, or those that
-//!   accept it block the local set; it is confirmed exactly where those that accept it contain a quorum at this node
+//!   accept it block the local set. It is confirmed exactly where those that accept it contain a quorum at this node
 //!   (the SCP draft);
-//! - the set that is counted for a statement is chosen when it is put: the local set for this node's own, the node alone
-//!   for another node's EXTERNALIZE, else the set that was delivered with it;
+//! - the set that counts for a statement is chosen when it is put. It is the local set for this node's own, the node
+//!   alone for another node's EXTERNALIZE, and else the set that was delivered with it;
 //! - a certificate is the greatest quorum at this node inside the nodes that accept;
-//! - a put that had no memory leaves the board as it was.
+//! - a put that runs out of memory leaves the board as it was.
 #![tactic(auto)]
 
 mod board;

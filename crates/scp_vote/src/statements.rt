@@ -1,4 +1,4 @@
-//! Each node's newest statement of one kind, with the quorum set that is counted for it.
+//! Each node's newest statement of one kind, with the quorum set that counts for it.
 ghost use Rattle.std.specs.Prelude.{◌≡◌, get_or, false};
 
 use crate::claim::{Claim, Support, stands, stands_too};
@@ -10,16 +10,16 @@ use std::alloc::{AllocError, Global};
 use std::collections::BTreeSet;
 use std::sync::Arc;
 
-/// A node's statement with its counted set.
+/// A node's statement with the set that counts for it.
 #[derive(Drop)]
 pub struct Entry {
     pub envelope: SharedEnvelope,
     pub counted: Arc<SaneSet>,
-    /// Where the node has its seat: a walk over the entries needs no look-up.
+    /// The place of the node's seat: so a walk over the entries needs no look-up.
     pub(crate) place: usize,
 }
 
-/// What is seen of the statements of one kind: each node's newest.
+/// What a node sees of the statements of one kind: each node's newest.
 #[derive(Clone, Copy, Drop)]
 pub(crate) struct Side<'a> {
     pub(crate) alloc: Global,
@@ -28,7 +28,7 @@ pub(crate) struct Side<'a> {
     pub(crate) table: &'a Table,
 }
 
-/// Which seats are of nodes that stand by a claim.
+/// Which seats belong to nodes that support a claim.
 #[derive(Drop)]
 struct Standing {
     supporting: Vec<bool>,
@@ -58,7 +58,7 @@ impl Side<'_> {
         vec![in self.alloc; false; self.table.seats.len()]
     }
 
-    /// Which nodes vote for or accept the claim, and which accept it. Walks each statement once.
+    /// Which nodes vote for or accept the claim, and which accept it. Looks at each statement once.
     fn standing(&self, claim: &Claim) -> Result<Standing, AllocError>
         ensures supporting { IfOk result (λ s. PicksNodes (Has (side self.now) (Stands VotesOrAccepts claim.now)) (marked (place_in self.now.table.now.entries) s.supporting.items)) }
         ensures accepting { IfOk result (λ s. PicksNodes (Has (side self.now) (Stands Accepts claim.now)) (marked (place_in self.now.table.now.entries) s.accepting.items)) }
@@ -78,7 +78,7 @@ impl Side<'_> {
         })
     }
 
-    /// Which nodes accept the claim. Walks each statement once.
+    /// Which nodes accept the claim. Looks at each statement once.
     fn accepting(&self, claim: &Claim) -> Result<Vec<bool>, AllocError>
         ensures { IfOk result (λ marks. PicksNodes (Has (side self.now) (Stands Accepts claim.now)) (marked (place_in self.now.table.now.entries) marks.items)) }
     {
@@ -90,9 +90,9 @@ impl Side<'_> {
         Ok(accepting)
     }
 
-    /// Whether the marked nodes contain a quorum at this node: then just those of the greatest stay marked. Refused before any
-    /// group is looked at where this node isn't marked, or the marked nodes don't satisfy the local set; where all nodes share
-    /// one set, that answers it.
+    /// Whether the marked nodes contain a quorum at this node; if so, exactly those of the greatest stay marked. Answers false
+    /// without looking at groups if this node isn't marked, or the marked nodes don't satisfy the local set. If all nodes
+    /// share one set, that test decides.
     fn has_quorum(&self, marks: &mut [bool]) -> Result<bool, Fault>
         requires { KeepsOwn (side self.now) }
         ensures found { IfOk result (λ yes. OnTrue yes (IsGreatestQuorum (only (marked (place_in self.now.table.now.entries) marks.old) (side self.now).counted) (side self.now).me (marked (place_in self.now.table.now.entries) marks.new))) }
@@ -148,7 +148,7 @@ impl Side<'_> {
     }
 
     /// Whether the nodes that vote for or accept the claim contain a quorum at this node, or those that accept it block the
-    /// local set (the SCP draft). The one refusal is `Fault::NoMemory`.
+    /// local set (the SCP draft). The only refusal is `Fault::NoMemory`.
     pub(crate) fn accepted(&self, claim: &Claim) -> Result<bool, Fault>
         requires { KeepsOwn (side self.now) }
         ensures exact { IfOk result (λ yes. IsTrue yes ↔ Accepted (side self.now) claim.now) }
@@ -161,8 +161,8 @@ impl Side<'_> {
         self.has_quorum(&mut standing.supporting)
     }
 
-    /// Whether the nodes that accept the claim contain a quorum at this node (the SCP draft). The one refusal is
-    /// `Fault::NoMemory`.
+    /// Whether the nodes that accept the claim contain a quorum at this node (the SCP draft). The only refusal
+    /// is `Fault::NoMemory`.
     pub(crate) fn confirmed(&self, claim: &Claim) -> Result<bool, Fault>
         requires { KeepsOwn (side self.now) }
         ensures exact { IfOk result (λ yes. IsTrue yes ↔ Confirmed (side self.now) claim.now) }
@@ -172,8 +172,8 @@ impl Side<'_> {
         self.has_quorum(&mut accepting)
     }
 
-    /// The greatest quorum at this node inside the nodes that accept the claim; `None` exactly where it isn't confirmed. The
-    /// one refusal is `Fault::NoMemory`.
+    /// The greatest quorum at this node inside the nodes that accept the claim; `None` exactly where the claim isn't
+    /// confirmed. The only refusal is `Fault::NoMemory`.
     pub(crate) fn certificate(&self, claim: &Claim) -> Result<Option<BTreeSet<NodeId>>, Fault>
         requires { KeepsOwn (side self.now) }
         ensures found { IfOk result (λ found. IfSome found (λ nodes. IsGreatestWhere (side self.now) (Stands Accepts claim.now) (is_in nodes))) }
@@ -187,7 +187,7 @@ impl Side<'_> {
         Ok(Some(self.nodes_at(&accepting)?))
     }
 
-    /// The set that is counted for the envelope's node.
+    /// The set that counts for the envelope's node.
     pub(crate) fn counted(
         &self,
         envelope: &Envelope,

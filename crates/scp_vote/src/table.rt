@@ -12,16 +12,16 @@ use std::alloc::{AllocError, Global};
 use std::collections::BTreeMap;
 use std::sync::Arc;
 
-/// Each node's newest statement of one kind. Each of these nodes has a seat, and the nodes whose counted sets are equal
-/// share a group, which has the set once. A group that no seat is of stays until a new set takes its place, so that there
-/// is at most one group more than there are seats, however often the same nodes put statements.
+/// Each node's newest statement of one kind. Each of these nodes has a seat, and nodes whose counted sets are equal share
+/// a group, which has the set once. A group without a seat stays until a new set takes its place. So there is at most one
+/// group more than seats, however often the same nodes put statements.
 #[derive(Drop)]
 pub(crate) struct Table {
     pub(crate) entries: BTreeMap<NodeId, Entry>,
     pub(crate) seats: Vec<Seat>,
     /// The set of each group.
     pub(crate) sets: Vec<Arc<SaneSet>>,
-    /// By the hash of a set the group that it may have.
+    /// The group that a set may have, by the set's hash.
     groups: BTreeMap<Hash, usize>,
     pub ghost seated: { AreSeated entries seats.items sets.items } by { Prim.hlevel props },
 }
@@ -30,7 +30,7 @@ impl Table {
     ghost use Rattle.std.specs.Prelude.{◌≡◌, ℕ, [], OnOk, OnErr};
     ghost use Rattle.scp_vote.specs.inside.Statements.{Enters};
 
-    /// No statements.
+    /// A table without statements.
     pub(crate) fn new(alloc: Global) -> Table
         ensures { result.entries.entries ≡ [] }
     {
@@ -42,7 +42,7 @@ impl Table {
         }
     }
 
-    /// Puts the envelope and its counted set in the place of its node's last.
+    /// Puts the envelope, with the set that counts for it, in the place of its node's last one.
     pub(crate) fn put(
         &mut self,
         alloc: Global,
@@ -86,7 +86,7 @@ impl Places for Table {
     }
 }
 
-/// The place of the node's seat: its own, or else behind all seats.
+/// The place of the node's seat: its own, or else the one after all seats.
 fn place_for(entries: &BTreeMap<NodeId, Entry>, node: &NodeId, seats: usize) -> usize
     ensures { IsPlaceFor entries.now seats node.now result }
 {
@@ -118,7 +118,7 @@ fn group_of(
     Ok(group)
 }
 
-/// The group that is found by the hash of this set, where it has this set. The hash alone doesn't show it.
+/// The group that is found by the hash of this set, if it has this set. The hash alone doesn't show it.
 fn known_group(
     sets: &[Arc<SaneSet>],
     groups: &BTreeMap<Hash, usize>,
@@ -135,14 +135,14 @@ fn known_group(
     }
 }
 
-/// Takes what leads to the set of this group out of the table of hashes.
+/// Removes the hash of this group's set from the table of hashes.
 fn forget_group(sets: &[Arc<SaneSet>], groups: &mut BTreeMap<Hash, usize>, group: usize) {
     if let Some(set) = sets.get(group) {
         groups.remove(&set.hash());
     }
 }
 
-/// A group that no seat is of, or else the one behind all.
+/// A group without a seat, or else the one after all groups. Goes over all seats.
 fn free_group(alloc: Global, seats: &[Seat], groups: usize) -> Result<usize, AllocError>
     ensures within { IfOk result (λ g. g ≤ groups) }
     ensures unused { IfOk result (IsUnused seats.now groups) }
@@ -154,7 +154,7 @@ fn free_group(alloc: Global, seats: &[Seat], groups: usize) -> Result<usize, All
     Ok(first_unmarked(&used))
 }
 
-/// The first place that isn't marked, or else the one behind all.
+/// The first place that isn't marked, or else the one after all.
 fn first_unmarked(marks: &[bool]) -> usize
     ensures within { result ≤ length marks.now }
     ensures unmarked { get_or marks.now result false ≡ false }
@@ -167,7 +167,7 @@ fn first_unmarked(marks: &[bool]) -> usize
     marks.len()
 }
 
-/// Marks the place, if there is one and this holds.
+/// Marks the place if `holds` is true and there is such a place.
 pub(crate) fn mark(marks: &mut [bool], place: usize, holds: bool)
     ensures marked { marks.new ≡ cond holds (set marks.old place true) marks.old }
     ensures len { length marks.new ≡ length marks.old }
@@ -177,7 +177,7 @@ pub(crate) fn mark(marks: &mut [bool], place: usize, holds: bool)
     }
 }
 
-/// Puts the item in the place of the one that is there, or behind all.
+/// Puts the item in the place of the one that is there, or after all items.
 fn put_at<T: Drop>(items: &mut Vec<T>, place: usize, item: T) -> Result<(), AllocError>
     requires { place ≤ length items.old.items }
     ensures put { OnOk result (IsPutAt items.old.items items.new.items place item) }

@@ -1,4 +1,4 @@
--- What fits a link for certain.
+-- What surely fits a link.
 use Rattle.std.proofs.Common.{ℕ, ◌+◌, ◌*◌, ◌≤◌, List, [], ◌∷◌, length, subst, arith, inl, inr}
 use Rattle.std.specs.Prelude.{Option, Some, None, option_map, Result, Ok, Err, IfOk, ◌++◌}
 use Rattle.std.specs.List.{AllByRecursion, sum_by}

@@ -104,6 +104,6 @@ over_is (Records first values) range = (over, back)
     back (inl unfit) = inl (λ fits. unfit fits.1.1.1.1.1.1.1)
     back (inr longer) = inr (omega (arith, longer, text_len 7 (spelling (numbered 32 value_kind) (first.0, values))))
 
--- it breaks a limit just where its value doesn't fit
+-- it breaks a limit exactly where its value doesn't fit
 pub limits_are : LimitsAreOfTheValue
 limits_are = λ m range. (λ unfit. (over_is m range).0 (breaks_over (message_value m) unfit), λ breaks. over_breaks (message_value m) ((over_is m range).1 breaks))

@@ -68,7 +68,7 @@ messages_of_peer c xs = kept (came_message c) (is_from c.from) (other_message c)
 
 -- ---- numbers without a gap
 
--- what is to come of the connection, where the link stands so
+-- what is still to come of the connection, by how the link is
 abbrev Continues : NodeId → NodeId → ℕ → Come → List Mark → Type 0
 Continues peer me life h marks = (h.life ≡ life → h.is_open ≡ true → Follows h.next marks) × (h.life < life → Follows 0 marks) × (h.life ≡ life → h.is_open ≡ false → marks ≡ []) × (life < h.life → marks ≡ [])
 

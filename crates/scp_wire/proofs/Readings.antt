@@ -1,4 +1,4 @@
--- The reading of bytes is the message that they spell.
+-- The reading of bytes is the message that they encode.
 use Rattle.std.proofs.Common.{◌≡◌, ◌≢◌, ℕ, ◌<◌, ◌≤◌, Bool, true, false, cond, ltb, List, length, Some, None, Result, Ok, Err, refl, sym, ap, ◌∙◌, inl, inr, ltb-false, le-ltb, lt-ltb}
 use Rattle.std.specs.Prelude.{IfOk, IfErr}
 use Rattle.scp_types.specs.declared.fault.Fault.{Fault}

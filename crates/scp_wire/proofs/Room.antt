@@ -1,4 +1,4 @@
--- What is left of the room behind a spelling tells whether it is within a limit.
+-- What is left of the room after an encoding shows whether it is within a limit.
 use Rattle.std.proofs.Common.{ℕ, ◌≤◌, length, Option, Some, None, refl, arith}
 use Rattle.std.specs.Prelude.{◌↔◌, IsTrue}
 use Rattle.std.specs.Option.{is_some}

@@ -151,7 +151,7 @@ goes_on n = record { ended = false; next = n }
 abbrev end_by : ℕ → List Message → Bool → Bool → Option Cause
 end_by limit messages ok closed = if nat_lt limit (length messages) then Some Spent else (if not ok then Some Malformed else (if closed then Some Link else None))
 
--- what is read says just these messages, as far as the limit lets them, and the end
+-- what is read says exactly these messages, as far as the limit lets them, and the end
 record Told (c : ConnId) (n limit : ℕ) (xs : List Inbound) (ms : List Message) (ok closed : Bool) : Type 0 where
   are : messages_in c xs ≡ take limit (filter is_carried ms)
   line : marks_in c xs ≡ numbers n (take limit (filter is_carried ms)) ++ map ended (option_to_list (end_by limit (filter is_carried ms) ok closed))

@@ -111,7 +111,7 @@ one_more_is_of_link = of_link-push
 
 -- ---- one item
 
--- how the tail, the reader and what it gave stand to each other
+-- how the tail, the reader and what it gave are related
 record Agrees (t : Tail) (r : ReaderView) (h : Come) : Type 0 where
   life : h.life ≡ t.life
   over : r.ended ≡ true → h.is_open ≡ false
@@ -247,7 +247,7 @@ pub records_from-more : (slot : ℕ) (vs : List (List ℕ)) (v : List ℕ) → r
 records_from-more slot [] v = ap (λ k. Record (record { 0 = k }) v ∷ []) (omega arith)
 records_from-more slot (w ∷ vs) v = ap (λ ms. Record (record { 0 = slot }) w ∷ ms) (records_from-more (slot + 1) vs v ∙ ap (λ k. records_from (slot + 1) vs ++ Record (record { 0 = k }) v ∷ []) (omega arith))
 
--- after messages that didn't end the connection one more is read; after an end it is given up
+-- after messages that didn't end the connection one more is read; after an end it is dropped
 pub record ReadsMore (conn : ConnId) (r : ReaderView) (ms : List Message) (m : Message) : Type 0 where
   pub brings : brought_each conn r.next (ms ++ m ∷ []) ≡ brought_each conn r.next ms ++ brought_one conn (after_each r ms).next m ∷ []
   pub goes_past : after_each r (ms ++ m ∷ []) ≡ after_one (after_each r ms) m

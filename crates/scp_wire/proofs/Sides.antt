@@ -1,4 +1,4 @@
--- The first word of a message tells whether it is carried.
+-- The first word of a message shows whether it is carried.
 use Rattle.std.proofs.Common.{◌≡◌, ℕ, ◌<◌, ◌≤◌, ◌⊎◌, true, false, eqb, List, length, Some, Result, Ok, Err, refl, sym, subst, ◌∙◌, inl, inr, eqb-true}
 use Rattle.std.specs.Prelude.{is_ok}
 use Rattle.scp_types.specs.declared.fault.Fault.{Fault}
@@ -39,7 +39,7 @@ side_word (inr (inr (inr (inr (inr (inl v)))))) d = refl
 side_word (inr (inr (inr (inr (inr (inr (inl v))))))) d = refl
 side_word (inr (inr (inr (inr (inr (inr (inr v))))))) d = elim v [ ]
 
--- the first word of bytes that spell a message
+-- the first word of bytes that encode a message
 word_of : (bytes : List ℕ) (v : Values message_kind) → reading_whole message_kind bytes ≡ Ok v → has_side_word (read_uint32 (start bytes)) ≡ is_side (Some (message_of v))
 unfolding reading_whole
 word_of bytes v e =
@@ -58,7 +58,7 @@ other_word bytes within word = at (reading_whole message_kind bytes) refl
     at (Ok v) e = rw (reading_within bytes (Ok v) within e) (sym word ∙ word_of bytes v e)
     at (Err f) e = rw (reading_within bytes (Err f) within e) refl
 
--- bytes of such a first word are one where they spell a message
+-- bytes with such a first word are one if they encode a message
 pub side_where_spelt : {X : Type 0} (bytes : List ℕ) (r : Result X Fault) → length bytes ≤ 65536 → has_side_word (read_uint32 (start bytes)) ≡ true → PassesWhole r (reading_whole message_kind bytes) → is_ok r ≡ is_side (reading_of bytes)
 side_where_spelt bytes (Ok x) within word passed = rw (reading_within bytes (Ok passed.0) within passed.1) (sym word ∙ word_of bytes passed.0 passed.1)
 side_where_spelt bytes (Err f) within word passed = rw (reading_within bytes (Err f) within passed) refl

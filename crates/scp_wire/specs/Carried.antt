@@ -3,8 +3,8 @@ use Rattle.std.specs.Prelude.{Bool, true, false, Option, Some, None}
 use Rattle.scp_wire.specs.declared.message.Message.{Message}
 use Rattle.scp_wire.specs.declared.message.Message.TheVariants.{Envelope, GetSet, Set, NoSet, GetRecord, Record, Records}
 
--- envelopes, requests for a record and records are; what asks for a quorum set or answers is a side message; a batch is read
--- as its records, which are
+-- An envelope, a request for a record and a record are carried. A side message, which asks for a quorum set or answers,
+-- isn't; nor is a batch, since it is read as its records, which are.
 abbrev pub is_carried : Message → Bool
 is_carried (Envelope envelope) = true
 is_carried (GetSet hash) = false

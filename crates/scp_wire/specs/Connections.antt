@@ -4,6 +4,6 @@ use Rattle.scp_types.specs.declared.names.ConnId.{ConnId}
 use Rattle.scp_types.specs.declared.names.NodeId.{NodeId}
 pub use Rattle.scp_types.specs.Same.{same_node, same_conn}
 
--- the life of this number of the link from the peer
+-- the life with this number of the link from the peer
 abbrev pub conn_at : NodeId → NodeId → ℕ → ConnId
 conn_at peer me life = record { from = peer; to = me; life = life }

@@ -1,4 +1,4 @@
--- Which messages fit a link, and which do so for certain (this project's profile).
+-- Which messages fit a link, and which surely do (this project's profile).
 use Rattle.std.specs.Prelude.{ℕ, ◌≤◌, List, length}
 use Rattle.scp_types.specs.declared.limits.TheConstants.{VALUE_LIMIT}
 use Rattle.scp_types.specs.declared.names.Hash.{Hash}
@@ -13,11 +13,11 @@ use Rattle.scp_wire.specs.declared.message.Message.{Message}
 use Rattle.scp_wire.specs.declared.message.Message.TheVariants.{Envelope, GetSet, Set, NoSet, GetRecord, Record}
 use Rattle.scp_wire.specs.Message.{message_value, SpellsMessage, BreaksALimit}
 
--- no limit of a link message is broken
+-- the message breaks no limit of a link message
 abbrev pub IsFitting : Message → Type 0
 IsFitting message = ¬ (BreaksALimit message)
 
--- what has a hash or a slot alone fits
+-- a message with only a hash or a slot fits
 abbrev pub NamesFit : Type 0
 NamesFit = (hash : Hash) (slot : Slot) → IsFitting (GetSet hash) × IsFitting (NoSet hash) × IsFitting (GetRecord slot)
 
@@ -29,11 +29,11 @@ SaneSetsFit = (set : QuorumTree) → IsSane set → IsFitting (Set set)
 abbrev pub ShortRecordsFit : Type 0
 ShortRecordsFit = (slot : Slot) (value : List ℕ) → length value ≤ VALUE_LIMIT → IsFitting (Record slot value)
 
--- an envelope with such lists fits where it keeps the limits of its kind: values of at most 4,096 bytes, and a signature of at
+-- an envelope with short lists fits if it keeps the limits of its kind: values of at most 4,096 bytes, and a signature of at
 -- most 64
 abbrev pub ShortEnvelopesFit : Type 0
 ShortEnvelopesFit = (e : Boxed) → Fits envelope_kind (envelope_value e.value) → HasShortLists e.value.statement.pledges → IsFitting (Envelope e)
 
--- what came over a link fits
+-- a message that bytes encode fits
 abbrev pub WhatIsSpeltFits : Type 0
 WhatIsSpeltFits = (bytes : List ℕ) (message : Message) → SpellsMessage bytes (message_value message) → IsFitting message

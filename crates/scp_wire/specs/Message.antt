@@ -1,4 +1,4 @@
--- Link messages as values of a kind, and the limit on all of their bytes (this project's profile).
+-- Link messages as values of a kind, and the limit for all of their bytes (this project's profile).
 use Rattle.std.specs.Prelude.{◌≡◌, ℕ, ◌^◌, ◌<◌, ◌≤◌, ◌⊎◌, List, length, Result, Err, nat_lt, if◌then◌else◌}
 use Rattle.std.proofs.Common.{inl, inr}
 use Rattle.scp_types.specs.declared.limits.TheConstants.{VALUE_LIMIT}
@@ -17,7 +17,7 @@ use Rattle.scp_wire.specs.declared.message.Message.TheVariants.{Envelope, GetSet
 abbrev pub message_kind : Kind
 message_kind = union (arm 1 envelope_kind (arm 2 hash_kind (arm 3 set_kind (arm 4 hash_kind (arm 5 uint64 (arm 6 (both uint64 value_kind) (arm 7 (numbered 32 value_kind) no_arm)))))))
 
--- what stands for a message as a value of its kind: the arm of its sort
+-- a message as a value of its kind, in the arm of its sort
 abbrev pub message_value : Message → Values message_kind
 message_value (Envelope envelope) = inl (envelope_value envelope.value)
 message_value (GetSet hash) = inr (inl hash.0)
@@ -27,7 +27,7 @@ message_value (GetRecord slot) = inr (inr (inr (inr (inl slot.0))))
 message_value (Record slot value) = inr (inr (inr (inr (inr (inl (slot.0, value))))))
 message_value (Records first values) = inr (inr (inr (inr (inr (inr (inl (first.0, values)))))))
 
--- back from the values of the kind
+-- back from a value of the kind to its message
 abbrev pub message_of : Values message_kind → Message
 message_of (inl envelope) = Envelope (record { value = envelope_of envelope })
 message_of (inr (inl hash)) = GetSet (record { 0 = hash })
@@ -38,12 +38,12 @@ message_of (inr (inr (inr (inr (inr (inl v)))))) = Record (record { 0 = v.0 }) v
 message_of (inr (inr (inr (inr (inr (inr (inl v))))))) = Records (record { 0 = v.0 }) v.1
 message_of (inr (inr (inr (inr (inr (inr (inr v))))))) = elim v [ ]
 
--- the bytes are those of the message
+-- the bytes encode the message, and are within the limit
 pub record SpellsMessage (bytes : List ℕ) (v : Values message_kind) : Type 0 where
   pub within : length bytes ≤ 65536
   pub spells : Spells message_kind bytes v
 
--- the message keeps each of its limits, and that on all of its bytes
+-- the message keeps each of its limits, and the limit for all of its bytes
 pub record FitsMessage (v : Values message_kind) : Type 0 where
   pub fits : Fits message_kind v
   pub within : length (spelling message_kind v) ≤ 65536
@@ -58,8 +58,8 @@ HasRanges (GetRecord slot) = slot.0 < 2 ^ 64
 HasRanges (Record slot value) = slot.0 < 2 ^ 64
 HasRanges (Records first values) = first.0 < 2 ^ 64
 
--- the value of a record is over its limit, or the envelope, the quorum set or the batch over one of its own, or longer than a
--- message lets it be
+-- the value of a record is over its limit; or the envelope, the quorum set or the batch breaks one of its own, or is longer
+-- than a message allows
 abbrev pub BreaksALimit : Message → Type 0
 BreaksALimit (Envelope envelope) = (¬ (Fits envelope_kind (envelope_value envelope.value))) ⊎ (65532 < length (spelling envelope_kind (envelope_value envelope.value)))
 BreaksALimit (GetSet hash) = ⊥
@@ -69,6 +69,6 @@ BreaksALimit (GetRecord slot) = ⊥
 BreaksALimit (Record slot value) = VALUE_LIMIT < length value
 BreaksALimit (Records first values) = (¬ (Fits (numbered 32 value_kind) (first.0, values))) ⊎ (65532 < length (spelling (numbered 32 value_kind) (first.0, values)))
 
--- the limit is tested before anything is read
+-- the reading of bytes, whose length is tested before anything is read
 abbrev pub message_reading : List ℕ → Result (Values message_kind) Fault
 message_reading bytes = if nat_lt 65536 (length bytes) then Err TooLong else reading_whole message_kind bytes

@@ -1,4 +1,4 @@
--- The message that bytes spell.
+-- The message that bytes encode.
 use Rattle.std.specs.Prelude.{◌≡◌, ℕ, ◌<◌, ◌↔◌, List, Option, Some, None, Result, Ok, Err, slice_index}
 use Rattle.scp_types.specs.declared.fault.Fault.{Fault}
 use Rattle.scp_xdr.specs.Kind.{Values}
@@ -10,7 +10,7 @@ abbrev pub message_in : Result (Values message_kind) Fault → Option Message
 message_in (Ok v) = Some (message_of v)
 message_in (Err f) = None
 
--- the message that the bytes spell, or none where they have no reading
+-- the message that the bytes encode, or none if they have no reading
 unfoldable pub reading_of : List ℕ → Option Message
 reading_of bytes = message_in (message_reading bytes)
 
@@ -18,10 +18,10 @@ reading_of bytes = message_in (message_reading bytes)
 abbrev pub AreBytes : List ℕ → Type 0
 AreBytes bytes = (i : ℕ) → slice_index bytes i < 256
 
--- what is spelt so has that reading, whatever stands in its bytes
+-- bytes that encode a message have it as their reading, whatever numbers they are
 abbrev pub SpellingIsRead : Type 0
 SpellingIsRead = (bytes : List ℕ) (m : Message) → SpellsMessage bytes (message_value m) → reading_of bytes ≡ Some m
 
--- what has a reading is spelt so, and what is spelt so has that reading
+-- bytes have a message as their reading exactly where they encode it
 abbrev pub ReadingIsSpelt : Type 0
 ReadingIsSpelt = (bytes : List ℕ) (m : Message) → AreBytes bytes → (reading_of bytes ≡ Some m) ↔ SpellsMessage bytes (message_value m)

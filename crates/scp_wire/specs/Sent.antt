@@ -15,28 +15,28 @@ use Rattle.scp_wire.specs.LinkReading.{singles, numbered, next_of}
 use Rattle.scp_wire.specs.Connections.{same_conn}
 use Rattle.scp_wire.specs.Marks.{Mark, number, ended, one_if}
 
--- the bytes that an item brings on the connection, and whether it closes it
+-- the bytes that an item brings on the connection
 abbrev pub sent_by : ConnId → LinkItem → List (List ℕ)
 sent_by c (Opened conn) = []
 sent_by c (Bytes conn bytes) = one_if (same_conn conn c) bytes
 sent_by c (Closed conn) = []
 
--- the item closes the connection
+-- whether the item closes the connection
 abbrev pub closed_by : ConnId → LinkItem → Bool
 closed_by c (Opened conn) = false
 closed_by c (Bytes conn bytes) = false
 closed_by c (Closed conn) = same_conn conn c
 
--- the bytes that were sent on the connection, in order, and whether it was closed
+-- the bytes that were sent on the connection, in order
 abbrev pub sent : ConnId → List LinkItem → List (List ℕ)
 sent c items = flat_map (sent_by c) items
 
--- some item closes it
+-- whether some item closes the connection
 abbrev pub is_closed : ConnId → List LinkItem → Bool
 is_closed c [] = false
 is_closed c (x ∷ xs) = closed_by c x || is_closed c xs
 
--- the messages up to the first bytes that have no reading, a batch as its records, and whether there are none such
+-- a reading's messages, a batch as its records, before the rest; none if there is no reading
 abbrev pub readable_from : Option Message → List Message → List Message
 readable_from None rest = []
 readable_from (Some message) rest = singles message ++ rest
@@ -46,16 +46,16 @@ abbrev pub readable : List (List ℕ) → List Message
 readable [] = []
 readable (bytes ∷ rest) = readable_from (reading_of bytes) (readable rest)
 
--- all bytes have a reading
+-- whether all bytes have a reading
 abbrev pub all_readable : List (List ℕ) → Bool
 all_readable [] = true
 all_readable (bytes ∷ rest) = if is_some (reading_of bytes) then all_readable rest else false
 
--- the carried ones of the messages
+-- the carried messages among those
 abbrev pub all_carried : List (List ℕ) → List Message
 all_carried bytes = filter is_carried (readable bytes)
 
--- the carried ones among these, so many at most; and why the connection ends, if it does
+-- the first carried messages, up to the limit
 abbrev pub carried_of : ℕ → List (List ℕ) → List Message
 carried_of limit bytes = take limit (all_carried bytes)
 
@@ -68,13 +68,13 @@ abbrev pub numbers : ℕ → List Message → List Mark
 numbers n [] = []
 numbers n (m ∷ ms) = number n ∷ numbers (n + 1) ms
 
--- what is sent makes a line of its messages, numbered, and then its end
+-- the line of what was sent: the numbers of its messages, and then its end
 abbrev pub line_of_sent : ℕ → ℕ → List (List ℕ) → Bool → List Mark
 line_of_sent n limit bytes closed = numbers n (carried_of limit bytes) ++ map ended (option_to_list (end_of limit bytes closed))
 
--- ---- all that is to be read of a connection, side messages and its opening too
+-- ---- all that is to be read of a connection, with side messages and its opening
 
--- that it was opened
+-- what is read of an item that opens the connection
 abbrev pub opened_by : ConnId → LinkItem → List Inbound
 opened_by c (Opened conn) = one_if (same_conn conn c) (inbound.Opened c)
 opened_by c (Bytes conn bytes) = []
@@ -84,7 +84,7 @@ opened_by c (Closed conn) = []
 abbrev pub opened : ConnId → List LinkItem → List Inbound
 opened c items = flat_map (opened_by c) items
 
--- of these messages all before the first that would be one carried message too many
+-- these messages, up to the first that would be one carried message too many
 abbrev pub up_to : ℕ → List Message → List Message
 up_to limit [] = []
 up_to limit (m ∷ ms) = if is_carried m then (if nat_eq limit 0 then [] else m ∷ up_to (limit - 1) ms) else m ∷ up_to limit ms
@@ -94,6 +94,6 @@ abbrev pub in_turn : ConnId → ℕ → List Message → List Inbound
 in_turn c n [] = []
 in_turn c n (m ∷ ms) = numbered c n m ∷ in_turn c (next_of n m) ms
 
--- that it was opened, its messages in the order sent, and then its end
+-- all that is to be read of a connection: that it was opened, its messages in the order sent, and then its end
 abbrev pub read_of_sent : ConnId → List LinkItem → List Inbound
 read_of_sent c items = opened c items ++ (in_turn c 0 (up_to CARRIED_LIMIT (readable (sent c items))) ++ map (inbound.Closed c) (option_to_list (end_of CARRIED_LIMIT (sent c items) (is_closed c items))))

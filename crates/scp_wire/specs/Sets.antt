@@ -1,4 +1,4 @@
--- Quorum sets beside messages.
+-- Quorum sets that come with messages.
 use Rattle.std.specs.Prelude.{◌≡◌, Option, None, IsSomeAnd}
 use Rattle.scp_quorum.specs.QuorumTree.{QuorumTree}
 use Rattle.scp_quorum.specs.QuorumKind.{set_hash}
@@ -7,7 +7,7 @@ use Rattle.scp_envelope.specs.Kinds.{set_hash_of}
 use Rattle.scp_wire.specs.declared.message.Message.{Message}
 use Rattle.scp_wire.specs.declared.message.Message.TheVariants.{Envelope, GetSet, Set, NoSet, GetRecord, Record, Records}
 
--- beside an envelope stands a sane set that has the hash that it names, beside another message none
+-- with an envelope comes a sane set with the hash that it names; with any other message comes none
 abbrev pub IsSetOf : Message → Option QuorumTree → Type 0
 IsSetOf (Envelope envelope) set = IsSomeAnd set (λ q. IsSane q × ((set_hash_of envelope.value.statement.pledges).0 ≡ set_hash q))
 IsSetOf (GetSet hash) set = set ≡ None

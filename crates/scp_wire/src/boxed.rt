@@ -7,8 +7,8 @@ use std::alloc::Global;
 use std::marker::Model;
 use std::ops::Deref;
 
-/// An envelope in a box of its own, since it is much larger than what the other messages hold, and shared by all that hold
-/// it. Contracts see the envelope, and not where it lies, so that two boxes of equal envelopes are equal.
+/// An envelope in a box of its own, since it is much larger than what the other messages hold; all that hold it share it.
+/// Contracts see the envelope, and not where it is, so two boxes of equal envelopes are equal.
 #[derive(Debug, Drop)]
 pub struct BoxedEnvelope(SharedEnvelope);
 
@@ -44,7 +44,7 @@ impl BoxedEnvelope {
         self.0.get()
     }
 
-    /// The box of an envelope that is shared already. Moves it and takes no memory.
+    /// The box of an envelope that is shared already. Moves it, and takes no memory.
     pub fn from_shared(envelope: SharedEnvelope) -> BoxedEnvelope
         ensures same { result.value ≡ envelope }
     {

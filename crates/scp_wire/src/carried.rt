@@ -1,4 +1,4 @@
-//! A message with its connection and its number there.
+//! A message with its connection, and its number there.
 ghost use Rattle.scp_wire.specs.inside.Carried.{IsCarried, IsCarried-prop};
 
 use crate::fitting::FittingMessage;

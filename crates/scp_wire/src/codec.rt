@@ -1,6 +1,6 @@
-//! The spelling of link messages (RFC 4506; this project's profile).
+//! The encoding of link messages (RFC 4506; this project's profile).
 //!
-//! A `let _number = ..` that nothing uses tells the prover the range of that number.
+//! A `let _number = ..` that nothing uses shows the prover the range of that number.
 ghost use Rattle.std.specs.Prelude.{◌≡◌, ◌≢◌, ◌<◌, ◌^◌, length, IfOk, IfErr, IsErrOf, ◌↔◌, ◌⊎◌, Ok, Err, Some, None};
 ghost use Rattle.scp_xdr.specs.Kind.{Values};
 ghost use Rattle.scp_xdr.specs.Reading.{start, read_uint32};
@@ -22,7 +22,7 @@ use scp_xdr::{
 };
 use std::alloc::Global;
 
-/// The discriminants of the kinds.
+/// The discriminants of the kinds of messages.
 const ENVELOPE: u32 = 1;
 
 const GET_SET: u32 = 2;
@@ -166,18 +166,18 @@ impl Xdr for Message {
     }
 }
 
-/// The message that the bytes spell, all of the bytes: each kind of message has one spelling (RFC 4506).
+/// The message that all of the bytes encode: each message has one encoding (RFC 4506).
 ///
-/// Over 65,536 bytes are `TooLong` before anything of them is read. From then on the first fault from left to right
-/// is answered, `Malformed` with its place, or `TooLong` for a length or a count over its limit and for a quorum set of
-/// five inner levels; a batch of no record is malformed at its count, and one that passes the last slot at its first slot; at last `NoMemory` where there is none for the envelope, the quorum set or the value. It takes time
-/// in proportion to the bytes, and copies each value's bytes once.
+/// Over 65,536 bytes are `TooLong` before any of them is read. Else the first fault from left to right is answered: `Malformed` with its
+/// place, or `TooLong` for a length or a count over its limit and for a fifth level of inner quorum sets. A batch without records is
+/// malformed at its count, one past the last slot at its first slot. `NoMemory` comes last, if there is none for the envelope, the quorum
+/// set or the values. Takes time in proportion to the bytes, and copies each value's bytes once.
 pub fn decode(alloc: Global, bytes: &[u8]) -> Result<Message, Fault>
-    // What is read is spelt by just these bytes.
+    // What is read is encoded by exactly these bytes.
     ensures found { IfOk result (λ m. SpellsMessage bytes.now (message_value m)) }
     // What is read breaks no limit.
     ensures fits { IfOk result IsFitting }
-    // What is spelt is read, unless memory runs out.
+    // What is encoded is read, unless memory runs out.
     ensures only { (v : Values message_kind) → SpellsMessage bytes.now v → Gives message_value result (Ok v) }
     // Which fault is the first, and its place.
     ensures exact { Gives message_value result (message_reading bytes.now) }
@@ -187,7 +187,7 @@ pub fn decode(alloc: Global, bytes: &[u8]) -> Result<Message, Fault>
     ensures none { IfErr result (λ f. f ≢ Fault.NoMemory → reading_of bytes.now ≡ None) }
     // They are malformed or too long.
     ensures faults { IfErr result (λ f. f ≢ Fault.NoMemory → IsReadingFault f) }
-    // Memory is asked for last: it is short only where the bytes spell a message.
+    // Memory is asked for last: it runs out only if the bytes encode a message.
     ensures memory_last { IsErrOf result Fault.NoMemory → (v : Values message_kind) × SpellsMessage bytes.now v }
 {
     if bytes.len() > MESSAGE_LIMIT {
@@ -196,14 +196,14 @@ pub fn decode(alloc: Global, bytes: &[u8]) -> Result<Message, Fault>
     scp_xdr::decode(alloc, bytes)
 }
 
-/// The one spelling of the message (RFC 4506). `TooLong` where a value of over 4,096 bytes, an envelope or a quorum set
-/// over its limits, a batch of no record, of over 32 or past the last slot, or over 65,536 bytes in all, would be written.
+/// The one encoding of the message (RFC 4506). `TooLong` exactly where it breaks a limit. These are 4,096 bytes a value, an
+/// envelope's and a quorum set's own, 1 to 32 records a batch, none past the last slot, and 65,536 bytes in all.
 pub fn encode(alloc: Global, message: &Message) -> Result<Vec<u8>, Fault>
-    // What is written spells the message.
+    // What is written encodes the message.
     ensures spells { IfOk result (λ bytes. SpellsMessage bytes.items (message_value message.now)) }
-    // It is too long just where it breaks a limit.
+    // It is too long exactly where it breaks a limit.
     ensures too_long { IsErrOf result Fault.TooLong ↔ ¬ (FitsMessage (message_value message.now)) }
-    // That is where its value is over 4,096 bytes, or its envelope, quorum set or batch over one of its limits or 65,532 bytes.
+    // That is where its value has over 4,096 bytes, or its envelope, quorum set or batch breaks one of its limits or has over 65,532 bytes.
     ensures limits { IsErrOf result Fault.TooLong ↔ BreaksALimit message.now }
     // There are two reasons to refuse.
     ensures only { IfErr result (λ f. (f ≡ Fault.NoMemory) ⊎ (f ≡ Fault.TooLong)) }
@@ -212,7 +212,7 @@ pub fn encode(alloc: Global, message: &Message) -> Result<Vec<u8>, Fault>
     scp_xdr::encode_within(alloc, MESSAGE_LIMIT, message)
 }
 
-/// That the message's numbers are in the range of their types. Does nothing.
+/// The message's numbers are in the range of their types. Does nothing.
 fn see_ranges(message: &Message)
     ensures { HasRanges message.now }
 {
@@ -232,8 +232,8 @@ fn see_slot(slot: Slot)
     ensures { slot.0 < 2 ^ 64 }
 {}
 
-/// Whether the bytes spell a message that isn't carried, all of the bytes. Takes no memory, and looks only at the first
-/// word of bytes that are of another kind.
+/// Whether all of the bytes encode one message that isn't carried. Takes no memory, and looks only at the first word if
+/// the bytes are of another kind.
 pub fn is_side_message(bytes: &[u8]) -> bool
     ensures { result ≡ is_side (reading_of bytes.now) }
 {
@@ -254,12 +254,12 @@ fn is_of_side_kind(bytes: &[u8]) -> bool
     matches!(reader.u32(), Ok(GET_SET | SET | NO_SET))
 }
 
-/// Bytes that spell a message are read as it.
+/// Bytes that encode a message are read as that message.
 pub fn what_is_spelt_is_read()
     ensures { SpellingIsRead }
 {}
 
-/// The reading of bytes is a message just where they spell it.
+/// The reading of bytes is a message exactly where they encode it.
 pub fn reading_of_is_what_is_spelt()
     ensures { ReadingIsSpelt }
 {}

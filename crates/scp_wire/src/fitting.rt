@@ -39,11 +39,11 @@ impl Model for FittingMessage {
 }
 
 impl FittingMessage {
-    /// The message, where it fits: a record's value has at most 4,096 bytes, and an envelope, a quorum set or a batch keeps its
-    /// own limits and has at most 65,532 bytes. Else the message is handed back. Takes no memory, and time in proportion to
-    /// the message.
+    /// The message, if it fits: a record's value has at most 4,096 bytes, and an envelope, a quorum set or a batch keeps its
+    /// own limits and has at most 65,532 bytes. Else the message is handed back. Takes no memory, and time in proportion to the
+    /// message.
     pub fn new(message: Message) -> Result<FittingMessage, Message>
-        // It is made just where the message fits.
+        // It is made exactly where the message fits.
         ensures exact { IsOk result ↔ IsFitting message }
         // It is this message.
         ensures same { IfOk result (λ made. made ≡ message) }
@@ -57,7 +57,7 @@ impl FittingMessage {
         }
     }
 
-    /// The message, for who knows that it fits: nothing is tested.
+    /// The message, for a caller that knows that it fits: nothing is tested.
     pub fn of(message: Message) -> FittingMessage
         requires fits { IsFitting message }
         ensures same { result ≡ message }
@@ -112,7 +112,7 @@ fn is_batch(first: u64, values: &[Value]) -> bool
     numbered_fits(BATCH_LIMIT, first, values) && spend_batch(first, values, PART_LIMIT).is_some()
 }
 
-/// Takes the length of the batch's spelling off the room.
+/// Takes the length of the batch's encoding off the room.
 fn spend_batch(first: u64, values: &[Value], room: usize) -> Option<usize>
     ensures { Leaves room result (spelled_len (numbered BATCH_LIMIT value_kind) (first, values.now)) }
 {

@@ -1,14 +1,14 @@
 //! Link messages, as bytes and back, and what travels over a link.
 //!
 //! What it promises:
-//! - `decode` gives the message that the bytes spell, all of the bytes, or the first fault with its place.
-//! - `encode` gives the one spelling of a message.
+//! - `decode` gives the message that all of the bytes encode, or the first fault with its place.
+//! - `encode` gives the one encoding of a message.
 //! - Both refuse a message of over 65,536 bytes.
-//! - `is_side_message` tells of bytes, without memory, whether they spell a message about quorum sets: one that
-//!   asks for a set, or answers.
+//! - `is_side_message` says, without memory, whether bytes encode a message about quorum sets: one that asks
+//!   for a set, or answers.
 //! - A `FittingMessage` is a message that breaks no limit. What is read breaks none, and its type keeps that.
 //! - A `Carried` message is one that is numbered on its connection: an envelope, a request for a record, or a record.
-//! - A `LinkReader` reads the items of one link: carried messages are numbered 0, 1, 2, .. on each connection, a batch of
+//! - A `LinkReader` reads the items of one link. Carried messages are numbered 0, 1, 2, .. on each connection, a batch of
 //!   records is read as its records, and each connection ends once, with its cause. What is read of a connection is what
 //!   was sent on it, each message in its place, up to its end.
 #![tactic(auto)]

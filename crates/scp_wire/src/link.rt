@@ -5,7 +5,7 @@ use crate::side::SideMessage;
 use scp_types::{ConnId, Fault, Slot, Value};
 use std::marker::Model;
 
-/// Bytes as they came over a link; nothing is known of them.
+/// Bytes as they came over a link; nothing is known about them.
 #[derive(Debug, Drop)]
 pub struct Bytes(Vec<u8>);
 
@@ -20,7 +20,7 @@ impl Model for Bytes {
 impl Bytes {
     ghost use Rattle.std.specs.Prelude.{◌≡◌, IfOk, IsOkUnless};
 
-    /// These bytes. Moves them and takes no memory.
+    /// These bytes. Moves them, and takes no memory.
     pub fn new(bytes: Vec<u8>) -> Bytes
         ensures { result ≡ bytes.items }
     {
@@ -34,7 +34,7 @@ impl Bytes {
         self.0.as_slice()
     }
 
-    /// Equal bytes, in the same allocator. The one refusal is `Fault::NoMemory`.
+    /// Equal bytes, in the same allocator. The only refusal is `Fault::NoMemory`.
     pub fn copy(&self) -> Result<Bytes, Fault>
         ensures same { IfOk result (λ copied. copied ≡ self.now) }
         ensures only_memory { IsOkUnless result Fault.NoMemory }
@@ -44,7 +44,7 @@ impl Bytes {
     }
 }
 
-/// What travels over a link, in order: each life of the link is a connection of its own.
+/// What travels over a link, in order. Each life of the link is a connection of its own.
 #[derive(Debug, Drop)]
 pub enum LinkItem {
     /// The connection begins.
@@ -64,14 +64,14 @@ pub enum Cause {
     Link,
     /// A message came after 1,000,000 carried ones.
     Spent,
-    /// 65 messages of it would have waited for quorum sets. The receiver ends a connection so, and no reader does.
+    /// 65 of its messages would have waited for quorum sets. Only the receiving node ends a connection with this cause; a reader never does.
     ParkedFull,
 }
 
-/// What a node is told by itself, and not over a link.
+/// What a node's host tells it to do; it doesn't come over a link.
 #[derive(Debug, Drop)]
 pub enum Command {
-    /// Time went on: one miss of each quorum set that is wanted.
+    /// Time went on: each wanted quorum set was missed once more.
     Tick,
     /// A value for the nomination of the slot.
     Propose(Slot, Value),
@@ -79,14 +79,14 @@ pub enum Command {
     Round(Slot),
     /// The slot's ballot timer ran out.
     Timer(Slot),
-    /// The slot's record is to be asked of the link of this number.
+    /// The slot's record is to be requested over the link with this number.
     Ask(u8, Slot),
 }
 
 impl Command {
     ghost use Rattle.std.specs.Prelude.{◌≡◌, IfOk, IsOkUnless};
 
-    /// Another command that equals this one. It copies a proposal's bytes; the one refusal is `Fault::NoMemory`.
+    /// Another command that equals this one. Copies a proposal's bytes. The only refusal is `Fault::NoMemory`.
     pub fn copy(&self) -> Result<Command, Fault>
         ensures same { IfOk result (λ copied. copied ≡ self.now) }
         ensures only_memory { IsOkUnless result Fault.NoMemory }
@@ -101,14 +101,14 @@ impl Command {
     }
 }
 
-/// What reaches a node's inbox: what a reader makes of the items of a link, and local commands.
+/// What reaches a node's inbox: what a reader makes of a link's items, and local commands.
 #[derive(Debug, Drop)]
 pub enum Inbound {
     /// The connection begins.
     Opened(ConnId),
     /// A message that is numbered on its connection.
     Carried(Carried),
-    /// A message that asks for a quorum set, or answers that; it has no number.
+    /// A message that asks for a quorum set, or answers such a message; it has no number.
     Side { conn: ConnId, message: SideMessage },
     /// The connection ended.
     Closed { conn: ConnId, cause: Cause },

@@ -15,11 +15,11 @@ pub const MESSAGE_LIMIT: usize = 65_536;
 pub enum Message {
     /// Kind 1: a statement of a node.
     Envelope(BoxedEnvelope),
-    /// Kind 2: asks for the quorum set that this hash names.
+    /// Kind 2: asks for the quorum set with this hash.
     GetSet(Hash),
     /// Kind 3: a quorum set, as an answer.
     Set(QuorumSet),
-    /// Kind 4: the answer of a node that has no quorum set of this hash.
+    /// Kind 4: the answer of a node that has no quorum set with this hash.
     NoSet(Hash),
     /// Kind 5: asks for the value that was decided for a slot.
     GetRecord(Slot),
@@ -30,11 +30,11 @@ pub enum Message {
 }
 
 impl Message {
-    /// Another message that equals this one. It copies the value's bytes, the quorum set or the envelope.
+    /// Another message that equals this one. Shares an envelope; copies a quorum set, and the bytes of values.
     pub fn copy(&self) -> Result<Message, Fault>
         // The copy is the original.
         ensures same { IfOk result (λ m. m ≡ self.now) }
-        // Only want of memory is a reason to refuse.
+        // The only refusal is `NoMemory`.
         ensures only_memory { IsOkUnless result Fault.NoMemory }
     {
         match self {
@@ -51,8 +51,8 @@ impl Message {
         }
     }
 
-    /// Whether the message is numbered on its connection. What asks for a quorum set and what answers that is a side
-    /// message, and isn't; nor is a batch, since its records are.
+    /// Whether the message is numbered on its connection. A side message isn't: one that asks for a quorum set, or
+    /// answers that. Nor is a batch, since its records are.
     pub fn is_carried(&self) -> bool
         ensures { result ≡ is_carried self.now }
     {

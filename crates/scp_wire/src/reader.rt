@@ -19,7 +19,7 @@ use std::alloc::Global;
 use std::collections::VecDeque;
 use std::marker::Model;
 
-/// Where a reader stands on its link.
+/// Where a reader is on its link.
 #[derive(Debug, Drop)]
 struct Place {
     ended: bool,
@@ -41,7 +41,7 @@ impl Model for Place {
 }
 
 /// Reads the items of one link in turn. Contracts see whether its connection is over, the next number, and what was read of a
-/// batch and is still to be given.
+/// batch and has still to be given.
 #[derive(Debug, Drop)]
 pub struct LinkReader {
     at: Place,
@@ -62,7 +62,7 @@ impl Model for LinkReader {
 }
 
 impl LinkReader {
-    /// A reader of a link that was never open. Takes no memory.
+    /// A reader for a link that was never open. Takes no memory.
     pub fn new(alloc: Global) -> LinkReader
         ensures unread { result ≡ record { at = unread; rest = [] } }
         ensures nothing { HasRead [] [] result }
@@ -76,19 +76,19 @@ impl LinkReader {
         }
     }
 
-    /// Reads the link's next item, where nothing is left of a batch. `None` where it is discarded, since its connection ended
+    /// Reads the link's next item, if nothing is left of a batch. `None` if the item is discarded, since its connection ended
     /// before. Of a batch it gives the first record, and `rest` gives the others.
     pub fn take(&mut self, alloc: Global, item: LinkItem) -> Result<Option<Inbound>, Fault>
         requires no_rest { self.old.rest ≡ [] }
-        // What is given is the first that the item is read as.
+        // What is given is the first thing that the item is read as.
         ensures reading { IfOk result (λ got. got ≡ first_of (reading self.old.at item)) }
         // The reader has gone past it, and keeps the others.
         ensures after { OnOk result (self.new ≡ taken_by self.old item) }
-        // What was read of a list of items is what is read of the list with this item.
+        // What was read of a list of items becomes what is read of the list with this item.
         ensures reads { (items : List LinkItem) → (given : List Inbound) → HasRead items given self.old → IfOk result (λ got. HasRead (items ++ item ∷ []) (given ++ option_to_list got) self.new) }
         // A refusal leaves the reader as it was.
         ensures unchanged { OnErr result (self.new ≡ self.old) }
-        // Only want of memory is a reason to refuse.
+        // The only refusal is `NoMemory`.
         ensures only_memory { IsOkUnless result Fault.NoMemory }
     {
         self.read(alloc, item)
@@ -102,7 +102,7 @@ impl LinkReader {
         !self.rest.is_empty()
     }
 
-    /// The next of what is left of a batch. Takes no memory.
+    /// The next record of what is left of a batch. Takes no memory.
     pub fn rest(&mut self) -> Option<Inbound>
         ensures gives { self.old.rest ≡ option_to_list result ++ self.new.rest }
         ensures none { result ≡ None ↔ self.old.rest ≡ [] }
@@ -147,7 +147,7 @@ impl LinkReader {
         }
     }
 
-    /// What a message brings.
+    /// What a message brings: the first thing is returned, the others are kept.
     #[tactic(auto, using(crate::proofs::Shapes::carried_alone))]
     fn bring(
         &mut self,
@@ -181,7 +181,7 @@ impl LinkReader {
 }
 
 impl Place {
-    /// The records of a batch, each under its number, up to the one that is too many.
+    /// The records of a batch, each with its number, up to the first that is one carried message too many.
     fn number_all(
         &mut self,
         alloc: Global,

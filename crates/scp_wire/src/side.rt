@@ -3,13 +3,13 @@
 use scp_quorum::QuorumSet;
 use scp_types::Hash;
 
-/// A message that asks for a quorum set, or answers that: of the kinds of link messages those that have no number.
+/// A message that asks for a quorum set, or answers that. These are the kinds of link messages that have no number.
 #[derive(Debug, Drop)]
 pub enum SideMessage {
-    /// Asks for the quorum set that this hash names.
+    /// Asks for the quorum set with this hash.
     GetSet(Hash),
     /// A quorum set, as an answer.
     Set(QuorumSet),
-    /// The answer of a node that has no quorum set of this hash.
+    /// The answer of a node that has no quorum set with this hash.
     NoSet(Hash),
 }

@@ -1,4 +1,4 @@
--- The words of what became of a message or a command, of why a connection ended, of numbers and of bytes (this project's profile).
+-- The words for what became of a message or a command, why a connection ended, numbers, and bytes (this project's profile).
 use Rattle.std.specs.Prelude.{ℕ, List, [], ◌∷◌, ◌++◌, codes, flat_map}
 use Rattle.std.specs.Fmt.{decimal}
 use Rattle.hex.specs.Hex.{encode_lower}
@@ -61,7 +61,7 @@ fate_word fate.BallotMoved = codes "ballot-moved"
 fate_word fate.AskedBefore = codes "asked-before"
 fate_word fate.Asked = codes "asked"
 
--- a number behind a comma
+-- a number after a comma
 abbrev pub behind_comma : ℕ → List ℕ
 behind_comma number = codes "," ++ decimal number
 

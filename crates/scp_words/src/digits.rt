@@ -1,10 +1,10 @@
-//! Bytes in digits.
+//! Bytes as digits.
 ghost use Rattle.std.specs.Prelude.{◌≡◌, ◌++◌, OnOk, string_bytes};
 ghost use Rattle.scp_words.specs.Words.{hex_word};
 
 use std::alloc::AllocError;
 
-/// Adds bytes in digits, or a dash for none.
+/// Adds bytes as hexadecimal digits, or a dash for none.
 pub fn write_hex(text: &mut String, bytes: &[u8]) -> Result<(), AllocError>
     ensures { OnOk result (string_bytes text.new ≡ string_bytes text.old ++ hex_word bytes.now) }
 {

@@ -1,9 +1,9 @@
-//! The words of what became of a message or a command, of why a connection ended, of numbers and of bytes, as reports have them.
+//! The words that reports use: what became of a message or a command, why a connection ended, numbers, and bytes.
 //!
 //! What it promises:
-//! - each verdict, each cause of a dropped message, each cause of a connection's end and what became of a command has its one word;
-//! - numbers stand with commas between them;
-//! - bytes are written as two lower-case digits each, and none as a dash.
+//! - Each verdict, each cause of a dropped message, each cause of a connection's end and each fate of a command has one word.
+//! - Numbers have commas between them.
+//! - Bytes are written as two lower-case digits each, and no bytes as a dash.
 #![tactic(auto)]
 
 mod digits;

@@ -31,7 +31,7 @@ set_other (z ∷ zs) (suc l) (suc m) y ne = set_other zs l m y (λ e. ne (ap suc
 some_is : {X : Type 0} (a b : X) → Some a ≡ Some b → a ≡ b
 some_is a b e = cc
 
--- what stands at a place of one list has something at that place of another that is as long
+-- what is at a place of one list has something at that place of another list that is as long
 there : {X : Type 0} (xs ys : List X) (l : ℕ) (y : X) → length ys ≡ length xs → slice_get ys l ≡ Some y → (x : X) × (slice_get xs l ≡ Some x)
 there xs ys l y e at = let lt = slice_get_within ys l y at in (get_or xs l y, slice_get-get_or xs l y (omega (arith, lt, e)))
 

@@ -39,7 +39,7 @@ module _ {T U S : Type 0} (runs : S → List T → List U → List Outgoing → 
   may_take rests fits got n x item first stage old new outlets e is f h =
       (first, values got, h.out, subst (λ (o : Option (Sender U)). runs first (values got) (sent_by o) h.out stage) (sym e) h.all, fits_one fits got n x item is f)
 
-  -- what is taken, put and given comes behind what was
+  -- what is taken, put and given comes after what was
   pub takes_on : (x : T) (old between new : S) (gave more all : List U) (outs : List Outgoing) (before outlets : List PutterView)
       → ((first : S) → (took : List T) → (out : List Outgoing) → runs first took gave out old → runs first (took ++ x ∷ []) more (out ++ outs) between)
       → AreSameOutlets before outlets → PutsOut outs before outlets → GivesOn runs between more new all → TakesOn runs x old gave before new all outlets

@@ -1,4 +1,4 @@
--- The stage that applies.
+-- The applier as a worker's stage.
 use Rattle.std.specs.Prelude.{List}
 use Rattle.scp_ledger.specs.declared.took.Onward.{Onward}
 use Rattle.scp_ledger.specs.declared.took.Outgoing.{Outgoing}
@@ -16,7 +16,7 @@ ApplyWork = Work Onward Nothing ApplierView
 abbrev pub ApplyEnd : Type 0
 ApplyEnd = End Onward Nothing ApplierView
 
--- the applier took these, and handed its answers to them out; it gives nothing on
+-- the applier took these, and handed out its answers to them; it gives nothing on
 pub record AppliesFrom (first : ApplierView) (took : List Onward) (gave : List Nothing) (out : List Outgoing) (now : ApplierView) : Type 0 where
   pub applies : Applies took now
   pub answers : Answers first took out now

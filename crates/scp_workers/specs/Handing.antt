@@ -6,7 +6,7 @@ use Rattle.scp_ledger.specs.declared.took.Outgoing.TheVariants.{To}
 use Rattle.scp_workers.specs.declared.stage.Outs.{Outs}
 use Rattle.scp_workers.specs.declared.stage.Outs.TheVariants.{Nothing, Answer, All}
 
--- a lone message fits a link; what a list holds does by its type
+-- a lone message fits a link; the messages of a list do by its type
 abbrev pub FitsOuts : Outs → Type 0
 FitsOuts Nothing = Unit {0}
 FitsOuts (Answer link message) = IsFitting message

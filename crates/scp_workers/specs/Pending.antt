@@ -1,4 +1,4 @@
--- The stage where messages wait for their quorum sets.
+-- The pending stage, where messages wait for their quorum sets.
 use Rattle.std.specs.Prelude.{◌≡◌, List, []}
 use Rattle.scp_types.specs.declared.names.NodeId.{NodeId}
 use Rattle.scp_quorum.specs.QuorumTree.{QuorumTree}
@@ -18,8 +18,7 @@ PendWork = Work Inbound Ready PendingView
 abbrev pub PendEnd : Type 0
 PendEnd = End Inbound Ready PendingView
 
--- a stage of the node and the peers of the first one took these by its rules, gave these, and handed its replies to them out; and it has that one's
--- own quorum set
+-- A stage with the node, the peers and the own quorum set of the first one took these by its rules, gave these, and handed out its replies to them.
 pub record PendsFrom (first : PendingView) (took : List Inbound) (gave : List Ready) (out : List Outgoing) (now : PendingView) : Type 0 where
   pub pends : Pends first.settled.me first.settled.peers took gave now
   pub local_is : now.settled.store.local ≡ first.settled.store.local
@@ -29,11 +28,11 @@ pub record PendsFrom (first : PendingView) (took : List Inbound) (gave : List Re
 abbrev pub HasNothingReady : PendingView → Type 0
 HasNothingReady now = now.leaving ≡ []
 
--- each producer ended; what was sent is what the stage gives of what was received, and its replies were put into the outboxes; and nothing is ready
+-- each producer ended; what was sent is what the stage gives for what was received; its replies were put into the outboxes; nothing is ready
 abbrev pub HasPendedAll : PendEnd → Type 0
 HasPendedAll e = HasRun PendsFrom HasNothingReady e
 
--- the stage is that of this node
+-- the stage is this node's
 pub record IsFor (me : NodeId) (peers : List NodeId) (local : QuorumTree) (v : PendingView) : Type 0 where
   pub me_is : v.settled.me ≡ me
   pub peers_are : v.settled.peers ≡ peers

@@ -15,8 +15,8 @@ ReaderWork = Work LinkItem Inbound ReadingStage
 abbrev pub ReaderEnd : Type 0
 ReaderEnd = End LinkItem Inbound ReadingStage
 
--- Its reader took these items of the link from the first on, gave these, and has the rest of what they are read as; it hands nothing out. It keeps
--- just these items where it kept what it takes at first, and elsewhere nothing.
+-- Its reader took these items of the link, from the first one on, gave these things, and has the rest of what the items are read as. It hands
+-- nothing out. It keeps exactly these items if the first one kept what it takes, and else nothing.
 pub record Reads (first : ReadingStage) (took : List LinkItem) (gave : List Inbound) (out : List Outgoing) (now : ReadingStage) : Type 0 where
   pub read : HasRead took gave now.reader
   pub no_out : out ≡ []
@@ -27,6 +27,6 @@ pub record Reads (first : ReadingStage) (took : List LinkItem) (gave : List Inbo
 abbrev pub HasNoRest : ReadingStage → Type 0
 HasNoRest now = now.reader.rest ≡ []
 
--- the link ended, and what was sent is all that the items which were received are read as
+-- the link ended, and what was sent is all that the received items are read as
 abbrev pub HasReadAll : ReaderEnd → Type 0
 HasReadAll e = HasRun Reads HasNoRest e

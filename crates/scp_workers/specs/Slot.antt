@@ -1,4 +1,4 @@
--- The stage that runs the slots.
+-- The slot stage, which runs the slots.
 use Rattle.std.specs.Prelude.{◌≡◌, List, [], ◌∷◌, flat_map, option_to_list}
 use Rattle.scp_driver.specs.Driver.{Says}
 use Rattle.scp_types.specs.declared.names.NodeId.{NodeId}
@@ -24,22 +24,22 @@ SlotEnd D = End Ready Onward (SlotStage D)
 
 -- ---- what became of commands
 
--- what was told of the thing that was taken, where it is a command but a Tick
+-- the fate that was reported for the thing that was taken, if it is a command other than a Tick
 abbrev pub fate_of : Taking → List CommandFate
 fate_of t = option_to_list t.gave.command
 
--- what was told of all that was taken, in order
+-- the fates that were reported for all that was taken, in order
 abbrev pub fates_of : List Taking → List CommandFate
 fates_of takes = flat_map fate_of takes
 
 module _ {D : Type 0} (says : Says D) where
-  -- each was taken by the ledger that the one before it left, and of each that ledger told, as it stood then, what became of it
+  -- each thing was taken by the ledger that the one before it left, and that ledger, as it was then, reported what became of it
   abbrev pub TellsEach : LedgerView D → List Taking → LedgerView D → Type 0
   TellsEach old [] new = new ≡ old
   TellsEach old (t ∷ takes) new = (between : LedgerView D) × TakesBy says old t.thing t.gave between × TellsBy says old t.thing t.gave × TellsEach between takes new
 
-  -- A ledger of this node that had taken nothing took these, one after another, gave these on, and is this one now. This is what it handed out with
-  -- them; and these are the fates of the commands among them, one each, in order; a Tick has none.
+  -- A ledger of this node that had taken nothing took these, one after another, gave these on, and is this one now. This is what it handed
+  -- out with them. These are the fates of the commands among them, one each, in order; a Tick has none.
   pub record HaveFates (me : NodeId) (local : QuorumTree) (peers : List NodeId) (took : List Ready) (onwards : List Onward) (outs : List Outgoing) (fates : List CommandFate) (v : LedgerView D) : Type 0 where
     pub takes : List Taking
     pub took_are : things takes ≡ took
@@ -50,13 +50,13 @@ module _ {D : Type 0} (says : Says D) where
 
   -- ---- all that it did
 
-  -- a ledger of the first one's node took these, gave these on and handed these out, and the fates of the commands among them are those that are kept
+  -- a ledger of the first one's node took these, gave these on and handed these out; the kept fates are those of the commands among them
   pub record JournalsFrom (first : SlotStage D) (took : List Ready) (gave : List Onward) (out : List Outgoing) (now : SlotStage D) : Type 0 where
     pub journals : JournalsBy says first.ledger.me first.ledger.local first.ledger.peers took gave now.ledger
     pub told : HaveFates first.ledger.me first.ledger.local first.ledger.peers took gave out now.fates.items now.ledger
 
 module _ {D : Type 0} where
-  -- what it gives it gives at once
+  -- nothing is left to give: what it gives it gives at once
   abbrev pub HasNoneLeft : SlotStage D → Type 0
   HasNoneLeft now = Unit {0}
 
@@ -68,7 +68,7 @@ module _ {D : Type 0} (says : Says D) where
 -- ---- whose it is
 
 module _ {D : Type 0} where
-  -- the ledger is that of this node
+  -- the ledger is this node's
   pub record IsFor (me : NodeId) (peers : List NodeId) (local : QuorumTree) (v : LedgerView D) : Type 0 where
     pub me_is : v.me ≡ me
     pub peers_are : v.peers ≡ peers

@@ -17,8 +17,8 @@ pub record Work (T U S : Type 0) : Type 0 where
   pub failed : Bool
   pub cut_off : Bool  -- nobody sends to it any more
 
--- what it ends with: its receiving end, what its sending end left, its ends of the outboxes, the stage as it was at first and as it is, and how it
--- ended
+-- what it ends with: its receiving end, what is left of its sending end, its ends of the outboxes,
+-- the stage as it was at first and as it is, and how it ended
 pub record End (T U S : Type 0) : Type 0 where
   pub input : Receiver T
   pub output : Option (Sender U)
@@ -42,7 +42,7 @@ pub record IsSameInput {T : Type 0} (r s : Receiver T) : Type 0 where
   pub producers : s.producers ≡ r.producers
   pub room : s.room ≡ r.room
 
--- what comes of all producers fits: of the one that there is, it does; of more, whatever comes does
+-- what comes of all producers fits: if there is one producer, what it sends does; if there are more, whatever comes does
 abbrev pub FitsAlone : {T : Type 0} → (List T → Type 0) → Receiver T → Type 0
 FitsAlone {T} fits r = (r.producers ≡ 1) ⊎ ((xs : List T) → fits xs)
 
@@ -55,18 +55,18 @@ abbrev pub IsSameOutput : {U : Type 0} → Option (Sender U) → Option (Sender 
 IsSameOutput {U} (Some s) o = (t : Sender U) × (o ≡ Some t) × IsSameEnd s t
 IsSameOutput None o = o ≡ None
 
--- what is left of a sending end: that end, ended, if there was one; nothing, where nobody received its end any more
+-- what is left of a sending end: that end, ended, if there was one; nothing, if nobody received its end any more
 abbrev pub IsLeftOf : {U : Type 0} → Bool → Option (Sender U) → Option (Sender U) → Type 0
 IsLeftOf false o left = IsSameOutput o left
 IsLeftOf true o left = left ≡ None
 
--- the same ends of outboxes: as many, each at its place of the same outbox and of the same number there
+-- the same ends of outboxes: as many, and at each place the same outbox and the same number there
 pub record AreSameOutlets (old new : List PutterView) : Type 0 where
   pub many : length new ≡ length old
   pub each : (l : ℕ) (p q : PutterView) → slice_get old l ≡ Some p → slice_get new l ≡ Some q → (q.desk ≡ p.desk) × (q.number ≡ p.number)
 
--- It has the receiving end, the ends of outboxes and the stage that the worker was given, and its sending end is ended, whether the worker failed or
--- not: but where nobody received its end any more.
+-- It has the receiving end, the ends of outboxes and the stage that the worker was given. Its sending end is ended, whether the worker failed
+-- or not, unless nobody received its end any more.
 pub record Holds {T U S : Type 0} (w : Work T U S) (e : End T U S) : Type 0 where
   pub input : IsSameInput w.input e.input
   pub outlets : AreSameOutlets w.outlets e.outlets
@@ -79,12 +79,12 @@ pub record Holds {T U S : Type 0} (w : Work T U S) (e : End T U S) : Type 0 wher
 abbrev pub AreUnused : List PutterView → Type 0
 AreUnused outlets = (l : ℕ) (p : PutterView) → slice_get outlets l ≡ Some p → p.put ≡ []
 
--- into the outbox of each link was put what is handed out for it, in order
+-- what was put into each link's outbox is what is handed out for it, in order
 abbrev pub HavePut : List Outgoing → List PutterView → Type 0
 HavePut out outlets = (l : ℕ) (p : PutterView) → slice_get outlets l ≡ Some p → p.put ≡ handed_by out l
 
--- each producer ended; what was sent is what the stage gives of what was received, and the end behind it; what was put into the outboxes is what it
--- handed out; and nothing is left to give
+-- Each producer ended. What was sent is what the stage gives for what was received, followed by the end. What was put into the outboxes is
+-- what the stage handed out. Nothing is left to give.
 pub record HasRun {T U S : Type 0} (runs : S → List T → List U → List Outgoing → S → Type 0) (rests : S → Type 0) (e : End T U S) : Type 0 where
   pub heard : HeardAll e.input
   pub out : List Outgoing
@@ -93,6 +93,6 @@ pub record HasRun {T U S : Type 0} (runs : S → List T → List U → List Outg
   pub nothing_left : rests e.stage
   pub ended : e.unheard ≡ false
 
--- a worker that ended well has given on, and handed out, all that its stage gives of what it received
+-- a worker that ended well gave on, and handed out, all that its stage gives for what it received
 abbrev pub EndsWell : {T U S : Type 0} → (S → List T → List U → List Outgoing → S → Type 0) → (S → Type 0) → End T U S → Type 0
 EndsWell runs rests e = e.well ≡ true → HasRun runs rests e

@@ -1,4 +1,4 @@
-//! The stage that applies.
+//! The applier as a worker's stage.
 ghost use Rattle.std.specs.Prelude.{◌≡◌, [], false, None};
 ghost use Rattle.scp_workers.specs.Working.{AreUnused};
 
@@ -31,7 +31,7 @@ impl<A: Application> Stage<Onward, InWindow, Nothing, Any> for Applier<A> {
 
     ghost rests = { GivesNothing };
 
-    /// Takes a thing, and hands its answer out.
+    /// Takes a thing, and hands out its answer.
     fn take(&mut self, onward: Onward) -> Option<Given<Nothing>> {
         what_holds_of_an_applier_holds_with_one_thing_more();
         match Applier::take(self, onward) {
@@ -43,14 +43,14 @@ impl<A: Application> Stage<Onward, InWindow, Nothing, Any> for Applier<A> {
         }
     }
 
-    /// Nothing.
+    /// Gives nothing: always `None`.
     fn give(&mut self) -> Option<Nothing> {
         None
     }
 }
 
-/// The worker of this node's applier, behind the slot stage; its end carried nothing yet. `outlets[l]` is an end of the outbox of link l that put
-/// nothing yet. Takes no memory.
+/// The worker of this node's applier, behind the slot stage. Its receiving end has received nothing yet, and `outlets[l]` is an end of link
+/// l's outbox through which nothing was put yet. Takes no memory.
 pub fn applier<A: Application>(
     alloc: Global,
     node: NodeId,

@@ -27,9 +27,8 @@ pub(crate) fn answered(answer: Option<(u8, Message)>) -> Outs
     }
 }
 
-/// Puts what a stage hands out into the outboxes of the links, in its order: a message into that of its link, and what is for all into
-/// each. What is for a link that isn't there is given up. Where there is no memory to share what is for all, some links have it and others
-/// haven't.
+/// Puts what a stage hands out into the links' outboxes, in order: a message into that of its link, and what is for all into each. What is
+/// for a link that isn't there is dropped. If memory for sharing what is for all runs out, some links have it and others don't.
 pub(crate) fn hand_out<R: Wait>(rt: &R, outlets: &mut Vec<Putter>, outs: Outs) -> Result<(), Fault>
     requires fits { FitsOuts outs }
     ensures same { AreSameOutlets outlets.old.items outlets.new.items }
@@ -45,7 +44,7 @@ pub(crate) fn hand_out<R: Wait>(rt: &R, outlets: &mut Vec<Putter>, outs: Outs) -
     }
 }
 
-/// Puts a message for one link.
+/// Puts a message into the outbox of one link.
 fn hand<R: Wait>(rt: &R, outlets: &mut Vec<Putter>, link: u8, message: Message)
     requires fits { IsFitting message }
     ensures same { AreSameOutlets outlets.old.items outlets.new.items }
@@ -62,7 +61,7 @@ fn put_at<R: Wait>(rt: &R, outlets: &mut Vec<Putter>, link: u8, message: Fitting
     }
 }
 
-/// Puts all that goes out, in its order.
+/// Puts all that goes out, in order.
 fn hand_out_all<R: Wait>(
     rt: &R,
     outlets: &mut Vec<Putter>,
@@ -91,7 +90,7 @@ fn hand_out_one<R: Wait>(rt: &R, outlets: &mut Vec<Putter>, outgoing: Outgoing) 
     }
 }
 
-/// Puts an own statement for each link, shared.
+/// Puts an own statement into the outbox of each link, shared.
 fn hand_to_all<R: Wait>(
     rt: &R,
     outlets: &mut Vec<Putter>,

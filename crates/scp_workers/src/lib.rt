@@ -1,19 +1,19 @@
 //! The workers of a node: each runs a stage in a thread of its own, between the channels.
 //!
 //! What it promises, under every schedule:
-//! - what a worker sent is what its stage gives of what it received: a link's items as they are read, each record of a batch by itself; what is
-//!   ready by the rules; what the ledger gives on;
-//! - into the outbox of each link a worker that ends well put just what its stage handed out for it, in order: the replies of the pending stage,
-//!   what the ledger gives for peers, the answers of the applier;
-//! - where it is to, the reader of a link keeps a copy of each item that it received, in order;
-//! - a worker ends well only after the end of each of its producers, and its own end is the last that it sends;
-//! - a worker that failed goes on receiving too: it ends only after the end of each of its producers, or once it found them gone; and it sends
-//!   its end, unless nobody receives from it any more.
+//! - What a worker sent is what its stage gives for what it received. A reader: a link's items as they are read, each record of a batch by
+//!   itself. The pending stage: what is ready by the rules. The slot stage: what the ledger gives on.
+//! - A worker that ends well put into each link's outbox exactly what its stage handed out for it, in order. The pending stage hands out its
+//!   replies, the slot stage what the ledger gives for peers, the applier its answers.
+//! - A link's reader that was asked to keep what it receives has a copy of each item, in order.
+//! - A worker ends well only after the end of each of its producers. Its own end is the last thing that it sends.
+//! - A worker that failed goes on receiving. It ends only after the end of each of its producers, or once it found them gone. It sends its
+//!   end, unless nobody receives from it any more.
 //!
-//! Before each send and after each receive a worker calls a gate, which may hold it up: so tests choose a schedule.
-//! Before a worker waits, and before a gate that may hold it, it wakes who waits for what it sent.
+//! Before each send and after each receive a worker calls a gate, which may hold it up; with it tests choose a schedule.
+//! Before a worker waits, and before a gate that may hold it, it wakes whoever waits for what it sent.
 //!
-//! Not claimed: that a call returns; what a gate is told; when who waits is woken; and which part of it a worker that failed put into an outbox.
+//! Not claimed: that a call returns; what a gate is called with; when a sleeper is woken; and what part a failed worker put into an outbox.
 #![tactic(auto)]
 
 mod apply;

@@ -1,4 +1,4 @@
-//! The stage where messages wait for their quorum sets.
+//! The pending stage, where messages wait for their quorum sets.
 ghost use Rattle.std.specs.Prelude.{◌≡◌, ◌≤◌, [], false, Some, length};
 ghost use Rattle.scp_workers.specs.Pending.{IsFor};
 ghost use Rattle.scp_workers.specs.Working.{AreUnused};
@@ -29,7 +29,7 @@ impl Stage<Inbound, Any, Ready, Any> for Pending {
 
     ghost rests = { HasNothingReady };
 
-    /// Takes an item, and hands its answer out.
+    /// Takes an item, and hands out its answer.
     fn take(&mut self, item: Inbound) -> Option<Given<Ready>> {
         who_it_is_stays();
         match Pending::take(self, item) {
@@ -41,15 +41,15 @@ impl Stage<Inbound, Any, Ready, Any> for Pending {
         }
     }
 
-    /// The next ready thing.
+    /// The next ready thing, if there is one.
     fn give(&mut self) -> Option<Ready> {
         self.next_ready()
     }
 }
 
-/// The worker of this node's pending stage, between its inbox, of so many producers, and the slot stage; both carried nothing yet. `peers[l]`
-/// is the sender of link l, and `outlets[l]` an end of the outbox of link l that put nothing yet; `local` is the node's own quorum set. Takes no
-/// memory.
+/// The worker of this node's pending stage, between its inbox, with this many producers, and the slot stage. Nothing went through
+/// either yet. `peers[l]` is the sender of link l, and `outlets[l]` is an end of link l's outbox through which nothing was put
+/// yet. `local` is the node's own quorum set. Takes no memory.
 pub fn pending(
     alloc: Global,
     node: NodeId,

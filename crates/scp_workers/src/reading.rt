@@ -15,7 +15,7 @@ use std::alloc::Global;
 pub struct ReadingStage {
     pub alloc: Global,
     pub reader: LinkReader,
-    /// A copy of each item that it took, in order, where they are to be kept.
+    /// A copy of each item that it took, in order, if they are to be kept.
     pub kept: Option<Vec<LinkItem>>,
 }
 
@@ -25,7 +25,7 @@ pub type ReaderWorker = Worker<LinkItem, Any, Inbound, Any, ReadingStage>;
 /// What it ends with.
 pub type ReaderEnded = Ended<LinkItem, Any, Inbound, Any, ReadingStage>;
 
-/// Where a reader keeps what it takes, before it took anything: nowhere, where it keeps nothing. Takes no memory.
+/// Where a reader keeps what it takes, before it took anything; `None` if it keeps nothing. Takes no memory.
 fn nothing_kept(alloc: Global, keeps: bool) -> Option<Vec<LinkItem>>
     ensures none { IfSome result (λ items. items.items ≡ []) }
     ensures keeps { is_some result ≡ keeps }
@@ -33,7 +33,7 @@ fn nothing_kept(alloc: Global, keeps: bool) -> Option<Vec<LinkItem>>
     if keeps { Some(Vec::new(alloc)) } else { None }
 }
 
-/// Another item that equals this one. It copies its bytes.
+/// Another item that equals this one. Copies its bytes.
 fn copy(item: &LinkItem) -> Result<LinkItem, Fault>
     ensures same { IfOk result (λ copied. copied ≡ item.now) }
 {
@@ -44,7 +44,7 @@ fn copy(item: &LinkItem) -> Result<LinkItem, Fault>
     }
 }
 
-/// Keeps a copy of an item, where they are to be kept.
+/// Keeps a copy of an item, if items are to be kept.
 fn keep(kept: &mut Option<Vec<LinkItem>>, item: &LinkItem) -> Result<(), Fault>
     ensures kept { OnOk result ((took : List LinkItem) → IfSome kept.old (λ items. items.items ≡ took) → IfSome kept.new (λ items. items.items ≡ took ++ item.now ∷ [])) }
     ensures same { is_some kept.new ≡ is_some kept.old }
@@ -62,7 +62,7 @@ impl Stage<LinkItem, Any, Inbound, Any> for ReadingStage {
 
     ghost rests = { HasNoRest };
 
-    /// Reads an item: gives the first thing that it is read as. Keeps a copy of it, where they are to be kept.
+    /// Reads an item, and gives the first thing that it is read as. Keeps a copy of the item first, if items are to be kept.
     fn take(&mut self, item: LinkItem) -> Option<Given<Inbound>> {
         if keep(&mut self.kept, &item).is_err() {
             return None;
@@ -76,13 +76,13 @@ impl Stage<LinkItem, Any, Inbound, Any> for ReadingStage {
         }
     }
 
-    /// The next of what is left of a batch.
+    /// The next thing that is left of a batch, if any.
     fn give(&mut self) -> Option<Inbound> {
         self.reader.rest()
     }
 }
 
-/// The worker of this node that reads the link of this number, between the link and the inbox; they carried nothing for it yet. Where
+/// The worker of this node that reads the link of this number, between the link and the inbox. Nothing went through either end yet. If
 /// `keeps` is set, its stage keeps a copy of each item that it takes. Takes no memory.
 pub fn reader(
     alloc: Global,

@@ -1,4 +1,4 @@
-//! What a worker does with a thing: it takes it into its stage, and sends what that gives.
+//! What a worker does with a thing: it takes it into its stage, and sends what the stage gives.
 ghost use Rattle.std.specs.Prelude.{◌≡◌, true, false, [], ◌∷◌, ◌++◌, option_to_list};
 ghost use Rattle.scp_workers.specs.Working.{IsSameOutput, AreSameOutlets, sent_by};
 ghost use Rattle.scp_workers.specs.inside.Working.{GivesOn, TakesOn, RanTo, MayTake};
@@ -11,7 +11,7 @@ use scp_ends::{Law, Tx};
 use scp_gate::{Counter, Gate};
 use std::sync::Wait;
 
-/// Sends a thing. Says whether it went.
+/// Sends a thing. Returns whether it was sent.
 fn send<U: Drop, M: Law<U>, R: Wait, G: Gate>(
     rt: &R,
     gate: &G,
@@ -30,7 +30,7 @@ fn send<U: Drop, M: Law<U>, R: Wait, G: Gate>(
     }
 }
 
-/// Sends a thing, if there is one. Says whether nothing was lost.
+/// Sends a thing, if there is one. Returns whether nothing was lost.
 fn send_any<U: Drop, M: Law<U>, R: Wait, G: Gate>(
     rt: &R,
     gate: &G,
@@ -56,7 +56,7 @@ enum Gave {
     Lost,
 }
 
-/// Sends the next thing that the stage gives.
+/// Sends the next thing that the stage gives, if there is one.
 fn give_one<T: Drop, L: Law<T>, U: Drop, M: Law<U>, S: Stage<T, L, U, M>, R: Wait, G: Gate>(
     rt: &R,
     gate: &G,
@@ -79,7 +79,7 @@ fn give_one<T: Drop, L: Law<T>, U: Drop, M: Law<U>, S: Stage<T, L, U, M>, R: Wai
     }
 }
 
-/// Sends all that the stage gives. Says whether nothing was lost.
+/// Sends all that the stage gives. Returns whether nothing was lost.
 fn give_all<T: Drop, L: Law<T>, U: Drop, M: Law<U>, S: Stage<T, L, U, M>, R: Wait, G: Gate>(
     rt: &R,
     gate: &G,
@@ -101,7 +101,7 @@ fn give_all<T: Drop, L: Law<T>, U: Drop, M: Law<U>, S: Stage<T, L, U, M>, R: Wai
     false
 }
 
-/// Takes a thing into the stage, hands out what goes to peers, and sends all that the stage gives then. Says whether nothing was lost.
+/// Takes a thing into the stage, hands out what goes to peers, and sends all that the stage gives then. Returns whether nothing was lost.
 fn take_one<T: Drop, L: Law<T>, U: Drop, M: Law<U>, S: Stage<T, L, U, M>, R: Wait, G: Gate>(
     rt: &R,
     gate: &G,
@@ -128,7 +128,7 @@ fn take_one<T: Drop, L: Law<T>, U: Drop, M: Law<U>, S: Stage<T, L, U, M>, R: Wai
         && give_all::<T, L, U, M, S, R, G>(rt, gate, counter, stage, tx)
 }
 
-/// The same, where nothing was lost before. Says whether something is lost.
+/// The same, unless something was lost before. Returns whether something is lost.
 pub(crate) fn take_or_lose<
     T: Drop,
     L: Law<T>,

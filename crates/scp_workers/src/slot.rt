@@ -1,4 +1,4 @@
-//! The stage that runs the slots.
+//! The slot stage, which runs the slots.
 ghost use Rattle.std.specs.Prelude.{◌≡◌, ◌≤◌, ◌++◌, [], false, Some, OnOk, length, option_to_list};
 ghost use Rattle.scp_workers.specs.Slot.{IsFor};
 ghost use Rattle.scp_workers.specs.Working.{AreUnused};
@@ -19,7 +19,7 @@ use scp_types::NodeId;
 use std::alloc::{AllocError, Global};
 use std::sync::Arc;
 
-/// The ledger, and what became of each command that it took, in their order.
+/// The ledger, and what became of each command that it took, in order.
 #[derive(Drop)]
 pub struct SlotStage<D: Driver + Drop + Copy = KvDriver> {
     pub ledger: Ledger<D>,
@@ -49,7 +49,7 @@ impl<D: Driver + Drop + Copy> Stage<Ready, Any, Onward, InWindow> for SlotStage<
 
     ghost rests = { HasNoneLeft };
 
-    /// Takes a thing into the ledger, keeps what became of it, and hands out what goes to peers.
+    /// Takes a thing into the ledger, keeps what became of it if it is a command, and hands out what goes to peers.
     fn take(&mut self, ready: Ready) -> Option<Given<Onward>> {
         what_holds_of_a_ledger_holds_with_one_thing_more::<D>();
         what_is_given_on_keeps_the_window::<D>();
@@ -71,14 +71,14 @@ impl<D: Driver + Drop + Copy> Stage<Ready, Any, Onward, InWindow> for SlotStage<
         }
     }
 
-    /// Nothing: what comes of a thing is given as it is taken.
+    /// Gives nothing more: what comes of a thing is given when it is taken.
     fn give(&mut self) -> Option<Onward> {
         None
     }
 }
 
-/// The worker of this node's slot stage, between the pending stage and the applier; both ends carried nothing yet. `peers[l]` is the sender
-/// of link l, and `outlets[l]` an end of the outbox of link l that put nothing yet; `local` is the node's own quorum set. Takes no memory.
+/// The worker of this node's slot stage, between the pending stage and the applier. Nothing went through either end yet. `peers[l]` is the
+/// sender of link l; `outlets[l]` is an end of link l's outbox that put nothing yet. `local` is the node's own quorum set. Takes no memory.
 pub fn slots<D: Driver + Drop + Copy>(
     alloc: Global,
     node: NodeId,

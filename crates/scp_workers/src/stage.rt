@@ -10,11 +10,11 @@ pub enum Outs {
     Nothing,
     /// A message for the link of this number.
     Answer(u8, Message),
-    /// Some for one link each, and some for all.
+    /// Messages for one link each, and messages for all.
     All(OutgoingList),
 }
 
-/// What a stage gives at once of a thing that it took.
+/// What a stage gives at once for a thing that it took.
 #[derive(Drop)]
 pub struct Given<U> {
     /// What goes on to the next stage, if anything does.
@@ -23,21 +23,21 @@ pub struct Given<U> {
     pub outs: Outs,
 }
 
-/// A stage of a node: it takes things of one kind, and gives things of another, which fit what may be sent behind what it gave before.
+/// A stage of a node: it takes things of one kind and gives things of another, which fit what may be sent after what it gave before.
 ///
-/// A worker takes a thing only where nothing is left to give, and then has the stage give until nothing is left.
+/// A worker takes a thing only when nothing is left to give, and then lets the stage give until nothing is left.
 pub trait Stage<T: Drop, L: Law<T>, U: Drop, M: Law<U>>: Drop {
     ghost use Rattle.std.specs.Prelude.{[], ◌∷◌, ◌++◌, List, IfSome, MatchOption, option_to_list};
     ghost use Rattle.scp_ledger.specs.declared.took.Outgoing.{Outgoing};
     ghost use Rattle.scp_workers.specs.Handing.{FitsOuts, outgoing_of};
 
-    // A stage that stood so at first took these things, gave these, handed these out, and stands so now.
+    // A stage whose first state was this took these things, gave these, handed these out, and is in this state now.
     ghost runs: { Self → List T → List U → List Outgoing → Self → Type 0 };
 
     // Nothing is left to give.
     ghost rests: { Self → Type 0 };
 
-    /// Takes a thing. `None` where it failed, for want of memory or because it can't take more.
+    /// Takes a thing. Returns `None` if it failed: it is out of memory, or can't take more.
     fn take(&mut self, thing: T) -> Option<Given<U>>
         requires rests { rests self.old }
         requires fits { (first : Self) × (took : List T) × (gave : List U) × (out : List Outgoing) × runs first took gave out self.old × L.fits (took ++ thing ∷ []) }

@@ -1,4 +1,4 @@
-//! What a worker does where it may wait: before that it tells of what it sent.
+//! What a worker does before it may wait: it wakes whoever waits for what it sent.
 ghost use Rattle.std.specs.Prelude.{◌≡◌, ℕ, ◌<◌, [], ◌∷◌, ◌++◌, IfOk, MatchResult};
 ghost use Rattle.scp_ends.specs.Order.{number_of, of, values};
 
@@ -6,7 +6,7 @@ use scp_ends::{Gone, Item, Law, Nobody, Rx, Tx};
 use scp_gate::{Counter, Gate};
 use std::sync::Wait;
 
-/// Wakes the consumer behind an end, if there is one, where the gate may hold the worker.
+/// Wakes the consumer of an end, if there is one, if the gate may hold the worker.
 fn tell_before<T: Drop, L: Law<T>, G: Gate>(gate: &G, tx: &mut Option<Tx<T, L>>)
     ensures { tx.new ≡ tx.old }
 {
@@ -17,7 +17,7 @@ fn tell_before<T: Drop, L: Law<T>, G: Gate>(gate: &G, tx: &mut Option<Tx<T, L>>)
     }
 }
 
-/// Receives the next item. Before it waits, it wakes the consumer behind `tx`, if there is one.
+/// Receives the next item. Before it waits, it wakes the consumer of `tx`, if there is one.
 fn receive_before<T: Drop, L: Law<T>, U: Drop, M: Law<U>, R: Wait>(
     rt: &R,
     rx: &mut Rx<T, L>,
@@ -53,7 +53,7 @@ pub(crate) fn receive<T: Drop, L: Law<T>, U: Drop, M: Law<U>, R: Wait, G: Gate>(
     Ok(item)
 }
 
-/// The worker is about to send something, its end too, where it sends: counts it, and calls the gate.
+/// The worker is about to send something, perhaps its end: if it has a sending end, counts that and calls the gate.
 pub(crate) fn about_to_send<T: Drop, L: Law<T>, G: Gate>(
     gate: &G,
     counter: &mut Counter,

@@ -16,7 +16,7 @@ use std::marker::Model;
 use std::snapshot::Snapshot;
 use std::sync::Wait;
 
-/// Receives things, takes them into its stage, puts what goes to peers into the outboxes of the links, and sends what the stage gives. Contracts
+/// Receives things, takes them into its stage, puts what goes to peers into the links' outboxes, and sends what the stage gives. Contracts
 /// see its ends, the stage that it was made of, whether it failed, and whether it was cut off.
 #[derive(Drop)]
 pub struct Worker<T: Drop, L: Law<T>, U: Drop, M: Law<U>, S: Stage<T, L, U, M>> {
@@ -50,8 +50,8 @@ impl<T: Drop, L: Law<T>, U: Drop, M: Law<U>, S: Stage<T, L, U, M>> Model for Wor
     ghost invariant = { λ w. (w.rx.producers ≡ w.producers) × (w.producers ≤ 8) × (w.failed ≡ false → HasGiven S.runs S.rests w.first.value (values w.rx.got) (sent_by w.tx) w.outlets.items w.stage) × AreStops w.stops w.rx.got × (is_some w.gone ≡ true → w.failed ≡ true) × FitsAlone L.fits w.rx };
 }
 
-/// What a worker ends with: its receiving end, what its sending end left, its ends of the outboxes, its stage, whether it ended well, whether
-/// nobody sent to it any more, and whether nobody received its end any more.
+/// What a worker ends with: its receiving end, what is left of its sending end, its ends of the outboxes, its stage, and how it ended. It
+/// ended well or not; nobody sent to it any more; or nobody received its end any more.
 #[derive(Drop)]
 pub struct Ended<T: Drop, L: Law<T>, U: Drop, M: Law<U>, S: Stage<T, L, U, M>> {
     rx: Rx<T, L>,
@@ -89,21 +89,21 @@ impl<T: Drop, L: Law<T>, U: Drop, M: Law<U>, S: Stage<T, L, U, M>> Ended<T, L, U
         self.well
     }
 
-    /// Whether it ended since nobody sent to it any more, without an end of each producer.
+    /// Whether it ended because nobody sent to it any more, before the end of each producer came.
     pub fn is_cut_off(&self) -> bool
         ensures { result ≡ self.now.cut_off }
     {
         self.gone.is_some()
     }
 
-    /// Whether its end wasn't received, since nobody receives from it any more.
+    /// Whether its end wasn't sent because nobody receives from it any more.
     pub fn is_unheard(&self) -> bool
         ensures { result ≡ self.now.unheard }
     {
         self.unheard.is_some()
     }
 
-    /// Its receiving end, what its sending end left, its ends of the outboxes, and the stage.
+    /// Its receiving end, what is left of its sending end, its ends of the outboxes, and the stage.
     pub fn into_parts(self) -> (Rx<T, L>, Option<Done<U, M>>, Vec<Putter>, S)
         ensures parts { (result.0 ≡ self.input) × (result.1 ≡ self.output) × (result.2.items ≡ self.outlets) × (result.3 ≡ self.stage) }
         ensures well { EndsWell S.runs S.rests self }
@@ -121,8 +121,8 @@ impl<T: Drop, L: Law<T>, U: Drop, M: Law<U>, S: Stage<T, L, U, M>> Ended<T, L, U
 }
 
 impl<T: Drop, L: Law<T>, U: Drop, M: Law<U>, S: Stage<T, L, U, M>> Worker<T, L, U, M, S> {
-    /// A worker of this node at this place: between a channel of so many producers and where goes what the stage gives, if anywhere; both
-    /// carried nothing yet. `outlets[l]` is its end of the outbox of link l, and put nothing yet. Takes no memory.
+    /// A worker of this node at this place, between a channel with this many producers and the one for what the stage gives, if there is one.
+    /// Nothing went through either yet. `outlets[l]` is its end of link l's outbox, and put nothing yet. Takes no memory.
     pub fn new(
         node: NodeId,
         place: Place,
@@ -154,7 +154,7 @@ impl<T: Drop, L: Law<T>, U: Drop, M: Law<U>, S: Stage<T, L, U, M>> Worker<T, L, 
         }
     }
 
-    /// One receive, and what follows of it. Says whether to go on.
+    /// Receives once, and does what follows from that. Returns whether to go on.
     fn step<R: Wait, G: Gate>(&mut self, rt: &R, gate: &G) -> bool
         ensures same { SameEnds self.old self.new }
         ensures gone { result ≡ false → self.new.cut_off ≡ true }
@@ -199,7 +199,7 @@ impl<T: Drop, L: Law<T>, U: Drop, M: Law<U>, S: Stage<T, L, U, M>> Worker<T, L, 
         !self.failed && self.is_over()
     }
 
-    /// Works until each producer has ended, or there is none any more.
+    /// Works until each producer has ended, or until there is no producer any more.
     #[tactic(auto, using(crate::proofs::Outlets::same_on))]
     fn work<R: Wait, G: Gate>(&mut self, rt: &R, gate: &G)
         ensures same { SameEnds self.old self.new }
@@ -212,7 +212,7 @@ impl<T: Drop, L: Law<T>, U: Drop, M: Law<U>, S: Stage<T, L, U, M>> Worker<T, L, 
         }
     }
 
-    /// Ends.
+    /// Ends the worker.
     fn end<R: Wait>(self, rt: &R) -> Ended<T, L, U, M, S>
         requires { self.cut_off ≡ false → HeardAll self.input }
         ensures { Holds self result }
@@ -244,8 +244,8 @@ impl<T: Drop, L: Law<T>, U: Drop, M: Law<U>, S: Stage<T, L, U, M>> Worker<T, L, 
         }
     }
 
-    /// Works until each producer has ended, and then ends. Where it fails, for want of memory or because nobody receives from it any more, it
-    /// goes on receiving and gives up what it receives; where there is no producer any more, it ends at once. It sends its end in each case.
+    /// Works until each producer has ended, and then ends. If it fails, because it is out of memory or nobody receives from it any more, it
+    /// goes on receiving and drops what it receives. If there is no producer any more, it ends at once. It sends its end in each case.
     pub fn run<R: Wait, G: Gate>(mut self, rt: &R, gate: &G) -> Ended<T, L, U, M, S>
         ensures { Holds self result }
     {

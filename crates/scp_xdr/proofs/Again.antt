@@ -1,4 +1,4 @@
--- What is mapped forth and back is as it was.
+-- What is mapped to another type and back is as it was.
 use Rattle.std.proofs.Common.{◌≡◌, List, [], ◌∷◌, refl, inl, inr}
 use Rattle.std.specs.Prelude.{map}
 use Rattle.scp_xdr.specs.Tree.{Trees, no_trees, tree_then, Tree, row_map, tree_map}

@@ -1,4 +1,4 @@
--- Each kind: what is read is spelt so, what is spelt so is read, and no spelling begins another.
+-- Each kind: what is read is encoded so, what is encoded so is read, and no encoding begins another.
 use Rattle.std.proofs.Common.{◌≡◌, ◌≢◌, ℕ, ◌^◌, ◌<◌, Bool, true, false, cond, eqb, List, [], ◌++◌, ◌⊎◌, length, Some, None, Result, Ok, Err, refl, sym, ap, subst, ◌∙◌, arith, inl, inr}
 use Rattle.std.specs.List.{flat_map}
 use Rattle.std.proofs.lemmas.Bool.{eqb-true, eqb-false, ne_eqb, eq-eqb}
@@ -160,7 +160,7 @@ end_found : (c d : Cursor) → read_end c ≡ Ok d → c.rest ≡ []
 unfolding read_end
 end_found c d e = nil_from_length c.rest (eqb-true _ _ (guard_ended (eqb (length c.rest) 0) (Malformed c.place) c d e).0)
 
--- what is read is spelt by just these bytes
+-- what is read is encoded by exactly these bytes
 pub whole_found : (k : Kind) (bytes : List ℕ) (v : Values k) → IsBytes bytes → reading_whole k bytes ≡ Ok v → Spells k bytes v
 unfolding reading_whole
 whole_found k bytes v fits e =
@@ -170,7 +170,7 @@ whole_found k bytes v fits e =
     let whole : bytes ≡ spelling k a.0.0 = t.0.parts ∙ ap (λ (r : List ℕ). spelling k a.0.0 ++ r) (end_found a.0.1 b.0 b.1) ∙ append-nil (spelling k a.0.0) in
     subst (λ (w : Values k). Spells k bytes w) (ok_is a.0.0 v b.2) (record { fits = t.1; spelt = whole })
 
--- what is spelt so is read
+-- what is encoded so is read
 pub whole_again : (k : Kind) (bytes : List ℕ) (v : Values k) → Spells k bytes v → reading_whole k bytes ≡ Ok v
 unfolding reading_whole read_end
 whole_again k bytes v s =
@@ -178,7 +178,7 @@ whole_again k bytes v s =
     let t : Takes (start bytes) (spelling k v) d = record { parts = s.spelt ∙ sym (append-nil (spelling k v)); place = omega arith } in
     rw (again k (start bytes) v d s.fits t) refl
 
--- no spelling begins another
+-- no encoding begins another
 pub apart : (k : Kind) (v w : Values k) (x y : List ℕ) → Fits k v → Fits k w → spelling k v ++ x ≡ spelling k w ++ y → (v ≡ w) × (x ≡ y)
 apart k v w x y fits others e =
     let c = start (spelling k v ++ x) in

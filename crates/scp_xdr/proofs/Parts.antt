@@ -45,7 +45,7 @@ IsBytes-take n bytes h i =
 
 -- ---- from one place to another
 
--- between c and d stands the text
+-- the text lies between c and d
 pub record Takes (c : Cursor) (text : List ℕ) (d : Cursor) : Type 0 where
   pub parts : c.rest ≡ text ++ d.rest
   pub place : d.place ≡ c.place + length text

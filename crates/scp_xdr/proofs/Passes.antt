@@ -1,4 +1,4 @@
--- Passing over a value ends where reading it ends, at the same fault, and never for want of memory.
+-- Passing over a value ends where reading it ends, at the same fault, and is never out of memory.
 use Rattle.std.proofs.Common.{◌≡◌, ◌≢◌, ℕ, zero, suc, ◌+◌, ◌^◌, Bool, true, false, cond, ltb, eqb, List, [], ◌∷◌, ◌⊎◌, length, take, drop, Option, Some, None, Result, Ok, Err, refl, sym, ◌∙◌, inl, inr}
 use Rattle.std.specs.Prelude.{IfErr, IfOk, IsOk, IsTrue, ◌↔◌, MatchResult, is_ok}
 use Rattle.std.specs.Int.{w32, w64, from_be_bytes}
@@ -253,7 +253,7 @@ pub known_from : {X : Type 0} (k : Kind) (bytes : List ℕ) (r : Result X Fault)
 known_from k bytes (Ok x) given = tt
 known_from k bytes (Err f) given = rw given at (known_whole k bytes)
 
--- the first fault of bytes that spell nothing
+-- the first fault of bytes that encode nothing
 faults_of : {A : Type 0} (p : Result Cursor Fault) (r : Result A Fault) (f : Fault) → Passed p r → Known p → r ≡ Err f → IsReadingFault f
 faults_of (Ok c) r f passed known e = absurd (let same : Ok passed.0 ≡ Err f = sym passed.1 ∙ e in cc)
 faults_of (Err g) r f passed known e =

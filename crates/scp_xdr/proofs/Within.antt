@@ -1,4 +1,4 @@
--- What a limit on a spelling's length means for the call that writes it.
+-- What a limit on an encoding's length means for the call that writes it.
 use Rattle.std.proofs.Common.{◌≡◌, ℕ, ◌+◌, ◌<◌, ◌≤◌, ◌⊎◌, List, length, Result, Ok, Err, refl, inl, inr, ap, arith}
 use Rattle.std.specs.Prelude.{IfOk, IsErrOf, IsOkUnless, ◌↔◌}
 use Rattle.scp_types.specs.declared.fault.Fault.{Fault}

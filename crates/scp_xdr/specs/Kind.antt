@@ -1,4 +1,4 @@
--- The kinds of XDR that are used here, the values of each, and the one spelling of each value (RFC 4506).
+-- The kinds of XDR that are used here, the values of each, and the one encoding of each value (RFC 4506).
 use Rattle.std.specs.Prelude.{◌≡◌, ◌≢◌, ℕ, zero, suc, ◌+◌, ◌-◌, ◌%◌, ◌<◌, ◌≤◌, ◌^◌, List, [], ◌++◌, ◌⊎◌, length, replicate, Option, Some, None}
 use Rattle.std.proofs.Common.{inl, inr}
 use Rattle.std.specs.List.{flat_map, AllByRecursion}
@@ -14,11 +14,11 @@ mutual
     opaque : ℕ → Kind
     optional : Kind → Kind
     array : ℕ → Kind → Kind
-    -- a number, and items that are numbered on from it: at least one, at most so many
+    -- a number, and items that are numbered on from it: at least one, at most this many
     numbered : ℕ → Kind → Kind
     both : Kind → Kind → Kind
     union : Arms → Kind
-    -- heads in a tree: how many levels of inner trees, and how many inner trees of one tree
+    -- trees with such heads: how many levels of inner trees, and how many inner trees one tree may have
     tree : ℕ → ℕ → Kind → Kind
 
   -- the arms of a union, each with its discriminant
@@ -49,7 +49,7 @@ abbrev mutual
 abbrev pub padding_len : ℕ → ℕ
 padding_len n = (4 - n % 4) % 4
 
--- four bytes and eight bytes, big-endian
+-- four bytes, big-endian
 unfoldable pub word : ℕ → List ℕ
 word n = to_be_bytes w32 n
 
@@ -61,17 +61,17 @@ long_word n = to_be_bytes w64 n
 unfoldable pub padded : List ℕ → List ℕ
 padded bytes = bytes ++ replicate (padding_len (length bytes)) 0
 
--- a tree is its head, the count of the trees inside it, and each of them
+-- the trees one after the other; each is its head, the count of the trees inside it, and these trees
 abbrev pub row_spelling : {X : Type 0} → (X → List ℕ) → Trees X → List ℕ
 row_spelling text no_trees = []
 row_spelling text (tree_then x inner others) = (text x ++ (word (row_len inner) ++ row_spelling text inner)) ++ row_spelling text others
 
--- the head, how many trees are inside, and each of them
+-- the head, how many trees are inside, and these trees
 abbrev pub tree_spelling : {X : Type 0} → (X → List ℕ) → Tree X → List ℕ
 tree_spelling text t = text t.head ++ (word (row_len t.inner) ++ row_spelling text t.inner)
 
 abbrev mutual
-  -- the one spelling of a value, part by part (RFC 4506)
+  -- the one encoding of a value, part by part (RFC 4506)
   pub spelling : (k : Kind) → Values k → List ℕ
   spelling uint32 n = word n
   spelling uint64 n = long_word n
@@ -97,22 +97,22 @@ tag_of no_arm v = elim v [ ]
 tag_of (arm tag k others) (inl v) = tag
 tag_of (arm tag k others) (inr v) = tag_of others v
 
--- how many inner trees a tree may have, where so many levels may be below it
+-- how many inner trees a tree may have, if this many levels may be below it
 abbrev pub limit_at : ℕ → ℕ → ℕ
 limit_at zero max = 0
 limit_at (suc levels) max = max
 
--- each of the trees has fitting heads, few inner trees, and at most so many levels below it
+-- each tree has a head that fits, few enough inner trees, and at most this many levels below it
 abbrev pub RowFits : {X : Type 0} → (X → Type 0) → ℕ → ℕ → Trees X → Type 0
 RowFits Fit levels max no_trees = Unit {0}
 RowFits Fit levels max (tree_then x inner others) =
     (Fit x × (row_len inner ≤ limit_at levels max) × (row_len inner < 2 ^ 32) × RowFits Fit (levels - 1) max inner) × RowFits Fit levels max others
 
--- the head fits, few trees are inside, and no level is below the last
+-- the head fits, there are few enough inner trees, and no more levels than allowed
 abbrev pub TreeFits : {X : Type 0} → (X → Type 0) → ℕ → ℕ → Tree X → Type 0
 TreeFits Fit levels max t = Fit t.head × (row_len t.inner ≤ limit_at levels max) × (row_len t.inner < 2 ^ 32) × RowFits Fit (levels - 1) max t.inner
 
--- which values have a spelling: numbers in their range, lengths and counts within their limits
+-- which values have an encoding: numbers in their range, lengths and counts within their limits
 abbrev mutual
   pub Fits : (k : Kind) → Values k → Type 0
   Fits uint32 n = n < 2 ^ 32
@@ -128,13 +128,13 @@ abbrev mutual
   Fits (union arms) v = ArmFits arms v
   Fits (tree levels max head) t = TreeFits (λ v. Fits head v) levels max t
 
-  -- the discriminant has 32 bits, is that of no earlier arm, and the value fits
+  -- the discriminant has 32 bits and is that of no earlier arm, and the value fits
   pub ArmFits : (arms : Arms) → ArmValues arms → Type 0
   ArmFits no_arm v = ⊥
   ArmFits (arm tag k others) (inl v) = (tag < 2 ^ 32) × Fits k v
   ArmFits (arm tag k others) (inr v) = (tag_of others v ≢ tag) × ArmFits others v
 
--- the bytes spell the value, as this kind
+-- the bytes encode the value, as this kind
 pub record Spells (k : Kind) (bytes : List ℕ) (v : Values k) : Type 0 where
   pub fits : Fits k v
   pub spelt : bytes ≡ spelling k v

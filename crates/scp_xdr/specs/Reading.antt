@@ -7,7 +7,7 @@ use Rattle.scp_types.specs.declared.fault.Fault.TheVariants.{Malformed, TooLong}
 use Rattle.scp_xdr.specs.Tree.{Tree, tree_of}
 use Rattle.scp_xdr.specs.Kind.{Kind, uint32, uint64, fixed, opaque, optional, array, numbered, both, union, tree, Arms, no_arm, arm, Values, ArmValues, padding_len}
 
--- where a reader stands: its place in the whole, and the bytes from there on
+-- where a reader is: its place in the whole, and the bytes from there on
 pub record Cursor : Type 0 where
   pub place : ℕ
   pub rest : List ℕ
@@ -20,12 +20,12 @@ start bytes = record { place = 0; rest = bytes }
 abbrev pub skip : ℕ → Cursor → Cursor
 skip n c = record { place = c.place + n; rest = drop n c.rest }
 
--- a value and what stands after it, or the first fault
+-- a value and where the reader is after it, or the first fault
 abbrev pub Read : Type 0 → Type 0
 Read X = Result (X × Cursor) Fault
 
 infixl 10 ◌>>=◌
--- one reading after another; the first fault stays
+-- one reading after another; the first fault ends both
 abbrev pub ◌>>=◌ : {A B : Type 0} → Result A Fault → (A → Result B Fault) → Result B Fault
 (Ok x) >>= f = f x
 (Err e) >>= f = Err e
@@ -47,7 +47,7 @@ abbrev pub unless_nonzero : Option ℕ → ℕ → ℕ → Cursor → Read (List
 unless_nonzero None n padding c = Ok (take n c.rest, skip padding (skip n c))
 unless_nonzero (Some i) n padding c = Err (Malformed (c.place + n + i))
 
--- n bytes, and zeros behind them
+-- n bytes, and zeros after them
 abbrev pub read_padded : ℕ → ℕ → Cursor → Read (List ℕ)
 read_padded n padding c = if nat_lt (length c.rest) (n + padding) then Err (Malformed c.place) else unless_nonzero (first_nonzero (take padding (drop n c.rest))) n padding c
 
@@ -61,13 +61,13 @@ read_count max c = do
   n ← read_uint32 c
   if nat_lt max n.0 then Err TooLong else Ok n
 
--- bytes behind their length
+-- bytes after their length
 unfoldable pub read_opaque : ℕ → Cursor → Read (List ℕ)
 read_opaque max c = do
   n ← read_count max c
   read_bytes n.0 n.1
 
--- which flag a number is, if it is one
+-- the flag that a number is, or malformed if it is none
 abbrev pub flag_of : ℕ → ℕ → Result Bool Fault
 flag_of place zero = Ok false
 flag_of place (suc zero) = Ok true
@@ -88,7 +88,7 @@ read_items item (suc n) c = do
   others ← read_items item n first.1
   Ok (first.0 ∷ others.0, others.1)
 
--- a flag, and where it is 1 a value
+-- a flag, and if it is 1, a value
 unfoldable pub read_optional : {X : Type 0} → (Cursor → Read X) → Cursor → Read (Option X)
 read_optional item c = do
   flag ← read_flag c
@@ -101,16 +101,16 @@ tree_with head inner c = do
   trees ← inner x.1
   Ok (tree_of x.0 trees.0, trees.1)
 
--- the count of inner trees and each of them, where so many levels may follow; where none may, the count's limit is 0
+-- the count of inner trees and each of them, if this many levels may follow; if none may, the count's limit is 0
 unfoldable pub read_inner : {X : Type 0} → (Cursor → Read X) → ℕ → ℕ → Cursor → Read (List (Tree X))
 read_inner head zero max c = read_count 0 c >>= λ n. Ok ([], n.1)
 read_inner head (suc levels) max c = read_count max c >>= λ n. read_items (tree_with head (read_inner head levels max)) n.0 n.1
 
--- a head, a count, and so many trees
+-- a head, a count, and this many trees
 abbrev pub read_tree : {X : Type 0} → (Cursor → Read X) → ℕ → ℕ → Cursor → Read (Tree X)
 read_tree head levels max c = tree_with head (read_inner head levels max) c
 
--- the first number and the count of what is numbered on from it, at least one and at most so many, the last below 2^64
+-- the first number and the count of what is numbered on from it: at least one, at most the limit, and the last below 2^64
 abbrev pub run_of : ℕ → ℕ → ℕ → ℕ → ℕ → Cursor → Read (ℕ × ℕ)
 run_of max first_place count_place first n c = if n == 0 then Err (Malformed count_place) else (if nat_lt max n then Err TooLong else (if nat_lt (2 ^ 64) (first + n) then Err (Malformed first_place) else Ok ((first, n), c)))
 
@@ -135,17 +135,17 @@ abbrev mutual
   reading (union arms) c = read_uint32 c >>= λ tag. reading_arm arms c.place tag.0 tag.1
   reading (tree levels max head) c = read_tree (λ d. reading head d) levels max c
 
-  -- the place is the discriminant's
+  -- the same of the arm with this discriminant; malformed at the discriminant's place if there is none
   pub reading_arm : (arms : Arms) → ℕ → ℕ → Cursor → Read (ArmValues arms)
   reading_arm no_arm place tag c = Err (Malformed place)
   reading_arm (arm t k others) place tag c =
       if tag == t then (reading k c >>= λ x. Ok (inl x.0, x.1)) else (reading_arm others place tag c >>= λ x. Ok (inr x.0, x.1))
 
--- nothing stands after the value
+-- nothing is left after the value
 unfoldable pub read_end : Cursor → Result Cursor Fault
 read_end c = if length c.rest == 0 then Ok c else Err (Malformed c.place)
 
--- all of the bytes
+-- all of the bytes encode one value, or the first fault
 unfoldable pub reading_whole : (k : Kind) → List ℕ → Result (Values k) Fault
 reading_whole k bytes = do
   x ← reading k (start bytes)

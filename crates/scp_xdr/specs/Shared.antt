@@ -12,7 +12,7 @@ value_kind = opaque 4096
 abbrev pub hash_kind : Kind
 hash_kind = fixed 32
 
--- PUBLIC_KEY_TYPE_ED25519
+-- a node's id: the discriminant PUBLIC_KEY_TYPE_ED25519, which is 0, and 32 bytes
 abbrev pub node_kind : Kind
 node_kind = union (arm 0 (fixed 32) no_arm)
 
@@ -29,6 +29,6 @@ node_of (inr v) = elim v [ ]
 abbrev pub ballot_kind : Kind
 ballot_kind = both uint32 value_kind
 
--- what stands for a ballot: its counter and its value
+-- the value that encodes a ballot: its counter and its value
 abbrev pub ballot_value : Ballot → Values ballot_kind
 ballot_value b = (b.counter, b.value)

@@ -11,7 +11,7 @@ pub record Tree (X : Type 0) : Type 0 where
   pub head : X
   pub inner : Trees X
 
--- how many trees stand in a row
+-- how many trees are in a row
 abbrev pub row_len : {X : Type 0} → Trees X → ℕ
 row_len no_trees = 0
 row_len (tree_then x inner others) = 1 + row_len others

@@ -1,17 +1,17 @@
 //! XDR (RFC 4506): a reader over a slice, a writer into bytes, and values of any kind in between.
 //!
-//! What it promises, for every kind:
-//! - what is read is spelt by just these bytes, and what is spelt so is read;
-//! - no spelling begins another, a value has one spelling, and bytes spell one value at most;
-//! - of bytes that spell nothing the first fault is answered, with its place: a length or a count over
-//!   its limit before missing bytes, missing bytes before padding that isn't zero;
-//! - a value is refused as too long exactly where it doesn't keep its limits, or its spelling is over
-//!   the limit that the caller gave, before memory is taken;
-//! - a refusal of a call of `Reader` or `Writer` leaves it as it was, and `decode` answers want of memory
-//!   only for bytes that spell a value. What reads or writes a part of a value, as `read_array` and the
+//! What it promises, for every kind of XDR:
+//! - a value is read from exactly the bytes that encode it, and each encoding is read;
+//! - no encoding begins another, a value has one encoding, and bytes encode one value at most;
+//! - bytes that encode nothing are refused by their first fault, with its place. A length or a count
+//!   over its limit comes before missing bytes, and missing bytes before padding that isn't zero;
+//! - a value is refused as too long exactly where it breaks a limit of its kind, or its encoding is
+//!   over the caller's limit. This is tested before memory is taken;
+//! - a refusal of a call of `Reader` or `Writer` leaves it as it was. `decode` answers out of memory only
+//!   for bytes that encode a value. What reads or writes a part of a value, as `read_array` and the
 //!   methods of `Xdr` do, may leave the reader or the writer within that part.
 //!
-//! Not claimed: where the reader of such a part stands after a refusal. One that writes a part may leave the beginning of its spelling.
+//! Not claimed: where a refusal leaves the reader of such a part, nor what a refused writer of a part has appended.
 #![tactic(auto)]
 
 mod padding;

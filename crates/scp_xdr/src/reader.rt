@@ -7,8 +7,8 @@ use scp_types::Fault;
 use std::marker::Model;
 
 /// Reads XDR (RFC 4506) from the front of a slice, without memory and without a copy. Each call reads
-/// one item, or answers its first fault and stays where it was: `Fault::Malformed` with the place in
-/// the whole slice, or `Fault::TooLong`.
+/// one item, or answers its first fault and leaves the reader where it was. The faults are
+/// `Fault::Malformed`, with the place in the whole slice, and `Fault::TooLong`.
 #[derive(Drop)]
 pub struct Reader<'a> {
     place: usize,
@@ -52,7 +52,7 @@ impl<'a> Reader<'a> {
         *place
     }
 
-    /// A number of 4 bytes, big-endian (RFC 4506, section 4.2).
+    /// A number in 4 bytes, big-endian (RFC 4506, section 4.2).
     #[tactic(auto, unfolding(crate::specs::Reading::read_uint32))]
     pub fn u32(&mut self) -> Result<u32, Fault>
         ensures { Reads (λ n. n) self.old self.new result (read_uint32 self.old) }
@@ -65,7 +65,7 @@ impl<'a> Reader<'a> {
         Ok(u32::from_be_bytes(*front))
     }
 
-    /// A number of 8 bytes, big-endian (RFC 4506, section 4.5).
+    /// A number in 8 bytes, big-endian (RFC 4506, section 4.5).
     #[tactic(auto, unfolding(crate::specs::Reading::read_uint64))]
     pub fn u64(&mut self) -> Result<u64, Fault>
         ensures { Reads (λ n. n) self.old self.new result (read_uint64 self.old) }
@@ -78,7 +78,7 @@ impl<'a> Reader<'a> {
         Ok(u64::from_be_bytes(*front))
     }
 
-    /// That many bytes, and their padding.
+    /// `len` bytes, and their padding.
     #[tactic(auto, unfolding(crate::specs::Reading::read_bytes))]
     fn bytes(&mut self, len: usize) -> Result<&'a [u8], Fault>
         ensures reads { Reads (λ bytes. bytes.now) self.old self.new result (read_bytes len self.old) }
@@ -100,8 +100,8 @@ impl<'a> Reader<'a> {
         }
     }
 
-    /// `N` bytes, and their padding (RFC 4506, section 4.9). The place of missing bytes is where the
-    /// bytes begin, that of non-zero padding is its first non-zero byte.
+    /// `N` bytes, and their padding (RFC 4506, section 4.9). Missing bytes are malformed where the
+    /// bytes begin, padding at its first byte that isn't zero.
     pub fn fixed<const N: usize>(&mut self) -> Result<[u8; N], Fault>
         ensures { Reads (λ bytes. bytes) self.old self.new result (read_bytes N self.old) }
     {
@@ -111,7 +111,7 @@ impl<'a> Reader<'a> {
         Ok(array)
     }
 
-    /// A count of at most `max` (RFC 4506, section 4.13); more is `Fault::TooLong`.
+    /// A count of at most `max` (RFC 4506, section 4.13); a larger one is `Fault::TooLong`.
     #[tactic(auto, unfolding(crate::specs::Reading::read_count))]
     pub fn count(&mut self, max: u32) -> Result<u32, Fault>
         ensures { Reads (λ n. n) self.old self.new result (read_count max self.old) }
@@ -128,7 +128,7 @@ impl<'a> Reader<'a> {
         Ok(count)
     }
 
-    /// Tests that nothing is left; what is left is malformed where it begins.
+    /// Tests that nothing is left; what is left is malformed at its first byte.
     #[tactic(auto, unfolding(crate::specs::Reading::read_end))]
     pub fn end(&self) -> Result<(), Fault>
         ensures { MatchResult result (λ _. read_end self.now ≡ Ok self.now) (λ f. read_end self.now ≡ Err f) }
@@ -139,8 +139,8 @@ impl<'a> Reader<'a> {
         Ok(())
     }
 
-    /// Bytes behind their length, which is at most `max`, and their padding (RFC 4506, section 4.10).
-    /// A length over `max` comes before missing bytes, these before non-zero padding.
+    /// Bytes after their length, which is at most `max`, and their padding (RFC 4506, section 4.10).
+    /// A length over `max` comes before missing bytes, and these before padding that isn't zero.
     #[tactic(auto, unfolding(crate::specs::Reading::read_opaque))]
     pub fn opaque(&mut self, max: u32) -> Result<&'a [u8], Fault>
         ensures { Reads (λ bytes. bytes.now) self.old self.new result (read_opaque max self.old) }
@@ -157,7 +157,7 @@ impl<'a> Reader<'a> {
         read
     }
 
-    /// 0 or 1, as before an optional (RFC 4506, sections 4.4 and 4.19); else malformed at the flag.
+    /// 0 or 1, as before an optional (RFC 4506, sections 4.4 and 4.19). Another number is malformed, at its own place.
     #[tactic(auto, unfolding(crate::specs::Reading::read_flag))]
     pub fn flag(&mut self) -> Result<bool, Fault>
         ensures { Reads (λ flag. flag) self.old self.new result (read_flag self.old) }

@@ -1,4 +1,4 @@
-//! How many bytes a spelling takes, found without memory: each call takes them off the room.
+//! How many bytes an encoding takes, found without memory. Each call takes them off the room, and answers `None` where the room is too small.
 ghost use Rattle.std.specs.Prelude.{◌+◌, length};
 ghost use Rattle.scp_xdr.specs.Length.{padded_len};
 ghost use Rattle.scp_xdr.specs.Words.{Leaves};

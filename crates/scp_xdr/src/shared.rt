@@ -1,6 +1,6 @@
-//! The spellings of the types that all crates share.
+//! The encodings of the types that all crates share.
 //!
-//! A `let _name = ..` that nothing uses tells the prover the range of that number, or the length of these bytes.
+//! A `let _name = ..` that nothing uses shows the prover the range of that number, or the length of these bytes.
 ghost use Rattle.scp_xdr.specs.Shared.{value_kind, hash_kind, node_kind, node_value, ballot_kind, ballot_value};
 
 use crate::reader::Reader;

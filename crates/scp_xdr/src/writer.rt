@@ -33,7 +33,7 @@ fn put_zeros(out: &mut Vec<u8>, count: usize) -> Result<(), Fault>
     Ok(())
 }
 
-/// The bytes and their padding. A refusal leaves a part of them.
+/// The bytes and their padding. A refusal may leave a part of them.
 #[tactic(auto, unfolding(crate::specs::Kind::padded))]
 fn put_padded(out: &mut Vec<u8>, bytes: &[u8]) -> Result<(), Fault>
     ensures { Extends out.old.items out.new.items result (padded bytes.now) }
@@ -42,7 +42,7 @@ fn put_padded(out: &mut Vec<u8>, bytes: &[u8]) -> Result<(), Fault>
     put_zeros(out, padding_len(bytes.len()))
 }
 
-/// The length, the bytes and their padding. A refusal leaves a part of them.
+/// The length, the bytes and their padding. A refusal may leave a part of them.
 #[tactic(auto, unfolding(crate::specs::Kind::word))]
 fn put_opaque(out: &mut Vec<u8>, bytes: &[u8]) -> Result<(), Fault>
     requires { length bytes.now < 2 ^ 32 }
@@ -53,7 +53,7 @@ fn put_opaque(out: &mut Vec<u8>, bytes: &[u8]) -> Result<(), Fault>
 }
 
 impl Writer {
-    /// A writer of nothing. Takes no memory.
+    /// A writer that has written nothing. Takes no memory.
     pub fn new(alloc: Global) -> Writer
         ensures { result ≡ [] }
     {
@@ -62,7 +62,7 @@ impl Writer {
         }
     }
 
-    /// A writer of nothing, with room for that many bytes. The one refusal is `Fault::NoMemory`.
+    /// A writer that has written nothing, with room for that many bytes. The only refusal is `Fault::NoMemory`.
     pub fn with_capacity(alloc: Global, capacity: usize) -> Result<Writer, Fault>
         ensures empty { IfOk result (λ w. w ≡ []) }
         ensures only_memory { IsOkUnless result Fault.NoMemory }
@@ -98,7 +98,7 @@ impl Writer {
         Ok(())
     }
 
-    /// Bytes whose number the reader knows, and their padding (RFC 4506, section 4.9).
+    /// Bytes whose count the reader knows, and their padding (RFC 4506, section 4.9).
     pub fn fixed(&mut self, bytes: &[u8]) -> Result<(), Fault>
         ensures { Appends self.old self.new result (padded bytes.now) }
     {
@@ -110,7 +110,7 @@ impl Writer {
         written
     }
 
-    /// Bytes of any number up to `max`, behind their length (RFC 4506, section 4.10).
+    /// At most `max` bytes, after their length, and their padding (RFC 4506, section 4.10).
     pub fn opaque(&mut self, max: u32, bytes: &[u8]) -> Result<(), Fault>
         ensures within { length bytes.now ≤ max → Appends self.old self.new result (word (length bytes.now) ++ padded bytes.now) }
         ensures too_long { max < length bytes.now → (result ≡ Err Fault.TooLong) × (self.new ≡ self.old) }

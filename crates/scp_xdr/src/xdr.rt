@@ -13,18 +13,18 @@ use crate::writer::Writer;
 use scp_types::Fault;
 use std::alloc::Global;
 
-/// A type whose values have a spelling (RFC 4506): its kind, and the value of the kind that stands for
-/// a value of the type.
+/// A type whose values have an encoding (RFC 4506): its kind, and for each value of the type the value
+/// of that kind which is encoded.
 pub trait Xdr: Drop {
     ghost kind: { Kind };
 
     ghost value: { Self → Values kind };
 
-    /// Reads a value. Refused by the first fault of the bytes or by `Fault::NoMemory`; where the reader stands then is open.
+    /// Reads a value. Refused by the first fault of the bytes or by `Fault::NoMemory`; a refusal leaves the reader anywhere.
     fn read(alloc: Global, reader: &mut Reader<'_>) -> Result<Self, Fault>
         ensures { Decodes value reader.new result (reading kind reader.old) };
 
-    /// Passes over a value without memory. Refused by the first fault of the bytes; where the reader stands then is open.
+    /// Passes over a value without memory. Refused by the first fault of the bytes; a refusal leaves the reader anywhere.
     fn pass(reader: &mut Reader<'_>) -> Result<(), Fault>
         ensures { GoesPast reader.new result (passing kind reader.old) };
 
@@ -32,12 +32,12 @@ pub trait Xdr: Drop {
     fn fits(&self) -> bool
         ensures { IsTrue result ↔ Fits kind (value self.now) };
 
-    /// How many of `room` bytes are left after the value's spelling, whether the value fits or not; `None` where the
-    /// spelling is longer. Takes no memory.
+    /// How many of `room` bytes are left after the value's encoding, whether the value fits or not. `None` if the
+    /// encoding is longer than the room. Takes no memory.
     fn spend(&self, room: usize) -> Option<usize>
         ensures { Leaves room result (spelled_len kind (value self.now)) };
 
-    /// Writes the value. The one refusal is `Fault::NoMemory`, and a part of the value may be written then.
+    /// Writes the value. The only refusal is `Fault::NoMemory`; a part of the value may be written then.
     fn write(&self, writer: &mut Writer) -> Result<(), Fault>
         requires { Fits kind (value self.now) }
         ensures { Extends writer.old writer.new result (spelling kind (value self.now)) };
@@ -62,7 +62,7 @@ fn pass_whole<T: Xdr>(bytes: &[u8]) -> Result<(), Fault>
     reader.end()
 }
 
-/// Tests that the bytes spell a value, all of the bytes, or finds their first fault. Takes no memory.
+/// Tests that all of the bytes encode one value, or finds their first fault. Takes no memory.
 pub fn check<T: Xdr>(bytes: &[u8]) -> Result<(), Fault>
     ensures found { IfOk result (λ _. (v : Values T.kind) × Spells T.kind bytes.now v) }
     ensures exact { PassesWhole result (reading_whole T.kind bytes.now) }
@@ -71,15 +71,15 @@ pub fn check<T: Xdr>(bytes: &[u8]) -> Result<(), Fault>
     pass_whole::<T>(bytes)
 }
 
-/// Whether the bytes spell a value, all of the bytes. Takes no memory.
+/// Whether all of the bytes encode one value. Takes no memory.
 pub fn is_spelling<T: Xdr>(bytes: &[u8]) -> bool
     ensures { IsTrue result ↔ ((v : Values T.kind) × Spells T.kind bytes.now v) }
 {
     check::<T>(bytes).is_ok()
 }
 
-/// The value that the bytes spell, all of the bytes. Refused by their first fault, `Fault::Malformed` with its place or
-/// `Fault::TooLong`, which is found before memory is taken; else by `Fault::NoMemory`. Goes over the bytes twice.
+/// The value that all of the bytes encode. Refused by their first fault, `Fault::Malformed` with its place or
+/// `Fault::TooLong`, before memory is taken; else by `Fault::NoMemory`. Goes over the bytes twice.
 pub fn decode<T: Xdr>(alloc: Global, bytes: &[u8]) -> Result<T, Fault>
     ensures found { IfOk result (λ v. Spells T.kind bytes.now (T.value v)) }
     ensures only { (v : Values T.kind) → Spells T.kind bytes.now v → Gives T.value result (Ok v) }
@@ -91,7 +91,7 @@ pub fn decode<T: Xdr>(alloc: Global, bytes: &[u8]) -> Result<T, Fault>
     read_whole(alloc, bytes)
 }
 
-/// The spelling of a value that fits, in bytes that are reserved at once.
+/// The encoding of a value that fits, in bytes that are reserved at once.
 fn write_whole<T: Xdr>(alloc: Global, capacity: usize, value: &T) -> Result<Vec<u8>, Fault>
     requires { Fits T.kind (T.value value.now) }
     ensures spells { IfOk result (λ bytes. Spells T.kind bytes.items (T.value value.now)) }
@@ -102,8 +102,8 @@ fn write_whole<T: Xdr>(alloc: Global, capacity: usize, value: &T) -> Result<Vec<
     Ok(writer.into_vec())
 }
 
-/// The one spelling of the value. `Fault::TooLong` exactly where the value breaks a limit of its kind, else
-/// `Fault::NoMemory`.
+/// The one encoding of the value. `Fault::TooLong` exactly where the value breaks a limit of its kind; the
+/// only other refusal is `Fault::NoMemory`.
 pub fn encode<T: Xdr>(alloc: Global, value: &T) -> Result<Vec<u8>, Fault>
     ensures spells { IfOk result (λ bytes. Spells T.kind bytes.items (T.value value.now)) }
     ensures too_long { IsErrOf result Fault.TooLong ↔ ¬ (Fits T.kind (T.value value.now)) }
@@ -119,8 +119,8 @@ pub fn encode<T: Xdr>(alloc: Global, value: &T) -> Result<Vec<u8>, Fault>
     write_whole(alloc, capacity, value)
 }
 
-/// The one spelling of the value, where it has at most `limit` bytes. `Fault::TooLong` exactly where it has more, or the
-/// value breaks a limit of its kind, which is tested before memory is taken; else `Fault::NoMemory`.
+/// The one encoding of the value, if it has at most `limit` bytes. `Fault::TooLong` exactly where it has more, or the
+/// value breaks a limit of its kind; this is tested before memory is taken. The only other refusal is `Fault::NoMemory`.
 pub fn encode_within<T: Xdr>(alloc: Global, limit: usize, value: &T) -> Result<Vec<u8>, Fault>
     ensures spells { IfOk result (λ bytes. Spells T.kind bytes.items (T.value value.now)) }
     ensures within { IfOk result (λ bytes. length bytes.items ≤ limit) }
@@ -136,7 +136,7 @@ pub fn encode_within<T: Xdr>(alloc: Global, limit: usize, value: &T) -> Result<V
     write_whole(alloc, limit - left, value)
 }
 
-/// That many values, one after the other.
+/// `count` values, one after the other.
 fn read_times<T: Xdr>(alloc: Global, count: u32, reader: &mut Reader<'_>) -> Result<Vec<T>, Fault>
     ensures { Decodes (λ xs. map T.value xs.items) reader.new result (read_items (λ c. reading T.kind c) count reader.old) }
 {
@@ -148,7 +148,7 @@ fn read_times<T: Xdr>(alloc: Global, count: u32, reader: &mut Reader<'_>) -> Res
     Ok(items)
 }
 
-/// At most `max` values, after their count (RFC 4506, section 4.13); a larger count is `Fault::TooLong`.
+/// At most `max` values, after their count (RFC 4506, section 4.13). A larger count is `Fault::TooLong`.
 pub fn read_array<T: Xdr>(alloc: Global, max: u32, reader: &mut Reader<'_>) -> Result<Vec<T>, Fault>
     ensures { Decodes (λ xs. map T.value xs.items) reader.new result (reading (array max T.kind) reader.old) }
 {
@@ -156,9 +156,9 @@ pub fn read_array<T: Xdr>(alloc: Global, max: u32, reader: &mut Reader<'_>) -> R
     read_times(alloc, count, reader)
 }
 
-/// A first number, and at least one and at most `max` values behind their count, which are numbered on from it. No value is
-/// `Fault::Malformed` at the count, a larger count is `Fault::TooLong`, and a last number over 64 bits is
-/// `Fault::Malformed` at the first number; these are tested before any value is read.
+/// A first number, then the count of values that are numbered on from it, then these values. A count of 0 is
+/// `Fault::Malformed` at the count, one over `max` is `Fault::TooLong`, and a last number over 64 bits is
+/// `Fault::Malformed` at the first number. All three are tested before any value is read.
 pub fn read_numbered<T: Xdr>(
     alloc: Global,
     max: u32,
@@ -171,7 +171,7 @@ pub fn read_numbered<T: Xdr>(
     Ok((first, items))
 }
 
-/// The first number, and the count of what is numbered on from it.
+/// The first number, and the count of values that are numbered on from it.
 #[tactic(auto, unfolding(crate::specs::Reading::read_run))]
 fn read_run(max: u32, reader: &mut Reader<'_>) -> Result<(u64, u32), Fault>
     ensures { Parses (λ x. x) reader.new result (read_run max reader.old) }
@@ -192,7 +192,7 @@ fn read_run(max: u32, reader: &mut Reader<'_>) -> Result<(u64, u32), Fault>
     Ok((first, count))
 }
 
-/// A value after a flag, or none (RFC 4506, section 4.19); another flag than 0 and 1 is `Fault::Malformed`.
+/// A value after a flag, or none (RFC 4506, section 4.19). A flag other than 0 and 1 is `Fault::Malformed`.
 #[tactic(auto, unfolding(crate::specs::Reading::read_optional))]
 pub fn read_optional<T: Xdr>(alloc: Global, reader: &mut Reader<'_>) -> Result<Option<T>, Fault>
     ensures { Decodes (λ x. option_map T.value x) reader.new result (reading (optional T.kind) reader.old) }
@@ -204,7 +204,7 @@ pub fn read_optional<T: Xdr>(alloc: Global, reader: &mut Reader<'_>) -> Result<O
     }
 }
 
-/// Passes over that many values, one after the other.
+/// Passes over `count` values, one after the other.
 fn pass_times<T: Xdr>(count: u32, reader: &mut Reader<'_>) -> Result<(), Fault>
     ensures { GoesPast reader.new result (pass_items (λ c. passing T.kind c) count reader.old) }
 {
@@ -214,7 +214,7 @@ fn pass_times<T: Xdr>(count: u32, reader: &mut Reader<'_>) -> Result<(), Fault>
     Ok(())
 }
 
-/// Passes over at most `max` values behind their count, without memory.
+/// Passes over at most `max` values after their count, without memory.
 pub fn pass_array<T: Xdr>(max: u32, reader: &mut Reader<'_>) -> Result<(), Fault>
     ensures { GoesPast reader.new result (passing (array max T.kind) reader.old) }
 {
@@ -222,7 +222,7 @@ pub fn pass_array<T: Xdr>(max: u32, reader: &mut Reader<'_>) -> Result<(), Fault
     pass_times::<T>(count, reader)
 }
 
-/// Passes over a first number and the values that are numbered on from it, without memory.
+/// Passes over a first number, a count and the values that are numbered on from it, without memory.
 pub fn pass_numbered<T: Xdr>(max: u32, reader: &mut Reader<'_>) -> Result<(), Fault>
     ensures { GoesPast reader.new result (passing (numbered max T.kind) reader.old) }
 {
@@ -230,7 +230,7 @@ pub fn pass_numbered<T: Xdr>(max: u32, reader: &mut Reader<'_>) -> Result<(), Fa
     pass_times::<T>(count, reader)
 }
 
-/// Passes over a flag and the value behind it, if there is one, without memory.
+/// Passes over a flag and the value after it, if there is one, without memory.
 #[tactic(auto, unfolding(crate::specs::Passing::pass_optional))]
 pub fn pass_optional<T: Xdr>(reader: &mut Reader<'_>) -> Result<(), Fault>
     ensures { GoesPast reader.new result (passing (optional T.kind) reader.old) }
@@ -247,7 +247,7 @@ fn all_fit<T: Xdr>(items: &[T]) -> bool
     items.iter().all(|item| item.fits())
 }
 
-/// Whether the values keep their limits and are at most `max`.
+/// Whether the values keep their limits and there are at most `max`.
 pub fn array_fits<T: Xdr>(max: u32, items: &[T]) -> bool
     ensures { IsTrue result ↔ Fits (array max T.kind) (map T.value items.now) }
 {
@@ -264,7 +264,7 @@ fn write_times<T: Xdr>(writer: &mut Writer, items: &[T]) -> Result<(), Fault>
     Ok(())
 }
 
-/// Writes the values behind their count. A refusal leaves a part of them.
+/// Writes the count of the values, then the values. A refusal may leave a part of them.
 pub fn write_array<T: Xdr>(writer: &mut Writer, max: u32, items: &[T]) -> Result<(), Fault>
     requires { Fits (array max T.kind) (map T.value items.now) }
     ensures { Extends writer.old writer.new result (spelling (array max T.kind) (map T.value items.now)) }
@@ -273,7 +273,7 @@ pub fn write_array<T: Xdr>(writer: &mut Writer, max: u32, items: &[T]) -> Result
     write_times(writer, items)
 }
 
-/// Writes a first number and the values that are numbered on from it, behind their count. A refusal leaves a part of them.
+/// Writes a first number, a count and the values that are numbered on from it. A refusal may leave a part of them.
 pub fn write_numbered<T: Xdr>(
     writer: &mut Writer,
     max: u32,
@@ -288,7 +288,7 @@ pub fn write_numbered<T: Xdr>(
     write_times(writer, items)
 }
 
-/// Whether the values are at least one and at most `max`, keep their limits, and the last number has 64 bits.
+/// Whether there is at least one value and at most `max`, each keeps its limits, and the last number has 64 bits.
 pub fn numbered_fits<T: Xdr>(max: u32, first: u64, items: &[T]) -> bool
     ensures { IsTrue result ↔ Fits (numbered max T.kind) (first, map T.value items.now) }
 {
@@ -302,7 +302,7 @@ pub fn numbered_fits<T: Xdr>(max: u32, first: u64, items: &[T]) -> bool
     first <= u64::MAX - (count as u64 - 1) && all_fit(items)
 }
 
-/// Writes a flag and the value, if there is one. A refusal leaves a part of it.
+/// Writes a flag and the value, if there is one. A refusal may leave a part of it.
 pub fn write_optional<T: Xdr>(writer: &mut Writer, item: &Option<T>) -> Result<(), Fault>
     requires { Fits (optional T.kind) (option_map T.value item.now) }
     ensures { Extends writer.old writer.new result (spelling (optional T.kind) (option_map T.value item.now)) }
@@ -337,7 +337,7 @@ fn spend_times<T: Xdr>(items: &[T], room: usize) -> Option<usize>
     Some(left)
 }
 
-/// Takes the length of the values' spelling, behind their count, off the room.
+/// Takes the length of the values' encoding, with their count, off the room.
 pub fn spend_array<T: Xdr>(items: &[T], room: usize) -> Option<usize>
     ensures { Leaves room result (4 + sum_by (λ v. spelled_len T.kind v) (map T.value items.now)) }
 {
@@ -345,7 +345,7 @@ pub fn spend_array<T: Xdr>(items: &[T], room: usize) -> Option<usize>
     spend_times(items, left)
 }
 
-/// Takes the length of a flag and of the value, if there is one, off the room.
+/// Takes the length of a flag and of the value's encoding, if there is one, off the room.
 pub fn spend_optional<T: Xdr>(item: &Option<T>, room: usize) -> Option<usize>
     ensures { Leaves room result (spelled_len (optional T.kind) (option_map T.value item.now)) }
 {
@@ -356,27 +356,27 @@ pub fn spend_optional<T: Xdr>(item: &Option<T>, room: usize) -> Option<usize>
     }
 }
 
-/// No spelling of a kind begins another, and none spells two values.
+/// No encoding of a kind begins another, and no bytes encode two values.
 pub fn no_spelling_begins_another()
     ensures { (k : Kind) (v w : Values k) (x y : List ℕ) → Fits k v → Fits k w → spelling k v ++ x ≡ spelling k w ++ y → (v ≡ w) × (x ≡ y) }
 {}
 
-/// What is written is read back as the value that was written, bytes spell one value at most, and a
-/// value has one spelling at most.
+/// What is written is read back as the value that was written. Bytes encode one value at most, and
+/// a value has one encoding at most.
 pub fn what_is_written_is_read_back()
     ensures read_back { (k : Kind) (v : Values k) → Fits k v → reading_whole k (spelling k v) ≡ Ok v }
     ensures one_value { (k : Kind) (bytes : List ℕ) (v w : Values k) → Spells k bytes v → Spells k bytes w → v ≡ w }
     ensures one_spelling { (k : Kind) (x y : List ℕ) (v : Values k) → Spells k x v → Spells k y v → x ≡ y }
 {}
 
-/// Passing over a value is reading it and keeping nothing: it ends at the same place, or at the same
-/// fault. So is passing over all bytes.
+/// Passing over a value is reading it without keeping it: both end at the same place, or with the
+/// same fault. So is passing over all of the bytes.
 pub fn passing_is_reading_without_the_value()
     ensures value { (k : Kind) (c : Cursor) → passing k c ≡ left_of (reading k c) }
     ensures whole { (k : Kind) (bytes : List ℕ) → PassesWhole (passing_whole k bytes) (reading_whole k bytes) }
 {}
 
-/// The length that is told without the spelling is that of the spelling.
+/// The length that is found without the encoding is that of the encoding.
 pub fn a_spelling_has_its_length()
     ensures { (k : Kind) (v : Values k) → length (spelling k v) ≡ spelled_len k v }
 {}

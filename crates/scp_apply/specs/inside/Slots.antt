@@ -8,14 +8,14 @@ use Rattle.scp_apply.specs.declared.applier.Applier.TheInside as applier
 use Rattle.scp_apply.specs.Applied.{AreInOrder, made_of}
 use Rattle.scp_apply.specs.Applier.{ApplierView}
 
--- slots 1 to n in order, and what is buffered is of the 16 slots from n + 1 on, no slot twice
+-- slots 1 to n are applied in order; what is buffered is of the 16 slots from n + 1 on, no slot twice
 pub record IsApplied (s : Slots) : Type 0 where
   pub in_order : AreInOrder 1 s.applied.items
   pub above : All (λ d. length s.applied.items < d.slot.0) s.buffer.items
   pub near : All (λ d. d.slot.0 ≤ length s.applied.items + 16) s.buffer.items
   pub one : OnePerSlot s.buffer.items
 
--- besides, slot n + 1 isn't buffered
+-- and slot n + 1 isn't buffered
 pub record IsSound (s : Slots) : Type 0 where
   pub is_applied : IsApplied s
   pub next_missing : All (λ d. d.slot.0 ≢ length s.applied.items + 1) s.buffer.items

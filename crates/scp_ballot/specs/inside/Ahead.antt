@@ -10,7 +10,7 @@ use Rattle.scp_ballot_rules.specs.Owed.{AreAheadOf, counter_in}
 abbrev pub IsAhead : Seen → ℕ → NodeId → Type 0
 IsAhead b n v = (v ≢ b.me) × IsSomeAnd (b.statement v) (λ p. n < counter_in p)
 
--- just those are picked
+-- exactly those are picked
 abbrev pub PicksAhead : Seen → ℕ → (NodeId → Bool) → Type 0
 PicksAhead b n nodes = (v : NodeId) → (nodes v ≡ true) ↔ IsAhead b n v
 
@@ -19,11 +19,11 @@ abbrev pub or_floor : ℕ → Option ℕ → ℕ
 or_floor n None = n
 or_floor n (Some top) = top
 
--- the least so far, or the counter where it is above n, lower, and free: the nodes above it don't block the local set
+-- the counter if it is above n, lower than the least so far, and free, so that the nodes above it don't block the local set; else the least
 abbrev pub Lessens : Seen → ℕ → ℕ → ℕ → ℕ → Type 0
 Lessens b n counter least new =
     ((new ≡ counter) × (n < counter) × (counter < least) × ¬ (AreAheadOf b counter)) ⊎ ((new ≡ least) × (n < counter → ¬ (AreAheadOf b counter) → least ≤ counter))
 
--- no statement's counter above n that is free is less
+-- no free counter of a statement above n is less
 abbrev pub IsLeastOfStatement : Seen → ℕ → ℕ → NodeId → Type 0
 IsLeastOfStatement b n least v = ForSome (b.statement v) (λ p. n < counter_in p → ¬ (AreAheadOf b (counter_in p)) → least ≤ counter_in p)

@@ -26,7 +26,7 @@ use Rattle.scp_ballot.specs.inside.Exactly.{ComesTo}
 abbrev pub IsWorth : Option Statement → Statement → Type 0
 IsWorth before own = IsSane own.pledges × ForSome before (λ s. IsNewer s own)
 
--- the own statement of the machine is emitted where it is worth it, and is then the last one emitted
+-- the machine's own statement is emitted if it is worth emitting, and is then the last one emitted
 pub record Emits (old new : Machine) (found : Option Envelope) : Type 0 where
   pub frame : new ≡ record old { emitted = new.emitted }
   pub some : IfSome found (λ e. IsOwnStatement old old.state e.statement × (e.signature ≡ []) × IsWorth old.emitted e.statement × (new.emitted ≡ Some e.statement))
@@ -40,7 +40,7 @@ pub record IsCertifiedAt (m : Machine) (low : Ballot) (d : Certified) : Type 0 w
   pub own : IsOwnStatement m m.state d.own.statement
   pub unsigned : d.own.signature ≡ []
 
--- a decision is there just where the phase has become Externalize
+-- there is a decision exactly where the phase has become Externalize
 pub record Decides (before : Phase) (m : Machine) (found : Option Certified) : Type 0 where
   pub exactly : IsSome found ↔ ((before ≢ Externalize) × (m.state.phase ≡ Externalize))
   pub certified : ForSome found (λ d. IsSomeAnd m.state.low (λ low. IsCertifiedAt m low d))

@@ -41,7 +41,7 @@ pub record TakesTimer (old new : Machine) (given : Balloted) : Type 0 where
   pub exact : Answers (λ s t. Time s t) old.state first
   pub gives : Gives old first new given
 
--- another node's ballot statement of this slot, before anything is externalized
+-- another node's ballot statement of this slot, while nothing is externalized
 abbrev pub IsHeardBy : Machine → Envelope → Type 0
 IsHeardBy m e = (e.statement.node ≢ (ballots_on m.board).me) × (e.statement.slot ≡ m.slot) × (kind_of_pledges e.statement.pledges ≡ Balloting) × (m.state.phase ≢ Externalize)
 

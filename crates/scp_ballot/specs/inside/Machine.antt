@@ -41,7 +41,7 @@ pub record IsOwnStatement (m : Machine) (s : State) (made : Statement) : Type 0 
   pub slot : made.slot ≡ m.slot
   pub pledges : made.pledges ≡ own_of m.hash s
 
--- what is externalized is Confirmed, at its high end
+-- what is externalized is confirmed on the board, at its high end
 abbrev pub IsConfirmedAt : Seen → State → Type 0
 IsConfirmedAt b s = s.phase ≡ Externalize → Confirmed b (Committed (counter_of s.high) (counter_of s.high) (or_zero s.low).value)
 
@@ -52,7 +52,7 @@ pub record IsAtRest (m : Machine) : Type 0 where
   pub ready : IsReady m.state
   pub emitted : ForSome m.emitted (λ (s : Statement). (s.node ≡ (ballots_on m.board).me) × (s.slot ≡ m.slot))
 
--- What holds while the rules are applied, since the machine was the first one and the input made a state of its state. What is
+-- What holds while the rules are applied, compared with the first machine and what the input made of its state. What is
 -- externalized stays as it is.
 pub record IsSettled (first : Machine) (input : Option State) (now : Machine) : Type 0 where
   pub rest : KeepsRest first now

@@ -1,5 +1,5 @@
--- What it says that no rule of the ballot machine changes its state.
--- Here stands what no public clause reaches: nothing here need be believed.
+-- What it means that no rule of the ballot machine changes its state.
+-- No public clause reaches these definitions: nothing here need be believed.
 use Rattle.scp_vote.specs.Board.{Seen}
 use Rattle.scp_ballot_rules.specs.declared.state.State.{State}
 use Rattle.scp_ballot_rules.specs.declared.state.Phase.{Phase}
@@ -9,7 +9,7 @@ use Rattle.scp_ballot_rules.specs.Ready.{HasValue}
 use Rattle.scp_ballot_rules.specs.Owed.{AreAheadOf}
 use Rattle.scp_ballot_rules.specs.Rests.{AcceptsNoMore, ConfirmsNoMore, CommitsNone, CommitsNoHigher, ConfirmsNone}
 
--- The others aren't ahead, or there is no value for a raised ballot.
+-- The other nodes aren't ahead, or there is no value for a raised ballot.
 abbrev pub RaisesNone : Seen → State → Type 0
 RaisesNone b s = AreAheadOf b (counter_of s.present) → ¬ (HasValue s)
 

@@ -1,5 +1,5 @@
--- What each rule of the ballot machine does to its state, over what a node sees.
--- Here stands what no public clause reaches: nothing here need be believed.
+-- What each rule of the ballot machine does to its state, given what the node sees.
+-- No public clause reaches these definitions: nothing here need be believed.
 use Rattle.std.specs.Prelude.{◌≡◌, ◌<◌, ◌⊎◌, ℕ, List, Some, None, IsSome, IsSomeAnd}
 use Rattle.std.specs.Option.{ForSome}
 use Rattle.scp_vote.specs.Board.{Seen}
@@ -10,7 +10,7 @@ use Rattle.scp_ballot_rules.specs.Ready.{HasValue}
 use Rattle.scp_ballot_rules.specs.Owed.{AreAheadOf}
 use Rattle.scp_ballot_rules.specs.Rules.{AcceptsPrepared, AcceptsMore, ConfirmsPrepared, AcceptsCommit, ConfirmsCommit, raised_value, Grows}
 
--- A higher counter, in the phase Prepare.
+-- Raise the counter, in the phase Prepare.
 pub record Raises (old next : State) : Type 0 where
   pub frame : next ≡ record old { present = next.present; high = next.high; low = next.low }
   pub value : HasValue old
@@ -20,17 +20,17 @@ pub record Raises (old next : State) : Type 0 where
   pub no_high : old.confirmed ≡ None → next.high ≡ old.high
   pub low : (next.low ≡ None) ⊎ ((next.low ≡ old.low) × ForSome old.low (λ c. IsSomeAnd next.present (λ b. c.value ≡ b.value)))
 
--- A higher counter where the others are ahead, in the phase Prepare.
+-- Raise the counter because the others are ahead, in the phase Prepare.
 pub record CatchesUp (b : Seen) (old next : State) : Type 0 where
   pub raises : Raises old next
   pub ahead : AreAheadOf b (counter_of old.present)
 
--- A higher counter, in the phase Confirm.
+-- Raise the counter, in the phase Confirm.
 pub record RaisesMore (old next : State) : Type 0 where
   pub frame : next ≡ record old { present = next.present }
   pub present : IsSomeAnd next.present (λ b. (counter_of old.present < b.counter) × IsSomeAnd old.low (λ c. b.value ≡ c.value))
 
--- A composite comes: it is kept, and a first ballot is made of it.
+-- A composite comes: it is kept, and if there is no ballot yet, the first is made of it.
 pub record Composes (z : List ℕ) (old next : State) : Type 0 where
   pub frame : next ≡ record old { present = next.present; composite = Some z }
   pub present : ((next.present ≡ old.present) × IsSome old.present) ⊎ ((old.present ≡ None) × (next.present ≡ Some (record { counter = 1; value = z })))

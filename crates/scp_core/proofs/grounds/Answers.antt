@@ -39,7 +39,7 @@ module _ {D : Type 0} (says : Says D) where
       let all : Contains (commands_of (took ++ leaving)) (Ask link slot) = subst (λ (cs : List Command). Contains cs (Ask link slot)) (sym (flat_map-append passed took leaving)) (Contains-append_right (commands_of took) (commands_of leaving) (Ask link slot) here) in
       command_in f.arrived link slot (subst (λ (cs : List Command). Contains cs (Ask link slot)) verdicts.commands all)
 
-  -- a request that the applier takes stands in the journal
+  -- a request that the applier takes is in the journal
   request_there : (p : Past) (v : NodeView D) (f : Flows says p v) (rest : List Onward) (link : ℕ) (slot : Slot) → v.decided ≡ Asked link slot ∷ rest → Contains (flat_map (request_by v.config.peers) v.ledger.journal) (Asked link slot)
   request_there p v f rest link slot e =
       let behind : List Onward = rest ++ option_to_list v.slot_hand in

@@ -38,7 +38,7 @@ module _ {D : Type 0} where
 
 -- ---- at first, and with nothing more sent
 
--- each of so many is the same
+-- each of this many is the same
 get_replicate : {X : Type 0} (n : ℕ) (x : X) (l : ℕ) (y : X) → slice_get (replicate n x) l ≡ Some y → y ≡ x
 get_replicate zero x l y e = absurd cc
 get_replicate (suc n) x zero y e = cc

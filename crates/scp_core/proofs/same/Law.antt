@@ -14,7 +14,7 @@ use Rattle.scp_core.proofs.same.Nodes.{Laws, KeptAlike, kept_of, step_both}
 use Rattle.scp_core.proofs.same.Stages.{heads, tails}
 
 module _ {D : Type 0} where
-  -- how the nodes stand to each other behind the same exchanges
+  -- how the nodes compare after the same exchanges
   record Stand (p : Past) (v w : NodeView D) : Type 0 where
     kept : KeptAlike v w
     runs : p.failed ≡ false → RunAlike v w

@@ -84,7 +84,7 @@ not_less a b h = elim (cases_lt a b) [
   | inr le ↦ le
 ]
 
--- a slot that isn't open is told so in one way
+-- a slot that isn't open is reported so in one way
 gate_one : (lowest : ℕ) (ds : List Decision) (slot : ℕ) (later other : Verdict → Type 0) (a b : Verdict) → (IsOpen lowest ds slot → later a → other b → a ≡ b) → BehindWindow lowest ds slot later a → BehindWindow lowest ds slot other b → a ≡ b
 gate_one lowest ds slot later other a b rest x y =
     first_one (slot < lowest) (slot < lowest) OldSlot _ _ a b x y (λ p. p) (λ p. p) (λ not_old x2 y2.
@@ -125,7 +125,7 @@ both_there None b P Q x y one = absurd x
 both_there (Some p) None P Q x y one = absurd y
 both_there (Some p) (Some q) P Q x y one = ap Some (one p q x y)
 
--- what a machine that stands at a slot lets be told
+-- what a machine at a slot lets be reported
 abbrev by_proposal : SlotView → CommandFate → Type 0
 by_proposal m fate = FirstOf (IsSome m.nomination.proposal) ProposedBefore (λ f. f ≡ Proposed) fate
 
@@ -181,7 +181,7 @@ module _ {D : Type 0} (level : D → ℕ → List ℕ → Level) (extracted : D 
   start_one at (Some p) None m k h x y = absurd h
   start_one at (Some p) (Some q) m k h x y = subst (λ (z : SlotMachine D). (driver_of z ≡ driver_of k) × ShowSameSlot (slot_view z) (slot_view k)) (sym x) (subst (λ (z : SlotMachine D). (driver_of p ≡ driver_of z) × ShowSameSlot (slot_view p) (slot_view z)) (sym y) h)
 
-  -- which machine stands there afterwards
+  -- which machine is there afterwards
   stands_one : (b c : Bool) (m k : SlotMachine D) (o p : Option (SlotMachine D)) → (driver_of m ≡ driver_of k) × ShowSameSlot (slot_view m) (slot_view k) → ShowSameMachine o p → ShowSameMachine (cond b (cond c None (Some m)) o) (cond b (cond c None (Some k)) p)
   stands_one true true m k o p new old = tt
   stands_one true false m k o p new old = new
@@ -360,7 +360,7 @@ module _ {D : Type 0} (level : D → ℕ → List ℕ → Level) (extracted : D 
       takes_one (ready.Closed conn cause) x y = passes_one None None _ _ t s v2 w2 refl refl x y
       takes_one (ready.Local command) x y = command_one command x y
 
-  -- ---- what is told of commands
+  -- ---- what is reported of commands
 
   by_machine : (at : Slot) (told other : SlotView → CommandFate → Type 0) (a b : CommandFate) → ((m k : SlotView) → ShowSameSlot m k → told m a → other k b → a ≡ b) → ByMachine v at told a → ByMachine w at other b → a ≡ b
   by_machine at told other a b one x y = one (slot_view x.0) (slot_view y.0) (start_one at (machine_at v.machines at.0) (machine_at ms at.0) x.0 y.0 (machines at.0) x.1 y.1).1 x.2 y.2

@@ -72,7 +72,7 @@ pick Nominating Balloting h old new its others x = others Nominating (λ e. cc) 
 pick Balloting Nominating h old new its others x = others Balloting (λ e. cc) x
 pick Balloting Balloting h old new its others x = its x
 
--- what stands of a kind and a node, once this was heard
+-- what is there of a kind and a node, once this was heard
 abbrev stands_then : Heard → StatementKind → NodeId → Option Heard → Option Heard
 stands_then h k x before = cond (same_kind k (kind_of_pledges h.statement.pledges)) (cond (is_at (node_cmp h.statement.node) x) (Some h) before) before
 
@@ -280,7 +280,7 @@ module _ {D : Type 0} (level : D → ℕ → List ℕ → Level) (extracted : D 
             let part : BallotPart o p a b = ballots_one o p a b decides settles up ascends x.ballots y.ballots (comes_one law.input (λ s t. t ≡ s) (λ s t u f g. f ∙ sym g) x.exact.board y.exact.board v.ballots a.ballots b.ballots (ballots_given o) (ballots_given p) board x.exact.comes y.exact.comes x.ballots.advances y.ballots.advances x.ballots.working y.ballots.working) in
             balloted o p a b decides settles up ascends (x.nomination ∙ sym y.nomination) (x.machine.me ∙ sym y.machine.me) (x.machine.slot ∙ sym y.machine.slot) (entered e set there v other a b sets same x.enters y.enters) (x.verdict ∙ sym y.verdict) (x.emitted ∙ sym y.emitted) part
 
-        -- where a nomination is heard, it stood not on the board before
+        -- where a nomination is heard, it wasn't on the board before
         was_new : (shows : v.nomination.board.statement e.statement.node ≡ option_map (λ (h : Kept). h.statement.pledges) (v.newest Nominating e.statement.node)) → (¬ (IsBehind (v.newest Nominating e.statement.node) e.statement)) → v.nomination.board.statement e.statement.node ≡ Some e.statement.pledges → ⊥
         was_new shows fresh stood = by_newest (v.newest Nominating e.statement.node) (sym shows ∙ stood) fresh
           where

@@ -1,4 +1,4 @@
--- The slot stage, the queue behind it and the applier, as the code keeps them; nothing here need be believed.
+-- The slot stage, the queue after it and the applier, as the code keeps them; nothing here need be believed.
 use Rattle.std.specs.Prelude.{ℕ, ◌≡◌, ◌≢◌, Bool, true, false, List, [], ◌∷◌, ◌++◌, Option, Some, None, length, option_to_list, Result, Ok, Err}
 use Rattle.std.specs.List.Sorted.{IsPermutation}
 use Rattle.scp_driver.specs.Driver.{Says}
@@ -51,7 +51,7 @@ module _ {D : Type 0} where
   fail v = record v { failed = true }
 
 module _ {D : Type 0} (says : Says D) where
-  -- while it runs: what was decided is what the applier took, then what waits in the queue, then the hand
+  -- while it runs, what was decided is what the applier took, then what waits in the queue, then the hand
   pub record IsSound (v : DeciderView D) : Type 0 where
     pub ledger_runs : v.ledger.failed ≡ false
     pub applier_runs : v.applier.failed ≡ false

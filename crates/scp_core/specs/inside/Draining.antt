@@ -7,7 +7,7 @@ use Rattle.scp_outboxes.specs.Handing.{GivesThere}
 use Rattle.scp_core.specs.declared.event.Reply.{Reply}
 use Rattle.scp_core.specs.declared.event.Reply.TheVariants.{Idle, Sent, NoLink, NoMemory}
 
--- a message is spelt, unless there is no memory for it
+-- a message is encoded, unless there is no memory for it
 abbrev pub IsSpelt : Message → Reply → Type 0
 IsSpelt message (Sent bytes) = SpellsMessage bytes (message_value message)
 IsSpelt message NoMemory = Unit {0}
@@ -17,7 +17,7 @@ IsSpelt message reply = ⊥
 abbrev pub empty_reply : ℕ → ℕ → Reply
 empty_reply count link = if nat_lt link count then Idle else NoLink
 
--- what is next at the link is spelt
+-- what is next at the link is encoded
 abbrev pub Draws : List OutboxView → ℕ → Reply → List OutboxView → Type 0
 Draws old link (Sent bytes) new = (message : Message) × GivesThere old link (Some message) new × SpellsMessage bytes (message_value message)
 Draws old link NoMemory new = (message : Message) × GivesThere old link (Some message) new

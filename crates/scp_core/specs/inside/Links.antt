@@ -36,11 +36,11 @@ Reads k Moved k2 = (k.hand ≡ []) × (x : LinkItem) × (rest : List LinkItem) �
 Reads k NoMemory k2 = (k.hand ≡ []) × (k.queue ≢ []) × (k2.life ≡ k.life) × (room_in k2 ≡ room_in k + 1)
 Reads k reply k2 = ⊥
 
--- one of the links, if it is there
+-- this happened to the link, if it is there; otherwise the reply is NoLink
 abbrev pub OnLinks : (LinkView → Reply → LinkView → Type 0) → List LinkView → ℕ → Reply → List LinkView → Type 0
 OnLinks does old l reply new = ((slice_get old l ≡ None) × (reply ≡ NoLink) × (new ≡ old)) ⊎ ((k : LinkView) × (k2 : LinkView) × (slice_get old l ≡ Some k) × does k reply k2 × (new ≡ slice_set old l k2))
 
--- the first of what is in the hand goes out where there is room for it
+-- the first thing in the hand goes out if there is room for it
 abbrev pub Gives : LinkView → Bool → Result Inbound Reply → LinkView → Type 0
 Gives k full (Err Idle) k2 = (k.hand ≡ []) × (k2 ≡ k)
 Gives k full (Err Blocked) k2 = (k.hand ≢ []) × (full ≡ true) × (k2 ≡ k)

@@ -12,7 +12,7 @@ use Rattle.scp_ledger.specs.By.{TakesBy, TellsBy, RunsBy}
 use Rattle.scp_core.specs.Node.{HandsEach, said_in}
 
 module _ {D : Type 0} where
-  -- a ledger, or so much of its lists as one shows that failed
+  -- a ledger; of one that failed, its lists cut to what is shown
   abbrev pub shown : Option Shown → LedgerView D → LedgerView D
   shown None v = v
   shown (Some so_much) v = record v { failed = true; journal = take so_much.journal v.journal; decisions = take so_much.decisions v.decisions }

@@ -36,7 +36,7 @@ module _ {D : Type 0} (says : Says D) where
     pub applier_is : v.applier ≡ record { failed = false; applied = []; buffer = [] }
     pub outboxes : v.outboxes ≡ replicate (length v.config.peers) empty_outbox
 
-  -- one event more was played, and its reply was added
+  -- one more event was played, and its reply was added
   pub record Answers (event : Event) (old : NodeView D) (before : List Reply) (new : NodeView D) (after' : List Reply) : Type 0 where
     pub reply : Reply
     pub added : after' ≡ before ++ reply ∷ []

@@ -23,7 +23,7 @@ IsMarking p = (view p).marks ≡ true
 abbrev pub IsTaking : Pass OutboxView Part → Type 0
 IsTaking p = (view p).takes ≡ true
 
--- the pass of the producer of this number
+-- the pass of the producer with this number
 abbrev pub IsPutting : ℕ → Pass OutboxView Part → Type 0
 IsPutting number p = IsPutter number (view p)
 

@@ -1,4 +1,4 @@
--- What a pass of the channel is to the end that holds it; nothing here need be believed.
+-- What a channel's pass is for the end that holds it; nothing here need be believed.
 use Rattle.std.specs.Prelude.{◌≡◌, ℕ, true, false, List, []}
 use Rattle.crossbeam_channel.specs.Claims.{Pass, view}
 use Rattle.scp_ends.specs.declared.item.Item.{Item}
@@ -10,15 +10,15 @@ module _ {T : Type 0} where
   abbrev pub line_of : Pass (Item T) (View T) → Line T
   line_of p = record { table = p.table_id; key = p.me.0.of }
 
-  -- the pass of producer n, which sent just things
+  -- the pass of producer n, which has sent only things, and not its end
   abbrev pub IsSending : ℕ → Pass (Item T) (View T) → Type 0
   IsSending n p = let v = view p in (v.sends ≡ true) × (v.number ≡ n) × (v.put ≡ ones n (values v.put))
 
-  -- it knows the capacity
+  -- the pass knows the capacity
   abbrev pub HasRoom : ℕ → Pass (Item T) (View T) → Type 0
   HasRoom room p = (view p).room ≡ room
 
-  -- the pass of producer n, which sent things and then its end
+  -- the pass of producer n, which has sent things and then its end
   abbrev pub IsEnded : ℕ → Pass (Item T) (View T) → Type 0
   IsEnded n p = let v = view p in (v.sends ≡ true) × (v.number ≡ n) × (v.put ≡ ended n (values v.put))
 
@@ -31,7 +31,7 @@ module _ {T : Type 0} where
   abbrev pub IsReceiving : Pass (Item T) (View T) → Type 0
   IsReceiving p = (view p).gets ≡ true
 
-  -- the producer of this number, when it has sent these items
+  -- the pass of the producer of this number, when it has sent these items
   abbrev pub sender : ℕ → ℕ → List (Item T) → View T
   sender room n put = record { sends = true; number = n; put = put; gets = false; got = []; made = 0; knows = false; room = room }
 

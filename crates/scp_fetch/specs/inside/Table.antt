@@ -1,6 +1,6 @@
--- How the wants lie in memory: each under its hash, in the order in which they began. Contracts of public calls don't speak of
--- it.
--- No public clause reaches this: nothing here need be believed.
+-- How the wants are kept in memory: each under its hash, in the order in which they began. Contracts of public calls don't
+-- speak of it.
+-- No public clause reaches these definitions: nothing here need be believed.
 use Rattle.std.specs.Prelude.{ℕ, ◌≡◌, List, map}
 use Rattle.scp_fetch.specs.declared.want.Want.{Want}
 

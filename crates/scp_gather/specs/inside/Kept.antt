@@ -1,5 +1,5 @@
 -- What the readers of a node's links kept.
--- Here stands what no public clause reaches: nothing here need be believed.
+-- No public clause reaches these definitions: nothing here need be believed.
 use Rattle.std.specs.Prelude.{Option}
 use Rattle.std.specs.Global.{Vec}
 use Rattle.scp_wire.specs.declared.link.LinkItem.{LinkItem}

@@ -1,4 +1,4 @@
--- What enters the journal with the verdict on it; nothing here need be believed.
+-- What enters the journal with its verdict; nothing here need be believed.
 use Rattle.std.specs.Prelude.{◌≡◌, List, [], ◌∷◌, Option, Some, None}
 use Rattle.scp_wire.specs.declared.message.Message.TheVariants.{Envelope}
 use Rattle.scp_wire.specs.Sets.{IsSetOf}
@@ -17,7 +17,7 @@ abbrev pub entries_of : Option Entering → Verdict → List Fate
 entries_of None verdict = []
 entries_of (Some e) verdict = Taken e.conn e.seq (Envelope e.envelope) (Some e.set) verdict ∷ []
 
--- an envelope enters with the statement and the set that the machine gets, which is its own
+-- an envelope enters with the statement and the set that the machine gets, and the set is the one that it names
 abbrev pub Enters : SlotInput → Option Entering → Type 0
 Enters (Propose value) entering = entering ≡ None
 Enters Round entering = entering ≡ None
@@ -25,7 +25,7 @@ Enters Timer entering = entering ≡ None
 Enters (Hear envelope set) None = ⊥
 Enters (Hear envelope set) (Some e) = (e.envelope.value ≡ envelope) × (e.set.value ≡ set.value) × IsSetOf (Envelope e.envelope) (Some e.set.value)
 
--- the entry of nothing fresh and of no decision
+-- an entry that has no fresh statement and no decision
 pub record IsQuiet (fate : Fate) : Type 0 where
   pub stale : fresh_heard fate ≡ None
   pub decides_nothing : decision_by fate ≡ None

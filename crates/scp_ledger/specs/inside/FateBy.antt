@@ -9,7 +9,7 @@ use Rattle.scp_ledger.specs.declared.took.CommandFate.{CommandFate}
 use Rattle.scp_ledger.specs.declared.took.CommandFate.TheVariants.{OldSlot, FarSlot, Decided, BadValue, NoBallot, BallotStays}
 use Rattle.scp_ledger.specs.Verdicts.{FirstOf}
 
--- that of a slot that isn't open, or of a bad value; else the one where nothing changed, or where something did
+-- the fate at a slot that isn't open, or of a bad value; else `idle` where nothing changed, and `fresh` where something did
 abbrev pub fate_by : Option Verdict → CommandFate → CommandFate → CommandFate
 fate_by None idle fresh = fresh
 fate_by (Some verdict.OldSlot) idle fresh = OldSlot
@@ -25,11 +25,11 @@ fate_by (Some verdict.Fresh) idle fresh = fresh
 fate_by (Some verdict.Forwarded) idle fresh = fresh
 fate_by (Some verdict.Decided) idle fresh = fresh
 
--- a machine that is there has a ballot
+-- there is a machine, and it has a ballot
 abbrev pub HasBallotAt : {D : Type 0} → Option (SlotMachine D) → Type 0
 HasBallotAt None = ⊥
 HasBallotAt (Some m) = HasBallot (slot_view m).ballots
 
--- of a timer that gives no statement
+-- the fate of a timer that gives no statement
 abbrev pub IsIdleTimer : {D : Type 0} → Option (SlotMachine D) → CommandFate → Type 0
 IsIdleTimer o = FirstOf (¬ (HasBallotAt o)) NoBallot (λ fate. fate ≡ BallotStays)

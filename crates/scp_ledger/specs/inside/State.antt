@@ -31,14 +31,14 @@ state_view failed s = record {
   machines = s.machines.entries;
 }
 
--- what a ledger that runs keeps
+-- what a ledger that hasn't failed keeps
 pub record IsSound {D : Type 0} (level : D → ℕ → List ℕ → Level) (place : D → ℕ → ℕ → ℕ → ℕ) (s : State D) : Type 0 where
   pub ledger : IsLedger (state_view false s)
   pub window : IsWindow s.decisions.items s.window
   pub machines : HasMachines level place (state_view false s)
   pub few_peers : length s.peers.items ≤ 255
 
--- a machine that was taken out, or made where there was none
+-- a machine that was made for a slot that had none
 pub record IsMade {D : Type 0} (level : D → ℕ → List ℕ → Level) (place : D → ℕ → ℕ → ℕ → ℕ) (s : State D) (at : Slot) (m : SlotMachine D) : Type 0 where
   pub begins : Begins s.me at.0 s.local.value (slot_view m)
   pub its_driver : driver_of m ≡ s.driver
@@ -49,7 +49,7 @@ abbrev pub IsTakenOut : {D : Type 0} → (D → ℕ → List ℕ → Level) → 
 IsTakenOut level place s at None m = IsMade level place s at m
 IsTakenOut level place s at (Some there) m = m ≡ there
 
--- the machine of a slot ran on an input, and is kept where it didn't decide
+-- the slot's machine ran on an input, and is kept unless it decided
 pub record Ran {D : Type 0} (level : D → ℕ → List ℕ → Level) (extracted : D → ℕ → List ℕ → Option (List ℕ)) (combined : D → ℕ → List (List ℕ) → List ℕ) (place : D → ℕ → ℕ → ℕ → ℕ) (old : State D) (at : Slot) (given : SlotInput) (out : SlotOutput) (new : State D) : Type 0 where
   pub before : SlotMachine D
   pub taken : IsTakenOut level place old at (machine_at old.machines.entries at.0) before
@@ -64,7 +64,7 @@ pub record Ran {D : Type 0} (level : D → ℕ → List ℕ → Level) (extracte
   pub its_driver : driver_of after ≡ driver_of before
   pub machines : (s : ℕ) → machine_at new.machines.entries s ≡ cond (tree.is_at (nat_cmp at.0) s) (cond (is_some out.decided) None (Some after)) (machine_at old.machines.entries s)
 
--- these are as before
+-- all these are as before
 pub record KeepsRest {D : Type 0} (old new : State D) : Type 0 where
   pub me : new.me ≡ old.me
   pub local : new.local ≡ old.local
@@ -73,7 +73,7 @@ pub record KeepsRest {D : Type 0} (old new : State D) : Type 0 where
   pub machines : new.machines ≡ old.machines
   pub asked : new.asked ≡ old.asked
 
--- a refusal leaves what can be read of a failed ledger, and what its decisions rest on
+-- a refusal keeps what can be read of a failed ledger, and what its decisions rest on
 pub record Leaves {D : Type 0} (old new : State D) : Type 0 where
   pub me : new.me ≡ old.me
   pub local : new.local ≡ old.local
@@ -85,7 +85,7 @@ pub record Leaves {D : Type 0} (old new : State D) : Type 0 where
 abbrev pub ledger_view : {D : Type 0} → ledger.Inside D → LedgerView D
 ledger_view a = state_view a.failed a.state
 
--- what can be read of it holds, failed or not
+-- what can be read of it holds, failed or not; what it keeps is sound unless it failed
 pub record IsWell {D : Type 0} (level : D → ℕ → List ℕ → Level) (place : D → ℕ → ℕ → ℕ → ℕ) (a : ledger.Inside D) : Type 0 where
   pub known : IsLedger (ledger_view a)
   pub sound : a.failed ≡ false → IsSound level place a.state

@@ -1,5 +1,5 @@
 -- What the nodes heard more, while something was done.
--- Here stands what no public clause reaches: nothing here need be believed.
+-- No public clause reaches these definitions: nothing here need be believed.
 use Rattle.std.specs.Prelude.{ℕ, ◌≡◌, ◌⊎◌, ◌↔◌, Bool, true, false, List, Some, slice_get}
 use Rattle.scp_turn.specs.scp_core.specs.Node.{accepts_at}
 use Rattle.scp_turn.specs.scp_core.specs.Kv.{NodeView}
@@ -7,7 +7,7 @@ use Rattle.scp_network.specs.Heard.{Nodes, Heard, With}
 use Rattle.scp_network.specs.Rounds.{IsStill, IsDry, IsSent}
 use Rattle.scp_network.specs.Network.{Hear}
 
--- more was heard, of which this holds and that also; and nothing moved and nothing was sent exactly where nothing is said to have
+-- more was heard, of which both of these hold; `moved` is false exactly if nothing moved and nothing was sent
 abbrev pub Acts : (Nodes → List Heard → Nodes → Type 0) → Nodes → Nodes → (Nodes → List Heard → Nodes → Type 0) → Bool → Type 0
 Acts Also old new Is moved = Hear old new (With Also (λ a heard b. Is a heard b × ((moved ≡ false) ↔ IsStill heard)))
 

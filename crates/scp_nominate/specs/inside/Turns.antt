@@ -1,5 +1,5 @@
 -- Who leads (this project's profile).
--- Here stands what no public clause reaches: nothing here need be believed.
+-- No public clause reaches this definition: nothing here need be believed.
 use Rattle.std.specs.Prelude.{◌≡◌, ℕ, List, length}
 use Rattle.std.specs.List.{AllWithin}
 use Rattle.std.specs.declared.cmp.Ordering.TheVariants.{Less, Greater}

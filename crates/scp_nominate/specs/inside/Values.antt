@@ -1,5 +1,5 @@
 -- Values that ascend by bytes.
--- Here stands what no public clause reaches: nothing here need be believed.
+-- No public clause reaches these definitions: nothing here need be believed.
 use Rattle.std.specs.Prelude.{◌≡◌, ◌+◌, ◌≤◌, ℕ, ◌⊎◌, List, length}
 use Rattle.std.specs.List.{AllWithin}
 use Rattle.std.specs.declared.cmp.Ordering.TheVariants.{Less, Greater}
@@ -16,7 +16,7 @@ pub record IsGap (s : ValueSet) (v : List ℕ) (at : ℕ) : Type 0 where
   pub below : AllWithin (λ w. value_cmp w v ≡ Less) s.values.items 0 at
   pub above : AllWithin (λ w. value_cmp w v ≡ Greater) s.values.items at (length s.values.items)
 
--- v is new
+-- v is added, and it wasn't there
 pub record AddsNew (old new : ValueSet) (v : List ℕ) : Type 0 where
   pub fresh : ¬ (Has old v)
   pub longer : length new.values.items ≡ length old.values.items + 1

@@ -1,11 +1,11 @@
 -- What waits for one peer, and how it changes (this project's profile).
--- Here stands what no public clause reaches: nothing here need be believed.
+-- No public clause reaches this definition: nothing here need be believed.
 use Rattle.std.specs.Prelude.{Bool, true, false}
 pub use Rattle.circular_buffer.specs.Buffer.{keep_last}
 use Rattle.scp_wire.specs.declared.message.Message.{Message}
 use Rattle.scp_wire.specs.declared.message.Message.TheVariants.{Envelope, GetSet, Set, NoSet, GetRecord, Record, Records}
 
--- all but envelopes are requests and answers
+-- whether the message is an envelope; all others are requests and answers
 abbrev pub is_statement : Message → Bool
 is_statement (Envelope envelope) = true
 is_statement (GetSet hash) = false

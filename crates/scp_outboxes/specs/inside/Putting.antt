@@ -15,6 +15,6 @@ pub record PutsThere (old : List OutboxView) (link : ℕ) (message : Message) (n
   pub puts : Puts before message after'
   pub is : new ≡ slice_set old link after'
 
--- the same, and for a link that isn't there it is given up
+-- the same; a message for a link that isn't there is dropped
 abbrev pub PutsAt : List OutboxView → ℕ → Message → List OutboxView → Type 0
 PutsAt old link message new = ((slice_get old link ≡ None) × (new ≡ old)) ⊎ PutsThere old link message new

@@ -1,6 +1,6 @@
--- What stands in the stage between two takes, so that the code looks only where something waits. Contracts of public calls don't
+-- What holds in the stage between two takes, so that the code looks only where something waits. Contracts of public calls don't
 -- speak of it.
--- No public clause reaches this: nothing here need be believed.
+-- No public clause reaches these definitions: nothing here need be believed.
 use Rattle.std.specs.Prelude.{ℕ, ◌≡◌, ◌≤◌, Bool, true, false, List, [], ◌∷◌, ◌++◌, Option}
 use Rattle.std.specs.List.{list_any, AllByRecursion}
 use Rattle.scp_types.specs.declared.names.ConnId.{ConnId}
@@ -11,7 +11,7 @@ use Rattle.scp_pending.specs.declared.parked.Parked.{Parked}
 use Rattle.scp_pending.specs.Queues.{QueueView, is_of, is_held, is_waiting, waited_by}
 use Rattle.scp_pending.specs.Causes.{plus}
 
--- a connection has no more than one queue
+-- how many queues a connection has
 abbrev pub how_many : ConnId → List QueueView → ℕ
 how_many c [] = 0
 how_many c (q ∷ qs) = plus (how_many c qs) (is_of c q)
@@ -19,12 +19,12 @@ how_many c (q ∷ qs) = plus (how_many c qs) (is_of c q)
 abbrev pub AreSingle : List QueueView → Type 0
 AreSingle qs = (c : ConnId) → how_many c qs ≤ 1
 
--- behind those that stay each is held back
+-- each is held back, after those that stay
 abbrev pub AreHeld : List Parked → List Parked → Type 0
 AreHeld kept [] = Unit {0}
 AreHeld kept (p ∷ ps) = (is_held kept p ≡ true) × AreHeld (kept ++ p ∷ []) ps
 
--- in the list of a want stand the connections on which something waits for its hash
+-- a want's list has the connections on which something waits for its hash
 abbrev pub IsListed : List QueueView → Want → Type 0
 IsListed queues want = (c : ConnId) → has_conn c want.waiting ≡ is_waiting c want.hash queues
 

@@ -18,7 +18,7 @@ abbrev pub HasHash : Option Hash → Outcome → Type 0
 HasHash hash (Has set) = hash ≡ Some (hash_of set.value)
 HasHash hash (Lost cause) = Unit {0}
 
--- the connection's queue is this one
+-- the connection's queue is at this place
 pub record IsPlace (c : ConnId) (queues : List QueueView) (place : ℕ) : Type 0 where
   pub within : place < length queues
   pub open_here : is_open c queues ≡ true

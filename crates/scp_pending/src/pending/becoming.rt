@@ -1,4 +1,4 @@
-//! What becomes of an item that is taken next.
+//! What would become of an item that is taken next.
 ghost use Rattle.std.specs.Prelude.{◌≡◌, ◌⊎◌, true, IfOk, IsOkUnless};
 ghost use Rattle.scp_wire.specs.declared.link.Inbound.{Inbound};
 ghost use Rattle.scp_pending.specs.Queues.{is_open, parked_of, is_held, waited_by};
@@ -51,7 +51,7 @@ impl Parking {
         }
     }
 
-    /// What becomes of one whose connection's queue has this place.
+    /// What becomes of a numbered message whose connection's queue is at this place.
     fn enters_as(&self, place: usize, carried: &Carried) -> Becoming
         requires here { IsPlace carried.now.conn self.now.settled.queues place }
         ensures { result ≡ enters_as carried.now (entering_with self.now.settled.store carried.now) self.now.settled }
@@ -65,7 +65,7 @@ impl Parking {
         Becoming::Parks(self.why(carried))
     }
 
-    /// Why a message is parked that doesn't go through.
+    /// Why a message is parked that doesn't pass through.
     fn why(&self, carried: &Carried) -> Why
         ensures { result ≡ why_parked carried.now (entering_with self.now.settled.store carried.now) self.now.settled }
     {
@@ -91,7 +91,7 @@ impl Parking {
         }
     }
 
-    /// What becomes of a side message of an open connection.
+    /// What becomes of a side message on an open connection.
     fn live_becomes(&self, message: &SideMessage) -> Result<Becoming, Fault>
         ensures is { IfOk result (λ found. found ≡ side_becomes message.now self.now.settled) }
         ensures only_memory { IsOkUnless result Fault.NoMemory }
@@ -130,7 +130,7 @@ impl Parking {
     }
 }
 
-/// The hash of the quorum set that a message would wait for: that of an envelope which isn't stored.
+/// The hash that a message would wait for: that of the quorum set which an envelope names, if the set isn't stored.
 fn waited_in(store: &SetStore, carried: &Carried) -> Option<Hash>
     ensures { result ≡ waited_by (entering_with store.now carried.now) }
 {

@@ -15,6 +15,6 @@ HasOneSet sets g = (v : NodeId) → Contains g.members.items v → sets v ≡ So
 abbrev pub IsGrouped : List Group → NodeId → Type 0
 IsGrouped groups v = Any (λ g. Contains g.members.items v) groups
 
--- the nodes satisfy the group's quorum set, where a member is one of them
+-- the nodes satisfy the group's quorum set if a member is one of them
 abbrev pub IsSettled : (NodeId → Bool) → Group → Type 0
 IsSettled nodes g = (v : NodeId) → Contains g.members.items v → nodes v ≡ true → Satisfies nodes g.set.now

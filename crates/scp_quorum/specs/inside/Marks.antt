@@ -8,7 +8,7 @@ use Rattle.scp_quorum.specs.declared.sane_set.SaneSet.{SaneSet}
 use Rattle.scp_quorum.specs.declared.quorum.places.Seat.{Seat}
 use Rattle.scp_quorum.specs.Satisfies.{Satisfies}
 
--- of each set whether the nodes satisfy it
+-- for each set, whether the nodes satisfy it
 abbrev pub AreVerdicts : (NodeId → Bool) → List (Arc SaneSet Global) → List Bool → Type 0
 AreVerdicts nodes [] [] = Unit {0}
 AreVerdicts nodes [] (b ∷ bs) = ⊥

@@ -1,5 +1,5 @@
 -- Which sets of nodes are quorums (the SCP draft). Each node has a quorum set, or none is known.
--- Here stands what no public clause reaches: nothing here need be believed.
+-- No public clause reaches these definitions: nothing here need be believed.
 use Rattle.std.specs.Prelude.{◌≡◌, Bool, true, Option, IsSome}
 use Rattle.scp_types.specs.declared.names.NodeId.{NodeId}
 use Rattle.scp_quorum.specs.QuorumTree.{QuorumTree}
@@ -9,6 +9,6 @@ use Rattle.scp_quorum.specs.Quorum.{SatisfyThemselves, IsWithin}
 abbrev pub AllHaveSets : (NodeId → Option QuorumTree) → (NodeId → Bool) → Type 0
 AllHaveSets sets nodes = (v : NodeId) → nodes v ≡ true → IsSome (sets v)
 
--- what satisfies itself inside the old nodes is inside the new ones
+-- whatever satisfies itself inside the old nodes is inside the new ones
 abbrev pub KeepsQuorums : (NodeId → Option QuorumTree) → (NodeId → Bool) → (NodeId → Bool) → Type 0
 KeepsQuorums sets old new = (others : NodeId → Bool) → SatisfyThemselves sets others → IsWithin others old → IsWithin others new

@@ -1,5 +1,5 @@
 -- What a quorum set is, apart from memory: a tree of thresholds and validators.
--- Here stands what no public clause reaches: nothing here need be believed.
+-- No public clause reaches this: nothing here need be believed.
 use Rattle.std.specs.Prelude.{ℕ, List, refl}
 use Rattle.std.specs.Coded.{Coded, coded_ℕ, coded_list, code_by, coded×}
 use Rattle.scp_types.specs.declared.names.NodeId.{NodeId}

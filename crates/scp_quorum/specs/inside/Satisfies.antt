@@ -1,8 +1,8 @@
 -- When a set of nodes satisfies or blocks a quorum set (the SCP draft). A set of nodes is a test of nodes.
--- Here stands what no public clause reaches: nothing here need be believed.
+-- No public clause reaches this definition: nothing here need be believed.
 use Rattle.std.specs.Prelude.{Bool, not}
 use Rattle.scp_types.specs.declared.names.NodeId.{NodeId}
 
--- the nodes that are none of these
+-- the nodes outside of these
 abbrev pub outside : (NodeId → Bool) → NodeId → Bool
 outside nodes v = not (nodes v)

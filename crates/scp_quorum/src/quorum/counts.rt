@@ -1,7 +1,7 @@
 //! How far each quorum set is from not being satisfied any more, counted down as nodes are removed.
 //!
-//! The counts only say where to look: nothing is promised of them, and who follows them tests the set.
-//! A set falls here where its count says that it isn't satisfied any more.
+//! The counts only say where to look: nothing is promised of them, and whoever follows them tests the
+//! set. A set falls here when its count says that it isn't satisfied any more.
 
 use super::groups::{Group, has_member};
 use super::table::NodeTable;
@@ -10,24 +10,24 @@ use scp_types::NodeId;
 use std::alloc::{AllocError, Global};
 use std::collections::BTreeSet;
 
-/// What a quorum set is to the counts.
+/// A quorum set as the counts see it.
 #[derive(Clone, Copy, Drop)]
 struct Margin {
-    /// How many of its entries may still fall; None once it has fallen itself.
+    /// How many of its entries may still fall; `None` once it has fallen itself.
     spare: Option<usize>,
     within: Within,
 }
 
-/// What falls, or is lowered, where a set falls.
+/// What falls, or is lowered, when a set falls.
 #[derive(Clone, Copy, Drop)]
 enum Within {
-    /// The group of this place has the set.
+    /// The set is that of the group at this place.
     Group(usize),
-    /// The set is an entry of the one of this margin.
+    /// The set is an entry of the set with the margin at this place.
     Margin(usize),
 }
 
-/// That a set names a node, and what names the node besides.
+/// One naming of a node by a set, with the naming of the same node before it.
 #[derive(Clone, Copy, Drop)]
 struct Naming {
     margin: usize,
@@ -39,11 +39,11 @@ struct Naming {
 pub(crate) struct Counts {
     /// The nodes that remain.
     nodes: NodeTable,
-    /// The last naming of each of them.
+    /// The last naming of each of these nodes.
     last_namings: Vec<Option<usize>>,
     namings: Vec<Naming>,
     margins: Vec<Margin>,
-    /// The groups whose set has fallen, and that weren't given out yet.
+    /// The groups whose set has fallen, and which weren't returned yet.
     fallen: Vec<usize>,
 }
 
@@ -71,7 +71,7 @@ impl Counts {
         Ok(counts)
     }
 
-    /// A group whose set has fallen; each is given once.
+    /// A group whose set has fallen; each is returned once.
     pub(crate) fn next_fallen(&mut self) -> Option<usize> {
         self.fallen.pop()
     }
@@ -140,7 +140,7 @@ impl Counts {
         Ok(())
     }
 
-    /// Lowers a count, and that of the set around it where this one falls, and so on.
+    /// Lowers a count; if its set falls, also the count of the set around it, and so on.
     fn lower(&mut self, margin: usize) -> Result<(), AllocError> {
         let mut place = margin;
         for _ in 0..self.margins.len() {
@@ -156,7 +156,7 @@ impl Counts {
         Ok(())
     }
 
-    /// Lowers a count; what the set is within, where it falls by that.
+    /// Lowers a count. Returns what the set is within, if the set falls by that.
     fn lower_one(&mut self, place: usize) -> Option<Within> {
         let margin = self.margins.get_mut(place)?;
         let spare = margin.spare?;

@@ -39,7 +39,7 @@ pub(crate) fn group_nodes(
 }
 
 /// Adds a node to the group of its set, or else to a new one. Groups are found by the set's hash; of
-/// two sets of one hash, the first is found.
+/// two sets with one hash, the first is found.
 fn join_group<'a>(
     alloc: Global,
     node: NodeId,
@@ -64,7 +64,7 @@ fn join_group<'a>(
     Ok(())
 }
 
-/// Whether two sets are known to be equal. One hash alone doesn't show it.
+/// Whether two sets are known to be equal. Equal hashes alone don't show it.
 fn is_same_set(a: &SaneSet, b: &SaneSet) -> bool
     ensures { OnTrue result (a.now ≡ b.now) }
 {
@@ -78,7 +78,7 @@ pub(crate) fn has_member(group: &Group<'_>, nodes: &BTreeSet<NodeId>) -> bool
     group.members.iter().any(|member| nodes.contains(member))
 }
 
-/// Removes the members from the nodes. Whether there were any.
+/// Removes the members from the nodes. Returns whether there were any.
 pub(crate) fn remove_members(group: &Group<'_>, nodes: &mut BTreeSet<NodeId>) -> bool
     ensures within { IsWithin (is_in nodes.new) (is_in nodes.old) }
     ensures others { (v : NodeId) → IsTrue (is_in nodes.old v) → (Contains group.now.members.items v → ⊥) → IsTrue (is_in nodes.new v) }

@@ -1,4 +1,4 @@
-//! The greatest quorum by passes over all nodes: the plain program, for comparing.
+//! The greatest quorum by passes over all nodes: the plain program, to compare with.
 ghost use Rattle.std.specs.Prelude.{◌≡◌, ◌↔◌, ◌<◌, IfOk, IfNone, IfSome, IsTrue, IsOkUnless};
 ghost use Rattle.std.specs.Bool.{OnFalse, OnTrue};
 ghost use Rattle.std.specs.BTreeSet.{btree_set_len};
@@ -15,8 +15,8 @@ use std::alloc::Global;
 use std::collections::{BTreeMap, BTreeSet};
 use std::sync::Arc;
 
-/// What `greatest_quorum` answers, by the plain program: passes over all nodes until one removes none. It is for comparing.
-/// Each pass costs a look-up for each node of each set, and there are at most as many passes as nodes. The one refusal is want of memory.
+/// What `greatest_quorum` answers, found by the plain program: passes over all nodes until one removes none. It is there to compare with. Each
+/// pass costs a look-up for each node of each set, and there is at most one pass more than there are nodes. The only refusal is `Fault::NoMemory`.
 pub fn greatest_quorum_by_passes(
     alloc: Global,
     me: NodeId,
@@ -36,8 +36,8 @@ pub fn greatest_quorum_by_passes(
     }
 }
 
-/// Goes over the nodes once, and removes each whose set those that remain don't satisfy. Whether any
-/// was removed.
+/// Goes over the nodes once, and removes each whose set the remaining nodes don't satisfy. Returns
+/// whether any was removed.
 fn remove_unsatisfied(
     sets: &BTreeMap<NodeId, Arc<SaneSet>>,
     remaining: &mut BTreeSet<NodeId>,

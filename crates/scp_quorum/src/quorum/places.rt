@@ -1,4 +1,4 @@
-//! The greatest quorum among nodes that are known by their places, over sets that are lent.
+//! The greatest quorum among nodes that are known by their places, over borrowed sets.
 ghost use Rattle.std.specs.Prelude.{◌≡◌, ◌↔◌, ◌<◌, ℕ, Option, Bool, true, false, get_or, length, count_by, IfOk, OnOk, IsTrue, IsOkUnless};
 ghost use Rattle.std.specs.Bool.{OnFalse, OnTrue};
 ghost use Rattle.scp_types.specs.declared.names.NodeId.{NodeId};
@@ -13,14 +13,14 @@ use scp_types::{Fault, NodeId};
 use std::alloc::{AllocError, Global};
 use std::sync::Arc;
 
-/// A node, and the group of those nodes with which it shares one quorum set.
+/// A node, and the place of the group of nodes with which it shares one quorum set.
 #[derive(Clone, Copy, Debug, Drop)]
 pub struct Seat {
     pub node: NodeId,
     pub group: usize,
 }
 
-/// What can be asked for the place of a node in a list.
+/// Gives the place of a node in a list.
 pub trait Places {
     /// The place of each node that has one.
     ghost place: { Self → NodeId → Option ℕ };
@@ -48,10 +48,10 @@ impl<P: Places> Nodes for Marked<'_, P> {
     }
 }
 
-/// Whether there is a quorum at `me` inside the marked nodes, where a node's set is that of the group of its seat. Then
-/// just the nodes of the greatest such quorum, the union of all of them, stay marked (the SCP draft). Takes memory for a
-/// Boolean a set, and the one refusal is `Fault::NoMemory`; the marks then mean nothing. Each pass asks each set once,
-/// however many nodes share it, and there are at most as many passes as marked nodes.
+/// Whether there is a quorum at `me` inside the marked nodes, where a node's set is that of the group of its seat. If so,
+/// exactly the nodes of the greatest such quorum, which is the union of all of them, stay marked (the SCP draft); else the marks
+/// mean nothing. Takes memory for a Boolean a set; the only refusal is `Fault::NoMemory`, after which the marks mean nothing.
+/// Each pass asks each set once, however many nodes share it. There is at most one pass more than there are marked nodes.
 pub fn greatest_quorum_among<P: Places>(
     alloc: Global,
     places: &P,
@@ -69,7 +69,7 @@ pub fn greatest_quorum_among<P: Places>(
     Ok(Marked { places, marks }.has(me))
 }
 
-/// Unmarks each node whose set the marked nodes don't satisfy. Whether there was one.
+/// Unmarks each node whose set the marked nodes don't satisfy. Returns whether there was one.
 fn prune<P: Places>(
     alloc: Global,
     places: &P,
@@ -87,7 +87,7 @@ fn prune<P: Places>(
     Ok(unmark(seats, &verdicts, marks))
 }
 
-/// Of each set whether the nodes satisfy it.
+/// For each set, whether the nodes satisfy it.
 fn judge<N: Nodes>(alloc: Global, sets: &[Arc<SaneSet>], nodes: &N) -> Result<Vec<bool>, AllocError>
     ensures { IfOk result (λ verdicts. AreVerdicts (N.members nodes.now) sets.now verdicts.items) }
 {
@@ -98,7 +98,7 @@ fn judge<N: Nodes>(alloc: Global, sets: &[Arc<SaneSet>], nodes: &N) -> Result<Ve
     Ok(verdicts)
 }
 
-/// Unmarks the places whose group has a bad verdict. Whether there was one.
+/// Unmarks the places whose group has a bad verdict. Returns whether there was one.
 fn unmark(seats: &[Seat], verdicts: &[bool], marks: &mut [bool]) -> bool
     ensures within { (p : ℕ) → get_or marks.new p false ≡ true → get_or marks.old p false ≡ true }
     ensures others { (p : ℕ) → get_or marks.old p false ≡ true → kept_at seats.now verdicts.now p ≡ true → get_or marks.new p false ≡ true }

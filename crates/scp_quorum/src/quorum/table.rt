@@ -1,8 +1,8 @@
-//! Nodes in a table, in which most of them are found by one look.
+//! Nodes in a table, in which most of them are found with one comparison.
 //!
-//! The table only says where to look: what stands there is compared, and a node that isn't found so is
-//! looked for in another way. So ids that were chosen to meet in it cost time and change no answer. (The hash of a `HashMap`
-//! has a fixed seed here: whoever chooses ids could make each look-up as long as the map.)
+//! The table only says where to look: what is there is compared, and a node that isn't found there is looked for in another
+//! way. So ids that were chosen to collide in it cost time, but change no answer. (The hash of a `HashMap` has a fixed seed
+//! here: whoever chooses ids could make each look-up as long as the map.)
 ghost use Rattle.std.specs.Prelude.{◌≡◌, IfOk, IfSome, IsTrue};
 ghost use Rattle.std.specs.Bool.{OnTrue};
 ghost use Rattle.std.specs.List.{All, Contains};
@@ -15,19 +15,19 @@ use std::collections::BTreeSet;
 use std::marker::Model;
 use std::simd::prelude::*;
 
-/// What a slot holds that is no node's.
+/// What a slot holds that belongs to no node.
 const NONE: u32 = u32::MAX;
 
-/// 2^64 by the golden ratio, made odd: multiplying by it brings all bits into the upper ones.
+/// 2^64 divided by the golden ratio, made odd: multiplying by it carries all bits into the upper ones.
 const MIX: u64 = 0x9e37_79b9_7f4a_7c15;
 
-/// Nodes that ascend, and a table of their places.
+/// Nodes in ascending order, and a table of their places.
 #[derive(Drop)]
 pub(crate) struct NodeTable {
     nodes: Vec<NodeId>,
     /// For each slot a place in the list. The slots are a power of two, four to eight for each node.
     places: Vec<u32>,
-    /// How many of 64 bits don't count for a slot.
+    /// How many of 64 bits are dropped to get a slot.
     shift: u32,
 }
 
@@ -87,7 +87,7 @@ impl NodeTable {
     }
 }
 
-/// For each slot a place in the list. Where two nodes have one slot, the later one has its neighbour.
+/// For each slot a place in the list. If a node's slot is taken, it gets the neighbouring slot.
 fn places_of(alloc: Global, nodes: &[NodeId], shift: u32) -> Result<Vec<u32>, AllocError> {
     let slots = usize::MAX.wrapping_shr(shift).saturating_add(1);
     let mut places = vec![in alloc; NONE; slots]?;
@@ -105,13 +105,13 @@ fn places_of(alloc: Global, nodes: &[NodeId], shift: u32) -> Result<Vec<u32>, Al
     Ok(places)
 }
 
-/// The upper bits of a number for which all bits of the id count.
+/// The upper bits of a number on which all bits of the id have an influence.
 fn slot_of(node: &NodeId, shift: u32) -> usize {
     let words = u64x4::from_le_bytes(u8x32::from_array(node.0));
     words.reduce_xor().wrapping_mul(MIX).wrapping_shr(shift) as usize
 }
 
-/// Nodes with a table of them. It is seen as the nodes.
+/// Nodes with a table of them. Contracts see the nodes.
 #[derive(Drop)]
 pub(crate) struct KnownNodes<'a> {
     nodes: &'a BTreeSet<NodeId>,

@@ -1,4 +1,4 @@
-//! The spelling of quorum sets (RFC 4506).
+//! The encoding of quorum sets (RFC 4506).
 ghost use Rattle.std.specs.Prelude.{◌≡◌, ◌↔◌, ◌+◌, ◌-◌, map, IsTrue, List, length};
 ghost use Rattle.scp_xdr.specs.Kind.{Fits, TreeFits, spelling, tree};
 ghost use Rattle.scp_xdr.specs.Length.{spelled_len};
@@ -56,7 +56,7 @@ fn read_level(alloc: Global, reader: &mut Reader<'_>) -> Result<(u32, Vec<NodeId
     Ok((threshold, validators))
 }
 
-/// A quorum set with at most so many levels of inner sets.
+/// A quorum set with at most this many levels of inner sets.
 #[cycle(reading)]
 #[tactic(auto, unfolding(scp_xdr::specs::Reading::tree_with))]
 fn read_set(alloc: Global, levels: u32, reader: &mut Reader<'_>) -> Result<QuorumSet, Fault>
@@ -71,7 +71,7 @@ fn read_set(alloc: Global, levels: u32, reader: &mut Reader<'_>) -> Result<Quoru
     })
 }
 
-/// The count of inner sets and each of them, where so many levels may follow.
+/// The count of inner sets and each of them, if this many levels may follow.
 #[cycle(reading)]
 fn read_inner(alloc: Global, levels: u32, reader: &mut Reader<'_>) -> Result<Vec<QuorumSet>, Fault>
     ensures { Decodes (λ sets. map set_value sets.items) reader.new result (read_inner_at (λ c. reading level_kind c) levels 1000 reader.old) }
@@ -96,7 +96,7 @@ fn pass_level(reader: &mut Reader<'_>) -> Result<(), Fault>
     pass_array::<NodeId>(MAX_ENTRIES, reader)
 }
 
-/// Passes over a quorum set with at most so many levels of inner sets, without memory.
+/// Passes over a quorum set with at most this many levels of inner sets, without memory.
 #[cycle(passing)]
 fn pass_set(levels: u32, reader: &mut Reader<'_>) -> Result<(), Fault>
     ensures { GoesPast reader.new result (passing (tree levels 1000 level_kind) reader.old) }
@@ -121,7 +121,7 @@ fn pass_inner(levels: u32, reader: &mut Reader<'_>) -> Result<(), Fault>
 }
 
 impl QuorumSet {
-    /// Whether the set keeps its limits with at most so many levels of inner sets.
+    /// Whether the set keeps its limits with at most this many levels of inner sets.
     fn fits_at(&self, levels: u32) -> bool
         ensures { IsTrue result ↔ TreeFits (λ v. Fits level_kind v) levels 1000 (set_value self.now) }
     {
@@ -138,7 +138,7 @@ impl QuorumSet {
         true
     }
 
-    /// Takes the length of the spelling off the room.
+    /// Takes the length of the encoding off the room.
     fn spend_all(&self, room: usize) -> Option<usize>
         ensures { Leaves room result (spelled_len set_kind (set_value self.now)) }
     {
@@ -151,7 +151,7 @@ impl QuorumSet {
         Some(left)
     }
 
-    /// Writes a set that keeps its limits with at most so many levels of inner sets.
+    /// Writes a set that keeps its limits with at most this many levels of inner sets.
     fn write_at(&self, levels: u32, writer: &mut Writer) -> Result<(), Fault>
         requires { TreeFits (λ v. Fits level_kind v) levels 1000 (set_value self.now) }
         ensures { Extends writer.old writer.new result (spelling set_kind (set_value self.now)) }

@@ -39,8 +39,8 @@ impl QuorumSet {
     }
 }
 
-/// Whether the lists are equal. Goes over all nodes with no branch between, which costs half of what
-/// `==` does: whoever asks expects them to be equal.
+/// Whether the lists are equal. Goes over all nodes without a branch, which costs half as much as
+/// `==`: whoever asks expects them to be equal.
 fn are_same_nodes(mine: &[NodeId], theirs: &[NodeId]) -> bool
     ensures equal { OnTrue result (mine.now ≡ theirs.now) }
     ensures different { OnFalse result (mine.now ≡ theirs.now → ⊥) }

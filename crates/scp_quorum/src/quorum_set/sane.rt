@@ -10,22 +10,22 @@ use super::QuorumSet;
 use scp_types::NodeId;
 use scp_xdr::Xdr;
 
-/// How many nodes a sane quorum set may have in the whole (this project's profile).
+/// How many nodes a sane quorum set may have in all (this project's profile).
 const MAX_NODES: usize = 1_000;
 
-/// A set of so few nodes needs no room for as many as there may be: nodes are sorted in room on the stack, so that no memory is
-/// asked for, and room is zeroed before use.
+/// The nodes are sorted on the stack, so that no memory is asked for. A set of at most this many nodes gets a small array
+/// there, since an array is zeroed before use.
 const FEW: usize = 32;
 
-/// How many bytes the spelling of a sane quorum set may have, so that a message of 65,536 bytes can
-/// hold it behind its discriminant (this project's profile).
+/// How many bytes the encoding of a sane quorum set may have, so that a message of 65,536 bytes can
+/// hold it after its discriminant (this project's profile).
 const MAX_BYTES: usize = 65_532;
 
 impl QuorumSet {
-    /// Whether the set is sane (this project's profile): at every level the threshold is from 1 to the
-    /// number of entries, no node stands twice in the whole, there are at most 1,000 nodes in the
-    /// whole, at most 4 levels of inner sets, and at most 65,532 bytes of XDR. Takes no memory beside
-    /// the stack; n nodes cost n log n comparisons.
+    /// Whether the set is sane (this project's profile). At every level the threshold is from 1 to the
+    /// number of entries. No node occurs twice, and there are at most 1,000 nodes in all, at most 4
+    /// levels of inner sets, and at most 65,532 bytes of XDR. Takes no memory besides the stack. With
+    /// n nodes it makes some n log n comparisons.
     pub fn is_sane(&self) -> bool
         ensures { IsTrue result ↔ IsSane self.now }
     {
@@ -67,7 +67,7 @@ impl QuorumSet {
         }
     }
 
-    /// The same for a set of any number of nodes, in room for as many as there may be.
+    /// The same for a set of any number of nodes, in an array for as many as there may be.
     fn has_distinct_nodes(&self) -> bool
         ensures { IsTrue result ↔ ((length (all_nodes self.now) ≤ 1000) × IsDistinct (eq_by_cmp node_cmp) (all_nodes self.now)) }
     {
@@ -78,7 +78,7 @@ impl QuorumSet {
         }
     }
 
-    /// Puts all nodes behind the first `len`, where they have room; how many there are then.
+    /// Puts all nodes after the first `len`, if they have room. Returns how many there are then.
     fn gather(&self, nodes: &mut [NodeId], len: usize) -> Option<usize>
         requires { len ≤ length nodes.old }
         ensures count { IfSome result (λ n. n ≡ len + length (all_nodes self.now)) }
@@ -94,7 +94,7 @@ impl QuorumSet {
     }
 }
 
-/// Puts more nodes behind the first `len`, where they have room; how many there are then.
+/// Puts more nodes after the first `len`, if they have room. Returns how many there are then.
 fn put(nodes: &mut [NodeId], len: usize, more: &[NodeId]) -> Option<usize>
     requires { len ≤ length nodes.old }
     ensures count { IfSome result (λ n. n ≡ len + length more.now) }
@@ -110,7 +110,7 @@ fn put(nodes: &mut [NodeId], len: usize, more: &[NodeId]) -> Option<usize>
     Some(end)
 }
 
-/// Whether no node stands twice. Sorts the nodes.
+/// Whether no node occurs twice. Sorts the nodes.
 fn are_distinct(nodes: &mut [NodeId]) -> bool
     ensures { IsTrue result ↔ IsDistinct (eq_by_cmp node_cmp) nodes.old }
 {

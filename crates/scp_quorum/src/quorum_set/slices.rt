@@ -1,5 +1,5 @@
-//! Which sets of nodes satisfy and block a quorum set: one loop does both. Blocking is a test of satisfying with the nodes
-//! turned round, since satisfying only grows with the nodes, and what is disjoint from them lies within the others.
+//! Which sets of nodes satisfy and block a quorum set: one loop does both. Nodes block a set if the other nodes don't
+//! satisfy it. More nodes never satisfy less, and what is disjoint from the nodes lies within the others.
 ghost use Rattle.std.specs.Prelude.{◌≡◌, ◌↔◌, ◌≤◌, Bool, IfSome, IsTrue, count_by, length, take};
 ghost use Rattle.scp_types.specs.declared.names.NodeId.{NodeId};
 ghost use Rattle.scp_quorum.specs.NodeSet.{is_in};
@@ -10,7 +10,7 @@ use super::QuorumSet;
 use scp_types::NodeId;
 use std::collections::BTreeSet;
 
-/// Nodes that can be asked whether they have a node.
+/// A set of nodes that can be asked whether it has a node.
 pub trait Nodes {
     /// Which nodes these are.
     ghost members: { Self → NodeId → Bool };
@@ -28,7 +28,7 @@ impl Nodes for BTreeSet<NodeId> {
     }
 }
 
-/// The nodes that are none of these.
+/// The nodes outside of these.
 #[derive(Drop)]
 struct Others<'a, N>(&'a N);
 
@@ -41,7 +41,7 @@ impl<N: Nodes> Nodes for Others<'_, N> {
 }
 
 /// Whether the nodes satisfy at least as many entries as the threshold says (the SCP draft). Takes no
-/// memory, and at most one look-up for each node of the set: none after the one with which they do.
+/// memory. Costs at most one look-up for each node of the set, and stops once enough entries are satisfied.
 pub fn satisfied(set: &QuorumSet, nodes: &BTreeSet<NodeId>) -> bool
     ensures { IsTrue result ↔ Satisfies (is_in nodes.now) set.now }
 {
@@ -57,8 +57,8 @@ pub fn blocked(set: &QuorumSet, nodes: &BTreeSet<NodeId>) -> bool
 }
 
 impl QuorumSet {
-    /// Whether the nodes satisfy the set (the SCP draft). Takes no memory, and asks for each node of the set at most once:
-    /// for none after the one with which they do.
+    /// Whether the nodes satisfy the set (the SCP draft). Takes no memory. Asks for each node of the set at most once, and
+    /// stops once enough entries are satisfied.
     pub fn is_satisfied_by<N: Nodes>(&self, nodes: &N) -> bool
         ensures { IsTrue result ↔ Satisfies (N.members nodes.now) self.now }
     {
@@ -90,8 +90,8 @@ impl QuorumSet {
         !self.is_satisfied_by(&Others(nodes))
     }
 
-    /// The front of the set's own nodes up to the one with which as many as the threshold says are among these; `None`
-    /// where even all of them are too few.
+    /// The set's own nodes, up to the one with which as many of them as the threshold says are among these; `None` if
+    /// even all of them are too few.
     pub(crate) fn enough_of<N: Nodes>(&self, nodes: &N) -> Option<&[NodeId]>
         ensures front { IfSome result (λ head. take (length head.now) self.now.head.validators ≡ head.now) }
         ensures enough { IfSome result (λ head. self.now.head.threshold ≤ count_by (N.members nodes.now) head.now) }

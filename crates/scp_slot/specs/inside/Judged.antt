@@ -1,5 +1,5 @@
--- What is judged of an envelope's values, and of its place behind the newest one.
--- Here stands what no public clause reaches: nothing here need be believed.
+-- How an envelope is judged by its values, and compared with the newest one.
+-- No public clause reaches these definitions: nothing here need be believed.
 use Rattle.std.specs.Prelude.{◌≡◌, ◌⊎◌, ℕ, List, Option}
 use Rattle.scp_envelope.specs.declared.statement.Statement.{Statement}
 use Rattle.scp_driver.specs.declared.driver.Level.{Level}
@@ -10,7 +10,7 @@ use Rattle.scp_slot.specs.declared.output.Verdict.{Verdict}
 use Rattle.scp_slot.specs.declared.output.Verdict.TheVariants.{Fresh, Stale, Own, BadStatement, BadValue}
 use Rattle.scp_slot.specs.Judged.{HasInvalid, IsBehind}
 
--- this verdict where it fits, else what the later ones say
+-- this verdict if it fits, else what the later ones say
 abbrev pub FirstOf : Type 0 → Verdict → (Verdict → Type 0) → Verdict → Type 0
 FirstOf fits first later verdict = (fits × (verdict ≡ first)) ⊎ ((¬ fits) × later verdict)
 

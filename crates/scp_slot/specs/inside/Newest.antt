@@ -1,5 +1,5 @@
 -- The newest fresh statement of each other node and kind, with its quorum set.
--- Here stands what no public clause reaches: nothing here need be believed.
+-- No public clause reaches this definition: nothing here need be believed.
 use Rattle.scp_slot.specs.declared.newest.Heard.{Heard}
 use Rattle.scp_slot.specs.declared.newest.Newest.{Newest}
 use Rattle.scp_slot.specs.Newest.{newest_of, Puts}

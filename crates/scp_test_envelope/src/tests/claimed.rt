@@ -5,7 +5,7 @@ use std::test::*;
 
 const MAX: u32 = u32::MAX;
 
-/// What a claim is of: a ballot to prepare, a counter and a value to commit, or a value to nominate.
+/// What a claim is about: a ballot to prepare, a counter and a value to commit, or a value to nominate.
 #[derive(Clone, Copy, Debug)]
 enum Of {
     Prepare,
@@ -13,7 +13,7 @@ enum Of {
     Nominate,
 }
 
-/// Whether the statement votes for this of the ballot, and whether it accepts it.
+/// Whether the statement votes for this claim about the ballot, and whether it accepts it.
 fn claims(statement: &Statement, of: Of, ballot: &Ballot) -> (bool, bool) {
     let counter = ballot.counter;
     let value = ballot.value.get();
@@ -30,7 +30,7 @@ fn claims(statement: &Statement, of: Of, ballot: &Ballot) -> (bool, bool) {
     }
 }
 
-/// Whether the statement claims this of the ballot as the row says: whether it votes for it, and whether it accepts it.
+/// Whether the statement makes this claim about the ballot as the row says: whether it votes for it, and whether it accepts it.
 fn is_claimed(
     alloc: Global,
     statement: &Statement,
@@ -42,7 +42,7 @@ fn is_claimed(
     Ok(claims(statement, of, &ballot) == (*votes, *accepts))
 }
 
-/// Of a statement what it claims of some ballots.
+/// A statement, and what it claims about some ballots.
 type Claims = (Said, Of, &'static [(Short, bool, bool)]);
 
 const PREPARED: [Claims; 10] = [

@@ -1,14 +1,14 @@
-//! Envelopes are copied, encoded and read, and again: the first call is right or out of memory, and the second is right as if
-//! there had been no first. Where the second is out of memory, the test ends with that.
+//! Envelopes are copied, encoded and read, each twice. The first call is right or out of memory; the second is right as if there had been no
+//! first. If the second is out of memory, the test ends with that.
 use super::*;
 use std::test::*;
 
-/// Whether a first answer is right, or that memory ran out.
+/// Whether a first answer is right, or memory ran out.
 fn is_right_or_out_of_memory(answer: Result<bool, Fault>) -> bool {
     matches!(answer, Ok(true) | Err(Fault::NoMemory))
 }
 
-/// The statement with a signature of so many bytes.
+/// The statement with a signature of this many bytes.
 fn signed(alloc: Global, statement: Statement, len: usize) -> Result<Envelope, Fault> {
     let signature = Signature::new(vec![in alloc; 9; len]?);
     Ok(Envelope {
@@ -17,7 +17,7 @@ fn signed(alloc: Global, statement: Statement, len: usize) -> Result<Envelope, F
     })
 }
 
-/// Whether the envelope is encoded as these bytes, and is as sane and as old as the original.
+/// Whether the envelope is encoded as these bytes, and is as sane and as new as the original.
 fn is_same(
     alloc: Global,
     found: &Envelope,
@@ -46,7 +46,7 @@ fn is_read(alloc: Global, original: &Envelope, bytes: &[u8]) -> Result<bool, Fau
     is_same(alloc, &read, original, bytes)
 }
 
-/// Whether the envelope is copied and read, and again.
+/// Whether the envelope is copied and read, each twice.
 fn is_kept(alloc: Global, original: &Envelope, bytes: &[u8]) -> Result<bool, Fault> {
     Ok(
         is_right_or_out_of_memory(is_copied(alloc, original, bytes))
@@ -67,7 +67,7 @@ fn is_statement_copied(
     is_same(alloc, &copied, original, bytes)
 }
 
-/// Statements with signatures of so many bytes, and the length of both.
+/// Statements with signatures of this many bytes, and the length of both.
 const KINDS: [(Said, usize, usize); 9] = [
     (
         Said::Prepare((2, 5), Some((2, 5)), Some((1, 4)), 1, 2),
@@ -99,7 +99,7 @@ fn each_kind_is_copied_and_read_again(rt: HostRuntime) -> Result<(), Fail> {
     Ok(())
 }
 
-/// Whether a copy is encoded so once its original is gone.
+/// Whether a copy is still encoded so when its original is gone.
 fn stays_copied(alloc: Global, original: Envelope, bytes: &[u8]) -> Result<bool, Fault> {
     let copied = original.copy()?;
     drop(original);
@@ -118,7 +118,7 @@ fn a_copy_stays_when_its_original_goes(rt: HostRuntime) -> Result<(), Fail> {
     Ok(())
 }
 
-/// So many values of the greatest length.
+/// This many values of the greatest length.
 fn many(alloc: Global, count: usize) -> Result<ValueList, Fault> {
     let mut values = Vec::new(alloc);
     for _ in 0..count {

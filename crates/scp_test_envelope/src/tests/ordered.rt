@@ -1,4 +1,4 @@
-//! Which of two statements is the newer.
+//! Which of two statements is newer.
 use super::*;
 use std::test::*;
 
@@ -8,7 +8,7 @@ fn is_newer(alloc: Global, old: &Statement, new: Said) -> Result<bool, Fault> {
     Ok(newer(old, &new))
 }
 
-// One of each kind, with the same ballot where it has one.
+// One of each kind, with the same ballot if it has one.
 const PREPARE: Said = Said::Prepare((2, 5), Some((2, 5)), None, 1, 2);
 
 const CONFIRM: Said = Said::Confirm((1, 5), 1, 1, 1);
@@ -17,7 +17,7 @@ const EXTERNALIZE: Said = Said::Externalize((1, 5), 1);
 
 const NOMINATE: Said = Said::Nominate(b"a", b"b");
 
-/// Of a statement which others are newer than it.
+/// A statement, and which other ones are newer than it.
 type Newer = (Said, &'static [(Said, bool)]);
 
 const NEWER: [Newer; 12] = [
@@ -205,7 +205,7 @@ fn the_quorum_set_does_not_count(rt: HostRuntime) -> Result<(), Fail> {
     Ok(())
 }
 
-/// A CONFIRM is newer than a PREPARE, until it is of another slot or another node.
+/// A CONFIRM is newer than a PREPARE, unless it is of another slot or another node.
 #[test]
 fn other_nodes_and_slots_are_not_compared(rt: HostRuntime) -> Result<(), Fail> {
     let old = stated(rt.alloc(), Said::Prepare((1, 5), None, None, 0, 0))?;

@@ -39,7 +39,7 @@ fn sets_of(alloc: Global, given: &[Given]) -> Result<Sets, Fault> {
     Ok(sets)
 }
 
-/// Whether the greatest quorum at the node has these nodes and no others, ascending; no nodes mean that there is none.
+/// Whether the greatest quorum at the node has exactly these nodes, ascending; no nodes mean that there is none.
 fn is_quorum(alloc: Global, sets: &Sets, number: u32, numbers: &[u32]) -> Result<bool, Fault> {
     let found = greatest_quorum(alloc, node(number), sets)?;
     Ok(match &found {
@@ -55,7 +55,7 @@ fn is_quorum(alloc: Global, sets: &Sets, number: u32, numbers: &[u32]) -> Result
     })
 }
 
-/// Nodes that need each other, or fall one after the other: their sets, and the greatest quorum at some of them.
+/// Nodes that need each other, or drop out one after the other: their sets, and the greatest quorum at some of them.
 const QUORUMS: [(&[Given], &[(u32, &[u32])]); 4] = [
     (&[(1, (2, &[1, 2])), (2, (2, &[2, 3]))], &[(1, &[])]),
     (
@@ -87,7 +87,7 @@ const QUORUMS: [(&[Given], &[(u32, &[u32])]); 4] = [
     ),
 ];
 
-/// A quorum asks the set of each node. Where memory runs out, it is found again.
+/// A quorum asks for the set of each node. If memory runs out, it is looked for again.
 #[test]
 fn the_greatest_quorum_is_found(rt: HostRuntime) -> Result<(), Fail> {
     for (given, quorums) in QUORUMS {

@@ -35,7 +35,7 @@ impl Random {
     }
 }
 
-/// Adds a set of these nodes, if there are any, in so many sets around it.
+/// Adds a set of these nodes, if there are any, with this many sets around it.
 fn push_inner(
     random: &mut Random,
     inner_sets: &mut Vec<QuorumSet>,
@@ -98,7 +98,7 @@ fn random_map(alloc: Global, random: &mut Random) -> Result<Sets, Fault> {
     Ok(sets)
 }
 
-/// At how many nodes there is a quorum; none where the programs differ.
+/// At how many nodes there is a quorum; `None` if the programs differ.
 fn quorums(alloc: Global, sets: &Sets) -> Result<Option<u32>, Fault> {
     let mut count = 0u32;
     for number in 0..NODES {

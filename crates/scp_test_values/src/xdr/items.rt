@@ -3,7 +3,7 @@ use scp_types::Fault;
 use scp_xdr::{Reader, Writer};
 use std::test::*;
 
-/// An item, behind its limit where it has one.
+/// An item, after its limit if it has one.
 #[derive(Clone, Copy, Debug)]
 enum Item {
     Number(u32),
@@ -108,8 +108,8 @@ fn wrote(writer: Writer, bytes: &[u8]) -> bool {
     writer.into_vec().as_slice() == bytes
 }
 
-/// There is room for a part of the bytes, from none to all of them. A refusal leaves what was written, and the item that is
-/// written then is right behind it.
+/// There is room for a part of the bytes, from none to all of them. A refusal leaves what was
+/// written, and the item that is written then comes right after it.
 #[test]
 fn items_are_written(rt: HostRuntime) -> Result<(), Fail> {
     for (items, bytes) in ENCODED {
@@ -140,7 +140,7 @@ fn items_are_read(rt: HostRuntime) {
     }
 }
 
-/// Whether the item behind a flag is refused by the fault, and the reader stays where it was.
+/// Whether the item after a flag is refused with the fault, and the reader stays where it was.
 fn is_refused(bytes: &[u8], item: Item, fault: Fault) -> bool {
     let mut reader = Reader::new(bytes);
     let mut same = Reader::new(bytes);
@@ -151,7 +151,7 @@ fn is_refused(bytes: &[u8], item: Item, fault: Fault) -> bool {
         && reader.u32() == same.u32()
 }
 
-/// Behind a flag an item with its bytes.
+/// Items that come after a flag, with their bytes.
 const BEHIND_FLAG: [(Item, &[u8]); 6] = [
     (Item::Number(7), &[0, 0, 0, 1, 0, 0, 0, 7]),
     (Item::Long(7), &[0, 0, 0, 1, 0, 0, 0, 0, 0, 0, 0, 7]),
@@ -164,7 +164,7 @@ const BEHIND_FLAG: [(Item, &[u8]); 6] = [
     (Item::Flag(true), &[0, 0, 0, 1, 0, 0, 0, 1]),
 ];
 
-/// Bytes are cut within their length or behind it, and other items where they begin.
+/// Bytes are cut within their length or after it, and other items where they begin.
 #[test]
 fn each_cut_has_its_place(rt: HostRuntime) {
     for (item, bytes) in BEHIND_FLAG {
@@ -179,8 +179,8 @@ fn each_cut_has_its_place(rt: HostRuntime) {
     }
 }
 
-/// Behind a flag an item, and the fault of these bytes: a length or a count over its limit comes before missing bytes, and
-/// these before padding that isn't zero.
+/// An item after a flag, and the fault of these bytes. A length or a count over its limit comes
+/// before missing bytes, and these before padding that isn't zero.
 const WRONG: [(Item, &[u8], Fault); 10] = [
     (
         Item::Bytes(4, &[]),

@@ -1,5 +1,5 @@
--- What a node does by its stages, as a watch is told of it.
--- Here stands what no public clause reaches: nothing here need be believed.
+-- What a node does by its stages, as a watch is shown it.
+-- No public clause reaches these definitions: nothing here need be believed.
 use Rattle.std.specs.Prelude.{ℕ, ◌≡◌, ◌↔◌, Bool, false, List}
 use Rattle.scp_driver.specs.Driver.{Says}
 use Rattle.scp_core.specs.declared.event.Event.{Event}
@@ -24,7 +24,7 @@ IsStage event.ApplyTake = Unit {0}
 IsStage (event.Drain l) = ⊥
 
 module _ {D : Type 0} (says : Says D) where
-  -- a node of a number did these steps, of which a watch was told; and nothing moved exactly where nothing is said to have
+  -- the node of this number did these steps, and a watch was shown each; `moved` is false exactly if nothing moved
   abbrev pub Acts : {W : Type 0} → Noting D W → ℕ → W → NodeView D → List Event → Bool → NodeView D → W → Type 0
   Acts {W} Note number w old events moved new z =
       Goes says old new (λ a heard b. (events_of heard ≡ events) × Watched says Note number w a heard b z × ((moved ≡ false) ↔ IsStill heard))

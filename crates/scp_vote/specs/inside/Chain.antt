@@ -1,4 +1,4 @@
--- Boards that are alike, and the own statements of a board one after the other.
+-- Boards that are alike, and the own statements of a board, one after the other.
 -- No public clause reaches this: nothing here need be believed.
 use Rattle.std.specs.Prelude.{◌≡◌, Option}
 use Rattle.scp_types.specs.declared.names.NodeId.{NodeId}
@@ -13,7 +13,7 @@ pub record IsSame (a b : Seen) : Type 0 where
   pub statement : (v : NodeId) → b.statement v ≡ a.statement v
   pub counted : (v : NodeId) → b.counted v ≡ a.counted v
 
--- What holds of a board since the own statement was `first`, the others' part being as on `others`.
+-- What holds of a board since its own statement was `first`, if the part of the other nodes is as on `others`.
 pub record IsChain (others : Seen) (first : Option Pledges) (now : Seen) : Type 0 where
   pub board : IsSame (with_own others (now.statement now.me)) now
   pub keeps : KeepsOwn now

@@ -17,7 +17,7 @@ use Rattle.scp_vote.specs.declared.statements.Entry.{Entry}
 abbrev pub Shared : Type 0
 Shared = Arc SaneSet Global
 
--- the seat at the node's place is its own, and the set of its group is the one that is counted
+-- the seat at the node's place is its own, and its group has the set that counts
 abbrev pub IsSeated : List Seat → List Shared → NodeId → Entry → Type 0
 IsSeated seats sets v e = IsSomeAnd (slice_get seats e.place) (λ s. (s.node ≡ v) × (set_of_group sets s.group ≡ Some e.counted.value))
 
@@ -29,15 +29,15 @@ AreSeated entries seats sets = (v : NodeId) → ForSome (node_map.get node_cmp e
 abbrev pub place_in : BTreeMap NodeId Entry → NodeId → Option ℕ
 place_in entries v = option_map (λ (e : Entry). e.place) (node_map.get node_cmp entries v)
 
--- the groups of the seats have the sets that they had
+-- the groups of the seats have the sets that they had before
 abbrev pub KeepsSets : List Seat → List Shared → List Shared → Type 0
 KeepsSets seats old new = (p : ℕ) (s : Seat) → slice_get seats p ≡ Some s → (q : QuorumTree) → set_of_group old s.group ≡ Some q → set_of_group new s.group ≡ Some q
 
--- of so many groups no seat is of this one
+-- no seat has this one of the first groups
 abbrev pub IsUnused : List Seat → ℕ → ℕ → Type 0
 IsUnused seats groups g = (p : ℕ) (s : Seat) → slice_get seats p ≡ Some s → s.group < groups → s.group ≢ g
 
--- a node's place: its own, or behind all seats
+-- a node's place: its own, or the one after all seats
 pub record IsPlaceFor (entries : BTreeMap NodeId Entry) (count : ℕ) (v : NodeId) (place : ℕ) : Type 0 where
   pub own : (e : Entry) → node_map.get node_cmp entries v ≡ Some e → place ≡ e.place
   pub behind : node_map.get node_cmp entries v ≡ None → place ≡ count

@@ -1,6 +1,6 @@
--- What a link's items are read as (this project's profile): carried messages numbered 0, 1, 2, .. on each connection, a
--- batch as its records, side messages, and the connection's end. What follows of a connection that ended is discarded up to the next Opened.
--- Here stands what no public clause reaches: nothing here need be believed.
+-- What a link's items are read as (this project's profile): carried messages, numbered 0, 1, 2, .. on each connection, a batch as its
+-- records, side messages, and the connection's end. After a connection's end everything is discarded up to the next Opened.
+-- No public clause reaches this definition: nothing here need be believed.
 use Rattle.std.specs.Prelude.{◌+◌, ◌^◌, ◌≤◌, length}
 use Rattle.scp_wire.specs.declared.message.Message.{Message}
 use Rattle.scp_wire.specs.declared.message.Message.TheVariants.{Envelope, GetSet, Set, NoSet, GetRecord, Record, Records}

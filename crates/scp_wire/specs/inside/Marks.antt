@@ -1,5 +1,5 @@
--- What a list of things says of one connection: all that is of it; of that the numbers of its messages, and its end.
--- Here stands what no public clause reaches: nothing here need be believed.
+-- What a list of things says of one connection: all that belongs to it, and of that the numbers of its messages, and its end.
+-- No public clause reaches this definition: nothing here need be believed.
 use Rattle.std.specs.Prelude.{ℕ, ◌+◌, ◌≡◌, List, [], ◌∷◌}
 use Rattle.scp_wire.specs.Marks.{Mark, number, ended}
 

@@ -1,5 +1,5 @@
--- The message that bytes spell.
--- Here stands what no public clause reaches: nothing here need be believed.
+-- The message that bytes encode.
+-- No public clause reaches this definition: nothing here need be believed.
 use Rattle.std.specs.Prelude.{ℕ, Bool, false, ◌||◌, Ok, Err, nat_eq}
 use Rattle.scp_xdr.specs.Reading.{Read}
 

@@ -1,5 +1,5 @@
 -- What the steps of a worker keep.
--- Here stands what no public clause reaches: nothing here need be believed.
+-- No public clause reaches these definitions: nothing here need be believed.
 use Rattle.std.specs.Prelude.{◌≡◌, ℕ, ◌<◌, Bool, false, List, [], ◌∷◌, ◌++◌, slice_index_or}
 use Rattle.scp_desk.specs.Ends.{PutterView}
 use Rattle.scp_ledger.specs.declared.took.Outgoing.{Outgoing}
@@ -7,11 +7,11 @@ use Rattle.scp_ends.specs.declared.item.Item.{Item}
 use Rattle.scp_ends.specs.Ends.{Receiver, HeardAll, stopped}
 use Rattle.scp_workers.specs.Working.{Work, IsSameInput, IsSameOutput, AreSameOutlets, HavePut}
 
--- each producer was heard to its end, or nobody sends any more
+-- each producer was heard to its end, unless nobody sends any more
 abbrev pub HearsToTheEnd : {T : Type 0} → Receiver T → Bool → Type 0
 HearsToTheEnd input cut_off = cut_off ≡ false → HeardAll input
 
--- the flags say who has ended
+-- the flags say which producers have ended
 abbrev pub AreStops : {T : Type 0} → List Bool → List (Item T) → Type 0
 AreStops flags got = (p : ℕ) → p < 8 → slice_index_or flags p false ≡ stopped p got
 
@@ -26,15 +26,15 @@ pub record HasGiven {T U S : Type 0} (runs : S → List T → List U → List Ou
 abbrev pub GivesOn : {T U S : Type 0} → (S → List T → List U → List Outgoing → S → Type 0) → S → List U → S → List U → Type 0
 GivesOn {T} {U} {S} runs old gave new more = (first : S) → (took : List T) → (out : List Outgoing) → runs first took gave out old → runs first took more out new
 
--- it took a thing more, gave more, and what it handed out was put too
+-- it took one more thing, gave more, and what it handed out was put too
 abbrev pub TakesOn : {T U S : Type 0} → (S → List T → List U → List Outgoing → S → Type 0) → T → S → List U → List PutterView → S → List U → List PutterView → Type 0
 TakesOn {T} {U} {S} runs x old gave before new more outlets = (first : S) → (took : List T) → (out : List Outgoing) → runs first took gave out old → HavePut out before → (all : List Outgoing) × runs first (took ++ x ∷ []) more all new × HavePut all outlets
 
--- some list of things was taken to get there
+-- some list of things was taken to get here
 abbrev pub RanTo : {T U S : Type 0} → (S → List T → List U → List Outgoing → S → Type 0) → List U → S → Type 0
 RanTo {T} {U} {S} runs gave now = (first : S) × (took : List T) × (out : List Outgoing) × runs first took gave out now
 
--- and the next thing fits behind it
+-- the same, and the next thing fits after them
 abbrev pub MayTake : {T U S : Type 0} → (S → List T → List U → List Outgoing → S → Type 0) → (List T → Type 0) → T → List U → S → Type 0
 MayTake {T} {U} {S} runs fits x gave now = (first : S) × (took : List T) × (out : List Outgoing) × runs first took gave out now × fits (took ++ x ∷ [])
 

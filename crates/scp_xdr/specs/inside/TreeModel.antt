@@ -1,4 +1,4 @@
--- What the model of a type needs whose contracts see it as a tree: its size, and a code of trees.
+-- What the model of a type needs if contracts see it as a tree: its size, and a code of trees.
 -- No public clause reaches this: nothing here need be believed.
 use Rattle.std.specs.Prelude.{◌≡◌, ℕ, ◌+◌, ◌≤◌, List, [], ◌∷◌, refl}
 use Rattle.std.specs.Coded.{Coded, code_by, coded×}
@@ -7,7 +7,7 @@ use base.Stored.{Gv, gnil, gcons}
 use denote.Param.Weighed.{most}
 use Rattle.scp_xdr.specs.Tree.{Trees, no_trees, tree_then, Tree, in_a_row}
 
--- how many trees stand in a row, inner ones too
+-- how many trees are in a row, with those inside them
 abbrev pub row_count : {X : Type 0} → Trees X → ℕ
 row_count no_trees = 0
 row_count (tree_then x inner others) = 1 + row_count inner + row_count others

@@ -6,7 +6,7 @@ use Rattle.scp_episode.specs.inside.Draining.{Drained, GoesDraws, OthersStay}
 use Rattle.scp_episode.proofs.Draws.{done}
 use Rattle.scp_episode.proofs.draining.draw_all.Given as goal
 
--- so many went out so far
+-- this many went out so far
 abbrev pub invariant-loop : goal.invariant-loop
 invariant-loop g l = record {
   drawn : GoesDraws g.A.Driver.says (notes g.W.Watch.notes_before g.W.Watch.notes_after) done l.fn.watch l.fn.node l.node (λ heard. Drained (replicate l.counter (Drain l.link)) l.fn.sent.items l.sent.items heard) l.watch;

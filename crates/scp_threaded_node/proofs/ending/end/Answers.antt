@@ -50,7 +50,7 @@ returns-clause-ended g c = λ me set peers caps apart runs driven sent all.
       },
     )
 
--- what is told of what was gathered, by how the node's threads ended
+-- what is reported of what was gathered, by how the node's threads ended
 told_by : {A T : Type 0} (x : NodeEnd A) (stage : Option Stage) (r : Result T Fault) → stage ≡ stage_failed x → option_or (links_fault x.lanes) (local_fault x.local) ≡ None
     → ((s : Stage) → IsErrOf r (Refused s) ↔ (stage ≡ Some s)) → IfErr r (λ f. (f ≡ NoMemory) ⊎ ((s : Stage) × (f ≡ Refused s))) → MatchResult r (λ _. fault_of x ≡ None) (IsTold (fault_of x))
 told_by x stage r is none refused only =
