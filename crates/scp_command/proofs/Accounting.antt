@@ -14,7 +14,7 @@ use Rattle.scp_account.specs.Run.{IsKept, keeping, RunIsKept}
 use Rattle.scp_notices.specs.scp_line.specs.declared.watch.Steps.{Steps}
 use Rattle.scp_report.specs.Report.{ReportView}
 use Rattle.scp_report.specs.Node.{reports_of}
-use Rattle.scp_report.specs.Left.{reports_left}
+use Rattle.scp_notices.specs.scp_line.specs.Left.{reports_left}
 use Rattle.scp_account.specs.declared.node.Mode.TheVariants as ways
 use Rattle.scp_account.specs.Account.{account_text}
 use Rattle.scp_account.specs.Fits.{FitsNode}

@@ -12,7 +12,7 @@ use Rattle.scp_notices.specs.Run.{IsRan}
 use Rattle.scp_notices.specs.Texts.{notices_text}
 use Rattle.scp_notices.specs.Threads.{IsRanInThreads}
 use Rattle.scp_report.specs.Node.{reports_of}
-use Rattle.scp_report.specs.Left.{reports_left}
+use Rattle.scp_notices.specs.scp_line.specs.Left.{reports_left}
 use Rattle.scp_command.specs.declared.answer.Answer.{Answer}
 use Rattle.scp_command.specs.declared.given.Given.{Given}
 use Rattle.scp_command.specs.Given.{IsGiven}

@@ -12,7 +12,7 @@ use Rattle.scp_account.specs.scp_facts.specs.declared.happening.Kept.{Kept}
 use Rattle.scp_account.specs.Run.{IsKept}
 use Rattle.scp_report.specs.Report.{ReportView}
 use Rattle.scp_report.specs.Node.{reports_of}
-use Rattle.scp_report.specs.Left.{reports_left}
+use Rattle.scp_notices.specs.scp_line.specs.Left.{reports_left}
 use Rattle.scp_report.specs.Reports.{records_in, settled_text}
 use Rattle.scp_report.specs.Text.{text_report_of}
 use Rattle.scp_report.specs.Json.{document_text}

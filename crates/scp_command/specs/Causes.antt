@@ -10,7 +10,7 @@ use Rattle.scp_account.specs.scp_facts.specs.declared.happening.Kept.{Kept}
 use Rattle.scp_account.specs.Run.{IsKept}
 use Rattle.scp_account.specs.Fits.{FitsNode}
 use Rattle.scp_report.specs.Node.{reports_of}
-use Rattle.scp_report.specs.Left.{reports_left}
+use Rattle.scp_notices.specs.scp_line.specs.Left.{reports_left}
 use Rattle.scp_device.specs.declared.bad.Expected.{Expected}
 use Rattle.scp_device.specs.declared.bad.Expected.TheVariants.{BytesInDigits, BytesInBase64, AMessageWithin, AMessageFrom}
 use Rattle.scp_device.specs.declared.bad.BadWord.{BadWord}

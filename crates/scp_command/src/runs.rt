@@ -4,7 +4,7 @@ ghost use Rattle.scp_script.specs.Nodes.{NamesNodes};
 ghost use Rattle.scp_script.specs.Script.{AreAdmitted, node_count};
 ghost use Rattle.scp_report.specs.Report.{view_of};
 ghost use Rattle.scp_report.specs.Node.{reports_of as records_of};
-ghost use Rattle.scp_report.specs.Left.{reports_left as records_left};
+ghost use Rattle.scp_notices.specs.scp_line.specs.Left.{reports_left as records_left};
 ghost use Rattle.scp_account.specs.declared.node.Mode.TheVariants as ways;
 ghost use Rattle.scp_account.specs.Account.{account_text as accounted};
 ghost use Rattle.scp_account.specs.Fits.{FitsNode};
@@ -20,6 +20,7 @@ use crate::answer::Answer;
 use crate::given::{Given, given_by, of_play, of_unread, place_of};
 use scp_account::{
     KeepingWatch, Kept, Mode as Way, Steps, a_run_is_kept_as_it_happened, account as account_text,
+    reports_left, sets_of,
 };
 use scp_core::Node;
 use scp_gather::NodeReport;
@@ -28,10 +29,7 @@ use scp_notices::{
     run_watched, text_of_notices,
 };
 use scp_prompt::{Failure, Mode, Shape, Task};
-use scp_report::{
-    Report, json_report, reports_left, reports_of as all_records, sets_of, settled_report,
-    text_report,
-};
+use scp_report::{Report, json_report, reports_of as all_records, settled_report, text_report};
 use scp_script::{Command, count_of_nodes};
 use scp_script_short::Expanded;
 use scp_types::Fault;

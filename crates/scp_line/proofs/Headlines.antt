@@ -11,7 +11,7 @@ use Rattle.scp_script.specs.Nodes.{id_of, peers_of, set_at}
 use Rattle.scp_script.specs.Script.{commands_in, node_count}
 use Rattle.scp_line.specs.Headlines.{AreHeadlined, AreNodesHeadlined, AreReportsHeadlined, IsHeadlined, AreGatheredHeadlined, PlayingKeepsHeadlines, ReportingKeepsHeadlines}
 use Rattle.scp_line.specs.inside.Nodes.{IsPlayed}
-use Rattle.scp_report.specs.Left.{reports_left}
+use Rattle.scp_line.specs.Left.{reports_left}
 use Rattle.scp_report.specs.Node.{reports_of}
 use Rattle.scp_report.specs.Reports.{settled_text}
 

@@ -17,3 +17,4 @@ pub mod Locals
 pub mod Given
 pub mod Turns
 pub mod Fates
+pub mod Sets

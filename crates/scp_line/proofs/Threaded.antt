@@ -12,7 +12,7 @@ use Rattle.scp_threaded_script.specs.Reported.{AreNodesReported, IsGivenUp, IsLi
 use Rattle.scp_threaded_script.proofs.Ending.{IsOfNodes, given_up_by_nodes}
 use Rattle.scp_script.specs.declared.command.Command.{Command}
 use Rattle.scp_script.specs.Script.{IsScript, commands_in, node_count}
-use Rattle.scp_report.specs.Left.{reports_left}
+use Rattle.scp_line.specs.Left.{reports_left}
 use Rattle.scp_report.specs.Reports.{settled_text}
 use Rattle.scp_line.specs.Play.{IsNamed}
 use Rattle.scp_line.specs.Threads.{AreGatheredReports, AreGivenUp, IsThreadsFault}

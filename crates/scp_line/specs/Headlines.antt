@@ -17,7 +17,7 @@ use Rattle.scp_threaded_script.specs.Reported.{AreNodesReported, AreStood}
 use Rattle.scp_script.specs.declared.command.Command.{Command}
 use Rattle.scp_script.specs.Script.{commands_in, node_count}
 use Rattle.scp_script.specs.Nodes.{id_of, peers_of, set_at}
-use Rattle.scp_report.specs.Left.{reports_left}
+use Rattle.scp_line.specs.Left.{reports_left}
 use Rattle.scp_report.specs.Node.{reports_of}
 use Rattle.scp_report.specs.Reports.{settled_text}
 use Rattle.scp_line.specs.Play.{ArePlayed}

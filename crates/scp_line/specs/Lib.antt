@@ -7,6 +7,7 @@ pub mod Links
 pub mod Nodes
 pub mod Player
 pub mod Laws
+pub mod Left
 pub mod Threads
 pub mod Headlines
 pub mod Commands

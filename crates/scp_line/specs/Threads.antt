@@ -5,7 +5,7 @@ use Rattle.scp_types.specs.declared.fault.Fault.TheVariants.{NoMemory, TooLong, 
 use Rattle.scp_threaded_script.specs.scp_gather.specs.Kv.{NodeReport}
 use Rattle.scp_threaded_script.specs.Reported.{AreNodesReported, IsGivenUp}
 use Rattle.scp_script.specs.Script.{IsScript, commands_in}
-use Rattle.scp_report.specs.Left.{reports_left}
+use Rattle.scp_line.specs.Left.{reports_left}
 use Rattle.scp_report.specs.Reports.{settled_text}
 
 -- ---- reports

@@ -1,4 +1,4 @@
-//! Scripts for up to eight linked nodes: plays them, and writes the reports that they ask for. `scp_report` makes these, from its record of
+//! Scripts for up to eight linked nodes: plays them, and writes the reports that they ask for. `scp_report` makes these, from the record of
 //! each node.
 //!
 //! What it promises:
@@ -9,6 +9,7 @@
 //!   the line that wasn't done, with the reason why it wasn't.
 //! - At each `settle`, and where a line's event finds a full queue, each node does whole rounds until a round moves nothing, or 100,000
 //!   rounds.
+//! - `reports_left` gives the records of a script's nodes whose stages ran in threads, from what these left.
 //! - `play_in_threads` and `play_gated` write the reports of nodes whose stages ran in threads. The ledger theorem holds of each node for
 //!   what was sent to it, and nothing is left in a channel. The nodes had the commands of the script. A link that a `send` line names carried
 //!   exactly the items of the script; each other link carried exactly what the sender's outbox gave.
@@ -22,6 +23,7 @@
 #![tactic(auto)]
 
 mod laws;
+mod left;
 mod messages;
 mod nodes;
 mod outcome;
@@ -33,6 +35,7 @@ mod watch;
 pub use laws::{
     a_script_has_room, each_fate_is_of_its_command, what_is_played_keeps_the_headlines,
 };
+pub use left::{reports_left, sets_of};
 pub use nodes::{act, new_network, played_reports};
 pub use outcome::{line_of_fault, status};
 pub use player::{Stopped, play_lines};
@@ -41,9 +44,7 @@ pub use scp_device::{
     FailsAt, MemoryIn, MemoryOut, Process, ReportOut, SCRIPT_LIMIT, ScriptIn, read_script,
     write_text,
 };
-pub use scp_report::{
-    LinkReport, Parked, Report, reports_left, reports_of, sets_of, write_settled,
-};
+pub use scp_report::{LinkReport, Parked, Report, reports_of, write_settled};
 pub use scp_threaded_script::Ran;
 pub use threads::{play_gated, play_in_threads, run_in_threads};
 pub use watch::{Both, LineWatch, Nobody, Steps};

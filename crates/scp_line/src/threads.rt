@@ -7,7 +7,7 @@ ghost use Rattle.scp_script.specs.Script.{AreAdmitted, node_count, IsScript, IsB
 ghost use Rattle.scp_script.specs.Nodes.{NamesNodes};
 ghost use Rattle.scp_threaded_script.specs.Reported.{AreNodesReported, AreAllKept, IsGivenUp};
 ghost use Rattle.scp_threaded_script.specs.Waits.{AreWaits};
-ghost use Rattle.scp_report.specs.Left.{reports_left as records_left};
+ghost use Rattle.scp_line.specs.Left.{reports_left as records_left};
 ghost use Rattle.scp_report.specs.Reports.{settled_text};
 ghost use Rattle.scp_line.specs.Headlines.{AreGatheredHeadlined};
 ghost use Rattle.scp_line.specs.Nodes.{HaveRoom};
@@ -15,10 +15,11 @@ ghost use Rattle.scp_line.specs.Play.{IsNamed};
 ghost use Rattle.scp_line.specs.Threads.{AreGatheredReports, AreGivenUp, IsOfTheNodes, IsThreadsFault};
 
 use crate::laws::what_is_played_keeps_the_headlines;
+use crate::left::{reports_left, sets_of};
 use crate::playing::PlayFault;
 use scp_device::{ReportOut, SCRIPT_LIMIT, ScriptIn, read_script, write_text};
 use scp_gate::{Gate, Open};
-use scp_report::{reports_left, sets_of, settled_report};
+use scp_report::settled_report;
 use scp_script::{Command, count_of_nodes, parse};
 use scp_threaded_script::{NodeFault, NodeReport, Ran, run_lines};
 use scp_types::Fault;

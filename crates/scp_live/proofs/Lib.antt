@@ -1,7 +1,6 @@
 pub mod Adding
 pub mod Texts
 pub mod Refusals
-pub mod Reports
 pub mod Going
 pub mod Reporting
 pub mod Living

@@ -1,8 +1,6 @@
 -- The answers to a host that asks about the state of a node (this project's profile).
 use Rattle.std.specs.Prelude.{ℕ, zero, suc, ◌-◌, List, [], ◌++◌, length, drop, flat_map}
-use Rattle.std.specs.FinMap as map
-use Rattle.scp_kv.specs.State.{fold_of}
-use Rattle.scp_apply.specs.Applied.{values_of}
+use Rattle.scp_types.specs.declared.names.NodeId.{NodeId}
 use Rattle.scp_core.specs.Node.{accepts_at, lives_at}
 use Rattle.scp_core.specs.Kv.{NodeView}
 use Rattle.scp_turn.specs.Turn.{links_of}
@@ -11,6 +9,8 @@ use Rattle.scp_live_lines.specs.Fates.{fate_line}
 use Rattle.scp_live_lines.specs.Decisions.{applied_line}
 use Rattle.scp_live_lines.specs.Timers.{running}
 use Rattle.scp_live_lines.specs.State.{lowest_line, applied_count_line, journal_line, warning_lines, link_line, key_line}
+use Rattle.scp_report.specs.Report.{ReportView}
+use Rattle.scp_report.specs.Node.{report_of as record_of}
 use Rattle.scp_live.specs.Live.{LiveView}
 
 -- The line of each link, in order: whether the node accepts what its peer sends, and how many times it was opened.
@@ -30,9 +30,11 @@ state_of v =
 abbrev pub applied_from : NodeView → ℕ → List ℕ
 applied_from v slot = flat_map applied_line (drop (slot - 1) v.applier.applied)
 
--- The report: what became of each message that came, in order; each applied slot; and the state that these slots make, key by key with
--- its value.
+-- The lines that the record of a node has in a report: what became of each message that came, in the order of the journal; each applied slot;
+-- and each key of the state with its value. These peers have these names, in order.
+abbrev pub report_lines : List (List ℕ) → List NodeId → ReportView → List ℕ
+report_lines names peers r = flat_map (fate_line names peers) r.journal ++ flat_map applied_line r.applied ++ flat_map key_line r.state
+
+-- The report of a live node: the lines of its record, which is that of node 1.
 abbrev pub report_of : LiveView → List ℕ
-report_of v =
-    flat_map (fate_line v.names v.node.config.peers) v.node.ledger.journal ++ flat_map applied_line v.node.applier.applied
-    ++ flat_map key_line (map.entries (fold_of (values_of v.node.applier.applied)))
+report_of v = report_lines v.names v.node.config.peers (record_of 1 v.node)

@@ -7,6 +7,7 @@
 //!   slot, the timers that no longer run, and those that run from now on;
 //! - the call returns the digest of the lines of what was sent;
 //! - the timers that a host was last asked to run are those that should run;
+//! - the answer to `report` is a function of the node's record (`Report` of `scp_report`): its fates, applied slots and keys;
 //! - what is sent once more to a peer is the node's newest own statements and its requests, and nothing else;
 //! - the ledger theorem holds of the node for all that it received and replied;
 //! - the settings are what the TOML text says, and a node that begins with them has received no event;

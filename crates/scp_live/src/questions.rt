@@ -5,7 +5,8 @@ ghost use Rattle.scp_core.specs.Node.{accepts_at, lives_at};
 ghost use Rattle.scp_turn.specs.Turn.{links_of};
 ghost use Rattle.scp_live_lines.specs.Names.{name_at};
 ghost use Rattle.scp_live_lines.specs.State.{key_line, link_line};
-ghost use Rattle.scp_live.specs.Questions.{link_lines, state_of, applied_from, report_of};
+ghost use Rattle.scp_report.specs.Report.{view_of};
+ghost use Rattle.scp_live.specs.Questions.{link_lines, state_of, applied_from, report_lines, report_of};
 
 use crate::live::Live;
 use crate::telling::{behind, name_of, tell_applied, tell_fates};
@@ -14,7 +15,8 @@ use scp_live_lines::{
     write_applied_count, write_journal, write_key, write_link, write_lowest, write_running,
     write_warning,
 };
-use scp_types::Slot;
+use scp_report::{Report, report_of as record_of};
+use scp_types::{NodeId, Slot};
 use std::alloc::AllocError;
 
 /// Adds the lines of the keys with their values.
@@ -25,6 +27,23 @@ fn tell_keys(text: &mut String, state: &KvState) -> Result<(), AllocError>
         write_key(text, key.as_slice(), value.as_slice())?;
     }
     Ok(())
+}
+
+/// Adds the lines that the record of a node has in a report.
+fn tell_record(
+    text: &mut String,
+    names: &[String],
+    peers: &[NodeId],
+    record: &Report<'_>,
+) -> Result<(), AllocError>
+    ensures { OnOk result (string_bytes text.new ≡ string_bytes text.old ++ report_lines (map string_bytes names.now) peers.now (view_of record.now)) }
+{
+    tell_fates(text, names, peers, record.journal)?;
+    tell_applied(text, record.applied)?;
+    match record.state {
+        Some(state) => tell_keys(text, state),
+        None => Ok(()),
+    }
 }
 
 impl Live {
@@ -69,20 +88,13 @@ impl Live {
         tell_applied(text, behind(self.node.applied(), from))
     }
 
-    /// Adds what became of each message that came, each applied slot, and the keys with their values.
+    /// Adds what became of each message that came, each applied slot, and the keys with their values: the lines of the node's record. A node
+    /// that failed has no keys. It takes time in proportion to what it adds and to the connections that the node's links had. It fails only
+    /// if it is out of memory.
     pub fn report(&self, text: &mut String) -> Result<(), AllocError>
-        ensures { self.now.node.failed ≡ false → OnOk result (string_bytes text.new ≡ string_bytes text.old ++ report_of self.now) }
+        ensures { OnOk result (string_bytes text.new ≡ string_bytes text.old ++ report_of self.now) }
     {
-        tell_fates(
-            text,
-            self.names.as_slice(),
-            self.node.peers(),
-            self.node.journal(),
-        )?;
-        tell_applied(text, self.node.applied())?;
-        match self.node.state() {
-            Some(state) => tell_keys(text, state),
-            None => Ok(()),
-        }
+        let record = record_of(self.alloc, 1, &self.node)?;
+        tell_record(text, self.names.as_slice(), self.node.peers(), &record)
     }
 }

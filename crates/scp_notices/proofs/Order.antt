@@ -19,7 +19,7 @@ use Rattle.scp_line.specs.Nodes.{HasPlayed}
 use Rattle.scp_line.specs.scp_report.specs.declared.report.Report.{Report}
 use Rattle.scp_line.specs.scp_report.specs.Report.{ReportView, view_of}
 use Rattle.scp_line.specs.scp_report.specs.Node.{report_of, reports_behind}
-use Rattle.scp_line.specs.scp_report.specs.Left.{left_behind, report_left}
+use Rattle.scp_line.specs.Left.{left_behind, report_left}
 use Rattle.scp_notices.specs.inside.Seen.{applied_in}
 
 order_of : (past : List Exchange) (v : NodeView) (h : HoldsLedger past v) → ((v.failed ≡ false) × (h.earlier ≡ past) × (h.moment ≡ v)) ⊎ FailedAfter past h.earlier v h.moment → AreInOrder 1 v.applier.applied

@@ -19,7 +19,7 @@ use Rattle.scp_script.specs.declared.command.Command.TheVariants as script
 use Rattle.scp_line.specs.scp_threaded_script.specs.Lines.{link_of, local_by, told_to, command_by, commands_for}
 use Rattle.scp_line.specs.Commands.{commands_to, taken_among, HasFatesOfLines}
 use Rattle.scp_line.specs.scp_report.specs.Report.{ReportView}
-use Rattle.scp_line.specs.scp_report.specs.Left.{left_behind, reports_left}
+use Rattle.scp_line.specs.Left.{left_behind, reports_left}
 use Rattle.scp_notices.specs.declared.commands.Told.{Told}
 use Rattle.scp_notices.specs.Ignoring.{fates_at, told_by, told_from, teller, is_told_by, count_at, fate_by}
 use Rattle.scp_notices.specs.Own.{AreOfTheirLines}

@@ -4,7 +4,7 @@ use Rattle.std.specs.List.{list_any}
 use Rattle.scp_types.specs.declared.fault.Fault.TheVariants.{NoMemory as no_memory}
 use Rattle.scp_gather.specs.Kv.{NodeReport}
 use Rattle.scp_line.specs.scp_report.specs.Report.{ReportView}
-use Rattle.scp_line.specs.scp_report.specs.Left.{reports_left}
+use Rattle.scp_line.specs.Left.{reports_left}
 use Rattle.scp_line.specs.scp_threaded_script.specs.Reported.{AreNodesReported, IsGivenUp}
 use Rattle.scp_line.specs.scp_threaded_script.specs.Waits.{AreWaits}
 use Rattle.scp_script.specs.declared.command.Command.{Command}

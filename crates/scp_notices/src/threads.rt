@@ -7,7 +7,7 @@ ghost use Rattle.scp_script.specs.Nodes.{NamesNodes};
 ghost use Rattle.scp_line.specs.Headlines.{AreReportsHeadlined};
 ghost use Rattle.scp_line.specs.Nodes.{HaveRoom};
 ghost use Rattle.scp_line.specs.scp_report.specs.Report.{view_of};
-ghost use Rattle.scp_line.specs.scp_report.specs.Left.{reports_left as records_left};
+ghost use Rattle.scp_line.specs.Left.{reports_left as records_left};
 ghost use Rattle.scp_line.specs.scp_threaded_script.specs.Reported.{AreAllKept};
 ghost use Rattle.scp_notices.specs.Ignoring.{told_by};
 ghost use Rattle.scp_notices.specs.Threads.{told_in, is_wait, no_wait, gave_up_at, gave_up, threads_notices, ShowsThreads, IsRanInThreads, IsThreadsFault};

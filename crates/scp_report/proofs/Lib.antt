@@ -1,6 +1,5 @@
 pub mod Numbers
 pub mod Rows
-pub mod Sets
 pub mod Sections
 pub mod ConnectionOrder
 pub mod Sorting

@@ -1,7 +1,6 @@
 pub mod Report
 pub mod Waiting
 pub mod Node
-pub mod Left
 pub mod Settled
 pub mod Text
 pub mod Json

@@ -2,7 +2,7 @@
 //!
 //! What it promises:
 //! - `Report` has all that reports, accounts and notices show of a node: of one that takes one step after another, in a script or live
-//!   (`report_of`), and of one whose stages ran in threads (`reports_left`).
+//!   (`report_of`), and of one whose stages ran in threads (`reports_left` of `scp_line`).
 //! - `settled_report` gives the reports that the lines of a script ask for, in the order of the lines, in the fixed form.
 //! - `text_report` gives the same reports, except that values and keys are as people write them.
 //! - `json_report` gives the same reports as one JSON document. For each node it has its connections with their fates, the slots that it
@@ -14,7 +14,6 @@ mod applied;
 mod connections;
 mod document;
 mod grouped;
-mod left;
 mod node;
 mod report;
 mod reports;
@@ -22,7 +21,6 @@ mod settled;
 mod text;
 mod waiting;
 
-pub use left::{reports_left, sets_of};
 pub use node::{report_of, reports_of};
 pub use report::{LinkReport, Parked, Report};
 pub use reports::{json_report, settled_report, text_report};

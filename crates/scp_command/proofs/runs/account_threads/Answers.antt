@@ -2,7 +2,7 @@ use Rattle.std.proofs.Common.{◌≡◌, ◌∙◌, ℕ, List, [], length, ap, s
 use Rattle.scp_gather.specs.Kv.{NodeReport}
 use Rattle.scp_script.specs.declared.command.Command.{Command}
 use Rattle.scp_script.specs.Script.{node_count}
-use Rattle.scp_report.specs.Left.{reports_left}
+use Rattle.scp_notices.specs.scp_line.specs.Left.{reports_left}
 use Rattle.scp_account.specs.declared.node.Mode.TheVariants as ways
 use Rattle.scp_account.specs.Account.{account_text}
 use Rattle.scp_prompt.specs.declared.asked.Mode.TheVariants.{Threads}

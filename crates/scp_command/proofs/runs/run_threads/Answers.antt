@@ -5,7 +5,7 @@ use Rattle.scp_script.specs.declared.command.Command.{Command}
 use Rattle.scp_script.specs.Nodes.{NamesNodes}
 use Rattle.scp_script.specs.Script.{AreAdmitted, node_count}
 use Rattle.scp_notices.specs.Threads.{IsRanInThreads, IsThreadsFault}
-use Rattle.scp_report.specs.Left.{reports_left}
+use Rattle.scp_notices.specs.scp_line.specs.Left.{reports_left}
 use Rattle.scp_command.specs.Answers.{reports_text}
 use Rattle.scp_command.proofs.Reporting.{threads_answer}
 use Rattle.scp_command.proofs.runs.run_threads.Goals as goal

@@ -3,7 +3,7 @@ use Rattle.std.specs.Global.{Vec}
 use Rattle.scp_script.specs.declared.command.Command.{Command}
 use Rattle.scp_line.specs.scp_report.specs.declared.report.Report.{Report}
 use Rattle.scp_line.specs.scp_report.specs.Report.{ReportView, view_of}
-use Rattle.scp_line.specs.scp_report.specs.Left.{left_behind, reports_left}
+use Rattle.scp_line.specs.Left.{left_behind, reports_left}
 use Rattle.scp_notices.specs.declared.commands.Told.{Told}
 use Rattle.scp_notices.specs.declared.notice.Notice.{Notice}
 use Rattle.scp_notices.specs.Nodes.{nodes_notices}

@@ -8,7 +8,7 @@ use Rattle.scp_script.specs.declared.command.Command.{Command}
 use Rattle.scp_script.specs.Script.{node_count}
 use Rattle.scp_line.specs.scp_threaded_script.specs.Reported.{AreNodesReported}
 use Rattle.scp_line.specs.scp_threaded_script.specs.Waits.{AreWaits}
-use Rattle.scp_line.specs.scp_report.specs.Left.{reports_left}
+use Rattle.scp_line.specs.Left.{reports_left}
 use Rattle.scp_notices.specs.Threads.{threads_notices}
 use Rattle.scp_notices.proofs.Order.{reports_in_order}
 use Rattle.scp_notices.proofs.Placing.{reported_lines}

@@ -16,7 +16,7 @@ returns-in_ok-state-in-State-clause-told c =
 pub returns-in_ok-report-in-Report-clause-told : goal.returns-in_ok-report-in-Report-clause-told
 returns-in_ok-report-in-Report-clause-told c =
     reply_as c.args.asked.now _ c.args.live.now c.args.self.now _ c.in-Report.is
-    (tells _ _ _ c.args.self.now _ (c.in_ok-report-in-Report.ensures c.requires.live.runs) (sym (ap (λ (b : BatchView). b.text) c.self.view_is)) refl (ap (λ (b : BatchView). b.entries) c.self.view_is))
+    (tells _ _ _ c.args.self.now _ c.in_ok-report-in-Report.ensures (sym (ap (λ (b : BatchView). b.text) c.self.view_is)) refl (ap (λ (b : BatchView). b.entries) c.self.view_is))
 
 pub returns-in_ok-applied-in-Applied-clause-told : goal.returns-in_ok-applied-in-Applied-clause-told
 returns-in_ok-applied-in-Applied-clause-told c =

@@ -1,8 +1,8 @@
 use Rattle.std.proofs.Common.{◌≡◌, fold, drop}
 use Rattle.std.specs.BTreeSet.{insert_key}
 use Rattle.scp_types.specs.Order.{conn_cmp}
-use Rattle.scp_report.specs.Left.{conns_waiting}
-use Rattle.scp_report.proofs.left.conns_of.Given as goal
+use Rattle.scp_line.specs.Left.{conns_waiting}
+use Rattle.scp_line.proofs.left.conns_of.Given as goal
 
 -- what is left leads to all
 abbrev pub invariant-loop-message : goal.invariant-loop-message

@@ -1,6 +1,6 @@
 use Rattle.std.proofs.Common.{◌≡◌, map}
 use Rattle.scp_script.specs.Nodes.{numbers, set_at}
-use Rattle.scp_report.proofs.left.sets_of.Given as goal
+use Rattle.scp_line.proofs.left.sets_of.Given as goal
 
 -- those of the nodes so far
 abbrev pub invariant-loop-index : goal.invariant-loop-index

@@ -1,7 +1,7 @@
 use Rattle.std.proofs.Common.{◌≡◌, ◌++◌, ◌≤◌, drop, length, map}
 use Rattle.scp_report.specs.Report.{view_of}
-use Rattle.scp_report.specs.Left.{left_behind}
-use Rattle.scp_report.proofs.left.reports_left.Given as goal
+use Rattle.scp_line.specs.Left.{left_behind}
+use Rattle.scp_line.proofs.left.reports_left.Given as goal
 
 -- with what is left it is all
 abbrev pub invariant-loop-node : goal.invariant-loop-node

@@ -1,10 +1,10 @@
 use Rattle.std.proofs.Common.{◌≡◌, ◌<◌, ◌≤◌, ◌+◌, ◌-◌, ◌∙◌, ℕ, List, [], length, map, get_or, refl, ap, arith}
 use Rattle.std.specs.Global.{Vec}
 use Rattle.scp_report.specs.Report.{view_of}
-use Rattle.scp_report.specs.Left.{left_behind, report_left}
+use Rattle.scp_line.specs.Left.{left_behind, report_left}
 use Rattle.scp_report.proofs.Rows.{rows_more, seen_more}
-use Rattle.scp_report.proofs.Sets.{sets_count, set_there}
-use Rattle.scp_report.proofs.left.reports_left.Goals as goal
+use Rattle.scp_line.proofs.Sets.{sets_count, set_there}
+use Rattle.scp_line.proofs.left.reports_left.Goals as goal
 
 pub set_of-set-requires : goal.set_of-set-requires
 set_of-set-requires c = (

@@ -6,12 +6,12 @@ ghost use Rattle.scp_pending.specs.Messages.{is_on, messages_on};
 ghost use Rattle.scp_script.specs.Script.{AreAdmitted, node_count};
 ghost use Rattle.scp_script.specs.Nodes.{NamesNodes, set_at};
 ghost use Rattle.scp_report.specs.Report.{view_of};
-ghost use Rattle.scp_report.specs.Left.{conns_waiting, count_on, parked_counts, links_left, report_left as record_left, reports_left as records_left, sets_in};
+ghost use Rattle.scp_line.specs.Left.{conns_waiting, count_on, parked_counts, links_left, report_left as record_left, reports_left as records_left, sets_in};
 
-use crate::report::{LinkReport, Parked, Report};
-use scp_gather::NodeReport;
 use scp_quorum::QuorumSet;
+use scp_report::{LinkReport, Parked, Report};
 use scp_script::{Command, count_of_nodes, id_from, peers_of_node, set_of_node};
+use scp_threaded_script::NodeReport;
 use scp_types::{ConnId, Fault, NodeId};
 use scp_wire::Carried;
 use std::alloc::{AllocError, Global};

@@ -1,8 +1,8 @@
 use Rattle.std.proofs.Common.{◌≡◌, ◌+◌, ◌++◌, ◌∷◌, [], ◌∙◌, List, ap, sym}
 use Rattle.scp_quorum.specs.QuorumTree.{QuorumTree}
 use Rattle.scp_script.specs.Nodes.{set_at}
-use Rattle.scp_report.proofs.Sets.{sets_more}
-use Rattle.scp_report.proofs.left.sets_of.Goals as goal
+use Rattle.scp_line.proofs.Sets.{sets_more}
+use Rattle.scp_line.proofs.left.sets_of.Goals as goal
 
 pub loop-index-preserved : goal.loop-index-preserved
 loop-index-preserved c =

@@ -8,7 +8,7 @@ use Rattle.scp_types.specs.Order.{conn_cmp}
 use Rattle.scp_quorum.specs.QuorumTree.{QuorumTree}
 use Rattle.scp_wire.specs.declared.carried.Carried.{Carried}
 use Rattle.scp_pending.specs.Messages.{messages_on}
-use Rattle.scp_gather.specs.Kv.{NodeReport}
+use Rattle.scp_threaded_script.specs.scp_gather.specs.Kv.{NodeReport}
 use Rattle.scp_script.specs.declared.command.Command.{Command}
 use Rattle.scp_script.specs.Script.{node_count}
 use Rattle.scp_script.specs.Nodes.{id_of, numbers, peers_of, set_at}

@@ -1,6 +1,6 @@
 use Rattle.std.proofs.Common.{◌≡◌, ◌++◌, drop}
-use Rattle.scp_report.specs.Left.{links_left}
-use Rattle.scp_report.proofs.left.links_of.Given as goal
+use Rattle.scp_line.specs.Left.{links_left}
+use Rattle.scp_line.proofs.left.links_of.Given as goal
 
 -- with what is left it is all
 abbrev pub invariant-loop-peer : goal.invariant-loop-peer

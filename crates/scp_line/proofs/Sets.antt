@@ -6,7 +6,7 @@ use Rattle.scp_quorum.specs.QuorumTree.{QuorumTree}
 use Rattle.scp_script.specs.declared.command.Command.{Command}
 use Rattle.scp_script.specs.Script.{node_count}
 use Rattle.scp_script.specs.Nodes.{numbers, set_at}
-use Rattle.scp_report.specs.Left.{sets_in}
+use Rattle.scp_line.specs.Left.{sets_in}
 
 -- one node more
 pub sets_more : (commands : List Command) (n : ℕ) → map (λ number. set_at number commands) (numbers (n + 1)) ≡ map (λ number. set_at number commands) (numbers n) ++ set_at (n + 1) commands ∷ []
