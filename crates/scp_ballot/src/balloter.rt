@@ -1,9 +1,10 @@
 //! The ballots of one node in one slot.
 ghost use Rattle.std.specs.Prelude.{◌≡◌, ◌≢◌, ◌⊎◌, true, false, IfOk, IfErr, OnOk, OnErr, IsOkUnless};
+ghost use Rattle.std.specs.Option.{option_map};
 
 use crate::balloted::Balloted;
 use crate::machine::Machine;
-use scp_envelope::SharedEnvelope;
+use scp_envelope::{SharedEnvelope, Statement};
 use scp_quorum::SaneSet;
 use scp_types::{Fault, NodeId, Slot, Value};
 use scp_vote::Board;
@@ -57,6 +58,16 @@ impl Balloter {
         ensures { result.now ≡ self.now.board }
     {
         &self.machine.board
+    }
+
+    /// The statement that was emitted last, if there is one. Of its node and slot no clause speaks.
+    pub fn emitted(&self) -> Option<&Statement>
+        ensures { option_map (λ s. s.now.pledges) result ≡ self.now.emitted }
+    {
+        match &self.machine.emitted {
+            Some(statement) => Some(statement.get()),
+            None => None,
+        }
     }
 
     /// Takes a composite from nomination. While the own statement is a PREPARE, the composite is kept, and makes the first

@@ -93,6 +93,13 @@ impl<D: Driver + Drop + Copy> Ledger<D> {
         self.state.window.lowest
     }
 
+    /// Who the node is.
+    pub fn me(&self) -> NodeId
+        ensures { result ≡ self.now.me }
+    {
+        self.state.me
+    }
+
     /// The machine of this slot, if there is one: an undecided slot has one once it had an input.
     pub fn machine(&self, slot: Slot) -> Option<&SlotMachine<D>>
         ensures { option_copied result ≡ machine_at self.now.machines slot.0 }

@@ -2,7 +2,7 @@
 use Rattle.std.proofs.Common.{◌≡◌, ℕ, suc, ◌+◌, ◌<◌, ◌≤◌, ◌^◌, Bool, true, false, List, [], ◌∷◌, ◌++◌, length, get_or, take, sym, ◌∙◌, ap, subst, append_assoc, append-nil, arith}
 use Rattle.std.proofs.Math.Seq.{take-length}
 use Rattle.std.proofs.lemmas.List.{take_more}
-use Rattle.std.specs.Prelude.{flat_map, nat_lt, if◌then◌else◌, Option, Some, None}
+use Rattle.std.specs.Prelude.{flat_map, nat_lt, if◌then◌else◌}
 use Rattle.std.specs.List.{AllZip}
 use Rattle.std.proofs.lemmas.Grind.{flat_map-append}
 use Rattle.std.proofs.lemmas.Bool.Decides.{nat_tests}
@@ -12,8 +12,8 @@ use Rattle.scp_ledger.specs.declared.journal.Decision.{Decision}
 use Rattle.scp_ledger.specs.Kv.{KvLedger}
 use Rattle.scp_ledger.specs.Seen.{machine_at}
 use Rattle.scp_live_lines.specs.Sent.{again_line}
-use Rattle.scp_envelope.specs.declared.statement.Envelope.{Envelope as Enveloped}
-use Rattle.scp_live.specs.Again.{SaysAgain, enveloped, is_blank, unless_blank, asked_for, said_by, again_at, slots_again, decided_again, again_of}
+use Rattle.scp_again.specs.Again.{asked_for, emitted_by, again_at, slots_again, decided_again, again_of}
+use Rattle.scp_live.specs.Again.{SaysAgain}
 
 -- these bytes spell these messages, one by one
 abbrev Spell : List (List ℕ) → List Message → Type 0
@@ -59,16 +59,16 @@ pub says_all : {X : Type 0} (f : X → List Message) (name a b : List ℕ) (xs :
 says_all f name a b xs i is p = says_as name a b (flat_map f (take i xs)) (flat_map f xs) (ap (λ l. flat_map f l) (ap (λ k. take k xs) is ∙ take-length xs)) p
 
 -- what is said of a slot, whose number is below 2 ^ 64
-pub slot_here : (v : KvLedger) (link slot number : ℕ) → slot ≡ number → slot < 2 ^ 64 → asked_for v.asked link slot ++ said_by (machine_at v.machines slot) ≡ again_at v link number
+pub slot_here : (v : KvLedger) (link slot number : ℕ) → slot ≡ number → slot < 2 ^ 64 → asked_for v.asked link slot ++ emitted_by v.me slot (machine_at v.machines slot) ≡ again_at v link number
 slot_here v link slot number is lt =
     let here : nat_lt slot (2 ^ 64) ≡ true = grind (arith, nat_tests) in
-    ap (λ (b : Bool). if b then asked_for v.asked link slot ++ said_by (machine_at v.machines slot) else []) (sym here) ∙ ap (λ (k : ℕ). again_at v link k) is
+    ap (λ (b : Bool). if b then asked_for v.asked link slot ++ emitted_by v.me slot (machine_at v.machines slot) else []) (sym here) ∙ ap (λ (k : ℕ). again_at v link k) is
 
 -- and of no slot
 pub slot_beyond : (v : KvLedger) (link number : ℕ) → 2 ^ 64 ≤ number → [] ≡ again_at v link number
 slot_beyond v link number le =
     let beyond : nat_lt number (2 ^ 64) ≡ false = grind (arith, nat_tests) in
-    ap (λ (b : Bool). if b then asked_for v.asked link number ++ said_by (machine_at v.machines number) else []) (sym beyond)
+    ap (λ (b : Bool). if b then asked_for v.asked link number ++ emitted_by v.me number (machine_at v.machines number) else []) (sym beyond)
 
 -- what is said of one slot more
 pub slots_more : (v : KvLedger) (name a b c : List ℕ) (link k lowest : ℕ) → lowest ≡ v.lowest → SaysAgain name (slots_again v link k) a b → SaysAgain name (again_at v link (lowest + k)) b c → SaysAgain name (slots_again v link (k + 1)) a c
@@ -76,18 +76,6 @@ slots_more v name a b c link k lowest is p q =
     let e : k + 1 ≡ suc k = omega arith in
     says_as name a c (slots_again v link (suc k)) (slots_again v link (k + 1)) (ap (λ (j : ℕ). slots_again v link j) (sym e))
     (says_on name a b c (slots_again v link k) (again_at v link (v.lowest + k)) p (subst (λ (j : ℕ). SaysAgain name (again_at v link (j + k)) b c) is q))
-
--- an own statement that is there
-pub own_said : (o : Option Enveloped) (e : Enveloped) → Some e ≡ o → is_blank e.statement.pledges ≡ false → enveloped e ∷ [] ≡ unless_blank o
-own_said o e is filled = ap (λ (b : Bool). if b then [] else enveloped e ∷ []) (sym filled) ∙ ap unless_blank is
-
--- one that is blank
-pub own_blank : (o : Option Enveloped) (e : Enveloped) → Some e ≡ o → is_blank e.statement.pledges ≡ true → [] ≡ unless_blank o
-own_blank o e is blank = ap (λ (b : Bool). if b then [] else enveloped e ∷ []) (sym blank) ∙ ap unless_blank is
-
--- none
-pub own_none : (o : Option Enveloped) → None ≡ o → [] ≡ unless_blank o
-own_none o is = ap unless_blank is
 
 -- all that is said once more, of equal names, decisions and ledgers
 pub again_as : (name name' a b : List ℕ) (ds : List Decision) (v w : KvLedger) (link : ℕ) → name ≡ name' → ds ≡ w.decisions → v ≡ w → SaysAgain name (decided_again ds ++ slots_again v link 16) a b → SaysAgain name' (again_of w link) a b

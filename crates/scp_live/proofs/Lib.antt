@@ -8,5 +8,6 @@ pub mod Beginning
 pub mod Replaying
 pub mod Steps
 pub mod Turns
+pub mod Agains
 pub mod Lives
 pub mod Words

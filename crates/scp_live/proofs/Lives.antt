@@ -2,6 +2,7 @@
 use Rattle.std.proofs.Common.{◌≡◌, ℕ, zero, suc, false, List, [], ◌∷◌, ◌++◌, refl, sym, ◌∙◌, ap, subst, append_assoc}
 use Rattle.std.specs.Prelude.{replicate, slice_get, if◌then◌else◌}
 use Rattle.scp_driver.specs.Kv.{kv_says}
+use Rattle.scp_wire.specs.declared.message.Message.{Message}
 use Rattle.scp_outboxes.specs.Handing.{waiting_at}
 use Rattle.scp_core.specs.declared.event.Event.{Event}
 use Rattle.scp_core.specs.declared.event.Event.TheVariants as event
@@ -9,14 +10,18 @@ use Rattle.scp_core.specs.declared.event.Reply.{Reply}
 use Rattle.scp_core.specs.declared.event.Reply.TheVariants.{Failed, NoLink, AlreadyOpen, LivesSpent, NotOpen, Full, Accepted, Blocked, Idle, Moved, Sent, JournalFull, NoMemory}
 use Rattle.scp_core.specs.History.{Exchange}
 use Rattle.scp_core.specs.Node.{accepts_of}
-use Rattle.scp_core.specs.Kv.{NodeView}
+use Rattle.scp_core.specs.Kv.{NodeView, LedgerTheorem}
+use Rattle.scp_again.specs.Again.{again_of}
+use Rattle.scp_again.specs.Ascending.{Ascend}
+use Rattle.scp_again.specs.Laws.{NeverGoesBack, NodesNeverGoBack}
 use Rattle.scp_turn.specs.Turn.{events_of, links_of}
 use Rattle.scp_turn.specs.Kv.{Does}
 use Rattle.scp_episode.specs.Episode.{Follows, drains_of, leaving_at}
 use Rattle.scp_episode.specs.Kv.{FollowsOn}
 use Rattle.scp_turn.specs.Rest.{Then}
 use Rattle.scp_live.specs.Episodes.{AnEpisode, AreEpisodes, SameEventsSameEpisodes, FurtherEventsGoOn}
-use Rattle.scp_live.proofs.Steps.{Laws, Both, Same, does_on, does_run, keeps_on, same_steps, then_same}
+use Rattle.scp_live.proofs.Agains.{same_again}
+use Rattle.scp_live.proofs.Steps.{Laws, Both, Same, does_on, does_run, keeps_on, are_steps, same_steps, then_same}
 use Rattle.scp_live.proofs.Turns.{rests_does, same_links, same_rest}
 
 -- ---- what follows is steps
@@ -121,6 +126,17 @@ same_episodes law = λ events a b v w x y one other config h k run runs.
     let both : Both [] a b = record { one = one; other = other; config = config; enough = tt } in
     let s = same_lives law events [] x y a b v w both h k run runs in (s.same, s.shown)
 
+-- ---- what is sent once more
+
+goes_back_never : (x rest : List Exchange) (moment v w : NodeView) (link : ℕ) → again_of v.ledger link ≡ again_of moment.ledger link → NeverGoesBack link x rest moment w → NeverGoesBack link x rest v w
+goes_back_never x rest moment v w link same n = record {
+  before = n.before;
+  sent_before = n.sent_before;
+  behind = n.behind;
+  sent_behind = n.sent_behind;
+  ascend = subst (λ (again : List Message). Ascend (n.before ++ again ++ n.behind ++ again_of w.ledger link)) (sym same) n.ascend;
+}
+
 -- ---- more events
 
 episodes_apart : (events more : List Event) (b w : NodeView) (y : List Exchange) → AreEpisodes (events ++ more) b y w → Then (AreEpisodes events) (AreEpisodes more) b y w
@@ -136,13 +152,17 @@ episodes_apart (e ∷ events) more b w y p =
       two = r.two;
     }
 
-pub further_events : Laws → FurtherEventsGoOn
-further_events laws events more a b v w x y one other config p q run runs =
+pub further_events : Laws → NodesNeverGoBack kv_says → FurtherEventsGoOn
+further_events laws never events more a b v w x y one other config p q run runs =
     let s = episodes_apart events more b w y q in
-    let alive = (does_run s.rest s.mid w (episodes_does more s.mid w s.rest s.two) runs).0 in
+    let does : Does s.mid s.rest w = episodes_does more s.mid w s.rest s.two in
+    let alive : s.mid.failed ≡ false = (does_run s.rest s.mid w does runs).0 in
     let same = same_episodes laws events a b v s.mid x s.first one other config p s.one run alive in
+    let there : LedgerTheorem x s.mid = subst (λ (h : List Exchange). LedgerTheorem h s.mid) (sym same.0) (keeps_on laws.keep s.first [] b s.mid other (episodes_does events b s.mid s.first s.one)) in
     record {
       more = s.rest;
       is = s.split ∙ ap (λ (h : List Exchange). h ++ s.rest) (sym same.0);
       theorem = keeps_on laws.keep y [] b w other (episodes_does (events ++ more) b w y q);
+      never_back = λ link. goes_back_never x s.rest s.mid v w link (same_again v.ledger s.mid.ledger (same.1.running run).ledger link)
+          (never there.driver s.mid.config x s.rest s.mid w there.replies (are_steps laws.keep s.mid.config s.rest x s.mid w refl there does runs) alive runs link);
     }

@@ -3,13 +3,17 @@ use Rattle.std.proofs.Common.{◌≡◌, ◌≢◌, ℕ, true, false, List, [], 
 use Rattle.std.specs.Prelude.{map}
 use Rattle.std.specs.List.{AllByRecursion}
 use Rattle.std.proofs.lemmas.List.{map-append, append_cancel_left}
+use Rattle.std.proofs.lemmas.List.Sums.{fold-append}
+use Rattle.scp_driver.specs.Kv.{kv_says}
 use Rattle.scp_core.specs.declared.event.Event.{Event}
 use Rattle.scp_core.specs.declared.event.Event.TheVariants.{Open, Send, Close, Local, ReaderTake, ReaderPut, PendTake, PendPut, SlotTake, SlotPut, ApplyTake, Drain}
 use Rattle.scp_core.specs.declared.event.Reply.{Reply}
 use Rattle.scp_core.specs.declared.event.Reply.TheVariants.{Failed, NoLink, AlreadyOpen, LivesSpent, NotOpen, Full, Accepted, Blocked, Idle, Moved, Sent, JournalFull, NoMemory}
-use Rattle.scp_core.specs.History.{Exchange}
+use Rattle.scp_core.specs.declared.config.Config.{Config}
+use Rattle.scp_core.specs.History.{Exchange, Past, hears, past_of, nothing_heard}
+use Rattle.scp_core.specs.Theorem.{AreSteps}
 use Rattle.scp_core.specs.Node.{Accepts, SendsOut}
-use Rattle.scp_core.specs.Kv.{NodeView, Moves, Step, SameEventsSameReplies, LedgerTheorem, StepsKeep}
+use Rattle.scp_core.specs.Kv.{NodeView, Moves, Step, Flows, SameEventsSameReplies, LedgerTheorem, StepsKeep}
 use Rattle.scp_core.specs.Same.{ShowSameNode, NoneLackedMemory, event_of}
 use Rattle.scp_turn.specs.Turn.{events_of}
 use Rattle.scp_turn.specs.Kv.{Does}
@@ -100,6 +104,17 @@ pub keeps_on : StepsKeep → (heard past : List Exchange) (a b : NodeView) → L
 keeps_on keep [] past a b h d = subst (λ (p : List Exchange). LedgerTheorem p b) (sym (append-nil past)) (subst (λ (v : NodeView). LedgerTheorem past v) (sym d) h)
 keeps_on keep (x ∷ heard) past a b h d =
     subst (λ (p : List Exchange). LedgerTheorem p b) (append_assoc past (x ∷ []) heard) (keeps_on keep heard (past ++ x ∷ []) d.0 b (keep past a d.0 x.0 x.1 d.1 h) d.2)
+
+-- steps from a node of which the theorem holds, to one that runs
+pub are_steps : StepsKeep → (c : Config) (heard past : List Exchange) (a b : NodeView) → a.config ≡ c → LedgerTheorem past a → Does a heard b → b.failed ≡ false → AreSteps kv_says c (past_of c past) a heard b
+are_steps keep c [] past a b is h d run = d
+are_steps keep c (x ∷ heard) past a b is h d run =
+    let runs : a.failed ≡ false = (does_run (x ∷ heard) a b d run).0 in
+    let still : (past_of c past).failed ≡ false = subst (λ (config : Config). (past_of config past).failed ≡ false) is (sym h.failed ∙ runs) in
+    let flows : Flows (past_of c past) a = subst (λ (config : Config). Flows (past_of config past) a) is (subst (λ (v : NodeView). Flows (past_of a.config past) v) (sym (h.now runs)) h.flows) in
+    let more : past_of c (past ++ x ∷ []) ≡ hears c (past_of c past) x.0 x.1 = fold-append (λ p (y : Exchange). hears c p y.0 y.1) nothing_heard past (x ∷ []) in
+    let rest = are_steps keep c heard (past ++ x ∷ []) d.0 b (step_config a d.0 x.0 x.1 d.1 ∙ is) (keep past a d.0 x.0 x.1 d.1 h) d.2 run in
+    (d.0, inr (still, record { config = is; flows = flows; step = d.1 }), subst (λ (p : Past). AreSteps kv_says c p d.0 heard b) more rest)
 
 all_on : {X : Type 0} (P : X → Type 0) (xs ys : List X) → AllByRecursion P xs → AllByRecursion P ys → AllByRecursion P (xs ++ ys)
 all_on P [] ys p q = q

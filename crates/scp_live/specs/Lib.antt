@@ -1,3 +1,5 @@
+pub use Rattle.scp_episode
+pub use Rattle.scp_again
 pub mod Live
 pub mod Again
 pub mod Questions

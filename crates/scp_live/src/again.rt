@@ -1,20 +1,24 @@
 //! What a node sends once more to a peer.
-ghost use Rattle.std.specs.Prelude.{◌≡◌, ◌⊎◌, ◌++◌, ◌+◌, [], ◌∷◌, false, IfErr, OnOk, Some, map, string_bytes};
+ghost use Rattle.std.specs.Prelude.{◌≡◌, ◌⊎◌, ◌++◌, ◌+◌, [], ◌∷◌, false, IfErr, IfOk, OnOk, IsOkUnless, Some, map, string_bytes};
+ghost use Rattle.std.specs.Option.{option_map};
 ghost use Rattle.scp_types.specs.declared.fault.Fault.{Fault};
+ghost use Rattle.scp_nominate.specs.Nomination.{own};
+ghost use Rattle.scp_slot.specs.Slot.{slot_view};
 ghost use Rattle.scp_ledger.specs.Seen.{machine_at};
 ghost use Rattle.scp_live_lines.specs.Names.{name_at};
-ghost use Rattle.scp_live.specs.Again.{SaysAgain, last_of, enveloped, is_blank, own_on, said_by, asked_for, again_at, slots_again, decided_again, own_of, again_of};
+ghost use Rattle.scp_again.specs.Again.{last_of, enveloped, own_messages, emitted_by, asked_for, again_at, slots_again, decided_again, own_of, again_of};
+ghost use Rattle.scp_live.specs.Again.{SaysAgain};
 
 use crate::live::Live;
 use crate::telling::{behind, name_of};
 use scp_core::{Origin, SharedDecision};
 use scp_driver::KvDriver;
-use scp_envelope::{Envelope, Pledges, SharedEnvelope};
+use scp_envelope::{Envelope, SharedEnvelope, Signature, Statement};
 use scp_ledger::Ledger;
 use scp_live_lines::write_again;
 use scp_slot::SlotMachine;
-use scp_types::{Fault, Slot};
-use scp_vote::{Board, StatementKind};
+use scp_types::{Fault, NodeId, Slot};
+use scp_vote::StatementKind;
 use scp_wire::{BoxedEnvelope, Message, encode};
 use std::alloc::Global;
 
@@ -79,55 +83,90 @@ fn say_decided(
     Ok(())
 }
 
-/// Whether a statement is a PREPARE of counter 0.
-fn is_without_ballot(envelope: &Envelope) -> bool
-    ensures { result ≡ is_blank envelope.now.statement.pledges }
+/// The envelope of a statement's pledges, of this node and slot, without a signature.
+fn own_envelope(
+    alloc: Global,
+    me: NodeId,
+    slot: Slot,
+    statement: &Statement,
+) -> Result<BoxedEnvelope, Fault>
+    ensures made { IfOk result (λ made. made.value ≡ record { statement = record { node = me; slot = slot; pledges = statement.now.pledges }; signature = [] }) }
+    ensures only_memory { IsOkUnless result Fault.NoMemory }
 {
-    match &envelope.statement.pledges {
-        Pledges::Prepare(prepare) => prepare.ballot.counter == 0,
-        Pledges::Confirm(_) | Pledges::Externalize(_) | Pledges::Nominate(_) => false,
-    }
+    let Statement { pledges, .. } = statement.copy()?;
+    let envelope = Envelope {
+        statement: Statement {
+            node: me,
+            slot,
+            pledges,
+        },
+        signature: Signature::new(Vec::new(alloc)),
+    };
+    BoxedEnvelope::new(alloc, envelope)
 }
 
-/// Adds the line of the own statement of a kind, unless there is none or it is blank.
+/// Adds the line of an own statement, if there is one: its pledges, of this node and slot, without a signature.
 fn say_own(
     alloc: Global,
     text: &mut String,
     name: &str,
-    board: &Board,
-    kind: StatementKind,
+    me: NodeId,
+    slot: Slot,
+    statement: Option<&Statement>,
 ) -> Result<(), Fault>
-    ensures said { OnOk result (SaysAgain name.now (own_on kind board.now) (string_bytes text.old) (string_bytes text.new)) }
+    ensures said { OnOk result (SaysAgain name.now (own_messages me slot.0 (option_map (λ s. s.now.pledges) statement.entry)) (string_bytes text.old) (string_bytes text.new)) }
     ensures only { IfErr result (λ f. (f ≡ Fault.NoMemory) ⊎ (f ≡ Fault.TooLong)) }
 {
-    match board.own(kind) {
-        Some(own) => {
-            if is_without_ballot(own.get()) {
-                return Ok(());
-            }
-            say_envelope(alloc, text, name, own)
+    match statement {
+        Some(statement) => {
+            let envelope = own_envelope(alloc, me, slot, statement)?;
+            say(alloc, text, name, &Message::Envelope(envelope))
         }
         None => Ok(()),
     }
 }
 
-/// Adds the lines of a machine's newest own statements.
+/// The statement of an envelope, if there is one.
+fn statement_of(envelope: Option<&SharedEnvelope>) -> Option<&Statement>
+    ensures { option_map (λ s. s.now.pledges) result ≡ option_map (λ e. e.now.statement.pledges) envelope.entry }
+{
+    match envelope {
+        Some(envelope) => Some(&envelope.get().statement),
+        None => None,
+    }
+}
+
+/// The own nomination on a machine's board. It is the one that was emitted last.
+fn nominated(machine: &SlotMachine<KvDriver>) -> Option<&Statement>
+    ensures { option_map (λ s. s.now.pledges) result ≡ own (slot_view machine.now).nomination }
+{
+    statement_of(machine.nominator().board().own(StatementKind::Nomination))
+}
+
+/// The ballot statement that a machine emitted last. The one on its board may never have been emitted.
+fn balloted(machine: &SlotMachine<KvDriver>) -> Option<&Statement>
+    ensures { option_map (λ s. s.now.pledges) result ≡ (slot_view machine.now).ballots.emitted }
+{
+    machine.balloter().emitted()
+}
+
+/// Adds the lines of the own statements that a slot's machine emitted last.
 fn say_machine(
     alloc: Global,
     text: &mut String,
     name: &str,
+    me: NodeId,
+    slot: Slot,
     machine: &SlotMachine<KvDriver>,
 ) -> Result<(), Fault>
-    ensures said { OnOk result (SaysAgain name.now (said_by (Some machine.now)) (string_bytes text.old) (string_bytes text.new)) }
+    ensures said { OnOk result (SaysAgain name.now (emitted_by me slot.0 (Some machine.now)) (string_bytes text.old) (string_bytes text.new)) }
     ensures only { IfErr result (λ f. (f ≡ Fault.NoMemory) ⊎ (f ≡ Fault.TooLong)) }
 {
-    let nominations = machine.nominator().board();
-    say_own(alloc, text, name, nominations, StatementKind::Nomination)?;
-    let ballots = machine.balloter().board();
-    say_own(alloc, text, name, ballots, StatementKind::Balloting)
+    say_own(alloc, text, name, me, slot, nominated(machine))?;
+    say_own(alloc, text, name, me, slot, balloted(machine))
 }
 
-/// Adds the lines of the newest own statements of a slot's machine, if there is one.
+/// Adds the lines of the own statements that a slot's machine emitted last, if there is a machine.
 fn say_open(
     alloc: Global,
     text: &mut String,
@@ -135,11 +174,11 @@ fn say_open(
     ledger: &Ledger<KvDriver>,
     slot: u64,
 ) -> Result<(), Fault>
-    ensures said { OnOk result (SaysAgain name.now (said_by (machine_at ledger.now.machines slot)) (string_bytes text.old) (string_bytes text.new)) }
+    ensures said { OnOk result (SaysAgain name.now (emitted_by ledger.now.me slot (machine_at ledger.now.machines slot)) (string_bytes text.old) (string_bytes text.new)) }
     ensures only { IfErr result (λ f. (f ≡ Fault.NoMemory) ⊎ (f ≡ Fault.TooLong)) }
 {
     match ledger.machine(Slot(slot)) {
-        Some(machine) => say_machine(alloc, text, name, machine),
+        Some(machine) => say_machine(alloc, text, name, ledger.me(), Slot(slot), machine),
         None => Ok(()),
     }
 }
@@ -202,10 +241,10 @@ fn say_slots(
 }
 
 impl Live {
-    /// Adds the lines of what is sent once more to the peer of a link, whose connection may have lost it. For the last 16 decisions of
-    /// the node's own machines, this is the EXTERNALIZE. For the 16 open slots, it is the request for the record, if the node asked for
-    /// it on this link, and the newest own nomination and ballot statements. The node doesn't change. Refused by `TooLong` if one of the
-    /// messages doesn't fit a link, and by `NoMemory`.
+    /// Adds the lines of what is sent once more to the peer of a link, whose connection may have lost it. Of the last 16 decisions, this
+    /// is the EXTERNALIZE of each that the node's own machine made. For the 16 open slots, it is the request for the record, if the node
+    /// asked for it on this link, and the own statements that were emitted last, of nomination and of ballots. The node doesn't change.
+    /// Refused by `TooLong` if one of the messages doesn't fit a link, and by `NoMemory`.
     pub fn again(&self, link: u8, text: &mut String) -> Result<(), Fault>
         ensures said { self.now.node.failed ≡ false → OnOk result (SaysAgain (name_at self.now.names link) (again_of self.now.node.ledger link) (string_bytes text.old) (string_bytes text.new)) }
         ensures only { IfErr result (λ f. (f ≡ Fault.NoMemory) ⊎ (f ≡ Fault.TooLong)) }

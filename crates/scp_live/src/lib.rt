@@ -8,7 +8,7 @@
 //! - the call returns the digest of the lines of what was sent;
 //! - the timers that a host was last asked to run are those that should run;
 //! - the answer to `report` is a function of the node's record (`Report` of `scp_report`): its fates, applied slots and keys;
-//! - what is sent once more to a peer is the node's newest own statements and its requests, and nothing else;
+//! - what is sent once more to a peer is the own statements that the node emitted last and its requests, and nothing else;
 //! - the ledger theorem holds of the node for all that it received and replied;
 //! - the settings are what the TOML text says, and a node that begins with them has received no event;
 //! - the entries of a log are played in order, each as its line says. An entry is refused only if its line says no event, or if something
@@ -17,7 +17,8 @@
 //!   written, and the status is 3;
 //! - take two runs of a node with one configuration that receive the same events, where no step fails the node: both have the same
 //!   exchanges, and their nodes show the same; so the effects of each event, and what is sent on each link, are the same;
-//! - a run that receives these events, and then more, goes on from where those runs ended;
+//! - a run that receives these events, and then more, goes on from where those runs ended, and goes back over no link, also where it sends
+//!   once more;
 //! - if no two links have the same name, a line of a host asks for at most one thing.
 #![tactic(auto)]
 

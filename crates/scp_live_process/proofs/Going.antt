@@ -1,7 +1,7 @@
 -- A node that heard more, and a watch that was told of it.
 use Rattle.std.proofs.Common.{◌≡◌, Bool, true, false, List, [], ◌∷◌, ◌++◌, refl, ◌∙◌, ap}
 use Rattle.std.specs.Prelude.{◌||◌}
-use Rattle.scp_episode.specs.Episode.{finds_full, is_full_reply}
+use Rattle.scp_live.specs.scp_episode.specs.Episode.{finds_full, is_full_reply}
 use Rattle.scp_turn.specs.scp_core.specs.History.{Exchange}
 use Rattle.scp_turn.specs.scp_core.specs.Kv.{NodeView}
 use Rattle.scp_turn.specs.Kv.{Goes, Noting, Watched}

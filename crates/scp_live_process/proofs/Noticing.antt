@@ -9,7 +9,7 @@ use Rattle.scp_turn.specs.scp_core.specs.History.{Exchange}
 use Rattle.scp_turn.specs.scp_core.specs.Kv.{NodeView}
 use Rattle.scp_turn.specs.Kv.{Goes, Watched}
 use Rattle.scp_turn.specs.Watch.{notes}
-use Rattle.scp_episode.specs.Episode.{finds_full, is_full_reply}
+use Rattle.scp_live.specs.scp_episode.specs.Episode.{finds_full, is_full_reply}
 use Rattle.scp_live_process.specs.declared.fullness.JournalWatch.{JournalWatch}
 use Rattle.scp_live_process.specs.Noticing.{before_in, after_in}
 use Rattle.scp_live.proofs.Going.{Heard}

@@ -119,4 +119,4 @@ goes_on further law ledger config settings a b v w x y entries more is new other
     let events : two.events ≡ one.events ++ split.back = split.is ∙ ap (λ (l : List Happening). l ++ split.back) same in
     let g = further one.events split.back a.node b.node v.node w.node x y new.theorem other.theorem (new.config ∙ sym other.config) one.are
     (subst (λ (es : List Happening). AreEpisodes es b.node y w.node) events two.are) run runs in
-    (g.more, g.is, ledger y w.node g.theorem)
+    (g.more, g.is, ledger y w.node g.theorem, g.never_back)

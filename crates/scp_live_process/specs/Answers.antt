@@ -14,7 +14,8 @@ use Rattle.scp_live_lines.specs.Bad.{IsFirstBad}
 use Rattle.scp_live_lines.specs.Names.{name_at}
 use Rattle.scp_live_lines.specs.Replies.{ok_line}
 use Rattle.scp_live.specs.Live.{LiveView, IsTold}
-use Rattle.scp_live.specs.Again.{SaysAgain, again_of}
+use Rattle.scp_live.specs.scp_again.specs.Again.{again_of}
+use Rattle.scp_live.specs.Again.{SaysAgain}
 use Rattle.scp_live.specs.Questions.{state_of, report_of, applied_from}
 use Rattle.scp_live_process.specs.Stands.{TellsStand}
 

@@ -3,7 +3,7 @@ use Rattle.std.specs.Prelude.{ℕ, ◌≡◌, ◌||◌}
 use Rattle.scp_turn.specs.scp_core.specs.declared.event.Event.{Event}
 use Rattle.scp_turn.specs.scp_core.specs.declared.event.Reply.{Reply}
 use Rattle.scp_turn.specs.scp_core.specs.Kv.{NodeView}
-use Rattle.scp_episode.specs.Episode.{is_full_reply}
+use Rattle.scp_live.specs.scp_episode.specs.Episode.{is_full_reply}
 use Rattle.scp_live_process.specs.declared.fullness.JournalWatch.{JournalWatch}
 
 -- Before a step, it notes what the watch inside it notes.

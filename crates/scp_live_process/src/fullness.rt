@@ -5,7 +5,7 @@ ghost use Rattle.scp_live.specs.Replays.{AreReplayed};
 ghost use Rattle.scp_live_process.specs.inside.Replaying.{IsReplayRefusal, refusal_in};
 ghost use Rattle.scp_turn.specs.Kv.{Goes, Watched};
 ghost use Rattle.scp_turn.specs.Watch.{notes};
-ghost use Rattle.scp_episode.specs.Episode.{IsOfHost, finds_full, is_full_reply};
+ghost use Rattle.scp_live.specs.scp_episode.specs.Episode.{IsOfHost, finds_full, is_full_reply};
 ghost use Rattle.scp_live.specs.Live.{IsTold};
 
 use scp_live::{Live, replay};

@@ -21,7 +21,8 @@ pub fn what_a_log_says_makes_one_node()
 }
 
 /// A log that has grown goes on with the same node. A later life of the node, which plays all entries that an earlier one played, and then
-/// more, received and replied all that the earlier one did, and then more. So over each link it takes nothing back.
+/// more, received and replied all that the earlier one did, and then more. So over each link it takes nothing back, also where what was sent is
+/// sent once more.
 pub fn what_a_log_says_goes_on()
     ensures { LogsGoOn }
 {

@@ -11,7 +11,7 @@
 //! - with any status other than 0, what was written is a beginning of the answers, about events that are kept. The last line says why the
 //!   node ended, and that is so: a device failed, the journal is full, the log or the configuration doesn't fit, or memory ran out;
 //! - what the node did while it answered lines is a replay of what is kept of these lines; nodes that replay the same and still run show
-//!   the same, and a node whose log has grown goes on from there;
+//!   the same, and a node whose log has grown goes on from there, and goes back over no link, also where it sends once more;
 //! - a node that is traced behaves like one that isn't; if it ends with status 0, all that happened in its steps is written to its trace
 //!   (`run_traced`);
 //! - its trace and its status show each node by the name that the configuration gives it, whatever the ids are;

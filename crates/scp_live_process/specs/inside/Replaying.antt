@@ -2,7 +2,7 @@
 use Rattle.std.specs.Prelude.{ℕ, ◌≡◌, true, List, [], ◌∷◌, ◌++◌, map}
 use Rattle.scp_types.specs.declared.fault.Fault.TheVariants.{NoMemory, JournalFull}
 use Rattle.scp_turn.specs.scp_core.specs.History.{Exchange}
-use Rattle.scp_episode.specs.Episode.{finds_full}
+use Rattle.scp_live.specs.scp_episode.specs.Episode.{finds_full}
 use Rattle.scp_live_log.specs.Log.{EntryView}
 use Rattle.scp_live_log.specs.declared.kept.LogFault.{LogFault}
 use Rattle.scp_live_log.specs.declared.kept.LogFault.TheVariants.{Another, Damaged, Failed}

@@ -1,7 +1,8 @@
 use Rattle.std.proofs.Common.{List, subst, string_bytes, arith}
 use Rattle.std.specs.Prelude.{flat_map}
 use Rattle.scp_ledger.specs.declared.journal.Decision.{Decision}
-use Rattle.scp_live.specs.Again.{SaysAgain, own_of}
+use Rattle.scp_again.specs.Again.{own_of}
+use Rattle.scp_live.specs.Again.{SaysAgain}
 use Rattle.scp_live.proofs.Adding.{says_none, says_more, says_all}
 use Rattle.scp_live.proofs.again.say_decided.Goals as goal
 

@@ -1,6 +1,7 @@
 use Rattle.std.specs.Prelude.{flat_map, take, string_bytes}
 use Rattle.scp_ledger.specs.declared.journal.Decision.{Decision}
-use Rattle.scp_live.specs.Again.{SaysAgain, own_of}
+use Rattle.scp_again.specs.Again.{own_of}
+use Rattle.scp_live.specs.Again.{SaysAgain}
 use Rattle.scp_live.proofs.again.say_decided.Given as goal
 
 -- what the decisions so far say

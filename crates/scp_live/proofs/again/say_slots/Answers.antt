@@ -1,5 +1,5 @@
 use Rattle.std.proofs.Common.{◌≡◌, ℕ, string_bytes, refl, ap, arith}
-use Rattle.scp_live.specs.Again.{slots_again}
+use Rattle.scp_again.specs.Again.{slots_again}
 use Rattle.scp_live.proofs.Adding.{says_none, says_as, slots_more}
 use Rattle.scp_live.proofs.again.say_slots.Goals as goal
 

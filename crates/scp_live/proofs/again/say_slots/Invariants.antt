@@ -1,5 +1,6 @@
 use Rattle.std.specs.Prelude.{string_bytes}
-use Rattle.scp_live.specs.Again.{SaysAgain, slots_again}
+use Rattle.scp_again.specs.Again.{slots_again}
+use Rattle.scp_live.specs.Again.{SaysAgain}
 use Rattle.scp_live.proofs.again.say_slots.Given as goal
 
 -- what is said of the slots so far

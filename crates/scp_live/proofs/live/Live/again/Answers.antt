@@ -3,7 +3,8 @@ use Rattle.std.specs.Prelude.{map}
 use Rattle.std.proofs.lemmas.Result.{on_ok_weaker}
 use Rattle.scp_live_lines.specs.Names.{name_at}
 use Rattle.scp_live.specs.Live.{LiveView}
-use Rattle.scp_live.specs.Again.{SaysAgain, decided_again, slots_again}
+use Rattle.scp_again.specs.Again.{decided_again, slots_again}
+use Rattle.scp_live.specs.Again.{SaysAgain}
 use Rattle.scp_live.proofs.Adding.{says_on, again_as}
 use Rattle.scp_live.proofs.live.Live.again.Goals as goal
 

@@ -1,0 +1,12 @@
+pub mod Lists
+pub mod Current
+pub mod Ending
+pub mod AtSlot
+pub mod Put
+pub mod Running
+pub mod Taking
+pub mod Boxes
+pub mod Repeated
+pub mod Holding
+pub mod Stepping
+pub mod All

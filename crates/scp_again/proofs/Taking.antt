@@ -1,0 +1,179 @@
+-- Each thing that the slot stage takes: how the ledger stands then, and what is put.
+use Rattle.std.proofs.Common.{◌≡◌, ℕ, false, List, [], ◌∷◌, refl, sym, ◌∙◌, ap, subst, inl, inr}
+use Rattle.std.specs.Prelude.{Option, Some, None, Contains}
+use Rattle.scp_driver.specs.Driver.{Says}
+use Rattle.scp_types.specs.declared.names.ConnId.{ConnId}
+use Rattle.scp_types.specs.declared.names.Seq.{Seq}
+use Rattle.scp_types.specs.declared.names.Slot.{Slot}
+use Rattle.scp_quorum.specs.QuorumTree.{QuorumTree}
+use Rattle.scp_quorum.specs.SharedSet.{SharedSet}
+use Rattle.scp_envelope.specs.declared.statement.Statement.{Statement}
+use Rattle.scp_wire.specs.declared.link.Command.{Command}
+use Rattle.scp_wire.specs.declared.link.Command.TheVariants.{Propose, Round, Timer, Tick, Ask}
+use Rattle.scp_wire.specs.declared.message.Message.{Message}
+use Rattle.scp_wire.specs.declared.message.Message.TheVariants.{Envelope, GetSet, Set, NoSet, GetRecord, Record, Records}
+use Rattle.scp_outboxes.specs.Sent.{statement_of}
+use Rattle.scp_pending.specs.declared.ready.Ready.{Ready}
+use Rattle.scp_pending.specs.declared.ready.Ready.TheVariants as ready
+use Rattle.scp_slot.specs.declared.machine.SlotMachine.{SlotMachine}
+use Rattle.scp_slot.specs.declared.output.SlotInput.{SlotInput}
+use Rattle.scp_slot.specs.declared.output.SlotInput.TheVariants as input
+use Rattle.scp_ledger.specs.declared.journal.Decision.{Decision}
+use Rattle.scp_ledger.specs.declared.journal.Fate.{Fate}
+use Rattle.scp_ledger.specs.declared.journal.Verdict.{Verdict}
+use Rattle.scp_ledger.specs.declared.journal.Verdict.TheVariants.{Already, Decided as Deciding}
+use Rattle.scp_ledger.specs.declared.took.Outgoing.{Outgoing}
+use Rattle.scp_ledger.specs.declared.took.Outgoing.TheVariants.{To}
+use Rattle.scp_ledger.specs.declared.took.Took.{Took}
+use Rattle.scp_ledger.specs.By.{TakesBy}
+use Rattle.scp_ledger.specs.Decisions.{is_decided, named_by}
+use Rattle.scp_ledger.specs.Seen.{LedgerView, machine_at}
+use Rattle.scp_ledger.specs.Takes.{RunsAt, Passes, Decides, Forwards, Asks, Commands, TakesAsk, TakesCommand, TakesMessage}
+use Rattle.scp_ledger.specs.Verdicts.{IsRecordVerdict, link_of}
+use Rattle.scp_grounds.specs.Grounds.{Who}
+use Rattle.scp_grounds.specs.Handed.{handed_by}
+use Rattle.scp_grounds.proofs.Basics.{none_some, some_same, which}
+use Rattle.scp_grounds.proofs.Fit.{AllOut, all_none, all_for}
+use Rattle.scp_grounds.proofs.Ledgers.{LedgerStep, ledger_step}
+use Rattle.scp_again.proofs.Current.{IsOwnIf, HasDecision, IsWell, IsSaid, IsLast}
+use Rattle.scp_again.proofs.AtSlot.{IsOver, IsAtSlot, well_then, said_then, last_then}
+use Rattle.scp_again.proofs.Put.{ArePut, put_quiet}
+use Rattle.scp_again.proofs.Running.{at_slot, puts}
+
+module _ {D : Type 0} where
+  -- what a step of the slot stage keeps, and what it puts
+  pub record IsTaken (who : Who) (old : LedgerView D) (out : List Outgoing) (new : LedgerView D) : Type 0 where
+    pub well : IsWell who new
+    pub said : (s : Statement) → IsSaid who old s → IsSaid who new s
+    pub puts : (link : ℕ) → ArePut who old new (handed_by out link)
+
+-- no statement goes out
+abbrev AreQuiet : List Outgoing → Type 0
+AreQuiet out = AllOut (λ link m. statement_of m ≡ None) out
+
+none_out : (out : List Outgoing) → out ≡ [] → AreQuiet out
+none_out out is = subst AreQuiet (sym is) (all_none (λ link m. statement_of m ≡ None))
+
+record_out : (out : List Outgoing) (link : ℕ) (at : Slot) → out ≡ To link (GetRecord at) ∷ [] → AreQuiet out
+record_out out link at is = subst AreQuiet (sym is) (all_for (λ l m. statement_of m ≡ None) link (GetRecord at) refl)
+
+module _ {D : Type 0} (says : Says D) where
+  module _ (who : Who) (old : LedgerView D) (x : Ready) (took : Took) (new : LedgerView D) (well : IsWell who old) (step : LedgerStep who old x took new) where
+    abbrev Result : Type 0
+    Result = IsTaken who old took.outgoing new
+
+    -- the machines and the decisions stay
+    still : new.machines ≡ old.machines → new.decisions ≡ old.decisions → AreQuiet took.outgoing → Result
+    still machines decisions quiet = record {
+      well = record {
+        me_is = step.me ∙ well.me_is;
+        set_is = step.local ∙ well.set_is;
+        machines = step.machines;
+        kinds = λ at m e. well.kinds at m (was at m e);
+        undecided = λ at m e. ap (λ (ds : List Decision). is_decided at ds) decisions ∙ well.undecided at m (was at m e);
+        own = λ d there. well.own d (had d there);
+        one = λ d e a b slots. well.one d e (had d a) (had e b) slots;
+      };
+      said = λ s h. record { node = h.node; behind = step.behind s h.behind; decided = subst (λ (ds : List Decision). HasDecision ds s s.pledges) (sym decisions) h.decided };
+      puts = λ link. put_quiet who old new (handed_by took.outgoing link) (quiet link) last;
+    }
+      where
+        was : (at : ℕ) (m : SlotMachine D) → machine_at new.machines at ≡ Some m → machine_at old.machines at ≡ Some m
+        was at m e = ap (λ (ms : List (ℕ × SlotMachine D)). machine_at ms at) (sym machines) ∙ e
+
+        had : (d : Decision) → Contains new.decisions d → Contains old.decisions d
+        had d there = subst (λ (ds : List Decision). Contains ds d) decisions there
+
+        last : (s : Statement) → IsLast old s → IsLast new s
+        last s l = elim l [
+          | inl m ↦ inl (record { machine = m.machine; there = ap (λ (ms : List (ℕ × SlotMachine D)). machine_at ms s.slot.0) machines ∙ m.there; is = m.is })
+          | inr e ↦ inr (record { decided = ap (λ (ds : List Decision). is_decided s.slot.0 ds) decisions ∙ e.decided; own = λ kind d there slots. e.own kind d (had d there) slots })
+        ]
+
+    passes : (verdict : Option Verdict) (fates : List Fate) → Passes old verdict fates took new → Result
+    passes verdict fates p = still (ap (λ (v : LedgerView D). v.machines) p.same) (ap (λ (v : LedgerView D). v.decisions) p.same) (none_out took.outgoing p.outgoing)
+
+    forwards : (conn : ConnId) (seq : Seq) (at : Slot) (set : Option SharedSet) → Forwards old conn seq at set took new → Result
+    forwards conn seq at set p = still (ap (λ (v : LedgerView D). v.machines) p.same) (ap (λ (v : LedgerView D). v.decisions) p.same) (none_out took.outgoing p.outgoing)
+
+    asks : (link : ℕ) (at : Slot) → Asks old link at took new → Result
+    asks link at p = still (ap (λ (v : LedgerView D). v.machines) p.same) (ap (λ (v : LedgerView D). v.decisions) p.same) (record_out took.outgoing link at p.outgoing)
+
+    -- a machine runs
+    runs : (at : Slot) (given : SlotInput) (fates : List Fate) → RunsAt says.level says.extracted says.combined says.place old at given fates took new → Result
+    runs at given fates r =
+        let h : IsAtSlot who old at.0 new = at_slot who says.level says.extracted says.combined says.place old at given fates took new well r in
+        record {
+          well = well_then who old at.0 new well h;
+          said = said_then who old at.0 new well h;
+          puts = puts who says.level says.extracted says.combined says.place old at given fates took new well r;
+        }
+
+    -- a record decides
+    undecided_by : (link : ℕ) (at : Slot) (verdict : Verdict) → verdict ≡ Deciding → IsRecordVerdict old link at verdict → is_decided at.0 old.decisions ≡ false
+    undecided_by link at verdict is h = elim h [
+      | inl w ↦ absurd (other (sym is ∙ w.1))
+      | inr w ↦ elim (which (is_decided at.0 old.decisions)) [
+        | inl done ↦ absurd (w.0 (inl done))
+        | inr open' ↦ open'
+      ]
+    ]
+      where
+        other : Deciding ≡ Already → ⊥
+        other e = cc
+
+    -- what it decides has no statement of the node
+    named : (conn : ConnId) (seq : Seq) (at : Slot) (value : List ℕ) (s : Statement) (w : IsOver {D = D} who at.0 None (Some (named_by conn seq at value))) → IsOwnIf s w.decision.origin
+    named conn seq at value s w = subst (λ (d : Decision). IsOwnIf s d.origin) (some_same (Some (named_by conn seq at value)) (named_by conn seq at value) w.decision refl w.added_is) tt
+
+    decides : (conn : ConnId) (seq : Seq) (at : Slot) (value : List ℕ) (set : Option SharedSet) → is_decided at.0 old.decisions ≡ false → Decides old conn seq at value set took new → Result
+    decides conn seq at value set undecided p =
+        let h : IsAtSlot who old at.0 new = record {
+          now = None;
+          added = Some (named_by conn seq at value);
+          undecided = undecided;
+          me = step.me;
+          local = step.local;
+          machines = p.machines;
+          decisions = p.decisions;
+          goes = inr (record { decision = named_by conn seq at value; added_is = refl; none = refl; slot = refl; own = tt });
+          mine = step.machines;
+          behind = step.behind;
+        } in
+        record {
+          well = well_then who old at.0 new well h;
+          said = said_then who old at.0 new well h;
+          puts = λ link. put_quiet who old new (handed_by took.outgoing link) (none_out took.outgoing p.outgoing link)
+              (λ s l. last_then who old at.0 new well h s l (λ m is g. none_some None g.machine refl g.now_is) (λ m is w no. named conn seq at value s w));
+        }
+
+    commands : (at : Slot) (given : SlotInput) → Commands says.level says.extracted says.combined says.place old at given took new → Result
+    commands at given h = elim h [ inl w ↦ passes _ [] w.2 | inr r ↦ runs at given [] r ]
+
+    takes_ask : (link : ℕ) (at : Slot) → TakesAsk old link at took new → Result
+    takes_ask link at h = elim h.3 [ inl w ↦ passes _ [] w.1 | inr w ↦ asks link at w.1 ]
+
+    takes_command : (command : Command) → TakesCommand says.level says.extracted says.combined says.place old command took new → Result
+    takes_command (Propose at value) h = commands at (input.Propose value) h
+    takes_command (Round at) h = commands at input.Round h
+    takes_command (Timer at) h = commands at input.Timer h
+    takes_command Tick h = passes None [] h
+    takes_command (Ask link at) h = takes_ask link at h
+
+    takes_message : (conn : ConnId) (seq : Seq) (m : Message) (beside : Option QuorumTree) → TakesMessage says.level says.extracted says.combined says.place old conn seq m beside took new → Result
+    takes_message conn seq (Envelope e) beside h = elim h.5 [ inl w ↦ passes _ _ w.1 | inr w ↦ runs e.value.statement.slot _ _ w.2 ]
+    takes_message conn seq (GetSet hash) beside h = absurd h
+    takes_message conn seq (Set inside) beside h = absurd h
+    takes_message conn seq (NoSet hash) beside h = absurd h
+    takes_message conn seq (Records first values) beside h = absurd h
+    takes_message conn seq (GetRecord at) beside h = forwards conn seq at h.0 h.2
+    takes_message conn seq (Record at value) beside h = elim h.2.3 [ inl w ↦ passes _ _ w.1 | inr w ↦ decides conn seq at value h.0 (undecided_by (link_of old.peers conn) at h.2.0 w.0 h.2.1) w.1 ]
+
+  taken_of : (who : Who) (old : LedgerView D) (x : Ready) (took : Took) (new : LedgerView D) → IsWell who old → LedgerStep who old x took new → TakesBy says old x took new → IsTaken who old took.outgoing new
+  taken_of who old (ready.Deliver d) took new well step t = takes_message who old (ready.Deliver d) took new well step d.conn d.seq d.message d.set t
+  taken_of who old (ready.Dropped conn seq cause) took new well step t = passes who old (ready.Dropped conn seq cause) took new well step None _ t
+  taken_of who old (ready.Closed conn cause) took new well step t = passes who old (ready.Closed conn cause) took new well step None _ t
+  taken_of who old (ready.Local command) took new well step t = takes_command who old (ready.Local command) took new well step command t
+
+  pub taken : (who : Who) (old : LedgerView D) (x : Ready) (took : Took) (new : LedgerView D) → IsWell who old → TakesBy says old x took new → IsTaken who old took.outgoing new
+  taken who old x took new well t = taken_of who old x took new well (ledger_step says who old x took new well.me_is well.set_is well.machines t) t

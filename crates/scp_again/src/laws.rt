@@ -1,0 +1,13 @@
+//! The law of what is sent once more: the contract of a function that does nothing.
+ghost use Rattle.scp_again.specs.Laws.{NodesNeverGoBack};
+
+use scp_driver::Driver;
+use scp_outboxes::what_is_given_was_handed_out;
+
+/// Over each link of a node that runs, with what is sent once more at any moments, of two statements of one slot and kind the later one is the same or
+/// newer.
+pub fn what_is_sent_once_more_never_goes_back<D: Driver + Drop + Copy>()
+    ensures { NodesNeverGoBack D.says }
+{
+    what_is_given_was_handed_out();
+}
